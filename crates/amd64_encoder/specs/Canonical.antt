@@ -1,4 +1,4 @@
--- Which of an instruction's spellings is written: one with no redundant prefix, the shortest, and of those the one in
+-- The spelling that is written: one with no redundant prefix, the shortest, and of those the one in
 -- the first line of the opcode map. And which values are instructions that have a spelling at all.
 use Rattle.std.specs.Prelude.{◌≡◌, ◌≢◌, ℕ, ◌+◌, ◌-◌, ◌*◌, ◌^◌, ◌/◌, ◌%◌, ◌<◌, ◌≤◌, ◌⊎◌, ◌&&◌, Bool, true, false, List}
 use Rattle.std.specs.Prelude.{◌++◌, length, slice_index, Option, Some, None, IfSome, IsSomeAnd, not, ◌==◌}
@@ -44,7 +44,7 @@ IsSignedLong number = (number < 2 ^ 31) ⊎ ((2 ^ 64 - 2 ^ 31 ≤ number) × (nu
 abbrev pub IsIndex : Index → Type 0
 IsIndex index = index.register ≢ Rsp
 
--- an index is never %rsp, and stands never beside %rip
+-- an index is never %rsp, and %rip takes no index
 abbrev pub IsAddress : Base → Option Index → Type 0
 IsAddress base.NextInstruction index = index ≡ None
 IsAddress base index = IfSome index IsIndex
@@ -74,7 +74,7 @@ abbrev pub IsMoved : Width → Operand → ℕ → Type 0
 IsMoved Quad (operand.Register register) number = number < 2 ^ 64
 IsMoved width operand number = IsSignedLong number
 
--- what stands for no displacement and no immediate
+-- no displacement and no immediate: both are 0
 abbrev pub HasNone : ℕ → ℕ → Type 0
 HasNone displacement immediate = (displacement ≡ 0) × (immediate ≡ 0)
 
@@ -124,11 +124,11 @@ reads_wide (row.Group group.Nop size) = false
 reads_wide (row.Group group size) = true
 reads_wide row = false
 
--- ModRM, and a SIB byte behind it, name a base: not %rip, and not none
+-- ModRM, and a SIB byte after it, name a base register: not %rip, and not no base
 abbrev pub names_base : ℕ → ℕ → Bool
 names_base modrm sib = not ((modrm / 64 == 0) && ((if has_sib modrm then sib % 8 else modrm % 8) == 5))
 
--- the bits of REX that a row reads, with these bytes behind the opcode
+-- the bits of REX that a row reads, if these bytes follow the opcode
 unfoldable pub bits_read : Row → List ℕ → Rex
 bits_read (row.Register action) rest = record {
   wide = reads_wide (row.Register action);
@@ -153,26 +153,26 @@ AreAmong some all =
     (some.wide ≡ true → all.wide ≡ true) × (some.register ≡ true → all.register ≡ true)
     × (some.index ≡ true → all.index ≡ true) × (some.base ≡ true → all.base ≡ true)
 
--- without REX the row has no such operands: a register's low byte would be another's second byte
+-- without REX the row can't have these operands: a register's low byte would be another register's second byte
 abbrev pub AsksForRex : List ℕ → Row → List ℕ → Type 0
 AsksForRex marks row rest =
     IfSome (action_of row ((slice_index rest 0 / 8) % 8))
     (λ action. allowed action (prefixes_of marks None) (slice_index rest 0) ≡ false)
 
--- REX has no bit that its row does not read, and stands there without a bit only where the row asks for it
+-- REX has no bit that its row does not read, and all its bits are clear only if the row needs a REX
 abbrev pub IsNeeded : List ℕ → Row → List ℕ → ℕ → Type 0
 IsNeeded marks row rest byte =
     AreAmong (rex_of byte) (bits_read row rest) × (rex_of byte ≡ no_bits → AsksForRex marks row rest)
 
--- The prefixes are FS alone, which the operand asks for, and REX where it is needed. (66 and 2e change no instruction.)
+-- The prefixes are FS alone, if the operand needs it, and REX where it is needed. (66 and 2e change no instruction.)
 pub record HasNoRedundant (bytes : List ℕ) (body : Body) (parts : HasParts bytes body) : Type 0 where
   pub marks : list_all (λ byte. byte == 0x64) parts.marks ≡ true
   pub rex : IfSome parts.rex (IsNeeded parts.marks parts.row parts.rest)
 
 -- ---- the first line
 
--- An opcode's line in the table: those that do not share a line are in the order of amd64_subset's specs/Row, the
--- lines of one byte before those behind 0f.
+-- An opcode's line in the table. Rows that do not share a line are in the order of amd64_subset's specs/Row: the
+-- one-byte opcodes before those after 0f.
 unfoldable pub line_of : Row → ℕ
 line_of (row.Alone (operation.Push register)) = 0
 line_of (row.Alone (operation.Pop register)) = 1
@@ -207,8 +207,8 @@ line_of other = 50
 
 -- ---- the spelling that is written
 
--- The bytes spell this instruction, so: with no redundant prefix, as short as any of its spellings, and of those that
--- are as short in the first line of the table.
+-- The bytes spell this instruction with no redundant prefix. No spelling is shorter, and no equally short one stands
+-- in an earlier line of the table.
 pub record IsCanonical (instr : Instr) (bytes : List ℕ) : Type 0 where
   pub body : Body
   pub parts : HasParts bytes body
@@ -219,6 +219,6 @@ pub record IsCanonical (instr : Instr) (bytes : List ℕ) : Type 0 where
   pub first : (other : List ℕ) (d : Decoded) (spells : Spells other d) → d.instr ≡ instr → length other ≡ length bytes
       → line_of parts.row ≤ line_of spells.parts.row
 
--- Whatever follows these bytes, the instruction is read from them, and takes so many.
+-- Whatever follows these bytes, decoding gives the instruction and this length.
 abbrev pub ReadsAs : Instr → ℕ → List ℕ → Type 0
 ReadsAs instr len bytes = (tail : List ℕ) → IsSomeAnd (decoded (bytes ++ tail)) (λ d. (d.instr ≡ instr) × (d.len ≡ len))

@@ -1,5 +1,5 @@
--- The form in which an instruction is written: its row of the opcode map, and what stands in that row's fields. Where
--- an immediate or a distance has a short field and a long one, the short one where the number fits.
+-- The form in which an instruction is written: its row of the opcode map, and the values of that row's fields. An
+-- immediate or a distance that fits a short field takes the short one.
 use Rattle.std.specs.Prelude.{ℕ, ◌+◌, ◌*◌, ◌%◌, Bool, true, false, nat_lt, nat_le, Some, None, ◌||◌, ◌==◌}
 use Rattle.std.specs.Prelude.{if◌then◌else◌}
 use Rattle.amd64_words.specs.declared.register.Register.{Register}
@@ -25,7 +25,7 @@ use Rattle.amd64_encoder.specs.declared.form.Fields.TheVariants as fields
 use Rattle.amd64_encoder.specs.declared.form.Form.{Form}
 use Rattle.amd64_subset.specs.Register.{number_of}
 
--- a number of 64 bits is one of 8 bits, and one of 32 bits, sign-extended
+-- the number is a sign-extended number of 8 bits, or of 32 bits
 abbrev pub fits_byte : ℕ → Bool
 fits_byte number = nat_lt number 0x80 || nat_le 0xffff_ffff_ffff_ff80 number
 
@@ -66,7 +66,7 @@ condition_number condition.NotLess = 13
 condition_number condition.LessOrEqual = 14
 condition_number condition.Greater = 15
 
--- an opcode with nothing behind it but a number
+-- an opcode followed by a number alone
 abbrev pub with_number : ℕ → Size → ℕ → Form
 with_number opcode size number = record {
   escaped = false;
@@ -136,7 +136,7 @@ shifted shift width to count =
     else record (with_operand 0xc1 (is_quad width) (shift_number shift) to)
     { size = size.One; number = count }  -- shl, shr, sar $i, rm
 
--- REX stands there though it has no bits, or 4 to 7 would be %ah to %bh
+-- REX is written even if none of its bits is set: without it, numbers 4 to 7 would name %ah to %bh
 abbrev pub needs_rex : Operand → Bool
 needs_rex (operand.Register register) = nat_le 4 (number_of register)
 needs_rex (operand.InMemory memory) = false

@@ -23,7 +23,7 @@ use Rattle.amd64_subset.specs.Register.{number_of}
 use Rattle.amd64_subset.specs.Selectors.{displacement_size}
 use Rattle.amd64_encoder.specs.Form.{low_bits, fits_byte, form_of}
 
--- a byte of two, three and three bits
+-- a byte made of fields of two, three and three bits
 abbrev pub packed : ℕ → ℕ → ℕ → ℕ
 packed high middle low = 64 * high + 8 * middle + low
 
@@ -37,23 +37,23 @@ scale_number scale.Two = 1
 scale_number scale.Four = 2
 scale_number scale.Eight = 3
 
--- SIB with these three bits of a base; 100 is no index
+-- SIB with these three bits of a base; an index field of 100 means no index
 abbrev pub sib_of : Option Index → ℕ → ℕ
 sib_of None low = packed 0 4 low
 sib_of (Some index) low = packed (scale_number index.scale) (low_bits index.register) low
 
--- the mode beside a base with these three bits: no displacement, one of a byte, one of four
+-- the mode for a base with these three bits: no displacement, one byte, or four
 abbrev pub mode_of : ℕ → ℕ → ℕ
 mode_of displacement low =
     if (displacement == 0) && not (low == 5) then 0
     else if fits_byte displacement then 1
     else 2
 
--- 100 in place of a base asks for SIB
+-- 100 in place of a base calls for a SIB byte
 abbrev pub needs_sib : Option Index → ℕ → Bool
 needs_sib index low = is_some index || (low == 4)
 
--- ModRM and SIB of an operand, with this in the reg field
+-- ModRM and SIB of an operand, with this number in the reg field
 abbrev pub address_of : ℕ → Base → Option Index → ℕ → Selectors
 address_of field base.NextInstruction index displacement = record { modrm = packed 0 field 5; sib = None }
 address_of field base.Absolute index displacement = record { modrm = packed 0 field 4; sib = Some (sib_of index 5) }
@@ -87,7 +87,7 @@ abbrev pub high_index : Operand → Bool
 high_index (operand.Register register) = false
 high_index (operand.InMemory memory) = index_is_high memory.index
 
--- FS stands before the instruction
+-- the FS prefix stands before the instruction
 abbrev pub has_segment : Operand → Bool
 has_segment (operand.Register register) = false
 has_segment (operand.InMemory memory) = memory.from_thread_pointer
@@ -111,23 +111,23 @@ rex_byte bits = 0x40 + bit bits.wide 8 + bit bits.register 4 + bit bits.index 2 
 abbrev pub when : Bool → ℕ → Option ℕ
 when b byte = if b then Some byte else None
 
--- REX, where it has a bit or an 8-bit register asks for it
+-- REX, if a bit of it is set or an 8-bit register needs it
 unfoldable pub rex_in : Form → Option ℕ
 rex_in form =
     let bits = rex_bits form in
     when ((((form.low_byte || bits.wide) || bits.register) || bits.index) || bits.base) (rex_byte bits)
 
--- FS, where the operand lies beside the thread pointer
+-- the FS prefix, if the operand is addressed from the thread pointer
 unfoldable pub mark_in : Fields → Option ℕ
 mark_in (fields.Selected field operand) = when (has_segment operand) 0x64
 mark_in other = None
 
--- ModRM and SIB, where there are any
+-- ModRM and SIB, if there are any
 unfoldable pub selectors_in : Fields → ℕ → Option Selectors
 selectors_in (fields.Selected field operand) displacement = Some (selectors_of (field % 8) operand displacement)
 selectors_in other displacement = None
 
--- a number in so many bytes, little-endian
+-- a number in this many bytes, little-endian
 unfoldable pub number_bytes : Size → ℕ → List ℕ
 number_bytes size number = take (count_of size) (to_le_bytes w64 number)
 
@@ -150,6 +150,6 @@ form_bytes form displacement =
 unfoldable pub spelling_of : Instr → List ℕ
 spelling_of instr = form_bytes (form_of instr.operation instr.immediate) instr.displacement
 
--- the list with a part written over it, from this index on
+-- the list with `part` written over it from this index on
 unfoldable pub spliced : ℕ → List ℕ → List ℕ → List ℕ
 spliced at part bytes = take at bytes ++ (part ++ drop (at + length part) bytes)

@@ -22,7 +22,7 @@ pub(crate) enum Fields {
     Selected { field: u8, operand: Operand },
 }
 
-/// What is written of an instruction, but for its displacement.
+/// What is written of an instruction, except its displacement.
 #[derive(Clone, Copy)]
 pub(crate) struct Form {
     /// 0f stands before the opcode.
@@ -30,22 +30,22 @@ pub(crate) struct Form {
     pub opcode: u8,
     /// The width is 64 bits, by REX.W.
     pub wide: bool,
-    /// REX stands there even with no bit, since a register's low byte is an operand.
+    /// REX is written even if none of its bits is set, because the operand is a register's low byte.
     pub low_byte: bool,
     pub fields: Fields,
-    /// The size of the immediate or the distance, and that number.
+    /// The size of the immediate or the distance. The number itself is `number`.
     pub size: Size,
     pub number: u64,
 }
 
-/// The number is one of 8 bits, sign-extended.
+/// The number is a sign-extended number of 8 bits.
 pub(crate) fn fits_byte(number: u64) -> bool
     ensures { result ≡ fits_byte number }
 {
     number < 0x80 || number >= 0xffff_ffff_ffff_ff80
 }
 
-/// The number is one of 32 bits, sign-extended.
+/// The number is a sign-extended number of 32 bits.
 fn fits_long(number: u64) -> bool
     ensures { result ≡ fits_long number }
 {
@@ -106,7 +106,7 @@ fn condition_number(condition: Condition) -> u8
     }
 }
 
-/// An opcode with nothing behind it but a number.
+/// An opcode followed by a number alone.
 fn with_number(opcode: u8, size: Size, number: u64) -> Form
     ensures { result ≡ with_number opcode size number }
 {
@@ -143,8 +143,8 @@ fn with_operand(opcode: u8, wide: bool, field: u8, operand: Operand) -> Form
     }
 }
 
-/// Two operands of which one at least is a register; the opcode is the first of eight. Of two
-/// registers the first row serves, which writes rm.
+/// Two operands, of which one at least is a register. `opcode` is the first of a group of eight. Two registers take
+/// the first row, which writes rm.
 fn two_operands(opcode: u8, width: Width, operands: Operands) -> Form
     requires { opcode < 253 }
     ensures { result ≡ two_operands opcode width operands }
@@ -224,7 +224,7 @@ fn shifted(shift: Shift, width: Width, to: Operand, count: u8) -> Form
     }
 }
 
-/// The operand is a register whose low byte takes a REX, or 4 to 7 would be %ah to %bh.
+/// The operand is a register whose low byte needs REX: without it, numbers 4 to 7 would name %ah to %bh.
 fn needs_rex(operand: Operand) -> bool
     ensures { result ≡ needs_rex operand }
 {
@@ -255,7 +255,7 @@ fn jump_if(condition: Condition, distance: u64) -> Form
     }
 }
 
-/// The form behind 0f.
+/// The form with 0f before its opcode.
 fn escaped(form: Form) -> Form
     ensures { result ≡ record form { escaped = true } }
 {
@@ -300,7 +300,7 @@ pub(crate) fn choose(operation: Operation, number: u64) -> Form
     }
 }
 
-/// The form of each instruction that `choose` leaves, ud2 the last of them.
+/// The form of each instruction that `choose` does not name, ud2 last.
 fn other_form(operation: Operation) -> Form
     ensures { result ≡ other_form_of operation }
 {

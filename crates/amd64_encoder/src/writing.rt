@@ -1,4 +1,4 @@
-//! The bytes of an instruction: prefixes, REX, opcode, ModRM, SIB, displacement and immediate, one behind another.
+//! The bytes of an instruction in their order: prefixes, REX, opcode, ModRM, SIB, displacement and immediate.
 
 ghost use Rattle.std.specs.Prelude.{◌≡◌, ◌≤◌, ◌<◌, ◌+◌, length, take, drop};
 ghost use Rattle.std.specs.Option.{option_to_list};
@@ -13,7 +13,7 @@ use crate::form::{Fields, Form, choose, fits_byte};
 use amd64_subset::encoding::{Rex, Selectors, Size};
 use amd64_subset::{Base, Index, Instr, Operand, Register, Scale};
 
-/// A byte of two, three and three bits.
+/// A byte made of fields of two, three and three bits.
 fn packed(high: u8, middle: u8, low: u8) -> u8
     requires high { high < 4 }
     requires middle { middle < 8 }
@@ -42,7 +42,7 @@ fn scale_number(scale: Scale) -> u8
     }
 }
 
-/// SIB with these three bits of a base; 100 is no index.
+/// SIB with these three bits of a base. An index field of 100 means no index.
 fn sib(index: Option<Index>, low: u8) -> u8
     requires { low < 8 }
     ensures { result ≡ sib_of index low }
@@ -53,8 +53,7 @@ fn sib(index: Option<Index>, low: u8) -> u8
     }
 }
 
-/// The mode beside a base with these three bits: no displacement, which 101 can't have, one of a
-/// byte, or one of four.
+/// The mode for a base with these three bits: no displacement (which base 101 can't have), one byte, or four.
 fn mode(displacement: u64, low: u8) -> u8
     ensures value { result ≡ mode_of displacement low }
     ensures bound { result < 3 }
@@ -68,7 +67,7 @@ fn mode(displacement: u64, low: u8) -> u8
     }
 }
 
-/// ModRM and SIB of a memory operand, with this in the reg field.
+/// ModRM and SIB of a memory operand, with `field` in the reg field.
 fn address(field: u8, base: Base, index: Option<Index>, displacement: u64) -> Selectors
     requires { field < 8 }
     ensures { result ≡ address_of field base index displacement }
@@ -100,7 +99,7 @@ fn address(field: u8, base: Base, index: Option<Index>, displacement: u64) -> Se
     }
 }
 
-/// ModRM and SIB of an operand, with this in the reg field.
+/// ModRM and SIB of an operand, with `field` in the reg field.
 #[tactic(auto, unfolding(crate::specs::Writing::selectors_of))]
 fn selectors(field: u8, operand: Operand, displacement: u64) -> Selectors
     requires { field < 8 }
@@ -179,7 +178,7 @@ impl Form {
         }
     }
 
-    /// REX, where it has a bit or an 8-bit register asks for it.
+    /// REX, if a bit of it is set or an 8-bit register needs it.
     #[tactic(auto, unfolding(crate::specs::Writing::rex_in))]
     fn rex(self) -> Option<u8>
         ensures { result ≡ rex_in self }
@@ -192,7 +191,7 @@ impl Form {
         }
     }
 
-    /// FS, where the operand lies beside the thread pointer.
+    /// The FS prefix, if the operand is addressed from the thread pointer.
     #[tactic(auto, unfolding(crate::specs::Writing::mark_in))]
     fn mark(self) -> Option<u8>
         ensures { result ≡ mark_in self.fields }
@@ -203,14 +202,14 @@ impl Form {
         }
     }
 
-    /// 0f, where the opcode stands behind it.
+    /// 0f, if the opcode is a two-byte one.
     fn escape(self) -> Option<u8>
         ensures { result ≡ when self.escaped 0x0f }
     {
         if self.escaped { Some(0x0f) } else { None }
     }
 
-    /// ModRM and SIB, where there are any.
+    /// ModRM and SIB, if the form has them.
     #[tactic(auto, unfolding(crate::specs::Writing::selectors_in))]
     fn selectors(self, displacement: u64) -> Option<Selectors>
         ensures { result ≡ selectors_in self.fields displacement }
@@ -224,7 +223,7 @@ impl Form {
     }
 }
 
-/// Writes these bytes from this index on, and answers the index behind them.
+/// Writes `part` at index `at`, and returns the index after it.
 fn put_all(into: &mut [u8; 15], at: u8, part: &[u8]) -> u8
     requires { at + length part.now ≤ 15 }
     ensures written { into.new ≡ spliced at part.now into.old }
@@ -235,7 +234,7 @@ fn put_all(into: &mut [u8; 15], at: u8, part: &[u8]) -> u8
     end as u8
 }
 
-/// Writes this byte, if it is one.
+/// Writes `byte`, if there is one, and returns the next index.
 fn put(into: &mut [u8; 15], at: u8, byte: Option<u8>) -> u8
     requires { at + length (option_to_list byte) ≤ 15 }
     ensures written { into.new ≡ spliced at (option_to_list byte) into.old }
@@ -247,7 +246,7 @@ fn put(into: &mut [u8; 15], at: u8, byte: Option<u8>) -> u8
     }
 }
 
-/// Writes a number in so many bytes.
+/// Writes `number` in `size` bytes, and returns the next index.
 #[tactic(auto, unfolding(crate::specs::Writing::number_bytes))]
 fn put_number(into: &mut [u8; 15], at: u8, size: Size, number: u64) -> u8
     requires { at + count_of size ≤ 15 }
@@ -257,7 +256,7 @@ fn put_number(into: &mut [u8; 15], at: u8, size: Size, number: u64) -> u8
     put_all(into, at, &number.to_le_bytes()[..size.count() as usize])
 }
 
-/// Writes the form, with this displacement.
+/// Writes the form with this displacement, and returns its length.
 #[tactic(auto, unfolding(crate::specs::Writing::form_bytes))]
 fn write(form: Form, displacement: u64, into: &mut [u8; 15]) -> u8
     requires { length (form_bytes form displacement) ≤ 15 }
@@ -272,7 +271,7 @@ fn write(form: Form, displacement: u64, into: &mut [u8; 15]) -> u8
     put_number(into, at, form.size, form.number)
 }
 
-/// Writes ModRM and SIB, if there are any, and the displacement that they ask for.
+/// Writes ModRM and SIB, if there are any, and the displacement that they call for.
 fn put_selectors(into: &mut [u8; 15], at: u8, selectors: Option<Selectors>, displacement: u64) -> u8
     requires { at + length (selector_bytes selectors displacement) ≤ 15 }
     ensures written { into.new ≡ spliced at (selector_bytes selectors displacement) into.old }
@@ -288,22 +287,22 @@ fn put_selectors(into: &mut [u8; 15], at: u8, selectors: Option<Selectors>, disp
     }
 }
 
-/// Writes an instruction at the front of `into`, and answers how many bytes it has. Of its spellings
-/// it takes one with no redundant prefix, then the shortest, then the one in the first row of the
-/// opcode table. (A SIB byte without an index could have any scale; it has scale 1.)
+/// Writes an instruction at the front of `into`, and returns its length in bytes. Of its spellings `encode` takes one
+/// with no redundant prefix, then the shortest, then the one in the first row of the opcode table. (A SIB byte without
+/// an index could have any scale; it has scale 1.)
 #[tactic(auto, unfolding(crate::specs::Writing::spelling_of))]
 pub fn encode(instr: &Instr, into: &mut [u8; 15]) -> u8
-    // The value is an instruction: some bytes spell it. What was decoded always is.
+    // The value is an instruction: some bytes spell it. Decoded ones always satisfy this.
     requires { IsSpellable instr.now }
-    // So many bytes spell it, with no redundant prefix; no spelling of it is shorter, and none as
-    // short stands in an earlier line.
+    // The bytes spell it with no redundant prefix. No spelling of it is shorter, and no equally short one stands in an
+    // earlier row.
     ensures canonical { IsCanonical instr.now (take result into.new) }
-    // Read again, they give the instruction and its length, whatever follows.
+    // Decoding the bytes gives the instruction and its length again, whatever follows.
     ensures again { ReadsAs instr.now result (take result into.new) }
     // It has 1 to 15 bytes.
     ensures some { 0 < result }
     ensures most { result ≤ 15 }
-    // The bytes behind them stay.
+    // The rest of the buffer is unchanged.
     ensures kept { drop result into.new ≡ drop result into.old }
     // The same as a function of the instruction.
     ensures exact { take result into.new ≡ spelling_of instr.now }

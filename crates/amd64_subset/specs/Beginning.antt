@@ -1,4 +1,4 @@
--- Which bytes begin a spelling and are none yet.
+-- Which bytes are a proper prefix of a spelling.
 use Rattle.std.specs.Prelude.{◌≡◌, ℕ, ◌+◌, ◌<◌, Bool, true, false, List, ◌++◌, length, Ok, Err, nat_lt, nat_le}
 use Rattle.std.specs.Prelude.{if◌then◌else◌}
 use Rattle.std.specs.List.{list_all}
@@ -17,7 +17,7 @@ pub record BeginsSpelling (bytes : List ℕ) : Type 0 where
   pub are_bytes : list_all (λ byte. nat_lt byte 256) more ≡ true
   pub spells : Spells (bytes ++ more) decoded
 
--- so many bytes are too few, and there is room for what is missing
+-- with this many bytes read, some are missing, and there is room for them
 abbrev pub has_room : ℕ → Read Body → Bool
 has_room len (Err (Short missing)) = nat_le (len + missing) 15
 has_room len (Err Wrong) = false

@@ -15,12 +15,12 @@ use Rattle.amd64_subset.specs.Selectors.{displacement_size, selectors_at}
 use Rattle.amd64_subset.specs.Meaning.{width_of, alone_body, numbered_body, operand_body}
 use Rattle.amd64_subset.specs.Reading.{Read, ◌>>=◌, numbers_at}
 
--- the row that an opcode names, where it may follow the prefixes
+-- the row that an opcode names, if it may follow the prefixes
 abbrev pub accepted_at : Prefixes → Option Row → List ℕ → Read Row
 accepted_at prefixes None rest = Err Wrong
 accepted_at prefixes (Some row) rest = if takes row prefixes then Ok (row, rest) else Err Wrong
 
--- the three bytes behind f3 in endbr64
+-- the three bytes after f3 in endbr64
 unfoldable pub end_branch_at : Prefixes → List ℕ → Read Row
 end_branch_at prefixes bytes = if takes row.EndBranch prefixes then three bytes else Err Wrong
   where
@@ -60,27 +60,27 @@ body_at prefixes (row.Number action wide) bytes = do
 body_at prefixes (row.Register action) bytes = operated_at prefixes (row.Register action) size.Zero bytes
 body_at prefixes (row.Group group wide) bytes = operated_at prefixes (row.Group group wide) wide bytes
 
--- one instruction, of any length, and the bytes behind it
+-- one instruction, of any length, and the bytes after it
 unfoldable pub instruction_at : List ℕ → Read Body
 instruction_at bytes = do
   prefixes ← prefixes_at bytes
   row ← row_at prefixes.0 prefixes.1
   body_at prefixes.0 row.0 row.1
 
--- where a field begins that is counted back from this end
+-- where a field begins that starts this many bytes before the end
 abbrev pub before : ℕ → Option ℕ → Option ℕ
 before end None = None
 before end (Some back) = Some (end - back)
 
--- an instruction of so many bytes
+-- an instruction of this length
 abbrev pub placed : ℕ → Body → Decoded
 placed len body = record { instr = body.instr; len = len; disp = before len body.disp; imm = before len body.imm }
 
--- what was read of so many bytes
+-- what was decoded from this many bytes
 abbrev pub finished : ℕ → Read Body → Option Decoded
 finished size (Err fault) = None
 finished size (Ok read) = Some (placed (size - length read.1) read.0)
 
--- the instruction that begins the bytes
+-- the instruction at the front of the bytes
 unfoldable pub decoded : List ℕ → Option Decoded
 decoded bytes = finished (length (take 15 bytes)) (instruction_at (take 15 bytes))

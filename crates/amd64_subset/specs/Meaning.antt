@@ -33,12 +33,12 @@ use Rattle.amd64_subset.specs.Selectors.{displacement_size, register_in, memory_
 abbrev pub width_of : Prefixes → Width
 width_of prefixes = if (bits_of prefixes).wide then Quad else Long
 
--- how far before the end a four-byte field begins that so many bytes follow
+-- how far before the end a four-byte field begins that this many bytes follow
 abbrev pub from_end : Size → ℕ → Option ℕ
 from_end size.Four behind = Some (behind + 4)
 from_end size behind = None
 
--- an instruction of an opcode alone
+-- an instruction that is an opcode alone
 abbrev pub alone_body : Operation → Body
 alone_body operation =
     record { instr = record { operation = operation; displacement = 0; immediate = 0 }; disp = None; imm = None }
@@ -74,7 +74,7 @@ takes_immediate MoveImmediate = true
 takes_immediate (ComputeImmediate arithmetic) = true
 takes_immediate action = false
 
--- the operand is written, or compared, with the register
+-- the operation writes the operand, or compares it, with the register
 abbrev pub into_operand : Operand → Register → Operands
 into_operand (operand.Register to) register = IntoRegister to (operand.Register register)
 into_operand (operand.InMemory to) register = IntoMemory to register
@@ -100,7 +100,7 @@ does CallTarget width r rm m count = operation.Call (Indirect rm)  -- call *rm
 does JumpTarget width r rm m count = operation.Jump (Indirect rm)  -- jmp *rm
 does Padding width r rm m count = operation.Nop (Some rm)  -- nop rm
 
--- the same with the bytes' own operands, and with this count where it is a shift
+-- the same with the bytes' own operands, and with this count if it is a shift
 unfoldable pub operation_of : Action → Prefixes → Selectors → ℕ → Operation
 operation_of action prefixes selectors count =
     does action (width_of prefixes) (register_in prefixes selectors) (operand_in prefixes selectors)

@@ -21,7 +21,7 @@ no_bits = record { wide = false; register = false; index = false; base = false }
 abbrev pub no_prefixes : Prefixes
 no_prefixes = record { thread_pointer = false; operand_size = false; code_segment = false; rex = None }
 
--- the bits of REX, and none of them where there is no REX
+-- the bits of REX, all clear if there is no REX
 abbrev pub bits_of : Prefixes → Rex
 bits_of prefixes = unwrap_or prefixes.rex no_bits
 
@@ -33,20 +33,20 @@ abbrev pub has_none : Prefixes → Bool
 has_none prefixes =
     ((not prefixes.thread_pointer && not prefixes.operand_size) && not prefixes.code_segment) && is_none prefixes.rex
 
--- How many bytes are missing at least. Where REX may still come: 48 8b 00 behind 64 and 66, 8b 00 behind 64,
--- 90 behind 66 or 2e, c3.
+-- The least number of bytes still missing. Where REX may still come: 48 8b 00 after 64 and 66, 8b 00 after 64, 90
+-- after 66 or 2e, c3.
 abbrev pub least_opening : Prefixes → ℕ
 least_opening prefixes = if prefixes.thread_pointer then (if prefixes.operand_size then 3 else 2) else 1
 
--- Where an opcode has to come: 0f 1f 00, 8b 00, c3.
+-- Where an opcode must come: 0f 1f 00, 8b 00, c3.
 abbrev pub least_opcode : Prefixes → ℕ
 least_opcode prefixes = if takes_only_nops prefixes then 3 else if prefixes.thread_pointer then 2 else 1
 
--- Behind 0f: 1f 00, b6 00, 0b.
+-- After 0f: 1f 00, b6 00, 0b.
 abbrev pub least_escaped : Prefixes → ℕ
 least_escaped prefixes = if takes_only_nops prefixes || prefixes.thread_pointer then 2 else 1
 
--- the prefixes before REX, after those that were read
+-- the prefixes before REX, added to those that were read
 abbrev pub marks_at : Prefixes → List ℕ → Read Prefixes
 marks_at prefixes [] = Ok (prefixes, [])
 marks_at prefixes (byte ∷ rest) =
@@ -59,7 +59,7 @@ marks_at prefixes (byte ∷ rest) =
     (if prefixes.thread_pointer then Err Wrong else marks_at (record prefixes { code_segment = true }) rest)
     else Ok (prefixes, byte ∷ rest)
 
--- these prefixes, unless nothing may follow them
+-- these prefixes, unless no instruction may have them
 abbrev pub possible_at : Prefixes → List ℕ → Read Prefixes
 possible_at prefixes rest =
     if prefixes.thread_pointer && takes_only_nops prefixes then Err Wrong else Ok (prefixes, rest)

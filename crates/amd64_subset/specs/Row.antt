@@ -27,7 +27,7 @@ use Rattle.amd64_subset.specs.declared.row.Action.TheVariants.{ShiftOnce, CallTa
 use Rattle.amd64_subset.specs.Register.{extended}
 use Rattle.amd64_subset.specs.Prefix.{takes_only_nops, has_none}
 
--- the conditions, but for the two parity conditions
+-- the conditions, except the two parity conditions
 unfoldable pub condition_of : ℕ → Option Condition
 condition_of number =
     if number == 0 then Some Overflow
@@ -46,7 +46,7 @@ condition_of number =
     else if number == 15 then Some Greater
     else None
 
--- the one-byte opcodes with nothing in their low bits
+-- the one-byte opcodes with no register or condition in their low bits
 unfoldable pub fixed_row_of : Bool → ℕ → Option Row
 fixed_row_of wide opcode =
     if opcode == 0x88 then Some (row.Register StoreByte)  -- mov %r8, m
@@ -99,7 +99,7 @@ row_of rex opcode =
     then option_map (λ condition. row.Number (numbered.JumpIf condition) One) (condition_of (opcode % 16))
     else fixed_row_of rex.wide opcode
 
--- the opcodes behind 0f
+-- the second bytes of the opcodes that begin with 0f
 unfoldable pub escaped_row_of : ℕ → Option Row
 escaped_row_of opcode =
     if opcode / 16 == 0x8  -- 0f 80+c  jcc
@@ -127,7 +127,7 @@ shift_of digit =
     else if digit == 7 then Some RightSigned
     else None
 
--- what an opcode does that ModRM's reg field completes, with this digit there
+-- what an opcode that ModRM's reg field completes does with this digit there
 unfoldable pub group_action : Group → ℕ → Option Action
 group_action group.Move digit = if digit == 0 then Some MoveImmediate else None
 group_action group.Arithmetic digit = option_map ComputeImmediate (arithmetic_of digit)
@@ -142,7 +142,7 @@ action_of (row.Register action) digit = Some action
 action_of (row.Group group size) digit = group_action group digit
 action_of _ digit = None
 
--- a memory operand is accessed, not only named
+-- the instruction accesses its memory operand, and does not only name it
 abbrev pub accesses : Row → Bool
 accesses (row.Register LoadAddress) = false
 accesses (row.Register action) = true
@@ -156,8 +156,8 @@ pads row.Nop = true
 pads (row.Group group.Nop size) = true
 pads _ = false
 
--- The opcode may follow these prefixes: FS stands only before an access of a memory operand, what pads only before a
--- nop, but for 66 beside REX.W; nop has no REX, and endbr64 no prefix.
+-- The opcode may follow these prefixes. FS stands only before an access of a memory operand. 66 and 2e stand only
+-- before a nop, or 66 beside REX.W. nop has no REX, and endbr64 no prefix.
 unfoldable pub takes : Row → Prefixes → Bool
 takes row.EndBranch prefixes = has_none prefixes
 takes row.Nop prefixes = not prefixes.thread_pointer && is_none prefixes.rex

@@ -26,15 +26,15 @@ use Rattle.amd64_subset.specs.Prefix.{bits_of}
 use Rattle.amd64_subset.specs.Row.{action_of}
 use Rattle.amd64_subset.specs.Reading.{Read, ◌>>=◌}
 
--- a SIB byte follows: the operand lies in memory, and in place of a base stands 100
+-- a SIB byte follows: the operand lies in memory, and 100 stands in place of a base
 abbrev pub has_sib : ℕ → Bool
 has_sib modrm = not (modrm / 64 == 3) && (modrm % 8 == 4)
 
--- how many bytes of displacement follow at least
+-- the least number of displacement bytes that follow
 abbrev pub least_displacement : ℕ → ℕ
 least_displacement modrm = if modrm / 64 == 1 then 1 else if modrm / 64 == 2 then 4 else 0
 
--- The low byte of a register with these three bits is an operand: without REX, 4 to 7 would be %ah to %bh.
+-- The low byte of the register with these three bits can be an operand: without REX, 4 to 7 would be %ah to %bh.
 abbrev pub byte_register : Prefixes → ℕ → Bool
 byte_register prefixes low = nat_lt low 4 || is_some prefixes.rex
 
@@ -56,7 +56,7 @@ allowed action prefixes modrm =
     if modrm / 64 == 3 then not prefixes.thread_pointer && allows_register action prefixes (modrm % 8)
     else allows_memory action prefixes ((modrm / 8) % 8)
 
--- how many bytes of displacement follow
+-- the size of the displacement that follows
 unfoldable pub displacement_size : Selectors → Size
 displacement_size selectors =
     if selectors.modrm / 64 == 1 then size.One
@@ -83,7 +83,7 @@ scale_of number =
     else if number == 2 then scale.Four
     else scale.Eight
 
--- the index in a SIB byte; 100 without REX.X is none
+-- the index that a SIB byte names; 100 without REX.X means none
 abbrev pub index_of : ℕ → Bool → Option Index
 index_of sib high =
     if ((sib / 8) % 8 == 4) && not high

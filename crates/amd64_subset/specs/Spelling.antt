@@ -25,7 +25,7 @@ use Rattle.amd64_subset.specs.Decoding.{placed}
 abbrev pub is_mark : ℕ → Bool
 is_mark byte = ((byte == 0x64) || (byte == 0x66)) || (byte == 0x2e)
 
--- how often FS stands there
+-- how many FS prefixes there are
 abbrev pub fs_count : List ℕ → ℕ
 fs_count [] = 0
 fs_count (byte ∷ bytes) = if byte == 0x64 then suc (fs_count bytes) else fs_count bytes
@@ -34,7 +34,7 @@ fs_count (byte ∷ bytes) = if byte == 0x64 then suc (fs_count bytes) else fs_co
 abbrev pub AreMarks : List ℕ → Type 0
 AreMarks marks = (list_all is_mark marks ≡ true) × (fs_count marks ≤ 1)
 
--- what stands before the opcode
+-- the prefixes before the opcode
 abbrev pub prefixes_of : List ℕ → Option ℕ → Prefixes
 prefixes_of marks rex = record {
   thread_pointer = list_any (λ byte. byte == 0x64) marks;
@@ -51,7 +51,7 @@ named rex (a ∷ b ∷ c ∷ d ∷ []) =
     if (((a == 0xf3) && (b == 0x0f)) && (c == 0x1e)) && (d == 0xfa) then Some row.EndBranch else None
 named rex bytes = None
 
--- ModRM, SIB where it asks for one, a displacement as long as they say, an immediate of this size
+-- ModRM, SIB if ModRM calls for one, a displacement as long as they say, and an immediate of this size
 pub record IsOperated (prefixes : Prefixes) (row : Row) (size : Size) (bytes : List ℕ) (body : Body) : Type 0 where
   pub modrm : ℕ
   pub sib : Option ℕ
@@ -69,7 +69,7 @@ pub record IsOperated (prefixes : Prefixes) (row : Row) (size : Size) (bytes : L
     immediate = signed_of size immediate;
   })
 
--- what stands behind an opcode, row by row
+-- what follows an opcode, row by row
 abbrev pub HasBody : Prefixes → Row → List ℕ → Body → Type 0
 HasBody prefixes (row.Alone operation) bytes body = (bytes ≡ []) × (body ≡ alone_body operation)
 HasBody prefixes row.Nop bytes body = (bytes ≡ []) × (body ≡ alone_body (operation.Nop None))
@@ -79,7 +79,7 @@ HasBody prefixes (row.Number action size) bytes body =
 HasBody prefixes (row.Register action) bytes body = IsOperated prefixes (row.Register action) size.Zero bytes body
 HasBody prefixes (row.Group group size) bytes body = IsOperated prefixes (row.Group group size) size bytes body
 
--- the parts of an instruction: prefixes, REX, opcode, and what stands behind it
+-- the parts of an instruction: prefixes, REX, opcode, and what follows it
 pub record HasParts (bytes : List ℕ) (body : Body) : Type 0 where
   pub marks : List ℕ
   pub rex : Option ℕ
@@ -100,7 +100,7 @@ pub record Spells (bytes : List ℕ) (decoded : Decoded) : Type 0 where
   pub parts : HasParts bytes body
   pub decoded-is : decoded ≡ placed (length bytes) body
 
--- a four-byte field that begins here lies in so many bytes, and not at their start
+-- a four-byte field that begins here lies within this many bytes, and not at their start
 abbrev pub HasField : ℕ → ℕ → Type 0
 HasField len at = (0 < at) × (at + 4 ≤ len)
 
@@ -115,7 +115,7 @@ pub record IsPlaced (decoded : Decoded) : Type 0 where
 abbrev pub field_of : List ℕ → ℕ
 field_of bytes = signed_of size.Four bytes
 
--- the same instruction but for its displacement, and but for its immediate
+-- the same instruction with another displacement, or with another immediate
 abbrev pub with_displacement : ℕ → Decoded → Decoded
 with_displacement number decoded = record decoded { instr = record decoded.instr { displacement = number } }
 

@@ -1,10 +1,10 @@
-//! Why bytes are no instruction.
+//! Why bytes are not an instruction.
 
-/// Why no instruction was read.
+/// Why no instruction was decoded.
 #[derive(Clone, Copy)]
 pub(crate) enum Fault {
-    /// The bytes are too few: so many more at least complete an instruction.
+    /// The bytes are too few. At least this many more complete an instruction.
     Short(u8),
-    /// No instruction begins so.
+    /// No instruction begins with these bytes.
     Wrong,
 }

@@ -1,4 +1,4 @@
-//! Instructions as values: what one does, and where its fields lie in its bytes.
+//! Instructions as values: what each does, and where its fields lie in its bytes.
 
 use crate::operand::{Memory, Operand, Operands};
 use amd64_words::Register;
@@ -56,7 +56,7 @@ pub enum Target {
     Indirect(Operand),
 }
 
-/// What an instruction does, but for its displacement and its immediate.
+/// What an instruction does, without its displacement and its immediate.
 #[rattlefmt::skip]
 #[derive(Clone, Copy, PartialEq, Eq, Debug)]
 pub enum Operation {
@@ -98,9 +98,8 @@ pub enum Operation {
     Undefined,
 }
 
-/// An instruction. `displacement` and `immediate` are sign-extended to 64 bits, and 0 where it has
-/// none. They stand beside the operation so that two readings that differ only in such a field have
-/// equal operations.
+/// An instruction. `displacement` and `immediate` are sign-extended to 64 bits, and 0 if it has none. They are kept
+/// outside the operation, so that two instructions that differ only in such a field have equal operations.
 #[derive(Clone, Copy, PartialEq, Eq, Debug)]
 pub struct Instr {
     pub operation: Operation,
@@ -108,15 +107,15 @@ pub struct Instr {
     pub immediate: u64,
 }
 
-/// An instruction that was read, and where its parts lie in its bytes.
+/// A decoded instruction, and where its fields lie in its bytes.
 #[derive(Clone, Copy, PartialEq, Eq, Debug)]
 pub struct Decoded {
     pub instr: Instr,
-    /// How many bytes it has, from 1 to 15.
+    /// The length in bytes, from 1 to 15.
     pub len: u8,
-    /// Where the four-byte displacement of a memory operand begins, one from the next instruction
-    /// too. `None` exactly where it has none; the distance of a jump or a call is no displacement.
+    /// Where the four-byte displacement of a memory operand begins, %rip-relative ones included. `None` exactly if it
+    /// has none. The distance of a jump or a call is not a displacement.
     pub disp: Option<u8>,
-    /// Where the four-byte immediate begins. `None` exactly where it has none.
+    /// Where the four-byte immediate begins. `None` exactly if it has none.
     pub imm: Option<u8>,
 }

@@ -1,4 +1,4 @@
-//! Laws of spelling, for those who reason about code that they read in parts.
+//! Laws of spelling, for proofs about code that is read in parts.
 //!
 //! Each is a function that does nothing; its clause is the law.
 
@@ -8,30 +8,30 @@ ghost use Rattle.amd64_subset.specs.Beginning.{BeginsSpelling, begins_of};
 ghost use Rattle.amd64_subset.specs.Decoding.{decoded};
 ghost use Rattle.amd64_subset.specs.Spelling.{Spells, IsPlaced, field_of, with_displacement, with_immediate};
 
-/// No spelling begins another, and a list of bytes spells one instruction at most: where two
-/// spellings begin one list, they are the same.
+/// No spelling is a proper prefix of another, and bytes spell at most one instruction: two spellings that begin the
+/// same list are equal.
 pub fn one_spelling()
     ensures { (a b x y : List ℕ) (d e : Decoded) → Spells a d → Spells b e → a ++ x ≡ b ++ y → (a ≡ b) × (d ≡ e) }
 {}
 
-/// What spells an instruction is read, whatever follows.
+/// Bytes that spell an instruction are decoded to it, whatever follows.
 pub fn spelled()
     ensures { (bytes tail : List ℕ) (d : Decoded) → Spells bytes d → decoded (bytes ++ tail) ≡ Some d }
 {}
 
-/// An instruction depends on its own bytes alone.
+/// Decoding depends on the instruction's own bytes alone.
 pub fn front()
     ensures { (bytes tail : List ℕ) (d : Decoded)
         → decoded bytes ≡ Some d → decoded (take d.len bytes ++ tail) ≡ Some d }
 {}
 
-/// An instruction has 1 to 15 bytes, its fields lie in them, and all are there.
+/// An instruction has 1 to 15 bytes, all of them present, and its fields lie in them.
 pub fn inside()
     ensures length { (bytes : List ℕ) (d : Decoded) → decoded bytes ≡ Some d → d.len ≤ length bytes }
     ensures placed { (bytes : List ℕ) (d : Decoded) → decoded bytes ≡ Some d → IsPlaced d }
 {}
 
-/// With another four bytes as its displacement the same instruction is read, but for that number.
+/// With other four bytes in its displacement field, the same instruction is decoded except for that number.
 pub fn displacement_field()
     ensures number { (bytes four tail : List ℕ) (d : Decoded) → length four ≡ 4
         → decoded (bytes ++ (four ++ tail)) ≡ Some d → d.disp ≡ Some (length bytes)
@@ -41,7 +41,7 @@ pub fn displacement_field()
         → decoded (bytes ++ (other ++ tail)) ≡ Some (with_displacement (field_of other) d) }
 {}
 
-/// With another four bytes as its immediate the same instruction is read, but for that number.
+/// With other four bytes in its immediate field, the same instruction is decoded except for that number.
 pub fn immediate_field()
     ensures number { (bytes four tail : List ℕ) (d : Decoded) → length four ≡ 4
         → decoded (bytes ++ (four ++ tail)) ≡ Some d → d.imm ≡ Some (length bytes)
@@ -51,12 +51,12 @@ pub fn immediate_field()
         → decoded (bytes ++ (other ++ tail)) ≡ Some (with_immediate (field_of other) d) }
 {}
 
-/// What is no instruction and begins none is none whatever follows.
+/// Bytes that neither hold nor begin an instruction do not hold one, whatever follows.
 pub fn none()
     ensures { (bytes tail : List ℕ) → decoded bytes ≡ None → begins_of bytes ≡ false → decoded (bytes ++ tail) ≡ None }
 {}
 
-/// What begins a spelling as a function of a list.
+/// `BeginsSpelling` as a function of a list.
 pub fn beginning()
     ensures { (bytes : List ℕ) → (begins_of bytes ≡ true) ↔ BeginsSpelling bytes }
 {}

@@ -3,7 +3,7 @@
 //! The subset has the moves, the arithmetic, the jumps, calls and stack operations that a compiler
 //! writes for small functions: about forty rows of the opcode map, each with every register, address
 //! and prefix that it may have. `decode` reads the instruction at the front of some bytes, and
-//! `begins` says whether bytes too few for one may become one. (The crate `amd64_encoder` writes one.)
+//! `begins` says whether bytes too few for one are the start of one. (The crate `amd64_encoder` writes one.)
 //!
 //! An instruction is spelled by up to 15 bytes, in this order:
 //!
@@ -22,17 +22,15 @@
 //! %fs   REX.W  mov     ModRM   SIB   16
 //! ```
 //!
-//! Two spellings may be one instruction: a displacement of 16 fits one byte or four, `mov %eax, %ecx`
-//! is 89 c1 or 8b c8, and a REX may stand where no bit of it is read. An `Instr` is what they have in
-//! common, and `Decoded` adds what a linker needs of the one that it met: the length, and where the
-//! four-byte fields lie.
+//! Two spellings may be one instruction: a displacement of 16 fits one byte or four, `mov %eax, %ecx` is 89 c1 or 8b
+//! c8, and a REX may be there though no bit of it is used. An `Instr` is what they have in common. `Decoded` adds what
+//! a linker needs of the spelling that it found: the length, and where the four-byte fields lie.
 //!
-//! A linker rewrites code in place, and a machine runs code whose end may not be mapped. Both read
-//! bytes in parts, and must tell bytes that are no instruction from bytes that end too early: hence
-//! `begins`. No spelling begins another (`laws::one_spelling`), so what was read stays read whatever
-//! follows.
+//! A linker rewrites code in place, and a machine runs code up to the end of mapped memory. Both read bytes in parts,
+//! and must tell bytes that are not an instruction from bytes that end too early: hence `begins`. No spelling is a
+//! prefix of another (`laws::one_spelling`), so a decoded instruction stays the same whatever follows.
 //!
-//! `specs/Spelling` says what spells an instruction, and `specs/Row` has the opcode map. They restate
+//! `specs/Spelling` defines which bytes spell an instruction, and `specs/Row` has the opcode map. They restate
 //! the Intel 64 manual, volume 2, chapter 2 and appendix A, as does AMD's, volume 3; the operands of
 //! the code sequences are those of the x86-64 psABI, in its part on thread-local storage. The opcodes
 //! of 8 and 16 bits, the string, vector and system instructions, and prefixes that lock or repeat are
@@ -55,7 +53,7 @@ pub use instr::{Arithmetic, Condition, Decoded, Instr, Operation, Shift, Target,
 pub use operand::{Base, Index, Memory, Operand, Operands, Scale};
 pub use reading::{begins, decode};
 
-/// The parts of an instruction's encoding, of which `specs/Spelling` speaks, for the encoder.
+/// The parts of an instruction's encoding that `specs/Spelling` names, for the encoder.
 pub mod encoding {
     pub use crate::meaning::Body;
     pub use crate::numbers::Numbers;

@@ -12,7 +12,7 @@ use crate::row::{Action, Numbered};
 use crate::selectors::Selectors;
 use amd64_words::{Register, Size};
 
-/// An instruction, and how far before its end its four-byte fields begin.
+/// An instruction, and how far before its end each four-byte field begins.
 #[derive(Clone, Copy)]
 pub struct Body {
     pub instr: Instr,
@@ -31,7 +31,7 @@ pub(crate) fn width(prefixes: Prefixes) -> Width
     }
 }
 
-/// How far before the end a four-byte field begins that so many bytes follow.
+/// How far before the end a field of `size` begins that `behind` bytes follow; `None` unless it has four bytes.
 fn from_end(size: Size, behind: u8) -> Option<u8>
     requires { behind ≤ 8 }
     ensures { result ≡ from_end size behind }
@@ -42,7 +42,7 @@ fn from_end(size: Size, behind: u8) -> Option<u8>
     }
 }
 
-/// An instruction of an opcode alone.
+/// An instruction that is an opcode alone.
 pub(crate) fn alone_body(operation: Operation) -> Body
     ensures { result ≡ alone_body operation }
 {
@@ -109,7 +109,7 @@ fn takes_immediate(action: Action) -> bool
     matches!(action, Action::MoveImmediate | Action::ComputeImmediate(_))
 }
 
-/// The operand is written, or compared, with the register.
+/// The operation writes the operand, or compares it, with the register.
 fn into_operand(operand: Operand, register: Register) -> Operands
     ensures { result ≡ into_operand operand register }
 {
@@ -158,7 +158,7 @@ fn operation(action: Action, prefixes: Prefixes, selectors: Selectors, count: u8
     }
 }
 
-/// An instruction with a ModRM byte, its displacement of one size and its immediate of another.
+/// An instruction with a ModRM byte, a displacement of one size and an immediate of another.
 #[tactic(auto, unfolding(crate::specs::Meaning::operand_body))]
 pub(crate) fn operand_body(
     action: Action,

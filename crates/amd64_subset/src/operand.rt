@@ -2,14 +2,14 @@
 
 use amd64_words::Register;
 
-/// What an address starts from.
+/// What an address is counted from.
 #[derive(Clone, Copy, PartialEq, Eq, Debug)]
 pub enum Base {
     /// No register: 0.
     Absolute,
     /// A general register.
     Register(Register),
-    /// The next instruction's address, %rip. There is no index then.
+    /// The next instruction's address, %rip. Such an address has no index.
     NextInstruction,
 }
 
@@ -22,7 +22,7 @@ pub enum Scale {
     Eight,
 }
 
-/// A second register of an address, and its factor. It is never %rsp.
+/// The second register of an address, and its factor. It is never %rsp.
 #[derive(Clone, Copy, PartialEq, Eq, Debug)]
 pub struct Index {
     pub register: Register,
@@ -45,8 +45,8 @@ pub enum Operand {
     InMemory(Memory),
 }
 
-/// Where an instruction of two operands reads and writes. A register to a register has one value,
-/// whichever of two opcodes spelled it.
+/// The operands that an instruction of two reads and writes. A register-to-register one has one value, whichever of
+/// its two opcodes spelled it.
 #[derive(Clone, Copy, PartialEq, Eq, Debug)]
 pub enum Operands {
     IntoRegister { to: Register, from: Operand },

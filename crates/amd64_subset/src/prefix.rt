@@ -1,4 +1,4 @@
-//! The prefixes: FS, what only pads, and REX.
+//! The prefixes: FS, padding, and REX.
 
 ghost use Rattle.std.specs.Prelude.{◌≡◌};
 ghost use Rattle.amd64_subset.specs.Prefix.{rex_of, bits_of, takes_only_nops, has_none, least_opening, least_opcode};
@@ -44,7 +44,7 @@ pub struct Prefixes {
 }
 
 impl Prefixes {
-    /// The bits of REX, and none of them where there is no REX.
+    /// The bits of REX, all clear if there is no REX.
     pub(crate) fn bits(self) -> Rex
         ensures { result ≡ bits_of self }
     {
@@ -70,7 +70,7 @@ impl Prefixes {
         !self.thread_pointer && !self.operand_size && !self.code_segment && self.rex.is_none()
     }
 
-    /// How many bytes are missing at least where REX may still come.
+    /// The least number of bytes still missing where REX may still come.
     fn least_opening(self) -> u8
         ensures { result ≡ least_opening self }
     {
@@ -81,7 +81,7 @@ impl Prefixes {
         }
     }
 
-    /// How many bytes are missing at least where an opcode has to come.
+    /// The least number of bytes still missing where an opcode must come.
     pub(crate) fn least_opcode(self) -> u8
         ensures { result ≡ least_opcode self }
     {
@@ -94,7 +94,7 @@ impl Prefixes {
         }
     }
 
-    /// How many bytes are missing at least behind an opcode's first byte 0f.
+    /// The least number of bytes still missing after 0f, the first byte of an opcode.
     pub(crate) fn least_escaped(self) -> u8
         ensures { result ≡ least_escaped self }
     {
@@ -106,7 +106,7 @@ impl Prefixes {
     }
 }
 
-/// Reads what stands before REX, after these prefixes.
+/// Reads the prefixes before REX, and adds them to these.
 fn read_marks(prefixes: Prefixes, bytes: &[u8]) -> Result<(Prefixes, &[u8]), Fault>
     ensures { Gives (λ x. (x.0, x.1.now)) result (marks_at prefixes bytes.now) }
 {
@@ -157,7 +157,7 @@ pub(crate) fn read_prefixes(bytes: &[u8]) -> Result<(Prefixes, &[u8]), Fault>
     read_rex(marks, rest)
 }
 
-/// Reads REX, if it stands here, after these prefixes.
+/// Reads REX, if it stands here, and adds it to these prefixes.
 #[tactic(auto, unfolding(crate::specs::Prefix::rex_at))]
 fn read_rex(marks: Prefixes, bytes: &[u8]) -> Result<(Prefixes, &[u8]), Fault>
     ensures { Gives (λ x. (x.0, x.1.now)) result (rex_at marks bytes.now) }
@@ -180,7 +180,7 @@ fn read_rex(marks: Prefixes, bytes: &[u8]) -> Result<(Prefixes, &[u8]), Fault>
     }
 }
 
-/// These prefixes, unless nothing may follow them.
+/// These prefixes, unless no instruction may have them.
 fn possible(prefixes: Prefixes, rest: &[u8]) -> Result<(Prefixes, &[u8]), Fault>
     ensures { Gives (λ x. (x.0, x.1.now)) result (possible_at prefixes rest.now) }
 {

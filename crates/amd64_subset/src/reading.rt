@@ -1,4 +1,4 @@
-//! Reading an instruction from left to right, and whether bytes too few for one may become one.
+//! Reads an instruction from left to right, and says whether bytes too few for one may become one.
 
 ghost use Rattle.std.specs.Prelude.{◌≡◌, ◌≤◌, ◌↔◌, ℕ, Some, IfSome, IsTrue, take, length};
 ghost use Rattle.amd64_subset.specs.Reading.{Gives};
@@ -17,7 +17,7 @@ use crate::row::{Row, escaped_row, opcode_row};
 use crate::selectors::read_selectors;
 use amd64_words::Size;
 
-/// The row that an opcode names, where it may follow the prefixes.
+/// The row that an opcode names, if it may follow these prefixes.
 fn accepted(prefixes: Prefixes, row: Option<Row>, rest: &[u8]) -> Result<(Row, &[u8]), Fault>
     ensures { Gives (λ x. (x.0, x.1.now)) result (accepted_at prefixes row rest.now) }
 {
@@ -27,7 +27,7 @@ fn accepted(prefixes: Prefixes, row: Option<Row>, rest: &[u8]) -> Result<(Row, &
     }
 }
 
-/// Reads the three bytes behind f3 in endbr64.
+/// Reads the three bytes after f3 in endbr64.
 #[tactic(auto, unfolding(crate::specs::Decoding::end_branch_at))]
 fn read_end_branch(prefixes: Prefixes, bytes: &[u8]) -> Result<(Row, &[u8]), Fault>
     ensures { Gives (λ x. (x.0, x.1.now)) result (end_branch_at prefixes bytes.now) }
@@ -44,7 +44,7 @@ fn read_end_branch(prefixes: Prefixes, bytes: &[u8]) -> Result<(Row, &[u8]), Fau
     }
 }
 
-/// Reads an opcode's byte behind 0f.
+/// Reads an opcode's byte after 0f.
 #[tactic(auto, unfolding(crate::specs::Decoding::escaped_at))]
 fn read_escaped(prefixes: Prefixes, bytes: &[u8]) -> Result<(Row, &[u8]), Fault>
     ensures { Gives (λ x. (x.0, x.1.now)) result (escaped_at prefixes bytes.now) }
@@ -55,7 +55,7 @@ fn read_escaped(prefixes: Prefixes, bytes: &[u8]) -> Result<(Row, &[u8]), Fault>
     }
 }
 
-/// Reads an opcode, but for what ModRM adds to it.
+/// Reads an opcode, except for the part of it that ModRM holds.
 #[tactic(auto, unfolding(crate::specs::Decoding::row_at))]
 fn read_row(prefixes: Prefixes, bytes: &[u8]) -> Result<(Row, &[u8]), Fault>
     ensures { Gives (λ x. (x.0, x.1.now)) result (row_at prefixes bytes.now) }
@@ -86,7 +86,7 @@ fn read_operated(
     ))
 }
 
-/// Reads what stands behind an opcode.
+/// Reads what follows an opcode.
 #[tactic(auto, unfolding(crate::specs::Decoding::body_at))]
 fn read_body(prefixes: Prefixes, row: Row, bytes: &[u8]) -> Result<(Body, &[u8]), Fault>
     ensures { Gives (λ x. (x.0, x.1.now)) result (body_at prefixes row bytes.now) }
@@ -126,7 +126,7 @@ fn longest(bytes: &[u8]) -> &[u8]
     }
 }
 
-/// Where a field begins that is counted back from this end.
+/// Where a field begins that starts `back` bytes before `end`.
 fn before(end: u8, back: Option<u8>) -> Option<u8>
     ensures { result ≡ before end back }
 {
@@ -136,7 +136,7 @@ fn before(end: u8, back: Option<u8>) -> Option<u8>
     }
 }
 
-/// Reads the instruction that begins the bytes.
+/// Reads the instruction at the front of the bytes.
 #[tactic(auto, unfolding(crate::specs::Decoding::decoded))]
 fn read(bytes: &[u8]) -> Option<Decoded>
     ensures { result ≡ decoded bytes.now }
@@ -156,13 +156,13 @@ fn read(bytes: &[u8]) -> Option<Decoded>
     }
 }
 
-/// The instruction that begins the bytes. `None` exactly where no spelling of one does.
+/// Decodes the instruction at the front of the bytes. `None` exactly if no spelling of one stands there.
 pub fn decode(bytes: &[u8]) -> Option<Decoded>
     // The bytes that it takes spell it.
     ensures found { IfSome result (λ d. Spells (take d.len bytes.now) d) }
-    // Whatever a front of the bytes spells, is read.
+    // If a front of the bytes spells an instruction, that one is decoded.
     ensures only { (n : ℕ) (d : Decoded) → Spells (take n bytes.now) d → result ≡ Some d }
-    // It has 1 to 15 bytes, all of them among these, and its fields lie in it.
+    // It has 1 to 15 bytes, all of them present, and its fields lie in them.
     ensures length { IfSome result (λ d. d.len ≤ length bytes.now) }
     ensures inside { IfSome result IsPlaced }
     // The same as a function of the list.
@@ -171,7 +171,7 @@ pub fn decode(bytes: &[u8]) -> Option<Decoded>
     read(bytes)
 }
 
-/// Whether the bytes are too few for an instruction, and with some more spell one.
+/// Whether the bytes are too few for an instruction, and some more would complete one.
 #[tactic(auto, unfolding(crate::specs::Beginning::begins_of))]
 fn lacks_some(bytes: &[u8]) -> bool
     ensures { result ≡ begins_of bytes.now }
@@ -185,9 +185,9 @@ fn lacks_some(bytes: &[u8]) -> bool
     }
 }
 
-/// Whether the bytes are a proper prefix of what spells an instruction.
+/// Whether the bytes are a proper prefix of a spelling.
 pub fn begins(bytes: &[u8]) -> bool
-    // With some bytes more they spell one.
+    // Some more bytes complete a spelling.
     ensures exactly { IsTrue result ↔ BeginsSpelling bytes.now }
     // The same as a function of the list.
     ensures exact { result ≡ begins_of bytes.now }

@@ -1,4 +1,4 @@
-//! The opcode map: what stands behind each opcode, and what the instruction does.
+//! The opcode map: what follows each opcode, and what the instruction does.
 
 ghost use Rattle.std.specs.Prelude.{◌≡◌};
 ghost use Rattle.amd64_subset.specs.Row.{condition_of, row_of, fixed_row_of, escaped_row_of, arithmetic_of, shift_of};
@@ -10,20 +10,20 @@ use Action::*;
 use Arithmetic::*;
 use amd64_words::{Register, Size};
 
-/// What stands behind an opcode, and what the instruction does.
+/// What follows an opcode, and what the instruction does.
 #[derive(Clone, Copy)]
 pub enum Row {
-    /// Nothing stands behind it.
+    /// Nothing follows.
     Alone(Operation),
-    /// nop in one byte: it takes 66 and 2e, and no REX.
+    /// nop in one byte: it may have 66 and 2e, and no REX.
     Nop,
-    /// endbr64: it takes no prefix.
+    /// endbr64: it may have no prefix.
     EndBranch,
     /// A distance or an immediate.
     Number(Numbered, Size),
     /// /r: a ModRM byte that names a register in its reg field.
     Register(Action),
-    /// /n: a ModRM byte whose reg field is more of the opcode; then an immediate.
+    /// /n: a ModRM byte whose reg field extends the opcode, then an immediate.
     Group(Group, Size),
 }
 
@@ -72,7 +72,7 @@ pub enum Action {
     Padding,
 }
 
-/// The condition of this number; the parity conditions are none of ours.
+/// The condition with this number, from 0 to 15. The subset leaves out the two parity conditions.
 #[tactic(auto, unfolding(crate::specs::Row::condition_of))]
 fn condition_at(number: u8) -> Option<Condition>
     ensures { result ≡ condition_of number }
@@ -119,7 +119,7 @@ pub(crate) fn opcode_row(rex: Rex, opcode: u8) -> Option<Row>
     }
 }
 
-/// The one-byte opcodes with nothing in their low bits.
+/// The one-byte opcodes with no register or condition in their low bits.
 #[tactic(auto, unfolding(crate::specs::Row::fixed_row_of))]
 fn fixed_row(wide: bool, opcode: u8) -> Option<Row>
     ensures { result ≡ fixed_row_of wide opcode }
@@ -166,7 +166,7 @@ fn fixed_row(wide: bool, opcode: u8) -> Option<Row>
     Some(row)
 }
 
-/// The opcodes behind 0f.
+/// The second bytes of the opcodes that begin with 0f.
 #[tactic(auto, unfolding(crate::specs::Row::escaped_row_of))]
 pub(crate) fn escaped_row(opcode: u8) -> Option<Row>
     ensures { result ≡ escaped_row_of opcode }
@@ -232,7 +232,7 @@ impl Group {
 }
 
 impl Row {
-    /// What the instruction does with this digit in ModRM's reg field, where it has a ModRM byte.
+    /// What the instruction does with this digit in ModRM's reg field, if it has a ModRM byte.
     pub(crate) fn action(self, digit: u8) -> Option<Action>
         ensures { result ≡ action_of self digit }
     {
@@ -243,7 +243,7 @@ impl Row {
         }
     }
 
-    /// A memory operand is accessed, not only named.
+    /// The instruction accesses its memory operand, and does not only name it.
     fn accesses(self) -> bool
         ensures { result ≡ accesses self }
     {

@@ -21,14 +21,14 @@ pub struct Selectors {
     pub sib: Option<u8>,
 }
 
-/// A SIB byte follows: the operand lies in memory, and in place of a base stands 100.
+/// A SIB byte follows: the operand lies in memory, and 100 stands in place of a base.
 fn has_sib(modrm: u8) -> bool
     ensures { result ≡ has_sib modrm }
 {
     modrm / 64 != 3 && modrm % 8 == 4
 }
 
-/// How many bytes of displacement follow at least.
+/// The least number of displacement bytes that follow.
 fn least_displacement(modrm: u8) -> u8
     ensures value { result ≡ least_displacement modrm }
     ensures bound { result ≤ 4 }
@@ -40,7 +40,7 @@ fn least_displacement(modrm: u8) -> u8
     }
 }
 
-/// The low byte of a register with these three bits is an operand: without REX, 4 to 7 would be %ah to %bh.
+/// The low byte of the register with these three bits can be an operand: without REX, 4 to 7 would be %ah to %bh.
 fn byte_register(prefixes: Prefixes, low: u8) -> bool
     ensures { result ≡ byte_register prefixes low }
 {
@@ -68,7 +68,7 @@ fn allowed(action: Action, prefixes: Prefixes, modrm: u8) -> bool
 }
 
 impl Selectors {
-    /// How many bytes of displacement follow.
+    /// The size of the displacement that follows.
     #[tactic(auto, unfolding(crate::specs::Selectors::displacement_size))]
     pub fn displacement_size(self) -> Size
         ensures { result ≡ displacement_size self }
@@ -126,7 +126,7 @@ impl Selectors {
     }
 }
 
-/// The base without a SIB byte.
+/// The base, if there is no SIB byte.
 fn rip_or_base(modrm: u8, high: bool) -> Base
     ensures { result ≡ rip_or_base modrm high }
 {
@@ -137,7 +137,7 @@ fn rip_or_base(modrm: u8, high: bool) -> Base
     }
 }
 
-/// The base in a SIB byte.
+/// The base that a SIB byte names.
 fn absolute_or_base(modrm: u8, sib: u8, high: bool) -> Base
     ensures { result ≡ absolute_or_base modrm sib high }
 {
@@ -148,7 +148,7 @@ fn absolute_or_base(modrm: u8, sib: u8, high: bool) -> Base
     }
 }
 
-/// The index in a SIB byte; 100 without REX.X is none.
+/// The index that a SIB byte names. 100 without REX.X means none.
 fn index(sib: u8, high: bool) -> Option<Index>
     ensures { result ≡ index_of sib high }
 {
@@ -167,7 +167,7 @@ fn index(sib: u8, high: bool) -> Option<Index>
     })
 }
 
-/// Reads a SIB byte, if ModRM asks for one. `behind` bytes follow at least, besides a displacement.
+/// Reads a SIB byte, if ModRM calls for one. At least `behind` bytes follow it, besides a displacement.
 #[tactic(auto, unfolding(crate::specs::Selectors::sib_at))]
 fn read_sib(modrm: u8, behind: Size, bytes: &[u8]) -> Result<(Option<u8>, &[u8]), Fault>
     ensures { Gives (λ x. (x.0, x.1.now)) result (sib_at modrm behind bytes.now) }
@@ -181,8 +181,7 @@ fn read_sib(modrm: u8, behind: Size, bytes: &[u8]) -> Result<(Option<u8>, &[u8])
     }
 }
 
-/// Reads ModRM, whose reg field may complete the opcode, and SIB. A byte that no instruction has
-/// here is refused at once.
+/// Reads ModRM, whose reg field may extend the opcode, and SIB. Refuses a byte that no instruction has here at once.
 #[tactic(auto, unfolding(crate::specs::Selectors::selectors_at))]
 pub(crate) fn read_selectors(
     prefixes: Prefixes,

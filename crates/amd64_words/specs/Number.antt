@@ -17,7 +17,7 @@ signed_byte_of number = if nat_lt number 0x80 then number else number + 0xffff_f
 abbrev pub signed_long_of : ℕ → ℕ
 signed_long_of number = if nat_lt number 0x8000_0000 then number else number + 0xffff_ffff_0000_0000
 
--- the number that so many bytes hold, and 0 where there is none
+-- the number that bytes of this size hold, sign-extended; 0 for no byte
 unfoldable pub signed_of : Size → List ℕ → ℕ
 signed_of Zero bytes = 0
 signed_of One bytes = signed_byte_of (slice_index bytes 0)

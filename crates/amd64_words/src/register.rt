@@ -26,7 +26,7 @@ pub enum Register {
 }
 
 impl Register {
-    /// The register of this number, from 0 to 15.
+    /// The register with this number, from 0 to 15.
     #[tactic(auto, unfolding(crate::specs::Register::register_of))]
     pub fn numbered(number: u8) -> Register
         requires { number < 16 }
@@ -60,7 +60,7 @@ impl Register {
         self as u8
     }
 
-    /// The register of three bits in the instruction's own bytes and a fourth in its REX prefix.
+    /// The register whose number has these three low bits and, if `high`, the fourth bit (from REX).
     pub fn extended(low: u8, high: bool) -> Register
         requires { low < 8 }
         ensures { result ≡ extended low high }

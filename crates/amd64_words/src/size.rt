@@ -13,7 +13,7 @@ pub enum Size {
 }
 
 impl Size {
-    /// How many they are.
+    /// The number of bytes: 0, 1, 4 or 8.
     pub fn count(self) -> u8
         ensures value { result ≡ count_of self }
         ensures bound { result ≤ 8 }
@@ -26,7 +26,7 @@ impl Size {
         }
     }
 
-    /// The number in so many bytes, sign-extended to 64 bits.
+    /// The little-endian number that `bytes` hold, sign-extended to 64 bits; 0 for `Size::Zero`.
     #[tactic(auto, unfolding(crate::specs::Number::signed_of))]
     pub fn signed(self, bytes: &[u8]) -> u64
         requires { length bytes.now ≡ count_of self }

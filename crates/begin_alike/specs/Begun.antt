@@ -1,4 +1,4 @@
--- When a look comes to the same on both sides; and what is asked of the calls of a job.
+-- When a look has the same result on both sides; and the condition on the calls of a job.
 use Rattle.std.specs.Prelude.{◌≤◌, ℕ, List}
 use Rattle.guest_machine.specs.Simulate.{IsSimulated}
 use Rattle.module_table.specs.declared.events.Event.{Event}
@@ -12,13 +12,13 @@ use Rattle.tied_meaning.specs.Numbers.{Setting}
 use Rattle.tied_meaning.specs.Threads.{AtRest, InCall, Waiting}
 
 module _ (g : Setting) (m : Meaning) (q : Loads ℕ) (history : List Event) where
-  -- both say the same and are at rest, or both are in a call; or the meaning's line is unclean
+  -- both end the line in the same way and are at rest, or both are in a call; or the meaning's line is unclean
   abbrev pub BegunAlike : ℕ → List Event → Begun Meant → Begun Runs → Type 0
   BegunAlike thread seen =
       SameBegun (λ (e : List Event). InCall g m q history thread) (λ (e : List Event). AtRest g m q history thread) seen
 
-  -- of threads that a job can have: one step of a call by meaning is one to four by machine, and a look in the middle
-  -- of a call comes to the same
+  -- for threads that a job can have: one step of a call in the meaning is one to four in the machine, and a look in
+  -- the middle of a call has the same result
   pub record CallsAreAlike : Type 0 where
     pub steps : (thread : ℕ) → 1 ≤ thread → thread ≤ 64
         → IsSimulated (meant_steps m thread) (thread_steps q thread) (InCall g m q history thread)

@@ -1,4 +1,4 @@
--- The laws of lines and of jobs: over any setting and any loads that are tied, at the events that the job ends with.
+-- The laws of lines and of jobs: for any setting and any loads that are tied, at the events that the job ends with.
 use Rattle.std.specs.Prelude.{◌≡◌, ◌⊎◌, ◌≤◌, ℕ, suc, Bool, List, length, map, None}
 use Rattle.guest_arithmetic.specs.Plain.{plain_operations}
 use Rattle.job_meaning.specs.declared.values.Byte.{Byte}
@@ -25,13 +25,13 @@ use Rattle.begin_alike.specs.Begun.{BegunAlike, CallsAreAlike}
 
 -- ** lines
 
--- the event that a line adds is one, refused or not
+-- both sides add the same event, refused or not
 abbrev pub EventsAreOne : Type 0
 EventsAreOne = (g : Setting) (m : Meaning) (q : Loads ℕ) (history : List Event) → AreTied g m q history
     → (thread : ℕ) (line : Line) (seen : List Event)
     → event_by q thread line seen ≡ event_by m.loads thread line seen
 
--- a line of any kind begins alike, where what is seen is a front of the history, and so with the line's own event
+-- a line of any kind begins alike, if what is seen is a front of the history, also with the line's own event added
 abbrev pub LinesBeginAlike : Type 0
 LinesBeginAlike = (g : Setting) (m : Meaning) (q : Loads ℕ) (history : List Event) → AreTied g m q history
     → (thread : ℕ) (seen : List Event) (line : Line) → IsFront seen history
@@ -42,7 +42,7 @@ LinesBeginAlike = (g : Setting) (m : Meaning) (q : Loads ℕ) (history : List Ev
 
 -- ** jobs
 
--- a job's threads and data, at the same events; there are at most 64 threads
+-- a job's threads and data, after the same events; there are at most 64 threads
 abbrev pub SameJob : Setting → Meaning → Loads ℕ → List Event → Shared Word Flag Byte Line → Shared ℕ Bool ℕ Line
     → Type 0
 SameJob g m q history = SameWorld (λ i. Waiting g m q history i) (λ i. AtRest g m q history i) (SameData g q)
@@ -54,7 +54,7 @@ JobsStartAlike = (g : Setting) (m : Meaning) (q : Loads ℕ) (history : List Eve
     → (lines : List (List ThreadLine)) → length lines ≤ 64
     → SameJob g m q history (job_start m lines) (runs_start q lines)
 
--- the events that the machine's job ends with begin the history
+-- the history begins with the events that the machine's job ends with
 abbrev pub EndsIn : Loads ℕ → ℕ → List (List ThreadLine) → List ℕ → List Event → Type 0
 EndsIn q fuel lines order history = IsFront (job_world q fuel lines order).events history
 
@@ -67,11 +67,11 @@ JobsStayAlike = (g : Setting) (m : Meaning) (q : Loads ℕ) (history : List Even
     → IsSomeUnclean (meant_world m fuel lines order)
     ⊎ SameJob g m q history (meant_world m fuel lines order) (job_world q fuel lines order)
 
--- what all threads say
+-- the lines of all threads
 abbrev pub all_said : {W F B : Type 0} → Shared W F B Line → List (List Said)
 all_said w = map (λ t. t.said) w.threads
 
--- a thread by meaning, by itself, after turns that see these lists of events
+-- a thread of the meaning, by itself, after turns that see these lists of events
 abbrev pub meant_thread : Meaning → ℕ → ℕ → List ThreadLine → List (List Event) → Thread Meant Line Event
 meant_thread m fuel thread lines points =
     turns (meant_turns m thread fuel) (ready (meant_ready m thread) (numbered_lines 1 lines)) points
@@ -84,7 +84,7 @@ module _ (m : Meaning) (q : Loads ℕ) (history : List Event) where
       → ((job_world q fuel lines order).events ≡ (meant_world m fuel lines order).events)
       × (all_said (job_world q fuel lines order) ≡ lines_of (meant_world m fuel lines order))
 
-  -- a clean thread prints what it means by itself, where each point, and so with the event that the thread adds there,
+  -- a clean thread prints what it means by itself, if each point, and that with the event that the thread adds there,
   -- is a front of the history
   abbrev pub ThreadPrints : Type 0
   ThreadPrints = (fuel thread : ℕ) → 1 ≤ thread → thread ≤ 64 → (lines : List ThreadLine) (points : List (List Event))
@@ -92,7 +92,7 @@ module _ (m : Meaning) (q : Loads ℕ) (history : List Event) where
       → HasUnclean (meant_thread m fuel thread lines points).said
       ⊎ ((raced_of q fuel thread lines points).said ≡ (meant_thread m fuel thread lines points).said)
 
--- where calls are alike
+-- if calls are alike
 abbrev pub CleanJobsPrint : Type 0
 CleanJobsPrint = (g : Setting) (m : Meaning) (q : Loads ℕ) (history : List Event) → AreTied g m q history
     → CallsAreAlike g m q history → JobPrints m q history

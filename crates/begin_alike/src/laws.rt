@@ -1,14 +1,15 @@
-//! Laws of lines and of jobs. The functions do nothing: what they ensure is the law.
+//! Laws of lines and of jobs. Each function does nothing; what it ensures is the law.
 
 ghost use Rattle.begin_alike.specs.Laws.{CleanJobsPrint, CleanThreadsPrint, EventsAreOne, JobsStartAlike};
 ghost use Rattle.begin_alike.specs.Laws.{JobsStayAlike, LinesBeginAlike};
 
-/// A line adds the same event by meaning and by machine, or none.
+/// A line adds the same event in the meaning and in the machine, or none.
 pub fn events_are_one()
     ensures { EventsAreOne }
 {}
 
-/// A line of any kind begins alike: the same is said, or both are in a call, or the meaning's line is unclean.
+/// A line of any kind begins alike: both end it in the same way, or both are in a call, or the meaning's line is
+/// unclean.
 pub fn lines_begin_alike()
     ensures { LinesBeginAlike }
 {}
@@ -18,12 +19,12 @@ pub fn jobs_start_alike()
     ensures { JobsStartAlike }
 {}
 
-/// After all turns they are, or some line is unclean: where calls are alike.
+/// After all turns they are related, or some line is unclean, if calls are alike.
 pub fn jobs_stay_alike()
     ensures { JobsStayAlike }
 {}
 
-/// A job that is found clean prints what it means: where calls are alike.
+/// A clean job prints what it means, if calls are alike.
 pub fn clean_jobs_print()
     ensures { CleanJobsPrint }
 {}

@@ -1,5 +1,5 @@
--- What is printed, wherever what is loaded is tied to what is meant: the laws of jobs and of threads (`begin_alike`),
--- of which nothing is owed any more.
+-- What is printed, if what is loaded is tied to what is meant: the laws of jobs and of threads (`begin_alike`),
+-- without the premise that calls are alike.
 use Rattle.std.specs.Prelude.{ℕ, List}
 use Rattle.module_table.specs.declared.events.Event.{Event}
 use Rattle.thread_blocks.specs.Instances.{Loads}
@@ -13,7 +13,7 @@ abbrev pub TiedJobsPrint : Type 0
 TiedJobsPrint = (g : Setting) (m : Meaning) (q : Loads ℕ) (history : List Event) → AreTied g m q history
     → JobPrints m q history
 
--- a clean thread prints what it means by itself, at whatever fronts of the history its turns look
+-- a clean thread prints what it means by itself, whatever fronts of the history its turns see
 abbrev pub TiedThreadsPrint : Type 0
 TiedThreadsPrint = (g : Setting) (m : Meaning) (q : Loads ℕ) (history : List Event) → AreTied g m q history
     → ThreadPrints m q history

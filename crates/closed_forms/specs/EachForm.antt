@@ -18,7 +18,7 @@
 --      mov %ebx, %eax
 --      ret
 --
--- Each function loads twice and answers the sum, whatever its sequences were rewritten to:
+-- Each function loads twice and returns the sum, whatever its sequences were rewritten to:
 --
 --   a  gd               to a load of the distance of x from the table (gd-ie)             7
 --      gd-ind           to the distance of y in the code (gd-le)                          6
@@ -92,7 +92,7 @@ calls name = (record { image = 1; action = Call name 0 0 0 } ∷ []) ∷ []
 abbrev pub answers : ℕ → Says
 answers number = ((record { points = 0 ∷ []; ending = Stopped (Returned number) } ∷ []) ∷ [], [])
 
--- in both worlds the function of this name answers the number
+-- in both worlds the function with this name returns the number
 abbrev pub Loads : Bool → List ℕ → ℕ → Type 0
 Loads relax name number = BothSay (links relax) 8 (calls name) [] (answers number)
 

@@ -1,4 +1,4 @@
--- Three threads, of which one hands over what only a linker knows. The program lies anywhere (pie), x is the library's:
+-- Three threads, of which one hands over tokens to the others. The program can be moved (pie), x is the library's:
 --
 --   p: lea x@tlsdesc(%rip), %rax           g: mov e@gotpcrel(%rip), %rbx
 --      mov %rax, w(%rip)                      call *h@gotpcrel(%rip)
@@ -16,10 +16,10 @@
 --                                          u:   .quad 0
 --                                          w:   .quad 0
 --
--- Thread 1 puts a descriptor of x and the base of its own block into the program's data. Thread 2 takes the base and
--- reaches for y: that is in a block of thread 1, which thread 2 does not have. Thread 3 calls the descriptor, and is
--- told how far x is from its own thread pointer, -12. In a job of its own g reads e by an address in a table and by one
--- in the code, 8 each time: the one is of the program as it was moved, and so is the other.
+-- Thread 1 stores a descriptor of x and the base of its own block in the program's data. Thread 2 loads the base and
+-- accesses y: that is in a block of thread 1, which thread 2 does not have. Thread 3 calls the descriptor, and gets
+-- the distance of x from its own thread pointer, -12. In a job of its own g reads e by an address in a table and by
+-- one in the code, 8 each time: both are addresses in the program as it was moved.
 use Rattle.std.specs.Prelude.{ℕ, Bool, List, [], ◌∷◌, codes}
 use Rattle.guest_operands.specs.declared.stop.Stop.TheVariants.{Returned, Address}
 use Rattle.job_text.specs.declared.thread_lines.Action.TheVariants.{Call}

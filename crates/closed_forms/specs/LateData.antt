@@ -5,8 +5,8 @@
 --                                      ret
 --                            .data  n: .long 5
 --
--- Thread 1 opens the module and counts, from 5 to 6, and thread 2 to 7. Then thread 2 closes it. Once it is open again
--- it is instance 3, whose data are as a load makes them: 6 comes next.
+-- Thread 1 opens the module and counts, from 5 to 6, and thread 2 to 7. Then thread 2 closes it. When it is opened
+-- again it is instance 3, whose data are as a load fills them: 6 comes next.
 use Rattle.std.specs.Prelude.{ℕ, Bool, true, false, List, [], ◌∷◌, codes}
 use Rattle.guest_operands.specs.declared.stop.Stop.TheVariants.{Returned}
 use Rattle.job_text.specs.declared.thread_lines.Action.TheVariants.{Call, Open, Close}

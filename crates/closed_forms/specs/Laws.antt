@@ -18,7 +18,7 @@ HandedOverSaysTheSame = (relax : Bool) → BothSay (handed.links relax) 6 handed
 abbrev pub LateDataSaysTheSame : Type 0
 LateDataSaysTheSame = (relax : Bool) → BothSay (late.links relax) 3 late.lines late.order late.says
 
--- what a call asks of the stack goes before the look for its variable
+-- a call's test of the stack comes before the look for its variable
 abbrev pub StackIsAskedFirst : Type 0
 StackIsAskedFirst = (relax : Bool)
     → said_in (meant_world (meaning_of (stack.links relax)) 3 stack.lines []) ≡ stack.says

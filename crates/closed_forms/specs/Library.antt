@@ -1,4 +1,4 @@
--- A module that starts with the program, of both jobs. Its one object, as assembled:
+-- A startup module, of both jobs. Its one object, as assembled:
 --
 --   .section .tdata
 --        .long 1

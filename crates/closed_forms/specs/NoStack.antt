@@ -6,8 +6,8 @@
 --      call __tls_get_addr@PLT
 --      ret
 --
--- Called with 8 in %rdi it has no eight bytes of stack for the return address. So the sequence is unclean where it
--- stands, and no look is made for its variable, though that came late: the line has the one look that it began with.
+-- Called with 8 in %rdi it has no eight bytes of stack for the return address. So the sequence is unclean, and no look
+-- is made for its variable, though its instance is a late one: the line has only its first look.
 use Rattle.std.specs.Prelude.{ℕ, Bool, true, List, [], ◌∷◌, codes}
 use Rattle.guest_arithmetic.specs.declared.cause.Cause.TheVariants.{Undefined}
 use Rattle.guest_operands.specs.declared.stop.Stop.TheVariants.{Unclean}

@@ -18,7 +18,7 @@ abbrev pub LocalCodeIsTied : Type 0
 LocalCodeIsTied = (relax : Bool)
     → AreTiedSites (setting relax) (meaning_of (local.links relax)) (loads_of_links (local.links relax))
 
--- all that the laws of jobs ask of what is loaded is true of this job; it has no events
+-- the premise of the laws of jobs, that all that is loaded is tied, is true of this job; it has no events
 abbrev pub LocalJobIsTied : Type 0
 LocalJobIsTied = (relax : Bool)
     → AreTied (setting relax) (meaning_of (local.links relax)) (loads_of_links (local.links relax)) []

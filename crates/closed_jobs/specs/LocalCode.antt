@@ -1,4 +1,4 @@
--- A program with local dynamic code and a descriptor. Its one object, as assembled:
+-- A program with Local Dynamic code and a descriptor. Its one object, as assembled:
 --
 --   f: lea x@tlsld(%rip), %rdi                  .section .tdata
 --      call __tls_get_addr@PLT                       .long 7
@@ -8,8 +8,8 @@
 --      call *x@tlscall(%rax)
 --      ret
 --
--- f loads x. g answers how far x is from the thread pointer: -4, since the program's block of 8 bytes ends there. No
--- call asks anything of a number that the linker chose, so rewritten code and kept code say the same.
+-- f loads x. g returns the distance of x from the thread pointer: -4, since the program's block of 8 bytes ends there.
+-- No call depends on a number that the linker chose, so rewritten code and kept code print the same.
 use Rattle.std.specs.Prelude.{ℕ, Bool, List, [], ◌∷◌, codes}
 use Rattle.job_text.specs.declared.thread_lines.Action.TheVariants.{Call}
 use Rattle.job_text.specs.declared.thread_lines.ThreadLine.{ThreadLine}

@@ -1,5 +1,5 @@
--- The sites of the program with local dynamic code and a descriptor: where its sequences and its offset field are, and
--- what the linker chose for them.
+-- The sites of the program with Local Dynamic code and a descriptor: its sequences and its offset field, and the
+-- linker's choices for them.
 use Rattle.std.specs.Prelude.{◌≡◌, ℕ, ◌+◌, ◌-◌, ◌%◌, ◌^◌, ◌&&◌, ◌==◌, Bool, List, Some, None, if◌then◌else◌}
 use Rattle.amd64_subset.specs.Spelling.{field_of}
 use Rattle.amd64_words.specs.declared.register.Register.TheVariants.{Rax}
@@ -25,8 +25,8 @@ app = record { image = 1; number = 1; id = 1; offset = Some 8 }
 abbrev pub x_symbol : ℕ
 x_symbol = 2 ^ 56 + 1
 
--- rewritten: bases are thread pointers, and the descriptor of x is its distance. Kept: bases are where blocks begin,
--- and the descriptor is at its place in the table
+-- rewritten: bases are thread pointers, and the descriptor of x is its distance. Kept: bases are the blocks'
+-- addresses, and the descriptor is its entry's address in the table
 abbrev pub setting : Bool → Setting
 setting relax = record {
   known = λ number. if number == 1 then Some app else None;
@@ -35,7 +35,7 @@ setting relax = record {
   counts_from_pointer = relax;
 }
 
--- ** what is meant
+-- ** the meaning
 
 abbrev pub base : Sequence
 base = record { form = Ld; next = 0x40000c; register = Rax; instance = 1; symbol = 0; target = 1; offset = 0 }
@@ -48,14 +48,14 @@ abbrev pub call : Sequence
 call =
     record { form = DescCall; next = 0x40001c; register = Rax; instance = 1; symbol = x_symbol; target = 1; offset = 4 }
 
--- ** what is tied
+-- ** the ties
 
--- a sequence is meant at a place, and what stands there does what it means
+-- the meaning has a sequence at this address, and the code there does what the sequence means
 pub record IsTiedSite (g : Setting) (m : Meaning) (q : Loads ℕ) (place : ℕ) (s : Sequence) : Type 0 where
   pub meant : m.sequence app place ≡ Some s
   pub stands : Stands g q app place s
 
--- a field is meant at a place, and what stands there leads from each thread's base to the same address
+-- the meaning has a field at this address, and the field there leads from each thread's base to the same address
 pub record IsTiedField (g : Setting) (m : Meaning) (q : Loads ℕ) (place number : ℕ) : Type 0 where
   pub meant : m.mark app place ≡ Offset number 0
   pub moves : (four : List ℕ) → HasFourBytes q app place four

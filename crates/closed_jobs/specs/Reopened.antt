@@ -10,9 +10,10 @@
 --                                                  .tdata v: .long 5
 --
 -- Thread 1 opens the module, calls f, which looks again at __tls_get_addr and finds v, and calls f once more. Now
--- thread 2 closes the module while that call waits for its look, so it can't go on. Opened again the module is instance
--- 3, and g answers where its variable is in the static surplus: -12 from the thread pointer, below the 4 bytes of w and
--- the room of the load before it. The program's own sequence is rewritten in one setting, and kept in the other.
+-- thread 2 closes the module while that call waits for its look, so the call can't go on. When it is opened again, the
+-- module is instance 3, and g returns its variable's distance from the thread pointer in the static surplus: -12,
+-- below the 4 bytes of w and the block of the load before it. The program's own sequence is rewritten in one setting,
+-- and kept in the other.
 use Rattle.std.specs.Prelude.{ℕ, Bool, true, false, List, [], ◌∷◌, codes}
 use Rattle.guest_operands.specs.declared.stop.Stop.TheVariants.{Returned}
 use Rattle.job_text.specs.declared.thread_lines.Action.TheVariants.{Call, Open, Close}

@@ -1,5 +1,5 @@
--- A program, a module that starts with it and a late one, whose code reaches variables by every kind of entry of the
--- global offset table. No sequence is rewritten. Their objects, as assembled:
+-- A program, a startup module and a late one, whose code reaches variables by every kind of entry of the global offset
+-- table. No sequence is rewritten. Their objects, as assembled:
 --
 --   program f: gd a, gd y, desc a, desc y, ie a, ie y, mov f@gotpcrel(%rip), %rax
 --              .tdata .long 7; a: .long 5
@@ -13,9 +13,9 @@
 --   ie x: mov x@gottpoff(%rip), %rax                        desc x: lea x@tlsdesc(%rip), %rax
 --                                                                   call *x@tlscall(%rax)
 --
--- The program, which may lie anywhere, is instance 1; what starts with it is instance 2. Thread 1 opens the late
--- module, closes it and opens it again: it is instance 4 then, with the id 3 again, and its block is the second of 16
--- bytes that the surplus gives behind the 20 bytes of the first two.
+-- The program, which can be moved, is instance 1; the startup module is instance 2. Thread 1 opens the late module,
+-- closes it and opens it again: then it is instance 4, with the id 3 again, and its block is the second one of 16
+-- bytes that the surplus gives after the 20 bytes of the first two.
 use Rattle.std.specs.Prelude.{◌≡◌, ◌+◌, ◌*◌, ◌-◌, ◌^◌, ℕ, true, false, List, [], ◌∷◌, Some, codes, length, map}
 use Rattle.std.specs.List.{flat_map, range_with_len}
 use Rattle.elf_records.specs.Fields.{bytes_of}
@@ -113,7 +113,7 @@ plug_object = file (
     ∷ codes "110000000300000000000000000000000000000000000000a0020000000000002d000000000000000000000000000000"
     ∷ codes "01000000000000000000000000000000" ∷ [])
 
--- what the two that start export
+-- the exports of the two startup images
 abbrev pub startup : List (List (List ℕ))
 startup = (codes "a" ∷ []) ∷ (codes "y" ∷ []) ∷ []
 
@@ -176,7 +176,7 @@ history = record { thread = 1; line = 1; opens = true; image = 3 }
 
 -- ** a table
 
--- from an address on the table of a live instance holds these words, and they are those that its entries mean
+-- from this address on the table of a live instance holds these words, and they are those that its entries define
 pub record HasTable (l : Linking) (x : Instance) (address : ℕ) (words : List ℕ) : Type 0 where
   pub live : numbered_instance (loads_of_links links) history x.number ≡ Some x
   pub begins : got_start l + bias_of l.kind x.number ≡ address

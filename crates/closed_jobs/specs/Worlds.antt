@@ -1,4 +1,4 @@
--- A job in both worlds: from one list of links, what its linked images do and what its objects mean.
+-- A job in both worlds, from one list of links: what its linked images print, and what its objects mean.
 use Rattle.std.specs.Prelude.{◌≡◌, ℕ, ◌+◌, ◌*◌, ◌-◌, List, [], ◌∷◌, map, nat_lt, if◌then◌else◌}
 use Rattle.std.specs.List.{flat_map}
 use Rattle.job_text.specs.declared.thread_lines.ThreadLine.{ThreadLine}
@@ -35,14 +35,14 @@ images_of ls = record { kinds = map (λ (l : Linking). l.kind) ls; images = map 
 abbrev pub loads_of_links : List Linking → Loads ℕ
 loads_of_links ls = job_loads (images_of ls)
 
--- what each thread says of its lines, and the history
+-- the lines of each thread, and the history
 abbrev pub Says : Type 0
 Says = List (List Said) × List Event
 
 abbrev pub said_in : {W F B L : Type 0} → Shared W F B L → Says
 said_in w = (map (λ t. t.said) w.threads, w.events)
 
--- a job: steps of a call, lines of each thread, order of their turns; and what is said, in both worlds
+-- a job: steps of a call, lines of each thread, order of their turns; and what both worlds print
 pub record BothSay (ls : List Linking) (fuel : ℕ) (lines : List (List ThreadLine)) (order : List ℕ) (says : Says)
     : Type 0 where
   pub meant : said_in (meant_world (meaning_of ls) fuel lines order) ≡ says

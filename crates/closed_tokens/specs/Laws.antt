@@ -8,7 +8,7 @@ use Rattle.closed_tokens.specs.Unclean.{IsUnclean}
 abbrev pub PeekSaysTheSame : Type 0
 PeekSaysTheSame = (relax : Bool) → BothSay (peeked.links relax) 3 peeked.lines [] peeked.says
 
--- what the machine shows is the setting's then
+-- what the machine shows then depends on the setting
 abbrev pub PeekIsUnclean : Type 0
 PeekIsUnclean = (relax : Bool)
     → IsUnclean (peeked.links relax) 7 peeked.marked [] peeked.means peeked.first (peeked.does relax)

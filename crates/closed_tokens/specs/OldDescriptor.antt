@@ -1,4 +1,4 @@
--- A descriptor that is left over when its module is closed and opened again. The objects, as assembled:
+-- A descriptor of a module that is closed and opened again. The objects, as assembled:
 --
 --   program a: mov u(%rip), %rcx          module f: lea v@tlsdesc(%rip), %rax
 --              mov %rcx, u+8(%rip)                  mov %rax, (%rdi)
@@ -10,14 +10,14 @@
 --                                         .tdata    .long 7
 --                                                v: .long 5
 --
--- Thread 1 opens the module, which is instance 2, and calls f, which puts a descriptor of v into u and then asks for v.
--- There thread 2 closes the module and opens it again, as instance 3. The call can't go on: the instance is gone whose
--- code asks. But its descriptor is still in u, and may be carried: a puts it into the word behind. In its place f puts
--- one of instance 3, by which thread 1, and thread 2 in g, are told how far v is from the thread pointer, in the block
--- that each has of instance 3.
+-- Thread 1 opens the module, which is instance 2, and calls f, which stores a descriptor of v in u and then asks for
+-- v. At that look thread 2 closes the module and opens it again, as instance 3. The call can't go on: the instance
+-- whose code asks is closed. But its descriptor is still in u, and may be moved: a puts it into the next word. In its
+-- place f stores one of instance 3, by which thread 1, and thread 2 in g, get the distance of v from the thread
+-- pointer, in the block that each has of instance 3.
 --
--- In a job with another last line thread 2 calls the old one. It is of v too, but the code is that of instance 3, and
--- so the call is unclean. The machine finds nothing where the table of instance 2 was.
+-- In a job with another last line thread 2 calls the old one. It is also a descriptor of v, but the code is that of
+-- instance 3, so the call is unclean. The machine finds nothing at the address of instance 2's table.
 use Rattle.std.specs.Prelude.{ℕ, ◌+◌, Bool, true, false, List, [], ◌∷◌, codes}
 use Rattle.guest_arithmetic.specs.declared.cause.Cause.TheVariants.{Descriptor}
 use Rattle.guest_operands.specs.declared.stop.Stop.TheVariants.{Returned, Address, Unclean}
@@ -118,7 +118,7 @@ lines_with word =
 abbrev pub order : List ℕ
 order = 1 ∷ 1 ∷ 2 ∷ 2 ∷ []
 
--- what is said, the last line of thread 2 aside
+-- what is printed, without the last line of thread 2
 abbrev says_with : Said → Says
 says_with last = (
   (record { points = 0 ∷ []; ending = Answered (Opened 2) }
@@ -133,7 +133,7 @@ says_with last = (
       ∷ record { thread = 2; line = 2; opens = true; image = 2 } ∷ [],
 )
 
--- ** the new one
+-- ** the new descriptor
 
 abbrev pub lines : List (List ThreadLine)
 lines = lines_with u
@@ -141,7 +141,7 @@ lines = lines_with u
 abbrev pub says : Says
 says = says_with (record { points = 3 ∷ 3 ∷ []; ending = Stopped (Returned 0xffff_ffc0_0300_0004) })
 
--- ** the old one
+-- ** the old descriptor
 
 abbrev pub lines_with_old : List (List ThreadLine)
 lines_with_old = lines_with (u + 8)

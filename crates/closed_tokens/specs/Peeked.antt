@@ -12,14 +12,14 @@
 --      mov $1, %eax
 --      ret
 --
--- Thread 1 counts in v by f, and its next line shows v, the lowest byte first. Thread 2 shows its own v, in which none
--- counted; a line for one byte more than its block has is refused.
+-- Thread 1 counts in v by f, and its next line shows v, the lowest byte first. Thread 2 shows its own v, in which no
+-- thread counted; a line for one byte more than its block has is refused.
 --
--- In a job of its own thread 1 calls g, which puts a descriptor into v and the base of the thread's block into w. What
--- a line shows of v is unclean then, and what one shows of both is unclean at w: a base is told before a descriptor,
--- wherever the two stand. The machine shows what its linker chose. Rewritten, the descriptor is the distance of v from
--- the thread pointer, -16, and the base is that pointer; kept, the descriptor is an address in the table, and the base
--- is where the block begins.
+-- In a job of its own thread 1 calls g, which stores a descriptor in v and the base of the thread's block in w. Then a
+-- line that shows v is unclean, and one that shows both is unclean at w: a base is reported before a descriptor,
+-- wherever the two are. The machine shows what its linker chose. If rewritten, the descriptor is the distance of v
+-- from the thread pointer, -16, and the base is that pointer; if kept, the descriptor is an address in the table, and
+-- the base is the block's address.
 use Rattle.std.specs.Prelude.{ℕ, Bool, List, [], ◌∷◌, codes, if◌then◌else◌}
 use Rattle.guest_arithmetic.specs.declared.cause.Cause.TheVariants.{Base, Descriptor}
 use Rattle.guest_operands.specs.declared.stop.Stop.TheVariants.{Returned, Unclean}
@@ -89,7 +89,7 @@ abbrev pub lines : List (List ThreadLine)
 lines = (record { image = 1; action = Call (codes "f") 0 0 0 } ∷ peeks 8 ∷ [])
     ∷ (peeks 8 ∷ peeks 17 ∷ []) ∷ []
 
--- f answers how far v is from the thread pointer
+-- f returns the distance of v from the thread pointer
 abbrev pub says : Says
 says = (
   (record { points = 0 ∷ []; ending = Stopped (Returned 0xfffffffffffffff0) }

@@ -8,8 +8,8 @@ use Rattle.whole_meaning.specs.Jobs.{lines_of, meant_world, verdict_of}
 use Rattle.whole_meaning.specs.Loads.{meaning_of}
 use Rattle.closed_jobs.specs.Worlds.{Says, loads_of_links, said_in}
 
--- a job: steps of a call, lines of each thread, order of their turns; and what it means, which step is found unclean
--- first, and what its linked images do
+-- a job: steps of a call, lines of each thread, order of their turns; and its meaning's lines, its first unclean step,
+-- and what its linked images print
 pub record IsUnclean (ls : List Linking) (fuel : ℕ) (lines : List (List ThreadLine)) (order : List ℕ) (means : Says)
     (first : UncleanStep) (does : Says) : Type 0 where
   pub meant : said_in (meant_world (meaning_of ls) fuel lines order) ≡ means

@@ -1,10 +1,10 @@
-//! Bytes of variables that lines show, and a descriptor that is left over from a module that was closed: jobs that are
-//! clean, and jobs that a last line makes unclean. No code runs here: definitions, and laws that the checker computes.
+//! Small jobs that show bytes of tokens, or call the descriptor of a closed module: clean ones, and unclean ones.
 //!
-//! A base and a descriptor are numbers that a linker chose. A job's meaning has a token in the place of each, which
-//! may be carried anywhere, and used for one thing alone. `closed_jobs` says what it is that a job's meaning and its
-//! machine say the same (`BothSay`). Here are two clean jobs of which that is true. Beside each is one that uses a
-//! token otherwise, where the meaning says which step is unclean, and why:
+//! A base and a descriptor are numbers that a linker chose. A job's meaning has a token for each, which may be moved
+//! anywhere, and used for one thing alone. `closed_jobs` defines that a job's meaning and its machine print the same
+//! (`BothSay`). Here are two clean jobs of which that is true. Beside each is one that uses a token for something
+//! else; the meaning says which step is unclean, and why. No code runs here: definitions, and laws that the checker
+//! computes.
 //!
 //! ```text
 //!                                           meaning        machine, rewritten    machine, kept
@@ -15,9 +15,9 @@
 //! ```
 //!
 //! - `specs/Peeked.antt`: a program whose variables are shown, as numbers and as tokens;
-//! - `specs/OldDescriptor.antt`: a late module whose descriptor lies in the program's data when it is closed and opened
-//!   again, and the descriptor of its next instance;
-//! - `specs/Unclean.antt`: what it is that a job is unclean, in both worlds (`IsUnclean`).
+//! - `specs/OldDescriptor.antt`: a late module whose descriptor lies in the program's data when it is closed and
+//!   opened again, and the descriptor of its next instance;
+//! - `specs/Unclean.antt`: a job that is unclean, in both worlds (`IsUnclean`).
 #![tactic(auto)]
 
 pub mod laws;

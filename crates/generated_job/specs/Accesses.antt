@@ -31,7 +31,7 @@ abbrev pub calls_of : Access → Bool
 calls_of access.InitialExecutable = false
 calls_of _ = true
 
--- object i of a program, where its variable is v at first
+-- object i of a program, whose variable has the initial value v
 abbrev pub shape_with : ℕ → ℕ → Shape
 shape_with i v = record {
   function = function_name i;

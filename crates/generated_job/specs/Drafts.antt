@@ -1,4 +1,4 @@
--- The shape that code holds, and how large it may be for its numbers to fit.
+-- The shape that code holds, and the bounds by which its numbers fit their fields.
 use Rattle.std.specs.Prelude.{◌<◌, length}
 use Rattle.generated_job.specs.declared.shape.ObjectShape.{ObjectShape}
 use Rattle.generated_job.specs.Shapes.{Shape}

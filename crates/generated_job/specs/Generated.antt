@@ -18,7 +18,7 @@ function_name i = codes "f" ++ decimal i
 unfoldable pub variable_name : ℕ → List ℕ
 variable_name i = codes "x" ++ decimal i
 
--- ** what the variables are at first: each follows from the one before it
+-- ** the initial values of the variables: each follows from the one before it
 
 unfoldable pub value_of : ℕ → ℕ → ℕ
 value_of n zero = n
@@ -26,7 +26,7 @@ value_of n (suc i) = (5 * value_of n i + 3) % 2 ^ 32
 
 -- ** code
 
--- an entry for a field: of a type, for a symbol; the addend -4 is that of a field at the end of its instruction
+-- the relocation of a field: of a type, for a symbol; the addend -4 is that of a field at the end of its instruction
 abbrev pub entry : ℕ → ℕ → ℕ → ℤ → Rela
 entry offset kind symbol addend = record { offset = offset; info = 2 ^ 32 * symbol + kind; addend = addend }
 
@@ -38,7 +38,7 @@ abbrev pub general : List ℕ → List ℕ
 general rest =
     0x66 ∷ 0x48 ∷ 0x8d ∷ 0x3d ∷ 0 ∷ 0 ∷ 0 ∷ 0 ∷ 0x66 ∷ 0x66 ∷ 0x48 ∷ 0xe8 ∷ 0 ∷ 0 ∷ 0 ∷ 0 ∷ rest
 
--- mov (%rax), %eax; ret: by general dynamic
+-- mov (%rax), %eax; ret: after General Dynamic
 abbrev pub general_code : List ℕ
 general_code = general (0x8b ∷ 0x00 ∷ 0xc3 ∷ [])
 
@@ -105,12 +105,12 @@ local_shape n i = record {
   calls = true;
 }
 
--- object i of n reads its variable: by a general dynamic, an initial executable and a local dynamic sequence in turns
+-- object i of n reads its variable by a General Dynamic, an Initial Exec or a Local Dynamic sequence, in turns
 unfoldable pub shape_of : ℕ → ℕ → Shape
 shape_of n i =
     if i % 3 == 1 then general_shape n i else if i % 3 == 2 then initial_executable_shape n i else local_shape n i
 
--- the module's object writes its argument to its variable, which is 5 at first, and gives the address
+-- the module's object writes its argument to its variable, whose initial value is 5, and returns the address
 unfoldable pub module_shape : Shape
 module_shape = record {
   function = codes "f";
@@ -128,8 +128,8 @@ generated_files n =
     map (λ i. (object_name i, object_bytes (shape_of n i))) (range_with_len 1 n)
     ++ (codes "p.o", object_bytes module_shape) ∷ []
 
--- ** the job: a program of n objects, a module that comes late, and two threads. The first opens the module and calls each
--- function of the program; the second calls the module's function with each number, and looks at its variable
+-- ** the job: a program of n objects, a late module, and two threads. The first opens the module and calls each
+-- function of the program; the second calls the module's function with each number, and peeks at its variable
 
 abbrev pub object_word : ℕ → List ℕ
 object_word i = codes " " ++ object_name i

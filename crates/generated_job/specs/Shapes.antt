@@ -1,5 +1,5 @@
--- An object of one function and one thread-local variable, byte for byte (gABI, "ELF Header", "Sections", "Symbol Table"
--- and "Relocation").
+-- An object with one function and one thread-local variable, byte for byte (gABI, "ELF Header", "Sections", "Symbol
+-- Table" and "Relocation").
 use Rattle.std.specs.Prelude.{ℕ, ◌+◌, ◌*◌, ◌==◌, Bool, List, [], ◌∷◌, ◌++◌, codes, length, if◌then◌else◌}
 use Rattle.std.specs.List.{flat_map}
 use Rattle.elf_records.specs.Records.{header_bytes, section_bytes, symbol_bytes, rela_bytes}
@@ -8,8 +8,8 @@ use Rattle.elf_records.specs.declared.relocation.Rela.{Rela}
 use Rattle.elf_records.specs.declared.section_header.SectionHeader.{SectionHeader}
 use Rattle.elf_records.specs.declared.symbol.SymbolEntry.{SymbolEntry}
 
--- what the object is made of: the names of its function and its variable, the code and its relocations, the first bytes
--- of the variable, how many zeros stand behind them, and whether the code calls `__tls_get_addr`
+-- the parts of the object: the names of its function and its variable, the code and its relocations, the variable's
+-- initial bytes, how many zeros follow them, and whether the code calls `__tls_get_addr`
 pub record Shape : Type 0 where
   pub function : List ℕ
   pub variable : List ℕ
@@ -19,13 +19,14 @@ pub record Shape : Type 0 where
   pub zeros : ℕ
   pub calls : Bool
 
--- ** symbols: the reserved one, the function in section 1, the variable in section 3, and what is called
+-- ** symbols: the reserved one, the function in section 1, the variable in section 3, and `__tls_get_addr` if it is
+-- called
 
 abbrev pub symbol_of : ℕ → ℕ → ℕ → ℕ → SymbolEntry
 symbol_of name info section size =
     record { name = name; info = info; other = 0; shndx = section; value = 0; size = size }
 
--- where its name begins in the table of names
+-- the offset of its name in the table of names
 abbrev pub variable_name_at : Shape → ℕ
 variable_name_at s = 2 + length s.function
 
@@ -41,7 +42,7 @@ symbols_of s =
     symbol_of 0 0 0 0 ∷ symbol_of 1 0x12 1 (length s.code) ∷ symbol_of (variable_name_at s) 0x16 3 (length s.initial)
     ∷ getter_symbols s
 
--- ** names, each with a zero byte behind it
+-- ** names, each followed by a zero byte
 
 abbrev pub getter_name : Bool → List ℕ
 getter_name calls = if calls then codes "__tls_get_addr\0" else []
@@ -52,7 +53,7 @@ names_of s = 0 ∷ s.function ++ (0 ∷ s.variable ++ (0 ∷ getter_name s.calls
 unfoldable pub section_names : List ℕ
 section_names = codes "\0.text\0.rela.text\0.tdata\0.tbss\0.symtab\0.strtab\0.shstrtab\0"
 
--- ** where the parts stand: behind the header and eight headers of sections
+-- ** the offsets of the parts: after the header and eight section headers
 
 abbrev pub symbols_at : Shape → ℕ
 symbols_at s = 576 + length s.code + length s.initial
@@ -68,8 +69,8 @@ relocations_at s = section_names_at s + 57
 
 -- ** sections
 
--- a name, a type, flags, a place in the file, a size, two numbers that depend on the type, an alignment, and the size of
--- an entry
+-- a name, a type, flags, an offset in the file, a size, two numbers that depend on the type, an alignment, and the
+-- size of an entry
 abbrev pub section_of : ℕ → ℕ → ℕ → ℕ → ℕ → ℕ → ℕ → ℕ → ℕ → SectionHeader
 section_of name kind flags offset size link info alignment entry = record {
   name = name;
@@ -84,7 +85,7 @@ section_of name kind flags offset size link info alignment entry = record {
   entsize = entry;
 }
 
--- no zeros need no alignment
+-- the alignment of the zeros: none needs no alignment
 abbrev pub zeros_alignment : ℕ → ℕ
 zeros_alignment zeros = if zeros == 0 then 1 else 4
 
@@ -108,7 +109,7 @@ sections_of s =
 
 -- ** the file
 
--- 64 bits, little-endian, relocatable, for x86-64; its section headers stand behind it
+-- 64 bits, little-endian, relocatable, for x86-64; its section headers follow it
 unfoldable pub file_header : Header
 file_header = record {
   ident = 0x7f ∷ codes "ELF" ++ (2 ∷ 1 ∷ 1 ∷ 0 ∷ 0 ∷ 0 ∷ 0 ∷ 0 ∷ 0 ∷ 0 ∷ 0 ∷ 0 ∷ []);
@@ -127,7 +128,7 @@ file_header = record {
   e_shstrndx = 7;
 }
 
--- what stands behind the headers
+-- the bytes after the headers
 unfoldable pub contents_of : Shape → List ℕ
 contents_of s =
     s.code ++ (s.initial ++ (flat_map symbol_bytes (symbols_of s) ++ (names_of s ++ (section_names

@@ -9,16 +9,16 @@ use elf_records::relocation::{
 };
 use std::alloc::{AllocError, Global};
 
-/// What an object's function does with its variable, and by which sequence.
+/// What an object's function does with its variable, by the sequence that reaches it.
 #[derive(Clone, Copy)]
 pub(crate) enum Access {
-    /// Reads it, wherever it is.
+    /// Reads it by its address, in any module.
     GeneralDynamic,
-    /// Reads it, at a distance from the thread pointer that a loader knows.
+    /// Reads it by its distance from the thread pointer, which a loader knows.
     InitialExecutable,
-    /// Reads it, at an offset in its own module's block.
+    /// Reads it by its offset in its own module's block.
     LocalDynamic,
-    /// Writes the argument to it, wherever it is, and gives its address.
+    /// Writes the argument to it, in any module, and returns its address.
     GeneralDynamicWrite,
 }
 
@@ -58,7 +58,7 @@ const VARIABLE: u32 = 2;
 const GETTER: u32 = 3;
 
 impl Access {
-    /// The sequence of the object of a number: the three that read take turns.
+    /// The sequence of the object with this number: the three that read take turns.
     pub(crate) fn of_object(number: u32) -> Access
         ensures { result ≡ access_of number }
     {
@@ -81,7 +81,7 @@ impl Access {
         }
     }
 
-    /// How the fields of the code are filled in.
+    /// The relocations of the code.
     pub(crate) fn relocations(self, alloc: Global) -> Result<Vec<Rela>, AllocError>
         ensures entries { IfOk result (λ entries. entries.items ≡ entries_of self) }
     {
@@ -120,8 +120,8 @@ impl Access {
     }
 }
 
-/// The relocation of a field of 4 bytes at the end of an instruction. What the processor adds to it is where the
-/// instruction ends, 4 bytes behind the field's own place.
+/// The relocation of a field of 4 bytes at the end of an instruction. The processor adds the field to the
+/// instruction's end, 4 bytes after the field's own address.
 fn field_at_end(offset: u64, kind: u32, symbol: u32) -> Rela
     ensures { result ≡ entry_to_end offset kind symbol }
 {

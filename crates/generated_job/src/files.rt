@@ -9,7 +9,7 @@ use crate::shape::ObjectShape;
 use std::alloc::{AllocError, Global};
 use std::marker::Model;
 
-/// A file that is made: its name and its bytes.
+/// A generated file: its name and its bytes.
 #[derive(Drop)]
 pub struct GeneratedFile {
     name: String,
@@ -40,7 +40,7 @@ impl GeneratedFile {
     }
 }
 
-/// The objects of the job of so many objects, and behind them that of the module.
+/// The objects of the job with `count` objects, and after them that of the module.
 pub fn generated_objects(alloc: Global, count: u32) -> Result<Vec<GeneratedFile>, AllocError>
     requires { count ≤ 1000 }
     ensures { IfOk result (λ files. files.items ≡ generated_files count) }
@@ -55,14 +55,14 @@ pub fn generated_objects(alloc: Global, count: u32) -> Result<Vec<GeneratedFile>
     Ok(files)
 }
 
-/// What the variable of an object is at first, where that of the object before it is this.
+/// The initial value of an object's variable, if `value` is that of the object before it.
 fn value_behind(value: u32) -> u32
     ensures { result ≡ (5 * value + 3) % 2 ^ 32 }
 {
     ((5 * u64::from(value) + 3) % (1 << 32)) as u32
 }
 
-/// An object of the program, whose variable has this value at first.
+/// An object of the program, whose variable has this initial value.
 fn program_object(alloc: Global, number: u32, value: u32) -> Result<GeneratedFile, AllocError>
     requires { number ≤ 1000 }
     ensures { IfOk result (λ file. file ≡ (object_name number, object_bytes (shape_with number value))) }

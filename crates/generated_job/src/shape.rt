@@ -13,20 +13,20 @@ use elf_records::{Header, Rela, SectionHeader, SymbolEntry};
 use object_builder::{put_header, put_relocations, put_sections, put_symbols};
 use std::alloc::{AllocError, Global};
 
-/// What an object of one function and one thread-local variable is made of.
+/// The parts of an object with one function and one thread-local variable.
 #[derive(Clone, Copy)]
 pub(crate) struct ObjectShape<'a> {
     /// The function's name.
     pub function: &'a [u8],
     /// The variable's name.
     pub variable: &'a [u8],
-    /// The function.
+    /// The function's code.
     pub code: &'a [u8],
-    /// How the fields of the code are filled in.
+    /// The relocations of the code.
     pub relocations: &'a [Rela],
-    /// What the variable is at first.
+    /// The variable's initial bytes.
     pub initial: &'a [u8],
-    /// How many zeros stand behind the variable.
+    /// How many zeros follow the variable.
     pub zeros: u64,
     /// Whether the code calls `__tls_get_addr`.
     pub calls: bool,
@@ -38,7 +38,7 @@ const SECTIONS: u16 = 8;
 /// Where the contents of sections begin.
 const CONTENTS: u64 = 576;
 
-/// The sections' names, each with a zero byte behind it.
+/// The sections' names, each followed by a zero byte.
 const SECTION_NAMES: [u8; 57] =
     *b"\0.text\0.rela.text\0.tdata\0.tbss\0.symtab\0.strtab\0.shstrtab\0";
 
@@ -102,7 +102,7 @@ impl ObjectShape<'_> {
         Ok(bytes)
     }
 
-    /// The symbols: the reserved one, the function, the variable, and what is called.
+    /// The symbols: the reserved one, the function, the variable, and `__tls_get_addr` if it is called.
     fn symbols(&self, alloc: Global) -> Result<Vec<SymbolEntry>, AllocError>
         requires { IsShort (shape_held self.now) }
         ensures { IfOk result (λ symbols. symbols.items ≡ symbols_of (shape_held self.now)) }
@@ -120,7 +120,7 @@ impl ObjectShape<'_> {
         Ok(symbols)
     }
 
-    /// The symbols' names, each with a zero byte behind it.
+    /// The symbols' names, each followed by a zero byte.
     fn names(&self, alloc: Global) -> Result<Vec<u8>, AllocError>
         ensures { IfOk result (λ names. names.items ≡ names_of (shape_held self.now)) }
     {
@@ -183,7 +183,7 @@ impl ObjectShape<'_> {
         ]
     }
 
-    /// No zeros need no alignment.
+    /// The alignment of the zeros: none needs no alignment.
     fn zeros_alignment(&self) -> u64
         ensures { result ≡ zeros_alignment self.now.zeros }
     {
@@ -205,7 +205,7 @@ fn symbol_of(name: u32, info: u8, section: u16, size: u64) -> SymbolEntry
     }
 }
 
-/// A section that is no table of records.
+/// A section that is not a table of records.
 fn section_of(
     name: u32,
     kind: u32,
@@ -230,8 +230,8 @@ fn section_of(
     }
 }
 
-/// A table of records of 24 bytes, which stands on another section. Of relocations, they apply to section 1; of
-/// symbols, number 1 is the first that is not local.
+/// A table of records of 24 bytes, linked to another section. Relocations apply to section 1; symbol number 1 is the
+/// first that is not local.
 fn table_of(name: u32, kind: u32, offset: u64, size: u64, link: u32) -> SectionHeader
     ensures { result ≡ section_of name kind 0 offset size link 1 8 24 }
 {

@@ -1,4 +1,4 @@
-//! The job of three objects, and its files, by the bytes that another program wrote.
+//! The job of three objects, and its files, checked against the bytes that another program wrote.
 use crate::{GeneratedFile, generated_objects, generated_text};
 use std::process::Abort;
 use std::test::Fail;
@@ -25,7 +25,7 @@ addr\0\0.text\0.rela.text\0.tdata\0.tbss\0.symtab\0.strtab\0.shstrtab\0\x05\0\0\
 \0\0\x02\0\0\0\xfc\xff\xff\xff\xff\xff\xff\xff\x0d\0\0\0\0\0\0\0\x04\0\0\0\x03\0\0\0\xfc\xff\xff\
 \xff\xff\xff\xff\xff";
 
-/// The first object of the program of three, from its code on.
+/// The first object of the program with three, from its code on.
 const GENERAL_DYNAMIC: &[u8] = b"\
 fH\x8d=\0\0\0\0ffH\xe8\0\0\0\0\x8b\0\xc3\x12\0\0\0\0\0\0\0\0\0\0\0\0\0\0\0\0\0\0\0\0\0\0\0\0\0\0\
 \0\x01\0\0\0\x12\0\x01\0\0\0\0\0\0\0\0\0\x13\0\0\0\0\0\0\0\x04\0\0\0\x16\0\x03\0\0\0\0\0\0\0\0\0\
@@ -34,14 +34,14 @@ fH\x8d=\0\0\0\0ffH\xe8\0\0\0\0\x8b\0\xc3\x12\0\0\0\0\0\0\0\0\0\0\0\0\0\0\0\0\0\0
 \x02\0\0\0\xfc\xff\xff\xff\xff\xff\xff\xff\x0c\0\0\0\0\0\0\0\x04\0\0\0\x03\0\0\0\xfc\xff\xff\xff\
 \xff\xff\xff\xff";
 
-/// The second object of the program of three, from its code on.
+/// The second object of the program with three, from its code on.
 const INITIAL_EXECUTABLE: &[u8] = b"\
 H\x8b\x05\0\0\0\0d\x8b\0\xc3]\0\0\0\0\0\0\0\0\0\0\0\0\0\0\0\0\0\0\0\0\0\0\0\0\0\0\0\x01\0\0\0\
 \x12\0\x01\0\0\0\0\0\0\0\0\0\x0b\0\0\0\0\0\0\0\x04\0\0\0\x16\0\x03\0\0\0\0\0\0\0\0\0\x04\0\0\0\0\
 \0\0\0\0f2\0x2\0\0.text\0.rela.text\0.tdata\0.tbss\0.symtab\0.strtab\0.shstrtab\0\x03\0\0\0\0\0\
 \0\0\x16\0\0\0\x02\0\0\0\xfc\xff\xff\xff\xff\xff\xff\xff";
 
-/// The third object of the program of three, from its code on.
+/// The third object of the program with three, from its code on.
 const LOCAL_DYNAMIC: &[u8] = b"\
 H\x8d=\0\0\0\0\xe8\0\0\0\0\x8b\x80\0\0\0\0\xc3\xd4\x01\0\0\0\0\0\0\0\0\0\0\0\0\0\0\0\0\0\0\0\0\0\
 \0\0\0\0\0\x01\0\0\0\x12\0\x01\0\0\0\0\0\0\0\0\0\x13\0\0\0\0\0\0\0\x04\0\0\0\x16\0\x03\0\0\0\0\0\
@@ -85,7 +85,7 @@ fn texts_of_jobs(rt: HostRuntime) -> Result<(), Fail> {
     Ok(())
 }
 
-/// Compares a file's name, and its bytes from an offset on.
+/// Checks a file's name, and its bytes from an offset on.
 fn check(rt: &impl Abort, file: &GeneratedFile, name: &str, from: usize, bytes: &[u8]) {
     assert!(rt; file.name() == name);
     assert!(rt; file.bytes().get(from..) == Some(bytes), "{name}");

@@ -5,7 +5,7 @@ ghost use Rattle.generated_job.specs.Generated.{generated_text, program_line, pr
 
 use std::alloc::{AllocError, Global};
 
-/// The text of the job of so many objects.
+/// The text of the job with `count` objects.
 #[tactic(auto, unfolding(crate::specs::Generated::generated_text))]
 pub fn generated_text(alloc: Global, count: u32) -> Result<Vec<u8>, AllocError>
     requires { count ≤ 1000 }
@@ -44,7 +44,7 @@ fn push_program_calls(text: &mut Vec<u8>, alloc: Global, count: u32) -> Result<(
     Ok(())
 }
 
-/// Appends the calls of the second thread, of the module's function with each number.
+/// Appends the calls of the second thread: of the module's function, with each number from 1 to `count`.
 fn push_module_calls(text: &mut Vec<u8>, alloc: Global, count: u32) -> Result<(), AllocError>
     requires { count ≤ 1000 }
     ensures { OnOk result (text.new.items ≡ text.old.items ++ flat_map module_call (range_with_len 1 count)) }

@@ -1,4 +1,4 @@
--- That generated objects link.
+-- Generated objects link.
 use Rattle.std.specs.Prelude.{◌≡◌, ◌≤◌, ℕ, true, List, [], ◌∷◌, map}
 use Rattle.std.specs.List.{range_with_len}
 use Rattle.generated_job.specs.Generated.{module_shape, shape_of}

@@ -1,4 +1,4 @@
--- What an object's bytes say, where they are those of a shape: its sections, symbols and relocations.
+-- What an object's bytes say, if they are those of a shape: its sections, symbols and relocations.
 use Rattle.std.specs.Prelude.{◌≡◌, ◌≢◌, ◌<◌, ℕ, Bool, true, false, List, [], ◌∷◌, codes, length, map}
 use Rattle.std.specs.Prelude.{Some, None, slice_index_or, if◌then◌else◌, unwrap_or}
 use Rattle.std.specs.List.{All}
@@ -75,7 +75,7 @@ known_of s =
 abbrev pub known_at : Shape → ℕ → Known
 known_at s e = slice_index_or (known_of s) e reserved
 
--- a relocation, as an entry of the file says it
+-- a relocation, by its entry in the file
 abbrev pub relocation_of : Rela → Relocation
 relocation_of r = record {
   offset = r.offset;

@@ -1,4 +1,4 @@
--- That generated objects have no fault.
+-- Generated objects have no fault.
 use Rattle.std.specs.Prelude.{ℕ, ◌≤◌, List}
 use Rattle.object_rules.specs.declared.fault.FaultKind.TheVariants.{Sequence, StrayCall}
 use Rattle.elf_object.specs.Faults.{IsObject}
@@ -6,7 +6,7 @@ use Rattle.generated_job.specs.Generated.{module_shape, shape_of}
 use Rattle.generated_job.specs.Shapes.{object_bytes}
 use Rattle.sequence_match.specs.Faults.{Nowhere}
 
--- the bytes are an object, and all its accesses of thread-local storage are sequences
+-- the bytes are an object, and all its TLS accesses are sequences
 pub record IsFaultless (b : List ℕ) : Type 0 where
   pub object : IsObject b
   pub no_loose : Nowhere Sequence b

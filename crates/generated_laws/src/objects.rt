@@ -1,4 +1,4 @@
-//! The laws of one object. The functions do nothing: what each ensures is its law.
+//! Laws of one object. Each function does nothing; what it ensures is the law.
 
 ghost use Rattle.generated_laws.specs.Reading.{ShapesAreRead};
 ghost use Rattle.generated_laws.specs.Sound.{GeneratedObjectsAreFaultless};
@@ -8,8 +8,7 @@ pub fn shapes_are_read()
     ensures { ShapesAreRead }
 {}
 
-/// Each object of a generated job, and the module's, has no fault of any kind, and all its accesses of thread-local
-/// storage are sequences.
+/// Each object of a generated job, and the module's, has no fault of any kind, and all its TLS accesses are sequences.
 pub fn generated_objects_are_faultless()
     ensures { GeneratedObjectsAreFaultless }
 {}

@@ -1,5 +1,4 @@
--- What arithmetic makes of plain numbers at a width, and of the flags (Intel's manual, volume 1, section 3.4.3.1, and
--- volume 2).
+-- Arithmetic on plain numbers at a width, and its flags (Intel's manual, volume 1, section 3.4.3.1, and volume 2).
 use Rattle.std.specs.Prelude.{ℕ, ◌+◌, ◌-◌, ◌*◌, ◌/◌, ◌%◌, ◌^◌, Bool, true, false, not, ◌||◌, ◌==◌, nat_lt, nat_le, bit_and, bit_or, bit_xor, if◌then◌else◌}
 use Rattle.amd64_subset.specs.declared.instr.Width.{Width}
 use Rattle.amd64_subset.specs.declared.instr.Width.TheVariants.{Long, Quad}
@@ -16,12 +15,12 @@ abbrev pub bits_of : Width → ℕ
 bits_of Long = 32
 bits_of Quad = 64
 
--- how many numbers a width has
+-- how many numbers the width has
 abbrev pub span_of : Width → ℕ
 span_of Long = 2 ^ 32
 span_of Quad = 2 ^ 64
 
--- a number modulo those of the width
+-- the number modulo the span of the width
 abbrev pub low : Width → ℕ → ℕ
 low width number = number % span_of width
 
@@ -37,7 +36,7 @@ abbrev pub differ : Bool → Bool → Bool
 differ true other = not other
 differ false other = other
 
--- ZF and SF by the result
+-- ZF and SF are set by the result
 abbrev pub by_result : Width → ℕ → Change → Change → Changes
 by_result width number carry overflow = record {
   zero = Set (number == 0);
@@ -90,11 +89,11 @@ compute_effect Sub width a b = difference_effect width a b
 compute_effect Xor width a b = logic_effect width (bit_xor a b)
 compute_effect Compare width a b = difference_effect width a b
 
--- a signed number without its sign
+-- the magnitude of a signed number
 abbrev pub magnitude : Width → ℕ → ℕ
 magnitude width number = if is_negative width number then span_of width - number else number
 
--- whether the signed product is one of the width's signed numbers
+-- whether the signed product fits the width
 unfoldable pub product_fits : Width → ℕ → ℕ → Bool
 product_fits width a b =
     let product = magnitude width a * magnitude width b in
@@ -115,11 +114,11 @@ product_effect width a b =
       };
     }
 
--- the greatest number of a width: all its bits are set
+-- the greatest number of the width: all its bits are set
 abbrev pub greatest : Width → ℕ
 greatest width = span_of width - 1
 
--- a shift by a count below the number of bits; bits that come in are 0, or the sign
+-- a shift by a count below the number of bits; the bits shifted in are 0, or the sign for sar
 unfoldable pub shifted : Shift → Width → ℕ → ℕ → ℕ
 shifted Left width number count = number * 2 ^ count % span_of width
 shifted Right width number count = number / 2 ^ count
@@ -128,20 +127,20 @@ shifted RightSigned width number count =
     then number / 2 ^ count + (greatest width - greatest width / 2 ^ count)
     else number / 2 ^ count
 
--- the last bit that went out, where the count is not 0
+-- the last bit that was shifted out, if the count is not 0
 unfoldable pub bit_out : Shift → Width → ℕ → ℕ → Bool
 bit_out Left width number count = number / 2 ^ (bits_of width - count) % 2 == 1
 bit_out Right width number count = number / 2 ^ (count - 1) % 2 == 1
 bit_out RightSigned width number count = number / 2 ^ (count - 1) % 2 == 1
 
--- OF of a shift by 1: whether the sign changed to the left, the old sign to the right
+-- OF of a shift by 1: to the left, whether the sign changed; to the right, the old sign
 unfoldable pub shift_overflows : Shift → Width → ℕ → Bool
 shift_overflows Left width number =
     differ (is_negative width (shifted Left width number 1)) (bit_out Left width number 1)
 shift_overflows Right width number = is_negative width number
 shift_overflows RightSigned width number = false
 
--- no flag changes by a shift by 0
+-- a shift by 0 changes no flag
 unfoldable pub shift_effect : Shift → Width → ℕ → ℕ → Effect
 shift_effect shift width number count =
     let result = shifted shift width number count in

@@ -36,7 +36,7 @@ module _ {W F B : Type 0} (ops : Operations W F B) where
   is_below_or_equal flags =
       used (λ parts. parts.0 || parts.1) (both (ops.truth_of flags.carry) (ops.truth_of flags.zero))
 
-  -- each flag of a condition is used (Intel's manual, volume 2, appendix B, table B-10)
+  -- the condition by its flags, each of which is used (Intel's manual, volume 2, appendix B, table B-10)
   unfoldable pub condition_of : Condition → Flags F → Result Bool Cause
   condition_of Overflow flags = ops.truth_of flags.overflow
   condition_of NotOverflow flags = used not (ops.truth_of flags.overflow)

@@ -10,7 +10,7 @@ same_list (n ∷ ns) = ap (λ rest. n ∷ rest) (same_list ns)
 small : (n w : ℕ) → n < 2 ^ 64 → w ≡ n → w ≡ n % 2 ^ 64
 small n w below same = omega arith
 
--- a byte of a number below byte 8 is that byte of the number modulo 2^64
+-- byte k of a number, k below 8, is byte k of the number modulo 2^64
 low_digit : (n k : ℕ) → k < 8 → digit (n % 2 ^ 64) k ≡ digit n k
 low_digit n zero below = omega arith
 low_digit n (suc zero) below = omega arith

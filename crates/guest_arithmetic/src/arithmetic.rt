@@ -1,4 +1,4 @@
-//! What arithmetic makes of plain numbers at a width, and of the flags.
+//! Arithmetic on plain numbers at a width: results and flags.
 
 ghost use Rattle.std.specs.Prelude.{◌≡◌, ◌<◌, ◌≤◌, ◌%◌, ◌^◌, ◌==◌, if◌then◌else◌};
 ghost use Rattle.amd64_subset.specs.declared.instr.Shift.TheVariants.{RightSigned};
@@ -14,7 +14,7 @@ pub(crate) fn differ(left: bool, right: bool) -> bool
     if left { !right } else { right }
 }
 
-/// A number modulo those of the width.
+/// The number modulo 2^32 or 2^64, by the width.
 pub fn low(width: Width, number: u64) -> u64
     ensures value { result ≡ number % span_of width }
     ensures small { result < span_of width }
@@ -25,7 +25,7 @@ pub fn low(width: Width, number: u64) -> u64
     }
 }
 
-/// The least number whose top bit is set.
+/// The least number whose top bit is set: 2^31 or 2^63.
 fn half(width: Width) -> u64
     ensures value { result ≡ half_of width }
     ensures small { result ≤ 2 ^ 63 }
@@ -52,7 +52,7 @@ pub(crate) fn is_negative(width: Width, number: u64) -> bool
     half(width) <= number
 }
 
-/// The signed number plus half the span.
+/// The signed number plus half the span, so that it is not negative.
 #[tactic(auto, using(crate::proofs::Residues::low_again))]
 fn biased(width: Width, number: u64) -> u64
     ensures { result ≡ biased width number }
@@ -94,7 +94,7 @@ fn sum(width: Width, left: u64, right: u64) -> Effect
     }
 }
 
-/// How many numbers a width has.
+/// How many numbers the width has: 2^32 or 2^64.
 fn span(width: Width) -> u128
     ensures { result ≡ span_of width }
 {
@@ -148,7 +148,7 @@ pub fn compute(arithmetic: Arithmetic, width: Width, left: u64, right: u64) -> E
     }
 }
 
-/// A signed number without its sign.
+/// The magnitude of a signed number.
 fn size(width: Width, number: u64) -> u128
     requires { number < span_of width }
     ensures value { result ≡ magnitude width number }
@@ -160,7 +160,7 @@ fn size(width: Width, number: u64) -> u128
     u128::from(number)
 }
 
-/// Whether the signed product is one of the width's signed numbers.
+/// Whether the signed product fits the width.
 #[tactic(auto, unfolding(crate::specs::Arithmetic::product_fits))]
 fn product_fits(width: Width, left: u64, right: u64) -> bool
     requires left { left < span_of width }
@@ -194,7 +194,7 @@ pub fn product(width: Width, left: u64, right: u64) -> Effect
     }
 }
 
-/// The greatest number of a width.
+/// The greatest number of the width.
 fn greatest(width: Width) -> u64
     ensures { result ≡ greatest width }
 {
@@ -218,7 +218,7 @@ fn shifted(shift: Shift, width: Width, number: u64, count: u8) -> u64
     }
 }
 
-/// sar: the bits that come in are the sign.
+/// sar: copies of the sign bit are shifted in.
 #[tactic(auto, unfolding(crate::specs::Arithmetic::shifted))]
 fn shifted_signed(width: Width, number: u64, count: u8) -> u64
     requires count { count < 64 }
@@ -232,7 +232,7 @@ fn shifted_signed(width: Width, number: u64, count: u8) -> u64
     low
 }
 
-/// The last bit that went out.
+/// The last bit that was shifted out.
 #[tactic(auto, unfolding(crate::specs::Arithmetic::bit_out))]
 fn bit_out(shift: Shift, width: Width, number: u64, count: u8) -> bool
     requires some { 0 < count }
@@ -262,7 +262,7 @@ fn shift_overflows(shift: Shift, width: Width, number: u64) -> bool
     }
 }
 
-/// What a shift does to OF.
+/// How a shift changes OF.
 fn shift_overflow(shift: Shift, width: Width, number: u64, count: u8) -> Change
     requires { number < span_of width }
     ensures { result ≡ (if count == 1 then Set (shift_overflows shift width number) else Unsettled) }
@@ -273,7 +273,7 @@ fn shift_overflow(shift: Shift, width: Width, number: u64, count: u8) -> Change
     Change::Unsettled
 }
 
-/// A shift by 0.
+/// The effect of a shift by 0: the number, and no flag changed.
 fn unchanged(number: u64) -> Effect
     ensures { result ≡ record {
       number = number;
@@ -314,7 +314,7 @@ fn shift_by(shift: Shift, width: Width, number: u64, count: u8) -> Effect
     }
 }
 
-/// shl, shr, sar: of the count the width's bits are taken.
+/// shl, shr, sar. The count is taken modulo the width's number of bits.
 pub fn shift(shift: Shift, width: Width, number: u64, count: u8) -> Effect
     requires { number < span_of width }
     ensures { result ≡ shift_effect shift width number (count % bits_of width) }

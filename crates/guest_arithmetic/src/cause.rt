@@ -1,31 +1,31 @@
-//! Why a step has no meaning, and which cause is given where two stand.
+//! Why a step has no meaning, and which of two causes is reported.
 
 ghost use Rattle.std.specs.Prelude.{◌≡◌};
 ghost use Rattle.guest_arithmetic.specs.Cause.{rank_of, first_cause, both};
 
-/// Why a step has no meaning, in the order in which causes are given. Values give `Undefined`,
-/// `Flags`, `Base` and `Descriptor`; the machine itself gives `Field` and `Answer`; the others are
-/// for who knows more of a program than its bytes.
+/// Why a step has no meaning, the cause to report first at the top. Values give `Undefined`, `Flags`, `Base` and
+/// `Descriptor`. The machine itself gives `Field` and `Answer`. The others are for callers that know more of a program
+/// than its bytes.
 #[derive(Clone, Copy, PartialEq, Eq, Debug)]
 pub enum Cause {
     /// Execution begins in the middle of a sequence, or an instruction reaches into one.
     Inside,
-    /// An instruction covers an offset field otherwise than as the displacement from a base or as
-    /// what is added to one.
+    /// An instruction covers an offset field, but not as the displacement from a base or as a number that is added to
+    /// one.
     Field,
-    /// A byte is the linker's own.
+    /// The byte is the linker's own.
     Linker,
-    /// A word of which nothing is known was used.
+    /// The step uses a word of which nothing is known.
     Undefined,
-    /// A flag that was left undefined was used.
+    /// The step uses a flag that was left undefined.
     Flags,
-    /// The base of a block of thread-local storage was used as a number.
+    /// The step uses the base of a TLS block as a number.
     Base,
-    /// A TLS descriptor was used as a number.
+    /// The step uses a TLS descriptor as a number.
     Descriptor,
-    /// What a call returns is no number.
+    /// The call returns a value that is not a number.
     Answer,
-    /// The steps that a call may take were all taken.
+    /// The call has taken all the steps that it may take.
     Steps,
 }
 
@@ -47,7 +47,7 @@ impl Cause {
         }
     }
 
-    /// The one of two causes that is given.
+    /// The cause to report, of two.
     pub fn first(self, other: Cause) -> Cause
         ensures { result ≡ first_cause self other }
     {
@@ -59,7 +59,7 @@ impl Cause {
     }
 }
 
-/// Two uses: where both fail, the cause that comes first is given.
+/// The results of two uses. If both fail, the cause that comes first is reported.
 pub fn both<A: Copy, B: Copy>(
     left: Result<A, Cause>,
     right: Result<B, Cause>,

@@ -1,4 +1,4 @@
-//! What an instruction makes: a number, and what becomes of the flags.
+//! The effect of an instruction: a number, and changes of flags.
 
 ghost use Rattle.std.specs.Prelude.{◌≡◌};
 ghost use Rattle.guest_arithmetic.specs.Arithmetic.{by_result};
@@ -24,14 +24,14 @@ pub struct Changes {
     pub overflow: Change,
 }
 
-/// A result and what becomes of the flags.
+/// A result and the changes of the flags.
 #[derive(Clone, Copy, Debug)]
 pub struct Effect {
     pub number: u64,
     pub changes: Changes,
 }
 
-/// ZF and SF by the result.
+/// The changes that set ZF and SF by the result.
 pub(crate) fn by_result(width: Width, number: u64, carry: Change, overflow: Change) -> Changes
     ensures { result ≡ by_result width number carry overflow }
 {

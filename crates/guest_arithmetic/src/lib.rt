@@ -1,14 +1,14 @@
-//! What a machine computes with: values, arithmetic, flags and conditions.
+//! What a guest machine computes with: values, arithmetic, flags and conditions.
 //!
-//! **Arithmetic** is that of plain numbers at a width of 32 or 64 bits, by Intel's manual (volume 1,
-//! section 3.4.3.1, and volume 2): a result, and what becomes of CF, ZF, SF and OF. `01 c8`, add %ecx, %eax,
-//! of 0xffffffff and 1 gives 0, sets CF and ZF and clears SF and OF. Some flags are left undefined: imul
-//! says nothing of ZF (`Change::Unsettled`).
+//! **Arithmetic** works on plain numbers at a width of 32 or 64 bits, as in Intel's manual (volume 1, section 3.4.3.1,
+//! and volume 2). It gives a result and the changes of CF, ZF, SF and OF. `01 c8`, add %ecx, %eax, of 0xffffffff and 1
+//! gives 0, sets CF and ZF and clears SF and OF. Some flags are left undefined, such as ZF after imul
+//! (`Change::Unsettled`).
 //!
-//! **Values are a parameter** (`Values`): what a register, a flag and a byte of memory hold. A word may
-//! be carried from place to place as it is; where an instruction uses it as a number it is asked for
-//! one, and may have none, with a `Cause`. `Plain` words are numbers and always have one. Where two uses at
-//! one instruction fail, the cause that comes first is given (`both`).
+//! **Values are a parameter** (`Values`): what a register, a flag and a byte of memory hold. A word may be moved as it
+//! is. An instruction that uses a word as a number asks for one; a word without a number gives a `Cause` instead.
+//! `Plain` words are numbers and always have one. If two uses at one instruction fail, the cause that comes first is
+//! reported (`both`).
 #![tactic(auto)]
 
 mod arithmetic;

@@ -9,11 +9,10 @@ ghost use Rattle.guest_arithmetic.specs.Values.{number_from};
 use crate::cause::Cause;
 use crate::values::{Four, Values};
 
-/// Plain numbers: nothing is marked, and a flag that an instruction leaves undefined keeps its old
-/// value.
+/// Plain numbers: no value is marked, and a flag that an instruction leaves undefined keeps its old value.
 pub struct Plain;
 
-/// The number that bytes spell, the lowest first, modulo 2^64.
+/// The little-endian number that the bytes hold, modulo 2^64.
 fn number(bytes: &[u8]) -> u64
     ensures { result ≡ number_from bytes.now % 2 ^ 64 }
 {

@@ -1,6 +1,5 @@
--- That one machine follows another: what the first does from related states the second does too, but that an unclean
--- stop of the first allows anything. What words, flags, bytes and offset fields have to do with each other is a
--- parameter.
+-- When one machine follows another: what the first does from related states, the second does too, but an unclean stop
+-- of the first allows anything. The relation between their words, flags, bytes and offset fields is a parameter.
 use Rattle.std.specs.Prelude.{◌≡◌, ℕ, ◌<◌, Bool, List, [], ◌∷◌, length, Option, Some, None, Result, Ok, Err}
 use Rattle.guest_arithmetic.specs.declared.cause.Cause.{Cause}
 use Rattle.guest_operands.specs.declared.frame.Frame.{Frame}
@@ -14,13 +13,13 @@ use Rattle.guest_operands.specs.Operand.{unmoved, moved_by}
 use Rattle.guest_operands.specs.Use.{After}
 use Rattle.guest_arithmetic.specs.Values.{Operations}
 
--- a use in the first is that use in the second; where the first may not be used, anything may stand
+-- what the first uses, the second uses; if the first may not, the second may have anything
 abbrev pub Uses : {A A' : Type 0} → (A → A' → Type 0) → Result A Cause → Result A' Cause → Type 0
 Uses R (Ok a) (Ok a') = R a a'
 Uses R (Ok a) (Err cause) = ⊥
 Uses R (Err cause) r = Unit {0}
 
--- what the first reaches the second reaches, what is refused to the first is refused to the second
+-- what the first accesses, the second accesses; what is refused to the first is refused to the second
 abbrev pub Reaches : {A A' : Type 0} → (A → A' → Type 0) → Result A Refusal → Result A' Refusal → Type 0
 Reaches R (Ok a) (Ok a') = R a a'
 Reaches R (Ok a) (Err why) = ⊥
@@ -50,12 +49,12 @@ All2 R [] (y ∷ ys) = ⊥
 All2 R (x ∷ xs) [] = ⊥
 All2 R (x ∷ xs) (y ∷ ys) = R x y × All2 R xs ys
 
--- what words, flags, bytes and fields of two machines have to do with each other
+-- the relation between words, flags, bytes and fields of two machines
 pub record Alike (W F B W' F' B' : Type 0) : Type 1 where
   pub word : W → W' → Type 0
   pub flag : F → F' → Type 0
   pub byte : B → B' → Type 0
-  -- the places of an offset field in the one and in the other, if there is one, and the numbers that stand there
+  -- the addresses of an offset field in the one and in the other, if there is one, and the numbers there
   pub field : Option ℕ → Option ℕ → ℕ → ℕ → Type 0
 
 module _ {W F B W' F' B' : Type 0} (same : Alike W F B W' F' B') where
@@ -63,25 +62,26 @@ module _ {W F B W' F' B' : Type 0} (same : Alike W F B W' F' B') where
   pub record IsFollowed (ops : Operations W F B) (ops' : Operations W' F' B') : Type 0 where
     pub word : (n : ℕ) → same.word (ops.word n) (ops'.word n)
     pub number_of : (w : W) (w' : W') → same.word w w' → Uses (λ m n. m ≡ n) (ops.number_of w) (ops'.number_of w')
-    -- of an unknown word nothing is said
+    -- anything is related to an unknown word
     pub unknown : (w' : W') → same.word ops.unknown w'
     pub flag : (b : Bool) → same.flag (ops.flag b) (ops'.flag b)
     pub truth_of : (f : F) (f' : F') → same.flag f f' → Uses (λ a b. a ≡ b) (ops.truth_of f) (ops'.truth_of f')
     pub unsettled : (f : F) (f' : F') → same.flag f f' → same.flag (ops.unsettled f) (ops'.unsettled f')
-    -- a number that is no field for the first is that number for the second
+    -- a number that is not a field for the first is that number for the second
     pub plain : (field' : Option ℕ) (n n' : ℕ) → same.field None field' n n' → (field' ≡ None) × (n' ≡ n)
     pub moved : (at : ℕ) (field' : Option ℕ) (n n' : ℕ) → same.field (Some at) field' n n' → (w : W) (w' : W')
         → same.word w w'
         → Uses (λ p q. p ≡ q) (ops.moved w n at) (moved_by ops' field' n' w')
     pub misused : (at : ℕ) (field' : Option ℕ) (n n' : ℕ) → same.field (Some at) field' n n'
         → Uses (λ p q. p ≡ q) (ops.misused n) (unmoved ops' field' n')
-    -- where a field is added that is none for the second, the flags of the first say nothing
+    -- if a field of the first is added that is not a field for the second, the first's undefined flags are related to
+    -- any
     pub free : (at n n' : ℕ) → same.field (Some at) None n n' → (f : F) (f' : F') → same.flag (ops.unsettled f) f'
     pub joined : (bs : List B) (bs' : List B') → All2 same.byte bs bs' → IsSize (length bs)
         → same.word (ops.joined bs) (ops'.joined bs')
     pub byte_of : (w : W) (w' : W') → same.word w w' → (k : ℕ) → k < 8 → same.byte (ops.byte_of w k) (ops'.byte_of w' k)
 
-  -- two memories, byte by byte, under writes
+  -- two memories, related byte by byte, stay so under writes
   pub record IsKept {M M' : Type 0} (acc : Accesses M B) (acc' : Accesses M' B') (Same : M → M' → Type 0) : Type 0 where
     pub byte : (m : M) (m' : M') → Same m m' → (place : ℕ) → Reaches same.byte (acc.byte m place) (acc'.byte m' place)
     pub writes : (m : M) (m' : M') → Same m m' → (place : ℕ)
@@ -122,7 +122,7 @@ module _ {W F B W' F' B' : Type 0} (same : Alike W F B W' F' B') where
     pub place : s.place ≡ s'.place
     pub thread_pointer : s.thread_pointer ≡ s'.thread_pointer
 
-  -- what stands around an instruction; only offset fields may be other numbers
+  -- the frame of an instruction; only offset fields may be other numbers
   pub record SameFrame (f f' : Frame) : Type 0 where
     pub next : f.next ≡ f'.next
     pub displacement : same.field f.displacement_field f'.displacement_field f.displacement f'.displacement

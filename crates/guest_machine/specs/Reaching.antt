@@ -1,4 +1,4 @@
--- What a step asks of a memory.
+-- The bytes that a step accesses.
 use Rattle.std.specs.Prelude.{◌≡◌, ℕ, Bool, false}
 use Rattle.std.specs.List.{list_any}
 use Rattle.guest_arithmetic.specs.Plain.{plain_operations}
@@ -8,7 +8,7 @@ use Rattle.guest_operands.specs.Ranges.{AddressSpace, range_accesses}
 use Rattle.guest_machine.specs.Step.{step_of}
 use Rattle.guest_machine.specs.Touch.{next_touches, touched}
 
--- only for the bytes that its instruction touches: where none of them is closed the step is the same
+-- only those that its instruction touches: if none of them is closed, the step is the same
 abbrev pub ReachesWhatItTouches : Type 0
 ReachesWhatItTouches =
     (shut : AddressSpace ℕ → ℕ → Bool) (is_field : ℕ → Bool) (state : State ℕ Bool) (memory : AddressSpace ℕ)

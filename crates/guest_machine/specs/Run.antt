@@ -1,4 +1,4 @@
--- Runs, counted down: of any steps, and of the machine.
+-- Runs with a number of steps left: of any steps, and of the machine.
 use Rattle.std.specs.Prelude.{ℕ, zero, suc, ◌≡◌, ◌+◌, ◌-◌, ◌||◌, ◌==◌, Bool, Result, Ok, Err, Option, Some, None, if◌then◌else◌}
 use Rattle.guest_arithmetic.specs.declared.cause.Cause.{Cause}
 use Rattle.guest_arithmetic.specs.declared.cause.Cause.TheVariants.{Answer}
@@ -11,22 +11,22 @@ use Rattle.guest_operands.specs.Ranges.{AddressSpace, range_accesses, is_field_o
 use Rattle.guest_machine.specs.Machine.{Standing}
 use Rattle.guest_machine.specs.Step.{step_of}
 
--- what a step comes to: the next state, a stop, or a look, from which another goes on
+-- the result of a step: the next state, a stop, or a look, which the run time answers
 pub data Next (S : Type 0) : Type 0 where
   Goes : S → Next S
   Ends : Stop → Next S
   Looks : S → Next S
 
--- what a run comes to, with the number of steps that are left: a stop, or a look whose own step is still to be paid
+-- the result of a run, with the number of steps left: a stop, or a look whose own step is still to be counted
 pub data Outcome (S : Type 0) : Type 0 where
   Ended : Stop → ℕ → S → Outcome S
   Waits : ℕ → S → Outcome S
 
 pub record Stepping (S : Type 0) : Type 0 where
-  -- where a run is over, and how
+  -- the stop of a state where a run is over
   pub over : S → Option Stop
   pub step : S → Next S
-  -- the stop where no step is left
+  -- the stop if no step is left
   pub spent : S → Stop
 
 abbrev pub over_or : {S : Type 0} → ℕ → S → Option Stop → Outcome S → Outcome S
@@ -38,7 +38,7 @@ go_on n s run (Goes t) = run t
 go_on n s run (Ends stop) = Ended stop n s
 go_on n s run (Looks t) = Waits n t
 
--- a run of at most so many steps
+-- a run of at most this many steps
 abbrev pub run : {S : Type 0} → Stepping S → ℕ → S → Outcome S
 run x zero s = over_or zero s (x.over s) (Ended (x.spent s) zero s)
 run x (suc n) s = over_or (suc n) s (x.over s) (go_on (suc n) s (run x n) (x.step s))
@@ -47,12 +47,12 @@ abbrev pub next_of : {W F M : Type 0} → Result (After W F M) Stop → Next (Af
 next_of (Ok after) = Goes after
 next_of (Err stop) = Ends stop
 
--- %rax as what a call returned
+-- the stop of a call that returned %rax
 abbrev pub returned : Result ℕ Cause → ℕ → Stop
 returned (Ok number) place = Returned number
 returned (Err cause) place = Unclean place Answer
 
--- where another has to answer: the calls of `__tls_get_addr` and of a descriptor
+-- the addresses at which the machine stops for a look: `__tls_get_addr` and a descriptor's function
 abbrev pub is_look : ℕ → Bool
 is_look place = (place == 0x1000) || (place == 0x1800)
 

@@ -1,4 +1,4 @@
--- That runs of one machine are runs of another, where each step of the one is one to four steps of the other.
+-- When runs of one machine are runs of another: each step of the first is one to four steps of the second.
 use Rattle.std.specs.Prelude.{◌≡◌, ◌⊎◌, ℕ, zero, suc, ◌+◌, ◌*◌, ◌≤◌, Option, Some, None}
 use Rattle.guest_operands.specs.declared.stop.Stop.{Stop}
 use Rattle.guest_operands.specs.declared.stop.Stop.TheVariants.{Returned, Look, Address, Code, Unclean, Steps}
@@ -12,13 +12,13 @@ IsUnclean (Code place) = ⊥
 IsUnclean (Unclean place cause) = Unit {0}
 IsUnclean (Steps place) = ⊥
 
--- so many steps, none of them at an end, lead from one state to another
+-- this many steps, none from a state where the run is over, lead from one state to another
 abbrev pub Moves : {S : Type 0} → Stepping S → ℕ → S → S → Type 0
 Moves y zero s t = s ≡ t
 Moves {S} y (suc k) s t = (y.over s ≡ None) × ((u : S) × ((y.step s ≡ Goes u) × Moves y k u t))
 
 module _ {S S' : Type 0} where
-  -- what the second does where the first has made a step: Rel relates states in a run, Wait states at a look, Last
+  -- what the second does when the first has made a step: Rel relates states in a run, Wait states at a look, Last
   -- states at an end
   abbrev pub Advances : Stepping S' → (S → S' → Type 0) → (S → S' → Type 0) → (S → S' → Type 0) → S → Next S → S'
       → Type 0
@@ -30,7 +30,7 @@ module _ {S S' : Type 0} where
       (k : ℕ) × ((b : S') × ((b' : S') ×
       ((k ≤ 3) × Moves y k s' b × (y.over b ≡ None) × (y.step b ≡ Looks b') × Wait t b')))
 
-  -- where the first is over, the second is over likewise
+  -- when the first is over, the second is over in the same way
   abbrev pub OverAlike : (S → S' → Type 0) → S → S' → Option Stop → Option Stop → Type 0
   OverAlike Last s s' None over' = Unit {0}
   OverAlike Last s s' (Some stop) over' = IsUnclean stop ⊎ ((over' ≡ Some stop) × Last s s')
@@ -38,17 +38,17 @@ module _ {S S' : Type 0} where
   pub record IsSimulated (x : Stepping S) (y : Stepping S') (Rel Wait Last : S → S' → Type 0) : Type 0 where
     pub over : (s : S) (s' : S') → Rel s s' → OverAlike Last s s' (x.over s) (y.over s')
     pub step : (s : S) (s' : S') → Rel s s' → x.over s ≡ None → Advances y Rel Wait Last s (x.step s) s'
-    -- where its steps are spent the first is unclean
+    -- when its steps are spent, the first is unclean
     pub spent : (s : S) → IsUnclean (x.spent s)
 
-  -- what the two runs come to: at a look four times the steps that are left to the first are left to the second
+  -- the results of two runs: at a look the second has four times as many steps left as the first
   abbrev pub SameOut : (S → S' → Type 0) → (S → S' → Type 0) → Outcome S → Outcome S' → Type 0
   SameOut Wait Last (Ended stop n s) (Ended stop' n' s') = IsUnclean stop ⊎ ((stop' ≡ stop) × Last s s')
   SameOut Wait Last (Ended stop n s) (Waits n' s') = IsUnclean stop
   SameOut Wait Last (Waits n s) (Ended stop' n' s') = ⊥
   SameOut Wait Last (Waits n s) (Waits n' s') = (1 ≤ n) × ((4 * n ≤ n' + 3) × Wait s s')
 
--- y does what g does but where g looks: there it goes on by itself
+-- y does what g does, except that y goes on by itself where g stops for a look
 module _ {S : Type 0} where
   abbrev pub GoesThrough : Next S → Next S → S → Type 0
   GoesThrough (Goes t) next s = next ≡ Goes t

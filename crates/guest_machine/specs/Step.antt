@@ -39,7 +39,7 @@ use Rattle.guest_operands.specs.State.{register_of, with_word, with_stack, at_pl
 use Rattle.guest_operands.specs.Use.{◌>>=◌, plus, clean, there, After, left}
 use Rattle.guest_arithmetic.specs.Values.{Operations}
 
--- the lower half as a signed number of 64 bits
+-- the lower half, sign-extended to 64 bits
 abbrev pub sign_extended : ℕ → ℕ
 sign_extended number =
     if nat_lt (low Long number) (2 ^ 31) then low Long number else low Long number + (2 ^ 64 - 2 ^ 32)
@@ -59,23 +59,23 @@ module _ {W F B : Type 0} (ops : Operations W F B) where
   unfoldable pub immediate_of : Width → Option ℕ → ℕ → Result ℕ Cause
   immediate_of width field immediate = used (low width) (unmoved ops field immediate)
 
-  -- the flags after an instruction, and the place
+  -- the flags after an instruction, and the next address
   abbrev pub settled : Changes → Frame → State W F → State W F
   settled changes frame state = record state { flags = with_changes ops changes state.flags; place = frame.next }
 
-  -- what a nop uses: nothing, but where an offset field stands in its operand it must be one that lea could have
+  -- what a nop uses: nothing, but an offset field in its operand must be one that lea could have
   abbrev pub nop_use : Frame → State W F → Option ℕ → Option Operand → Result ℕ Cause
   nop_use frame state (Some at) (Some (InMemory operand)) = address_of ops frame state operand
   nop_use frame state field operand = Ok 0
 
 module _ {W F B M : Type 0} (ops : Operations W F B) (acc : Accesses M B) where
-  -- a result with its flags
+  -- a result is written, then flags and the next address
   unfoldable pub finished : Width → Slot → Effect → Frame → State W F → M → Result (After W F M) Stop
   finished width slot effect frame state memory = do
     after ← put ops acc width slot (ops.word effect.number) state memory
     Ok (left (settled ops effect.changes frame after.state) after.memory)
 
-  -- cmp drops the result
+  -- cmp writes no result
   unfoldable pub concluded : Arithmetic → Width → Slot → Effect → Frame → State W F → M → Result (After W F M) Stop
   concluded Compare width slot effect frame state memory = Ok (left (settled ops effect.changes frame state) memory)
   concluded arithmetic width slot effect frame state memory = finished width slot effect frame state memory
@@ -86,7 +86,7 @@ module _ {W F B M : Type 0} (ops : Operations W F B) (acc : Accesses M B) where
     word ← carried ops acc width frame state memory from
     Ok (left (at_place (with_word state to word) frame.next) memory)
 
-  -- a word into a memory operand
+  -- a word is written to a memory operand
   unfoldable pub stored : ℕ → Frame → State W F → M → Memory → W → Result (After W F M) Stop
   stored size frame state memory to word = do
     place ← clean state.place (address_of ops frame state to)
@@ -144,20 +144,20 @@ module _ {W F B M : Type 0} (ops : Operations W F B) (acc : Accesses M B) where
         it ← taken ops acc width frame state memory from (number_at ops width (register_of state.registers to))
         concluded arithmetic width (OfSlot to) (compute_effect arithmetic width it.other it.number) frame state memory)
 
-  -- the same into a memory operand
+  -- the same, into a memory operand
   unfoldable pub compute_out : Arithmetic → Width → Frame → State W F → M → Memory → Register
       → Result (After W F M) Stop
   compute_out arithmetic width frame state memory to from = do
     it ← taken ops acc width frame state memory (InMemory to) (number_at ops width (register_of state.registers from))
     concluded arithmetic width it.slot (compute_effect arithmetic width it.number it.other) frame state memory
 
-  -- a base with an offset field added
+  -- an offset field is added to a base
   unfoldable pub add_field : Frame → State W F → M → Register → ℕ → Result (After W F M) Stop
   add_field frame state memory to at = do
     number ← clean state.place (charged (Some at) (ops.moved (register_of state.registers to) frame.immediate at))
     finished Quad (OfSlot to) (record { number = number; changes = all_unsettled }) frame state memory
 
-  -- the same with an immediate
+  -- the same, with an immediate
   unfoldable pub compute_plain : Arithmetic → Width → Option ℕ → Frame → State W F → M → Operand
       → Result (After W F M) Stop
   compute_plain arithmetic width field frame state memory to = do
@@ -197,7 +197,7 @@ module _ {W F B M : Type 0} (ops : Operations W F B) (acc : Accesses M B) where
     it ← taken ops acc width frame state memory to (Ok 0)
     finished width it.slot (shift_effect shift width it.number (count % bits_of width)) frame state memory
 
-  -- a word onto the stack, from where %rsp points
+  -- a word is pushed onto the stack that %rsp points to
   unfoldable pub pushed : ℕ → W → State W F → M → Result (After W F M) Stop
   pushed stack word state memory = do
     after ← there state.place (store_of ops acc memory (plus stack (2 ^ 64 - 8)) 8 word)
@@ -292,6 +292,6 @@ module _ {W F B M : Type 0} (ops : Operations W F B) (acc : Accesses M B) (is_fi
   act_if None state memory = Err (Code state.place)
   act_if (Some it) state memory = act ops acc (frame_of is_field state.place it) it.instr.operation state memory
 
-  -- one step: the instruction is read from the bytes that may be fetched
+  -- one step: the instruction is decoded from the bytes that may be fetched
   unfoldable pub step_of : State W F → M → Result (After W F M) Stop
   step_of state memory = act_if (decoded (fetch_of acc memory state.place)) state memory

@@ -29,7 +29,7 @@ use Rattle.guest_operands.specs.Operand.{address_of, size_for}
 use Rattle.guest_operands.specs.Frame.{frame_of}
 use Rattle.guest_operands.specs.Use.{plus}
 
--- an access at an address; where that is no number it is left out
+-- an access at an address; left out if that is not a number
 abbrev pub touch_at : Direction → Size → Result ℕ Cause → Option Touch
 touch_at direction size (Ok address) = Some (record { direction = direction; size = size; address = address })
 touch_at direction size (Err cause) = None
@@ -38,7 +38,7 @@ abbrev pub paired : Option Touch → Option Touch → Touches
 paired first second = record { first = first; second = second }
 
 module _ {W F B : Type 0} (ops : Operations W F B) (state : State W F) where
-  -- the eight bytes at which %rsp points, and those below them
+  -- the eight bytes that %rsp points to, and those below it
   abbrev pub pop_touch : Option Touch
   pop_touch = touch_at Load Quad (ops.number_of state.registers.rsp)
 
@@ -46,12 +46,12 @@ module _ {W F B : Type 0} (ops : Operations W F B) (state : State W F) where
   push_touch = touch_at Store Quad (used (λ stack. plus stack (2 ^ 64 - 8)) (ops.number_of state.registers.rsp))
 
 module _ {W F B : Type 0} (ops : Operations W F B) (frame : Frame) (state : State W F) where
-  -- an operand's bytes, if it lies in memory
+  -- the access to an operand, if it lies in memory
   abbrev pub operand_touch : Direction → Size → Operand → Option Touch
   operand_touch direction size (InRegister register) = None
   operand_touch direction size (InMemory memory) = touch_at direction size (address_of ops frame state memory)
 
-  -- an operand that is read and then written
+  -- the accesses to an operand that is read and then written
   abbrev pub changed_touches : Width → Operand → Touches
   changed_touches width to = paired (operand_touch Load (size_for width) to) (operand_touch Store (size_for width) to)
 
@@ -78,7 +78,7 @@ module _ {W F B : Type 0} (ops : Operations W F B) (frame : Frame) (state : Stat
   jump_touches (Relative distance) = paired None None
   jump_touches (Indirect operand) = paired (operand_touch Load Quad operand) None
 
-  -- an instruction's accesses in their order: what is stored comes after what is loaded, what is pushed last
+  -- an instruction's accesses in their order: stores come after loads, and a push last
   unfoldable pub touches_of : Operation → Touches
   touches_of (Move width operands) = move_touches width operands
   touches_of (StoreByte to from) = paired (operand_touch Store Byte (InMemory to)) None
@@ -99,7 +99,7 @@ module _ {W F B : Type 0} (ops : Operations W F B) (frame : Frame) (state : Stat
   touches_of (Nop operand) = paired None None
   touches_of Undefined = paired None None
 
--- the accesses of the instruction that was read, if one was, and of the next one
+-- the accesses of the decoded instruction, if there is one
 abbrev pub touches_if : {W F B : Type 0} → Operations W F B → (ℕ → Bool) → Option Decoded → State W F → Touches
 touches_if ops is_field None state = paired None None
 touches_if ops is_field (Some it) state = touches_of ops (frame_of is_field state.place it) state it.instr.operation
@@ -108,7 +108,7 @@ unfoldable pub next_touches : {W F B M : Type 0} → Operations W F B → Access
     → Touches
 next_touches ops acc is_field state memory = touches_if ops is_field (decoded (fetch_of acc memory state.place)) state
 
--- so many places from an address on
+-- this many addresses from one on
 abbrev pub places_from : ℕ → ℕ → List ℕ
 places_from address zero = []
 places_from address (suc size) = address ∷ places_from (next_place address) size
@@ -118,18 +118,18 @@ is_refused (Ok x) = false
 is_refused (Err why) = true
 
 module _ {M B : Type 0} (acc : Accesses M B) (memory : M) where
-  -- whether the access of so many bytes takes place
+  -- whether an access of this many bytes is refused
   abbrev pub refuses : Direction → ℕ → ℕ → Bool
   refuses Load address size = is_refused (bytes_at acc memory address size)
   refuses Store address size = is_refused (all_write acc memory address size)
 
-  -- an access's bytes, and those behind it unless it is refused
+  -- an access's bytes, and those after it unless it is refused
   abbrev pub touched_then : Option Touch → List ℕ → List ℕ
   touched_then None more = more
   touched_then (Some touch) more =
       places_from touch.address (bytes_in touch.size)
       ++ (if refuses touch.direction touch.address (bytes_in touch.size) then [] else more)
 
-  -- all bytes of each access in their order, through the whole first refused access
+  -- all bytes of each access in their order; the first refused access is the last one, with all of its bytes
   unfoldable pub touched : Touches → List ℕ
   touched it = touched_then it.first (touched_then it.second [])

@@ -12,7 +12,7 @@ use guest_operands::{
     Frame, Slot, Space, State, Stop, charged, number_at, put, register, take_operand, used,
 };
 
-/// Whether a register is combined with itself to 0, whatever it holds.
+/// Whether a register is combined with itself, which gives 0 whatever it holds.
 #[tactic(auto, unfolding(crate::specs::Step::is_cleared))]
 fn is_cleared(arithmetic: Arithmetic, to: Register, from: &Operand) -> bool
     ensures { result ≡ is_cleared arithmetic to from.now }
@@ -24,7 +24,7 @@ fn is_cleared(arithmetic: Arithmetic, to: Register, from: &Operand) -> bool
     }
 }
 
-/// The flags after an instruction, and the place.
+/// Sets the flags after an instruction, and the next address.
 fn settle<V: Values>(changes: &Changes, frame: &Frame, state: &mut State<V::Word, V::Flag>)
     ensures { state.new ≡ record state.old {
       flags = with_changes V.operations changes.now state.old.flags;
@@ -35,7 +35,7 @@ fn settle<V: Values>(changes: &Changes, frame: &Frame, state: &mut State<V::Word
     state.place = frame.next;
 }
 
-/// A result with its flags.
+/// Writes a result, and then the flags and the next address.
 #[tactic(auto, unfolding(crate::specs::Step::finished))]
 fn finish<V: Values, S: Space<V>>(
     width: Width,
@@ -54,7 +54,7 @@ fn finish<V: Values, S: Space<V>>(
     Ok(())
 }
 
-/// The same, but that cmp drops the result.
+/// The same, except that cmp writes no result.
 #[tactic(auto, unfolding(crate::specs::Step::concluded))]
 fn conclude<V: Values, S: Space<V>>(
     arithmetic: Arithmetic,
@@ -111,7 +111,7 @@ fn compute_in<V: Values, S: Space<V>>(
     )
 }
 
-/// The same into a memory operand.
+/// The same, into a memory operand.
 #[tactic(auto, unfolding(crate::specs::Step::compute_out))]
 fn compute_out<V: Values, S: Space<V>>(
     arithmetic: Arithmetic,
@@ -133,7 +133,7 @@ fn compute_out<V: Values, S: Space<V>>(
     conclude::<V, S>(arithmetic, width, it.slot, &effect, frame, state, space)
 }
 
-/// An offset field added to a base.
+/// Adds an offset field to a base.
 #[tactic(auto, unfolding(crate::specs::Step::add_field))]
 fn add_field<V: Values, S: Space<V>>(
     frame: &Frame,
@@ -185,7 +185,7 @@ fn compute_plain<V: Values, S: Space<V>>(
     conclude::<V, S>(arithmetic, width, it.slot, &effect, frame, state, space)
 }
 
-/// The same, but that an offset field may be added to a base in a register.
+/// The same, except that the immediate may be an offset field that is added to a base in a register.
 #[tactic(auto, unfolding(crate::specs::Step::compute_number))]
 fn compute_number<V: Values, S: Space<V>>(
     arithmetic: Arithmetic,

@@ -53,7 +53,7 @@ pub(crate) fn jump_if<V: Values, S: Space<V>>(
     Ok(())
 }
 
-/// What a nop uses: nothing, but where an offset field stands in its operand.
+/// What a nop uses: nothing, unless its operand holds an offset field.
 fn nop_use<V: Values>(
     frame: &Frame,
     state: &State<V::Word, V::Flag>,

@@ -1,14 +1,14 @@
-//! Laws about steps and runs. The functions do nothing: what they ensure is the law.
+//! Laws of steps and runs. Each function does nothing; what it ensures is the law.
 
 ghost use Rattle.guest_machine.specs.Clean.{PlainIsClean};
 ghost use Rattle.guest_machine.specs.Reaching.{ReachesWhatItTouches};
 
-/// No run over plain numbers stops unclean.
+/// A run over plain numbers never stops `Unclean`.
 pub fn plain_is_clean()
     ensures { PlainIsClean }
 {}
 
-/// A step asks a memory only for the bytes that its instruction touches.
+/// A step accesses only the bytes of memory that its instruction touches.
 pub fn reaches_what_it_touches()
     ensures { ReachesWhatItTouches }
 {}

@@ -34,8 +34,8 @@ impl<V: Values> Model for Machine<V> {
 }
 
 impl<V: Values> Machine<V> {
-    /// A machine before a call: %rdi, %rsi and %rdx hold `a`, `b` and `c`, %rsp holds `stack`, and
-    /// all else is 0, the thread pointer too.
+    /// A machine before a call: %rdi, %rsi and %rdx hold `a`, `b` and `c`, %rsp holds `stack`, and all else is 0, the
+    /// thread pointer too.
     pub fn start(place: u64, stack: u64, a: V::Word, b: V::Word, c: V::Word) -> Machine<V>
         ensures { result ≡ record { state = start_of V.operations place stack a b c; taken = 0 } }
     {
@@ -52,18 +52,18 @@ impl<V: Values> Machine<V> {
         self.taken
     }
 
-    /// Runs up to a stop. At 0x2000 the call is over; else the limit is asked, then whether another
-    /// has to answer; then one step is made, and so on.
+    /// Runs up to a stop. At 0x2000 the call is over. Anywhere else `run` stops if the limit is reached, then if the
+    /// address is that of a look; otherwise it makes one step and goes on.
     pub fn run<S: Space<V>>(&mut self, space: &mut S, limit: u64) -> Stop
         ensures runs { Runs V.operations limit result self.old (S.memory space.old) self.new (S.memory space.new) }
-        // No step is made past the limit.
+        // The run makes no step past the limit.
         ensures within { self.new.taken ≤ max self.old.taken limit }
         ensures rest { S.rest space.new ≡ S.rest space.old }
     {
         run::<V, S>(&mut self.state, &mut self.taken, space, limit)
     }
 
-    /// What the register of this number holds.
+    /// The word in the register with this number.
     pub fn register(&self, number: u8) -> V::Word
         requires { number < 16 }
         ensures { result ≡ state.register_of self.now.state.registers (register_of number) }
@@ -71,7 +71,7 @@ impl<V: Values> Machine<V> {
         register(&self.state.registers, Register::numbered(number))
     }
 
-    /// Puts a word into the register of this number.
+    /// Puts a word into the register with this number.
     pub fn set_register(&mut self, number: u8, word: V::Word)
         requires { number < 16 }
         ensures { self.new ≡ record self.old {
@@ -104,7 +104,7 @@ impl<V: Values> Machine<V> {
         };
     }
 
-    /// Where the next instruction begins.
+    /// The address of the next instruction.
     pub fn place(&self) -> u64
         ensures { result ≡ self.now.state.place }
     {
@@ -118,16 +118,16 @@ impl<V: Values> Machine<V> {
         self.state.place = place;
     }
 
-    /// Sets what the FS prefix adds to an address.
+    /// Sets the thread pointer, which the FS prefix adds to an address.
     pub fn set_thread_pointer(&mut self, thread_pointer: u64)
         ensures { self.new ≡ record self.old { state = record self.old.state { thread_pointer = thread_pointer } } }
     {
         self.state.thread_pointer = thread_pointer;
     }
 
-    /// The data bytes that the next instruction touches, without an access to one: its accesses in
-    /// their order, those left out whose address is no number. Where no instruction is, there are none.
-    /// The first that is refused is the last that is made.
+    /// The data bytes that the next instruction touches, without an access to one: its accesses in their order, except
+    /// those whose address is not a number. There are none if there is no instruction. The first access that is
+    /// refused is the last one that is made.
     #[tactic(auto, unfolding(crate::specs::Touch::next_touches))]
     pub fn touches<S: Space<V>>(&self, space: &S) -> Touches
         ensures { result ≡ next_touches V.operations (range_accesses V.operations) (is_field_of (S.memory space.now))
@@ -145,8 +145,8 @@ impl<V: Values> Machine<V> {
         }
     }
 
-    /// Answers for another in one step: the word goes into %rax, and the return address is popped.
-    /// Answers false where it cannot be, and then nothing has changed.
+    /// Answers a look in one step: puts the word into %rax and pops the return address. Returns false if it can't, and
+    /// then nothing has changed.
     pub fn answer<S: Space<V>>(&mut self, space: &mut S, word: V::Word) -> bool
         requires { self.old.taken < 2 ^ 64 - 1 }
         ensures answers { Answers result self.old (S.memory space.old) self.new (S.memory space.new)

@@ -55,7 +55,7 @@ fn move_in<V: Values, S: Space<V>>(
     Ok(())
 }
 
-/// A word's lowest bytes into a memory operand.
+/// Writes a word's lowest bytes to a memory operand.
 #[tactic(auto, unfolding(crate::specs::Step::stored))]
 fn stored<V: Values, S: Space<V>>(
     size: Size,
@@ -185,7 +185,7 @@ pub(crate) fn extend_long<V: Values, S: Space<V>>(
     Ok(())
 }
 
-/// A word's lower half as it is carried with its sign.
+/// A word's lower half, sign-extended and moved.
 fn extended<V: Values>(word: V::Word) -> V::Word
     ensures { result ≡ carried_as V.operations sign_extended (V.operations.number_of word) }
 {

@@ -1,4 +1,4 @@
-//! Steps up to a stop.
+//! Runs: steps up to a stop.
 
 ghost use Rattle.std.specs.Prelude.{◌≡◌};
 ghost use Rattle.guest_machine.specs.Run.{Runs, returned, is_look};
@@ -7,13 +7,13 @@ use crate::step::step;
 use guest_arithmetic::{Cause, Values};
 use guest_operands::{Space, State, Stop};
 
-/// Where a call returns to.
+/// The address that a call returns to.
 pub const RETURN: u64 = 0x2000;
 
-/// Where `__tls_get_addr` is called.
+/// The address of `__tls_get_addr`.
 pub const GET_ADDRESS: u64 = 0x1000;
 
-/// Where the function of a TLS descriptor is called.
+/// The address of the function of a TLS descriptor.
 pub const DESCRIPTOR: u64 = 0x1800;
 
 /// What a call returned, from %rax.
@@ -26,14 +26,14 @@ fn returned(answer: Result<u64, Cause>, place: u64) -> Stop
     }
 }
 
-/// Whether another has to answer at the place.
+/// Whether the machine stops for a look at this address.
 fn is_look(place: u64) -> bool
     ensures { result ≡ is_look place }
 {
     place == GET_ADDRESS || place == DESCRIPTOR
 }
 
-/// Steps up to a stop, and counts them.
+/// Makes steps up to a stop, and counts them.
 pub(crate) fn run<V: Values, S: Space<V>>(
     state: &mut State<V::Word, V::Flag>,
     taken: &mut u64,

@@ -11,7 +11,7 @@ use guest_operands::{
     Frame, Size, Space, State, Stop, load, register, set_register, store, take_operand, used,
 };
 
-/// A word onto the stack, from where %rsp points.
+/// Pushes a word onto the stack that %rsp points to.
 #[tactic(auto, unfolding(crate::specs::Step::pushed))]
 fn push_word<V: Values, S: Space<V>>(
     stack: u64,

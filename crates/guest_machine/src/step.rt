@@ -19,7 +19,7 @@ use amd64_subset::{Decoded, Operation, decode};
 use guest_arithmetic::Values;
 use guest_operands::{Frame, Space, State, Stop, frame_at};
 
-/// One instruction.
+/// Does one instruction.
 #[tactic(auto, unfolding(crate::specs::Step::act))]
 pub fn act<V: Values, S: Space<V>>(
     frame: &Frame,
@@ -67,7 +67,7 @@ pub fn act<V: Values, S: Space<V>>(
     }
 }
 
-/// The instruction that may be fetched at an address, if one is there.
+/// The instruction at an address, if one can be fetched there.
 pub(crate) fn instruction<V: Values, S: Space<V>>(space: &S, address: u64) -> Option<Decoded>
     ensures { result ≡ decoded (fetch_of (range_accesses V.operations) (S.memory space.now) address) }
 {
@@ -76,7 +76,7 @@ pub(crate) fn instruction<V: Values, S: Space<V>>(space: &S, address: u64) -> Op
     decode(&bytes[..usize::from(count)])
 }
 
-/// One step: an instruction is fetched, read and done.
+/// One step: fetches an instruction, decodes it and does it.
 #[tactic(auto, unfolding(crate::specs::Step::step_of))]
 pub(crate) fn step<V: Values, S: Space<V>>(
     state: &mut State<V::Word, V::Flag>,

@@ -1,4 +1,4 @@
-//! The data bytes that an instruction touches, told without a memory.
+//! The data bytes that an instruction touches, computed without a memory.
 
 ghost use Rattle.std.specs.Prelude.{◌≡◌, None};
 ghost use Rattle.amd64_subset.specs.declared.operand.Operand.TheVariants.{InMemory};
@@ -13,7 +13,7 @@ use amd64_subset::{Arithmetic, Memory, Operand, Operands, Operation, Target, Wid
 use guest_arithmetic::{Cause, Values};
 use guest_operands::{Frame, Size, State, address, size};
 
-/// Which way an access goes.
+/// Whether an access loads or stores.
 #[derive(Clone, Copy, PartialEq, Eq, Debug)]
 pub enum Direction {
     Load,
@@ -28,7 +28,7 @@ pub struct Touch {
     pub address: u64,
 }
 
-/// An instruction's accesses in their order; one whose address is no number is left out.
+/// An instruction's accesses in their order. One whose address is not a number is left out.
 #[derive(Clone, Copy, PartialEq, Eq, Debug)]
 pub struct Touches {
     pub first: Option<Touch>,
@@ -66,7 +66,7 @@ fn memory_touch<V: Values>(
     touch_at(direction, size, address::<V>(frame, state, memory))
 }
 
-/// An operand's bytes, if it lies in memory.
+/// The access to an operand, if it lies in memory.
 fn operand_touch<V: Values>(
     frame: &Frame,
     state: &State<V::Word, V::Flag>,
@@ -82,7 +82,7 @@ fn operand_touch<V: Values>(
     }
 }
 
-/// An operand that is read and then written.
+/// The accesses to an operand that is read and then written.
 fn changed_touches<V: Values>(
     frame: &Frame,
     state: &State<V::Word, V::Flag>,
@@ -97,7 +97,7 @@ fn changed_touches<V: Values>(
     )
 }
 
-/// An operand that is read.
+/// The access to an operand that is read.
 fn loaded<V: Values>(
     frame: &Frame,
     state: &State<V::Word, V::Flag>,
@@ -112,7 +112,7 @@ fn loaded<V: Values>(
     )
 }
 
-/// cmp writes nothing.
+/// The accesses of an arithmetic instruction; cmp writes nothing.
 fn computed_touches<V: Values>(
     frame: &Frame,
     state: &State<V::Word, V::Flag>,
@@ -170,7 +170,7 @@ fn compute_touches<V: Values>(
     }
 }
 
-/// The eight bytes at which %rsp points.
+/// The eight bytes that %rsp points to.
 fn pop_touch<V: Values>(state: &State<V::Word, V::Flag>) -> Option<Touch>
     ensures { result ≡ pop_touch V.operations state.now }
 {
@@ -181,7 +181,7 @@ fn pop_touch<V: Values>(state: &State<V::Word, V::Flag>) -> Option<Touch>
     )
 }
 
-/// The eight bytes below them.
+/// The eight bytes below %rsp.
 fn push_touch<V: Values>(state: &State<V::Word, V::Flag>) -> Option<Touch>
     ensures { result ≡ push_touch V.operations state.now }
 {

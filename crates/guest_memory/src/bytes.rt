@@ -1,4 +1,4 @@
-//! Accesses of several bytes, made of their bytes.
+//! Accesses of several bytes, built from accesses of single bytes.
 
 ghost use Rattle.std.specs.Prelude.{◌≡◌, ◌≤◌, length, take, is_some, option_map};
 ghost use Rattle.guest_operands.specs.Access.{fetch_of, store_of};
@@ -10,40 +10,40 @@ ghost use Rattle.guest_memory.specs.Several.{bytes_in, all_writable};
 use guest_arithmetic::{Four, Values};
 use guest_operands::Size;
 
-/// A memory that is reached one byte at a time. Where it can do this, `load`, `store` and `fetch`
-/// below do what else a `Space` does.
+/// A memory that is accessed one byte at a time. `load`, `store` and `fetch` below build the rest of a `Space` from
+/// it.
 pub trait Bytes<V: Values> {
-    /// What no access changes, `()` where there is nothing but bytes.
+    /// The part that no access changes; `()` if there is nothing but bytes.
     type Rest;
 
     ghost memory: { Self → AddressSpace V.Byte };
 
     ghost rest: { Self → Self.Rest };
 
-    /// The byte at a place, where it may be read.
+    /// The byte at `place`, if it may be read.
     fn read(&self, place: u64) -> Option<V::Byte>
         ensures { result ≡ byte_in Read (memory self.now).ranges place };
 
-    /// The byte at a place, where it may be run.
+    /// The byte at `place`, if it may be run.
     fn run(&self, place: u64) -> Option<V::Byte>
         ensures { result ≡ byte_in Run (memory self.now).ranges place };
 
-    /// Whether the byte at a place may be written.
+    /// Whether the byte at `place` may be written.
     fn may_write(&self, place: u64) -> bool
         ensures { result ≡ is_some (byte_in Write (memory self.now).ranges place) };
 
-    /// Writes the byte at a place, or nothing where it may not be written.
+    /// Writes the byte at `place`, or nothing if it may not be written.
     fn write(&mut self, place: u64, byte: V::Byte)
         ensures written { memory self.new ≡
             record (memory self.old) { ranges = with_byte (memory self.old).ranges place byte } }
         ensures rest { rest self.new ≡ rest self.old };
 
-    /// Whether an offset field begins at a place.
+    /// Whether an offset field begins at `place`.
     fn is_field(&self, place: u64) -> bool
         ensures { result ≡ is_field_of (memory self.now) place };
 }
 
-/// Four bytes from a place on, unless one of them may not be read.
+/// Four bytes from `place` on, unless one of them may not be read.
 fn four<V: Values, M: Bytes<V>>(memory: &M, place: u64) -> Option<Four<V::Byte>>
     ensures { option_map bytes_of result ≡ bytes_in (M.memory memory.now).ranges place 4 }
 {
@@ -83,7 +83,7 @@ fn load_quad<V: Values, M: Bytes<V>>(memory: &M, place: u64) -> Option<V::Word>
     Some(V::joined_quad(low, high))
 }
 
-/// The word of so many bytes at an address, unless one of them may not be read.
+/// The word of `size` bytes at `address`, unless one of them may not be read.
 #[tactic(auto, using(crate::proofs::Several::load_of_ranges))]
 pub fn load<V: Values, M: Bytes<V>>(memory: &M, address: u64, size: Size) -> Option<V::Word>
     ensures { Loads V.operations result (M.memory memory.now) address size }
@@ -95,7 +95,7 @@ pub fn load<V: Values, M: Bytes<V>>(memory: &M, address: u64, size: Size) -> Opt
     }
 }
 
-/// Writes a word's lowest bytes at an address, unless one of them may not be written.
+/// Writes a word's lowest `size` bytes at `address`, unless one of them may not be written.
 pub fn store<V: Values, M: Bytes<V>>(
     memory: &mut M,
     address: u64,
@@ -108,7 +108,7 @@ pub fn store<V: Values, M: Bytes<V>>(
     store_bytes::<V, M>(memory, address, size.bytes(), word)
 }
 
-/// Writes so many bytes of a word.
+/// Writes the word's lowest `size` bytes.
 fn store_bytes<V: Values, M: Bytes<V>>(memory: &mut M, place: u64, size: u8, word: V::Word) -> bool
     requires { size ≤ 8 }
     ensures stores { StoresAs result (M.memory memory.old) (M.memory memory.new)
@@ -126,7 +126,7 @@ fn store_bytes<V: Values, M: Bytes<V>>(memory: &mut M, place: u64, size: u8, wor
     true
 }
 
-/// Whether so many bytes at a place may be written.
+/// Whether `size` bytes from `place` on may be written.
 fn may_write_all<V: Values, M: Bytes<V>>(memory: &M, place: u64, size: u8) -> bool
     ensures { result ≡ all_writable (M.memory memory.now).ranges place size }
 {
@@ -140,7 +140,7 @@ fn may_write_all<V: Values, M: Bytes<V>>(memory: &M, place: u64, size: u8) -> bo
     true
 }
 
-/// The next 15 bytes of code, or those up to the first that may not be run. Answers how many.
+/// Writes the next 15 bytes of code to `into`, or those up to the first that may not be run. Returns how many.
 pub fn fetch<V: Values, M: Bytes<V>>(memory: &M, place: u64, into: &mut [u8; 15]) -> u8
     ensures count { result ≡ length (fetch_of (range_accesses V.operations) (M.memory memory.now) place) }
     ensures bytes { take result into.new ≡ fetch_of (range_accesses V.operations) (M.memory memory.now) place }

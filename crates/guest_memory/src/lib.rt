@@ -1,18 +1,17 @@
-//! Memory for a guest machine, one byte at a time.
+//! Memory for a guest machine: ranges of bytes with rights, accessed one byte at a time.
 //!
-//! A thread of a linked program sees a few ranges of addresses: its stack, its blocks of thread-local
-//! storage, the parts of the images that are loaded. Each byte of a range may be read, written or run,
-//! or not, and an access of several bytes takes place where each of its bytes allows it: eight bytes
-//! at the end of one range and the start of the next are one load, and a store that reaches one byte too
-//! far stores nothing. Bytes that are fetched as code end at the first that may not be run.
+//! A thread of a linked program sees a few ranges of addresses: its stack, its TLS blocks, the parts of the loaded
+//! images. Each byte of a range may or may not be read, written or run. An access of several bytes takes place if each
+//! of its bytes allows it: eight bytes at the end of one range and the start of the next are one load, and a store
+//! that reaches one byte too far stores nothing. A fetch of code ends before the first byte that may not be run.
 //!
-//! That an access of several bytes is made of its bytes is said and proved here once. A memory of any
-//! kind says what one byte is (the trait `Bytes`: read, run, may_write, write, is_field); `load`, `store`
-//! and `fetch` are then those of the machine's `Space`, with its very contracts, so a `Space` of one's own
-//! is four lines that call them. What else such a memory holds (`rest`) a `write` keeps, and so does `store`.
+//! The crate proves once that an access of several bytes is made of its bytes. A memory of any kind says what one byte
+//! is (the trait `Bytes`: read, run, may_write, write, is_field). `load`, `store` and `fetch` are then those of the
+//! machine's `Space`, with the same contracts, so an own `Space` is four lines that call them. Whatever else such a
+//! memory holds (`rest`), `write` keeps it, and so does `store`.
 //!
-//! `GuestMemory` is such a memory in owned bytes: a list of ranges with their rights, of which the first
-//! that allows an access counts, and the places of offset fields. For example
+//! `GuestMemory` is such a memory in owned bytes: a list of ranges with their rights, of which the first one that
+//! allows an access decides, and the addresses of offset fields. For example
 //!
 //!     code  at 0x400000, read and run:    64 48 8b 04 25 08 00 00 00 c3   mov %fs:8, %rax; ret
 //!     stack at 0x7f0000, read and write:  00 20 00 00 00 00 00 00 e9 01 02 03 04 05 06 07

@@ -38,7 +38,7 @@ impl<B: Copy + Drop> GuestMemory<B> {
         }
     }
 
-    /// Adds a range behind the others.
+    /// Adds a range after the others.
     pub fn add_range(&mut self, range: GuestRange<B>) -> Result<(), AllocError>
         ensures ok { OnOk result (self.new ≡ record self.old { ranges = self.old.ranges ++ range ∷ [] }) }
         ensures err { OnErr result (self.new ≡ self.old) }
@@ -49,7 +49,7 @@ impl<B: Copy + Drop> GuestMemory<B> {
         }
     }
 
-    /// Says that an offset field begins at a place.
+    /// Records that an offset field begins at `place`.
     pub fn add_field(&mut self, place: u64) -> Result<(), AllocError>
         ensures ok { OnOk result (self.new ≡ record self.old { fields = self.old.fields ++ place ∷ [] }) }
         ensures err { OnErr result (self.new ≡ self.old) }
@@ -61,7 +61,7 @@ impl<B: Copy + Drop> GuestMemory<B> {
     }
 }
 
-/// The byte at a place, where it may be accessed so.
+/// The byte at `place`, if it allows the access.
 fn byte_of<B: Copy + Drop>(ranges: &[GuestRange<B>], access: Access, place: u64) -> Option<B>
     ensures { result ≡ byte_in access ranges.now place }
 {
@@ -73,7 +73,7 @@ fn byte_of<B: Copy + Drop>(ranges: &[GuestRange<B>], access: Access, place: u64)
     None
 }
 
-/// Which range takes a byte that is written at a place, or how many there are where none does.
+/// The index of the range that takes a write at `place`, or the number of ranges if none does.
 fn writable_at<B: Copy + Drop>(ranges: &[GuestRange<B>], place: u64) -> usize
     ensures { result ≡ first_writable ranges.now place }
 {
@@ -85,7 +85,7 @@ fn writable_at<B: Copy + Drop>(ranges: &[GuestRange<B>], place: u64) -> usize
     ranges.len()
 }
 
-/// Writes the byte at a place, or nothing where it may not be written.
+/// Writes the byte at `place`, or nothing if it may not be written.
 fn write_in<B: Copy + Drop>(ranges: &mut [GuestRange<B>], place: u64, byte: B)
     ensures { ranges.new ≡ with_byte ranges.old place byte }
 {

@@ -6,7 +6,7 @@ ghost use Rattle.guest_operands.specs.Ranges.{grants, holds};
 use guest_operands::Access;
 use std::marker::Model;
 
-/// What may be done with the bytes of a range.
+/// The accesses that the bytes of a range allow.
 #[derive(Clone, Copy, PartialEq, Eq, Debug)]
 pub struct Rights {
     pub readable: bool,
@@ -14,7 +14,7 @@ pub struct Rights {
     pub runnable: bool,
 }
 
-/// Bytes from a place on, with their rights.
+/// Bytes from an address on, with their rights.
 #[derive(Drop)]
 pub struct GuestRange<B> {
     start: u64,
@@ -53,7 +53,7 @@ impl<B: Copy + Drop> GuestRange<B> {
         }
     }
 
-    /// Whether the byte at a place lies in the range and may be accessed so.
+    /// Whether the byte at `place` lies in the range and allows the access.
     pub fn grants(&self, access: Access, place: u64) -> bool
         ensures { result ≡ grants access self.now place }
     {
@@ -65,7 +65,7 @@ impl<B: Copy + Drop> GuestRange<B> {
         is_allowed && self.start <= place && place - self.start < self.bytes.len() as u64
     }
 
-    /// The byte at a place in the range.
+    /// The byte at `place` in the range; `None` past its end.
     pub fn byte(&self, place: u64) -> Option<B>
         ensures { result ≡ slice_get self.now.bytes (place - self.now.start) }
     {
@@ -74,7 +74,7 @@ impl<B: Copy + Drop> GuestRange<B> {
             .copied()
     }
 
-    /// Writes the byte at a place in the range.
+    /// Writes the byte at `place` in the range.
     pub fn set_byte(&mut self, place: u64, byte: B)
         requires { IsTrue (holds self.old place) }
         ensures { self.new ≡ record self.old { bytes = slice_set self.old.bytes (place - self.old.start) byte } }

@@ -1,4 +1,4 @@
--- What stands around the operation of an instruction.
+-- The parts of an instruction besides its operation.
 use Rattle.std.specs.Prelude.{ℕ, Bool, Option, Some, None, if◌then◌else◌}
 use Rattle.amd64_subset.specs.declared.instr.Decoded.{Decoded}
 use Rattle.guest_operands.specs.declared.frame.Frame.{Frame}
@@ -9,7 +9,7 @@ abbrev pub field_at : (ℕ → Bool) → ℕ → Option ℕ → Option ℕ
 field_at is_field here None = None
 field_at is_field here (Some within) = if is_field (plus here within) then Some (plus here within) else None
 
--- what stands around the operation of an instruction that was read at a place
+-- the frame of an instruction that was decoded at a place
 unfoldable pub frame_of : (ℕ → Bool) → ℕ → Decoded → Frame
 frame_of is_field here it = record {
   next = plus here it.len;

@@ -1,4 +1,4 @@
--- What operands are: addresses, words that are carried whole or in part, numbers that are used, places for results.
+-- Operands: addresses, words that are moved whole or in part, numbers that are used, slots for results.
 use Rattle.std.specs.Prelude.{ℕ, ◌*◌, ◌%◌, ◌^◌, Result, Ok, Err, Option, Some, None, if◌then◌else◌}
 use Rattle.amd64_subset.specs.declared.instr.Width.{Width}
 use Rattle.amd64_subset.specs.declared.instr.Width.TheVariants.{Long, Quad}
@@ -43,19 +43,19 @@ size_for Quad = QuadSize
 abbrev pub size_of : Width → ℕ
 size_of width = bytes_in (size_for width)
 
--- where an offset field stands, anything but the one allowed use is a misuse of the field
+-- the answer; if there is an offset field, any cause becomes a misuse of the field
 abbrev pub charged : {A : Type 0} → Option ℕ → Result A Cause → Result A Cause
 charged None result = result
 charged (Some at) (Ok x) = Ok x
 charged (Some at) (Err cause) = Err Field
 
--- carried as the number that f makes of it: of a word that is no number nothing is known then
+-- the word of `f` of the number; if the word is not a number, nothing is known of the result
 abbrev pub carried_as : {W F B : Type 0} → Operations W F B → (ℕ → ℕ) → Result ℕ Cause → W
 carried_as ops f (Ok number) = ops.word (f number)
 carried_as ops f (Err cause) = ops.unknown
 
 module _ {W F B : Type 0} (ops : Operations W F B) where
-  -- a number that stands in an instruction, where no base is added; it may be an offset field at a place
+  -- a number in an instruction that is not added to a base; it may be an offset field
   abbrev pub unmoved : Option ℕ → ℕ → Result ℕ Cause
   unmoved None number = Ok number
   unmoved (Some at) number = ops.misused number
@@ -65,7 +65,7 @@ module _ {W F B : Type 0} (ops : Operations W F B) where
   moved_by None number word = used (plus number) (ops.number_of word)
   moved_by (Some at) number word = ops.moved word number at
 
-  -- a base and the displacement; where the next instruction begins is a base too, but not one of offset fields
+  -- a base plus the displacement; the next instruction's address is a base too, but not one for offset fields
   unfoldable pub base_of : Option ℕ → ℕ → ℕ → Registers W → Base → Result ℕ Cause
   base_of field displacement next registers Absolute = unmoved field displacement
   base_of field displacement next registers (OfRegister register) =
@@ -79,7 +79,7 @@ module _ {W F B : Type 0} (ops : Operations W F B) where
   index_of registers (Some index) =
       used (λ number. number * factor_of index.scale % 2 ^ 64) (ops.number_of (register_of registers index.register))
 
-  -- where a memory operand lies (Intel's manual, volume 1, section 3.7.5): the uses of its registers come with it
+  -- the address of a memory operand (Intel's manual, volume 1, section 3.7.5), or the cause why it has none
   unfoldable pub address_of : Frame → State W F → Memory → Result ℕ Cause
   address_of frame state memory =
       used (λ parts. plus (plus parts.0 parts.1) (if memory.from_thread_pointer then state.thread_pointer else 0))
@@ -87,40 +87,40 @@ module _ {W F B : Type 0} (ops : Operations W F B) where
       (both (base_of frame.displacement_field frame.displacement frame.next state.registers memory.base)
       (index_of state.registers memory.index)))
 
-  -- a register's word as it is carried at a width
+  -- a register's word, moved at a width
   unfoldable pub kept : Width → W → W
   kept Quad word = word
   kept Long word = carried_as ops (λ number. number % 2 ^ 32) (ops.number_of word)
 
-  -- a register's lowest byte as it is carried
+  -- a register's lowest byte, moved
   unfoldable pub kept_byte : W → W
   kept_byte word = carried_as ops (λ number. number % 256) (ops.number_of word)
 
-  -- a register's number as it is used at a width
+  -- a register's number at a width
   unfoldable pub number_at : Width → W → Result ℕ Cause
   number_at width word = used (low width) (ops.number_of word)
 
 module _ {W F B M : Type 0} (ops : Operations W F B) (acc : Accesses M B) where
-  -- what an operand holds, to be carried
+  -- the operand's word, to be moved and not used
   unfoldable pub carried : Width → Frame → State W F → M → Operand → Result W Stop
   carried width frame state memory (InRegister register) = Ok (kept ops width (register_of state.registers register))
   carried width frame state memory (InMemory operand) = do
     place ← clean state.place (address_of ops frame state operand)
     there state.place (load_of ops acc memory place (size_of width))
 
-  -- the use of a loaded word beside another use
+  -- the number of a loaded word, with another use
   abbrev pub weighed : Width → ℕ → Result W Refusal → Result ℕ Cause → Result (ℕ × ℕ) Stop
   weighed width here (Ok word) other = clean here (both (number_at ops width word) other)
   weighed width here (Err why) other = Err (refused_with here why other)
 
-  -- the same at an address, whose use comes first
+  -- the same at an address, which is used first
   unfoldable pub taken_at : Width → ℕ → M → Result ℕ Cause → Result ℕ Cause → Result Taken Stop
   taken_at width here memory (Err cause) other = Err (Unclean here (cause_with cause other))
   taken_at width here memory (Ok place) other = do
     parts ← weighed width here (load_of ops acc memory place (size_of width)) other
     Ok (record { slot = Place place; number = parts.0; other = parts.1 })
 
-  -- what an operand holds, to be used, beside another use: the first cause is given where several stand
+  -- the operand's number, with another use; if several fail, the first cause is reported
   unfoldable pub taken : Width → Frame → State W F → M → Operand → Result ℕ Cause → Result Taken Stop
   taken width frame state memory (InRegister register) other = do
     parts ← clean state.place (both (number_at ops width (register_of state.registers register)) other)
@@ -128,7 +128,7 @@ module _ {W F B M : Type 0} (ops : Operations W F B) (acc : Accesses M B) where
   taken width frame state memory (InMemory operand) other =
       taken_at width state.place memory (address_of ops frame state operand) other
 
-  -- a result in its place
+  -- a result written to its slot
   unfoldable pub put : Width → Slot → W → State W F → M → Result (After W F M) Stop
   put width (OfSlot register) word state memory = Ok (left (with_word state register word) memory)
   put width (Place place) word state memory = do

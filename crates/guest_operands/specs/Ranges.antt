@@ -15,7 +15,7 @@ pub record Range (B : Type 0) : Type 0 where
   pub writable : Bool
   pub runnable : Bool
 
--- where ranges overlap, the first one that allows the access counts
+-- where ranges overlap, the first one that allows the access decides
 pub record AddressSpace (B : Type 0) : Type 0 where
   pub ranges : List (Range B)
   pub fields : List ℕ
@@ -32,7 +32,7 @@ holds range place = nat_le range.start place && nat_lt (place - range.start) (le
 abbrev pub grants : {B : Type 0} → Access → Range B → ℕ → Bool
 grants access range place = allows access range && holds range place
 
--- the byte at a place, where it may be accessed so
+-- the byte at a place, if it allows the access
 abbrev pub byte_in : {B : Type 0} → Access → List (Range B) → ℕ → Option B
 byte_in access [] place = None
 byte_in access (range ∷ ranges) place =
@@ -40,7 +40,7 @@ byte_in access (range ∷ ranges) place =
     then slice_get range.bytes (place - range.start)
     else byte_in access ranges place
 
--- the ranges with the byte at a place written
+-- the ranges after a write of the byte at a place
 abbrev pub with_byte : {B : Type 0} → List (Range B) → ℕ → B → List (Range B)
 with_byte [] place byte = []
 with_byte (range ∷ ranges) place byte =
@@ -48,7 +48,7 @@ with_byte (range ∷ ranges) place byte =
     then record range { bytes = slice_set range.bytes (place - range.start) byte } ∷ ranges
     else range ∷ with_byte ranges place byte
 
--- what such a memory lets a machine do
+-- the accesses that such a memory offers
 unfoldable pub range_accesses : {W F B : Type 0} → Operations W F B → Accesses (AddressSpace B) B
 range_accesses ops = record {
   byte = λ memory place. ok_or (byte_in Read memory.ranges place) Refused;
@@ -61,12 +61,12 @@ range_accesses ops = record {
 unfoldable pub is_field_of : {B : Type 0} → AddressSpace B → ℕ → Bool
 is_field_of memory place = list_any (λ field. field == place) memory.fields
 
--- a load that was made or refused
+-- the result of a load, made or refused
 abbrev pub Loads : {W F B : Type 0} → Operations W F B → Option W → AddressSpace B → ℕ → Size → Type 0
 Loads ops result memory address size =
     ok_or result Refused ≡ load_of ops (range_accesses ops) memory address (bytes_in size)
 
--- what a store answered and left is what is said, and a refused one leaves all as it was
+-- the result of a store: done as defined, or refused with nothing changed
 abbrev pub StoresAs : {M : Type 0} → Bool → M → M → Result M Refusal → Type 0
 StoresAs true old new next = next ≡ Ok new
 StoresAs false old new next = (next ≡ Err Refused) × (new ≡ old)

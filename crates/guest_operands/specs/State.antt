@@ -51,7 +51,7 @@ with_stack state word = record state { registers = record state.registers { rsp 
 abbrev pub at_place : {W F : Type 0} → State W F → ℕ → State W F
 at_place state place = record state { place = place }
 
--- each register 0 but for %rsp and the three arguments of a call (psABI, section 3.2.3)
+-- every register is 0 except %rsp and the three arguments of a call (psABI, section 3.2.3)
 unfoldable pub start_of : {W F B : Type 0} → Operations W F B → ℕ → ℕ → W → W → W → State W F
 start_of ops place stack a b c =
     let zero_word = ops.word 0 in

@@ -1,4 +1,4 @@
--- How a step asks for what it needs: values that it uses, bytes that it reaches.
+-- How a step uses values and accesses bytes.
 use Rattle.std.specs.Prelude.{◌≡◌, ℕ, ◌+◌, ◌%◌, ◌^◌, Result, Ok, Err}
 use Rattle.guest_arithmetic.specs.declared.cause.Cause.{Cause}
 use Rattle.guest_arithmetic.specs.declared.cause.Cause.TheVariants.{Linker}
@@ -20,18 +20,18 @@ abbrev pub ◌>>=◌ : {A B : Type 0} → Result A Stop → (A → Result B Stop
 abbrev pub plus : ℕ → ℕ → ℕ
 plus a b = (a + b) % 2 ^ 64
 
--- a use at an instruction
+-- a use by the instruction at this address
 abbrev pub clean : {A : Type 0} → ℕ → Result A Cause → Result A Stop
 clean here (Ok x) = Ok x
 clean here (Err cause) = Err (Unclean here cause)
 
--- an access at an instruction
+-- an access by the instruction at this address
 abbrev pub there : {A : Type 0} → ℕ → Result A Refusal → Result A Stop
 there here (Ok x) = Ok x
 there here (Err Refused) = Err (Address here)
 there here (Err Shut) = Err (Unclean here Linker)
 
--- a refused access beside another use, which was asked before
+-- a refused access, with another use that was made before it
 abbrev pub refused_with : {A : Type 0} → ℕ → Refusal → Result A Cause → Stop
 refused_with here Refused (Ok x) = Address here
 refused_with here Refused (Err cause) = Unclean here cause
@@ -45,13 +45,13 @@ pub record After (W F M : Type 0) : Type 0 where
 abbrev pub left : {W F M : Type 0} → State W F → M → After W F M
 left state memory = record { state = state; memory = memory }
 
--- what a call returned and left is what is said, and a stop leaves all as it was
+-- the call returned and left what is defined; a stop changes nothing
 abbrev pub Leaves : {W F M : Type 0} → Result (Unit {0}) Stop → After W F M → After W F M → Result (After W F M) Stop
     → Type 0
 Leaves (Ok done) old new next = next ≡ Ok new
 Leaves (Err stop) old new next = (next ≡ Err stop) × (new ≡ old)
 
--- the same of a step that is made over a memory of ranges
+-- the same for a step over a memory of ranges
 abbrev pub Does : {W F B : Type 0} → Operations W F B → Result (Unit {0}) Stop → State W F → AddressSpace B → State W F
     → AddressSpace B
     → (Operations W F B → Accesses (AddressSpace B) B → State W F → AddressSpace B

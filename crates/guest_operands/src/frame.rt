@@ -1,4 +1,4 @@
-//! What stands around an instruction's operation.
+//! The surroundings of an instruction's operation: the next address and the offset fields.
 
 ghost use Rattle.std.specs.Prelude.{◌≡◌};
 ghost use Rattle.guest_operands.specs.Ranges.{is_field_of};
@@ -8,20 +8,20 @@ use crate::space::Space;
 use amd64_subset::Decoded;
 use guest_arithmetic::Values;
 
-/// What stands around an instruction's operation.
+/// The parts of an instruction besides its operation: the next address, the numbers and their fields.
 #[derive(Clone, Copy, Debug)]
 pub struct Frame {
-    /// Where the next instruction begins.
+    /// The address of the next instruction.
     pub next: u64,
     pub displacement: u64,
     pub immediate: u64,
-    /// The displacement's place, where it is an offset field.
+    /// The displacement's address, if it is an offset field.
     pub displacement_field: Option<u64>,
-    /// The immediate's place, where it is an offset field.
+    /// The immediate's address, if it is an offset field.
     pub immediate_field: Option<u64>,
 }
 
-/// The place of a part of an instruction, where it is an offset field.
+/// The address of a part of an instruction, if an offset field begins there.
 fn field<V: Values, S: Space<V>>(space: &S, here: u64, within: Option<u8>) -> Option<u64>
     ensures { result ≡ field_at (is_field_of (S.memory space.now)) here within }
 {

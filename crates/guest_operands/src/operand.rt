@@ -1,4 +1,4 @@
-//! What operands are: addresses, and words that are carried.
+//! Operands: addresses, and words that are moved.
 
 ghost use Rattle.std.specs.Prelude.{◌≡◌, ◌<◌, ◌%◌, if◌then◌else◌};
 ghost use Rattle.guest_operands.specs.Operand.{factor_of, size_for, charged, unmoved, moved_by, base_of, index_of, address_of, kept, kept_byte, carried_as, carried};
@@ -23,7 +23,7 @@ fn factor(scale: Scale) -> u64
     }
 }
 
-/// How many bytes an operand of the width has.
+/// How many bytes an operand of this width has.
 pub fn size(width: Width) -> Size
     ensures { result ≡ size_for width }
 {
@@ -33,7 +33,7 @@ pub fn size(width: Width) -> Size
     }
 }
 
-/// Where an offset field stands, any other cause is a misuse of the field.
+/// The answer; if the number is an offset field, any cause becomes a misuse of the field.
 pub fn charged<A: Copy>(field: Option<u64>, answer: Result<A, Cause>) -> Result<A, Cause>
     ensures { result ≡ charged field answer }
 {
@@ -43,7 +43,7 @@ pub fn charged<A: Copy>(field: Option<u64>, answer: Result<A, Cause>) -> Result<
     }
 }
 
-/// A number that stands in an instruction, where no base is added.
+/// A number in an instruction that is not added to a base.
 pub fn unmoved<V: Values>(field: Option<u64>, number: u64) -> Result<u64, Cause>
     ensures { result ≡ unmoved V.operations field number }
 {
@@ -53,7 +53,7 @@ pub fn unmoved<V: Values>(field: Option<u64>, number: u64) -> Result<u64, Cause>
     }
 }
 
-/// A base with a number that stands in an instruction.
+/// A base plus a number in the instruction.
 fn moved_by<V: Values>(field: Option<u64>, number: u64, word: V::Word) -> Result<u64, Cause>
     ensures { result ≡ moved_by V.operations field number word }
 {
@@ -63,7 +63,7 @@ fn moved_by<V: Values>(field: Option<u64>, number: u64, word: V::Word) -> Result
     }
 }
 
-/// The base of an address with the displacement.
+/// The base of an address plus the displacement.
 #[tactic(auto, unfolding(crate::specs::Operand::base_of))]
 fn base<V: Values>(frame: &Frame, registers: &Registers<V::Word>, base: Base) -> Result<u64, Cause>
     ensures { result ≡ base_of V.operations frame.now.displacement_field frame.now.displacement frame.now.next
@@ -83,7 +83,7 @@ fn base<V: Values>(frame: &Frame, registers: &Registers<V::Word>, base: Base) ->
     }
 }
 
-/// The index of an address, times its factor.
+/// The index of an address times its factor.
 #[tactic(auto, unfolding(crate::specs::Operand::index_of))]
 fn index<V: Values>(registers: &Registers<V::Word>, index: Option<Index>) -> Result<u64, Cause>
     ensures { result ≡ index_of V.operations registers.now index }
@@ -113,14 +113,14 @@ pub fn address<V: Values>(
     Ok(base.wrapping_add(index).wrapping_add(segment))
 }
 
-/// What the FS prefix adds.
+/// What the FS prefix adds: the thread pointer, or 0 without the prefix.
 fn segment(is_prefixed: bool, thread_pointer: u64) -> u64
     ensures { result ≡ (if is_prefixed then thread_pointer else 0) }
 {
     if is_prefixed { thread_pointer } else { 0 }
 }
 
-/// A register's word as it is carried at a width.
+/// A register's word, moved at a width.
 #[tactic(auto, unfolding(crate::specs::Operand::kept))]
 pub fn kept<V: Values>(width: Width, word: V::Word) -> V::Word
     ensures { result ≡ kept V.operations width word }
@@ -131,7 +131,7 @@ pub fn kept<V: Values>(width: Width, word: V::Word) -> V::Word
     }
 }
 
-/// A word modulo a number, or nothing known of it where it is no number.
+/// A word modulo a number; if the word is not a number, nothing is known of the result.
 fn low<V: Values>(word: V::Word, modulus: u64) -> V::Word
     requires { 0 < modulus }
     ensures { result ≡ carried_as V.operations (λ number. number % modulus) (V.operations.number_of word) }
@@ -142,7 +142,7 @@ fn low<V: Values>(word: V::Word, modulus: u64) -> V::Word
     }
 }
 
-/// A word's lowest byte as it is carried.
+/// A word's lowest byte, moved.
 #[tactic(auto, unfolding(crate::specs::Operand::kept_byte))]
 pub fn kept_byte<V: Values>(word: V::Word) -> V::Word
     ensures { result ≡ kept_byte V.operations word }
@@ -150,7 +150,7 @@ pub fn kept_byte<V: Values>(word: V::Word) -> V::Word
     low::<V>(word, 256)
 }
 
-/// What an operand holds, to be carried.
+/// The operand's word, to be moved and not used.
 #[tactic(auto, unfolding(crate::specs::Operand::carried))]
 pub fn carried<V: Values, S: Space<V>>(
     width: Width,

@@ -17,7 +17,7 @@ use crate::uses::{store, used};
 use amd64_subset::{Operand, Register, Width};
 use guest_arithmetic::{Cause, Values, both, low};
 
-/// Where a result goes.
+/// The destination of a result.
 #[derive(Clone, Copy, Debug)]
 pub enum Slot {
     Register(Register),
@@ -25,7 +25,7 @@ pub enum Slot {
     Place(u64),
 }
 
-/// An operand that was read to be used, with what was used beside it.
+/// An operand's number and its slot, and the number of the other use.
 #[derive(Clone, Copy, Debug)]
 pub struct Taken {
     pub slot: Slot,
@@ -33,7 +33,7 @@ pub struct Taken {
     pub other: u64,
 }
 
-/// A word's use at a width.
+/// A word's number at a width.
 #[tactic(auto, unfolding(crate::specs::Operand::number_at))]
 pub fn number_at<V: Values>(width: Width, word: V::Word) -> Result<u64, Cause>
     ensures value { result ≡ number_at V.operations width word }
@@ -42,7 +42,7 @@ pub fn number_at<V: Values>(width: Width, word: V::Word) -> Result<u64, Cause>
     Ok(low(width, V::number_of(word)?))
 }
 
-/// A cause beside another use.
+/// The cause, or that of the other use if it comes first.
 fn with(cause: Cause, other: Result<u64, Cause>) -> Cause
     ensures { result ≡ cause_with cause other }
 {
@@ -52,7 +52,7 @@ fn with(cause: Cause, other: Result<u64, Cause>) -> Cause
     }
 }
 
-/// The use of a word that is loaded, beside another use.
+/// The number of a loaded word, with another use.
 fn weighed<V: Values, S: Space<V>>(
     width: Width,
     here: u64,
@@ -72,7 +72,7 @@ fn weighed<V: Values, S: Space<V>>(
     }
 }
 
-/// What stands at an address, to be used beside another use.
+/// The number at an address, with another use.
 #[tactic(auto, unfolding(crate::specs::Operand::taken_at))]
 fn take_at<V: Values, S: Space<V>>(
     width: Width,
@@ -99,7 +99,7 @@ fn take_at<V: Values, S: Space<V>>(
     }
 }
 
-/// What an operand holds, to be used beside another use.
+/// The operand's number, with another use.
 #[tactic(auto, unfolding(crate::specs::Operand::taken))]
 pub fn take_operand<V: Values, S: Space<V>>(
     width: Width,
@@ -131,7 +131,7 @@ pub fn take_operand<V: Values, S: Space<V>>(
     }
 }
 
-/// Puts a result into its place.
+/// Writes a result to its slot.
 #[tactic(auto, unfolding(crate::specs::Operand::put))]
 pub fn put<V: Values, S: Space<V>>(
     width: Width,

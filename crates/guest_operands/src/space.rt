@@ -1,4 +1,4 @@
-//! What a memory lets a machine do.
+//! The accesses that a memory offers a machine.
 
 ghost use Rattle.std.specs.Prelude.{◌≡◌, ◌≤◌, length, take};
 ghost use Rattle.guest_operands.specs.Access.{bytes_in, fetch_of};
@@ -6,7 +6,7 @@ ghost use Rattle.guest_operands.specs.Ranges.{AddressSpace, range_accesses, is_f
 
 use guest_arithmetic::Values;
 
-/// What is done with a byte of memory.
+/// The kinds of access to a byte of memory.
 #[derive(Clone, Copy, PartialEq, Eq, Debug)]
 pub enum Access {
     Read,
@@ -35,32 +35,32 @@ impl Size {
     }
 }
 
-/// A thread's memory. It stands for two finite lists: ranges of bytes with their rights, and the
-/// places where offset fields begin. A memory may be made of more, as of the modules whose blocks its
-/// ranges are: of all that, `rest` says what no access changes.
+/// A thread's memory. It stands for two finite lists: ranges of bytes with their rights, and the addresses where
+/// offset fields begin. A memory may hold more, such as the modules that own the blocks in its ranges; `rest` is the
+/// part of that that no access changes.
 pub trait Space<V: Values> {
-    /// What no access changes, `()` where there is nothing but bytes.
+    /// The part that no access changes; `()` if there is nothing but bytes.
     type Rest;
 
     ghost memory: { Self → AddressSpace V.Byte };
 
     ghost rest: { Self → Self.Rest };
 
-    /// The next 15 bytes of code, or those up to the first that may not be run. Answers how many.
+    /// Writes the next 15 bytes of code to `into`, or those up to the first that may not be run. Returns how many.
     fn fetch(&self, address: u64, into: &mut [u8; 15]) -> u8
         ensures count { result ≡ length (fetch_of (range_accesses V.operations) (memory self.now) address) }
         ensures bytes { take result into.new ≡ fetch_of (range_accesses V.operations) (memory self.now) address };
 
-    /// The word of so many bytes, unless one of them may not be read.
+    /// The word of `size` bytes at `address`, unless one of them may not be read.
     fn load(&self, address: u64, size: Size) -> Option<V::Word>
         ensures { Loads V.operations result (memory self.now) address size };
 
-    /// Writes the word's lowest bytes, unless one of them may not be written: then none is.
+    /// Writes the word's lowest `size` bytes. If one of them may not be written, it writes none and returns false.
     fn store(&mut self, address: u64, size: Size, word: V::Word) -> bool
         ensures stores { Stores V.operations result (memory self.old) (memory self.new) address size word }
         ensures rest { rest self.new ≡ rest self.old };
 
-    /// Whether an offset field begins there.
+    /// Whether an offset field begins at `address`.
     fn is_field(&self, address: u64) -> bool
         ensures { result ≡ is_field_of (memory self.now) address };
 }

@@ -32,9 +32,9 @@ pub struct Registers<W> {
 pub struct State<W, F> {
     pub registers: Registers<W>,
     pub flags: Flags<F>,
-    /// Where the next instruction begins.
+    /// The address of the next instruction.
     pub place: u64,
-    /// What the FS prefix adds to an address.
+    /// The thread pointer, which the FS prefix adds to an address.
     pub thread_pointer: u64,
 }
 
@@ -86,7 +86,7 @@ pub fn set_register<W: Copy>(registers: &mut Registers<W>, register: Register, w
     }
 }
 
-/// A machine before a call's first step.
+/// A machine before the first step of a call.
 #[tactic(auto, unfolding(crate::specs::State::start_of))]
 pub fn start<V: Values>(
     place: u64,

@@ -1,20 +1,20 @@
-//! Why a run does not go on.
+//! Why a run stops.
 
 use guest_arithmetic::Cause;
 
-/// Why a run does not go on. Each address is that of the instruction, of which nothing was done.
+/// Why a run stops. Each address is that of the instruction that was not done.
 #[derive(Clone, Copy, PartialEq, Eq, Debug)]
 pub enum Stop {
-    /// The call is over: the next place is 0x2000. The number in %rax.
+    /// The call is over: the next address is 0x2000. Holds the number in %rax.
     Returned(u64),
-    /// Another has to answer: the address is 0x1000 or 0x1800.
+    /// The caller has to answer a look: the address is 0x1000 or 0x1800.
     Look(u64),
-    /// A byte may not be so accessed. The address is the instruction's, and not the byte's.
+    /// A byte does not allow the access. Holds the instruction's address, not the byte's.
     Address(u64),
-    /// No instruction may be fetched there, or it is ud2.
+    /// No instruction can be fetched there, or it is ud2.
     Code(u64),
     /// The step has no meaning.
     Unclean(u64, Cause),
-    /// The limit is reached.
+    /// The limit of steps is reached.
     Steps(u64),
 }

@@ -9,7 +9,7 @@ use crate::space::{Size, Space};
 use crate::stop::Stop;
 use guest_arithmetic::{Cause, Values};
 
-/// A use by the instruction at a place.
+/// The answer of a use, with a cause made a stop of the instruction at `here`.
 pub fn used<A: Copy>(here: u64, answer: Result<A, Cause>) -> Result<A, Stop>
     ensures { result ≡ clean here answer }
 {
@@ -19,7 +19,7 @@ pub fn used<A: Copy>(here: u64, answer: Result<A, Cause>) -> Result<A, Stop>
     }
 }
 
-/// A load by the instruction at a place.
+/// A load by the instruction at `here`.
 pub fn load<V: Values, S: Space<V>>(
     space: &S,
     here: u64,
@@ -35,7 +35,7 @@ pub fn load<V: Values, S: Space<V>>(
     }
 }
 
-/// A store by the instruction at a place.
+/// A store by the instruction at `here`.
 pub fn store<V: Values, S: Space<V>>(
     space: &mut S,
     here: u64,

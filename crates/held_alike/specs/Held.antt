@@ -1,4 +1,4 @@
--- What a thread holds, by meaning and by machine: when it is the same.
+-- The relation of what a thread holds, in the meaning and in the machine.
 use Rattle.std.specs.Prelude.{ℕ, List, All}
 use Rattle.guest_machine.specs.Follow.{All2}
 use Rattle.job_meaning.specs.declared.values.Byte.{Byte}
@@ -7,7 +7,7 @@ use Rattle.thread_blocks.specs.Instances.{Loads}
 use Rattle.tied_meaning.specs.Numbers.{Setting}
 use Rattle.tied_meaning.specs.Threads.{IsPlaced, SameOwned}
 
--- ranges of the same owners in the same order, byte by byte; and each lies where its instance has it for this thread,
--- and is as long as it has to be
+-- ranges of the same owners in the same order, related byte by byte; and each has the address and size that its
+-- instance gives it for this thread
 abbrev pub SameHeld : Setting → Loads ℕ → ℕ → List (Owned Byte) → List (Owned ℕ) → Type 0
 SameHeld g q thread xs ys = All2 (SameOwned g) xs ys × All (IsPlaced g q thread) ys

@@ -1,4 +1,4 @@
--- The laws of what threads hold: over any setting and any loads that are tied, at the events that the job ends with.
+-- The laws of what threads hold: for any setting and any loads that are tied, at the events that the job ends with.
 use Rattle.std.specs.Prelude.{ℕ, List}
 use Rattle.job_meaning.specs.declared.values.Byte.{Byte}
 use Rattle.loaded_modules.specs.declared.instance.Instance.{Instance}
@@ -13,7 +13,7 @@ use Rattle.tied_meaning.specs.Threads.{AtRest, SameData, Waiting}
 use Rattle.tied_meaning.specs.Ties.{AreTied}
 use Rattle.held_alike.specs.Held.{SameHeld}
 
--- one thing that is done to what a thread holds, on both sides: it keeps what is the same
+-- a change of what a thread holds, on both sides, keeps it related
 abbrev pub KeepsHeld : Setting → Loads ℕ → ℕ → (List (Owned Byte) → List (Owned Byte))
     → (List (Owned ℕ) → List (Owned ℕ)) → Type 0
 KeepsHeld g q thread change change' = (xs : List (Owned Byte)) (ys : List (Owned ℕ)) → SameHeld g q thread xs ys
@@ -37,7 +37,7 @@ LoadsKeepHeld = (g : Setting) (m : Meaning) (q : Loads ℕ) (history : List Even
     → (thread : ℕ) (seen : List Event) → IsFront seen history → (x : Instance)
     → KeepsHeld g q thread (loaded_at m.loads thread seen x) (loaded_at q thread seen x)
 
--- the data of a job, lent to a thread for its turn and taken back: of any loads, tied or not
+-- the data of a job, lent to a thread for its turn and taken back: for any loads, tied or not
 abbrev pub DataAreLentAlike : Type 0
 DataAreLentAlike = (g : Setting) (m : Meaning) (q : Loads ℕ) (history : List Event) (thread : ℕ)
     → AreLent (λ i. Waiting g m q history thread) (λ i. AtRest g m q history thread) (SameData g q) thread

@@ -1,4 +1,4 @@
-//! Tests of `decode`, `begins` and `encode`, against what GNU as and objdump make of each row of the opcode map.
+//! Tests of `decode`, `begins` and `encode` against GNU as and objdump, for each row of the opcode map.
 
 use amd64_encoder::encode;
 use amd64_subset::{begins, decode};
@@ -15,19 +15,19 @@ use corners::CORNERS;
 use listing::{OTHERS, SHORTEST};
 use written::WRITTEN;
 
-/// The columns of a table's line, of which the last is free text.
+/// The three columns of a table's line; the last is free text.
 fn columns(line: &str) -> Option<(&str, &str, &str)> {
     let (first, rest) = line.split_once(' ')?;
     let (second, text) = rest.trim_start().split_once(' ')?;
     Some((first, second, text.trim_start()))
 }
 
-/// The bytes that a column has in hexadecimal digits.
+/// The bytes that a column writes in hexadecimal digits.
 fn bytes(alloc: Global, digits: &str) -> Result<Vec<u8>, Fail> {
     Ok(hex::decode(alloc, digits).ok().ok_or("hexadecimal digits")?)
 }
 
-/// No front of an instruction's bytes is one, and each begins one.
+/// Checks that no proper front of an instruction's bytes is an instruction, and that each begins one.
 fn checks_fronts(rt: &impl Abort, bytes: &[u8], line: &str) {
     assert!(rt; !begins(bytes), "{line}");
     for (end, _) in bytes.iter().enumerate() {
@@ -37,8 +37,8 @@ fn checks_fronts(rt: &impl Abort, bytes: &[u8], line: &str) {
     }
 }
 
-/// The instruction of a line is read with its length and its text, and each of its fronts begins a
-/// spelling and is none.
+/// Checks that the line's instruction decodes with its length and its text, and that each proper front of its bytes
+/// begins a spelling and is not one.
 fn reads(rt: &impl Abort, alloc: Global, line: &str) -> Result<(), Fail> {
     let (address, digits, text) = columns(line).ok_or("three columns")?;
     let address = u64::from_str_radix(address, 16).ok().ok_or("an address")?;
@@ -62,7 +62,7 @@ fn reads_what_objdump_prints(rt: HostRuntime) -> Result<(), Fail> {
     Ok(())
 }
 
-/// The bytes of a line are read with its length, if it has one, and begin a spelling where it says so.
+/// Checks that the line's bytes decode with its length, if it has one, and begin a spelling if it says so.
 fn keeps(rt: &impl Abort, alloc: Global, line: &str) -> Result<(), Fail> {
     let (digits, len, text) = columns(line).ok_or("three columns")?;
     let bytes = bytes(alloc, digits)?;
@@ -81,7 +81,7 @@ fn keeps_to_the_corners(rt: HostRuntime) -> Result<(), Fail> {
     Ok(())
 }
 
-/// What is read of the first bytes is written as the second, nothing behind them, and read again.
+/// Checks that the instruction decoded from `from` is written as `to`, with nothing after it, and decodes again.
 fn writes(rt: &impl Abort, from: &[u8], to: &[u8]) -> Result<(), Fail> {
     let Some(read) = decode(from) else {
         return Err(Fail::from("it is read"));

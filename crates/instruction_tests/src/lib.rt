@@ -1,7 +1,7 @@
-//! Tests of reading and writing instructions, by public calls alone.
+//! Tests of the instruction decoder and encoder, by public calls alone.
 //!
-//! They stand in a crate of their own, so that the crates that they test are proved once. What they expect comes from
-//! outside: from GNU as, which wrote the bytes, and from objdump, which printed the text.
+//! They are a crate of their own, so that the crates under test are proved once. The expected results come from
+//! outside: GNU as wrote the bytes, and objdump printed the text.
 #![tactic(auto)]
 
 #[cfg(test)]

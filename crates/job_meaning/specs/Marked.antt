@@ -1,4 +1,4 @@
--- Marked values: what only the linker knows is a token, which may be carried and is no number.
+-- Marked values: what only the linker knows is a token, which may be moved and is not a number.
 use Rattle.std.specs.Prelude.{ℕ, ◌+◌, ◌%◌, ◌^◌, ◌==◌, ◌&&◌, Bool, false, List, [], ◌∷◌, Option, Some, None, Result, Ok, Err, if◌then◌else◌}
 use Rattle.guest_arithmetic.specs.declared.cause.Cause.{Cause}
 use Rattle.guest_arithmetic.specs.declared.cause.Cause.TheVariants as cause
@@ -13,7 +13,7 @@ use Rattle.job_meaning.specs.declared.values.Flag.TheVariants.{Truth, Unsettled}
 use Rattle.job_meaning.specs.declared.values.Byte.{Byte}
 use Rattle.job_meaning.specs.declared.values.Byte.TheVariants.{Value, Hidden, Part}
 
--- why a token is no number
+-- why a token is not a number
 abbrev pub cause_of : Token → Cause
 cause_of (Base block) = cause.Base
 cause_of (Descriptor instance symbol) = cause.Descriptor
@@ -61,14 +61,14 @@ values_of (Value number ∷ bytes) = with_value number (values_of bytes)
 values_of (Hidden ∷ bytes) = None
 values_of (Part token k ∷ bytes) = None
 
--- whether bytes are a token's, from byte k up to byte 7
+-- whether the bytes are those of a token, from byte k up to byte 7
 abbrev pub are_parts : Token → ℕ → List Byte → Bool
 are_parts token k [] = k == 8
 are_parts token k (Value number ∷ bytes) = false
 are_parts token k (Hidden ∷ bytes) = false
 are_parts token k (Part other j ∷ bytes) = (is_same token other && (k == j)) && are_parts token (k + 1) bytes
 
--- bytes 0 to 7 of one token are that token; of any others that are not all values nothing is known
+-- bytes 0 to 7 of one token are that token; nothing is known of any others that are not all values
 abbrev pub whole : List Byte → Word
 whole [] = Undefined
 whole (Value number ∷ bytes) = Undefined
@@ -79,7 +79,7 @@ abbrev pub joined_as : Option (List ℕ) → List Byte → Word
 joined_as (Some numbers) bytes = Number (number_from numbers % 2 ^ 64)
 joined_as None bytes = whole bytes
 
--- owner: the instance whose code stands at a place
+-- owner: the instance whose code lies at an address
 module _ (owner : ℕ → ℕ) where
   -- an offset field may be added to a base of the instance that the code belongs to, and to nothing else
   abbrev pub moved_in : Word → ℕ → ℕ → Result ℕ Cause

@@ -1,4 +1,4 @@
--- Whose code stands at a place: an instance's bias says it.
+-- The instance whose code lies at an address: its load bias tells it.
 use Rattle.std.specs.Prelude.{ℕ, ◌-◌, ◌/◌, ◌^◌, nat_lt, if◌then◌else◌}
 
 -- instance i of a module lies at 2^32 + i * 2^26, and an executable, instance 1, below 2^32

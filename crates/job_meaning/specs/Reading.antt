@@ -1,5 +1,5 @@
--- How an instruction is read from bytes of which some are missing, and what a step comes to that reaches for what is the
--- linker's.
+-- How an instruction is decoded from bytes of which some are missing, and the cause of a step that accesses what is
+-- the linker's.
 use Rattle.std.specs.Prelude.{ℕ, zero, suc, ◌==◌, Bool, false, List, ◌++◌, replicate, Option, Some, None, Result, Err, if◌then◌else◌}
 use Rattle.amd64_subset.specs.declared.instr.Decoded.{Decoded}
 use Rattle.amd64_subset.specs.Decoding.{decoded}
@@ -10,12 +10,12 @@ use Rattle.guest_operands.specs.declared.stop.Stop.TheVariants.{Unclean}
 use Rattle.guest_machine.specs.Access.{next_place}
 use Rattle.guest_arithmetic.specs.Cause.{first_cause}
 
--- the place so many bytes behind another
+-- the address this many bytes after another
 abbrev pub place_at : ℕ → ℕ → ℕ
 place_at place zero = place
 place_at place (suc k) = place_at (next_place place) k
 
--- the instruction that bytes spell; where some are missing, the one that they spell with zeros for those
+-- the instruction that bytes spell; if some are missing, the one that they spell with zeros in their place
 unfoldable pub completed : List ℕ → Option Decoded
 completed bytes = decoded (bytes ++ replicate 15 0)
 
@@ -23,7 +23,7 @@ abbrev pub is_at : Option ℕ → ℕ → Bool
 is_at None k = false
 is_at (Some at) k = at == k
 
--- what a step's cause is that reaches for what is the linker's: of two the one that comes first
+-- the cause of a step that accesses what is the linker's: of two the one that comes first
 abbrev pub linker_with : {A : Type 0} → Result A Stop → Cause
 linker_with (Err (Unclean at why)) = first_cause why cause.Linker
 linker_with other = cause.Linker

@@ -1,4 +1,4 @@
-//! Marked values, as a machine computes with them.
+//! Marked values as the values of a machine.
 
 ghost use Rattle.std.specs.Prelude.{◌≡◌, ◌+◌, ◌%◌, ◌^◌, ◌≤◌, ◌++◌, length};
 ghost use Rattle.std.specs.Option.{option_map};
@@ -11,10 +11,10 @@ ghost use Rattle.job_meaning.specs.Owner.{owner_at};
 use crate::values::{Block, Byte, Flag, Token, Word};
 use guest_arithmetic::{Cause, Four, Values};
 
-/// Marked values, for a machine that finds out whether a program is clean.
+/// Marked values, for a machine that decides whether a program is clean.
 pub struct MarkedValues;
 
-/// The instance whose code stands at a place.
+/// The instance whose code lies at an address.
 #[tactic(auto, unfolding(crate::specs::Owner::owner_at))]
 pub fn owner(place: u64) -> u64
     ensures { result ≡ owner_at place }
@@ -43,7 +43,7 @@ fn is_same(token: &Token, other: &Token) -> bool
     }
 }
 
-/// Why a token is no number.
+/// Why a token is not a number.
 fn cause(token: &Token) -> Cause
     ensures { result ≡ cause_of token.now }
 {
@@ -53,7 +53,7 @@ fn cause(token: &Token) -> Cause
     }
 }
 
-/// The number that bytes spell, the lowest first, modulo 2^64, where each is a value.
+/// The little-endian number in the bytes, modulo 2^64, if each of them is a value.
 fn number(bytes: &[Byte]) -> Option<u64>
     ensures { result ≡ option_map (λ numbers. number_from numbers % 2 ^ 64) (values_of bytes.now) }
 {
@@ -67,7 +67,7 @@ fn number(bytes: &[Byte]) -> Option<u64>
     }
 }
 
-/// Whether bytes are a token's, from one byte of it up to its last, byte 7.
+/// Whether the bytes are those of a token, from `index` up to its last, byte 7.
 fn are_parts(token: &Token, index: u8, bytes: &[Byte]) -> bool
     requires { index + length bytes.now ≤ 8 }
     ensures { result ≡ are_parts token.now index bytes.now }
@@ -81,7 +81,7 @@ fn are_parts(token: &Token, index: u8, bytes: &[Byte]) -> bool
     }
 }
 
-/// The token whose bytes 0 to 7 these are, or what is unknown.
+/// The token whose bytes 0 to 7 these are; unknown if there is none.
 fn whole(bytes: &[Byte]) -> Word
     requires { length bytes.now ≤ 8 }
     ensures { result ≡ whole bytes.now }
@@ -92,7 +92,7 @@ fn whole(bytes: &[Byte]) -> Word
     }
 }
 
-/// The word that bytes spell, the lowest first.
+/// The word that the bytes hold, the lowest first.
 fn joined(bytes: &[Byte]) -> Word
     requires { length bytes.now ≤ 8 }
     ensures { result ≡ joined_as (values_of bytes.now) bytes.now }

@@ -1,25 +1,25 @@
-//! What registers, flags and bytes hold in the meaning.
+//! The values of registers, flags and bytes in the meaning.
 
 /// One thread's block of an instance.
 #[derive(Clone, Copy, PartialEq, Eq, Debug)]
 pub struct Block {
     pub thread: u64,
     pub instance: u64,
-    /// Where the block begins. What an offset field adds to a base is added to this.
+    /// The address of the block's first byte. An offset field is added to this.
     pub start: u64,
 }
 
-/// What stands for a number that only the linker knows.
+/// A number that only the linker knows.
 #[derive(Clone, Copy, PartialEq, Eq, Debug)]
 pub enum Token {
-    /// The base of a block: the number that the block's offsets are added to. A linker that rewrites
-    /// may make it the thread pointer.
+    /// The base of a block: the number to which the block's offsets are added. A linker that rewrites may make it the
+    /// thread pointer.
     Base(Block),
-    /// The TLS descriptor of an instance for a symbol: the instance, the symbol's number.
+    /// The TLS descriptor of an instance for a symbol: the instance's number, and the symbol's number.
     Descriptor(u64, u64),
 }
 
-/// What a register holds.
+/// The value of a register.
 #[derive(Clone, Copy, PartialEq, Eq, Debug)]
 pub enum Word {
     Number(u64),
@@ -28,7 +28,7 @@ pub enum Word {
     Marked(Token),
 }
 
-/// What a flag is.
+/// The value of a flag.
 #[derive(Clone, Copy, PartialEq, Eq, Debug)]
 pub enum Flag {
     Truth(bool),
@@ -36,12 +36,12 @@ pub enum Flag {
     Unsettled,
 }
 
-/// What a byte of memory is.
+/// The value of a byte of memory.
 #[derive(Clone, Copy, PartialEq, Eq, Debug)]
 pub enum Byte {
     Value(u8),
     /// Nothing is known of it.
     Hidden,
-    /// One byte of a token's eight, the lowest being byte 0.
+    /// One byte of a token's eight; byte 0 is the lowest.
     Part(Token, u8),
 }

@@ -1,4 +1,4 @@
--- What a row of a job's threads starts with, and what it gives back.
+-- What a row of a job's threads starts with, and its result.
 use Rattle.std.specs.Prelude.{◌≡◌, ◌+◌, ◌-◌, ◌≤◌, ℕ, min, false, List, [], ◌∷◌, ◌++◌, length, Result, Ok, Err}
 use Rattle.job_text.specs.declared.thread_lines.ThreadLine.{ThreadLine}
 use Rattle.job_text.specs.Jobs.{JobParts}
@@ -17,7 +17,7 @@ use Rattle.racing_thread.specs.Tallies.{Tally, no_tally, plus, tally_of}
 
 -- ---- passes
 
--- the pass is of this history, and speaks for so many threads from the first on
+-- the pass is of this history, and is that of `count` threads from the first on
 pub record IsReady (first count : ℕ) (shared : SharedView) (p : PassView) : Type 0 where
   pub of : p.shared ≡ shared
   pub threads : p.threads ≡ rising first count
@@ -25,7 +25,7 @@ pub record IsReady (first count : ℕ) (shared : SharedView) (p : PassView) : Ty
   pub low : 1 ≤ first
   pub few : first + count ≤ 65
 
--- its threads can race over these images: none of them did anything yet, and they share no data
+-- its threads can race over these images: none of them has done anything yet, and they share no data
 pub record CanRace (m : JobImages) (first count : ℕ) (shared : SharedView) (p : PassView) : Type 0 where
   pub ready : IsReady first count shared p
   pub fresh : p.seen ≡ []
@@ -34,18 +34,18 @@ pub record CanRace (m : JobImages) (first count : ℕ) (shared : SharedView) (p 
 
 -- ---- how often looks loaded the generation and drew a ticket
 
--- all threads from a number on together, one for each list of lines
+-- the counts of all threads from a number on together, one thread for each list of lines
 abbrev pub tallies : List (List ThreadLine) → ℕ → List (List ShownLine) → Tally
 tallies lines thread [] = no_tally
 tallies lines thread (said ∷ more) =
     plus (tally_of thread (numbered_lines 1 (of_thread lines thread)) said) (tallies lines (thread + 1) more)
 
--- a pass counted these more than it had
+-- a pass has counted this many more than before
 pub record HasCounted (tally : Tally) (old new : PassView) : Type 0 where
   pub loads : new.loads ≡ old.loads + tally.loads
   pub turns : new.turns ≡ old.turns + tally.turns
 
--- the looks of all threads of a job loaded the generation and drew a ticket just so often as the printed lines tell
+-- the looks of all threads of a job loaded the generation and drew a ticket exactly as often as the printed lines tell
 abbrev pub CountsLooks : List (List ThreadLine) → Shown → PassView → PassView → Type 0
 CountsLooks lines shown old new = HasCounted (tallies lines 1 shown.threads) old new
 
@@ -58,18 +58,18 @@ AllRaced m job history thread (said ∷ more) =
     IsRacer (job_loads m) job.fuel thread (of_thread job.lines thread) history said
     × AllRaced m job history (thread + 1) more
 
--- how many of so many threads from a number on a job has
+-- how many of `count` threads from a number on the job has
 abbrev pub present : ℕ → ℕ → ℕ → ℕ
 present threads first count = min count (threads + 1 - first)
 
--- what a row gave: each of its threads that the job has raced in what the pass has seen now
+-- the result of a row: each of its threads that the job has raced in what the pass has seen now
 pub record HasRow (m : JobImages) (job : JobParts) (first count : ℕ) (old new : PassView) (row : Shown) : Type 0 where
   pub long : length row.threads ≡ present (length job.lines) first count
   pub each : AllRaced m job new.seen first row.threads
   pub events : row.events ≡ new.seen
   pub counted : HasCounted (tallies job.lines first row.threads) old new
 
--- ---- rows made of others
+-- ---- joined rows
 
 abbrev pub together : Shown → Shown → Shown
 together left right =

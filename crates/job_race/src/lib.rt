@@ -1,9 +1,9 @@
-//! All threads of a job, running at once.
+//! Runs all threads of a job at once.
 //!
-//! `job_turns` lets a job's threads take turns in an order, so that a job has one transcript. Here each of them runs in
-//! a thread of its own, and no order is given: all that they share is one history of opens and closes
-//! ([`shared_modules`]). Two runs of one job may print different transcripts, and each is **raced** (`lawful_points`):
-//! every thread took, at lawful looks, just the turns that its lines tell of.
+//! `job_turns` lets a job's threads take turns in an order, so that a job has one transcript. Here each thread runs in
+//! a thread of the machine, and no order is given: all that they share is one history of opens and closes
+//! ([`shared_modules`]). Two runs of one job may print different transcripts. Each is **raced** (`lawful_points`):
+//! every thread took, at lawful looks, exactly the turns that its lines tell of.
 //!
 //! ```text
 //! t1: open plug / call f            t2: call f
@@ -15,10 +15,10 @@
 //!
 //! # Rows of threads
 //!
-//! There are up to 64 threads, and one pass of the shared history that speaks for all. [`race_job`] cuts it in two,
-//! gives each half to a thread of the machine, and so on down to passes of one thread each (`rows`): those run
-//! [`racing_thread::race_thread`]. What a row of threads gives is a `Row`: what each said of its lines, thread after
-//! thread, and the events that its pass has seen. Two rows are joined as their passes are:
+//! There are up to 64 threads, and at first one pass of the shared history for all of them. [`race_job`] cuts it in
+//! two, gives each half to a thread of the machine, and so on down to passes of one thread each (`rows`), which run
+//! [`racing_thread::race_thread`]. The result of a row of threads is a `Row`: the lines of each, thread after thread,
+//! and the events that its pass has seen. Two rows are joined as their passes are:
 //!
 //! ```text
 //! threads   1 2          3 4
@@ -28,15 +28,15 @@
 //!
 //! # Why it is right
 //!
-//! A thread that is over raced in the history that its pass had seen then (`IsRacer`). What says so speaks of the
-//! history in two places: each look saw a front of it, and the thread's own events in it are just those that its looks
-//! added. Both stay true when other threads add events (`proofs/Stable`). At a join the shorter of the two histories
-//! begins the longer, and what the longer has more is by none of the shorter row's threads (`shared_modules`, `Agree`).
-//! So all threads of both rows raced in the longer one (`proofs/Joined`), and in the end all did in the whole history.
+//! A finished thread raced in the history that its pass had seen by then (`IsRacer`). That statement is about the
+//! history in two places: each look saw a front of it, and the thread's own events in it are exactly those that its
+//! looks added. Both stay true when other threads add events (`proofs/Stable`). At a join the longer history begins
+//! with the shorter one, and no thread of the shorter row added the rest (`shared_modules`, `Agree`). So all threads
+//! of both rows raced in the longer one (`proofs/Joined`), and in the end all raced in the whole history.
 //!
-//! How often looks loaded the history's length and took the lock is counted by each pass, and the sums go up with the
-//! joins (`specs/Rows`, `CountsLooks`): a body that takes the lock at each look, or keeps a history of its own, is
-//! refused. That threads run at once is no theorem; `race_tests` shows it.
+//! Each pass counts how often its looks loaded the history's length and took the lock, and joins add the counts up
+//! (`specs/Rows`, `CountsLooks`). So a body that takes the lock at each look, or keeps a history of its own, can't be
+//! proved. No theorem says that threads run at once; `race_tests` shows it.
 #![tactic(auto)]
 
 mod race;

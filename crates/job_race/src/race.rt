@@ -22,11 +22,11 @@ use std::thread::Threads;
 use thread_space::JobNames;
 use transcript_text::Transcript;
 
-/// Runs all threads of a job at once over its images, and answers what they say, with the history that came of it. The
-/// pass is the one of all threads at the start, and speaks for all again. The gate is called round each line of each
-/// thread. The only error is want of memory, which stops no other thread.
+/// Runs all threads of a job at once over its images, and returns their lines and the history that they made. The pass
+/// is that of all threads before and after. The gate is called before and after each line of each thread. The only
+/// error is out of memory, which stops no other thread.
 ///
-/// None of the images may have data that programs write, since each thread runs as if it were alone.
+/// No image may have data that programs write, since each thread runs as if it were alone.
 pub fn race_job<R: Threads + Wait + Sync, G: Gate + Sync>(
     rt: &R,
     alloc: Global,

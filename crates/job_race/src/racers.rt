@@ -13,18 +13,18 @@ use std::alloc::{AllocError, Global};
 use std::sync::Wait;
 use thread_space::JobNames;
 
-/// Whoever runs the threads of a job over its images, one by one. It is a trait since `thread::join` tells what a
-/// closure ensures only where nothing that it holds names a lifetime, as `JobNames` does; a type parameter names none.
+/// Runs the threads of a job over its images, one by one. It is a trait because `thread::join` states what a closure
+/// ensures only if nothing that it holds names a lifetime, as `JobNames` does; a type parameter names none.
 pub(crate) trait Racers {
     ghost all_images: { Self → JobImages };
 
     ghost whole_job: { Self → JobParts };
 
-    /// How many threads the job has.
+    /// The number of threads that the job has.
     fn threads(&self) -> u32
         ensures { result ≡ length (whole_job self.now).lines };
 
-    /// Runs a thread that the job has, to its end.
+    /// Runs a thread of the job to its end.
     fn race<R: Wait>(
         &self,
         rt: &R,
@@ -39,7 +39,7 @@ pub(crate) trait Racers {
         ensures raced { IfOk result.1 (HasRow (all_images self.now) (whole_job self.now) thread 1 pass result.0) };
 }
 
-/// A job with the names of its images, and the gate round each line.
+/// A job with the names of its images, and the gate for each line.
 pub(crate) struct JobRacers<'j, 'n, 'm, 'g, G> {
     pub(crate) job: &'j Job,
     pub(crate) names: &'n JobNames<'m>,
@@ -69,7 +69,7 @@ impl<'j, 'n, 'm, 'g, G: Gate> Racers for JobRacers<'j, 'n, 'm, 'g, G> {
     }
 }
 
-/// A thread that the job has.
+/// Runs a thread of the job.
 fn race_one<R: Wait, G: Gate>(
     rt: &R,
     alloc: Global,

@@ -1,4 +1,4 @@
-//! What a row of threads gives.
+//! The results of a row of threads.
 
 ghost use Rattle.std.specs.Prelude.{◌≡◌, ◌≤◌, ◌∷◌, [], IfOk, length};
 ghost use Rattle.shared_modules.specs.Views.{longer};
@@ -10,8 +10,8 @@ use std::alloc::{AllocError, Global};
 use std::marker::Model;
 use transcript_text::{Line, Transcript};
 
-/// What a row of threads said of their lines, thread after thread, and the events that their pass has seen. Contracts
-/// see a `Shown`.
+/// The lines of a row of threads, thread after thread, and the events that their pass has seen. Contracts see a
+/// `Shown`.
 #[derive(Drop)]
 pub(crate) struct Row {
     threads: Vec<Vec<Line>>,
@@ -30,7 +30,7 @@ impl Model for Row {
     } };
 }
 
-/// The longer of two lists; the first where they are of one length.
+/// The longer of two lists; the first if they have the same length.
 fn longer(first: Vec<Event>, second: Vec<Event>) -> Vec<Event>
     ensures { result.items ≡ longer first.items second.items }
 {
@@ -42,7 +42,7 @@ fn longer(first: Vec<Event>, second: Vec<Event>) -> Vec<Event>
 }
 
 impl Row {
-    /// No thread, and no event.
+    /// The row with no thread and no event.
     pub(crate) fn none(alloc: Global) -> Row
         ensures { result ≡ record { threads = []; events = [] } }
     {
@@ -52,7 +52,7 @@ impl Row {
         }
     }
 
-    /// What one thread gave.
+    /// The row of one thread.
     pub(crate) fn of(alloc: Global, raced: Raced) -> Result<Row, AllocError>
         ensures { IfOk result (λ row. row ≡ record { threads = raced.lines.items ∷ []; events = raced.events.items }) }
     {
@@ -62,7 +62,7 @@ impl Row {
         Ok(Row { threads, events })
     }
 
-    /// These threads, and then others: all of their lines, and the longer of the lists of events.
+    /// These threads, and then others: the lines of all, and the longer list of events.
     fn with(self, others: Row) -> Result<Row, AllocError>
         ensures { IfOk result (λ row. row ≡ together self others) }
     {
@@ -96,7 +96,7 @@ impl Row {
     }
 }
 
-/// What two rows of threads gave, the left one's threads first; want of memory in either is that of both.
+/// Joins the results of two rows, the left one's threads first. Out of memory in either is the result of both.
 pub(crate) fn together(
     left: Result<Row, AllocError>,
     right: Result<Row, AllocError>,

@@ -1,4 +1,4 @@
-//! Rows of threads that run at once, by halves.
+//! Rows of threads that run at once, each split in halves.
 
 ghost use Rattle.std.specs.Prelude.{◌≡◌, ◌≤◌, ◌+◌, ◌-◌, ◌*◌, ◌/◌, IfOk};
 ghost use Rattle.std.specs.Thread.{IsSync};
@@ -21,7 +21,8 @@ fn halve(shared: &Shared, pass: Pass, first: u32, count: u32) -> (Pass, Pass)
     shared.split(pass)
 }
 
-/// So many threads from a number on, each in a thread of its own. Those that the job does not have do nothing.
+/// Runs `count` threads from number `first` on, each in a thread of the machine. Those that the job does not have do
+/// nothing.
 #[cycle(rows)]
 pub(crate) fn race_threads<R: Threads + Wait + Sync, T: Racers + Sync>(
     rt: &R,

@@ -1,4 +1,4 @@
--- A turn with no data in its thread's hands: that of a job none of whose images has any.
+-- A turn that holds no data: in a job where no image has any.
 use Rattle.std.specs.Prelude.{◌≡◌, Bool, false, List, Option, Some, None, is_some}
 use Rattle.std.specs.List.{list_any}
 use Rattle.image_file.specs.Spelled.{Spelled}
@@ -13,12 +13,12 @@ use Rattle.thread_blocks.specs.Turns.{Thread, event_of, turn, with_event}
 use Rattle.thread_space.specs.Kept.{HasSeen}
 use Rattle.job_turns.specs.Standing.{IsSameRunner, Run, StandsFor}
 
--- whether an image, if there is one, has data that programs write
+-- whether the image, if there is one, has data that programs write
 abbrev pub has_data_in : Option Spelled → Bool
 has_data_in None = false
 has_data_in (Some image) = is_some (data_part image)
 
--- some image of a job has
+-- some image of the job has such data
 unfoldable pub has_data : JobImages → Bool
 has_data m = list_any (λ image. has_data_in (Some image)) m.images
 
@@ -27,8 +27,8 @@ pub record StandsAlone (r : Run) (seen : List Event) (t : Thread Runs Line Event
   pub stands : StandsFor r t
   pub has_seen : HasSeen r.kept.vector seen
 
--- of each thread that the old runner stands for, the turn that it takes alone at a history that these events continue is
--- one that the new runner stands for
+-- for each thread that the old runner stands for: after the turn that it takes alone, at a history that these events
+-- continue, the new runner stands for it
 pub record TakesOwnTurn (old : Run) (events : List Event) (new : Run) : Type 0 where
   pub same : IsSameRunner old new
   pub turns : (t : Thread Runs Line Event) (seen : List Event) → StandsFor old t

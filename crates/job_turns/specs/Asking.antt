@@ -1,4 +1,4 @@
--- What a thread does at its next turn, and what whoever keeps the history answers to it.
+-- What a thread asks for at its next turn, and the answer of the history's keeper.
 use Rattle.std.specs.Prelude.{ℕ, not, Option, Some, None}
 use Rattle.job_text.specs.declared.thread_lines.Action.{Action}
 use Rattle.job_text.specs.declared.thread_lines.Action.TheVariants.{Call, Open, Close, Peek}
@@ -13,7 +13,7 @@ use Rattle.job_turns.specs.declared.asking.Ask.TheVariants.{Done, Look, Opens, C
 use Rattle.job_turns.specs.declared.asking.LineAnswer.{LineAnswer}
 use Rattle.job_turns.specs.declared.asking.LineAnswer.TheVariants as answer
 
--- ---- what is asked
+-- ---- the question
 
 abbrev pub ask_by : ℕ → ℕ → Action → Ask
 ask_by line image (Call symbol a b c) = Look line
@@ -21,12 +21,12 @@ ask_by line image Open = Opens line image
 ask_by line image Close = Closes line image
 ask_by line image (Peek symbol size) = Look line
 
--- of the line that begins next, by its number, if there is one
+-- the question of the line that begins next, by its number, if there is one
 abbrev pub ask_next : ℕ → Option ThreadLine → Ask
 ask_next number None = Done
 ask_next number (Some line) = ask_by number line.image line.action
 
--- ---- what is answered, where the history leaves this
+-- ---- the answer, if the history leaves this state
 
 abbrev pub opened_at : Past → ℕ → Opened
 opened_at p image = let m = module_of (opened p image) image in

@@ -1,5 +1,4 @@
--- How far the threads of a job have come: what the code keeps between two turns, and the definition's threads that this
--- stands for.
+-- The threads of a job between two turns: what the code keeps, and the threads of the definition that it stands for.
 use Rattle.std.specs.Prelude.{◌≡◌, ◌+◌, ◌++◌, ℕ, suc, Bool, true, false, List, [], length, slice_get, Option, Some, None}
 use Rattle.job_text.specs.Jobs.{JobParts}
 use Rattle.loaded_modules.specs.Images.{JobImages, infos, last_offset}
@@ -31,7 +30,7 @@ is_done (Look line) = false
 is_done (Opens line image) = false
 is_done (Closes line image) = false
 
--- it has nothing left to do, or there is no such thread
+-- the thread has nothing left to do, or there is no such thread
 abbrev pub is_over : Option Run → Bool
 is_over None = true
 is_over (Some r) = is_done (ask_of r)
@@ -39,9 +38,10 @@ is_over (Some r) = is_done (ask_of r)
 abbrev pub is_thread_over : List Run → ℕ → Bool
 is_thread_over runs thread = is_over (at_number runs thread)
 
--- ---- what it stands for
+-- ---- the threads that it stands for
 
--- of a job with these images and this fuel, a runner and the thread that it stands for: it has seen a front of the events
+-- for a job with these images and this fuel: a runner and the thread that it stands for; it has seen a front of the
+-- events
 pub record IsRunner (m : JobImages) (fuel thread : ℕ) (events : List Event) (r : Run) (t : Thread Runs Line Event) : Type 0 where
   pub thread_is : r.kept.vector.thread ≡ thread
   pub images_are : r.kept.vector.images ≡ m
@@ -63,7 +63,7 @@ pub record Stands (m : JobImages) (fuel : ℕ) (w : Shared ℕ Bool ℕ Line) (x
   pub each : (k : ℕ) (r : Run) (t : Thread Runs Line Event) → slice_get x.runs k ≡ Some r → slice_get w.threads k ≡ Some t
       → IsRunner m fuel (suc k) w.events r t
 
--- it stands for threads of some job
+-- the code stands for threads of some job
 pub record StandsForSome (x : Progress) : Type 0 where
   pub images : JobImages
   pub fuel : ℕ
@@ -76,14 +76,14 @@ abbrev pub job_order : JobImages → ℕ → List ℕ → Shared ℕ Bool ℕ Li
 job_order m fuel order w =
     shared_order (λ thread. thread_turns (job_loads m) thread fuel) (λ thread. event_by (job_loads m) thread) order w
 
--- whatever it stood for before, it stands for that after turns in this order
+-- whatever it stood for, after turns in this order it stands for that after the same turns
 pub record TakesTurns (old : Progress) (order : List ℕ) (new : Progress) : Type 0 where
   pub turns : (m : JobImages) (fuel : ℕ) (w : Shared ℕ Bool ℕ Line) → Stands m fuel w old
       → Stands m fuel (job_order m fuel order w) new
 
 -- ---- before the first turn
 
--- it stands before the first turn of a job over these images
+-- the code stands for the threads before the first turn of a job over these images
 pub record IsFirst (m : JobImages) (job : JobParts) (x : Progress) : Type 0 where
   pub infos_are : x.history.infos ≡ infos m
   pub last_is : x.history.last_offset ≡ last_offset m

@@ -1,4 +1,4 @@
--- How contracts see a runner, and what the code keeps of it besides.
+-- A runner as contracts see it, and the invariant that the code keeps.
 use Rattle.std.specs.Prelude.{◌≡◌, ◌≤◌, ◌<◌, ◌*◌, ◌^◌, ℕ, length, Option, Some, None}
 use Rattle.job_turns.specs.declared.runner.Runner.TheInside.{Inside}
 use Rattle.thread_space.specs.Live.{HasStartups}
@@ -14,7 +14,7 @@ run_of r = record {
   said = r.said.items;
 }
 
--- a call that waits has a step to pay for its look
+-- a call that waits has a step left for its look
 abbrev pub HasSteps : ℕ → Option Waiting → Type 0
 HasSteps fuel None = Unit {0}
 HasSteps fuel (Some c) = c.machine.taken < 4 * fuel

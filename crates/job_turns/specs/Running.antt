@@ -1,4 +1,4 @@
--- How the code runs a thread's machine between two looks, and what its contracts say of that.
+-- How the code runs a thread's machine between two looks, and what its contracts state.
 use Rattle.std.specs.Prelude.{◌≡◌, ◌≤◌, ◌<◌, ◌+◌, ◌-◌, ◌==◌, ℕ, zero, suc, Bool, List, length, Option, Some, None, Result, if◌then◌else◌}
 use Rattle.std.specs.List.{find, list_any}
 use Rattle.guest_arithmetic.specs.Plain.{plain_operations}
@@ -27,16 +27,16 @@ use Rattle.job_turns.specs.declared.running.Resumed.TheVariants as resumed
 use Rattle.thread_space.specs.Kept.{HasSeen, Kept, held_at, live_in, memory_of, owned_of, shape_of}
 use Rattle.thread_space.specs.Live.{HasStartups}
 
--- a thread's memory where it saw these events
+-- a thread's memory after these events
 abbrev pub space_in : List Event → Kept → Space Event ℕ
 space_in seen k = record { seen = seen; stack = k.stack; own = ranges_in (owned_of k.vector k.pieces) }
 
 module _ (l : Loads ℕ) (thread : ℕ) where
-  -- the machine of a thread that nobody answers
+  -- the machine of a thread without a run time
   abbrev pub bare : Stepping (After ℕ Bool (Space Event ℕ))
   bare = machine plain_operations (thread_accesses l thread) no_field
 
-  -- what a run of it comes to where it is answered: a wait has a step to pay, which the answer takes
+  -- the result of its run if the run time answers: a wait still has its step to count, which the answer takes
   abbrev pub goes_on : Runs → Outcome (After ℕ Bool (Space Event ℕ)) → Outcome Runs
   goes_on h (Ended stop n at) = Ended stop n (record h { after = at })
   goes_on h (Waits zero at) = Waits zero (record h { after = at })
@@ -44,7 +44,7 @@ module _ (l : Loads ℕ) (thread : ℕ) where
       let there = record h { after = at } in
       go_on (suc n) there (run (thread_steps l thread) n) (asked_next l thread there (asked_at l thread at))
 
--- ---- what is asked for, by the words that the code finds
+-- ---- the question, by the words that the code reads
 
 abbrev pub word_in : Kept → ℕ → ℕ → Result ℕ Refusal
 word_in k address count = word_of (bytes_at (range_accesses plain_operations) (memory_of k) address count)
@@ -69,9 +69,9 @@ asked_in k state =
     let address = if is_descriptor then state.registers.rax else state.registers.rdi in
     asked_from k is_descriptor address (asker_in k address)
 
--- ---- what a run leaves
+-- ---- the result of a run
 
--- the same thread of the same job, which has seen the same
+-- the same thread of the same job, which has seen the same events
 pub record IsSameThread (old new : Kept) : Type 0 where
   pub thread : new.vector.thread ≡ old.vector.thread
   pub images : new.vector.images ≡ old.vector.images
@@ -79,12 +79,12 @@ pub record IsSameThread (old new : Kept) : Type 0 where
   pub startups : HasStartups old.vector → HasStartups new.vector
   pub pieces : length new.pieces ≡ length old.pieces
 
--- a machine over what is kept, with so many steps left
+-- a machine over what is kept, with this many steps left
 abbrev pub left_run : ℕ → List Event → Option Asked → Standing ℕ Bool → Kept → Outcome Runs
 left_run limit seen asked m k =
     run (thread_steps (job_loads k.vector.images) k.vector.thread) (limit - m.taken) (held_at seen m.state asked k)
 
--- some of its steps are made
+-- some of its steps are done
 pub record RunsUpTo (limit : ℕ) (m : Standing ℕ Bool) (k : Kept) (m' : Standing ℕ Bool) (k' : Kept) : Type 0 where
   pub shape : shape_of k' ≡ shape_of k
   pub within : m'.taken ≤ limit
@@ -99,7 +99,7 @@ abbrev pub IsCleanRan : Ran → Type 0
 IsCleanRan (ran.Over stop) = IsClean stop
 IsCleanRan (ran.Waits wanted) = Unit {0}
 
--- all of them are made, up to an end or a wait for a look
+-- all of its steps are done, up to an end or a wait for a look
 pub record RunsOn (limit : ℕ) (m : Standing ℕ Bool) (k : Kept) (result : Ran) (m' : Standing ℕ Bool) (k' : Kept) : Type 0 where
   pub same : IsSameThread k k'
   pub shape : shape_of k' ≡ shape_of k
@@ -108,14 +108,14 @@ pub record RunsOn (limit : ℕ) (m : Standing ℕ Bool) (k : Kept) (result : Ran
   pub runs : (seen : List Event) (asked : Option Asked) → HasSeen k.vector seen
       → left_run limit seen asked m k ≡ outcome_of_run seen asked result (limit - m'.taken) m'.state k'
 
--- it went on, in some steps, or came to an end
+-- the run went on for some steps, or ended
 abbrev pub RunsPart : ℕ → Standing ℕ Bool → Kept → Option Ran → Standing ℕ Bool → Kept → Type 0
 RunsPart limit m k None m' k' = RunsUpTo limit m k m' k' × (m.taken < m'.taken)
 RunsPart limit m k (Some result) m' k' = RunsOn limit m k result m' k'
 
 -- ---- an answer
 
--- what is asked for is answered at once, in one step, or the run ends there, or it waits
+-- the question is answered at once, in one step, or the run ends there, or it waits
 abbrev pub TakesStep : Option Ran → Standing ℕ Bool → Standing ℕ Bool → Type 0
 TakesStep None m m' = m'.taken ≡ m.taken + 1
 TakesStep (Some result) m m' = m' ≡ m

@@ -31,8 +31,8 @@ pub record Waiting : Type 0 where
   pub asked : Asked
   pub points : List ℕ
 
--- what contracts see of a runner: its lines and how many are begun, the most steps of the meaning that a call has, what
--- its memory keeps, the call that waits, if one does, and what it said of the lines that are over
+-- a runner as contracts see it: its lines and how many are begun, the most steps of the meaning that a call has, what
+-- its memory keeps, the call that waits, if there is one, and the lines that are over
 pub record Run : Type 0 where
   pub lines : List ThreadLine
   pub begun : ℕ
@@ -41,9 +41,9 @@ pub record Run : Type 0 where
   pub call : Option Waiting
   pub said : List Printed
 
--- ---- threads that it stands for, while the shared data are in no thread's hands
+-- ---- threads that it stands for, while no thread holds the shared data
 
--- a thread that waits holds its registers, its stack, its blocks, and what it asks for
+-- a thread that waits has its registers, its stack, its blocks, and its question
 abbrev pub waits_at : List Event → State ℕ Bool → Asked → Kept → Runs
 waits_at seen state asked k = record {
   after = left state (record { seen = seen; stack = k.stack; own = ranges_in (blocks_of k.vector) });
@@ -77,22 +77,22 @@ pub record StandsFor (r : Run) (t : Thread Runs Line Event) : Type 0 where
 
 -- ---- a turn
 
--- a thread after a turn with the shared data in its hands: the runner stands for it, the data are these, and it has seen
--- the history with its own event
+-- a thread after a turn that held the shared data: the runner stands for it, the data are these, and it has seen the
+-- history with its own event
 pub record StandsAfter (r : Run) (d : List Piece) (seen : List Event) (t : Thread Runs Line Event) : Type 0 where
   pub stands : StandsFor r (without_data t)
   pub shared : data_in (owned_by (held_in t.phase)) ≡ shared_of r.kept.vector.images r.kept.vector.past d
   pub has_seen : HasSeen r.kept.vector seen
 
--- what is the same of a runner after a turn
+-- what a turn keeps of a runner
 pub record IsSameRunner (old new : Run) : Type 0 where
   pub thread : new.kept.vector.thread ≡ old.kept.vector.thread
   pub images : new.kept.vector.images ≡ old.kept.vector.images
   pub lines : new.lines ≡ old.lines
   pub fuel : new.fuel ≡ old.fuel
 
--- of each thread that the old runner stands for, the turn at a history that these events continue, with the data as they
--- are shared there, is one that the new runner stands for
+-- for each thread that the old runner stands for: after its turn at a history that these events continue, with the
+-- data shared there, the new runner stands for it
 pub record TakesTurn (old : Run) (events : List Event) (d : List Piece) (new : Run) (d' : List Piece) : Type 0 where
   pub same : IsSameRunner old new
   pub turns : (t : Thread Runs Line Event) (seen : List Event) → StandsFor old t
@@ -114,7 +114,7 @@ pub record IsFirstRun (thread : ℕ) (m : JobImages) (job : JobParts) (r : Run) 
   pub call : r.call ≡ None
   pub said : r.said ≡ []
 
--- ---- what it does next
+-- ---- its next question
 
 abbrev pub ask_now : ℕ → List ThreadLine → Option Waiting → Ask
 ask_now begun lines (Some call) = Look begun

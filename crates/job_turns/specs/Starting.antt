@@ -1,4 +1,4 @@
--- What the first look of a thread's line comes to in the code.
+-- The first look of a thread's line, in the code.
 use Rattle.std.specs.Prelude.{◌≡◌, ℕ, ◌+◌, Bool, true, false, List, length, slice_range, nat_le, Option, Some, None, option_to_list, if◌then◌else◌}
 use Rattle.guest_arithmetic.specs.Plain.{plain_operations}
 use Rattle.guest_operands.specs.declared.state.State.{State}
@@ -23,9 +23,9 @@ use Rattle.thread_space.specs.Kept.{HasSeen, Kept, held_at}
 use Rattle.thread_space.specs.Steps.{HasData}
 use Rattle.job_turns.specs.Taking.{KeepsJob}
 
--- ---- what a first look comes to
+-- ---- the result of a first look
 
--- the thread keeps this, where it saw these events; its machine's state stays, or is that of the call
+-- the thread keeps this after these events; its machine's state stays, or is that of the call
 abbrev pub started_as : List Event → State ℕ Bool → Option Asked → Started → Kept → Begun Runs
 started_as seen state asked (Says outcome) k = SaysSo (Answered outcome) (held_at seen state asked k)
 started_as seen state asked (Calls m) k = CallsOn (held_at seen m.state asked k)
@@ -35,7 +35,7 @@ abbrev pub IsFresh : Started → Type 0
 IsFresh (Says outcome) = Unit {0}
 IsFresh (Calls m) = m.taken ≡ 0
 
--- a part of a line that begins as it is defined to, and sees this event of its own, if there is one
+-- a part of a line begins as defined, and sees its own event, if there is one
 pub record Begins (event : Option Event) (begun : List Event → Runs → Begun Runs) (old : Kept) (result : Started)
     (new : Kept) : Type 0 where
   pub keeps : KeepsJob old new
@@ -44,7 +44,7 @@ pub record Begins (event : Option Event) (begun : List Event → Runs → Begun 
   pub begins : (seen : List Event) (state : State ℕ Bool) (asked : Option Asked) → HasSeen old.vector seen
       → begun seen (held_at seen state asked old) ≡ started_as (with_event seen event) state asked result new
 
--- a line begins as it is defined to
+-- a line begins as defined
 pub record Starts (line : Line) (old : Kept) (result : Started) (new : Kept) : Type 0 where
   pub keeps : KeepsJob old new
   pub fresh : IsFresh result
@@ -58,7 +58,7 @@ pub record Starts (line : Line) (old : Kept) (result : Started) (new : Kept) : T
 
 -- ---- the parts
 
--- a call of the function of a name, in the live instance of an image
+-- a call of the function with a name, in the live instance of an image
 abbrev pub BeginsCall : ℕ → List ℕ → ℕ → ℕ → ℕ → Kept → Started → Kept → Type 0
 BeginsCall image symbol a b c old = let l = job_loads old.vector.images in let thread = old.vector.thread in
     Begins None (λ seen h. begun_in plain_operations l (shows l thread) thread symbol a b c h (instance_at l seen image)) old
@@ -77,7 +77,7 @@ BeginsClose line old = let l = job_loads old.vector.images in let thread = old.v
     Begins (unless_refused refusal (event_at thread line.number false line.told.image))
     (λ seen h. begun_close plain_operations l (shows l thread) thread line seen h refusal) old
 
--- a look at bytes of a variable, in the block of the live instance of the line's image
+-- a peek at bytes of a variable, in the block of the live instance of the line's image
 abbrev pub BeginsPeek : Line → List ℕ → ℕ → Kept → Started → Kept → Type 0
 BeginsPeek line symbol size old = let l = job_loads old.vector.images in let thread = old.vector.thread in
     Begins None (λ seen h. begun_peek plain_operations l (shows l thread) thread line symbol size h (instance_at l seen line.told.image)) old
@@ -94,13 +94,13 @@ pub record Sees (old : Kept) (e : Event) (new : Kept) : Type 0 where
   pub pieces : new.pieces ≡ old.pieces
   pub stack : new.stack ≡ old.stack
 
--- a load, where the image was not loaded before, fills the data of its instance
+-- a load fills the data of its instance, unless the image was loaded before
 abbrev pub LoadsNew : Bool → Option Instance → Kept → Kept → Type 0
 LoadsNew true x old new = new ≡ old
 LoadsNew false None old new = new ≡ old
 LoadsNew false (Some x) old new = HasData old (loaded old.vector.images x old.pieces) new
 
--- it reaches the block of a live instance
+-- the thread reaches the block of a live instance
 pub record ReachesLive (old : Kept) (x : Instance) (new : Kept) : Type 0 where
   pub keeps : KeepsJob old new
   pub past : new.vector.past ≡ old.vector.past
@@ -109,7 +109,7 @@ pub record ReachesLive (old : Kept) (x : Instance) (new : Kept) : Type 0 where
   pub pieces : new.pieces ≡ old.pieces
   pub stack : new.stack ≡ old.stack
 
--- ---- what a peek says of a block, and of where the variable lies in it, if there is one
+-- ---- what a peek shows of a block, and the variable's offset in it, if there is one
 
 abbrev pub part_shown : List ℕ → ℕ → ℕ → Outcome
 part_shown bytes size offset = if nat_le (offset + size) (length bytes)

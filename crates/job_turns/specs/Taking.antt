@@ -1,4 +1,4 @@
--- What a turn comes to behind its look: a line that is over, or a call that waits for the next look.
+-- The steps of a turn after its look: they end the line, or the call waits for its next look.
 use Rattle.std.specs.Prelude.{◌≡◌, ◌<◌, ◌-◌, ◌*◌, ℕ, Bool, List, [], ◌∷◌, ◌++◌, ◌+◌, length, Option, Some, None}
 use Rattle.guest_arithmetic.specs.Plain.{plain_operations}
 use Rattle.guest_machine.specs.Machine.{Standing}
@@ -23,7 +23,7 @@ use Rattle.thread_space.specs.Kept.{HasSeen, Kept, held_at, owned_of}
 use Rattle.thread_space.specs.Live.{HasStartups}
 use Rattle.job_turns.specs.Standing.{Run, Waiting}
 
--- a thread whose line is over with this outcome, and that keeps this where it saw these events
+-- a thread whose line is over with this outcome, and that keeps this after these events
 pub record IsOver (k : Kept) (outcome : Outcome) (points : List ℕ) (now : List Event) (todo : List Line) (said : List Said)
     (seen : List Event) (t : Thread Runs Line Event) : Type 0 where
   pub ending : Ending
@@ -45,7 +45,7 @@ TookAs limit k (taken.Waits machine asked) points now todo said seen t = t ≡ r
   seen = seen;
 }
 
--- ---- what the parts of a turn do, of every thread that keeps the same where it saw these events
+-- ---- the parts of a turn, for every thread that keeps the same after these events
 
 abbrev pub loads_in : Kept → Loads ℕ
 loads_in k = job_loads k.vector.images
@@ -57,12 +57,12 @@ pub record KeepsJob (old new : Kept) : Type 0 where
   pub startups : HasStartups old.vector → HasStartups new.vector
   pub pieces : length new.pieces ≡ length old.pieces
 
--- a call that waits has a step to pay for its look
+-- a call that waits has a step left for its look
 abbrev pub HasStepsLeft : ℕ → Taken → Type 0
 HasStepsLeft limit (taken.Over outcome) = Unit {0}
 HasStepsLeft limit (taken.Waits machine asked) = machine.taken < limit
 
--- a call runs, from its machine's steps so far up to its end or its next look
+-- a call runs, from its machine's steps so far, up to its end or its next look
 pub record RunsTo (limit : ℕ) (m : Standing ℕ Bool) (k : Kept) (result : Taken) (new : Kept) : Type 0 where
   pub keeps : KeepsJob k new
   pub past : new.vector.past ≡ k.vector.past
@@ -73,7 +73,7 @@ pub record RunsTo (limit : ℕ) (m : Standing ℕ Bool) (k : Kept) (result : Tak
       (after_run todo said seen points
       (run (thread_steps (loads_in k) k.vector.thread) (limit - m.taken) (held_at now m.state asked k)))
 
--- a line begins, which looked already
+-- a line begins after its look
 pub record BeginsTo (fuel : ℕ) (line : Line) (k : Kept) (result : Taken) (new : Kept) : Type 0 where
   pub keeps : KeepsJob k new
   pub steps : HasStepsLeft (4 * fuel) result
@@ -86,7 +86,7 @@ pub record BeginsTo (fuel : ℕ) (line : Line) (k : Kept) (result : Taken) (new 
       (after_look (thread_turns l k.vector.thread fuel) (4 * fuel) todo said seen (length seen ∷ [])
       (begun_by plain_operations l (shows l k.vector.thread) k.vector.thread line seen (held_at seen state asked k) line.told.action))
 
--- a call that waited goes on, which looked already
+-- a call that waited goes on after its look
 pub record ResumesTo (fuel : ℕ) (m : Standing ℕ Bool) (asked : Asked) (k : Kept) (result : Taken) (new : Kept) : Type 0 where
   pub keeps : KeepsJob k new
   pub steps : HasStepsLeft (4 * fuel) result
@@ -98,13 +98,13 @@ pub record ResumesTo (fuel : ℕ) (m : Standing ℕ Bool) (asked : Asked) (k : K
       (after_look (thread_turns l k.vector.thread fuel) (4 * fuel - m.taken - 1) todo said seen points
       (resumed_by l k.vector.thread seen (held_at seen m.state None k) (Some asked)))
 
--- ---- a runner once its turn is over
+-- ---- the runner after a turn
 
--- what is kept while the shared data are out of the thread's hands
+-- what is kept while the thread does not hold the shared data
 abbrev pub emptied : Kept → Kept
 emptied k = record k { pieces = [] }
 
--- what it is once a turn came to this, of a line whose looks so far have these points
+-- the runner after a turn; `points` are the event counts that the line's looks saw
 abbrev pub run_after : List ThreadLine → ℕ → ℕ → List Printed → List ℕ → Taken → Kept → Run
 run_after lines begun fuel said points (taken.Over outcome) k = record {
   lines = lines;
@@ -123,7 +123,7 @@ run_after lines begun fuel said points (taken.Waits machine asked) k = record {
   said = said;
 }
 
--- it began its next line, and its turn came to this
+-- the runner began its next line, and its turn ended with this result
 pub record BeginsLine (lines : List ThreadLine) (begun fuel : ℕ) (line : ThreadLine) (k : Kept) (said : List Printed) (r : Run)
     (d : List Piece) : Type 0 where
   pub taken : Taken
@@ -132,7 +132,7 @@ pub record BeginsLine (lines : List ThreadLine) (begun fuel : ℕ) (line : Threa
   pub pieces : d ≡ new.pieces
   pub is : r ≡ run_after lines (begun + 1) fuel said (k.vector.past.seen ∷ []) taken (emptied new)
 
--- it went on with a call, and its turn came to this
+-- the runner went on with a call, and its turn ended with this result
 pub record ResumesLine (lines : List ThreadLine) (begun fuel : ℕ) (k : Kept) (said : List Printed) (c : Waiting) (r : Run)
     (d : List Piece) : Type 0 where
   pub taken : Taken

@@ -3,6 +3,6 @@ use Rattle.std.specs.Prelude.{map}
 use Rattle.job_turns.specs.Progress.{Progress}
 use Rattle.transcript_text.specs.Texts.{Shown}
 
--- what the threads said, as far as they have come, and the events so far
+-- the lines of the threads that are over, and the events so far
 abbrev pub transcript_of : Progress → Shown
 transcript_of x = record { threads = map (λ r. r.said) x.runs; events = x.history.events }

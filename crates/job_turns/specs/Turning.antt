@@ -12,14 +12,14 @@ use Rattle.job_turns.specs.declared.asking.Ask.TheVariants.{Done, Look, Opens, C
 use Rattle.thread_space.specs.Kept.{HasSeen}
 use Rattle.job_turns.specs.Standing.{Run, TakesTurn, ask_of}
 
--- the event that a thread's ask adds to a history that leaves this, if it adds one
+-- the event that a thread's question adds to a history that leaves this state, if it adds one
 abbrev pub event_asked : ℕ → Past → Ask → Option Event
 event_asked thread p Done = None
 event_asked thread p (Look line) = None
 event_asked thread p (Opens line image) = unless_refused (open_refusal p image) (event_at thread line true image)
 event_asked thread p (Closes line image) = unless_refused (close_refusal p image) (event_at thread line false image)
 
--- the history with what the ask adds to it
+-- the history with the event of the question, if there is one
 pub record AddsAsked (thread : ℕ) (ask : Ask) (old new : History) : Type 0 where
   pub infos_are : new.infos ≡ old.infos
   pub last_is : new.last_offset ≡ old.last_offset

@@ -1,4 +1,4 @@
-//! Whether a thread can take its turns alone: no image of its job has data that all threads write.
+//! Whether threads can take their turns alone: no image of their job has data that threads write.
 
 ghost use Rattle.std.specs.Prelude.{◌≡◌};
 ghost use Rattle.loaded_modules.specs.Images.{image_at};
@@ -7,7 +7,7 @@ ghost use Rattle.job_turns.specs.Alone.{has_data, has_data_in};
 use loaded_modules::Modules;
 use module_data::data_part;
 
-/// Whether the image of a number has data that programs write.
+/// Whether the image with a number has data that programs write.
 fn has_data_at(modules: &Modules, number: u32) -> bool
     ensures { result ≡ has_data_in (image_at modules.now number) }
 {
@@ -17,7 +17,7 @@ fn has_data_at(modules: &Modules, number: u32) -> bool
     }
 }
 
-/// Whether an image of a job has data that programs write.
+/// Whether any image of a job has data that programs write.
 pub fn has_data(modules: &Modules) -> bool
     ensures { result ≡ has_data modules.now }
 {

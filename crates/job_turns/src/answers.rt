@@ -1,4 +1,4 @@
-//! What the registry of a history answers to a thread.
+//! The answers of a history's registry to a thread.
 
 ghost use Rattle.std.specs.Prelude.{◌≡◌, IfOk, OnOk};
 ghost use Rattle.module_table.specs.History.{left};
@@ -10,7 +10,7 @@ use crate::asking::{Ask, LineAnswer};
 use module_table::{CloseRefusal, OpenRefusal, Registry};
 use std::alloc::AllocError;
 
-/// The answer to an open. The only error is want of memory.
+/// The answer to an open. The only error is out of memory.
 #[tactic(auto, unfolding(module_table::specs::History::open_answer, module_table::specs::History::opened_of))]
 fn open(
     registry: &mut Registry,
@@ -28,7 +28,7 @@ fn open(
     }
 }
 
-/// The answer to a close. The only error is want of memory.
+/// The answer to a close. The only error is out of memory.
 #[tactic(auto, unfolding(module_table::specs::History::close_answer, module_table::specs::History::closed_of))]
 fn close(
     registry: &mut Registry,
@@ -46,8 +46,8 @@ fn close(
     }
 }
 
-/// The answer to what a thread asks; an open or a close that is accepted stands in the history then. The only error is
-/// want of memory.
+/// The answer to what a thread asks. An accepted open or close is added to the history. The only error is out of
+/// memory.
 pub(crate) fn answer(
     registry: &mut Registry,
     thread: u32,

@@ -12,8 +12,8 @@ use std::alloc::{AllocError, Global};
 use thread_space::JobNames;
 use transcript_text::Transcript;
 
-/// Runs all threads of a job over its images, and answers what they say: the transcript that the definitions give. The
-/// only error is want of memory.
+/// Runs all threads of a job over its images, and returns the transcript that the definitions give. The only error is
+/// out of memory.
 pub fn run_job(alloc: Global, job: &Job, modules: &Modules) -> Result<Transcript, AllocError>
     requires { modules.now.kinds ≡ map (λ image. image.kind) job.now.images }
     ensures transcript { IfOk result (λ transcript. Tells

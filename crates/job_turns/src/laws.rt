@@ -1,4 +1,4 @@
-//! Laws of runners: each function's contract is the law, and its body is empty.
+//! Laws of runners. Each function does nothing; its contract is the law.
 
 ghost use Rattle.std.specs.Prelude.{◌≡◌, false, [], ℕ};
 ghost use Rattle.loaded_modules.specs.declared.instance.Instance.{Instance};
@@ -10,7 +10,7 @@ ghost use Rattle.job_turns.specs.Alone.{has_data};
 
 use crate::runner::Runner;
 
-/// Where no image has data that programs write, no instance has any: the definitions' threads share nothing
+/// If no image has data that programs write, no instance has any: the threads of the definitions share nothing
 /// (`thread_blocks::laws` says what follows for their turns).
 #[tactic(auto, using(crate::proofs::Dataless::no_data, crate::proofs::Dataless::no_fresh))]
 pub fn instances_have_no_data()
@@ -18,7 +18,7 @@ pub fn instances_have_no_data()
     ensures bytes { (m : JobImages) (x : Instance) → has_data m ≡ false → fresh_data m x ≡ [] }
 {}
 
-/// Asks that threads may move a type's values, and share them.
+/// Compiles only if threads may move and share a type's values.
 fn crosses_threads<T: Send + Sync>() {}
 
 /// Threads may move and share a runner: one thread can make it, and another take its turns.

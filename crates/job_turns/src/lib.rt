@@ -1,9 +1,9 @@
-//! All threads of a job, turn by turn, up to their transcript.
+//! Runs all threads of a job, turn by turn, up to their transcript.
 //!
-//! A job has up to 64 threads, each with lines of its own: calls of functions, opens and closes of images, and peeks at
-//! thread-local variables. The threads never run at once. They take *turns*, and a turn is one look at the history of
-//! opens and closes with the steps up to the next look. The job's `order` says which threads take the first turns; then
-//! each thread is brought to its end, in rising number. So a job has one transcript, whatever machine runs it:
+//! A job has up to 64 threads, each with lines of its own: calls of functions, opens and closes of images, and peeks
+//! at thread-local variables. The threads never run at once. They take *turns*: a turn is one look at the history of
+//! opens and closes, and the steps up to the next look. The job's `order` says which threads take the first turns.
+//! Then the threads finish one after another, by number. So a job has one transcript, whatever machine runs it:
 //!
 //! ```text
 //! order 1 2 1
@@ -18,36 +18,35 @@
 //! ..     2        e0         line 2 closes plug                     e0 e1
 //! ```
 //!
-//! [`run_job`] is that, and its clause says so: what it answers is the transcript of `job_world`, the definition of a job
-//! over the images that are loaded. The definition is a fold over the whole order: the threads that it has are lists of
-//! ranges and states of a machine, and each turn hands the threads' shared data from one to the next. The code keeps
-//! something else: a [`Runner`] for each thread, with its memory ([`thread_space`]), one registry for the history
-//! ([`module_table`]), and one copy of the data of all images ([`module_data`]).
+//! [`run_job`] does that: its clause says that it returns the transcript of `job_world`, the definition of a job over
+//! loaded images. The definition is a fold over the whole order. Its threads are lists of ranges and states of a
+//! machine, and each turn hands the shared data on to the next. The code keeps something else: a [`Runner`] for each
+//! thread, with its memory ([`thread_space`]), one registry for the history ([`module_table`]), and one copy of the
+//! data of all images ([`module_data`]).
 //!
-//! **A runner** has the lines of one thread. A turn of it ([`Runner::turn_with`]) is a look and what comes behind it
+//! **A runner** has the lines of one thread. Its turn ([`Runner::turn_with`]) is a look and the steps after it
 //! (`taking`): the first look of a line (`lines`), or one in the middle of a call that asked for a block, and then the
-//! machine's run (`running`) up to the call's end or its next look. Where code calls `__tls_get_addr` or the function of a
-//! descriptor (psABI, "TLS Descriptors"), the machine stops, and the run time answers in one step: at once for a module
-//! that started with the program, and after a look for any other, since a module that is gone by then must not be found.
-//! The clause of a turn (`specs/Standing`, `TakesTurn`) speaks of every thread of the definitions that the runner stands
-//! for: the turn that the definitions take with it leaves a thread that the runner stands for again.
+//! machine's run (`running`) up to the call's end or its next look. When code calls `__tls_get_addr` or the function
+//! of a descriptor (psABI, "TLS Descriptors"), the machine stops, and the run time answers in one step: at once for a
+//! startup module, and after a look for any other, since a module that is closed by then must not be found. The clause
+//! of a turn (`specs/Standing`, `TakesTurn`) is about every thread of the definitions that the runner stands for:
+//! after the defined turn of that thread, the runner stands for it again.
 //!
-//! Where no image of the job has data that threads share ([`has_data`]), nothing goes from turn to turn but the history.
-//! [`Runner::turn`] is for such jobs, and its clause (`specs/Alone`, `TakesOwnTurn`) has no data in it: the turn is the one
-//! that the thread takes alone. A runner can be moved to another thread ([`laws`]), so threads that run at once can each
-//! have one. That it is the same turn as with the data in its hands, of which there are none, is shown both ways in
-//! `proofs/OwnTurns`.
+//! If no image of the job has data that threads share ([`has_data`]), only the history goes from turn to turn.
+//! [`Runner::turn`] is for such jobs, and its clause (`specs/Alone`, `TakesOwnTurn`) has no data in it: the turn is
+//! the one that the thread takes alone. A runner can be moved to another thread ([`laws`]), so threads that run at
+//! once can each have one. `proofs/OwnTurns` proves both ways that this is the same turn as one that holds empty data.
 //!
-//! Between two turns the code *stands for* the definition's threads (`specs/Progress`, `Stands`): the history and the data
-//! are the same, and each runner stands for its thread and has seen a front of the history. A turn of thread k keeps this:
+//! Between two turns the code *stands for* the threads of the definition (`specs/Progress`, `Stands`): the history and
+//! the data are the same, and each runner stands for its thread and has seen a front of the history. A turn of thread
+//! k keeps this:
 //!
-//! 1. the registry answers what the thread's next line asks, and adds its event where the open or close is accepted;
-//! 2. the thread is handed the events that it has not seen, without its own, and the answer (`specs/Turning`);
-//! 3. all other runners see no more than before, and a longer history still begins with what they saw.
+//! 1. the registry answers the thread's next line, and adds its event if it accepts the open or close;
+//! 2. the thread gets the events that it has not seen, without its own, and the answer (`specs/Turning`);
+//! 3. all other runners have seen no more than before, and the longer history still begins with what they saw.
 //!
-//! The definition brings a thread to its end by `4 * fuel + 2` turns for each of its lines, which is more than it can
-//! need; the code stops where nothing is left, since a turn of a thread that is over changes nothing
-//! (`proofs/FinishedTurns`).
+//! The definition gives a thread `4 * fuel + 2` turns for each of its lines, which is more than it can need. The code
+//! stops when nothing is left to do, since a turn of a finished thread changes nothing (`proofs/FinishedTurns`).
 #![tactic(auto)]
 
 mod alone;

@@ -1,4 +1,4 @@
-//! What the first look of a thread's line comes to.
+//! The first look of a thread's line.
 
 ghost use Rattle.std.specs.Prelude.{◌≡◌, ◌≤◌, ◌<◌, ◌+◌, ◌-◌, ◌^◌, ℕ, true, None, Some, Result, IfOk, OnOk, length};
 ghost use Rattle.guest_arithmetic.specs.Plain.{plain_operations};
@@ -25,7 +25,7 @@ use std::alloc::{AllocError, Global};
 use thread_space::{JobNames, ThreadSpace, end_of_stack, thread_pointer};
 use transcript_text::{Bytes, LineRefusal, Outcome};
 
-/// What the first look of a line comes to.
+/// The result of a line's first look.
 #[derive(Drop)]
 pub enum Started {
     /// The line is over.
@@ -42,7 +42,7 @@ fn refused(refusal: LineRefusal) -> Started
 
 // ** calls
 
-/// A machine before a call of the function at a place.
+/// A machine before a call of the function at this address.
 fn machine_at(thread: u32, place: u64, a: u64, b: u64, c: u64) -> Machine<Plain>
     requires { thread ≤ 64 }
     ensures state { result.state ≡ call_start plain_operations thread place a b c }
@@ -54,8 +54,8 @@ fn machine_at(thread: u32, place: u64, a: u64, b: u64, c: u64) -> Machine<Plain>
     machine
 }
 
-/// Begins a call of the function of a name, in the live instance of an image. It finds a fresh stack, and the blocks as
-/// the line before left them.
+/// Begins a call of the function with a name, in the live instance of an image. The call has a fresh stack, and the
+/// blocks as the line before left them.
 fn call(
     space: &mut ThreadSpace,
     names: &JobNames,
@@ -80,7 +80,7 @@ fn call(
 
 // ** opens and closes
 
-/// A thread sees its own event at once.
+/// Shows a thread its own event at once.
 fn see(space: &mut ThreadSpace, event: Event) -> Result<(), AllocError>
     requires accepted { accepts space.old.vector.past event ≡ true }
     requires room { space.old.vector.past.seen + 1 < 2 ^ 62 }
@@ -111,7 +111,7 @@ fn refused_close(refusal: CloseRefusal) -> LineRefusal
     }
 }
 
-/// Fills the data of an image that was not loaded before.
+/// Fills the data of an image, unless it was loaded before.
 fn load_new(space: &mut ThreadSpace, was: bool, image: u32) -> Result<(), AllocError>
     ensures { OnOk result (LoadsNew was
         (loaded_instance (infos space.old.vector.images) image (module_of space.old.vector.past image)) space.old space.new) }
@@ -124,7 +124,7 @@ fn load_new(space: &mut ThreadSpace, was: bool, image: u32) -> Result<(), AllocE
     Ok(())
 }
 
-/// An open that was accepted: the thread sees it, and a load fills the data of the instance.
+/// Does an open that was accepted: the thread sees it, and a load fills the data of the instance.
 fn open_accepted(
     space: &mut ThreadSpace,
     number: u32,
@@ -151,7 +151,7 @@ fn open_accepted(
     Ok(Started::Says(Outcome::Opened(instance)))
 }
 
-/// An open, as the registry answered it.
+/// Does an open as the registry answered it.
 fn open(
     space: &mut ThreadSpace,
     number: u32,
@@ -171,7 +171,7 @@ fn open(
     }
 }
 
-/// A close that was accepted.
+/// Does a close that was accepted.
 fn close_accepted(
     space: &mut ThreadSpace,
     number: u32,
@@ -193,7 +193,7 @@ fn close_accepted(
     Ok(Started::Says(Outcome::Closed))
 }
 
-/// A close, as the registry answered it.
+/// Does a close as the registry answered it.
 fn close(
     space: &mut ThreadSpace,
     number: u32,
@@ -225,7 +225,7 @@ fn reach(space: &mut ThreadSpace, instance: &Instance) -> Result<(), AllocError>
     Ok(())
 }
 
-/// The bytes of a block from an offset on, if it holds them all.
+/// The `size` bytes of a block from `offset` on, if it holds them all.
 fn part_shown(alloc: Global, block: &[u8], size: u32, offset: u64) -> Result<Outcome, AllocError>
     ensures { IfOk result (λ outcome. outcome ≡ part_shown block.now size offset) }
 {
@@ -238,7 +238,7 @@ fn part_shown(alloc: Global, block: &[u8], size: u32, offset: u64) -> Result<Out
     }
 }
 
-/// What is shown of the thread's block of an instance.
+/// The bytes of the thread's block of an instance, as the line shows them.
 fn shown(
     space: &ThreadSpace,
     instance: u32,
@@ -256,7 +256,7 @@ fn shown(
     }
 }
 
-/// Shows bytes of a variable, from the block of the live instance of the line's image. The block is reached, also where
+/// Shows bytes of a variable, from the block of the live instance of the line's image. The block is reached even if
 /// the line is then refused.
 fn peek(
     space: &mut ThreadSpace,
@@ -280,7 +280,7 @@ fn peek(
 
 // ** lines
 
-/// What an open was answered.
+/// The registry's answer to an open.
 fn open_answer(answer: Option<LineAnswer>) -> Result<Opened, OpenRefusal>
     ensures { (said : Result Opened OpenRefusal) → answer ≡ Some (LineAnswer.Opened said) → result ≡ said }
 {
@@ -290,7 +290,7 @@ fn open_answer(answer: Option<LineAnswer>) -> Result<Opened, OpenRefusal>
     }
 }
 
-/// What a close was answered.
+/// The registry's answer to a close.
 fn close_answer(answer: Option<LineAnswer>) -> Result<Closed, CloseRefusal>
     ensures { (said : Result Closed CloseRefusal) → answer ≡ Some (LineAnswer.Closed said) → result ≡ said }
 {
@@ -300,8 +300,8 @@ fn close_answer(answer: Option<LineAnswer>) -> Result<Closed, CloseRefusal>
     }
 }
 
-/// The first look of a line, of the number `number` from 1, of a thread that has seen all events. A line that opens or
-/// closes its image was answered by a registry, which has its event already: here the thread sees it.
+/// The first look of the line with number `number`, from 1, of a thread that has seen all events. A registry has
+/// already answered an open or a close of the image, and holds its event; here the thread sees that event.
 pub fn begin(
     space: &mut ThreadSpace,
     names: &JobNames,

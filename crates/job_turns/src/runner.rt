@@ -28,7 +28,7 @@ use transcript_text::{Line, Points};
 pub struct Pending {
     machine: Machine<Plain>,
     asked: Asked,
-    /// The numbers of events that its looks saw so far.
+    /// The number of events that each of its looks saw so far.
     points: Vec<u64>,
 }
 
@@ -40,7 +40,7 @@ impl Model for Pending {
     ghost view = { λ p. record { machine = p.machine; asked = p.asked; points = p.points.items } };
 }
 
-/// One thread of a job: what it does, turn by turn. Contracts see a `Run`.
+/// One thread of a job, which takes its turns. Contracts see a `Run`.
 #[derive(Drop)]
 pub struct Runner<'j, 'n, 'm> {
     alloc: Global,
@@ -66,7 +66,7 @@ impl<'j, 'n, 'm> Model for Runner<'j, 'n, 'm> {
     ghost invariant = { HoldsRun };
 }
 
-/// What a line asks of the registry, by its number.
+/// What a line asks the registry, by its number.
 fn ask_by(number: u32, line: &ThreadLine) -> Ask
     ensures { result ≡ ask_by number line.now.image line.now.action }
 {
@@ -77,7 +77,7 @@ fn ask_by(number: u32, line: &ThreadLine) -> Ask
     }
 }
 
-/// What the line of an index asks, if there is one.
+/// What the line at an index asks, if there is one.
 fn ask_next(number: u32, line: Option<&ThreadLine>) -> Ask
     ensures { result ≡ ask_next number (option_map (λ x. x.now) line.entry) }
 {
@@ -87,7 +87,7 @@ fn ask_next(number: u32, line: Option<&ThreadLine>) -> Ask
     }
 }
 
-/// What never changes of a thread.
+/// The parts of a thread that never change.
 #[derive(Clone, Copy)]
 struct Script<'j, 'n, 'm> {
     alloc: Global,
@@ -96,7 +96,7 @@ struct Script<'j, 'n, 'm> {
     fuel: u64,
 }
 
-/// The runner once a turn is over, of a line whose looks so far have these points.
+/// Rebuilds the runner after a turn. `points` are the event counts that the line's looks saw.
 fn ended<'j, 'n, 'm>(
     script: Script<'j, 'n, 'm>,
     begun: usize,
@@ -144,7 +144,7 @@ fn ended<'j, 'n, 'm>(
     })
 }
 
-/// Begins the next line, where the thread has looked and has the data in its hands.
+/// Begins the next line of a thread that has looked and holds the data.
 fn begin_line<'j, 'n, 'm>(
     script: Script<'j, 'n, 'm>,
     begun: usize,
@@ -172,7 +172,7 @@ fn begin_line<'j, 'n, 'm>(
     ended(script, begun + 1, space, said, points, taken)
 }
 
-/// Goes on with a call, where the thread has looked and has the data in its hands.
+/// Goes on with a call of a thread that has looked and holds the data.
 fn resume_line<'j, 'n, 'm>(
     script: Script<'j, 'n, 'm>,
     begun: usize,
@@ -201,8 +201,8 @@ fn resume_line<'j, 'n, 'm>(
 }
 
 impl<'j, 'n, 'm> Runner<'j, 'n, 'm> {
-    /// A thread of a job, from 1 to 64, before its first line. The only error is want of memory, and a thread of 2^31
-    /// lines and more is said to want it: a job that is read has at most 65,536.
+    /// A thread of a job, from 1 to 64, before its first line. The only error is out of memory; 2^31 lines or more
+    /// give that error too, but a job that was read has at most 65,536.
     pub fn new(
         alloc: Global,
         thread: u32,
@@ -257,9 +257,10 @@ impl<'j, 'n, 'm> Runner<'j, 'n, 'm> {
         }
     }
 
-    /// Takes the thread's next turn: a look at the events that it has not seen, and the steps up to its next look, with the
-    /// data that all threads share in its hands. An open or a close is answered as the registry of the history answers it
-    /// after those events. A refusal, which only want of memory is, drops the runner, and nothing is said of the data then.
+    /// Takes the thread's next turn: a look at the events that it has not seen, and the steps up to its next look. The
+    /// thread holds the data that all threads share. An open or a close is answered as the registry of the history
+    /// answers it after those events. The only error is out of memory: it drops the runner, and says nothing of the
+    /// data.
     pub fn turn_with(
         self,
         events: &[Event],
@@ -299,8 +300,8 @@ impl<'j, 'n, 'm> Runner<'j, 'n, 'm> {
         }
     }
 
-    /// Takes the thread's next turn as [`Runner::turn_with`] does, in a job none of whose images has data that threads
-    /// share: so nothing is handed from turn to turn but the history, and threads that run at once can take theirs.
+    /// Takes the thread's next turn as [`Runner::turn_with`] does, in a job where no image has data that threads
+    /// share. So only the history goes from turn to turn, and threads that run at once can take their turns.
     pub fn turn(
         self,
         events: &[Event],
@@ -317,7 +318,7 @@ impl<'j, 'n, 'm> Runner<'j, 'n, 'm> {
         self.turn_with(events, answer, &mut none)
     }
 
-    /// What the thread said of its lines.
+    /// The thread's lines, as far as they are over.
     pub fn lines(self) -> Vec<Line>
         ensures { result.items ≡ self.entry.said }
     {

@@ -20,34 +20,34 @@ use std::alloc::AllocError;
 use thread_blocks::Asked;
 use thread_space::{ThreadSpace, thread_pointer};
 
-/// The numbers of the registers that hold the address of what is asked for.
+/// The numbers of the registers that may hold the address of the words that ask.
 const RAX: u8 = 0;
 
 const RDI: u8 = 7;
 
-/// How a run of a thread's machine came to an end.
+/// How a run of a thread's machine ended.
 #[derive(Clone, Copy)]
 pub enum Ran {
     /// The call is over, or it stopped.
     Over(Stop),
-    /// It asks for a block, after a look.
+    /// The machine asks for a block, and needs a look.
     Waits(Asked),
 }
 
-/// What a look in the middle of a call comes to.
+/// The result of a look in the middle of a call.
 #[derive(Clone, Copy)]
 pub enum Resumed {
     /// The call goes on.
     Goes,
     /// It stopped.
     Stops(Stop),
-    /// The instance that asked is gone.
+    /// The instance that asked is closed.
     Unloaded,
 }
 
-// ** what is asked for
+// ** questions
 
-/// The number that so many bytes spell, the lowest first, unless one of them may not be read.
+/// The little-endian number in `count` bytes at `address`, unless one of them may not be read.
 fn number_at(space: &ThreadSpace, address: u64, count: u8) -> Option<u64>
     requires { count ≤ 8 }
     ensures value { ok_or result Refused ≡ word_in space.now address count }
@@ -61,7 +61,7 @@ fn number_at(space: &ThreadSpace, address: u64, count: u8) -> Option<u64>
     Some(u64::from(byte) + 256 * rest)
 }
 
-/// What the two words at an address ask for. A descriptor has both numbers in its second word.
+/// The question that the two words at an address ask. A descriptor has both numbers in its second word.
 fn asked_words(
     space: &ThreadSpace,
     asking: &Instance,
@@ -86,7 +86,7 @@ fn asked_words(
     })
 }
 
-/// The address of the words that say what is asked for: %rax has that of a descriptor, and else it is %rdi's.
+/// The address of the words that ask: %rax holds it for a descriptor, and otherwise %rdi.
 #[tactic(auto, unfolding(guest_operands::specs::State::register_of, amd64_words::specs::Register::register_of))]
 fn asked_address(machine: &Machine<Plain>, is_descriptor: bool) -> u64
     ensures { result ≡
@@ -99,7 +99,7 @@ fn asked_address(machine: &Machine<Plain>, is_descriptor: bool) -> u64
     }
 }
 
-/// What a machine asks the run time for, if a live instance asks.
+/// The machine's question to the run time, if a live instance asks.
 fn asked_at(space: &ThreadSpace, machine: &Machine<Plain>) -> Option<Asked>
     ensures { result ≡ asked_in space.now machine.now.state }
 {
@@ -111,7 +111,7 @@ fn asked_at(space: &ThreadSpace, machine: &Machine<Plain>) -> Option<Asked>
 
 // ** answers
 
-/// The word that answers: where the place lies, and for a descriptor how far behind the thread pointer.
+/// The word that answers: the byte's address, or for a descriptor its distance from the thread pointer.
 fn answer_word(space: &ThreadSpace, asked: Asked, instance: &Instance) -> u64
     ensures { result ≡ answer_word (job_loads space.now.vector.images) space.now.vector.thread asked instance.now }
 {
@@ -123,7 +123,7 @@ fn answer_word(space: &ThreadSpace, asked: Asked, instance: &Instance) -> u64
     }
 }
 
-/// Answers what is asked for with the thread's block of an instance, in one step, unless the machine can't return.
+/// Answers the question with the thread's block of an instance, in one step, unless the machine can't return.
 fn answer(
     space: &mut ThreadSpace,
     machine: &mut Machine<Plain>,
@@ -141,7 +141,7 @@ fn answer(
     machine.answer(space, word)
 }
 
-/// Answers what is asked of an image that started with the program, or tells how the run ends.
+/// Answers a question about a startup image, or says how the run ends.
 fn answer_at_once(space: &mut ThreadSpace, machine: &mut Machine<Plain>) -> Option<Ran>
     requires { machine.old.taken < 2 ^ 64 - 1 }
     ensures { AnswersLook machine.old space.old result machine.new space.new }
@@ -165,7 +165,7 @@ fn answer_at_once(space: &mut ThreadSpace, machine: &mut Machine<Plain>) -> Opti
 
 // ** runs
 
-/// Whether another has to answer, and a step is left for that.
+/// Whether the machine asks the run time, and a step is left for the answer.
 fn is_asking(machine: &Machine<Plain>, limit: u64) -> bool
     ensures { result ≡ (is_look machine.now.state.place && nat_lt machine.now.taken limit) }
 {
@@ -173,7 +173,7 @@ fn is_asking(machine: &Machine<Plain>, limit: u64) -> bool
     (place == GET_ADDRESS || place == DESCRIPTOR) && machine.taken() < limit
 }
 
-/// Runs up to a stop, and answers it if that can be at once.
+/// Runs up to a stop, and answers it if that needs no look.
 fn run_part(space: &mut ThreadSpace, machine: &mut Machine<Plain>, limit: u64) -> Option<Ran>
     requires { machine.old.taken ≤ limit }
     ensures { RunsPart limit machine.old space.old result machine.new space.new }
@@ -187,8 +187,8 @@ fn run_part(space: &mut ThreadSpace, machine: &mut Machine<Plain>, limit: u64) -
     }
 }
 
-/// Runs a thread's machine, of at most so many steps, up to its end or to where it has to look. What is asked of the
-/// images that start with the program is answered on the way.
+/// Runs a thread's machine for at most `limit` steps, up to its end or to its next look. Questions about startup
+/// images are answered on the way.
 pub fn run_on(space: &mut ThreadSpace, machine: &mut Machine<Plain>, limit: u64) -> Ran
     requires { machine.old.taken ≤ limit }
     ensures { RunsOn limit machine.old space.old result machine.new space.new }
@@ -202,8 +202,8 @@ pub fn run_on(space: &mut ThreadSpace, machine: &mut Machine<Plain>, limit: u64)
 
 // ** after a look
 
-/// Answers what was asked for, after a look, with the thread's block of the instance that has the id now. Where there is
-/// no memory for the block nothing has changed.
+/// Answers the question after a look, with the thread's block of the instance that has the id now. If there is no
+/// memory for the block, nothing has changed.
 pub fn answer_asked(
     space: &mut ThreadSpace,
     machine: &mut Machine<Plain>,

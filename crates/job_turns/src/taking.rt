@@ -1,4 +1,4 @@
-//! What a turn comes to behind its look.
+//! The steps of a turn after its look.
 
 ghost use Rattle.std.specs.Prelude.{◌≡◌, ◌≤◌, ◌<◌, ◌+◌, ◌*◌, ◌^◌, IfOk, Some, length};
 ghost use Rattle.guest_machine.specs.Clean.{IsClean};
@@ -18,7 +18,7 @@ use thread_blocks::Asked;
 use thread_space::{JobNames, ThreadSpace};
 use transcript_text::{LineFault, Outcome};
 
-/// What a turn comes to behind its look.
+/// How a turn ends.
 #[derive(Drop)]
 pub enum Taken {
     /// The line is over.
@@ -27,7 +27,7 @@ pub enum Taken {
     Waits(Machine<Plain>, Asked),
 }
 
-/// A stop as the transcript has it.
+/// A stop, as the transcript shows it.
 fn outcome_of(stop: Stop) -> Outcome
     requires { IsClean stop }
     ensures { answer_of_stop stop ≡ Some result }
@@ -35,7 +35,7 @@ fn outcome_of(stop: Stop) -> Outcome
     match stop {
         Stop::Returned(number) => Outcome::Returned(number),
         Stop::Address(_) | Stop::Look(_) => Outcome::Fault(LineFault::Address),
-        // Plain numbers have no step without a meaning.
+        // A step over plain numbers always has a meaning.
         Stop::Code(_) | Stop::Unclean(_, _) => Outcome::Fault(LineFault::Code),
         Stop::Steps(_) => Outcome::Fault(LineFault::Steps),
     }
@@ -53,7 +53,7 @@ fn run_to(space: &mut ThreadSpace, mut machine: Machine<Plain>, limit: u64) -> T
     }
 }
 
-/// Begins a line, at whose first look the thread is, and runs its call.
+/// Begins a line after its first look, and runs its call.
 pub(crate) fn take_begin(
     space: &mut ThreadSpace,
     names: &JobNames,
@@ -76,7 +76,7 @@ pub(crate) fn take_begin(
     }
 }
 
-/// Goes on with a call that asked for a block, at its next look.
+/// Goes on with a call that asked for a block, after its next look.
 pub(crate) fn take_resume(
     space: &mut ThreadSpace,
     mut machine: Machine<Plain>,

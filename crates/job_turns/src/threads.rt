@@ -17,8 +17,8 @@ use std::marker::Model;
 use thread_space::JobNames;
 use transcript_text::Transcript;
 
-/// The threads of a job between two turns: the history, the data of all images, and a runner for each thread. Contracts
-/// see a `Progress`.
+/// The threads of a job between two turns: the history, the data of all images, and a runner for each thread.
+/// Contracts see a `Progress`.
 #[derive(Drop)]
 pub(crate) struct Threads<'j, 'n, 'm> {
     registry: Registry,
@@ -45,7 +45,7 @@ fn is_done(ask: Ask) -> bool
 }
 
 impl<'j, 'n, 'm> Threads<'j, 'n, 'm> {
-    /// Whether a thread has nothing left to do, or there is none of this number.
+    /// Whether a thread has nothing left to do, or no thread has this number.
     fn is_over(&self, thread: u32) -> bool
         ensures { result ≡ is_thread_over self.now.runs thread }
     {
@@ -58,7 +58,7 @@ impl<'j, 'n, 'm> Threads<'j, 'n, 'm> {
         }
     }
 
-    /// A turn of a thread that has something left to do.
+    /// Takes a turn of a thread that has something left to do.
     fn go(&mut self, thread: u32) -> Result<(), AllocError>
         requires some { StandsForSome self.old }
         requires going { is_thread_over self.old.runs thread ≡ false }
@@ -71,7 +71,7 @@ impl<'j, 'n, 'm> Threads<'j, 'n, 'm> {
         Ok(())
     }
 
-    /// A turn of a thread.
+    /// Takes a turn of a thread.
     fn turn(&mut self, thread: u32) -> Result<(), AllocError>
         requires { StandsForSome self.old }
         ensures { OnOk result (TakesTurns self.old (thread ∷ []) self.new) }
@@ -82,7 +82,7 @@ impl<'j, 'n, 'm> Threads<'j, 'n, 'm> {
         self.go(thread)
     }
 
-    /// Turns of threads, in this order.
+    /// Takes turns of threads, in this order.
     pub(crate) fn take_order(&mut self, order: &[u32]) -> Result<(), AllocError>
         requires { StandsForSome self.old }
         ensures { OnOk result (TakesTurns self.old order.now self.new) }
@@ -93,7 +93,7 @@ impl<'j, 'n, 'm> Threads<'j, 'n, 'm> {
         Ok(())
     }
 
-    /// So many turns of a thread; those past its end, which change nothing, are left out.
+    /// Takes `count` turns of a thread, without those after its end, which change nothing.
     fn take_turns(&mut self, thread: u32, count: u64) -> Result<(), AllocError>
         requires { StandsForSome self.old }
         ensures { OnOk result (TakesTurns self.old (replicate count thread) self.new) }
@@ -107,8 +107,8 @@ impl<'j, 'n, 'm> Threads<'j, 'n, 'm> {
         Ok(())
     }
 
-    /// A thread's turns to its end: enough for so many lines. The definitions take `4 * fuel + 2` turns for each line, since
-    /// a line has its first look, and each look in its middle takes a step.
+    /// Takes a thread's turns to its end: enough for `lines` lines. The definitions take `4 * fuel + 2` turns for each
+    /// line, since a line has its first look, and each look in its middle takes a step.
     fn finish_thread(&mut self, thread: u32, fuel: u64, lines: usize) -> Result<(), AllocError>
         requires some { StandsForSome self.old }
         requires fuel { fuel < 2 ^ 32 }
@@ -120,7 +120,7 @@ impl<'j, 'n, 'm> Threads<'j, 'n, 'm> {
         Ok(())
     }
 
-    /// The turns that bring each thread to its end, in rising number.
+    /// Takes the turns that finish each thread, by number.
     pub(crate) fn finish(&mut self, job: &Job) -> Result<(), AllocError>
         requires { StandsForSome self.old }
         ensures { OnOk result (TakesTurns self.old (finishing (4 * job.now.fuel) 1 job.now.lines) self.new) }
@@ -156,7 +156,7 @@ impl<'j, 'n, 'm> Threads<'j, 'n, 'm> {
         })
     }
 
-    /// What the threads said, and the history.
+    /// The threads' lines, and the history.
     pub(crate) fn transcript(self, alloc: Global) -> Result<Transcript, AllocError>
         requires { length self.runs ≤ 64 }
         ensures { IfOk result (λ transcript. transcript ≡ transcript_of self.entry) }

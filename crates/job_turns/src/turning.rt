@@ -10,10 +10,10 @@ use module_data::Data;
 use module_table::Registry;
 use std::alloc::AllocError;
 
-/// So many events no memory holds.
+/// No memory holds this many events.
 const MOST_EVENTS: u64 = 1 << 61;
 
-/// The thread takes its next turn, at the whole history; what it opens or closes comes after it.
+/// Takes the thread's next turn, at the whole history. Its own open or close is added after it.
 pub(crate) fn take_turn<'j, 'n, 'm>(
     runner: Runner<'j, 'n, 'm>,
     registry: &mut Registry,

@@ -1,10 +1,9 @@
-//! Which instance a number was given to, in the history of a job: definitions and laws. No code runs here.
+//! Definitions and laws of instance numbers: each stands for one instance in a job. No code runs here.
 //!
-//! Each load of an image makes a new instance of it, with a number that no instance had before (`module_table`).
-//! Where a module is closed and opened again it comes as another instance, at other addresses, with blocks of its
-//! own. Its module id, the number that code asks `__tls_get_addr` by (Drepper, "ELF Handling For Thread-Local
-//! Storage", section 3), may be one that another module had before; only the images that start with the program
-//! have ids that never change.
+//! Each load of an image makes a new instance of it, with a number that no instance had before (`module_table`). A
+//! module that is closed and opened again comes back as another instance, at other addresses, with blocks of its own.
+//! Its module id, the number that code passes to `__tls_get_addr` (Drepper, "ELF Handling For Thread-Local Storage",
+//! section 3), may be one that another module had before; only startup images have ids that never change.
 //!
 //! A job of a program and two late modules, `a` and `b`:
 //!
@@ -17,24 +16,23 @@
 //! opens a       app: 1, 1    a: 4, 3     b: 3, 2
 //! ```
 //!
-//! What a thread sees is a front of this list, and threads see different ones. The rule of the crate: **in all
-//! fronts of a legal history a number stands for one instance**, the same record of image, number, id and offset,
-//! wherever it is live at all. So one function of the whole history, `known_in`, says which instance a number was
-//! given to, and it can be asked of numbers that a thread has in its registers from a time before, or that
-//! another thread wrote into data: here 2 is the first instance of `a`, also where it is gone.
+//! A thread sees a front of this list, and threads see different ones. The rule of the crate: **in all fronts of a
+//! legal history a number stands for one instance**, the same record of image, number, id and offset, wherever it is
+//! live. So one function of the whole history, `known_in`, gives the instance of a number. It also works for numbers
+//! that a thread still has in its registers, or that another thread wrote into data: here 2 is the first instance of
+//! `a`, even after that is closed.
 //!
-//! A history is legal where each event was accepted after those before it, as each history of a job is
+//! A history is legal if each event was accepted after those before it, as each history of a job is
 //! (`thread_blocks::laws::histories_are_legal`). The laws ([`laws`]):
 //!
 //! - an instance that is live in some front is the known one of its number (`numbers_are_known`), and a known one
 //!   is live in some front (`known_instances_lived`);
 //! - the id of a live instance finds that instance (`ids_are_own`);
-//! - what starts with the program is live in every front, and its id is its number (`startup_instances_stay`); no
-//!   instance that came late has such an id (`late_ids_are_late`).
+//! - a startup image's instance is live in every front, and its id is its number (`startup_instances_stay`); no late
+//!   instance has such an id (`late_ids_are_late`).
 //!
-//! Lemmas of a live instance that are wanted beside them stand in `proofs/Placed.antt` and
-//! `proofs/StartupNumbers.antt`: that its number is below 2^12 and not 0, that its block ends below the thread
-//! pointer where it has an offset, and that instance 1 is the program's.
+//! Other lemmas about a live instance are in `proofs/Placed.antt` and `proofs/StartupNumbers.antt`: its number is
+//! below 2^12 and not 0, its block ends below the thread pointer if it has an offset, and instance 1 is the program's.
 #![tactic(auto)]
 
 pub mod laws;

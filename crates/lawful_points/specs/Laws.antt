@@ -23,7 +23,7 @@ abbrev pub LooksAreLawful : Type 0
 LooksAreLawful = (l : Loads ℕ) (fuel : ℕ) (lines : List (List ThreadLine)) (order : List ℕ) (thread : ℕ)
     → AreLawful thread (job_world l fuel lines order).events (job_looks l fuel lines order thread)
 
--- and they are those that its lines tell
+-- the looks of a thread are those that its lines tell
 abbrev pub LinesTellLooks : Type 0
 LinesTellLooks = (l : Loads ℕ) (fuel : ℕ) (lines : List (List ThreadLine)) (order : List ℕ) (transcript : Shown)
     → Tells (job_world l fuel lines order) transcript
@@ -31,7 +31,7 @@ LinesTellLooks = (l : Loads ℕ) (fuel : ℕ) (lines : List (List ThreadLine)) (
     → at_number transcript.threads thread ≡ Some said
     → told_by thread (numbered_lines 1 own) said ≡ points_of (job_looks l fuel lines order thread)
 
--- so the points that are printed are lawful
+-- the printed points are lawful
 abbrev pub PointsAreLawful : Type 0
 PointsAreLawful = (l : Loads ℕ) (fuel : ℕ) (lines : List (List ThreadLine)) (order : List ℕ) (transcript : Shown)
     → Tells (job_world l fuel lines order) transcript
@@ -39,12 +39,12 @@ PointsAreLawful = (l : Loads ℕ) (fuel : ℕ) (lines : List (List ThreadLine)) 
     → at_number transcript.threads thread ≡ Some said
     → AreLawfulPoints thread transcript.events (told_by thread (numbered_lines 1 own) said)
 
--- where no image has data that threads write, the transcript is raced
+-- if no image has data that threads write, the transcript is raced
 abbrev pub RunsAreRaced : Type 0
 RunsAreRaced = (l : Loads ℕ) (fuel : ℕ) (lines : List (List ThreadLine)) (order : List ℕ) (transcript : Shown)
     → HasNoData l → Tells (job_world l fuel lines order) transcript → IsRaced l fuel lines transcript
 
--- and each raced transcript has lawful points, in any order of turns or in none
+-- each raced transcript has lawful points, in any order of turns or in none
 abbrev pub RacedPointsAreLawful : Type 0
 RacedPointsAreLawful = (l : Loads ℕ) (fuel : ℕ) (lines : List (List ThreadLine)) (transcript : Shown)
     → IsRaced l fuel lines transcript
@@ -52,18 +52,18 @@ RacedPointsAreLawful = (l : Loads ℕ) (fuel : ℕ) (lines : List (List ThreadLi
     → at_number transcript.threads thread ≡ Some said
     → AreLawfulPoints thread transcript.events (told_by thread (numbered_lines 1 own) said)
 
--- what each turn of a thread sees is a front of a history, and so it is with the thread's own event behind it
+-- what each turn of a thread sees is a front of a history, also with the thread's own event added
 abbrev pub AtFronts : {S L : Type 0} → Turns S L Event → (L → List Event → Option Event) → List Event
     → Thread S L Event → List (List Event) → Type 0
 AtFronts x event history = AtHistory x event (λ (seen : List Event). IsFront seen history)
 
--- so it is with each that raced
+-- this holds of each thread that raced
 abbrev pub RacersAreInHistory : Type 0
 RacersAreInHistory = (l : Loads ℕ) (fuel thread : ℕ) (own : List ThreadLine) (history : List Event)
     (said : List ShownLine) → (racer : IsRacer l fuel thread own history said)
     → AtFronts (thread_turns l thread fuel) (event_by l thread) history (first_of l thread own) racer.points
 
--- and what its turns saw can be said again from the history and the numbers that its lines print
+-- what its turns saw can be rebuilt from the history and the numbers that its lines print
 abbrev pub RacersPrintTheirPoints : Type 0
 RacersPrintTheirPoints = (l : Loads ℕ) (fuel thread : ℕ) (own : List ThreadLine) (history : List Event)
     (said : List ShownLine) → (racer : IsRacer l fuel thread own history said)

@@ -1,4 +1,4 @@
--- The looks that a thread takes: among others in an order of turns, and alone at given points.
+-- The looks that a thread takes: in an order of turns, and alone at given points.
 use Rattle.std.specs.Prelude.{◌==◌, ◌&&◌, ◌*◌, ℕ, Bool, true, false, not, List, [], ◌∷◌, ◌++◌, Option, Some, None}
 use Rattle.job_text.specs.declared.thread_lines.ThreadLine.{ThreadLine}
 use Rattle.module_table.specs.declared.events.Event.{Event}
@@ -28,14 +28,14 @@ module _ {S L : Type 0} (x : Turns S L Event) (event : L → List Event → Opti
   looks_of t [] = []
   looks_of t (seen ∷ more) = look_at event t seen ∷ looks_of (turn x t seen) more
 
--- ** among others
+-- ** in an order
 
 abbrev pub look_if : Bool → Look → List Look
 look_if true look = look ∷ []
 look_if false look = []
 
 module _ {W F B L : Type 0} (x : ℕ → Turns (Held W F B) L Event) (event : ℕ → L → List Event → Option Event) where
-  -- the look of thread i in a turn of thread j: there is one if that is i, and has something left to do
+  -- the look of thread i in a turn of thread j: one if j is i and has something left to do, otherwise none
   abbrev pub look_in : ℕ → ℕ → List Event → Option (Thread (Held W F B) L Event) → List Look
   look_in i j events None = []
   look_in i j events (Some t) = look_if ((j == i) && not (is_over t.todo t.phase)) (look_at (event j) t events)

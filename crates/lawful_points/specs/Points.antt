@@ -1,4 +1,4 @@
--- Lawful points: what the looks of a thread have to do with the history of all threads.
+-- Lawful points: how the looks of a thread fit the history of all threads.
 use Rattle.std.specs.Prelude.{◌≡◌, ℕ, List, [], ◌∷◌, ◌++◌, length, map, Option, Some, None}
 use Rattle.module_table.specs.declared.events.Event.{Event}
 use Rattle.shared_modules.specs.Laws.{Placed, own_events}
@@ -20,7 +20,7 @@ abbrev pub placed : ℕ → Option Event → List Placed
 placed point None = []
 placed point (Some e) = record { at = point; event = e } ∷ []
 
--- the events that looks added, each right behind those that its look saw
+-- the events that looks added, each at the point of its look
 abbrev pub made : List Look → List Placed
 made [] = []
 made (look ∷ more) = placed (length look.seen) look.added ++ made more
@@ -31,7 +31,7 @@ seen_by looks = map (λ look. look.seen) looks
 
 -- the looks of a thread are lawful in a history
 pub record AreLawful (thread : ℕ) (history : List Event) (looks : List Look) : Type 0 where
-  -- what they see never gets less, and has the thread's own events from the next look on
+  -- they never see less than before, and see the thread's own events from the next look on
   pub follows : Follows [] looks
   -- each saw a front of the history
   pub fronts : AllFronts (seen_by looks) history

@@ -1,4 +1,4 @@
--- What the printed lines of a thread say of its looks: how many events they saw.
+-- The points that the printed lines of a thread show: how many events its looks saw.
 use Rattle.std.specs.Prelude.{ℕ, List}
 use Rattle.std.specs.List.{flat_map}
 use Rattle.transcript_text.specs.declared.outcomes.Line.{Line as ShownLine}

@@ -1,4 +1,4 @@
--- A transcript of threads that share no data, each of which took its turns at lawful points, whoever let it.
+-- A transcript of threads that share no data, each of which took its turns at lawful points, in whatever way.
 use Rattle.std.specs.Prelude.{◌≡◌, ℕ, List, length, map, Some}
 use Rattle.job_text.specs.declared.thread_lines.ThreadLine.{ThreadLine}
 use Rattle.module_table.specs.declared.events.Event.{Event}
@@ -26,18 +26,18 @@ module _ (l : Loads ℕ) (fuel thread : ℕ) (own : List ThreadLine) where
   abbrev pub raced_looks : List (List Event) → List Look
   raced_looks points = looks_of (thread_turns l thread fuel) (event_by l thread) (first_of l thread own) points
 
-  -- a thread of a history that took its turns alone, at lawful points, and says this of its lines
+  -- a thread that took its turns alone, at lawful points of a history, and printed these lines
   pub record IsRacer (history : List Event) (said : List ShownLine) : Type 0 where
     -- what its turns saw
     pub points : List (List Event)
     pub lawful : AreLawful thread history (raced_looks points)
-    -- it came to its end
+    -- it has finished
     pub over : IsFinished (raced_of points).todo (raced_of points).phase
     pub lines : map Some said ≡ map shown (raced_of points).said
-    -- its lines tell just these looks
+    -- its lines tell exactly these looks
     pub told : told_by thread (numbered_lines 1 own) said ≡ points_of (raced_looks points)
 
--- each thread of a transcript did
+-- each thread of a transcript raced
 pub record IsRaced (l : Loads ℕ) (fuel : ℕ) (lines : List (List ThreadLine)) (shown : Shown) : Type 0 where
   pub count : length shown.threads ≡ length lines
   pub each : (thread : ℕ) (own : List ThreadLine) (said : List ShownLine) → at_number lines thread ≡ Some own

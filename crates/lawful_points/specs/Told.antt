@@ -1,4 +1,4 @@
--- What the printed lines of a thread tell of its looks: at which points they were, and which events they added.
+-- The looks that the printed lines of a thread tell: their points, and the events that they added.
 use Rattle.std.specs.Prelude.{◌≡◌, ◌+◌, ◌≤◌, ℕ, true, false, List, [], ◌∷◌, ◌++◌, length, map, Option, Some, None, is_some, if◌then◌else◌}
 use Rattle.std.specs.List.{flat_map}
 use Rattle.job_text.specs.declared.thread_lines.Action.{Action}
@@ -21,17 +21,17 @@ points_of looks = map (λ look. record { number = length look.seen; added = look
 
 -- ** lines
 
--- an event, if the line says that the image was opened
+-- the event, if the line says that the image was opened
 abbrev pub if_opened : Event → Outcome → Option Event
 if_opened e (Opened instance) = Some e
 if_opened e other = None
 
--- an event, if the line says that the image was closed
+-- the event, if the line says that the image was closed
 abbrev pub if_closed : Event → Outcome → Option Event
 if_closed e Closed = Some e
 if_closed e other = None
 
--- the event of a line of which this came: of an open or a close that was accepted
+-- the event of a line with this outcome: that of an open or a close that was accepted
 abbrev pub added_by : ℕ → Line → Outcome → Option Event
 added_by thread line outcome = by_action line.told.action
   where
@@ -54,7 +54,7 @@ told_by thread (line ∷ lines) (said ∷ more) = told_line thread line said ++ 
 
 -- ** lawful in a history
 
--- points from this number on never fall, and those behind an event's point are above it
+-- points from this number on never fall, and those after an event's point are above it
 abbrev pub Rise : ℕ → List Point → Type 0
 Rise least [] = Unit {0}
 Rise least (point ∷ more) =

@@ -1,4 +1,4 @@
-//! The laws. The functions do nothing: what they ensure is the law.
+//! Laws of points. Each function does nothing; what it ensures is the law.
 
 ghost use Rattle.lawful_points.specs.Laws.{LinesTellLooks, LooksAreLawful, PointsAreLawful};
 ghost use Rattle.lawful_points.specs.Laws.{RacedPointsAreLawful, RacersAreInHistory, RacersPrintTheirPoints, RunsAreRaced};
@@ -8,17 +8,17 @@ pub fn looks_are_lawful()
     ensures { LooksAreLawful }
 {}
 
-/// And they are those that its lines tell.
+/// The looks of a thread are those that its lines tell.
 pub fn lines_tell_looks()
     ensures { LinesTellLooks }
 {}
 
-/// So the points that are printed are lawful.
+/// The printed points are lawful.
 pub fn points_are_lawful()
     ensures { PointsAreLawful }
 {}
 
-/// Where no image has data that threads write, a job's transcript is raced.
+/// If no image has data that threads write, a job's transcript is raced.
 pub fn runs_are_raced()
     ensures { RunsAreRaced }
 {}
@@ -28,12 +28,12 @@ pub fn raced_points_are_lawful()
     ensures { RacedPointsAreLawful }
 {}
 
-/// What each turn of a raced thread saw is a front of the history, and so it is with the thread's own event behind it.
+/// What each turn of a raced thread saw is a front of the history, also with the thread's own event added.
 pub fn racers_are_in_history()
     ensures { RacersAreInHistory }
 {}
 
-/// And what they saw can be said again from the history and the points that its lines print.
+/// What the turns of a raced thread saw can be rebuilt from the history and the points that its lines print.
 pub fn racers_print_their_points()
     ensures { RacersPrintTheirPoints }
 {}

@@ -1,9 +1,9 @@
-//! What the points of a run are, and what they have to do with its history: definitions and laws, no code that runs.
+//! Definitions and laws of a run's points: how many events of the history each look saw. No code runs here.
 //!
-//! The threads of a job take turns (`thread_blocks`). A turn begins with a **look**: the thread sees the events so far,
-//! opens and closes of modules, and may add one of its own. How many events a look saw is its **point**, and the
-//! transcript prints the points of each line. Say thread 1 opens a module, calls a function of it and closes it, and
-//! thread 2 calls that function before and after:
+//! The threads of a job take turns (`thread_blocks`). A turn begins with a **look**: the thread sees the events so
+//! far, opens and closes of modules, and may add one of its own. The number of events that a look saw is its
+//! **point**, and the transcript prints the points of each line. Say thread 1 opens a module, calls a function of it
+//! and closes it, and thread 2 calls that function before and after:
 //!
 //! ```text
 //! t1 l1 g0 opened 2              look at 0 events, adds event 0
@@ -15,35 +15,35 @@
 //! e1 t1 l3 close plug
 //! ```
 //!
-//! Whoever lets the threads take turns, an order that is given or a machine whose threads run at once, such a
-//! transcript makes sense only if its points are **lawful** (`specs/Told`, `AreLawfulPoints`). Of each thread:
+//! The turns may be taken in a given order, or by threads that run at once. Either way, such a transcript makes sense
+//! only if its points are **lawful** (`specs/Told`, `AreLawfulPoints`). For each thread:
 //!
-//! - the points never fall, and those behind an open or a close that was accepted at point p are above p (`rise`);
-//! - none is past the end of the history (`within`);
+//! - the points never fall, and those after an open or a close that was accepted at point p are above p (`rise`);
+//! - no point is past the end of the history (`within`);
 //! - the events of the history that name the thread are the ones that its lines tell, in their order, and one that was
 //!   accepted at point p is event p (`own`).
 //!
-//! That is a statement of printed lines alone: what they tell is read off their points and answers (`told_by`), where
-//! an `opened` or a `closed` is the one look of its line and adds the line's event. Were event 1 of the example thread
-//! 2's, or the points of `t1 l2` 1 and 0, no order of turns could come to it.
+//! That is a statement about printed lines alone: `told_by` reads the looks off their points and answers, where an
+//! `opened` or a `closed` is the one look of its line and adds the line's event. If event 1 of the example were thread
+//! 2's, or the points of `t1 l2` were 1 and 0, no order of turns could give this transcript.
 //!
 //! The rule of the crate: **in any order of turns, whatever is loaded, the points of each thread are lawful**
-//! ([`laws::points_are_lawful`]). Behind it stand the looks themselves, with all that they saw: which ones a thread
-//! takes in an order is a function of the order (`specs/Orders`, `looks_in`), each sees all that is known to the thread
+//! ([`laws::points_are_lawful`]). The proof is about the looks themselves, with all that they saw: the looks of a
+//! thread are a function of the order (`specs/Orders`, `looks_in`), each sees all that the thread knows
 //! (`specs/Points`, `AreLawful`; [`laws::looks_are_lawful`]), and they are those that the thread's lines tell
 //! ([`laws::lines_tell_looks`]).
 //!
-//! Where no image has data that threads write, a thread's turns are a function of what they saw. A transcript is
+//! If no image has data that threads write, a thread's turns are a function of what they saw. A transcript is
 //! **raced** (`specs/Raced`) if each of its threads took, alone and at lawful looks, the turns that its lines tell of.
-//! No order stands in that definition, so it can be said of threads that run at once. Each job's transcript is raced
+//! That definition has no order in it, so it also fits threads that run at once. Each job's transcript is raced
 //! ([`laws::runs_are_raced`]), and the points of a raced one are lawful ([`laws::raced_points_are_lawful`]). What a
-//! raced thread saw, with its own event behind it, is always a front of the history ([`laws::racers_are_in_history`]),
-//! so whoever follows such a thread turn by turn (`order_laws`) stays within one history. And what it saw can be said
-//! again from the history and the points that its lines print ([`laws::racers_print_their_points`]): a transcript tells
-//! all turns of its threads.
+//! raced thread saw, with its own event added, is always a front of the history ([`laws::racers_are_in_history`]), so
+//! a proof that follows such a thread turn by turn (`order_laws`) stays within one history. What it saw can be rebuilt
+//! from the history and the points that its lines print ([`laws::racers_print_their_points`]): a transcript tells all
+//! turns of its threads.
 //!
-//! A thread's events with their places are `own_events` of `shared_modules`, where they stand beside the laws of such
-//! events while other threads go on.
+//! A thread's events with their places are `own_events` of `shared_modules`, where their laws are too: they hold while
+//! other threads add events.
 #![tactic(auto)]
 
 pub mod laws;

@@ -1,5 +1,4 @@
--- What a thread of linked images does where its meaning stands in a call, and what it finds there by the sequences of
--- thread-local storage.
+-- What a thread of linked images does while its meaning is in a call, and what it finds there by TLS sequences.
 use Rattle.std.specs.Prelude.{◌≡◌, ◌⊎◌, ◌+◌, ◌*◌, ◌≤◌, ℕ, Bool, List, Some, None, length}
 use Rattle.guest_machine.specs.Run.{Stepping, Goes, Looks}
 use Rattle.guest_machine.specs.Simulate.{Moves}
@@ -39,10 +38,10 @@ use Rattle.tied_meaning.specs.Threads.{InCall}
 use Rattle.begin_alike.specs.Laws.{meant_thread}
 use Rattle.linked_jobs.specs.Ready.{AreReady}
 
--- ** where a thread stands in a turn
+-- ** the middle of a turn
 
--- in a thread's next turn, which sees these events: some steps behind the turn's look, with so many more that it may
--- take
+-- a thread in its next turn, which sees these events: some steps after the turn's look, with this many left that it
+-- may take
 pub record StandsIn {S : Type 0} (x : Turns S Line Event) (t : Thread S Line Event) (seen : List Event) (left : ℕ)
     (s : S) : Type 0 where
   pub begun : ℕ × S
@@ -51,9 +50,9 @@ pub record StandsIn {S : Type 0} (x : Turns S Line Event) (t : Thread S Line Eve
   pub moves : Moves x.steps count begun.1 s
   pub enough : count + left ≤ begun.0
 
--- wherever the meaning of a thread stands in a turn, the machine's thread stands after the same turns, and both are
--- in one call; the points are any at which the thread could look in the history, and what its meaning said up to
--- there is clean
+-- wherever the meaning of a thread is in a turn, the machine's thread is in the turn after the same turns, and both
+-- are in one call; the points are any at which the thread could look in the history, and its meaning's lines up to
+-- there are clean
 abbrev pub LinkedThreadsStandAlike : Type 0
 LinkedThreadsStandAlike = (ls : List Linking) (history : List Event) → AreReady ls
     → IsLegal (job_loads (images_of ls)).infos (job_loads (images_of ls)).last_offset history
@@ -68,7 +67,7 @@ LinkedThreadsStandAlike = (ls : List Linking) (history : List Event) → AreRead
     → (h' : Runs) × (StandsIn (thread_turns q thread fuel) (raced_of q fuel thread own points) seen (4 * left) h'
     × InCall (setting_of ls history) m q history thread h h')
 
--- threads of a job after turns in some order, by meaning and by machine
+-- threads of a job after turns in some order, in the meaning and in the machine
 abbrev pub meant_after : Meaning → ℕ → List (List ThreadLine) → List ℕ → Shared Word Flag Byte Line
 meant_after m fuel lines order = shared_order (λ (i : ℕ). meant_turns m i fuel) (λ (i : ℕ). event_by m.loads i) order
     (meant_start m lines)
@@ -77,7 +76,7 @@ abbrev pub ran_after : Loads ℕ → ℕ → List (List ThreadLine) → List ℕ
 ran_after q fuel lines order = shared_order (λ (i : ℕ). thread_turns q i fuel) (λ (i : ℕ). event_by q i) order
     (runs_start q lines)
 
--- so it is in any order of turns of a job, in which a turn of the thread is next, with the data in its hands that the
+-- the same in any order of turns of a job, in which a turn of the thread is next, while it holds the data that the
 -- turn before left; the history is any that begins with the events after that turn
 abbrev pub LinkedJobsStandAlike : Type 0
 LinkedJobsStandAlike = (ls : List Linking) (history : List Event) → AreReady ls
@@ -97,17 +96,17 @@ LinkedJobsStandAlike = (ls : List Linking) (history : List Event) → AreReady l
 
 -- ** one sequence
 
--- x: steps, resume: a look in the middle of a call. A step; where that is a look, it sees these events and the call
--- goes on
+-- x: steps, resume: a look in the middle of a call. One step; if it is a look, it sees these events and the call goes
+-- on
 abbrev pub TakesStep : {S : Type 0} → Stepping S → (List Event → S → Begun S) → List Event → S → S → Type 0
 TakesStep {S} x resume seen s t = (x.over s ≡ None)
     × ((x.step s ≡ Goes t) ⊎ ((u : S) × ((x.step s ≡ Looks u) × (resume seen u ≡ Calls t))))
 
--- one to four such steps, of which the last alone may be a look
+-- one to four such steps, of which only the last may be a look
 abbrev pub TakesFew : {S : Type 0} → Stepping S → (List Event → S → Begun S) → List Event → S → S → Type 0
 TakesFew {S} x resume seen s t = (k : ℕ) × ((u : S) × ((k ≤ 3) × Moves x k s u × TakesStep x resume seen u t))
 
--- two threads in one call, at a sequence that the meaning comes through; where it looks, it sees these events
+-- two threads in one call, at a sequence that is clean in the meaning; if it looks, it sees these events
 pub record AreAt (ls : List Linking) (history : List Event) (thread : ℕ) (s : Sequence) (seen : List Event) (h : Meant)
     (h' : Runs) : Type 0 where
   pub call : InCall (setting_of ls history) (meaning_of ls) (job_loads (images_of ls)) history thread h h'
@@ -116,15 +115,15 @@ pub record AreAt (ls : List Linking) (history : List Event) (thread : ℕ) (s : 
   pub after : Meant
   pub takes : TakesStep (meant_steps (meaning_of ls) thread) (resume_meant (meaning_of ls) thread) seen h after
 
--- the machine's thread comes behind the sequence in one to four steps, and has this number in %rax there
+-- the machine's thread gets past the sequence in one to four steps, and then has this number in %rax
 pub record Finds (q : Loads ℕ) (thread : ℕ) (s : Sequence) (seen : List Event) (h : Runs) (number : ℕ) : Type 0 where
   pub after : Runs
   pub takes : TakesFew (thread_steps q thread) (resume_line q thread) seen h after
   pub place : after.after.state.place ≡ s.next
   pub rax : after.after.state.registers.rax ≡ number
 
--- what a sequence finds that asks for a variable: its address in the thread's own block, or how far that is from the
--- thread pointer. y is the instance that has the number in the history, whose blocks the variable lies in
+-- what a sequence finds that asks for a variable: its address in the thread's own block, or that address's distance
+-- from the thread pointer. y is the instance with the target's number in the history; its blocks hold the variable
 abbrev pub LinkedSequencesFind : Type 0
 LinkedSequencesFind = (ls : List Linking) (history : List Event) → AreReady ls
     → IsLegal (job_loads (images_of ls)).infos (job_loads (images_of ls)).last_offset history
@@ -135,9 +134,9 @@ LinkedSequencesFind = (ls : List Linking) (history : List Event) → AreReady ls
     × (IsGeneral s.form → Finds q thread s seen h' (variable_address s (block_start thread y)))
     × (s.form ≡ DescCall → Finds q thread s seen h' (variable_distance s (block_start thread y) (pointer_of thread))))
 
--- so what a general dynamic sequence finds is what the call of a descriptor finds for the same variable, and the
--- thread pointer, wherever a thread runs them, and whatever a linker left of either: kept, or rewritten as initial or
--- local exec
+-- so what a General Dynamic sequence finds is what the call of a descriptor finds for the same variable, plus the
+-- thread pointer, wherever a thread runs them, and whether a linker kept either or rewrote it as Initial Exec or Local
+-- Exec
 abbrev pub LinkedAnswersAgree : Type 0
 LinkedAnswersAgree = (ls : List Linking) (history : List Event) → AreReady ls
     → IsLegal (job_loads (images_of ls)).infos (job_loads (images_of ls)).last_offset history

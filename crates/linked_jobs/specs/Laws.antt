@@ -1,4 +1,4 @@
--- What is loaded of a job's linked images, and what is printed of them, by what their objects mean.
+-- What is loaded of a job's linked images, and what they print, by what their objects mean.
 use Rattle.std.specs.Prelude.{◌≡◌, ◌≤◌, ℕ, false, List, [], ◌∷◌, length, map, Some, None}
 use Rattle.std.specs.List.{All}
 use Rattle.job_text.specs.declared.thread_lines.ThreadLine.{ThreadLine}
@@ -23,7 +23,7 @@ use Rattle.linked_jobs.specs.Threads.{thread_meaning}
 
 -- ** what is loaded
 
--- whatever the links, and in whatever order images were opened and closed, so long as each of it was accepted
+-- whatever the links, and in whatever order images were opened and closed, if each open and close was accepted
 abbrev pub LinksAreTied : Type 0
 LinksAreTied = (ls : List Linking) (history : List Event) → AreReady ls
     → IsLegal (job_loads (images_of ls)).infos (job_loads (images_of ls)).last_offset history
@@ -40,13 +40,13 @@ LinkedJobsPrint = (ls : List Linking) (fuel : ℕ) (lines : List (List ThreadLin
     × (all_said (job_world (job_loads (images_of ls)) fuel lines order)
     ≡ lines_of (meant_world (meaning_of ls) fuel lines order))
 
--- a clean thread prints what it means by itself, at whatever fronts of a legal history its turns look
+-- a clean thread prints what it means by itself, whatever fronts of a legal history its turns see
 abbrev pub LinkedThreadsPrint : Type 0
 LinkedThreadsPrint = (ls : List Linking) (history : List Event) → AreReady ls
     → IsLegal (job_loads (images_of ls)).infos (job_loads (images_of ls)).last_offset history
     → ThreadPrints (meaning_of ls) (job_loads (images_of ls)) history
 
--- so where no image has data that threads write, each thread of a transcript has what its lines mean at the points that
+-- if no image has data that threads write, each thread of a transcript has the lines that it means at the points that
 -- they print, if that is clean, whatever the other threads did
 abbrev pub TranscriptsTellTheirThreads : Type 0
 TranscriptsTellTheirThreads = (ls : List Linking) (fuel : ℕ) (lines : List (List ThreadLine)) (order : List ℕ)

@@ -1,4 +1,4 @@
--- What is asked of the links of a job.
+-- The conditions on the links of a job.
 use Rattle.std.specs.Prelude.{◌<◌, ◌≤◌, ◌^◌, List, length, map}
 use Rattle.std.specs.List.{All}
 use Rattle.job_text.specs.LateImages.{LateLast}
@@ -8,9 +8,9 @@ use Rattle.linked_modules.specs.Together.{AreTogether}
 use Rattle.loaded_bytes.specs.Small.{AreBytes}
 use Rattle.job_text.specs.ProgramFirst.{ProgramFirst}
 
--- each image links, beside the startup images; files are bytes, and no object has a loose relocation or a stray call;
--- of an image there are so few objects that a symbol's number is its own; the program comes first, and what an open
--- loads last
+-- each image links, together with the startup images; files are bytes, and no object has a loose relocation or a stray
+-- call; an image has few enough objects that no two symbols have the same number; the program comes first, and images
+-- that an open loads come last
 pub record AreReady (ls : List Linking) : Type 0 where
   pub together : AreTogether ls
   pub bytes : All (λ (l : Linking). All AreBytes l.objects) ls

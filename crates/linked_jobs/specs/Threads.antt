@@ -7,8 +7,8 @@ use Rattle.thread_blocks.specs.Turns.{Said, ready, turns}
 use Rattle.whole_meaning.specs.Meanings.{Meaning}
 use Rattle.whole_meaning.specs.Threads.{meant_ready, meant_turns}
 
--- what the lines of one thread mean, whatever other threads do, where its turns see so many events of a history, one turn
--- after another
+-- what the lines of one thread mean, whatever other threads do, if its turns see this many events of a history, one
+-- turn after another
 abbrev pub thread_meaning : Meaning → ℕ → ℕ → List ThreadLine → List Event → List ℕ → List Said
 thread_meaning m fuel thread lines history points =
     (turns (meant_turns m thread fuel) (ready (meant_ready m thread) (numbered_lines 1 lines))

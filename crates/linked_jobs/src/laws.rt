@@ -1,4 +1,4 @@
-//! The laws. The functions do nothing: what they ensure is the law.
+//! The main laws. Each function does nothing; what it ensures is the law.
 
 ghost use Rattle.linked_jobs.specs.Answers.{LinkedAnswersAgree, LinkedJobsStandAlike, LinkedSequencesFind};
 ghost use Rattle.linked_jobs.specs.Answers.{LinkedThreadsStandAlike};
@@ -10,40 +10,40 @@ pub fn links_are_tied()
     ensures { LinksAreTied }
 {}
 
-/// So a clean job of linked images prints what their objects mean: its events, and its lines, thread by thread.
+/// A clean job of linked images prints what their objects mean: its events, and its lines, thread by thread.
 pub fn linked_jobs_print()
     ensures { LinkedJobsPrint }
 {}
 
-/// And so does each clean thread by itself, whatever points its turns see.
+/// So does each clean thread by itself, whatever points its turns see.
 pub fn linked_threads_print()
     ensures { LinkedThreadsPrint }
 {}
 
-/// So where no image has data that threads write, each thread of a transcript that is clean at the points that it prints
-/// has what its lines mean there.
+/// If no image has data that threads write, each thread of a transcript that is clean at the points that it prints has
+/// the lines that it means there.
 pub fn transcripts_tell_their_threads()
     ensures { TranscriptsTellTheirThreads }
 {}
 
-/// Wherever the meaning of a clean thread stands in a turn, the machine's thread stands in the same turn, and both
-/// are in one call.
+/// Wherever the meaning of a clean thread is in a turn, the machine's thread is in the same turn, and both are in one
+/// call.
 pub fn linked_threads_stand_alike()
     ensures { LinkedThreadsStandAlike }
 {}
 
-/// And so it does in any order of turns of a clean job, with the data of its images in its hands.
+/// The same in any order of turns of a clean job, while the thread holds the data of its images.
 pub fn linked_jobs_stand_alike()
     ensures { LinkedJobsStandAlike }
 {}
 
-/// There a general dynamic sequence finds its variable's address in the thread's own block, and the call of a
-/// descriptor how far that is from the thread pointer.
+/// There a General Dynamic sequence finds its variable's address in the thread's own block, and the call of a
+/// descriptor finds that address's distance from the thread pointer.
 pub fn linked_sequences_find()
     ensures { LinkedSequencesFind }
 {}
 
-/// So the two agree on one variable, up to the thread pointer, whatever a linker left of either.
+/// So the two agree on one variable, up to the thread pointer, whether a linker kept or rewrote either.
 pub fn linked_answers_agree()
     ensures { LinkedAnswersAgree }
 {}

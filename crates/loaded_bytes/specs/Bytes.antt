@@ -1,6 +1,6 @@
--- What stands at each address of an image's sections once an instance of it is loaded, by its objects alone: a byte of
--- the sequence in a rewritten site's place, else of the field that covers it, at the instance's place, else the
--- section's own; between sections zeros.
+-- The byte at each address of an image's sections in a loaded instance, by its objects alone: a byte of the sequence
+-- in a rewritten site, else of the field that covers it, at the instance's address, else the section's own; between
+-- sections zeros.
 use Rattle.std.specs.Prelude.{◌+◌, ◌-◌, ◌^◌, ◌+ℤ◌, ℕ, pos, Option, Some, None, slice_index_or, unwrap_or}
 use Rattle.std.specs.Prelude.{if◌then◌else◌}
 use Rattle.std.specs.List.{find}
@@ -17,7 +17,7 @@ use Rattle.tls_relocs.specs.Fields.{field_bytes}
 use Rattle.tls_relocs.specs.Values.{modulo}
 use Rattle.whole_meaning.specs.Spots.{Spot, spot_in}
 
--- bias: how far the instance is moved
+-- bias: the instance's load bias
 module _ (l : Linking) (bias : ℕ) where
   -- the field of a relocation of section t of object o: an address of 8 bytes moves with the instance, S + A + bias,
   -- and all others hold what they hold in the file
@@ -39,7 +39,7 @@ module _ (l : Linking) (bias : ℕ) where
       (field_byte o t k (find (is_in_field l o k) (relocations (object l o) t))
       (slice_index_or (section_bytes (object l o) t) k 0))
 
-  -- that of an address, by what stands there
+  -- the byte of a spot, if there is one at the address
   abbrev pub byte_of_spot : Option Spot → ℕ
   byte_of_spot None = 0
   byte_of_spot (Some spot) = loaded_byte spot.object spot.section spot.within

@@ -58,7 +58,7 @@ ConstantsAreLoaded = (ls : List Linking) (l : Linking) (x : Instance) → IsInst
 
 -- ** data
 
--- the range that threads write, as a load makes it
+-- the range that threads write, as a load fills it
 pub record IsDataOf (l : Linking) (bias : ℕ) (range : Range ℕ) : Type 0 where
   pub start_is : range.start ≡ (extent_for (Writable true) (layout l)).start + bias
   pub long : range.start + length range.bytes ≡ (extent_for (Writable true) (layout l)).end + bias
@@ -69,7 +69,7 @@ pub record IsDataOf (l : Linking) (bias : ℕ) (range : Range ℕ) : Type 0 wher
   pub writable : range.writable ≡ true
   pub runnable : range.runnable ≡ false
 
--- there is one where the image has data
+-- there is one if the image has data
 abbrev pub IsData : Linking → ℕ → Bool → Option (Range ℕ) → Type 0
 IsData l bias true None = ⊥
 IsData l bias true (Some range) = IsDataOf l bias range
@@ -95,10 +95,10 @@ abbrev pub BlocksAreLoaded : Type 0
 BlocksAreLoaded = (ls : List Linking) (l : Linking) (x : Instance) → IsInstanceOf ls l x
     → IsBlockOf l (bias_of l.kind x.number) ((job_loads (images_of ls)).block x)
 
--- ** what the meaning of a job says
+-- ** the job's meaning
 
 -- at the addresses of a class that is not code the loaded byte is that of the meaning, in which a field holds what its
--- relocation's type says at the instance's place
+-- relocation's type says at the instance's address
 abbrev pub BytesAreMeant : Type 0
 BytesAreMeant = (l : Linking) (number address : ℕ) (class : SectionClass) → IsGiven l → Links l → HasNoStray l
     → class ≢ Executable

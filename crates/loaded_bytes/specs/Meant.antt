@@ -1,4 +1,4 @@
--- Of all that is loaded but code, that it is what the meaning of the job loads.
+-- All that is loaded, except code, is what the job's meaning loads.
 use Rattle.std.specs.Prelude.{◌≡◌, ℕ, false, List, map, option_map}
 use Rattle.guest_operands.specs.declared.space.Access.TheVariants.{Read}
 use Rattle.guest_operands.specs.Ranges.{Range, byte_in}

@@ -1,4 +1,4 @@
--- Where what is loaded of an instance lies.
+-- The addresses of what is loaded of an instance.
 use Rattle.std.specs.Prelude.{◌≡◌, ◌+◌, ◌<◌, ◌≤◌, ◌⊎◌, ◌^◌, ℕ, true, false, List, Some, None, IfSome}
 use Rattle.std.specs.List.{All}
 use Rattle.guest_operands.specs.declared.space.Access.{Access}
@@ -13,17 +13,17 @@ use Rattle.thread_blocks.specs.JobLoads.{job_loads}
 use Rattle.whole_meaning.specs.Spots.{bias_of, in_room}
 use Rattle.loaded_bytes.specs.Laws.{IsIn, IsInstanceOf, images_of}
 
--- a place of the instance: one of 2^26 from its base on, and no other instance's
+-- an address of the instance: one of 2^26 from its base on, and no other instance's
 abbrev pub IsOwn : Linking → ℕ → ℕ → Type 0
 IsOwn l bias place = (base_of l.kind + bias ≤ place) × (place < base_of l.kind + 2 ^ 26 + bias)
 
--- data that threads write lies apart from all that they do not, and is not run
+-- data that threads write lies apart from all that they do not, and can't be run
 pub record IsApart (l : Linking) (bias : ℕ) (fixed : List (Range ℕ)) (range : Range ℕ) : Type 0 where
   pub runnable : range.runnable ≡ false
   pub own : (place : ℕ) → holds range place ≡ true → IsOwn l bias place
   pub apart : (place : ℕ) → holds range place ≡ true → (access : Access) → byte_in access fixed place ≡ None
 
--- all that is loaded of an instance lies at its own places
+-- all that is loaded of an instance lies at its own addresses
 pub record LiesAtItsPlaces (ls : List Linking) (l : Linking) (x : Instance) : Type 0 where
   pub fixed : (access : Access) (place byte : ℕ)
       → byte_in access ((job_loads (images_of ls)).fixed x) place ≡ Some byte → IsOwn l (bias_of l.kind x.number) place
@@ -36,13 +36,14 @@ pub record LiesAtItsPlaces (ls : List Linking) (l : Linking) (x : Instance) : Ty
 abbrev pub PlacesAreOwn : Type 0
 PlacesAreOwn = (ls : List Linking) (l : Linking) (x : Instance) → IsInstanceOf ls l x → LiesAtItsPlaces ls l x
 
--- ** where else something is found
+-- ** the addresses of everything else
 
--- a place of the class's sections, where the image is so far moved
+-- an address of the class's sections, with this load bias
 abbrev pub IsInMoved : Linking → ℕ → SectionClass → ℕ → Type 0
 IsInMoved l bias class place = (address : ℕ) × (place ≡ address + bias) × IsIn l class address
 
--- what is found by an access is of a class that allows it, or in the room, where all lies that a linker adds
+-- an address that allows an access is one of a class that allows it, or lies in the room, where all lies that a linker
+-- adds
 pub record IsFoundInItsClass (l : Linking) (bias : ℕ) (fixed : List (Range ℕ)) : Type 0 where
   pub read : (place byte : ℕ) → byte_in Read fixed place ≡ Some byte
       → (in_room l bias place ≡ true) ⊎ (IsInMoved l bias ReadOnly place ⊎ IsInMoved l bias (Tls true) place)

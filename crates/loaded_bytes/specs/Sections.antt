@@ -16,7 +16,7 @@ pub record IsSectionAt (l : Linking) (class : SectionClass) (o t address : ℕ) 
   pub class_is : section_class (object l o) t ≡ Some class
   pub address_is : address_of (layout l) o t ≡ Some address
 
--- its byte k stands k behind its address
+-- its byte k is at its address plus k
 abbrev pub SectionsStandAsLoaded : Type 0
 SectionsStandAsLoaded = (l : Linking) (bias : ℕ) (class : SectionClass) (o t address k : ℕ) → IsGiven l → Links l
     → HasRange class → IsSectionAt l class o t address → k < section_size (object l o) t

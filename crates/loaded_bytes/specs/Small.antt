@@ -1,4 +1,4 @@
--- Of objects that are lists of bytes what is loaded is bytes.
+-- If objects are lists of bytes, what is loaded is bytes.
 use Rattle.std.specs.Prelude.{◌<◌, ℕ, List}
 use Rattle.std.specs.List.{All}
 use Rattle.link_needs.specs.Linking.{Linking}

@@ -1,4 +1,4 @@
--- What is known of a loaded image by name, and of its blocks, is what its objects say.
+-- Functions and variables by name, and the blocks, of a loaded image are what its objects say.
 use Rattle.std.specs.Prelude.{◌≡◌, ◌+◌, ℕ, false, List, Some, map, option_map}
 use Rattle.std.specs.List.{All}
 use Rattle.elf_object.specs.declared.relocation.Relocation.{Relocation}
@@ -22,14 +22,15 @@ use Rattle.whole_meaning.specs.Spots.{bias_of}
 
 -- ** blocks
 
--- sizes and alignments of blocks, and who wants surplus; with them, where the last startup image's block begins
+-- sizes and alignments of blocks, and the images that need the surplus; with them, where the last startup image's
+-- block begins
 abbrev pub InfosAreLoaded : Type 0
 InfosAreLoaded = (ls : List Linking) → ((job_loads (images_of ls)).infos ≡ map info_of ls)
     × ((job_loads (images_of ls)).last_offset ≡ startup_end (map info_of ls) 0)
 
 -- ** functions
 
--- a function begins where its definition stands, moved as far as the instance
+-- the address of a function is its definition's, plus the load bias
 abbrev pub FunctionsAreLoaded : Type 0
 FunctionsAreLoaded = (ls : List Linking) (l : Linking) (x : Instance) (name : List ℕ) → IsInstanceOf ls l x
     → (job_loads (images_of ls)).function x name
@@ -37,7 +38,7 @@ FunctionsAreLoaded = (ls : List Linking) (l : Linking) (x : Instance) (name : Li
 
 -- ** variables
 
--- a variable lies in a block where its definition lies in the TLS segment; it is asked for by an image's number
+-- the offset of a variable in a block is its definition's in the TLS segment; the argument is an image's number
 abbrev pub VariablesAreLoaded : Type 0
 VariablesAreLoaded = (ls : List Linking) (l : Linking) (image : ℕ) (name : List ℕ)
     → at_number ls image ≡ Some l → IsGiven l
@@ -45,8 +46,8 @@ VariablesAreLoaded = (ls : List Linking) (l : Linking) (image : ℕ) (name : Lis
 
 -- ** imports
 
--- image k is one of those that start with the program, and has a definition of the name; that is what a loader finds by
--- the name, as far into a block of image k as into its TLS segment
+-- image k is a startup image, and has a definition of the name; a loader finds that definition by the name, at the
+-- same offset in a block of image k as in its TLS segment
 pub record IsFoundIn (ls : List Linking) (name : List ℕ) (k : ℕ) : Type 0 where
   pub image : Linking
   pub at : at_number ls k ≡ Some image
@@ -61,19 +62,19 @@ ImportsAreFound = (ls : List Linking) (l : Linking) (number o k : ℕ) (r : Relo
     → LateLast (map (λ l. l.kind) ls) → at_number ls number ≡ Some l → binding l o r ≡ Some (Startup k)
     → IsFoundIn ls (symbol_name (object l o) r.symbol) k
 
--- ** what the meaning of a job says
+-- ** the job's meaning
 
--- of each instance
+-- for each instance
 abbrev pub FunctionsAreMeant : Type 0
 FunctionsAreMeant = (ls : List Linking) (l : Linking) (x : Instance) (name : List ℕ) → IsInstanceOf ls l x
     → (job_loads (images_of ls)).function x name ≡ (loads_of ls).function x name
 
--- of each number, those that no image has among them
+-- for each number, also those that no image has
 abbrev pub VariablesAreMeant : Type 0
 VariablesAreMeant = (ls : List Linking) (image : ℕ) (name : List ℕ) → All IsGiven ls
     → (job_loads (images_of ls)).variable image name ≡ (loads_of ls).variable image name
 
--- and of each job, whatever it links
+-- for each job, whatever it links
 abbrev pub InfosAreMeant : Type 0
 InfosAreMeant = (ls : List Linking) → ((job_loads (images_of ls)).infos ≡ (loads_of ls).infos)
     × ((job_loads (images_of ls)).last_offset ≡ (loads_of ls).last_offset)

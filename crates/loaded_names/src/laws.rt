@@ -1,39 +1,41 @@
-//! The laws. The functions do nothing: what they ensure is the law.
+//! Laws of names. Each function does nothing; what it ensures is the law.
 
 ghost use Rattle.loaded_names.specs.Laws.{FunctionsAreLoaded, FunctionsAreMeant, ImportsAreFound, InfosAreLoaded};
 ghost use Rattle.loaded_names.specs.Laws.{InfosAreMeant, VariablesAreLoaded, VariablesAreMeant};
 
-/// Sizes and alignments of blocks, and who wants surplus, are those of the objects' sections and sequences.
+/// Sizes and alignments of blocks, and the images that need the surplus, are those of the objects' sections and
+/// sequences.
 pub fn infos_are_loaded()
     ensures { InfosAreLoaded }
 {}
 
-/// A function is found by its name where the objects define it, if that is a byte of their code.
+/// The function with a name is at the address where the objects define it, if that is a byte of their code.
 pub fn functions_are_loaded()
     ensures { FunctionsAreLoaded }
 {}
 
-/// A variable is found by its name where the objects define it.
+/// The variable with a name is at the offset where the objects define it.
 pub fn variables_are_loaded()
     ensures { VariablesAreLoaded }
 {}
 
-/// A name that a sequence takes from a startup image is found in the image that it is bound to, by its definition there.
+/// A name that a sequence takes from a startup image is found in the image that it is bound to, by its definition
+/// there.
 pub fn imports_are_found()
     ensures { ImportsAreFound }
 {}
 
-/// So names are found, and blocks are told of, as the meaning of the job has them: functions of each instance,
+/// Functions of each instance are found as in the job's meaning.
 pub fn functions_are_meant()
     ensures { FunctionsAreMeant }
 {}
 
-/// variables of each image,
+/// So are variables of each image.
 pub fn variables_are_meant()
     ensures { VariablesAreMeant }
 {}
 
-/// and blocks of all.
+/// So are the sizes and alignments of all blocks.
 pub fn infos_are_meant()
     ensures { InfosAreMeant }
 {}

@@ -1,4 +1,4 @@
--- What is loaded of the global offset table of an instance of a linked image.
+-- The global offset table of a loaded instance of a linked image.
 use Rattle.std.specs.Prelude.{◌≡◌, ◌+◌, ◌*◌, ◌<◌, ℕ, true, false, List, [], ◌∷◌, Some, IsSome, map, slice_get}
 use Rattle.std.specs.List.{All, list_any}
 use Rattle.amd64_subset.specs.declared.instr.Operation.TheVariants.{Jump}
@@ -34,15 +34,15 @@ use Rattle.loaded_words.specs.Words.{loaded_words}
 
 -- ** instances
 
--- an instance to which a number was given in a history of the images' opens and closes, each of which was accepted
+-- an instance with a number in a history of the images' opens and closes, each of which was accepted
 pub record IsKnown (ls : List Linking) (history : List Event) (x : Instance) : Type 0 where
   pub program : ProgramFirst (map (λ l. l.kind) ls)
   pub legal : IsLegal (job_loads (images_of ls)).infos (job_loads (images_of ls)).last_offset history
   pub known : known_in (job_loads (images_of ls)) history x.number ≡ Some x
 
--- what starts with the program is under its image's number, which is its id, and its blocks begin where those of the
--- images before it end; what came late has a number above all these, and its blocks a fixed distance where its code
--- counts on one. A program is instance 1 and module 1, and its blocks begin right below the thread pointer
+-- a startup instance has its image's number, which is also its id, and its blocks begin where those of the images
+-- before it end. A late one has a number above all these, and its blocks have a fixed distance if its code relies on
+-- one. A program is instance 1 and module 1, and its blocks begin right below the thread pointer
 pub record IsPlaced (ls : List Linking) (l : Linking) (x : Instance) : Type 0 where
   pub early : is_late l.kind ≡ false
       → (x.number ≡ x.image) × (x.id ≡ x.image) × (x.offset ≡ Some (static_offset (images_of ls) x.image))
@@ -69,7 +69,7 @@ WordsAreLoaded = (ls : List Linking) (l : Linking) (x : Instance) (history : Lis
     → slice_get (loaded_words (images_of ls) l.kind x need) k ≡ Some word
     → HasWord ((job_loads (images_of ls)).fixed x) (got_start l + at + 8 * k + bias_of l.kind x.number) word
 
--- both words of a pair or of a descriptor lie in a range that the run time reads them from
+-- both words of a pair or of a descriptor lie in a range from which the run time reads them
 abbrev pub TablesHold : Type 0
 TablesHold = (ls : List Linking) (l : Linking) (x : Instance) (need : Need) (at : ℕ) → IsInstanceOf ls l x
     → start_of (entries l) need ≡ Some at → size_of need ≡ 16
@@ -77,8 +77,8 @@ TablesHold = (ls : List Linking) (l : Linking) (x : Instance) (need : Need) (at 
 
 -- ** the stub
 
--- where it is run it is one instruction, jmp *far(%rip), which jumps through the run time's word: the place of that
--- word is so far behind the instruction's end
+-- the stub is one instruction, jmp *far(%rip), which jumps through the run time's word: `far` is the distance from the
+-- instruction's end to that word
 pub record IsStub (l : Linking) (bias : ℕ) (fixed : List (Range ℕ)) : Type 0 where
   pub bytes : List ℕ
   pub far : ℕ

@@ -1,4 +1,4 @@
-//! The laws. The functions do nothing: what they ensure is the law.
+//! Laws of loaded words. Each function does nothing; what it ensures is the law.
 
 ghost use Rattle.loaded_words.specs.Laws.{InstancesArePlaced, StubIsLoaded, TablesHold, WordsAreLoaded};
 
@@ -7,17 +7,17 @@ pub fn instances_are_placed()
     ensures { InstancesArePlaced }
 {}
 
-/// Each word of the table is the one that its kind of entry has once it is loaded.
+/// Each word of a loaded table is the one that the kind of its entry defines.
 pub fn words_are_loaded()
     ensures { WordsAreLoaded }
 {}
 
-/// Both words of a pair or of a descriptor lie in a range of the instance that the run time reads them from.
+/// Both words of a pair or of a descriptor lie in a range of the instance from which the run time reads them.
 pub fn tables_hold()
     ensures { TablesHold }
 {}
 
-/// The stub is run as it stands in the file, since no relocation writes in it: a jump through the run time's word.
+/// The stub is run as it is in the file, since no relocation writes in it: a jump through the run time's word.
 pub fn stub_is_loaded()
     ensures { StubIsLoaded }
 {}

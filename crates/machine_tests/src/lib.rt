@@ -1,8 +1,7 @@
-//! Tests of the machine's layer that use public calls alone: of running instructions, and of marked values.
+//! Tests of the guest machine by public calls alone: of running instructions, and of marked values.
 //!
-//! They stand in a crate of their own, so that the crates that they test are proved once. What the tests expect comes
-//! from outside: from the processor that ran the rows of `machine/rows.rt`; and the numbers of places are those that the
-//! guide tells.
+//! They are a crate of their own, so that the crates under test are proved once. The expected results come from
+//! outside: from the processor that ran the rows of `machine/rows.rt`, and from the guide for the numbers of places.
 #![tactic(auto)]
 
 #[cfg(test)]

@@ -30,7 +30,7 @@ fn add(memory: &mut GuestMemory<u8>, range: GuestRange<u8>) -> Result<(), &'stat
     memory.add_range(range).ok().ok_or("memory")
 }
 
-/// A memory with code, and a stack that returns to 0x2000, with a word behind that and room before it.
+/// A memory with code, and a stack that holds the return address 0x2000, a word after it and room below it.
 fn with_code(alloc: Global, code: Vec<u8>) -> Result<GuestMemory<u8>, Fail> {
     let mut memory = GuestMemory::new(alloc);
     add(&mut memory, GuestRange::new(CODE, code, RUNNABLE))?;
@@ -41,22 +41,23 @@ fn with_code(alloc: Global, code: Vec<u8>) -> Result<GuestMemory<u8>, Fail> {
     Ok(memory)
 }
 
-/// Each line: code, where it begins, its first two arguments (the third is 7) and how many steps it may take; then how
-/// it stops, and after how many steps. The thread pointer is the stack's address.
+/// Each line: code, its address, its first two arguments (the third is 7) and its limit of steps; then how it stops,
+/// and after how many steps. The thread pointer is the stack's address.
 const RUNS: &str = "\
 // mov %fs:8, %rax; ret: the word 0x7060504030201e9
 64488b042508000000c3 400000 3 5 4: Returned(506097522914230761) after 2
 // xor %eax, %eax; 1: add %rdi, %rax; sub $1, %rdi; jne 1b; ret: 4 + 3 + 2 + 1, in 1 + 3 * 4 + 1 steps
 31c04801f84883ef0175f7c3 400000 4 0 c: Steps(4194313) after 12
 31c04801f84883ef0175f7c3 400000 4 0 e: Returned(10) after 14
-// mov (%rdi), %rax; mov %rax, (%rdi); ud2: what cannot be read, what cannot be written, no instruction, no code
+// mov (%rdi), %rax; mov %rax, (%rdi); ud2: an address that can't be read, one that can't be written, no instruction,
+// no code
 488b074889070f0b 400000 7f0009 0 9: Address(4194304) after 0
 488b074889070f0b 400000 400000 0 9: Address(4194307) after 1
 488b074889070f0b 400000 7f0000 0 9: Code(4194310) after 2
 488b074889070f0b 7f0000 0 0 9: Code(8323072) after 0
 ";
 
-/// A hexadecimal number, or 0 where a word is none.
+/// The number that a word spells in hexadecimal digits, or 0 if there is none.
 fn number(word: Option<&str>) -> u64 {
     u64::from_str_radix(word.unwrap_or(""), 16).unwrap_or(0)
 }
@@ -67,7 +68,7 @@ fn with_digits(alloc: Global, digits: Option<&str>) -> Result<GuestMemory<u8>, F
     with_code(alloc, hex::decode(alloc, digits).ok().ok_or("digits")?)
 }
 
-/// How a call stops, as a line of the table has it.
+/// How a call stops, in the words of the table.
 fn stopped(alloc: Global, call: &str) -> Result<String, Fail> {
     let mut words = call.split(' ');
     let mut memory = with_digits(alloc, words.next())?;
@@ -80,12 +81,12 @@ fn stopped(alloc: Global, call: &str) -> Result<String, Fail> {
     Ok(format!(in alloc; "{stop:?} after {taken}")?)
 }
 
-/// Compares what a test finds with what it wants.
+/// Checks that a test finds what it wants.
 fn same(rt: &impl Abort, found: &str, want: &str, at: &str) {
     assert!(rt; found == want, "{found}: {at}");
 }
 
-/// Compares how one call stops.
+/// Checks how one call stops.
 fn check(rt: &impl Abort, alloc: Global, line: &str) -> Result<(), Fail> {
     let (call, want) = line.split_once(": ").ok_or("an answer")?;
     same(rt, stopped(alloc, call)?.as_str(), want, line);
@@ -123,7 +124,7 @@ fn fields_are_told(rt: HostRuntime) -> Result<(), Fail> {
     Ok(())
 }
 
-/// What the instruction of these digits touches, in a call with 3, 5 and 7.
+/// The accesses of the instruction with these digits, in a call with 3, 5 and 7.
 fn touched(alloc: Global, digits: &str) -> Result<String, Fail> {
     let memory = with_digits(alloc, Some(digits))?;
     let machine: Machine<Plain> = Machine::start(CODE, STACK, 3, 5, 7);
@@ -131,7 +132,7 @@ fn touched(alloc: Global, digits: &str) -> Result<String, Fail> {
     Ok(format!(in alloc; "{touches:?}")?)
 }
 
-/// Each line: an instruction, and what it touches.
+/// Each line: an instruction, and its accesses.
 const TOUCHED: &str = "\
 // call *8(%rdi): its target is loaded, then the return address is pushed
 ff5708 Touches { first: Some(Touch { direction: Load, size: Quad, address: 11 }), second: Some(Touch { direction: Store, size: Quad, address: 8323064 }) }
@@ -142,7 +143,7 @@ ff5708 Touches { first: Some(Touch { direction: Load, size: Quad, address: 11 })
 0fffff Touches { first: None, second: None }
 ";
 
-/// Compares what one instruction touches.
+/// Checks the accesses of one instruction.
 fn check_touched(rt: &impl Abort, alloc: Global, line: &str) -> Result<(), Fail> {
     let (digits, want) = line.split_once(' ').ok_or("an answer")?;
     same(rt, touched(alloc, digits)?.as_str(), want, line);

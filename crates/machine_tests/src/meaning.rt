@@ -1,9 +1,9 @@
-//! Marked values: what is carried whole, and what a field moves.
+//! Marked values: what is moved whole, and what a field moves.
 
 use guest_arithmetic::{Cause, Four, Values};
 use job_meaning::{Block, MarkedValues, Token, Word};
 
-/// A word as it is stored and loaded again.
+/// A word that was stored and loaded again.
 fn stored_and_loaded<V: Values>(word: V::Word) -> V::Word {
     let low = Four {
         first: V::byte_of(word, 0),
@@ -20,7 +20,7 @@ fn stored_and_loaded<V: Values>(word: V::Word) -> V::Word {
     V::joined_quad(low, high)
 }
 
-/// A base of instance 2.
+/// The base of instance 2.
 fn base() -> Word {
     Word::Marked(Token::Base(Block {
         thread: 1,

@@ -1,4 +1,4 @@
-//! The places at which the machine stops for the run time, each beside its number, which the guide tells.
+//! The addresses at which the machine stops for the run time, each beside its number in the guide.
 
 use guest_machine::{DESCRIPTOR, GET_ADDRESS, RETURN};
 

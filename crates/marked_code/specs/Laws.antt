@@ -1,5 +1,5 @@
--- The laws of code with fields in it. The first two hold over any memories and any relation of them; a clause says them
--- of threads' memories, and of the relations that a test decides.
+-- The laws of code with fields in it. The first two hold for any memories and any relation of them; a clause states
+-- them for threads' memories, and for the relations that a test decides.
 use Rattle.std.specs.Prelude.{◌≡◌, ◌<◌, ℕ, Bool, true, false, List, Some, None, Ok}
 use Rattle.amd64_subset.specs.declared.instr.Decoded.{Decoded}
 use Rattle.amd64_subset.specs.declared.instr.Operation.{Operation}
@@ -24,10 +24,10 @@ use Rattle.whole_meaning.specs.Threads.{Memory, ops}
 use Rattle.tied_meaning.specs.Codes.{SameCode}
 use Rattle.tied_meaning.specs.Numbers.{Setting, SameField, SameWord, alike}
 
--- Same: what memories have to do with each other
+-- Same: the relation of memories
 module _ {M M' : Type 0} (Same : M → M' → Type 0) where
-  -- one step where no sequence begins. shut: the places that are the linker's own, none of which is one of the first
-  -- eight, where the word of an address field is lent
+  -- one step where no sequence begins. shut: the addresses that are the linker's own, none of which is one of the
+  -- first eight, where the word of an address field is lent
   abbrev pub StepsFollow : Type 0
   StepsFollow = (g : Setting) (acc : Accesses M Byte) (acc' : Accesses M' ℕ) (shut : M → ℕ → Bool) (mark : M → ℕ → Mark)
       → IsKept (alike g) (closed shut acc) acc' Same
@@ -37,8 +37,8 @@ module _ {M M' : Type 0} (Same : M → M' → Type 0) where
       → Follows (SameAfter (alike g) Same) (marked_step ops acc (mark m) (shut m) s m)
       (step_of plain_operations acc' (λ place. false) s' m')
 
-  -- one instruction that reads 64 bits of memory and does not write them: where related words stand at the one address
-  -- and at the other, it does the same. It may push, so stores have to be related too. f, f': what stands around it
+  -- one instruction that reads 64 bits of memory and does not write them: if the one address and the other hold
+  -- related words, it does the same. It may push, so stores have to be related too. f, f': its frames
   abbrev pub ReadsAlike : Type 0
   ReadsAlike = (g : Setting) (acc : Accesses M Byte) (acc' : Accesses M' ℕ) (f f' : Frame) → f.next ≡ f'.next
       → SameField g f.immediate_field f'.immediate_field f.immediate f'.immediate
@@ -51,7 +51,7 @@ module _ {M M' : Type 0} (Same : M → M' → Type 0) where
       → (operation : Operation) → read_in operation ≡ Some operand
       → Follows (SameAfter (alike g) Same) (act ops acc f operation s m) (act plain_operations acc' f' operation s' m')
 
--- memories of a thread that a test finds alike
+-- memories of a thread that a test relates
 abbrev pub TestedAlike : (Memory → Space Event ℕ → Bool) → Memory → Space Event ℕ → Type 0
 TestedAlike test m m' = test m m' ≡ true
 
@@ -61,7 +61,7 @@ MarkedStepsFollow = (test : Memory → Space Event ℕ → Bool) → StepsFollow
 abbrev pub ReadsFollow : Type 0
 ReadsFollow = (test : Memory → Space Event ℕ → Bool) → ReadsAlike (TestedAlike test)
 
--- an operand that is read relative to the next instruction, with its displacement in a field, has no index
+-- an operand relative to the next instruction, with its displacement in a field, has no index
 abbrev pub NextHasNoIndex : Type 0
 NextHasNoIndex = (bytes : List ℕ) (d : Decoded) (at : ℕ) (operand : Operand) → decoded bytes ≡ Some d → d.disp ≡ Some at
     → read_in d.instr.operation ≡ Some operand → is_from_next operand.base ≡ true → operand.index ≡ None

@@ -1,4 +1,4 @@
--- What each thread of a job means by itself, and where that is all; and that no linker's setting enters.
+-- What each thread of a job means by itself, and when that is all; and that no linker's setting matters.
 use Rattle.std.specs.Prelude.{◌≡◌, ℕ, Bool, false, List, [], Some, None, map}
 use Rattle.std.specs.List.{All}
 use Rattle.job_text.specs.declared.thread_lines.ThreadLine.{ThreadLine}
@@ -17,8 +17,8 @@ use Rattle.whole_meaning.specs.Threads.{meant_ready, meant_turns}
 abbrev pub HasNoData : Meaning → Type 0
 HasNoData m = (x : Instance) → m.loads.shared x ≡ None
 
--- a thread among others takes the turns that it would take alone, at fronts of the history, each of which the next one
--- continues, and so says the same of its lines
+-- a thread of a job takes the turns that it would take alone, at fronts of the history, each of which the next one
+-- continues, so its lines are the same
 abbrev pub ThreadsMeanTheirOwn : Type 0
 ThreadsMeanTheirOwn = (m : Meaning) (fuel : ℕ) (lines : List (List ThreadLine)) (order : List ℕ)
     → (thread : ℕ) (own : List ThreadLine) → HasNoData m → at_number lines thread ≡ Some own
@@ -31,15 +31,15 @@ ThreadsMeanTheirOwn = (m : Meaning) (fuel : ℕ) (lines : List (List ThreadLine)
 abbrev pub ImagesWithoutDataShareNone : Type 0
 ImagesWithoutDataShareNone = (ls : List Linking) → All (λ l. has_data l ≡ false) ls → HasNoData (meaning_of ls)
 
--- the links of a job, where sequences may be rewritten, or not
+-- the links of a job, if sequences may be rewritten, or must be kept
 abbrev pub set_to : Bool → List Linking → List Linking
 set_to relax ls = map (λ (l : Linking). record l { relax = relax }) ls
 
--- the meaning is one thing in both settings
+-- the meaning is the same in both settings
 abbrev pub MeaningKnowsNoSetting : Type 0
 MeaningKnowsNoSetting = (ls : List Linking) (relax : Bool) → meaning_of (set_to relax ls) ≡ meaning_of ls
 
--- and so is the verdict on a job: no step is unclean in either, or the same one is the first
+-- the verdict on a job is the same in both: no step is unclean in either, or the same one is the first
 abbrev pub VerdictKnowsNoSetting : Type 0
 VerdictKnowsNoSetting = (ls : List Linking) (relax : Bool) (fuel : ℕ) (lines : List (List ThreadLine)) (order : List ℕ)
     → verdict_of (lines_of (meant_world (meaning_of (set_to relax ls)) fuel lines order))

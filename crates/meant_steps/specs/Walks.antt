@@ -12,12 +12,12 @@ is_usual (Offset number byte) = false
 is_usual (Address number addend byte) = false
 is_usual Inside = false
 
--- the first answer that there is, of so many from number k on
+-- the first answer, of this many from number k on
 abbrev pub first_from : (ℕ → Option Cause) → ℕ → ℕ → Option Cause
 first_from answer k zero = None
 first_from answer k (suc more) = option_or (answer k) (first_from answer (k + 1) more)
 
--- behind the last byte that is read, where byte k is read
+-- the end of the bytes that are read, if byte k is read
 abbrev pub end_of : Option Decoded → ℕ → ℕ
 end_of None k = k + 1
 end_of (Some it) k = it.len

@@ -1,4 +1,4 @@
-//! What an instruction may do with a field that stands in it.
+//! What an instruction may do with a field in it.
 
 ghost use Rattle.std.specs.Prelude.{◌≡◌, ℕ};
 ghost use Rattle.amd64_subset.specs.declared.instr.Operation.TheVariants.{Compute as Computes, Move as Moves};
@@ -56,7 +56,7 @@ fn target_in(target: &Target) -> Option<Memory>
     }
 }
 
-/// An instruction's operand in memory: none has more than one.
+/// An instruction's operand in memory. No instruction has more than one.
 #[tactic(auto, unfolding(whole_meaning::specs::Fields::memory_in))]
 pub fn memory_in(operation: &Operation) -> Option<Memory>
     ensures { result ≡ memory_in operation.now }
@@ -95,7 +95,7 @@ fn read_by_move(width: Width, operands: &Operands) -> Option<Memory>
     }
 }
 
-/// The operand that a cmp alone does not write.
+/// The memory operand, if the instruction reads 64 bits of it and does not write it: into a register, or for cmp.
 #[tactic(auto, unfolding(whole_meaning::specs::Fields::read_in))]
 fn read_by_compute(arithmetic: Arithmetic, width: Width, operands: &Operands) -> Option<Memory>
     ensures { result ≡ read_in (Computes arithmetic width operands.now) }
@@ -140,7 +140,7 @@ pub fn read_in(operation: &Operation) -> Option<Memory>
     }
 }
 
-/// Whether an offset field begins there.
+/// Whether an offset field begins here.
 fn starts_offset(mark: Mark) -> bool
     ensures { result ≡ starts_offset mark }
 {
@@ -150,7 +150,7 @@ fn starts_offset(mark: Mark) -> bool
     }
 }
 
-/// Where an offset field begins its own number, and else what was read.
+/// The field's own number if an offset field begins here, and else what was decoded.
 fn field_number(mark: Mark, read: u64) -> u64
     ensures { result ≡ field_number mark read }
 {
@@ -160,7 +160,7 @@ fn field_number(mark: Mark, read: u64) -> u64
     }
 }
 
-/// The address that an address field stands for, where one begins.
+/// The address that an address field stands for, if one begins here.
 fn field_address(mark: Mark) -> Option<u64>
     ensures { result ≡ field_address mark }
 {
@@ -170,7 +170,7 @@ fn field_address(mark: Mark) -> Option<u64>
     }
 }
 
-/// The place of a part of an instruction, where an offset field begins there.
+/// The address of a part of an instruction, if an offset field begins there.
 fn field_at<M: Marks>(marks: &M, here: u64, within: Option<u8>) -> Option<u64>
     ensures { result ≡ field_at (λ place. starts_offset (M.mark marks.now place)) here within }
 {
@@ -192,7 +192,7 @@ fn number_in<M: Marks>(marks: &M, here: u64, at: Option<u8>, read: u64) -> u64
     }
 }
 
-/// What stands around an instruction: a field's own number in its place.
+/// The frame of an instruction, with a field's own number in its place.
 #[tactic(auto, unfolding(whole_meaning::specs::Fields::marked_frame, guest_operands::specs::Frame::frame_of))]
 pub fn marked_frame<M: Marks>(marks: &M, here: u64, it: &Decoded) -> Frame
     ensures { result ≡ marked_frame (M.mark marks.now) here it.now }
@@ -206,8 +206,8 @@ pub fn marked_frame<M: Marks>(marks: &M, here: u64, it: &Decoded) -> Frame
     }
 }
 
-/// The address that an instruction's address field stands for, if it has one. `at` is where its
-/// displacement begins in its bytes.
+/// The address that an instruction's address field stands for, if it has one. `at` is the displacement's offset in the
+/// instruction.
 pub fn address_at<M: Marks>(marks: &M, here: u64, at: Option<u8>) -> Option<u64>
     ensures { result ≡ address_at (M.mark marks.now) here at }
 {
@@ -235,7 +235,7 @@ fn is_used(answer: Result<u64, Cause>) -> bool
     }
 }
 
-/// An operand's address can be used: its base is one of the code's own instance, and its index is a number.
+/// Whether an operand's address can be used: its base is one of the code's own instance, and its index is a number.
 fn has_address<M: Marks>(
     marks: &M,
     state: &State<Word, Flag>,
@@ -253,7 +253,7 @@ fn has_address<M: Marks>(
     }
 }
 
-/// The sum of a register's word and an immediate at byte k can be used.
+/// Whether the sum of a register's word and an immediate at byte k can be used.
 fn is_base<M: Marks>(
     marks: &M,
     state: &State<Word, Flag>,
@@ -270,7 +270,7 @@ fn is_base<M: Marks>(
     is_used(MarkedValues::moved(base, frame.immediate, place))
 }
 
-/// The instruction adds an immediate at byte k to such a base.
+/// Whether the instruction adds an immediate at byte k to such a base.
 fn adds_to_base<M: Marks>(marks: &M, state: &State<Word, Flag>, it: &Decoded, k: u8) -> bool
     ensures { result ≡ adds_to_base ops (M.mark marks.now) state.now it.now k it.now.instr.operation }
 {
@@ -295,7 +295,7 @@ pub fn takes_offset<M: Marks>(marks: &M, state: &State<Word, Flag>, k: u8, it: &
         || (is_at(it.imm, k) && adds_to_base(marks, state, it, k))
 }
 
-/// An addend is minus so many.
+/// Whether the addend is -`size`.
 fn is_minus(addend: i64, size: u8) -> bool
     ensures { result ≡ is_minus addend size }
 {
@@ -311,7 +311,7 @@ fn is_from_next(base: Base) -> bool
     }
 }
 
-/// Relative to the next instruction's address, and not to the thread pointer.
+/// Whether the operand is relative to the next instruction's address, and not to the thread pointer.
 fn reads_next(operand: Option<Memory>) -> bool
     ensures { result ≡ reads_next operand }
 {
@@ -321,8 +321,8 @@ fn reads_next(operand: Option<Memory>) -> bool
     }
 }
 
-/// Whether an address field of this addend may begin at byte k of an instruction: as the displacement of an operand
-/// that is read, where the addend leads from the field to the next instruction.
+/// Whether an address field with this addend may begin at byte k of an instruction: as the displacement of an operand
+/// that is read, if the addend leads from the field to the next instruction.
 pub fn takes_address(addend: i64, k: u8, it: &Decoded) -> bool
     ensures { (mark : ℕ → Mark) (state : State Word Flag) → result ≡ takes_address ops mark state addend k it.now }
 {

@@ -1,9 +1,9 @@
-//! Laws that a caller needs. The functions do nothing: what they ensure is the law.
+//! Laws of stacks. Each function does nothing; what it ensures is the law.
 
 ghost use Rattle.meant_steps.specs.Stacks.{StacksAgree};
 
-/// A thread's stack in `whole_meaning` is the one that begins where the thread's stack does: what [`crate::does`] says
-/// of a memory whose stack begins there is the step of the sequence in the meaning.
+/// A thread's stack in `whole_meaning` is the stack that begins at the thread's stack address. So for a memory whose
+/// stack begins there, the clauses of [`crate::does`] are the step of the sequence in the meaning.
 pub fn stacks_agree()
     ensures { StacksAgree }
 {}

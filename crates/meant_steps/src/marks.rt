@@ -1,16 +1,16 @@
-//! Marks of code, as whoever reads it finds them.
+//! The marks of code, as a trait.
 
 ghost use Rattle.std.specs.Prelude.{◌≡◌, ℕ};
 ghost use Rattle.whole_meaning.specs.declared.marks.Mark.{Mark};
 
 use whole_meaning::Mark;
 
-/// What knows the mark of each place of code.
+/// Knows the mark of each address of code.
 pub trait Marks {
-    /// What each place of code is.
+    /// The mark of each address of code.
     ghost mark: { Self → ℕ → Mark };
 
-    /// What a place of code is.
+    /// The mark of an address of code.
     fn mark(&self, place: u64) -> Mark
         ensures { result ≡ mark self.now place };
 }

@@ -1,4 +1,4 @@
-//! Why bytes may not be read as an instruction, and which data an instruction touches.
+//! Why bytes may not be decoded as an instruction, and which data an instruction touches.
 
 ghost use Rattle.std.specs.Prelude.{◌≡◌, ℕ, ◌≤◌, ◌<◌, ◌-◌, ◌^◌, true, false, length, take, unwrap_or, if◌then◌else◌};
 ghost use Rattle.amd64_subset.specs.Beginning.{begins_of};
@@ -34,7 +34,7 @@ fn is_usual(mark: Mark) -> bool
     }
 }
 
-/// Why a byte of this mark, byte k of an instruction, may not be read.
+/// Why byte k of an instruction, which has this mark, may not be read.
 fn hindrance_of<M: Marks>(
     marks: &M,
     state: &State<Word, Flag>,
@@ -57,7 +57,7 @@ fn hindrance_of<M: Marks>(
     }
 }
 
-/// The instruction that bytes spell, with zeros where some are missing.
+/// The instruction that the bytes spell, with zeros for missing ones.
 #[tactic(auto, unfolding(job_meaning::specs::Reading::completed))]
 fn completed(bytes: &[u8]) -> Option<Decoded>
     requires { length bytes.now ≤ 15 }
@@ -68,7 +68,7 @@ fn completed(bytes: &[u8]) -> Option<Decoded>
     decode(&whole[..bytes.len() + 15])
 }
 
-/// The first of so many places from a place on that is no usual one: how far behind that place it lies.
+/// The offset of the first address with a mark that is not usual, among `count` from `place` on.
 fn first_marked<M: Marks>(marks: &M, place: u64, count: u8) -> Option<u8>
     ensures usual { (j : ℕ) → j < unwrap_or result count → is_usual (M.mark marks.now (plus place j)) ≡ true }
     ensures marked { (k : ℕ) → result ≡ Some k → (k < count) × (is_usual (M.mark marks.now (plus place k)) ≡ false) }
@@ -82,7 +82,7 @@ fn first_marked<M: Marks>(marks: &M, place: u64, count: u8) -> Option<u8>
     None
 }
 
-/// The first hindrance from byte k on, where the bytes spell an instruction: only its own bytes are read.
+/// The first hindrance from byte k on, if the bytes spell an instruction: only its own bytes are read.
 fn first_in<M: Marks>(
     marks: &M,
     state: &State<Word, Flag>,
@@ -103,7 +103,7 @@ fn first_in<M: Marks>(
     None
 }
 
-/// The first hindrance from byte k on, which may be read and is no usual one.
+/// The first hindrance from byte k on, which may be read and has a mark that is not usual.
 fn hindrance_from<M: Marks>(
     marks: &M,
     state: &State<Word, Flag>,
@@ -122,7 +122,7 @@ fn hindrance_from<M: Marks>(
     first_in(marks, state, &it, k, end)
 }
 
-/// Where the instruction ends. Where there is none the byte at hand is the last that is read.
+/// The end of the instruction. If there is none, byte k is the last one that is read.
 fn end_of(it: &Option<Decoded>, k: u8) -> u8
     requires { k ≤ 15 }
     ensures { result ≡ end_of it.now k }
@@ -133,15 +133,15 @@ fn end_of(it: &Option<Decoded>, k: u8) -> u8
     }
 }
 
-/// Where the thread is, which is a word.
+/// The address of the thread's next instruction.
 fn place_of(state: &State<Word, Flag>) -> u64
     ensures { result ≡ state.now.place }
 {
     state.place
 }
 
-/// Why bytes that were fetched where the thread is may not be read as an instruction: the first of them, or the one
-/// behind them, that is of a sequence, or of a field that the instruction may not cover.
+/// Why the bytes fetched at the thread's place may not be decoded as an instruction: the cause of the first byte, of
+/// these or the one after them, that lies in a sequence, or in a field that the instruction may not cover.
 #[tactic(auto, unfolding(whole_meaning::specs::Reading::hindrance))]
 pub fn hindrance<M: Marks>(marks: &M, state: &State<Word, Flag>, bytes: &[u8]) -> Option<Cause>
     requires { length bytes.now ≤ 15 }
@@ -155,7 +155,7 @@ pub fn hindrance<M: Marks>(marks: &M, state: &State<Word, Flag>, bytes: &[u8]) -
     None
 }
 
-/// The data accesses of the instruction that was read where the thread is, but for the operand that its address
+/// The data accesses of the decoded instruction at the thread's place, except that to the operand which its address
 /// field stands for.
 pub fn own_touches<M: Marks>(marks: &M, state: &State<Word, Flag>, it: &Option<Decoded>) -> Touches
     ensures { result ≡ own_touches ops (M.mark marks.now) state.now it.now }

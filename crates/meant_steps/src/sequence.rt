@@ -1,4 +1,4 @@
-//! Sequences: what each does to a thread's registers, and what it asks of its stack.
+//! Sequences: what each does to a thread's registers, and how much stack it needs.
 
 ghost use Rattle.std.specs.Prelude.{◌≡◌, ℕ};
 ghost use Rattle.std.specs.List.{list_all};
@@ -18,7 +18,7 @@ use job_meaning::{Block, Flag, MarkedValues, Token, Word};
 use sequence_forms::Form;
 use whole_meaning::Sequence;
 
-/// Whether the form asks the run time, and looks if its variable came late.
+/// Whether the form calls the run time, and looks if its variable's instance is not a startup one.
 pub fn asks(form: Form) -> bool
     ensures { result ≡ asks form }
 {
@@ -28,14 +28,14 @@ pub fn asks(form: Form) -> bool
     }
 }
 
-/// Whether so many bytes from a place on are all of the stack.
+/// Whether `size` bytes from `place` on all lie on the stack.
 fn holds_all<S: CallStack>(stack: &S, place: u64, size: u8) -> bool
     ensures { result ≡ list_all ((stack_from (S.start stack.now)).holds (S.memory stack.now)) (places_from place size) }
 {
     size == 0 || (stack.holds(place) && holds_all(stack, place.wrapping_add(1), size - 1))
 }
 
-/// Where %rsp points, with eight bytes of stack below for a return address.
+/// %rsp, with eight bytes of stack below it for a return address.
 #[tactic(auto, unfolding(job_meaning::specs::Marked::marked_operations))]
 fn stack_use<S: CallStack>(state: &State<Word, Flag>, stack: &S) -> Result<u64, Cause>
     ensures { result ≡ stack_use (stack_from (S.start stack.now)) state.now (S.memory stack.now) }
@@ -47,7 +47,7 @@ fn stack_use<S: CallStack>(state: &State<Word, Flag>, stack: &S) -> Result<u64, 
     Err(Cause::Undefined)
 }
 
-/// %rax holds the descriptor of this instance and symbol.
+/// Checks that %rax holds the descriptor of this instance and symbol.
 fn descriptor_use(sequence: &Sequence, word: Word) -> Result<(), Cause>
     ensures { result ≡ descriptor_use sequence.now word }
 {
@@ -65,7 +65,7 @@ fn descriptor_use(sequence: &Sequence, word: Word) -> Result<(), Cause>
     }
 }
 
-/// Nothing is known of the flags any more.
+/// Makes the flags unknown.
 fn forget_flags(state: &mut State<Word, Flag>)
     ensures { state.new ≡ without_flags state.old }
 {
@@ -77,7 +77,8 @@ fn forget_flags(state: &mut State<Word, Flag>)
     };
 }
 
-/// A call leaves its caller these registers unknown (psABI, "Registers and the Stack Frame"), and the flags.
+/// Makes the registers unknown that a call leaves so to its caller (psABI, "Registers and the Stack Frame"), and the
+/// flags.
 fn forget_after_call(state: &mut State<Word, Flag>)
     ensures { state.new ≡ after_call state.old }
 {
@@ -93,7 +94,7 @@ fn forget_after_call(state: &mut State<Word, Flag>)
     forget_flags(state);
 }
 
-/// The variable's address, where the thread's block begins at `start`.
+/// The variable's address, if the thread's block begins at `start`.
 fn variable_address(sequence: &Sequence, start: u64) -> u64
     ensures { result ≡ variable_address sequence.now start }
 {
@@ -107,7 +108,7 @@ fn variable_distance(sequence: &Sequence, start: u64, pointer: u64) -> u64
     variable_address(sequence, start).wrapping_sub(pointer)
 }
 
-/// The base of the thread's own block.
+/// The base of the thread's block of the code's own instance.
 fn own_base(sequence: &Sequence, thread: u64, start: u64) -> Word
     ensures { result ≡ Marked (Base (record { thread = thread; instance = sequence.now.instance; start = start })) }
 {
@@ -118,7 +119,7 @@ fn own_base(sequence: &Sequence, thread: u64, start: u64) -> Word
     }))
 }
 
-/// A call whose answer is the word.
+/// Does a call that returns the word.
 fn called_with<S: CallStack>(
     sequence: &Sequence,
     word: Word,
@@ -138,7 +139,7 @@ fn called_with<S: CallStack>(
     Ok(())
 }
 
-/// The call of a descriptor, whose answer is the distance.
+/// Does the call of a descriptor, which returns the distance.
 fn descriptor_called<S: CallStack>(
     sequence: &Sequence,
     start: u64,
@@ -162,7 +163,7 @@ fn descriptor_called<S: CallStack>(
     Ok(())
 }
 
-/// The distance is added to a register.
+/// Adds the distance to a register.
 #[tactic(auto, unfolding(job_meaning::specs::Marked::marked_operations))]
 fn add_distance<S: CallStack>(
     sequence: &Sequence,
@@ -183,12 +184,12 @@ fn add_distance<S: CallStack>(
         sequence.register,
         Word::Number(number.wrapping_add(distance)),
     );
-    forget_flags(state); // a linker may make it lea, which sets none
+    forget_flags(state); // a linker may make it lea, which sets no flag
     state.place = sequence.next;
     Ok(())
 }
 
-/// A register is loaded with a word.
+/// Loads a register with a word.
 fn put(state: &mut State<Word, Flag>, register: Register, word: Word, next: u64)
     ensures { state.new ≡ at_place (with_word state.old register word) next }
 {
@@ -196,10 +197,10 @@ fn put(state: &mut State<Word, Flag>, register: Register, word: Word, next: u64)
     state.place = next;
 }
 
-/// What a sequence does to a thread's registers and stack, a look aside.
+/// Does a sequence to a thread's registers and stack, without a look.
 ///
-/// `thread` is the thread's number, and `start` is where its block of the target's instance begins. An error is the
-/// stop of a sequence that has no meaning there, and leaves all as it was.
+/// `thread` is the thread's number, and `start` is the address of its block of the target's instance. An error is the
+/// stop of a sequence that has no meaning here; it changes nothing.
 #[tactic(auto, unfolding(whole_meaning::specs::Sequences::sequence_result, guest_operands::specs::State::with_register))]
 pub fn does<S: CallStack>(
     sequence: &Sequence,
@@ -242,7 +243,7 @@ pub fn does<S: CallStack>(
     }
 }
 
-/// The stop of a use by the instruction at a place, if the use fails.
+/// The stop of a use by the instruction at an address, if the use fails.
 fn stop_at<A: Copy>(here: u64, answer: Result<A, Cause>) -> Option<Stop>
     ensures { result ≡ stop_of (clean here answer) }
 {
@@ -253,7 +254,7 @@ fn stop_at<A: Copy>(here: u64, answer: Result<A, Cause>) -> Option<Stop>
 }
 
 /// Why a sequence has no meaning where the thread is, if it has none: the error that [`does`] would return. A look is
-/// made only where there is none, and changes nothing.
+/// made only if there is none, and changes nothing.
 #[tactic(auto, unfolding(whole_meaning::specs::Sequences::sequence_result, job_meaning::specs::Marked::marked_operations))]
 pub fn stops<S: CallStack>(
     sequence: &Sequence,

@@ -9,23 +9,23 @@ ghost use Rattle.meant_steps.specs.Stacks.{IsForgettable, stack_from};
 
 use job_meaning::Byte;
 
-/// A thread's memory, of which a sequence reaches the stack alone.
+/// A thread's memory. A sequence accesses only its stack.
 pub trait CallStack {
-    /// What a sequence leaves as it is besides the memory and where its stack begins; `()` where there is nothing.
+    /// What a sequence keeps besides the memory and the start of its stack; `()` if there is nothing.
     type Rest;
 
     ghost memory: { Self → Memory };
 
-    /// Where the lowest byte of the stack lies.
+    /// The address of the stack's lowest byte.
     ghost start: { Self → ℕ };
 
     ghost rest: { Self → Self.Rest };
 
-    /// Whether the byte at a place is one of the stack.
+    /// Whether the byte at an address lies on the stack.
     fn holds(&self, place: u64) -> bool
         ensures { result ≡ (stack_from (start self.now)).holds (memory self.now) place };
 
-    /// Makes the stack's bytes below a place such that nothing is known of them.
+    /// Makes the stack's bytes below an address unknown.
     fn forget(&mut self, place: u64)
         requires { IsForgettable (start self.old) (memory self.old) place }
         ensures memory { memory self.new ≡ (stack_from (start self.old)).forget (memory self.old) place }
@@ -33,14 +33,14 @@ pub trait CallStack {
         ensures rest { rest self.new ≡ rest self.old };
 }
 
-/// Whether the byte at a place is one of a stack, whose lowest byte lies at `start`: `CallStack::holds` over bytes.
+/// Whether the byte at an address lies on a stack whose lowest byte is at `start`: `CallStack::holds` over bytes.
 pub fn is_in_stack(start: u64, stack: &[Byte], place: u64) -> bool
     ensures { result ≡ grants Write (stack_range start stack.now) place }
 {
     start <= place && place - start < stack.len() as u64
 }
 
-/// Makes the lowest bytes of a stack such that nothing is known of them: `CallStack::forget` over bytes.
+/// Makes the lowest `count` bytes of a stack unknown: `CallStack::forget` over bytes.
 pub fn hide(stack: &mut [Byte], count: usize)
     requires { count ≤ length stack.old }
     ensures { stack.new ≡ hidden_below count stack.old }

@@ -12,10 +12,10 @@ use job_meaning::{Block, Byte, Flag, MarkedValues, Token, Word};
 use sequence_forms::Form;
 use whole_meaning::{Mark, Sequence};
 
-/// Where the code of instance 2 stands.
+/// The address of instance 2's code.
 const CODE: u64 = 0x1_0800_0000;
 
-/// An offset field at a place, of the number 0x10.
+/// An offset field at an address, with the number 0x10.
 #[derive(Drop)]
 struct OffsetField {
     at: u64,
@@ -32,7 +32,7 @@ impl Marks for OffsetField {
     }
 }
 
-/// An address field at a place, of a function at 0x401000, with an addend.
+/// An address field at an address, for a function at 0x401000, with an addend.
 #[derive(Drop)]
 struct AddressField {
     at: u64,

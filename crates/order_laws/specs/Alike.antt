@@ -1,14 +1,14 @@
--- That threads of one kind do what threads of another do, where all that is seen is of one history.
+-- When threads of one kind do what threads of another do, while all that they see is of one history.
 use Rattle.std.specs.Prelude.{◌*◌, ◌≤◌, List, [], ◌∷◌, Option}
 use Rattle.guest_machine.specs.Simulate.{IsSimulated}
 use Rattle.thread_blocks.specs.Turns.{Turns, Thread, event_of, turn, with_event}
 use Rattle.thread_blocks.specs.TurnsAlike.{SameBegun, SameThread}
 
--- S, S': what threads hold, L: a line, E: an event. Rel: of states in a run, Wait: at a look in the middle of a line,
--- Rest: between two lines
+-- S, S': what threads hold, L: a line, E: an event. Rel: the relation of states in a run, Wait: at a look in the
+-- middle of a line, Rest: between two lines
 module _ {S S' L E : Type 0} (Rel Wait Rest : S → S' → Type 0) where
-  -- x and y: what threads do. event: the event that a line would add, where these events are seen. Fine: what may be
-  -- seen; a line that begins may rely on it of what it sees, and of that with its own event behind it
+  -- x and y: the turns of threads. event: the event that a line would add after these events. Fine: what may be seen;
+  -- it holds for what a line's first look sees, and for that with the line's own event added
   pub record AreAlike (Fine : List E → Type 0) (x : Turns S L E) (y : Turns S' L E) (event : L → List E → Option E)
       : Type 0 where
     -- one step of the first is one to four of the second, which has four times as many
@@ -22,12 +22,12 @@ module _ {S S' L E : Type 0} (Rel Wait Rest : S → S' → Type 0) where
         → SameBegun (λ (e : List E). Rel) (λ (e : List E). Rest) seen (x.resume seen s) (y.resume seen s')
 
 module _ {S S' L E : Type 0} (Wait Rest : S → S' → Type 0) where
-  -- two threads that did and said the same so far, or the first has an unclean line; what they hold is related
+  -- two threads that have done the same so far and hold what is related, or the first has an unclean line
   abbrev pub SameOne : Thread S L E → Thread S' L E → Type 0
   SameOne t t' = SameThread (λ (e : List E). Wait) (λ (e : List E). Rest) t t'
 
 module _ {S L E : Type 0} (x : Turns S L E) (event : L → List E → Option E) (Fine : List E → Type 0) where
-  -- each of these turns of a thread sees what may be seen, and so it is with the event that the turn adds
+  -- each of these turns of a thread sees what may be seen, also with the event added that the turn adds
   abbrev pub AtHistory : Thread S L E → List (List E) → Type 0
   AtHistory t [] = Unit {0}
   AtHistory t (seen ∷ more) =

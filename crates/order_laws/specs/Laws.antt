@@ -1,5 +1,5 @@
--- The laws of turns. They hold of any relations; a clause says them of those that a test decides, and of threads over
--- marked values and over plain numbers.
+-- The laws of turns. They hold for any relations; a clause states them for those that a test decides, and for threads
+-- over marked values and over plain numbers.
 use Rattle.std.specs.Prelude.{◌≡◌, ◌⊎◌, ℕ, suc, Bool, true, List, Option}
 use Rattle.job_meaning.specs.declared.values.Byte.{Byte}
 use Rattle.job_meaning.specs.declared.values.Flag.{Flag}
@@ -46,7 +46,7 @@ module _ {W F B W' F' B' : Type 0} (Rel Wait Rest : ℕ → Held W F B → Held 
 
 -- ** as clauses
 
--- what a thread holds by meaning
+-- what a thread of the meaning holds
 abbrev pub Meant : Type 0
 Meant = Held Word Flag Byte
 
@@ -61,7 +61,7 @@ abbrev pub TurnsStayAlike : Type 0
 TurnsStayAlike = (rel wait rest : Meant → Runs → Bool) (fine : List Event → Bool)
     → TurnsKeep (BothPass rel) (BothPass wait) (BothPass rest) (Passes fine) Line
 
--- and of the points of a thread by machine, in a history
+-- the law of points, for a thread of the machine in a history
 abbrev pub PointsAreTold : Type 0
 PointsAreTold = PointsKeep Runs Line Event × FrontsAreTold Event
 

@@ -8,11 +8,11 @@ use Rattle.thread_blocks.specs.Turns.{Thread}
 use Rattle.thread_blocks.specs.TurnsAlike.{HasUnclean}
 use Rattle.order_laws.specs.Alike.{SameOne}
 
--- Wait, Rest: of what threads of a number hold, at a look in the middle of a line and between two lines; Data: of the
--- data that they share
+-- Wait, Rest: the relations of what threads with a number hold, at a look in the middle of a line and between two
+-- lines; Data: that of the data that they share
 module _ {W F B W' F' B' : Type 0} (Wait Rest : ℕ → Held W F B → Held W' F' B' → Type 0)
     (Data : List (Owned B) → List (Owned B') → Type 0) where
-  -- what a thread holds is related with the data in its hands, and without it again; and the data that it leaves is
+  -- what a thread holds is related while it holds the data, and again without them; and the data that it leaves are
   pub record AreLent (i : ℕ) : Type 0 where
     pub lend_rest : (h : Held W F B) (h' : Held W' F' B') (xs : List (Owned B)) (ys : List (Owned B')) → Rest i h h'
         → Data xs ys → Rest i (with_owned h (owned_by h ++ xs)) (with_owned h' (owned_by h' ++ ys))
@@ -27,7 +27,7 @@ module _ {W F B W' F' B' : Type 0} (Wait Rest : ℕ → Held W F B → Held W' F
     pub left_wait : (h : Held W F B) (h' : Held W' F' B') → Wait i h h'
         → Data (data_in (owned_by h)) (data_in (owned_by h'))
 
-  -- Within: of which threads this is said, counted from 0
+  -- Within: the threads that are related, counted from 0
   module _ {L : Type 0} (Within : ℕ → Type 0) where
     -- the same events, related data, and threads that are related one by one
     pub record SameWorld (w : Shared W F B L) (w' : Shared W' F' B' L) : Type 0 where

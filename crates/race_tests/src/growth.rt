@@ -1,6 +1,6 @@
-//! A thread's first access to a module's variables is refused for want of memory alone: its vector stays as it was, and
-//! the access made again finds the block as it begins. To take events asks for no memory at all. A test that met a
-//! refusal says so in a line.
+//! A thread's first access to a module's variables fails only if memory runs out. Then its vector is unchanged, and
+//! the same access made again finds the fresh block. Taking events allocates no memory. A test that ran out of memory
+//! says so in a line.
 
 ghost use Rattle.std.specs.Prelude.{◌≡◌, IfOk};
 ghost use Rattle.loaded_modules.specs.Images.{infos, last_offset};
@@ -33,7 +33,7 @@ fn modules_of(rt: &impl Abort, alloc: Global) -> Result<Modules, Unready> {
     Ok(modules)
 }
 
-/// A history that has the open of the plug.
+/// A history in which the plug was opened.
 fn history_of(rt: &impl Abort, alloc: Global, modules: &Modules) -> Result<Registry, AllocError>
     ensures infos { IfOk result (λ registry. registry.infos ≡ infos modules.now) }
     ensures last_offset { IfOk result (λ registry. registry.last_offset ≡ last_offset modules.now) }
@@ -65,7 +65,7 @@ fn vector_of<'m>(
     Ok(dtv)
 }
 
-/// The vector has seen the open, and has the program's block alone.
+/// Checks that the vector has seen the open, and has the program's block alone.
 fn expect_first_block(rt: &impl Abort, dtv: &Dtv) {
     assert!(rt; dtv.seen() == 1 && dtv.live(2) && dtv.current(2) == Some(2));
     assert!(rt;
@@ -84,7 +84,7 @@ fn address(rt: &impl Abort, dtv: &mut Dtv) -> Result<u64, AddressRefusal> {
     dtv.address(1, 2, 3)
 }
 
-/// Asks for an address in a block that is not there yet, and again where that is refused.
+/// Asks for an address in a block that is not there yet, and once more if that fails.
 fn ask_twice(rt: &(impl Abort + Print), dtv: &mut Dtv) {
     let mut answer = address(rt, dtv);
     if answer == Err(AddressRefusal::OutOfMemory) {
@@ -92,7 +92,7 @@ fn ask_twice(rt: &(impl Abort + Print), dtv: &mut Dtv) {
         let _ = println!(rt; "refused: Dtv::address");
         answer = address(rt, dtv);
     }
-    // Thread 1's blocks lie behind 2^40, that of instance 2 twice 2^24 further.
+    // Thread 1's blocks lie from 2^40 on, and that of instance 2 lies 2 * 2^24 further.
     assert!(rt; answer == Ok(0x100_0200_0003), "an address: {answer:?}");
     assert!(rt;
         dtv.block(2) == Some(b"\x05\0\0\0\0\0\0\0".as_slice()),
@@ -100,7 +100,7 @@ fn ask_twice(rt: &(impl Abort + Print), dtv: &mut Dtv) {
     );
 }
 
-/// A thread takes the open of the plug.
+/// Lets a thread take the open of the plug.
 fn take_events(rt: &impl Abort, alloc: Global) -> Result<(), Unready> {
     let modules = modules_of(rt, alloc)?;
     let registry = history_of(rt, alloc, &modules)?;
@@ -109,7 +109,7 @@ fn take_events(rt: &impl Abort, alloc: Global) -> Result<(), Unready> {
     Ok(())
 }
 
-/// A thread takes the open of the plug, and asks for an address in it.
+/// Lets a thread take the open of the plug, and asks for an address in it.
 fn take_and_ask(rt: &(impl Abort + Print), alloc: Global) -> Result<(), Unready> {
     let modules = modules_of(rt, alloc)?;
     let registry = history_of(rt, alloc, &modules)?;
@@ -118,7 +118,7 @@ fn take_and_ask(rt: &(impl Abort + Print), alloc: Global) -> Result<(), Unready>
     Ok(())
 }
 
-/// Only want of memory is passed over.
+/// Ignores out of memory and no other failure.
 fn expect_ready(rt: &impl Abort, ended: Result<(), Unready>) {
     assert!(rt;
         ended.is_ok() || ended == Err(Unready::OutOfMemory),

@@ -1,5 +1,5 @@
-//! The images of the tests, in hexadecimal digits: a line for each run of bytes, with the place where it begins.
-//! Between runs there are zeros.
+//! The images of the tests, in hexadecimal digits: a line for each run of bytes, with its address. Between runs there
+//! are zeros.
 
 use crate::loading::Unready;
 use hex::FromHexError;
@@ -26,8 +26,9 @@ f4 00000000002040000000000000204000000000006000000000000000600000000000000008000
 30c4 00
 ";
 
-/// A module with a thread-local variable, which begins as 5. Its function `f` asks for it by the General Dynamic
-/// sequence and returns it: `image_listing`'s image `late`, whose code goes on here by `mov (%rax), %eax; ret` at 1010.
+/// A module with a thread-local variable, whose initial value is 5. Its function `f` gets its address by the General
+/// Dynamic sequence and returns its value: `image_listing`'s image `late`, whose code ends here with `mov (%rax),
+/// %eax; ret` at 1010.
 const PLUG: &str = "
 0 7f454c4602010100000000000000000003003e0001
 20 40
@@ -56,7 +57,7 @@ f0 00400000000000000030000000000000003000000000000006000000000000000600000000000
 5153 00
 ";
 
-/// The bytes of hexadecimal digits.
+/// The bytes that hexadecimal digits spell.
 fn decoded(alloc: Global, digits: &str) -> Result<Vec<u8>, Unready> {
     match hex::decode(alloc, digits) {
         Ok(bytes) => Ok(bytes),
@@ -65,7 +66,7 @@ fn decoded(alloc: Global, digits: &str) -> Result<Vec<u8>, Unready> {
     }
 }
 
-/// The image of a text.
+/// The image that a text spells.
 fn image(alloc: Global, text: &str) -> Result<Image, Unready> {
     let mut file = Vec::new(alloc);
     for line in text.lines() {

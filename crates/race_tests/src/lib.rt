@@ -1,8 +1,8 @@
 //! Tests of `job_race`: that its threads run at once.
 //!
-//! Its clauses say what a transcript is. They would hold of a body that ran one thread after another, and no clause can
-//! say otherwise: so a gate holds two threads back until each has been waited for by the other (`two_calls`). Nor do
-//! they say that 64 threads which all want the history at once come to their end (`many_opens`).
+//! The clauses of `job_race` say what a transcript is. A body that ran one thread after another would satisfy them,
+//! and no clause can exclude it. So a gate holds two threads back until each has waited for the other (`two_calls`).
+//! Nor do the clauses say that 64 threads which all want the history at once finish (`many_opens`).
 #![tactic(auto)]
 
 #[cfg(test)]

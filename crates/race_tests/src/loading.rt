@@ -22,7 +22,7 @@ use std::test::Fail;
 use std::thread::Threads;
 use transcript_text::Transcript;
 
-/// Why a job is not there with its images.
+/// Why a job could not be loaded with its images.
 #[derive(Clone, Copy, PartialEq, Eq, Debug)]
 pub enum Unready {
     OutOfMemory,
@@ -36,7 +36,7 @@ impl From<AllocError> for Unready {
     }
 }
 
-/// Whether a relocation names no variable, and wants no place at a fixed distance from the thread pointer.
+/// Whether a relocation names no variable, and needs no block at a fixed distance from the thread pointer.
 fn is_plain(relocation: ImageRelocation) -> bool
     ensures { result ≡ true → IsPlain relocation }
 {
@@ -47,7 +47,7 @@ fn is_plain(relocation: ImageRelocation) -> bool
     }
 }
 
-/// Whether all relocations of an image are so.
+/// Whether all relocations of an image are plain.
 fn is_plain_image(image: &Image) -> bool
     ensures { result ≡ true → IsPlainImage image.now }
 {
@@ -64,7 +64,7 @@ fn is_plain_image(image: &Image) -> bool
     true
 }
 
-/// Whether an image is of the kind that a job gives it.
+/// Whether an image is of the kind that the job gives it.
 fn is_kind(file: FileKind, kind: ImageKind) -> bool
     ensures { result ≡ true → file ≡ file_kind_of kind }
 {
@@ -75,7 +75,7 @@ fn is_kind(file: FileKind, kind: ImageKind) -> bool
     }
 }
 
-/// Whether images of plain relocations are those of a job.
+/// Whether images with plain relocations are those of a job.
 fn are_modules(job: &Job, images: &[Image]) -> bool
     requires { LateLast (map (λ image. image.kind) job.now.images) }
     ensures { result ≡ true → AreModules job.now images.now }
@@ -109,7 +109,7 @@ pub fn loaded(alloc: Global, text: &str, images: Vec<Image>) -> Result<(Job, Mod
     Ok((job, modules))
 }
 
-/// What a job's threads show that run at once, over a history in which nothing is opened yet.
+/// The transcript of a job's threads that run at once, over a history in which nothing is opened yet.
 pub fn race<R: Threads + Wait + Sync, G: Gate + Sync>(
     rt: &R,
     alloc: Global,

@@ -1,8 +1,8 @@
 //! 64 threads that open, call and close one module, each 100 times, with nothing that holds them back.
 //!
-//! No two runs need print the same, so no transcript is written here. Each run's own events are replayed instead, one
-//! after another, and each line must have the answer that the module calls for as it was after the events that the
-//! line's looks saw:
+//! No two runs need print the same, so the test expects no fixed transcript. It replays each run's own events one
+//! after another. Each line must have the answer that follows from the module's state after the events that the line's
+//! looks saw:
 //!
 //! ```text
 //! line     the module, and the answer
@@ -15,7 +15,7 @@
 //!
 //! An accepted line that saw p events is event p, by its thread and its number. There are as many events as accepted
 //! lines, so each of those stands in the history once, and nothing else does. The numbers of a thread never fall, and
-//! behind an accepted line at p they are above p.
+//! after an accepted line at p they are above p.
 
 use crate::images::{plug_image, program_image};
 use crate::loading::{loaded, race};
@@ -30,7 +30,7 @@ image plug late plug.o
 threads 64
 ";
 
-/// A job in which each of 64 threads opens, calls and closes the module 100 times.
+/// A job with 64 threads that each open, call and close the module 100 times.
 fn job_text(alloc: Global) -> Result<String, AllocError> {
     let mut text = String::from_str(alloc, HEAD)?;
     for thread in 1..65_u32 {
@@ -44,7 +44,7 @@ fn job_text(alloc: Global) -> Result<String, AllocError> {
     Ok(text)
 }
 
-/// What some events leave of the module: how many opens of it are not closed, and how often it was loaded.
+/// The module after some events: how many opens of it are not closed, and how often it was loaded.
 #[derive(Clone, Copy)]
 struct Left {
     opens: u32,
@@ -72,7 +72,7 @@ impl Left {
     }
 }
 
-/// What the first events of a history leave, for each number of them.
+/// The module after each front of a history, the empty one first.
 fn replayed(alloc: Global, events: &[Event]) -> Result<Vec<Left>, AllocError> {
     let mut left = Left { opens: 0, loads: 0 };
     let mut all = vec![in alloc; left]?;
@@ -83,7 +83,7 @@ fn replayed(alloc: Global, events: &[Event]) -> Result<Vec<Left>, AllocError> {
     Ok(all)
 }
 
-/// What a line's look found, counted from 0.
+/// The module as look `look` of a line found it, counted from 0.
 fn found(all: &[Left], said: &Line, look: usize) -> Option<Left> {
     let point = said.points.as_slice().get(look)?;
     all.get(*point as usize).copied()
@@ -128,12 +128,12 @@ fn fits_close(all: &[Left], said: &Line) -> bool {
     }
 }
 
-/// How many looks a line takes at most.
+/// The most looks that a line takes.
 fn most_looks(line: u32) -> usize {
     if line % 3 == 2 { 2 } else { 1 }
 }
 
-/// Whether a line has the answer that its looks call for.
+/// Whether a line has the answer that follows from its looks.
 fn fits(all: &[Left], line: u32, said: &Line) -> bool {
     if said.points.as_slice().len() > most_looks(line) {
         return false;
@@ -149,8 +149,8 @@ fn is_accepted(said: &Line) -> bool {
     matches!(said.outcome, Outcome::Opened(_) | Outcome::Closed)
 }
 
-/// How many events the next line must see at least, where a line's looks saw no fewer than this, and no fewer from one
-/// to the next.
+/// The least number of events that the next line must see, if this line's looks saw at least `seen` and never fewer
+/// from one to the next.
 fn seen_after(mut seen: u64, said: &Line) -> Option<u64> {
     for point in said.points.as_slice() {
         if *point < seen {
@@ -161,7 +161,7 @@ fn seen_after(mut seen: u64, said: &Line) -> Option<u64> {
     Some(seen.saturating_add(u64::from(is_accepted(said))))
 }
 
-/// Whether the event behind those that a line's look saw is the line's own.
+/// Whether the event after those that a line's look saw is the line's own.
 fn is_own(events: &[Event], thread: u32, line: u32, said: &Line) -> bool {
     let own = Event {
         thread,
@@ -175,7 +175,7 @@ fn is_own(events: &[Event], thread: u32, line: u32, said: &Line) -> bool {
     events.get(*point as usize) == Some(&own)
 }
 
-/// How many lines of a thread were accepted, where all of its lines are as they must be.
+/// How many lines of a thread were accepted, if all of its lines are right.
 fn accepted(all: &[Left], events: &[Event], thread: u32, lines: &[Line]) -> Option<u64> {
     let mut seen = 0;
     let mut accepted = 0_u64;

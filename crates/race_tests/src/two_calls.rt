@@ -1,8 +1,8 @@
 //! Two threads that wait for each other.
 //!
-//! Thread 1 opens a module and calls its function; thread 2 calls it too. The gate lets thread 2's call begin once
-//! thread 1 has opened, and thread 1's call once thread 2's is over. So neither can come to its end before the other
-//! has begun, and thread 2 must see an open of a thread that is still on its way.
+//! Thread 1 opens a module and calls its function; thread 2 calls it too. The gate lets thread 2's call begin after
+//! thread 1's open, and thread 1's call after thread 2's is over. So neither can finish before the other has begun,
+//! and thread 2 must see an open of a thread that is still running.
 
 use crate::images::{plug_image, program_image};
 use crate::loading::{loaded, race};
@@ -25,12 +25,12 @@ t2 l1 g1,1 = 0000000000000005
 e0 t1 l1 open plug
 ";
 
-/// Which lines are over: 1 once it is so.
+/// Which lines are over: 1 for one that is.
 #[derive(Drop)]
 struct TwoCalls {
     opened: AtomicU64,
     called: AtomicU64,
-    /// 1 once a thread was held back for too long.
+    /// 1 after a thread was held back for too long.
     gave_up: AtomicU64,
 }
 
@@ -43,7 +43,7 @@ impl TwoCalls {
         }
     }
 
-    /// Holds a thread back until a line of the other is over.
+    /// Holds a thread back until a line of the other thread is over.
     fn hold(&self, line: &AtomicU64) {
         for _ in 0..1u64 << 32 {
             if line.load(Ordering::SeqCst) == 1 {

@@ -1,4 +1,4 @@
--- What a turn finds in the shared history, and what it leaves of the pass.
+-- What a turn finds in the shared history, and the pass after it.
 use Rattle.std.specs.Prelude.{◌≡◌, ◌+◌, ℕ, Bool, false, List, [], ◌∷◌, length, drop, Option, None}
 use Rattle.loaded_modules.specs.Images.{infos, last_offset}
 use Rattle.module_table.specs.declared.events.Event.{Event}
@@ -16,18 +16,18 @@ use Rattle.thread_blocks.specs.Turns.{with_event}
 use Rattle.thread_space.specs.Kept.{HasSeen}
 use Rattle.racing_thread.specs.Tallies.{is_registry, look_tally}
 
--- what events leave, over the images of a shared history
+-- the state after these events, over the images of a shared history
 abbrev pub left_by : PassView → List Event → Past
 left_by p events = past p.shared.images.infos p.shared.images.last_offset events
 
--- a pass before and after it asked of the history, which it found to be this, and to which its thread added this
+-- a pass before and after a question to the history: the pass found this history, and its thread added this event
 pub record Finds (registry : Bool) (p : PassView) (history : List Event) (own : Option Event) (q : PassView)
     : Type 0 where
-  -- it goes on from what was seen, by other threads
+  -- the history continues what was seen, by other threads' events
   pub known : Knows history p.threads p.seen
   pub legal : IsLegal p.shared.images.infos p.shared.images.last_offset history
   pub seen_is : q.seen ≡ with_event history own
-  -- nothing of it was passed over
+  -- no event of it was passed over
   pub whole : q.told ≡ q.seen
   pub loads_are : q.loads ≡ p.loads + (look_tally registry (length p.seen) (length history)).loads
   pub turns_are : q.turns ≡ p.turns + (look_tally registry (length p.seen) (length history)).turns
@@ -35,7 +35,7 @@ pub record Finds (registry : Bool) (p : PassView) (history : List Event) (own : 
 abbrev pub Looks : PassView → List Event → PassView → Type 0
 Looks p history q = Finds false p history None q
 
--- the history answers what a thread asks
+-- the history's answer to what a thread asks
 pub record Answers (thread : ℕ) (ask : Ask) (p : PassView) (history : List Event) (q : PassView)
     (answer : Option LineAnswer) (own : Option Event) : Type 0 where
   pub finds : Finds (is_registry ask) p history own q
@@ -44,7 +44,7 @@ pub record Answers (thread : ℕ) (ask : Ask) (p : PassView) (history : List Eve
 
 -- ** a turn
 
--- the list, the pass of the thread alone and its runner have seen the same
+-- the list, the pass of the thread alone and its runner have seen the same events
 pub record IsLevel (r : Run) (p : PassView) (events : List Event) : Type 0 where
   pub events_are : events ≡ p.seen
   pub has_seen : HasSeen r.kept.vector p.seen

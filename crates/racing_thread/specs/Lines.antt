@@ -3,7 +3,7 @@ use Rattle.std.specs.Prelude.{ℕ}
 use Rattle.job_turns.specs.declared.asking.Ask.{Ask}
 use Rattle.job_turns.specs.declared.asking.Ask.TheVariants.{Done, Look, Opens, Closes}
 
--- the line of its next turn, or 0 where its lines are over
+-- the line of its next turn, or 0 if its lines are over
 abbrev pub line_of : Ask → ℕ
 line_of Done = 0
 line_of (Look line) = line

@@ -1,4 +1,4 @@
--- What a thread gives that took its turns while others took theirs.
+-- The result of a thread that took its turns while others took theirs.
 use Rattle.std.specs.Prelude.{◌≡◌, ◌+◌, ℕ, List}
 use Rattle.job_text.specs.Jobs.{JobParts}
 use Rattle.job_text.specs.Threads.{of_thread}
@@ -16,11 +16,11 @@ use Rattle.racing_thread.specs.Tallies.{tally_of}
 abbrev pub lines_in : JobParts → ℕ → List Line
 lines_in job thread = numbered_lines 1 (of_thread job.lines thread)
 
--- a thread of a job over these images raced, from one pass to another, and says this of its lines
+-- a thread of a job over these images raced, from one pass to another, and these are its lines
 pub record HasRaced (m : JobImages) (job : JobParts) (thread : ℕ) (old new : PassView) (said : List ShownLine)
     (events : List Event) : Type 0 where
   pub racer : IsRacer (job_loads m) job.fuel thread (of_thread job.lines thread) new.seen said
   pub events_are : events ≡ new.seen
-  -- and it loaded and took the lock as often as its lines tell
+  -- it loaded the length and took the lock as often as its lines tell
   pub loads_are : new.loads ≡ old.loads + (tally_of thread (lines_in job thread) said).loads
   pub turns_are : new.turns ≡ old.turns + (tally_of thread (lines_in job thread) said).turns

@@ -1,4 +1,4 @@
--- How often a thread loads the history's length and takes the lock, as its printed lines tell it.
+-- How often a thread loads the history's length and takes the lock, by its printed lines.
 use Rattle.std.specs.Prelude.{◌+◌, ℕ, Bool, true, false, List, [], ◌∷◌, ◌++◌, map, nat_lt, Option, is_some, if◌then◌else◌}
 use Rattle.job_text.specs.declared.thread_lines.Action.{Action}
 use Rattle.job_text.specs.declared.thread_lines.Action.TheVariants.{Call, Open, Close, Peek}
@@ -22,8 +22,8 @@ plus x y = record { loads = x.loads + y.loads; turns = x.turns + y.turns }
 
 -- ** one look
 
--- an open and a close take the lock, and load with the history in their hands; any other look loads first, and takes
--- the lock only where there is something new
+-- an open or a close takes the lock, and loads while it holds the history; any other look loads first, and takes the
+-- lock only if there is something new
 abbrev pub look_tally : Bool → ℕ → ℕ → Tally
 look_tally true seen point = record { loads = 1; turns = 1 }
 look_tally false seen point =
@@ -43,11 +43,11 @@ pub record Mark : Type 0 where
   pub number : ℕ
   pub added : Option Event
 
--- how many events are seen once it is over
+-- how many events have been seen after it
 abbrev pub seen_after : Mark → ℕ
 seen_after mark = if is_some mark.added then mark.number + 1 else mark.number
 
--- of looks one after another, before which so many events were seen
+-- the tally of consecutive looks, before which this many events were seen
 abbrev pub tally_from : ℕ → List Mark → Tally
 tally_from seen [] = no_tally
 tally_from seen (mark ∷ more) =
@@ -73,6 +73,6 @@ marks_of thread [] said = []
 marks_of thread (line ∷ lines) [] = []
 marks_of thread (line ∷ lines) (said ∷ more) = marks_of_line thread line said ++ marks_of thread lines more
 
--- of all lines of a thread
+-- the tally of all lines of a thread
 abbrev pub tally_of : ℕ → List Line → List ShownLine → Tally
 tally_of thread lines said = tally_from 0 (marks_of thread lines said)

@@ -1,21 +1,21 @@
-//! What is told when a line begins and when it is over.
+//! A gate that is called when a line begins and when it is over.
 
 ghost use Rattle.std.specs.Prelude.{◌≡◌};
 ghost use Rattle.racing_thread.specs.Lines.{line_of};
 
 use job_turns::Ask;
 
-/// Told of each line of each thread: before its first look, and once it is over. A thread waits meanwhile, so a test
-/// can hold one thread back until another has come so far.
+/// Called for each line of each thread, before its first look and after its end. The thread waits for the call to
+/// return, so a test can hold one thread back until another has come far enough.
 pub trait Gate {
-    /// The line of a thread begins, both counted from 1.
+    /// A line of a thread begins. Both are counted from 1.
     fn before(&self, thread: u32, line: u32);
 
-    /// The line of a thread is over.
+    /// A line of a thread is over.
     fn after(&self, thread: u32, line: u32);
 }
 
-/// Holds nobody back.
+/// A gate that holds no thread back.
 pub struct NoGate;
 
 impl Gate for NoGate {
@@ -24,7 +24,7 @@ impl Gate for NoGate {
     fn after(&self, _thread: u32, _line: u32) {}
 }
 
-/// The line in which a thread takes its next turn, and 0 where its lines are over.
+/// The line of a thread's next turn, or 0 if its lines are over.
 fn line_of(ask: Ask) -> u32
     ensures { result ≡ line_of ask }
 {
@@ -34,8 +34,8 @@ fn line_of(ask: Ask) -> u32
     }
 }
 
-/// Tells the gate where a turn is in another line than the turn before, whose line was this, or 0 before the first
-/// turn. The next turn's line is returned.
+/// Calls the gate if the next turn is in another line than `line`, that of the turn before (0 before the first).
+/// Returns the next turn's line.
 pub(crate) fn pass_gate<G: Gate>(gate: &G, thread: u32, line: u32, ask: Ask) -> u32
     ensures { result ≡ line_of ask }
 {

@@ -1,4 +1,4 @@
-//! What a thread asks of the shared history at a turn.
+//! What a thread asks the shared history at a turn.
 
 ghost use Rattle.std.specs.Prelude.{◌≡◌, ◌∷◌, [], IfOk, OnOk};
 ghost use Rattle.shared_modules.specs.Passes.{IsSamePass};
@@ -11,14 +11,14 @@ use shared_modules::{Pass, Shared};
 use std::alloc::AllocError;
 use std::sync::Wait;
 
-/// What the shared history answers to a turn, and the thread's own event that stands in it since, if there is one.
+/// The shared history's answer to a turn, and the event that the turn added to it, if there is one.
 #[derive(Clone, Copy)]
 pub(crate) struct Answered {
     pub(crate) answer: Option<LineAnswer>,
     pub(crate) own: Option<Event>,
 }
 
-/// A look: one load, and the lock only where there is something new.
+/// A look: one load, and the lock only if there is something new.
 fn look<R: Wait>(
     rt: &R,
     shared: &Shared,
@@ -37,7 +37,7 @@ fn look<R: Wait>(
     Ok(())
 }
 
-/// The thread's line opens an image.
+/// Opens an image for the thread's line.
 fn open<R: Wait>(
     rt: &R,
     shared: &Shared,
@@ -74,7 +74,7 @@ fn open<R: Wait>(
     }
 }
 
-/// The thread's line closes an image.
+/// Closes an image for the thread's line.
 fn close<R: Wait>(
     rt: &R,
     shared: &Shared,
@@ -111,8 +111,8 @@ fn close<R: Wait>(
     }
 }
 
-/// What a thread asks at its turn. The list gets what the pass lacked of the history, without the thread's own event.
-/// The only error is want of memory.
+/// Answers what a thread asks at its turn. Adds to the list what the pass lacked of the history, without the thread's
+/// own event. The only error is out of memory.
 pub(crate) fn answer<R: Wait>(
     rt: &R,
     shared: &Shared,

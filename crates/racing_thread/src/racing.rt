@@ -20,10 +20,10 @@ use std::sync::Wait;
 use thread_space::JobNames;
 use transcript_text::Line;
 
-/// So many events no memory holds.
+/// No memory holds this many events.
 const MOST_EVENTS: usize = 1 << 61;
 
-/// What one thread gives: what it said of its lines, and all events that it has seen.
+/// The result of one thread: its lines, and all events that it has seen.
 #[derive(Drop)]
 pub struct Raced {
     pub lines: Vec<Line>,
@@ -40,7 +40,7 @@ fn is_done(ask: Ask) -> bool
     }
 }
 
-/// A turn of a thread that has something left to do. The list has what its pass has seen.
+/// Takes a turn of a thread that has something left to do. The list holds what its pass has seen.
 fn take_turn<'j, 'n, 'm, R: Wait>(
     rt: &R,
     shared: &Shared,
@@ -66,7 +66,7 @@ fn take_turn<'j, 'n, 'm, R: Wait>(
     Ok(runner)
 }
 
-/// The turns of a thread, up to its end.
+/// Takes the turns of a thread, up to its end.
 fn take_turns<R: Wait, G: Gate>(
     rt: &R,
     alloc: Global,
@@ -104,9 +104,9 @@ fn take_turns<R: Wait, G: Gate>(
     unreachable!()
 }
 
-/// One thread of a job, from 1 to 64, takes its turns, each at the history as it finds it, while other threads take
-/// theirs. The pass comes back in any case. The only error is want of memory; an open or a close that was accepted before
-/// stays in the history then.
+/// Takes the turns of one thread of a job, from 1 to 64, each at the history as it finds it, while other threads take
+/// theirs. Returns the pass in any case. The only error is out of memory; opens and closes accepted before it stay in
+/// the history.
 pub fn race_thread<R: Wait, G: Gate>(
     rt: &R,
     alloc: Global,

@@ -14,28 +14,28 @@ use Rattle.relocated_parts.specs.Left.{left_byte, written_byte}
 
 -- ** parts
 
--- the address behind a part
+-- the end of a part
 abbrev pub end_of : Part → ℕ
 end_of part = part.address + length part.bytes
 
--- all that a relocation writes lies in the part, or nothing of it
+-- the bytes that a relocation writes all lie in the part, or none does
 abbrev pub LiesWhole : Part → ImageRelocation → Type 0
 LiesWhole part r =
     ((part.address ≤ r.place) × (r.place + width r.kind ≤ end_of part))
     ⊎ ((r.place + width r.kind ≤ part.address) ⊎ (end_of part ≤ r.place))
 
--- these bytes are the part's as an instance has them
+-- these are the part's bytes in an instance
 pub record IsLeft (m : JobImages) (image : Spelled) (x : Instance) (part : Part) (bytes : List ℕ) : Type 0 where
   pub long : length bytes ≡ length part.bytes
   pub each : (k own : ℕ) → slice_get part.bytes k ≡ Some own
       → slice_get bytes k ≡ Some (left_byte m image x (part.address + k) own)
 
--- where relocations lie behind each other, each of them whole in the part or outside it
+-- if relocations lie one after another, each of them whole in the part or outside it
 abbrev pub PartsAreLeft : Type 0
 PartsAreLeft = (m : JobImages) (image : Spelled) (x : Instance) (part : Part) → AreRising image.relocations
     → All (LiesWhole part) image.relocations → IsLeft m image x part (part_bytes m image x part)
 
--- ** what a linker makes
+-- ** images that a linker makes
 
 -- the instance is one of the image that these contents become
 pub record IsMade (m : JobImages) (c : Contents) (x : Instance) : Type 0 where
@@ -51,7 +51,7 @@ LoadedPartsAreLeft = (m : JobImages) (c : Contents) (x : Instance) (i : ℕ) (pa
 abbrev pub Covers : ImageRelocation → ℕ → Type 0
 Covers r address = (r.place ≤ address) × (address < r.place + width r.kind)
 
--- each byte is of the word of whatever relocation covers it, and the part's own where none does
+-- each byte is one of the word of the relocation that covers it, and the part's own if none does
 pub record AreCovered (m : JobImages) (image : Spelled) (x : Instance) (part : Part) (bytes : List ℕ) : Type 0 where
   pub written : (k : ℕ) (r : ImageRelocation) → k < length part.bytes → Contains image.relocations r
       → Covers r (part.address + k)
@@ -64,7 +64,7 @@ abbrev pub LoadedBytesAreCovered : Type 0
 LoadedBytesAreCovered = (m : JobImages) (c : Contents) (x : Instance) (i : ℕ) (part : Part) → IsMade m c x
     → slice_get (finished c).parts i ≡ Some part → AreCovered m (finished c) x part (loaded_part m x i)
 
--- a thread's block before any write: the initial image, as the instance has the part that it stands in, and zeros
+-- a thread's block before any write: the initial image, as the instance has the part that holds it, and zeros
 pub record IsBlock (m : JobImages) (c : Contents) (x : Instance) (t : TlsPart) (bytes : List ℕ) : Type 0 where
   pub long : length bytes ≡ t.size
   pub initial : (i k own : ℕ) (part : Part) → slice_get (finished c).parts i ≡ Some part → k < t.initial

@@ -1,6 +1,6 @@
--- What a loader leaves at each address of a part, told by the digits of words: where a relocation writes, of its words,
--- and elsewhere the part's own byte (psABI, "Relocation Types"; Drepper, "ELF Handling For Thread-Local Storage",
--- section 4.4). No list is written over another here.
+-- What a loader leaves at each address of a part, by the digits of words: those of a relocation's words where one
+-- writes, and elsewhere the part's own byte (psABI, "Relocation Types"; Drepper, "ELF Handling For Thread-Local
+-- Storage", section 4.4). No list is written over another here.
 use Rattle.std.specs.Prelude.{◌+◌, ◌-◌, ◌*◌, ◌^◌, ◌&&◌, ℕ, ℤ, Bool, Option, Some, None, nat_le, nat_lt, if◌then◌else◌}
 use Rattle.std.specs.Int.{w64, cast_unsigned}
 use Rattle.std.specs.List.{find}
@@ -18,10 +18,10 @@ use Rattle.loaded_modules.specs.Loader.{bias, target_of}
 
 -- ** words
 
--- id, offset, distance: the module id that a relocation asks for, how far into that module's blocks, and how far below
--- the thread pointer these begin
+-- id, offset, distance: the module id that a relocation asks for, the offset in that module's blocks, and the distance
+-- from these blocks up to the thread pointer
 module _ (kind : FileKind) (x : Instance) (id offset distance : ℕ) where
-  -- the first word at its place; eight digits of it count, so it is one modulo 2^64
+  -- the first word at its address; eight digits of it count, so it is taken modulo 2^64
   abbrev pub first_word : LoaderKind → ℤ → ℕ
   first_word JumpSlot addend = 0x1000
   first_word Relative addend = bias kind x.number + cast_unsigned w64 addend
@@ -40,12 +40,12 @@ digit_of_two first second k = if nat_lt k 8 then digit first k else digit second
 
 -- ** bytes
 
--- the address is that of a byte that the relocation writes
+-- the relocation writes the byte at this address
 abbrev pub is_written_at : ℕ → ImageRelocation → Bool
 is_written_at address r = nat_le r.place address && nat_lt address (r.place + width r.kind)
 
 module _ (m : JobImages) (image : Spelled) (x : Instance) where
-  -- byte k of what a relocation writes
+  -- byte k of the words that a relocation writes
   abbrev pub written_byte : ImageRelocation → ℕ → ℕ
   written_byte r k =
       let t = target_of m image x r in
@@ -55,6 +55,6 @@ module _ (m : JobImages) (image : Spelled) (x : Instance) where
   byte_by address own None = own
   byte_by address own (Some r) = written_byte r (address - r.place)
 
-  -- the byte at an address where the part has one of its own
+  -- the byte at an address; `own` is the part's own byte there
   unfoldable pub left_byte : ℕ → ℕ → ℕ
   left_byte address own = byte_by address own (find (is_written_at address) image.relocations)

@@ -1,5 +1,5 @@
--- Each byte of shared data is the one that the last write before it, in the order of turns, left there, or the first
--- that the loader put there: of the machine's threads, and of what they mean.
+-- Each byte of shared data is the one that the last write before it, in the order of turns, left there, or else the
+-- one that the loader put there: for the machine's threads, and for what they mean.
 use Rattle.std.specs.Prelude.{◌≡◌, ℕ, ◌+◌, ◌*◌, ◌<◌, ◌++◌, Bool, true, false, List, [], length, slice_get, ok_or, Option, Some, All}
 use Rattle.std.specs.List.{find, flat_map}
 use Rattle.guest_arithmetic.specs.Plain.{plain_operations}
@@ -32,14 +32,14 @@ use Rattle.shared_data.specs.Changes.{Change, Noted, data_at, last_left, noting}
 use Rattle.shared_data.specs.Steps.{machine_changes, meant_changes}
 use Rattle.shared_data.specs.Told.{begins, first_filled, order_told, run_told, turn_filled}
 
--- the data of each instance are what was left there last
+-- the data of each instance are what the last changes left
 abbrev pub AreLastLeft : {B : Type 0} → List (Change B) → List (Owned B) → Type 0
 AreLastLeft {B} told shared = (instance offset : ℕ) (bytes : List B) (byte : B)
     → data_bytes instance shared ≡ Some bytes → slice_get bytes offset ≡ Some byte
     → last_left instance offset told ≡ Some byte
 
--- threads that share data: l: what is loaded, x: the turns of each, changes: what a step changes, acc: what a thread's
--- memory lets it do; and what they begin with
+-- threads that share data: l: what is loaded, x: the turns of each, changes: the changes of a step, acc: the accesses
+-- that a thread's memory offers; and what they begin with
 module _ {W F B : Type 0} (l : Loads B) (x : ℕ → Turns (Held W F B) Line Event)
     (changes : ℕ → Held W F B → List (Change B)) (acc : ℕ → Accesses (Space Event B) B)
     (start : Shared W F B Line) where
@@ -50,16 +50,16 @@ module _ {W F B : Type 0} (l : Loads B) (x : ℕ → Turns (Held W F B) Line Eve
   abbrev pub at_order : List ℕ → Shared W F B Line
   at_order order = shared_order x event order start
 
-  -- what was changed up to there
+  -- the changes up to there
   abbrev pub told_at : List ℕ → List (Change B)
   told_at order = first_filled l ++ order_told l x event changes order start
 
-  -- after any turns the data are what was left there last
+  -- after any turns the data are what the last changes left
   abbrev pub DataLast : Type 0
   DataLast = (order : List ℕ) → AreLastLeft (told_at order) (at_order order).shared
 
-  -- and after any turns, and any steps of another: what a thread reads at a place of an instance's data is what was
-  -- left there last
+  -- and after any turns, and any steps of another: what a thread reads at an address of an instance's data is what the
+  -- last change there left
   abbrev pub ReadsLast : Type 0
   ReadsLast = (order : List ℕ) (thread : ℕ) (t : Thread (Held W F B) Line Event) (from : ℕ × Held W F B) (steps : ℕ)
       → at_number (at_order order).threads thread ≡ Some t
@@ -70,14 +70,14 @@ module _ {W F B : Type 0} (l : Loads B) (x : ℕ → Turns (Held W F B) Line Eve
       (place : ℕ) (at : ℕ × ℕ) → data_at (stack_start thread) h place ≡ Some at
       → (acc thread).byte h.after.memory place ≡ ok_or (last_left at.0 at.1 told) Refused
 
--- ** which places are data
+-- ** which addresses are data
 
 -- a thread holds the data of an instance in this range, with these bytes in it
 abbrev pub HoldsData : {W F B : Type 0} → Held W F B → Instance → Range B → List B → Type 0
 HoldsData h x range bytes = find (λ o. is_data_of x.number o.owner) (owned_by h)
     ≡ Some (record { owner = record { kind = Data; instance = x.number }; range = record range { bytes = bytes } })
 
--- then byte k of them is what a thread reads at place k of the range, if nothing else that it holds lies there
+-- then byte k of them is what a thread reads at offset k of the range, if nothing else that it holds lies there
 abbrev pub DataAreThere : (W F B : Type 0) → Type 0
 DataAreThere W F B = (stack : ℕ) (h : Held W F B) (x : Instance) (range : Range B) (bytes : List B) (k : ℕ)
     → HoldsData h x range bytes → range.readable ≡ true → k < length bytes
@@ -85,8 +85,8 @@ DataAreThere W F B = (stack : ℕ) (h : Held W F B) (x : Instance) (range : Rang
     → All (λ (o : Owned B). is_data_of x.number o.owner ≡ false → holds o.range (range.start + k) ≡ false) (owned_by h)
     → data_at stack h (range.start + k) ≡ Some (x.number, k)
 
--- of a live instance a thread holds them after a look where it held them before, after a load as the loader fills them;
--- and before the first turn they are among those that the first thread gets
+-- a thread holds the data of a live instance after a look as it held them before, and after a load as the loader fills
+-- them; before the first turn they are among the data that the first thread gets
 abbrev pub DataAreHeld : (W F B : Type 0) → Type 0
 DataAreHeld W F B = (l : Loads B) (thread : ℕ) (seen : List Event) (h : Held W F B) (x : Instance) (range : Range B)
     → l.shared x ≡ Some range
@@ -104,7 +104,7 @@ MeantDataAreThere = DataAreThere Word Flag Byte × DataAreHeld Word Flag Byte
 
 -- ** the machine
 
--- what is known of the images is in order (`AreInfos`), before any event
+-- the image infos are in order (`AreInfos`), before any event
 abbrev pub IsInOrder : {B : Type 0} → Loads B → Type 0
 IsInOrder l = IsLegal l.infos l.last_offset []
 

@@ -1,5 +1,5 @@
--- What a step of a thread changes, of the machine and of the meaning: the same step over a memory that notes what is
--- stored.
+-- The changes of a thread's step, in the machine and in the meaning: the same step over a memory that notes its
+-- stores.
 use Rattle.std.specs.Prelude.{ℕ, List, [], Option, Some, None}
 use Rattle.guest_arithmetic.specs.Plain.{plain_operations}
 use Rattle.guest_machine.specs.Run.{next_of, machine}
@@ -26,7 +26,7 @@ machine_changes l thread h = noted_by
 -- ** the meaning
 
 module _ (m : Meaning) (thread : ℕ) where
-  -- a sequence stores nothing; a step that is refused is made in no run (`run_told`)
+  -- a sequence stores nothing; no run makes a step that is refused (`run_told`)
   abbrev pub changes_at : Option Sequence → Meant → List (Change Byte)
   changes_at (Some s) h = []
   changes_at None h = noted_by (next_of (plain_step ops

@@ -31,7 +31,7 @@ module _ {B : Type 0} (l : Loads B) where
   filled_unless false None = []
   filled_unless false (Some x) = filled x
 
-  -- what an event fills: an open of an image that was not loaded
+  -- the fill of an event: of an open of an image that was not loaded
   abbrev pub filled_by : List Event → Option Event → List (Change B)
   filled_by seen None = []
   filled_by seen (Some e) = if e.opens
@@ -48,13 +48,13 @@ abbrev pub unless_over : {C : Type 0} → Option Stop → List C → List C
 unless_over None told = told
 unless_over (Some stop) told = []
 
--- what a step and those behind it change; a step that is refused changes nothing
+-- the changes of a step and those after it; a step that is refused changes nothing
 abbrev pub step_told : {S C : Type 0} → List C → (S → List C) → Next S → List C
 step_told now more (Goes s) = now ++ more s
 step_told now more (Ends stop) = []
 step_told now more (Looks s) = now
 
--- what a run of at most so many steps changes; changes: what a step does
+-- the changes of a run of at most this many steps; changes: those of a step
 abbrev pub run_told : {S C : Type 0} → Stepping S → (S → List C) → ℕ → S → List C
 run_told x changes zero s = []
 run_told x changes (suc n) s = unless_over (x.over s) (step_told (changes s) (run_told x changes n) (x.step s))
@@ -65,7 +65,7 @@ abbrev pub called : {S : Type 0} → ℕ → Begun S → Option (ℕ × S)
 called steps (Says ending s) = None
 called steps (Calls s) = Some (steps, s)
 
--- the most steps of a thread's next turn and where they begin, if it makes any
+-- the most steps of a thread's next turn, and the state where they begin, if it makes any
 abbrev pub steps_of : {S L E : Type 0} → Turns S L E → List L → Phase S → List E → Option (ℕ × S)
 steps_of x [] (Idle s) seen = None
 steps_of x (line ∷ todo) (Idle s) seen = called x.fuel (x.begin line seen s)
@@ -79,19 +79,19 @@ steps_told x changes (Some from) = run_told x changes from.0 from.1
 
 module _ {W F B L : Type 0} (l : Loads B) (x : ℕ → Turns (Held W F B) L Event)
     (event : ℕ → L → List Event → Option Event) (changes : ℕ → Held W F B → List (Change B)) where
-  -- where the steps of a thread's next turn begin, with the data in its hands
+  -- where the steps of a thread's next turn begin, while it holds the data
   abbrev pub begins : Shared W F B L → ℕ → Thread (Held W F B) L Event → Option (ℕ × Held W F B)
   begins w i t = let t = with_data w.shared t in steps_of (x i) t.todo t.phase w.events
 
   abbrev pub turn_filled : Shared W F B L → ℕ → Thread (Held W F B) L Event → List (Change B)
   turn_filled w i t = filled_by l w.events (event_of (event i) t w.events)
 
-  -- what a turn of thread i changes: its load, if it makes one, and what its steps write
+  -- the changes of a turn of thread i: its load, if it makes one, and what its steps write
   abbrev pub turn_told : Shared W F B L → ℕ → Option (Thread (Held W F B) L Event) → List (Change B)
   turn_told w i None = []
   turn_told w i (Some t) = turn_filled w i t ++ steps_told (x i).steps (changes i) (begins w i t)
 
-  -- what all turns change, in their order
+  -- the changes of all turns, in their order
   abbrev pub order_told : List ℕ → Shared W F B L → List (Change B)
   order_told [] w = []
   order_told (i ∷ order) w = turn_told w i (at_number w.threads i)

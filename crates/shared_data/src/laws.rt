@@ -1,39 +1,39 @@
-//! The laws. The functions do nothing: what they ensure is the law.
+//! Laws of shared data. Each function does nothing; what it ensures is the law.
 
 ghost use Rattle.shared_data.specs.Laws.{JobsAreOrders, MachineDataAreThere, MachineDataLast, MachineReadsLast};
 ghost use Rattle.shared_data.specs.Laws.{MeaningsAreOrders, MeantDataAreThere, MeantDataLast, MeantReadsLast};
 ghost use Rattle.shared_data.specs.Laws.{NotesFollow, NotesFollowMeaning};
 
-/// A step over a memory that notes its stores is the machine's step: to note them changes nothing.
+/// A step over a memory that notes its stores is the machine's step: noting changes nothing.
 #[tactic(auto, using(crate::proofs::Machine::notes_follow))]
 pub fn notes_follow_the_machine()
     ensures { NotesFollow }
 {}
 
-/// All turns of a job are turns in an order, as the laws have them.
+/// All turns of a job are turns in an order, as the laws need them.
 #[tactic(auto, using(crate::proofs::Jobs::jobs_are_orders))]
 pub fn jobs_are_orders()
     ensures { JobsAreOrders }
 {}
 
-/// After any turns the shared data are what was left there last.
+/// After any turns the shared data are what the last changes left.
 pub fn data_are_last_left()
     ensures { MachineDataLast }
 {}
 
-/// A thread of the machine reads at each place of data what was left there last, in the order of all turns.
+/// A thread of the machine reads at each address of data what the last change there left, in the order of all turns.
 pub fn reads_are_last_left()
     ensures { MachineReadsLast }
 {}
 
-/// A thread that holds the data of a live instance reads byte k of them at place k of their range; and it holds them from
+/// A thread that holds the data of a live instance reads byte k of them at offset k of their range. It holds them from
 /// their load on, from look to look.
 #[tactic(auto, using(crate::proofs::There::machine_there))]
 pub fn data_are_there()
     ensures { MachineDataAreThere }
 {}
 
-/// To note the stores of the meaning's instructions changes nothing.
+/// Noting the stores of the meaning's instructions changes nothing.
 #[tactic(auto, using(crate::proofs::Jobs::notes_follow_meaning))]
 pub fn notes_follow_the_meaning()
     ensures { NotesFollowMeaning }
@@ -45,17 +45,17 @@ pub fn meanings_are_orders()
     ensures { MeaningsAreOrders }
 {}
 
-/// After any turns of the meaning the shared data are what was left there last.
+/// After any turns of the meaning the shared data are what the last changes left.
 pub fn meant_data_are_last_left()
     ensures { MeantDataLast }
 {}
 
-/// A thread of the meaning reads at each place of data what was left there last, in the order of all turns.
+/// A thread of the meaning reads at each address of data what the last change there left, in the order of all turns.
 pub fn meant_reads_are_last_left()
     ensures { MeantReadsLast }
 {}
 
-/// So does a thread of the meaning.
+/// The same as `data_are_there`, for a thread of the meaning.
 #[tactic(auto, using(crate::proofs::There::meant_there))]
 pub fn meant_data_are_there()
     ensures { MeantDataAreThere }

@@ -1,9 +1,8 @@
-//! What a thread reads of data that threads share: the last write before it, in the order of all turns. Definitions and
-//! laws, and no code that runs.
+//! Laws of shared data: a read gives what the last write left, in the order of turns. No code runs here.
 //!
-//! The threads of a job take turns (`thread_blocks`), and the data of images goes from turn to turn: each begins with
-//! all of it as the turn before left it, whoever took that. What does that give to the one who writes a program? Say
-//! its code counts, `mov n(%rip), %eax; add $1, %eax; mov %eax, n(%rip)`, from 5 on, and thread 1, thread 2 and
+//! The threads of a job take turns (`thread_blocks`), and the data of images go from turn to turn: each turn begins
+//! with all of them as the turn before left them, whoever took it. What does that mean for a programmer? Say a
+//! program's code counts, `mov n(%rip), %eax; add $1, %eax; mov %eax, n(%rip)`, from 5 on, and thread 1, thread 2 and
 //! thread 1 call it:
 //!
 //! ```text
@@ -13,34 +12,35 @@
 //! Written 1 0 8, ..                                         thread 1 read 7
 //! ```
 //!
-//! That is what is **told** of these turns (`specs/Told`): all changes of data in their order, each of an instance of
-//! an image, at an offset (`specs/Changes`). A load fills the data of its instance, which is a new one each time, and a
-//! store writes byte after byte. The checker computes these lines from the bytes of the image (`proofs/Examples`).
+//! These lines are what is **told** of the turns (`specs/Told`): all changes of data in their order, each of an
+//! instance of an image, at an offset (`specs/Changes`). A load fills the data of its instance, which is a new one
+//! each time, and a store writes byte after byte. The checker computes these lines from the bytes of the image
+//! (`proofs/Examples`).
 //!
-//! The rule of the crate: **what a thread reads at a place of an instance's data is what the last change there left, of
-//! all that is told up to this step** ([`laws::reads_are_last_left`]; `last_left`). It is said of any order of turns
-//! and of any number of steps in the midst of one, so of each state that a step begins in; a step reads before it
-//! stores. Between turns the data themselves are so, byte by byte ([`laws::data_are_last_left`]). Both hold of the
-//! machine's threads and, over marked values, of what threads mean ([`laws::meant_reads_are_last_left`],
+//! The rule of the crate: **what a thread reads at an address of an instance's data is what the last change there
+//! left, of all that is told up to this step** ([`laws::reads_are_last_left`]; `last_left`). It holds for any order of
+//! turns and any number of steps of one, so for each state that a step begins in; a step reads before it stores.
+//! Between turns it holds for the data themselves, byte by byte ([`laws::data_are_last_left`]). Both hold for the
+//! machine's threads and, over marked values, for what threads mean ([`laws::meant_reads_are_last_left`],
 //! [`laws::meant_data_are_last_left`]), where a byte may be unknown, or a part of an address. All turns of a job are
 //! such turns ([`laws::jobs_are_orders`], [`laws::meanings_are_orders`]).
 //!
-//! These laws are of places of data, and which these are is a law of its own ([`laws::data_are_there`],
-//! [`laws::meant_data_are_there`]): byte k of the data of an instance is at place k of the range in which a thread holds
-//! them, if nothing else that it holds lies there. Of a live instance it holds them in the range that the load fills; after
-//! a load as the loader fills them, and after a look as they were before.
+//! These laws are about addresses of data. Another law says which these are ([`laws::data_are_there`],
+//! [`laws::meant_data_are_there`]): byte k of the data of an instance is at offset k of the range in which a thread
+//! holds them, if nothing else that it holds lies there. It holds those of a live instance in the range that the load
+//! fills; after a load as the loader fills them, and after a look as they were before.
 //!
-//! Which bytes a step writes no definition of a step says: it is a function of registers and memory. So the same step is
-//! made over a memory that notes each store as it is made (`noting`). To note changes nothing
-//! ([`laws::notes_follow_the_machine`], [`laws::notes_follow_the_meaning`]). A store goes to the first range that may be
-//! written at its place: the thread's stack, one of its blocks, or data, whose owner and start give instance and offset.
+//! No definition of a step says which bytes it writes: a step is a function of registers and memory. So the same step
+//! is made over a memory that notes each store (`noting`). Noting changes nothing ([`laws::notes_follow_the_machine`],
+//! [`laws::notes_follow_the_meaning`]). A store goes to the first range that may be written at its address: the
+//! thread's stack, one of its blocks, or data, whose owner and start give the instance and the offset.
 //!
-//! The premise is what every job has: what is known of its images is in order. With it no two live instances have one
-//! number, which is what a change is told by.
+//! The premise is what every job has: its image infos are in order. Then no two live instances have the same number,
+//! by which a change names its instance.
 //!
-//! The proof is one for any values and any threads of which three things are known (`proofs/Turns`, `TellAll`): what a
-//! step, a line's first look and a look in its midst do with data is what is told of them. That the list of what a
-//! thread holds keeps each byte as told, under stores and looks, is in `proofs/Left` and `proofs/Held`; all turns
+//! There is one proof for any values and any threads that satisfy three conditions (`proofs/Turns`, `TellAll`): what a
+//! step, a line's first look and a look in its middle do with data is what is told of them. `proofs/Left` and
+//! `proofs/Held` prove that the list of what a thread holds keeps each byte as told, under stores and looks. All turns
 //! follow in `proofs/Orders`.
 #![tactic(auto)]
 

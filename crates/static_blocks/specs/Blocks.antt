@@ -1,4 +1,4 @@
--- A thread's own block of an instance: where it lies, and that what reaches its place reaches it.
+-- A thread's own block of an instance: where it lies, and that accesses to its addresses reach it.
 use Rattle.std.specs.Prelude.{◌≡◌, ◌+◌, ◌<◌, ℕ, List, length, get_or, slice_set, Some, Ok}
 use Rattle.std.specs.List.{find}
 use Rattle.loaded_modules.specs.declared.instance.Instance.{Instance}
@@ -19,7 +19,7 @@ pub record HasBlock (l : Loads ℕ) (thread : ℕ) (h : Runs) (x : Instance) : T
   pub size : length bytes ≡ length (l.block x)
   pub reads : (k : ℕ) → k < length bytes
       → (thread_accesses l thread).byte h.after.memory (block_start thread x + k) ≡ Ok (get_or bytes k 0)
-  -- a store is allowed, and goes there
+  -- a store is allowed, and changes the block
   pub writes : (k : ℕ) → k < length bytes
       → (thread_accesses l thread).writes h.after.memory (block_start thread x + k) ≡ Ok tt
   pub put : (k byte : ℕ) → k < length bytes

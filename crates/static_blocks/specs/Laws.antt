@@ -28,7 +28,7 @@ use Rattle.thread_blocks.specs.TurnsAlike.{IsFront}
 abbrev pub InitialsFit : JobImages → Type 0
 InitialsFit m = All (λ (image : Spelled). IfSome image.tls (λ (tls : TlsPart). tls.initial ≤ tls.size)) m.images
 
--- a fresh block is the initial image, as the instance has it, and zeros
+-- a fresh block is the initial image, as the instance has it, followed by zeros
 abbrev pub FreshBlocksAreFilled : Type 0
 FreshBlocksAreFilled = (m : JobImages) (x : Instance) (image : Spelled) (tls : TlsPart)
     → image_at m x.image ≡ Some image
@@ -36,24 +36,24 @@ FreshBlocksAreFilled = (m : JobImages) (x : Instance) (image : Spelled) (tls : T
     → let initial = initial_bytes m image x tls (find (holds tls) image.parts) in
     (job_loads m).block x ≡ initial ++ replicate (tls.size - length initial) 0
 
--- a look leaves a thread the block that it had of a live instance at a fixed distance from the thread pointer, and
--- where it had none a fresh one
+-- a look keeps a thread's block of a live instance at a fixed distance from the thread pointer; if there was none, it
+-- makes a fresh one
 abbrev pub LooksFillBlocks : Type 0
 LooksFillBlocks = (l : Loads ℕ) (thread : ℕ) (seen : List Event) (h : Runs) (x : Instance) (offset : ℕ)
     → numbered_instance l seen x.number ≡ Some x → x.offset ≡ Some offset
     → block_bytes x.number (owned_by (looked l thread seen h))
     ≡ Some (unwrap_or (block_bytes x.number (owned_by h)) (l.block x))
 
--- of an instance at a fixed distance that is live now, and was not where a thread looked last, a look makes a fresh
--- block
+-- a look makes a fresh block of an instance at a fixed distance that is live now, and was not at the thread's last
+-- look
 abbrev pub MakesFresh : Loads ℕ → ℕ → Runs → List Event → Type 0
 MakesFresh l thread h seen = (x : Instance) (offset : ℕ)
     → numbered_instance l h.after.memory.seen x.number ≡ None
     → numbered_instance l seen x.number ≡ Some x → x.offset ≡ Some offset
     → block_bytes x.number (owned_by (looked l thread seen h)) ≡ Some (l.block x)
 
--- so does the look of each turn of a thread by itself, at points of a legal history; and the one that follows at once,
--- where the turn adds an event
+-- so does the look of each turn of a thread by itself, at points of a legal history; and the look that follows at
+-- once, if the turn adds an event
 abbrev pub NewBlocksAreFresh : Type 0
 NewBlocksAreFresh = (m : JobImages) (fuel thread : ℕ) (own : List ThreadLine) (history : List Event)
     (points : List (List Event)) → AreInfos (infos m) → InitialsFit m
@@ -65,7 +65,7 @@ NewBlocksAreFresh = (m : JobImages) (fuel thread : ℕ) (own : List ThreadLine) 
     (seen : List Event) → IsFront seen history
     → MakesFresh l thread h seen × ((next : List Event) → MakesFresh l thread (looked l thread seen h) next)
 
--- so do those looks in any order of turns of a job's threads, with the data in hand that the turn before left
+-- so do those looks in any order of turns of a job's threads, with the data that the turn before left
 abbrev pub NewJobBlocksAreFresh : Type 0
 NewJobBlocksAreFresh = (m : JobImages) (fuel : ℕ) (lines : List (List ThreadLine)) (order : List ℕ)
     → AreInfos (infos m) → InitialsFit m
@@ -76,7 +76,7 @@ NewJobBlocksAreFresh = (m : JobImages) (fuel : ℕ) (lines : List (List ThreadLi
     MakesFresh l thread h w.events × ((next : List Event) → MakesFresh l thread (looked l thread w.events h) next)
 
 -- after any turns of a thread by itself, at points of a legal history, it has its own block of each such instance; and
--- so it has after any number of steps in the midst of the next turn
+-- so it has after any number of steps of the next turn
 abbrev pub StaticBlocksAreOwn : Type 0
 StaticBlocksAreOwn = (m : JobImages) (fuel thread : ℕ) (own : List ThreadLine) (history : List Event)
     (points : List (List Event)) → AreInfos (infos m) → InitialsFit m
@@ -92,8 +92,8 @@ StaticBlocksAreOwn = (m : JobImages) (fuel thread : ℕ) (own : List ThreadLine)
     → HasOwnBlocks l thread (state_after (run all.steps n from.1)))
 
 -- in any order of turns of a job's threads, each of which begins with the data that the turn before left, each thread
--- has its own blocks between its turns; and so it has after any number of steps of its next one, with the data in its
--- hands
+-- has its own blocks between its turns; and so it has after any number of steps of its next one, while it holds the
+-- data
 abbrev pub JobBlocksAreOwn : Type 0
 JobBlocksAreOwn = (m : JobImages) (fuel : ℕ) (lines : List (List ThreadLine)) (order : List ℕ) → AreInfos (infos m)
     → InitialsFit m

@@ -1,4 +1,4 @@
--- What a thread holds from line to line, and what a look makes of it.
+-- What a thread holds from line to line, and how a look changes it.
 use Rattle.std.specs.Prelude.{ℕ, ◌==◌, ◌&&◌, ◌++◌, Bool, true, false, not, List, [], ◌∷◌, Option, Some, None, is_some, map, option_map}
 use Rattle.std.specs.List.{find, flat_map}
 use Rattle.std.specs.Option.{option_or}
@@ -10,7 +10,7 @@ use Rattle.thread_blocks.specs.declared.asked.Asked.{Asked}
 use Rattle.thread_blocks.specs.Instances.{Loads, instances, block_range}
 use Rattle.thread_blocks.specs.Spaces.{Space}
 
--- what is written: a thread's block of an instance, or an instance's data
+-- the kinds of written ranges: a thread's block of an instance, or an instance's data
 pub data Kind : Type 0 where
   Block : Kind
   Data : Kind
@@ -23,13 +23,13 @@ abbrev pub is_block : Kind → Bool
 is_block Block = true
 is_block Data = false
 
--- a range that is written, and whose it is
+-- a written range, and its owner
 pub record Owned (B : Type 0) : Type 0 where
   pub owner : Owner
   pub range : Range B
 
--- what a thread holds: registers and memory, whose ranges that are written have these owners, in their order; and what
--- it waits for, in the middle of a line
+-- what a thread holds: registers and memory, the owners of its written ranges in their order, and the question that it
+-- waits with in the middle of a line
 pub record Held (W F B : Type 0) : Type 0 where
   pub after : After W F (Space Event B)
   pub owners : List Owner
@@ -52,7 +52,7 @@ module _ {W F B : Type 0} where
   abbrev pub owned_by : Held W F B → List (Owned B)
   owned_by h = owned h.owners h.after.memory.own
 
-  -- with these ranges in place of its own
+  -- the same thread with these ranges as its own
   abbrev pub with_owned : Held W F B → List (Owned B) → Held W F B
   with_owned h xs = record {
     after = left h.after.state (record h.after.memory { own = ranges_in xs });
@@ -73,15 +73,15 @@ block_bytes instance xs = option_map (λ x. x.range.bytes) (find (λ x. is_block
 abbrev pub data_bytes : {B : Type 0} → ℕ → List (Owned B) → Option (List B)
 data_bytes instance xs = option_map (λ x. x.range.bytes) (find (λ x. is_data_of instance x.owner) xs)
 
--- ---- what is held of an instance
+-- ---- what a thread holds of an instance
 
--- its block with these bytes, if there is one
+-- the instance's block with these bytes, if there is one
 abbrev pub block_with : {B : Type 0} → ℕ → Instance → Option (List B) → List (Owned B)
 block_with thread x None = []
 block_with thread x (Some bytes) =
     record { owner = record { kind = Block; instance = x.number }; range = block_range thread x bytes } ∷ []
 
--- its data with these bytes, at their place, if there are any
+-- the instance's data with these bytes, at their address, if there are any
 abbrev pub data_with : {B : Type 0} → Instance → Option (Range B) → Option (List B) → List (Owned B)
 data_with x None bytes = []
 data_with x (Some range) None = []
@@ -97,26 +97,26 @@ fresh_data None wanted = None
 fresh_data (Some range) wanted = fresh_if wanted range.bytes
 
 module _ {B : Type 0} (l : Loads B) where
-  -- the data as they were, or as a load makes them
+  -- the data as they were, or as a load fills them
   abbrev pub data_after : (Instance → Bool) → List (Owned B) → Instance → List (Owned B)
   data_after loads xs x = data_with x (l.shared x)
       (option_or (fresh_data (l.shared x) (loads x)) (data_bytes x.number xs))
 
 module _ {B : Type 0} (l : Loads B) (thread : ℕ) where
-  -- the block as it was, and where there was none a fresh one, if it is wanted
+  -- the block as it was; if there was none, a fresh one if it is wanted
   abbrev pub block_after : (Instance → Bool) → List (Owned B) → Instance → List (Owned B)
   block_after wanted xs x =
       block_with thread x (option_or (block_bytes x.number xs) (fresh_if (wanted x) (l.block x)))
 
-  -- what is held of the instances that are live where the events were seen, in the order of their images: blocks, and
-  -- behind them data. Of any other instance nothing is held
+  -- what a thread holds of the live instances, in the order of their images: blocks, and after them data; nothing of
+  -- any other instance
   abbrev pub held_of : (Instance → Bool) → (Instance → Bool) → List Instance → List (Owned B) → List (Owned B)
   held_of reaches loads live xs =
       flat_map (block_after reaches xs) live ++ flat_map (data_after l loads xs) live
 
   -- ---- looks
 
-  -- blocks at a fixed distance from the thread pointer are there from a look on
+  -- from a look on, blocks at a fixed distance from the thread pointer are there
   unfoldable pub looked_at : List Event → List (Owned B) → List (Owned B)
   looked_at seen xs = held_of (λ x. is_some x.offset) (λ x. false) (instances l seen) xs
 
@@ -124,7 +124,7 @@ module _ {B : Type 0} (l : Loads B) (thread : ℕ) where
   unfoldable pub reached_at : List Event → Instance → List (Owned B) → List (Owned B)
   reached_at seen x xs = held_of (λ y. y.number == x.number) (λ y. false) (instances l seen) xs
 
-  -- an instance that is loaded: its data are as the loader left them
+  -- an instance that was loaded: its data are as the loader left them
   unfoldable pub loaded_at : List Event → Instance → List (Owned B) → List (Owned B)
   loaded_at seen x xs = held_of (λ y. false) (λ y. y.number == x.number) (instances l seen) xs
 

@@ -1,4 +1,4 @@
--- The instances of images that are live where the events were seen, and what is loaded of each.
+-- The instances that are live after some events, and what is loaded of each.
 use Rattle.std.specs.Prelude.{◌+◌, ◌-◌, ◌*◌, ◌^◌, ◌==◌, ℕ, Bool, true, false, suc, List, [], ◌∷◌, ◌++◌, take, Option, Some, None, nat_le, if◌then◌else◌}
 use Rattle.std.specs.Prelude.{option_to_list}
 use Rattle.std.specs.List.{find, flat_map}
@@ -15,24 +15,24 @@ use Rattle.thread_blocks.specs.MachineTurns.{pointer_of}
 -- B: a byte
 pub record Loads (B : Type 0) : Type 0 where
   pub infos : List ImageInfo
-  -- how far below the thread pointer the block of the last startup image begins
+  -- the distance from the block of the last startup image up to the thread pointer
   pub last_offset : ℕ
-  -- where the function of a name begins in an instance, where there is one that can be called
+  -- the address of the function with a name in an instance, if there is one that can be called
   pub function : Instance → List ℕ → Option ℕ
-  -- the offset of the thread-local variable of a name in the blocks of an image, where there is one
+  -- the offset of the thread-local variable with a name in the blocks of an image, if there is one
   pub variable : ℕ → List ℕ → Option ℕ
-  -- what is there to be read and to be run of an instance, and that no thread writes
+  -- the bytes of an instance that can be read or run, and that no thread writes
   pub fixed : Instance → List (Range B)
-  -- the parts of it that are written, by the loader or by threads: where the words stand that the run time is asked by
+  -- the parts of it that the loader or threads write: these hold the words by which the run time is called
   pub tables : Instance → List (Range B)
-  -- the data that threads write, as a load makes it, if the image has any
+  -- the data that threads write, as a load fills them, if the image has any
   pub shared : Instance → Option (Range B)
   -- a thread's block of an instance before any write
   pub block : Instance → List B
 
 -- ---- instances
 
--- the loaded instance of an image, of this number
+-- the loaded instance of an image, with this number
 abbrev pub loaded_instance : List ImageInfo → ℕ → Module → Option Instance
 loaded_instance infos image m = if is_loaded m
     then Some (record {
@@ -47,16 +47,16 @@ abbrev pub instances_from : List ImageInfo → ℕ → List Module → List Inst
 instances_from infos image [] = []
 instances_from infos image (m ∷ ms) = option_to_list (loaded_instance infos image m) ++ instances_from infos (suc image) ms
 
--- the live instances that a history leaves, in the order of their images
+-- the live instances after a history, in the order of their images
 unfoldable pub instances_in : List ImageInfo → Past → List Instance
 instances_in infos p = instances_from infos 0 p.modules
 
 module _ {B : Type 0} (l : Loads B) where
-  -- what the events leave
+  -- the state of modules after these events
   abbrev pub left_by : List Event → Past
   left_by seen = past l.infos l.last_offset seen
 
-  -- the live instances where the events were seen
+  -- the live instances after these events
   abbrev pub instances : List Event → List Instance
   instances seen = instances_in l.infos (left_by seen)
 
@@ -64,18 +64,18 @@ module _ {B : Type 0} (l : Loads B) where
   unfoldable pub instance_at : List Event → ℕ → Option Instance
   instance_at seen image = loaded_instance l.infos image (module_of (left_by seen) image)
 
-  -- the live instance of a number, and that of a module id
+  -- the live instance with a number, and that with a module id
   abbrev pub numbered_instance : List Event → ℕ → Option Instance
   numbered_instance seen number = find (λ (x : Instance). x.number == number) (instances seen)
 
   abbrev pub instance_with_id : List Event → ℕ → Option Instance
   instance_with_id seen id = find (λ (x : Instance). x.id == id) (instances seen)
 
-  -- the images that start with the program have the first ids, which never change
+  -- the startup images have the first ids, which never change
   abbrev pub is_startup_id : ℕ → Bool
   is_startup_id id = if id == 0 then false else nat_le id (startup_count l.infos)
 
-  -- all that is loaded of these instances and that no thread writes
+  -- what is loaded of these instances and not written by a thread
   abbrev pub fixed_of : List Instance → List (Range B)
   fixed_of xs = flat_map l.fixed xs
 
@@ -84,8 +84,8 @@ module _ {B : Type 0} (l : Loads B) where
 
 -- ---- blocks
 
--- where a thread's block of an instance begins: so far below the thread pointer as the instance's offset says, or at a
--- place of its own for each instance
+-- where a thread's block of an instance begins: at the instance's offset below the thread pointer, or at an address of
+-- the instance's own
 abbrev pub block_start : ℕ → Instance → ℕ
 block_start thread x = begins_at x.offset
   where

@@ -1,5 +1,5 @@
--- What is loaded of a job's images: each part of a live instance at its place, as the loader leaves it, with the rights
--- of its class (gABI, "Program Loading").
+-- What is loaded of a job's images: each part of a live instance at its address, as the loader leaves it, with the
+-- rights of its class (gABI, "Program Loading").
 use Rattle.std.specs.Prelude.{◌+◌, ◌&&◌, ℕ, not, suc, List, [], ◌∷◌, Option, Some, None, option_and_then, option_map, if◌then◌else◌}
 use Rattle.std.specs.List.{filter, find}
 use Rattle.guest_machine.specs.Ranges.{Range}
@@ -13,7 +13,7 @@ use Rattle.image_names.specs.Functions.{entry_in}
 use Rattle.image_names.specs.Variables.{variable_in}
 use Rattle.thread_blocks.specs.Loading.{is_code, is_loaders, is_written}
 
--- part i of an image, as an instance has it
+-- part i of an image, in an instance
 abbrev pub instance_part : JobImages → Spelled → Instance → ℕ → Part → Range ℕ
 instance_part m image x i part = record {
   start = part.address + bias image.kind x.number;
@@ -34,7 +34,7 @@ parts_of m x (Some image) = parts_from m image x 0 image.parts
 abbrev pub loaded_parts : JobImages → Instance → List (Range ℕ)
 loaded_parts m x = parts_of m x (image_at m x.image)
 
--- the parts that are written, by the loader or by threads
+-- the parts that the loader or threads write
 abbrev pub written_from : List Part → List (Range ℕ) → List (Range ℕ)
 written_from [] ranges = []
 written_from (part ∷ parts) [] = []

@@ -1,4 +1,5 @@
--- What every job keeps: its history, what a thread holds, that each thread ends, and what a thread does among others.
+-- What holds of every job: its history, what a thread holds, that each thread finishes, and which turns a thread
+-- takes.
 use Rattle.std.specs.Prelude.{◌≡◌, ℕ, Bool, true, List, [], Some, None, is_some}
 use Rattle.std.specs.List.{All}
 use Rattle.job_text.specs.declared.thread_lines.ThreadLine.{ThreadLine}
@@ -13,21 +14,21 @@ use Rattle.thread_blocks.specs.RunTime.{Runs, thread_turns}
 use Rattle.thread_blocks.specs.Turns.{IsFinished, Thread, at_number, ready, turns}
 use Rattle.thread_blocks.specs.TurnsAlike.{AllFronts, IsFront, Rises}
 
--- each open and close of a job was accepted after those before it, whatever is loaded, and in any order of turns
+-- each open and close of a job was accepted after those before it, whatever is loaded, in any order of turns
 abbrev pub HistoriesAreLegal : Type 0
 HistoriesAreLegal = (l : Loads ℕ) (fuel : ℕ) (lines : List (List ThreadLine)) (order : List ℕ)
     → is_legal (start l.infos l.last_offset) (job_world l fuel lines order).events ≡ true
 
--- what is held is of an instance that is live where the events were seen
+-- the owner is an instance that is live after these events
 abbrev pub is_held_live : Loads ℕ → List Event → Owned ℕ → Bool
 is_held_live l seen x = is_some (numbered_instance l seen x.owner.instance)
 
--- after a look a thread holds nothing of an instance that is gone
+-- after a look a thread holds nothing of a closed instance
 abbrev pub HoldsLive : Type 0
 HoldsLive = (l : Loads ℕ) (thread : ℕ) (seen : List Event) (xs : List (Owned ℕ))
     → All (λ x. is_held_live l seen x ≡ true) (looked_at l thread seen xs)
 
--- each thread comes to its end, in any order of turns
+-- each thread finishes, in any order of turns
 abbrev pub ThreadsEnd : Type 0
 ThreadsEnd = (l : Loads ℕ) (fuel : ℕ) (lines : List (List ThreadLine)) (order : List ℕ) (thread : ℕ) (own : List ThreadLine)
     → at_number lines thread ≡ Some own
@@ -38,8 +39,8 @@ ThreadsEnd = (l : Loads ℕ) (fuel : ℕ) (lines : List (List ThreadLine)) (orde
 abbrev pub HasNoData : Loads ℕ → Type 0
 HasNoData l = (x : Instance) → l.shared x ≡ None
 
--- where no image has data, a thread among others takes the turns that it would take alone, at fronts of the history, each
--- of which the next one continues
+-- if no image has data, a thread of a job takes the turns that it would take alone, at fronts of the history, each of
+-- which the next one continues
 abbrev pub ThreadsTakeTheirOwnTurns : Type 0
 ThreadsTakeTheirOwnTurns = (l : Loads ℕ) (fuel : ℕ) (lines : List (List ThreadLine)) (order : List ℕ)
     → (thread : ℕ) (own : List ThreadLine) → HasNoData l → at_number lines thread ≡ Some own

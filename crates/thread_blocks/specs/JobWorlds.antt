@@ -1,5 +1,5 @@
--- All threads of a job, and the data that they share: each turn begins with the data as the turn before left it; and what
--- a transcript tells of that.
+-- All threads of a job, and the data that they share: each turn begins with the data as the turn before left them. And
+-- what a transcript says of it.
 use Rattle.std.specs.Prelude.{◌≡◌, ℕ, ◌*◌, Bool, true, suc, not, List, [], ◌∷◌, ◌++◌, map, Option, Some, None}
 use Rattle.std.specs.List.{filter, flat_map}
 use Rattle.guest_machine.specs.Use.{left}
@@ -36,7 +36,7 @@ module _ {W F B : Type 0} where
   held_in (Idle h) = h
   held_in (Mid steps points h) = h
 
-  -- a thread with the shared data in its hands, and without
+  -- a thread that holds the shared data, and one without
   abbrev pub with_data : {L : Type 0} → List (Owned B) → Thread (Held W F B) L Event → Thread (Held W F B) L Event
   with_data xs t = record t { phase = changed (λ h. with_owned h (owned_by h ++ xs)) t.phase }
 
@@ -44,7 +44,7 @@ module _ {W F B : Type 0} where
   without_data t = record t { phase = changed (λ h. with_owned h (blocks_in (owned_by h))) t.phase }
 
   module _ {L : Type 0} (x : ℕ → Turns (Held W F B) L Event) (event : ℕ → L → List Event → Option Event) where
-    -- a turn of thread i with the data in its hands
+    -- a turn of thread i, which holds the data
     abbrev pub shared_after : Shared W F B L → ℕ → Thread (Held W F B) L Event → Option Event
         → Thread (Held W F B) L Event → Shared W F B L
     shared_after w i t e after = record {
@@ -62,7 +62,7 @@ module _ {W F B : Type 0} where
     shared_order [] w = w
     shared_order (i ∷ order) w = shared_order order (shared_turn w i (at_number w.threads i))
 
--- a transcript tells all turns of a job: the history that they left, and what came of each line, thread by thread
+-- a transcript shows all turns of a job: the history that they left, and the result of each line, thread by thread
 pub record Tells {W F B : Type 0} (w : Shared W F B Line) (transcript : Shown) : Type 0 where
   pub events : transcript.events ≡ w.events
   pub lines : map (map Some) transcript.threads ≡ map (λ t. map shown t.said) w.threads
@@ -73,7 +73,7 @@ abbrev pub numbered_lines : ℕ → List ThreadLine → List Line
 numbered_lines number [] = []
 numbered_lines number (line ∷ lines) = record { number = number; told = line } ∷ numbered_lines (suc number) lines
 
--- a thread before its first line: it has the blocks of the images that start with the program
+-- a thread before its first line: it has the blocks of the startup images
 abbrev pub thread_ready : Loads ℕ → ℕ → Runs
 thread_ready l thread = looked l thread [] (record {
   after = left (start_of plain_operations 0 0 0 0 0) (record { seen = []; stack = []; own = [] });
@@ -86,14 +86,14 @@ ready_from l thread [] = []
 ready_from l thread (lines ∷ more) =
     ready (thread_ready l thread) (numbered_lines 1 lines) ∷ ready_from l (suc thread) more
 
--- before the first turn the data is that of the images that start with the program
+-- before the first turn the data are those of the startup images
 abbrev pub first_data : Loads ℕ → List (Owned ℕ)
 first_data l = flat_map (data_after l (λ x. true) []) (instances l [])
 
 abbrev pub job_start : Loads ℕ → List (List ThreadLine) → Shared ℕ Bool ℕ Line
 job_start l lines = record { threads = ready_from l 1 lines; events = []; shared = first_data l }
 
--- all turns of a job: those of its order, and then each thread to its end
+-- all turns of a job: those of its order, and then each thread up to its end
 unfoldable pub job_world : Loads ℕ → ℕ → List (List ThreadLine) → List ℕ → Shared ℕ Bool ℕ Line
 job_world l fuel lines order = shared_order (λ thread. thread_turns l thread fuel) (λ thread. event_by l thread)
     (whole_order (4 * fuel) lines order) (job_start l lines)

@@ -1,4 +1,4 @@
--- Lines of all kinds: a call of a function, an open or a close of an image, and a look at the bytes of a variable.
+-- Lines of all kinds: calls of functions, opens and closes of images, and looks at the bytes of a variable.
 use Rattle.std.specs.Prelude.{◌+◌, ℕ, Bool, true, false, List, length, Option, Some, None, nat_le, slice_range, if◌then◌else◌}
 use Rattle.guest_arithmetic.specs.Values.{Operations}
 use Rattle.guest_machine.specs.Use.{left}
@@ -46,7 +46,7 @@ unless_refused (Some refusal) e = None
 abbrev pub event_at : ℕ → ℕ → Bool → ℕ → Event
 event_at thread number opens image = record { thread = thread; line = number; opens = opens; image = image }
 
--- the event that a line adds after the events that its first look sees, if it adds one
+-- the event that a line adds after those that its first look sees, if it adds one
 abbrev pub event_by : {B : Type 0} → Loads B → ℕ → Line → List Event → Option Event
 event_by l thread line seen = added line.told.action
   where
@@ -58,14 +58,14 @@ event_by l thread line seen = added line.told.action
         (event_at thread line.number false line.told.image)
     added (Peek symbol size) = None
 
--- ---- what a line begins with
+-- ---- the start of a line
 
--- show: what is said of bytes that a line shows
+-- show: how a line ends that shows these bytes
 module _ {W F B : Type 0} (ops : Operations W F B) (l : Loads B) (show : List B → Ending) (thread : ℕ) where
   abbrev pub refused : LineRefusal → Held W F B → Begun (Held W F B)
   refused refusal h = Says (Answered (Refused refusal)) h
 
-  -- a call of the function at a place, with a fresh stack, and the blocks as the line before left them
+  -- a call of the function at this address, with a fresh stack, and the blocks as the line before left them
   abbrev pub begun_at : List ℕ → ℕ → ℕ → ℕ → Held W F B → Option ℕ → Begun (Held W F B)
   begun_at symbol a b c h None = refused NoSymbol h
   begun_at symbol a b c h (Some place) = Calls (record h {
@@ -76,7 +76,7 @@ module _ {W F B : Type 0} (ops : Operations W F B) (l : Loads B) (show : List B 
   begun_in symbol a b c h None = refused IsClosed h
   begun_in symbol a b c h (Some x) = begun_at symbol a b c h (l.function x symbol)
 
-  -- an accepted event is seen at once, and a load fills the data of its instance
+  -- an accepted event is seen at once, and a load fills its instance's data
   abbrev pub with_load : Bool → Option Instance → Held W F B → Held W F B
   with_load true x h = h
   with_load false None h = h
@@ -100,7 +100,7 @@ module _ {W F B : Type 0} (ops : Operations W F B) (l : Loads B) (show : List B 
       Says (Answered Closed)
       (looked l thread (with_last seen (event_at thread line.number false line.told.image)) h)
 
-  -- bytes of a block, if it holds them all
+  -- bytes of a block, if they all lie in it
   abbrev pub shown_in : Held W F B → ℕ → ℕ → Option (List B) → Begun (Held W F B)
   shown_in h size offset None = refused TooLong h
   shown_in h size offset (Some bytes) = if nat_le (offset + size) (length bytes)
@@ -111,7 +111,7 @@ module _ {W F B : Type 0} (ops : Operations W F B) (l : Loads B) (show : List B 
   shown_from h size x None = refused NoSymbol h
   shown_from h size x (Some offset) = shown_in h size offset (block_bytes x.number (owned_by h))
 
-  -- a line that is refused for its symbol or its length has reached the block
+  -- a line that is refused for its symbol or its length has still reached the block
   abbrev pub begun_peek : Line → List ℕ → ℕ → Held W F B → Option Instance → Begun (Held W F B)
   begun_peek line symbol size h None = refused IsClosed h
   begun_peek line symbol size h (Some x) =

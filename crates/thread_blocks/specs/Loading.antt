@@ -1,4 +1,4 @@
--- What may be done with the parts of an image, by their classes (gABI, "Program Loading").
+-- The rights of an image's parts, by their classes (gABI, "Program Loading").
 use Rattle.std.specs.Prelude.{◌==◌, ℕ, Bool, true, false}
 use Rattle.std.specs.Prelude.{Option, Some, None}
 use Rattle.image_file.specs.declared.part.PartClass.{PartClass}
@@ -10,7 +10,7 @@ is_written Executable = false
 is_written ReadOnly = false
 is_written Writable = true
 
--- whether part i is the one that the loader alone writes
+-- whether part i is the one that only the loader writes
 abbrev pub is_loaders : Option ℕ → ℕ → Bool
 is_loaders None i = false
 is_loaders (Some got) i = got == i

@@ -1,4 +1,4 @@
--- Calls of functions: where a thread's parts lie, what a call begins with, and what is said of a line.
+-- Calls of functions: the addresses of a thread's parts, the start of a call, and the line in the transcript.
 use Rattle.std.specs.Prelude.{ℕ, ◌+◌, ◌-◌, ◌*◌, ◌^◌, true, false, List, ◌++◌, replicate, Option, Some, None, option_map}
 use Rattle.guest_operands.specs.declared.state.State.{State}
 use Rattle.guest_operands.specs.declared.stop.Stop.{Stop}
@@ -14,7 +14,7 @@ use Rattle.transcript_text.specs.declared.outcomes.Outcome.TheVariants.{Returned
 use Rattle.thread_blocks.specs.Spaces.{Space}
 use Rattle.thread_blocks.specs.Turns.{Ending, Answered, Stopped, Said}
 
--- ---- where a thread's parts lie
+-- ---- the addresses of a thread's parts
 
 -- the thread pointer (psABI, section 3.4.6: the FS base)
 abbrev pub pointer_of : ℕ → ℕ
@@ -23,14 +23,14 @@ pointer_of thread = thread * 2 ^ 40 + 2 ^ 38
 abbrev pub stack_size : ℕ
 stack_size = 65536
 
--- where the stack ends, which grows down
+-- the end of the stack, which grows down
 abbrev pub stack_end : ℕ → ℕ
 stack_end thread = thread * 2 ^ 40 + 2 ^ 39
 
 abbrev pub stack_start : ℕ → ℕ
 stack_start thread = stack_end thread - stack_size
 
--- where a call returns to
+-- the address that a call returns to
 abbrev pub return_place : ℕ
 return_place = 0x2000
 
@@ -42,11 +42,11 @@ module _ {W F B : Type 0} (ops : Operations W F B) where
   abbrev pub word_bytes : ℕ → List B
   word_bytes number = bytes_from ops (ops.word number) 0 8
 
-  -- a stack before a call: the return address in its last eight bytes, and zeros
+  -- a stack before a call: zeros, and the return address in its last eight bytes
   abbrev pub fresh_stack : List B
   fresh_stack = zeros (ops.byte 0) (stack_size - 8) ++ word_bytes return_place
 
-  -- the word at the thread pointer, which holds it and can only be read (psABI, section 3.4.6)
+  -- the word at the thread pointer, which holds the thread pointer and can only be read (psABI, section 3.4.6)
   abbrev pub pointer_word : ℕ → Range B
   pointer_word thread = record {
     start = pointer_of thread;
@@ -56,11 +56,11 @@ module _ {W F B : Type 0} (ops : Operations W F B) where
     runnable = false;
   }
 
--- ---- what a call begins with
+-- ---- the start of a call
 
 module _ {W F B : Type 0} (ops : Operations W F B) where
-  -- a machine before a call of the function at a place: its three arguments in %rdi, %rsi and %rdx (psABI, section
-  -- 3.2.3), and %rsp at the return address
+  -- a machine before a call of the function at this address: its three arguments in %rdi, %rsi and %rdx (psABI,
+  -- section 3.2.3), and %rsp at the return address
   abbrev pub call_start : (thread place a b c : ℕ) → State W F
   call_start thread place a b c =
       let start = start_of ops place (stack_end thread - 8) (ops.word a) (ops.word b) (ops.word c) in
@@ -70,9 +70,9 @@ module _ {W F B : Type 0} (ops : Operations W F B) where
   abbrev pub fresh_space : {E : Type 0} → List E → List (Range B) → Space E B
   fresh_space seen own = record { seen = seen; stack = fresh_stack ops; own = own }
 
--- ---- what is said of a line
+-- ---- lines in the transcript
 
--- a stop as the transcript has it; of an unclean one it has nothing
+-- a stop in the transcript; an unclean one has no answer
 abbrev pub answer_of_stop : Stop → Option Answer
 answer_of_stop (Returned number) = Some (ReturnedAnswer number)
 answer_of_stop (Look place) = Some (Fault AddressFault)
@@ -85,6 +85,6 @@ abbrev pub answer_of : Ending → Option Answer
 answer_of (Answered answer) = Some answer
 answer_of (Stopped stop) = answer_of_stop stop
 
--- a line as the transcript has it
+-- a line in the transcript
 abbrev pub shown : Said → Option Line
 shown said = option_map (λ outcome. record { points = said.points; outcome = outcome }) (answer_of said.ending)

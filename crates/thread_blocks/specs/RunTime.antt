@@ -1,4 +1,4 @@
--- The run time that the machine's code calls: `__tls_get_addr`, and the function of TLS descriptors (Drepper, "ELF
+-- The run time that code calls: `__tls_get_addr`, and the function of TLS descriptors (Drepper, "ELF
 -- Handling For Thread-Local Storage", section 3.4.6; psABI, "TLS Descriptors").
 use Rattle.std.specs.Prelude.{◌+◌, ◌-◌, ◌*◌, ◌/◌, ◌%◌, ◌^◌, ◌==◌, ◌&&◌, ℕ, Bool, true, false, List, ◌∷◌, length, Option, Some, None, Result, Ok, Err, nat_le, is_none, if◌then◌else◌}
 use Rattle.std.specs.List.{find, list_any}
@@ -27,7 +27,7 @@ use Rattle.thread_blocks.specs.Turns.{Ending, Answered, Stopped, Begun, Says, Ca
 abbrev pub Runs : Type 0
 Runs = Held ℕ Bool ℕ
 
--- whether 16 bytes from an address on lie in a range
+-- whether the 16 bytes from an address on lie in a range
 abbrev pub has_words : ℕ → Range ℕ → Bool
 has_words address range = nat_le range.start address && nat_le (address + 16) (range.start + length range.bytes)
 
@@ -39,7 +39,7 @@ word_of (Ok bytes) = Ok (number_from bytes)
 word_of (Err why) = Err why
 
 module _ (l : Loads ℕ) (thread : ℕ) where
-  -- what a thread's memory lets its machine do
+  -- the accesses that a thread's memory offers
   unfoldable pub thread_accesses : Accesses (Space Event ℕ) ℕ
   thread_accesses =
       space_accesses plain_operations (stack_start thread)
@@ -48,9 +48,9 @@ module _ (l : Loads ℕ) (thread : ℕ) where
   abbrev pub word_at : Space Event ℕ → ℕ → Result ℕ Refusal
   word_at space address = word_of (bytes_at thread_accesses space address 8)
 
-  -- ---- what is asked for
+  -- ---- the question
 
-  -- the live instance that asks: the one in whose tables the two words stand
+  -- the live instance that asks: the one in whose tables the two words lie
   abbrev pub asker : List Event → ℕ → Option Instance
   asker seen address = find (λ x. list_any (has_words address) (l.tables x)) (instances l seen)
 
@@ -74,7 +74,7 @@ module _ (l : Loads ℕ) (thread : ℕ) where
       let address = if is_descriptor then at.state.registers.rax else at.state.registers.rdi in
       asked_of at.memory is_descriptor address (asker at.memory.seen address)
 
-  -- ---- what is answered
+  -- ---- the answer
 
   abbrev pub answer_word : Asked → Instance → ℕ
   answer_word asked x = let address = block_start thread x + asked.offset in
@@ -93,8 +93,8 @@ module _ (l : Loads ℕ) (thread : ℕ) where
   found_at_once asked h None = Ends (Address h.after.state.place)
   found_at_once asked h (Some x) = goes_answered h (answered asked x h)
 
-  -- the id of an image that started with the program is answered at once, and any other after a look; where no live
-  -- instance asks, the access is refused
+  -- the id of a startup image is answered at once, and any other after a look; if no live instance asks, the access is
+  -- refused
   abbrev pub asked_next : Runs → Option Asked → Next Runs
   asked_next h None = Ends (Address h.after.state.place)
   asked_next h (Some asked) = if is_startup_id l asked.id
@@ -124,7 +124,7 @@ module _ (l : Loads ℕ) (thread : ℕ) where
   resumed_in asked h None = Says (Stopped (Address h.after.state.place)) h
   resumed_in asked h (Some x) = let h = reached l thread x h in resumed h (answered asked x h)
 
-  -- the instance that asks may be gone, and then nothing is asked for any more
+  -- the instance that asks may be closed by then; then there is nothing to answer
   abbrev pub resumed_by : List Event → Runs → Option Asked → Begun Runs
   resumed_by seen h None = Calls h
   resumed_by seen h (Some asked) = if is_none (numbered_instance l seen asked.asking)

@@ -1,4 +1,4 @@
--- What a thread's memory is: its stack, its own blocks, and what stands there to be read and to be run.
+-- A thread's memory: its stack, its own blocks, and the bytes that can be read or run and that no thread writes.
 use Rattle.std.specs.Prelude.{◌≡◌, ℕ, ◌-◌, Bool, true, false, List, [], ◌∷◌, ◌++◌, slice_set, Option, Some, None, Result, Ok, Err, ok_or, option_and_then, if◌then◌else◌}
 use Rattle.guest_operands.specs.declared.space.Access.TheVariants.{Read, Write, Run}
 use Rattle.guest_operands.specs.declared.stop.Stop.{Stop}
@@ -13,17 +13,17 @@ use Rattle.guest_arithmetic.specs.Values.{Operations}
 pub record Space (E B : Type 0) : Type 0 where
   -- the events at the thread's last look
   pub seen : List E
-  -- the stack's bytes, from a place that never changes on
+  -- the stack's bytes, from an address on that never changes
   pub stack : List B
-  -- the thread's blocks of thread-local storage
+  -- the thread's TLS blocks
   pub own : List (Range B)
 
 abbrev pub stack_range : {B : Type 0} → ℕ → List B → Range B
 stack_range start stack = record { start = start; bytes = stack; readable = true; writable = true; runnable = false }
 
--- start: where the stack begins; fixed: what stands there where the events were seen, and that no thread writes
+-- start: where the stack begins; fixed: the ranges after these events that no thread writes
 module _ {E B : Type 0} (start : ℕ) (fixed : List E → List (Range B)) where
-  -- all that the thread may reach, the first range that allows an access before the others
+  -- all ranges of the thread; the first one that allows an access decides
   abbrev pub ranges_of : Space E B → List (Range B)
   ranges_of space = stack_range start space.stack ∷ (space.own ++ fixed space.seen)
 
@@ -37,12 +37,12 @@ put_byte start space place byte =
     then record space { stack = slice_set space.stack (place - start) byte }
     else record space { own = with_byte space.own place byte }
 
--- an access, unless the place is the linker's own
+-- an access, unless the address is the linker's own
 abbrev pub unless_shut : {A : Type 0} → Bool → Result A Refusal → Result A Refusal
 unless_shut true access = Err Shut
 unless_shut false access = access
 
--- what such a memory lets a machine do; shut: the places that are the linker's own where the events were seen
+-- the accesses that such a memory offers; shut: the addresses that are the linker's own after these events
 unfoldable pub space_accesses : {W F E B : Type 0} → Operations W F B → ℕ → (List E → List (Range B))
     → (List E → ℕ → Bool) → Accesses (Space E B) B
 space_accesses ops start fixed shut = record {
@@ -55,7 +55,7 @@ space_accesses ops start fixed shut = record {
   code = λ space place. option_and_then ops.code (byte_in Run (ranges_of start fixed space) place);
 }
 
--- a memory of which nothing is the linker's own
+-- a memory where no address is the linker's own
 abbrev pub open_everywhere : {E : Type 0} → List E → ℕ → Bool
 open_everywhere seen place = false
 
@@ -69,7 +69,7 @@ NoneWritable (range ∷ ranges) = (range.writable ≡ false) × NoneWritable ran
 
 -- ---- one memory as the image of another
 
--- what the one lets a machine do, the other lets it do at its image
+-- each access to the one gives what the access to its image gives
 pub record IsImage {M M' B : Type 0} (acc : Accesses M B) (acc' : Accesses M' B) (image : M → M') : Type 0 where
   pub byte : (m : M) (place : ℕ) → acc'.byte (image m) place ≡ acc.byte m place
   pub writes : (m : M) (place : ℕ) → acc'.writes (image m) place ≡ acc.writes m place
@@ -93,7 +93,7 @@ module _ {S S' : Type 0} (image : S → S') where
   outcome_image (Ended stop n s) = Ended stop n (image s)
   outcome_image (Waits n s) = Waits n (image s)
 
-  -- what the one steps to, the other steps to from its image
+  -- each step of the one is a step of the other from its image
   pub record IsRunImage (x : Stepping S) (y : Stepping S') : Type 0 where
     pub over : (s : S) → y.over (image s) ≡ x.over s
     pub step : (s : S) → y.step (image s) ≡ next_image (x.step s)
@@ -101,7 +101,7 @@ module _ {S S' : Type 0} (image : S → S') where
 
 -- ---- two memories, part by part
 
--- R: what bytes have to do with each other
+-- R: the relation between bytes
 pub record SameRange {B B' : Type 0} (R : B → B' → Type 0) (range : Range B) (range' : Range B') : Type 0 where
   pub start : range'.start ≡ range.start
   pub readable : range'.readable ≡ range.readable
@@ -109,7 +109,7 @@ pub record SameRange {B B' : Type 0} (R : B → B' → Type 0) (range : Range B)
   pub runnable : range'.runnable ≡ range.runnable
   pub bytes : All2 R range.bytes range'.bytes
 
--- what is found at a place on the two sides
+-- what is found at an address on the two sides
 abbrev pub FoundAlike : {B B' : Type 0} → (B → B' → Type 0) → Option B → Option B' → Type 0
 FoundAlike R None None = Unit {0}
 FoundAlike R None (Some b') = ⊥

@@ -9,12 +9,12 @@ pub data Ending : Type 0 where
   Answered : Answer → Ending
   Stopped : Stop → Ending
 
--- what a thread says of a line: the number of events that each of its looks saw, and how the line ended
+-- a line that is over: the number of events that each of its looks saw, and how it ended
 pub record Said : Type 0 where
   pub points : List ℕ
   pub ending : Ending
 
--- what a look comes to: the line's end, or steps from a state on
+-- the result of a look: the line's end, or steps from a state on
 pub data Begun (S : Type 0) : Type 0 where
   Says : Ending → S → Begun S
   Calls : S → Begun S
@@ -29,8 +29,8 @@ pub record Turns (S L E : Type 0) : Type 0 where
   -- a look in the middle of a line
   pub resume : List E → S → Begun S
 
--- where a thread stands: between two lines, or at a look in the middle of one, with the steps left (the look's own step
--- is still to be paid) and the looks so far
+-- where a thread is: between two lines, or at a look in the middle of one, with the steps left (the look's own step is
+-- still to be counted) and the looks so far
 pub data Phase (S : Type 0) : Type 0 where
   Idle : S → Phase S
   Mid : ℕ → List ℕ → S → Phase S
@@ -39,12 +39,12 @@ pub record Thread (S L E : Type 0) : Type 0 where
   -- the lines that are not begun
   pub todo : List L
   pub phase : Phase S
-  -- what it said of the lines that are over
+  -- the lines that are over
   pub said : List Said
   -- the events at its last look
   pub seen : List E
 
--- an end of a list
+-- a list with an element added at its end
 abbrev pub with_last : {X : Type 0} → List X → X → List X
 with_last xs x = xs ++ x ∷ []
 
@@ -58,19 +58,19 @@ module _ {S L E : Type 0} where
     seen = seen;
   }
 
-  -- what a run leaves of a thread
+  -- a thread after a run
   abbrev pub after_run : List L → List Said → List E → List ℕ → Outcome S → Thread S L E
   after_run todo said seen points (Ended stop left s) = over_with todo said seen points (Stopped stop) s
   after_run todo said seen points (Waits left s) =
       record { todo = todo; phase = Mid left points s; said = said; seen = seen }
 
 module _ {S L E : Type 0} (x : Turns S L E) where
-  -- what a look leaves of a thread, with so many steps to go
+  -- a thread after a look, with this many steps left
   abbrev pub after_look : ℕ → List L → List Said → List E → List ℕ → Begun S → Thread S L E
   after_look steps todo said seen points (Says ending s) = over_with todo said seen points ending s
   after_look steps todo said seen points (Calls s) = after_run todo said seen points (run x.steps steps s)
 
-  -- a turn of a thread that saw the events `old` and now sees `seen`; where nothing is left to do it is left as it is
+  -- a turn of a thread that saw the events `old` and now sees `seen`; a finished thread is left as it is
   abbrev pub turn_at : List L → Phase S → List Said → List E → List E → Thread S L E
   turn_at [] (Idle s) said old seen = record { todo = []; phase = Idle s; said = said; seen = old }
   turn_at (line ∷ todo) (Idle s) said old seen =
@@ -116,16 +116,16 @@ IsFinished [] (Idle s) = Unit {0}
 IsFinished (line ∷ todo) (Idle s) = ⊥
 IsFinished todo (Mid left points s) = ⊥
 
--- turns enough for so many lines: a line has its first look, and each look in its middle takes a step
+-- enough turns for this many lines: each line has its first look, and each look in its middle takes a step
 abbrev pub enough : ℕ → ℕ → ℕ
 enough fuel lines = (fuel + 2) * lines
 
--- the most turns that a thread still has
+-- the most turns that a thread still takes
 abbrev pub turns_left : {S L : Type 0} → ℕ → List L → Phase S → ℕ
 turns_left fuel todo (Idle s) = enough fuel (length todo)
 turns_left fuel todo (Mid left points s) = enough fuel (length todo) + (left + 1)
 
--- the threads finish in rising number, from thread i on
+-- the threads finish one after another, from thread i on
 abbrev pub finishing : {L : Type 0} → ℕ → ℕ → List (List L) → List ℕ
 finishing fuel i [] = []
 finishing fuel i (lines ∷ more) = replicate (enough fuel (length lines)) i ++ finishing fuel (suc i) more

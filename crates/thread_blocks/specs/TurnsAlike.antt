@@ -1,4 +1,4 @@
--- That threads of one kind did what threads of another did; an unclean line of the first allows anything.
+-- When threads of one kind did what threads of another did; an unclean line of the first allows anything.
 use Rattle.std.specs.Prelude.{◌≡◌, ◌⊎◌, ◌+◌, ◌*◌, ◌≤◌, List, [], ◌∷◌, ◌++◌}
 use Rattle.guest_machine.specs.Simulate.{IsUnclean}
 use Rattle.thread_blocks.specs.Turns.{Ending, Answered, Stopped, Said, Begun, Says, Calls, Phase, Idle, Mid, Thread}
@@ -12,7 +12,7 @@ abbrev pub HasUnclean : List Said → Type 0
 HasUnclean [] = ⊥
 HasUnclean (line ∷ said) = IsUncleanEnding line.ending ⊎ HasUnclean said
 
--- what two looks at the events come to
+-- the results of two looks at the same events are alike
 abbrev pub SameBegun : {S S' E : Type 0} (Rel Rest : List E → S → S' → Type 0) → List E → Begun S → Begun S' → Type 0
 SameBegun Rel Rest seen (Says ending s) (Says ending' s') =
     IsUncleanEnding ending ⊎ ((ending' ≡ ending) × Rest seen s s')
@@ -28,7 +28,7 @@ module _ {S S' E : Type 0} (Wait Rest : List E → S → S' → Type 0) where
   SamePhase seen (Mid left points s) (Mid left' points' s') =
       (1 ≤ left) × ((4 * left ≤ left' + 3) × ((points' ≡ points) × Wait seen s s'))
 
-  -- two threads that did the same so far
+  -- two threads that have done the same so far
   pub record Level {L : Type 0} (t : Thread S L E) (t' : Thread S' L E) : Type 0 where
     pub todo : t'.todo ≡ t.todo
     pub said : t'.said ≡ t.said

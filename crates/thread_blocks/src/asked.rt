@@ -1,14 +1,14 @@
-//! What a thread asks the run time for.
+//! A thread's question to the run time.
 
-/// What a thread asks the run time for, while it looks: a place in its block of a module.
+/// A thread's question to the run time at a look: where is this byte of my block of a module?
 #[derive(Clone, Copy, PartialEq, Eq, Debug)]
 pub struct Asked {
-    /// The instance whose words say so.
+    /// The instance whose words hold the module id and the offset.
     pub asking: u32,
     /// The module id.
     pub id: u64,
-    /// How far behind the block's first byte.
+    /// The offset from the block's first byte.
     pub offset: u64,
-    /// A descriptor's function answers the distance from the thread pointer, and not an address.
+    /// Whether a descriptor's function was called. It returns the distance from the thread pointer, not an address.
     pub is_descriptor: bool,
 }

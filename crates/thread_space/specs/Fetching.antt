@@ -1,4 +1,4 @@
--- Code that is fetched at once: the first part that is run and has one of 15 places, where it has them all.
+-- Fetches of 15 bytes of code at once: from the first code part that holds one of the 15 addresses, if it holds all.
 use Rattle.std.specs.Prelude.{◌≡◌, ◌+◌, ◌≤◌, ◌&&◌, ℕ, Bool, false, suc, List, [], ◌∷◌, length, nat_lt, Option, Some, None, slice_get, slice_range, if◌then◌else◌}
 use Rattle.image_file.specs.Spelled.{Part, Spelled}
 use Rattle.loaded_modules.specs.declared.instance.Instance.{Instance}
@@ -7,12 +7,12 @@ use Rattle.loaded_modules.specs.Loader.{bias, bias_of, part_bytes}
 use Rattle.thread_blocks.specs.Loading.{is_code}
 use Rattle.thread_space.specs.Places.{behind}
 
--- bytes from a start on have one of the 15 places from a place on
+-- this many bytes from a start on hold one of the 15 addresses from `place` on
 abbrev pub meets : ℕ → ℕ → ℕ → Bool
 meets start size place = nat_lt start (place + 15) && nat_lt place (start + size)
 
 module _ (m : JobImages) (image : Spelled) (x : Instance) where
-  -- a part is run, and has one of those places
+  -- a part is code, and holds one of those addresses
   abbrev pub part_meets : ℕ → Option Part → Bool
   part_meets place None = false
   part_meets place (Some part) =
@@ -27,11 +27,11 @@ abbrev pub code_in : JobImages → ℕ → Instance → Option Spelled → Optio
 code_in m place x None = None
 code_in m place x (Some image) = first_code m image x place 0 image.parts
 
--- the same of an instance
+-- the same for an instance
 unfoldable pub code_number : JobImages → ℕ → Instance → Option ℕ
 code_number m place x = code_in m place x (image_at m x.image)
 
--- these are the 15 bytes from a place on, all of one part
+-- these are the 15 bytes from an address on, all in one part
 pub record Copies (m : JobImages) (image : Spelled) (x : Instance) (i place : ℕ) (bytes : List ℕ) : Type 0 where
   pub part : Part
   pub at : ℕ

@@ -1,4 +1,4 @@
--- How contracts see a thread's memory, and what the code keeps of it besides.
+-- The memory of a thread as contracts see it, and the invariant that the code keeps.
 use Rattle.std.specs.Prelude.{◌≡◌, ◌≤◌}
 use Rattle.guest_arithmetic.specs.Plain.{plain_operations}
 use Rattle.thread_blocks.specs.MachineTurns.{pointer_word, stack_start}

@@ -1,5 +1,5 @@
--- What a thread's code keeps, as the ranges that its machine finds: its stack, its blocks, data, and behind them what no
--- thread writes. Blocks and data stand in the order of the images of their instances, as a look leaves them.
+-- What a thread's code keeps, as the ranges that its machine accesses: its stack, its blocks, data, and after them
+-- what no thread writes. Blocks and data are in the order of the images of their instances, as a look leaves them.
 use Rattle.std.specs.Prelude.{◌≡◌, ℕ, Bool, List, [], ◌∷◌, ◌++◌, length, Option}
 use Rattle.std.specs.List.{flat_map}
 use Rattle.guest_arithmetic.specs.Plain.{plain_operations}
@@ -26,9 +26,9 @@ pub record Kept : Type 0 where
   pub pieces : List Piece
   pub stack : List ℕ
 
--- ---- what is written
+-- ---- written ranges
 
--- the instances that are live where the thread looked last
+-- the instances that were live at the thread's last look
 abbrev pub live_in : JobImages → Past → List Instance
 live_in m p = instances_in (infos m) p
 
@@ -40,19 +40,19 @@ blocks_of v = flat_map (λ (x : Instance). block_with v.thread x (held v x.numbe
 abbrev pub data_in : JobImages → List Piece → Instance → List (Owned ℕ)
 data_in m d x = data_with x ((job_loads m).shared x) (data_of d x.number x.image)
 
--- the data of the instances that a history leaves
+-- the data of the live instances after a history
 unfoldable pub shared_of : JobImages → Past → List Piece → List (Owned ℕ)
 shared_of m p d = flat_map (data_in m d) (live_in m p)
 
 abbrev pub owned_of : Vector → List Piece → List (Owned ℕ)
 owned_of v d = blocks_of v ++ shared_of v.images v.past d
 
--- ---- what is not
+-- ---- other ranges
 
 unfoldable pub fixed_in : JobImages → Past → ℕ → List (Range ℕ)
 fixed_in m p thread = pointer_word plain_operations thread ∷ fixed_of (job_loads m) (live_in m p)
 
--- ---- all of it
+-- ---- all ranges
 
 abbrev pub ranges_of_kept : Kept → List (Range ℕ)
 ranges_of_kept k = stack_range (stack_start k.vector.thread) k.stack ∷
@@ -67,9 +67,9 @@ pub record Shape : Type 0 where
   pub thread : ℕ
   pub images : JobImages
   pub past : Past
-  -- whose the written ranges are, in their order
+  -- the owners of the written ranges, in their order
   pub owners : List Owner
-  -- how many images the data are of
+  -- the number of images that the data are of
   pub count : ℕ
 
 unfoldable pub shape_of : Kept → Shape
@@ -81,7 +81,7 @@ shape_of k = record {
   count = length k.pieces;
 }
 
--- the shape of a thread that knows of no image
+-- the shape of a thread that knows no image
 abbrev pub shape_with : ℕ → Shape
 shape_with thread = record {
   thread = thread;
@@ -91,13 +91,13 @@ shape_with thread = record {
   count = 0;
 }
 
--- ---- as the definitions of lines have it
+-- ---- in the definitions of lines
 
--- the events leave what the thread has seen
+-- the events leave the state that the thread has seen
 abbrev pub HasSeen : Vector → List Event → Type 0
 HasSeen v seen = past (infos v.images) (last_offset v.images) seen ≡ v.past
 
--- a thread that keeps this, with its machine in this state, where it saw these events
+-- a thread that keeps this, with its machine in this state, after these events
 abbrev pub held_at : List Event → State ℕ Bool → Option Asked → Kept → Runs
 held_at seen state asked k = record {
   after = left state (record { seen = seen; stack = k.stack; own = ranges_in (owned_of k.vector k.pieces) });

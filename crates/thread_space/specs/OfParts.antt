@@ -1,4 +1,4 @@
--- One part of an instance: what may be done with it, and what is found there.
+-- One part of an instance: its rights, and its bytes.
 use Rattle.std.specs.Prelude.{◌+◌, ◌^◌, ◌&&◌, ℕ, Bool, false, not, List, Option, Some, None, if◌then◌else◌, option_and_then, nat_lt, slice_get}
 use Rattle.std.specs.List.{filter}
 use Rattle.guest_operands.specs.declared.space.Access.{Access}
@@ -14,14 +14,14 @@ use Rattle.thread_blocks.specs.Loading.{is_code, is_loaders, is_written}
 use Rattle.thread_blocks.specs.RunTime.{has_words}
 use Rattle.thread_space.specs.Places.{behind}
 
--- what may be done with a part that no thread writes
+-- the accesses that a part allows, if no thread writes it
 abbrev pub allows_fixed : Access → PartClass → Bool → Bool
 allows_fixed Read class is_loaders = not (is_code class) && not (is_written class && not is_loaders)
 allows_fixed Write class is_loaders = false
 allows_fixed Run class is_loaders = is_code class
 
--- whether an image that is moved so far may have a part at one of the 15 places from a place on: its parts end below 2^27
--- before they are moved
+-- whether an image with this load bias may have a part at one of the 15 addresses from `place` on: its parts end below
+-- 2^27 before the load bias is added
 abbrev pub is_near : ℕ → ℕ → Bool
 is_near bias place = nat_lt bias (place + 15) && nat_lt place (bias + 2 ^ 27)
 
@@ -30,14 +30,14 @@ abbrev pub fixed_ranges : List (Range ℕ) → List (Range ℕ)
 fixed_ranges ranges = filter (λ (range : Range ℕ). not range.writable) ranges
 
 module _ (m : JobImages) (image : Spelled) (x : Instance) (i : ℕ) where
-  -- the byte at a place in part i, where it may be accessed so and no thread writes the part
+  -- the byte at an address in part i, if the part allows the access and no thread writes it
   abbrev pub byte_of_part : Access → ℕ → Option Part → Option ℕ
   byte_of_part access place None = None
   byte_of_part access place (Some part) = if allows_fixed access part.class (is_loaders image.got i)
       then option_and_then (slice_get (part_bytes m image x part)) (behind (part.address + bias image.kind x.number) place)
       else None
 
-  -- whether the part is written, and has the 16 bytes from an address on
+  -- whether the part is written, and holds the 16 bytes from an address on
   abbrev pub part_has_words : ℕ → Option Part → Bool
   part_has_words address None = false
   part_has_words address (Some part) = is_written part.class && has_words address (instance_part m image x i part)

@@ -17,10 +17,10 @@ block_ranges v x = ranges_in (block_with v.thread x (held v x.number))
 unfoldable pub data_ranges : JobImages → List Piece → Instance → List (Range ℕ)
 data_ranges m d x = ranges_in (data_in m d x)
 
--- whether a byte may be written there
+-- whether a byte at this address may be written
 abbrev pub takes : List (Range ℕ) → ℕ → Bool
 takes ranges place = is_some (byte_in Write ranges place)
 
--- how far behind a start a place lies, if it does not lie before it
+-- the offset of an address from a start, unless it lies before the start
 abbrev pub behind : ℕ → ℕ → Option ℕ
 behind start place = if nat_le start place then Some (place - start) else None

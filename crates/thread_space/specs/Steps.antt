@@ -1,4 +1,4 @@
--- What clauses say of a thread's memory before and after a call.
+-- A thread's memory before and after a call, as clauses state it.
 use Rattle.std.specs.Prelude.{◌≡◌, ℕ, [], List}
 use Rattle.guest_arithmetic.specs.Plain.{plain_operations}
 use Rattle.loaded_modules.specs.Images.{JobImages, infos, last_offset}
@@ -10,7 +10,7 @@ use Rattle.thread_vector.specs.Statements.{Leaves}
 use Rattle.thread_vector.specs.Vectors.{caught_up, fresh, held, reached}
 use Rattle.thread_space.specs.Kept.{Kept}
 
--- a thread of a job before any event, with no data in its hands
+-- a thread of a job before any event, which holds no data
 pub record IsNew (thread : ℕ) (m : JobImages) (k : Kept) : Type 0 where
   pub thread_is : k.vector.thread ≡ thread
   pub images : k.vector.images ≡ m
@@ -19,7 +19,7 @@ pub record IsNew (thread : ℕ) (m : JobImages) (k : Kept) : Type 0 where
   pub data_is : k.pieces ≡ []
   pub stack : k.stack ≡ []
 
--- it looks: the vector sees these events, and nothing else has changed
+-- the thread looks: the vector sees these events, and nothing else has changed
 pub record Looks (old : Kept) (events : List Event) (new : Kept) : Type 0 where
   pub leaves : Leaves old.vector new.vector (after old.vector.past events)
   pub blocks : (i : ℕ) → held new.vector i ≡ caught_up old.vector new.vector.past i

@@ -1,4 +1,4 @@
--- What a byte that is written leaves.
+-- A thread's memory after a byte is written.
 use Rattle.std.specs.Prelude.{◌≡◌, ◌-◌, ℕ, List, slice_set, Some}
 use Rattle.loaded_modules.specs.declared.instance.Instance.{Instance}
 use Rattle.module_data.specs.Laws.{written}

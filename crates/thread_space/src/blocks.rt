@@ -1,4 +1,4 @@
-//! Bytes of a thread's blocks.
+//! The bytes of a thread's blocks.
 
 ghost use Rattle.std.specs.Prelude.{◌≡◌, true, slice_get};
 ghost use Rattle.std.specs.List.{find};
@@ -21,14 +21,14 @@ fn byte_of(bytes: &[u8], at: u64) -> Option<u8>
 }
 
 impl<'m> ThreadSpace<'m> {
-    /// How far behind the start of an instance's block a place lies, if it lies there at all.
+    /// The offset of an address from the start of an instance's block, if the address lies in the block.
     fn behind_block(&self, instance: &Instance, place: u64) -> Option<u64>
         ensures { result ≡ behind (block_start self.now.vector.thread instance.now) place }
     {
         place.checked_sub(self.block_start(instance))
     }
 
-    /// The byte at a place in the thread's block of an instance.
+    /// The byte at an address in the thread's block of an instance.
     pub(crate) fn block_byte(&self, instance: &Instance, place: u64) -> Option<u8>
         ensures read { result ≡ byte_in Read (block_ranges self.now.vector instance.now) place }
         ensures written { result ≡ byte_in Write (block_ranges self.now.vector instance.now) place }
@@ -42,7 +42,7 @@ impl<'m> ThreadSpace<'m> {
         byte_of(bytes, at)
     }
 
-    /// The live instance whose block has a place.
+    /// The live instance whose block holds an address.
     pub(crate) fn block_at(&self, place: u64) -> Option<Instance>
         ensures { result ≡ find (λ x. takes (block_ranges self.now.vector x) place)
             (live_in self.now.vector.images self.now.vector.past) }
@@ -55,7 +55,7 @@ impl<'m> ThreadSpace<'m> {
         None
     }
 
-    /// Writes the byte at a place in the thread's block of an instance.
+    /// Writes the byte at an address in the thread's block of an instance.
     pub(crate) fn set_block_byte(&mut self, instance: &Instance, place: u64, byte: u8)
         requires { takes (block_ranges self.old.vector instance.now) place ≡ true }
         ensures { WritesBlock self.old instance.now place byte self.new }

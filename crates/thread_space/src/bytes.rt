@@ -10,7 +10,7 @@ use guest_machine::{Access, Size, Space};
 use guest_memory::{Bytes, fetch, load, store};
 use std::marker::Model;
 
-/// What no access of a thread changes. None is ever made: only contracts speak of it.
+/// The part of a thread that no access changes. No value of it is made: only contracts use it.
 #[derive(Drop)]
 pub struct Outline {
     pub(crate) thread: u32,

@@ -1,4 +1,4 @@
-//! Code that is fetched at once.
+//! Fetches of 15 bytes of code at once.
 
 ghost use Rattle.std.specs.Prelude.{◌≡◌, ◌+◌, ◌≤◌, true, Some, is_some, length, slice_get, slice_range};
 ghost use Rattle.std.specs.List.{find};
@@ -18,7 +18,7 @@ use loaded_modules::Instance;
 /// How many bytes are fetched at once.
 const WINDOW: u64 = 15;
 
-/// Whether so many bytes from a start on, once they are moved, have one of the 15 places from a place on.
+/// Whether `size` bytes from `start` on, moved by `bias`, hold one of the 15 addresses from `place` on.
 fn meets(start: u64, bias: u64, size: u64, place: u64) -> bool
     ensures { result ≡ meets (start + bias) size place }
 {
@@ -28,7 +28,7 @@ fn meets(start: u64, bias: u64, size: u64, place: u64) -> bool
 }
 
 impl<'m> ThreadSpace<'m> {
-    /// Whether a part of an instance is run, and has one of the 15 places from a place on.
+    /// Whether a part of an instance is code, and holds one of the 15 addresses from `place` on.
     fn part_meets(&self, image: &Image, instance: &Instance, number: u64, place: u64) -> bool
         requires there { image_at self.now.vector.images instance.now.image ≡ Some image.now }
         ensures { result ≡ part_meets self.now.vector.images image.now instance.now place
@@ -57,7 +57,7 @@ impl<'m> ThreadSpace<'m> {
         None
     }
 
-    /// The same of the image that an instance is of.
+    /// The same for the image of an instance.
     fn code_number(&self, instance: &Instance, place: u64) -> Option<u64>
         ensures { result ≡ code_number self.now.vector.images place instance.now }
     {
@@ -71,7 +71,7 @@ impl<'m> ThreadSpace<'m> {
         self.first_code(image, instance, place)
     }
 
-    /// The first live instance that has such a part.
+    /// The first live instance with such a part.
     fn code_at(&self, place: u64) -> Option<Instance>
         ensures { result ≡ find (λ x. is_some (code_number self.now.vector.images place x))
             (live_in self.now.vector.images self.now.vector.past) }
@@ -84,7 +84,7 @@ impl<'m> ThreadSpace<'m> {
         None
     }
 
-    /// Copies 15 bytes of a part of an instance as the loader leaves it.
+    /// Copies 15 bytes of a part of an instance, as the loader leaves it.
     fn copy_loaded(&self, instance: &Instance, number: u64, at: u64, into: &mut [u8; 15])
         requires { at + 15 ≤ length (loaded_part self.now.vector.images instance.now number) }
         ensures { into.new ≡ slice_range (loaded_part self.now.vector.images instance.now number) at (at + 15) }
@@ -92,7 +92,7 @@ impl<'m> ThreadSpace<'m> {
         self.modules.copy_bytes(instance, number, at, into);
     }
 
-    /// Copies the 15 bytes from a place on, if all of them are of a part.
+    /// Copies the 15 bytes from an address on, if the part holds all of them.
     fn copy_part(
         &self,
         image: &Image,
@@ -118,7 +118,7 @@ impl<'m> ThreadSpace<'m> {
         true
     }
 
-    /// Copies the next 15 bytes of code, if all of them are of one part.
+    /// Copies the next 15 bytes of code, if one part holds all of them.
     pub(crate) fn copy_code(&self, place: u64, into: &mut [u8; 15]) -> bool
         ensures { result ≡ true → into.new ≡ fetch_of (range_accesses plain_operations) (memory_of self.now) place }
     {

@@ -1,4 +1,4 @@
-//! Live instances, and where their blocks lie.
+//! Live instances, and the addresses of their blocks.
 
 ghost use Rattle.std.specs.Prelude.{◌≡◌, ◌==◌, ◌+◌, ◌≤◌, ◌^◌, IfSome, option_map};
 ghost use Rattle.std.specs.List.{find, list_any};
@@ -14,7 +14,7 @@ use crate::words::thread_pointer;
 use loaded_modules::Instance;
 use module_table::ImageInfo;
 
-/// How many images start with the program.
+/// How many startup images there are.
 fn startup_count(infos: &[ImageInfo]) -> u64
     ensures { result ≡ startup_count infos.now }
 {
@@ -22,7 +22,7 @@ fn startup_count(infos: &[ImageInfo]) -> u64
 }
 
 impl<'m> ThreadSpace<'m> {
-    /// The live instance of a number.
+    /// The live instance with a number.
     pub fn numbered(&self, number: u32) -> Option<Instance>
         ensures { result ≡ find (λ x. x.number == number) (live_in self.now.vector.images self.now.vector.past) }
     {
@@ -46,7 +46,7 @@ impl<'m> ThreadSpace<'m> {
         None
     }
 
-    /// Where the thread's block of an instance begins.
+    /// The address of the thread's block of an instance.
     pub fn block_start(&self, instance: &Instance) -> u64
         ensures { result ≡ block_start self.now.vector.thread instance.now }
     {
@@ -60,14 +60,14 @@ impl<'m> ThreadSpace<'m> {
         }
     }
 
-    /// The bytes of the block that the thread has of an instance.
+    /// The bytes of the thread's block of an instance, if it has one.
     pub fn block(&self, instance: u32) -> Option<&[u8]>
         ensures { held self.now.vector instance ≡ option_map (λ b. b.now) result }
     {
         self.dtv.block(instance)
     }
 
-    /// Whether a module id is that of an image that starts with the program.
+    /// Whether a module id is that of a startup image.
     #[tactic(auto, unfolding(thread_blocks::specs::JobLoads::job_loads))]
     pub fn is_startup(&self, id: u64) -> bool
         ensures { result ≡ is_startup_id (job_loads self.now.vector.images) id }
@@ -75,7 +75,7 @@ impl<'m> ThreadSpace<'m> {
         id != 0 && id <= startup_count(self.modules.infos())
     }
 
-    /// The live instance that asks the run time by two words at an address: the one of whose written parts one has them.
+    /// The live instance that asks the run time by two words at an address: the one whose written parts hold them.
     pub fn asker(&self, address: u64) -> Option<Instance>
         ensures low { IfSome result (λ x. address + 16 ≤ 2 ^ 64) }
         ensures found { result ≡ find (λ x. list_any (has_words address) ((job_loads self.now.vector.images).tables x))

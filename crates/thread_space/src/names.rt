@@ -30,7 +30,7 @@ impl<'m> Model for JobNames<'m> {
     ghost invariant = { λ names. names.names.items ≡ names.modules.now.images };
 }
 
-/// Where the function of a name begins, before the image is moved.
+/// The address of the function with a name, before the load bias is added.
 fn entry_place(names: &ImageNames, name: &[u8]) -> Option<u64>
     ensures value { result ≡ entry_in names.now name.now }
     ensures low { IfSome result (λ place. place < 2 ^ 32) }
@@ -40,7 +40,7 @@ fn entry_place(names: &ImageNames, name: &[u8]) -> Option<u64>
     Some(place)
 }
 
-/// How far the image of an instance is moved: less than 2^59 bytes.
+/// The load bias of an instance: less than 2^59.
 #[tactic(auto, using(crate::proofs::Entries::bias_low))]
 fn bias_of(modules: &Modules, instance: &Instance) -> u64
     ensures value { result ≡ bias_of modules.now instance.now }
@@ -64,7 +64,7 @@ fn names_of<'m>(alloc: Global, modules: &'m Modules) -> Result<Vec<ImageNames<'m
 }
 
 impl<'m> JobNames<'m> {
-    /// Hashes the names of a job's images. The only error is want of memory.
+    /// Hashes the names of a job's images. The only error is out of memory.
     pub fn new(alloc: Global, modules: &'m Modules) -> Result<JobNames<'m>, AllocError>
         ensures { IfOk result (λ names. names ≡ modules.now) }
     {
@@ -89,7 +89,7 @@ impl<'m> JobNames<'m> {
         self.names.as_slice().get(number as usize - 1)
     }
 
-    /// Where the function of a name begins in an instance, if it has one that can be called.
+    /// The address of the function with a name in an instance, if it has one that can be called.
     #[tactic(auto, unfolding(loaded_modules::specs::Loader::bias_of, thread_blocks::specs::JobLoads::job_loads))]
     pub fn function(&self, instance: &Instance, name: &[u8]) -> Option<u64>
         ensures { result ≡ (job_loads self.now).function instance.now name.now }
@@ -99,7 +99,7 @@ impl<'m> JobNames<'m> {
         Some(place + bias_of(self.modules, instance))
     }
 
-    /// The offset of the variable of a name in the blocks of an image, if it has one.
+    /// The offset of the variable with a name in the blocks of an image, if it has one.
     #[tactic(auto, unfolding(thread_blocks::specs::JobLoads::job_loads))]
     pub fn variable(&self, image: u32, name: &[u8]) -> Option<u64>
         ensures { result ≡ (job_loads self.now).variable image name.now }
@@ -110,10 +110,10 @@ impl<'m> JobNames<'m> {
     }
 }
 
-/// Asks that threads may move a type's values, and share them.
+/// Compiles only if threads may move and share a type's values.
 fn crosses_threads<T: Send + Sync>() {}
 
-/// Threads may move the names of a job's images, and share them: all of a job's threads find functions by one table.
+/// Threads may move and share the names of a job's images: all of a job's threads find functions in one table.
 pub fn names_cross_threads() {
     crosses_threads::<JobNames<'static>>();
 }

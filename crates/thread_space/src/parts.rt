@@ -18,11 +18,11 @@ use guest_machine::Access;
 use image_file::{Image, PartClass, image_is_spelled};
 use loaded_modules::Instance;
 
-/// How many bytes a question to the run time has: two words.
+/// The size of a question to the run time: two words.
 const WORDS: u64 = 16;
 
-/// Where the parts of an image end at the latest, before they are moved. Instances are moved 2^26 bytes further than the
-/// one before, so a place is near to three at the most.
+/// The end of an image's parts before the load bias is added is at most this. The load bias grows by 2^26 from
+/// instance to instance, so an address is near at most three instances.
 const PARTS_END: u128 = 1 << 27;
 
 pub(crate) fn is_code(class: PartClass) -> bool
@@ -37,7 +37,7 @@ fn is_written(class: PartClass) -> bool
     matches!(class, PartClass::Writable)
 }
 
-/// Whether a part is the one that the loader alone writes.
+/// Whether a part is the one that only the loader writes.
 fn is_loaders(got: Option<u64>, number: u64) -> bool
     ensures { result ≡ is_loaders got number }
 {
@@ -47,7 +47,7 @@ fn is_loaders(got: Option<u64>, number: u64) -> bool
     }
 }
 
-/// Whether a part is one that no thread writes, and may be accessed so.
+/// Whether no thread writes the part, and its class allows the access.
 fn allows_fixed(access: Access, class: PartClass, is_loaders: bool) -> bool
     ensures { result ≡ allows_fixed access class is_loaders }
 {
@@ -58,7 +58,7 @@ fn allows_fixed(access: Access, class: PartClass, is_loaders: bool) -> bool
     }
 }
 
-/// How far behind the start of a part a place lies, once the part is moved, if it does not lie before it.
+/// The offset of an address from the start of a part with this load bias, unless it lies before the start.
 pub(crate) fn behind_part(start: u64, bias: u64, place: u64) -> Option<u64>
     ensures { result ≡ behind (start + bias) place }
 {
@@ -66,8 +66,8 @@ pub(crate) fn behind_part(start: u64, bias: u64, place: u64) -> Option<u64>
     place.checked_sub(start)
 }
 
-/// Whether an image that is moved so far may have a part at one of the 15 places from a place on. It costs two tests, and a
-/// look at its parts many: most of the live instances are far from a place.
+/// Whether an image with this load bias may have a part at one of the 15 addresses from `place` on. This takes two
+/// comparisons, and a walk over its parts many more: most live instances are far from an address.
 pub(crate) fn is_near(bias: u64, place: u64) -> bool
     ensures { result ≡ is_near bias place }
 {
@@ -76,7 +76,7 @@ pub(crate) fn is_near(bias: u64, place: u64) -> bool
     bias < place + 15 && place < bias + PARTS_END
 }
 
-/// Whether two words from an offset on lie among so many bytes.
+/// Whether two words at this offset lie within `size` bytes.
 fn has_room(size: u64, at: u64) -> bool
     ensures { result ≡ nat_le (at + 16) size }
 {
@@ -84,14 +84,14 @@ fn has_room(size: u64, at: u64) -> bool
 }
 
 impl<'m> ThreadSpace<'m> {
-    /// The image that an instance is of.
+    /// The image of an instance.
     pub(crate) fn image_of(&self, instance: &Instance) -> Option<&Image>
         ensures { option_map (λ image. image.now) result ≡ image_at self.now.vector.images instance.now.image }
     {
         self.modules.image(instance.image)
     }
 
-    /// How far the image of an instance is moved: less than 2^59 bytes.
+    /// The load bias of an instance: less than 2^59.
     #[tactic(auto, using(crate::proofs::LowParts::bias_low))]
     pub(crate) fn bias(&self, instance: &Instance) -> u64
         ensures value { result ≡ bias_of self.now.vector.images instance.now }
@@ -101,14 +101,14 @@ impl<'m> ThreadSpace<'m> {
         self.modules.bias(instance)
     }
 
-    /// How many bytes a part of an instance has.
+    /// The size of a part of an instance, in bytes.
     pub(crate) fn part_size(&self, instance: &Instance, number: u64) -> u64
         ensures { result ≡ length (loaded_part self.now.vector.images instance.now number) }
     {
         self.modules.part_size(instance, number)
     }
 
-    /// The byte at an offset in a part of an instance as the loader leaves it.
+    /// The byte at an offset in a part of an instance, as the loader leaves it.
     fn loaded_byte(&self, instance: &Instance, number: u64, at: u64) -> Option<u8>
         ensures { result ≡ slice_get (loaded_part self.now.vector.images instance.now number) at }
     {
@@ -120,7 +120,7 @@ impl<'m> ThreadSpace<'m> {
         Some(byte[0])
     }
 
-    /// The byte at a place in a part of an instance, where it may be accessed so and no thread writes the part.
+    /// The byte at an address in a part of an instance, if the part allows the access and no thread writes it.
     fn byte_of_part(
         &self,
         image: &Image,
@@ -145,7 +145,7 @@ impl<'m> ThreadSpace<'m> {
         }
     }
 
-    /// The same of all parts of its image.
+    /// The same for all parts of its image.
     fn byte_of_image(
         &self,
         image: &Image,
@@ -165,7 +165,7 @@ impl<'m> ThreadSpace<'m> {
         None
     }
 
-    /// The byte at a place in what no thread writes of an instance, where it may be accessed so.
+    /// The byte at an address in the parts of an instance that no thread writes, if it allows the access.
     fn part_byte(&self, instance: &Instance, access: Access, place: u64) -> Option<u8>
         ensures { result ≡ byte_in access ((job_loads self.now.vector.images).fixed instance.now) place }
     {
@@ -179,7 +179,7 @@ impl<'m> ThreadSpace<'m> {
         self.byte_of_image(image, instance, access, place)
     }
 
-    /// The same of all live instances.
+    /// The same for all live instances.
     pub(crate) fn fixed_byte(&self, access: Access, place: u64) -> Option<u8>
         ensures { result ≡ byte_in access (fixed_of (job_loads self.now.vector.images)
             (live_in self.now.vector.images self.now.vector.past)) place }
@@ -192,7 +192,7 @@ impl<'m> ThreadSpace<'m> {
         None
     }
 
-    /// Whether a part of an instance is written, and has the 16 bytes from an address on.
+    /// Whether a part of an instance is written, and holds the 16 bytes from an address on.
     fn part_has_words(&self, image: &Image, instance: &Instance, number: u64, address: u64) -> bool
         requires there { image_at self.now.vector.images instance.now.image ≡ Some image.now }
         ensures found { result ≡ part_has_words self.now.vector.images image.now instance.now number address
@@ -212,7 +212,7 @@ impl<'m> ThreadSpace<'m> {
         }
     }
 
-    /// The same of all parts of its image.
+    /// The same for all parts of its image.
     fn image_has_words(&self, image: &Image, instance: &Instance, address: u64) -> bool
         requires there { image_at self.now.vector.images instance.now.image ≡ Some image.now }
         ensures found { result ≡ list_any (has_words address) (written_from image.now.parts
@@ -227,7 +227,7 @@ impl<'m> ThreadSpace<'m> {
         false
     }
 
-    /// Whether one of the written parts of an instance has the 16 bytes from an address on.
+    /// Whether one of the written parts of an instance holds the 16 bytes from an address on.
     pub(crate) fn has_words(&self, instance: &Instance, address: u64) -> bool
         ensures found { result ≡ list_any (has_words address) ((job_loads self.now.vector.images).tables instance.now) }
         ensures low { result ≡ true → address + 16 ≤ 2 ^ 64 }

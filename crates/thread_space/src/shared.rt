@@ -1,4 +1,4 @@
-//! Bytes of the data that threads share.
+//! The bytes of the data that threads share.
 
 ghost use Rattle.std.specs.Prelude.{◌≡◌, true};
 ghost use Rattle.std.specs.List.{find};
@@ -15,14 +15,14 @@ use crate::space::ThreadSpace;
 use loaded_modules::Instance;
 
 impl<'m> ThreadSpace<'m> {
-    /// How far behind the start of an instance's data a place lies, if it lies there at all.
+    /// The offset of an address from the start of an instance's data, if the address lies in the data.
     fn behind_data(&self, instance: &Instance, place: u64) -> Option<u64>
         ensures { result ≡ option_and_then (λ start. behind start place) (data_start self.now.vector.images instance.now) }
     {
         place.checked_sub(self.data.start(self.modules, instance)?)
     }
 
-    /// The byte at a place in the data of an instance.
+    /// The byte at an address in the data of an instance.
     pub(crate) fn data_byte(&self, instance: &Instance, place: u64) -> Option<u8>
         ensures read { result ≡ byte_in Read (data_ranges self.now.vector.images self.now.pieces instance.now) place }
         ensures written { result ≡ byte_in Write (data_ranges self.now.vector.images self.now.pieces instance.now) place }
@@ -33,7 +33,7 @@ impl<'m> ThreadSpace<'m> {
         self.data.byte(instance.image, instance.number, at)
     }
 
-    /// The live instance whose data have a place.
+    /// The live instance whose data holds an address.
     pub(crate) fn data_at(&self, place: u64) -> Option<Instance>
         ensures { result ≡ find (λ x. takes (data_ranges self.now.vector.images self.now.pieces x) place)
             (live_in self.now.vector.images self.now.vector.past) }
@@ -46,7 +46,7 @@ impl<'m> ThreadSpace<'m> {
         None
     }
 
-    /// Writes the byte at a place in the data of an instance.
+    /// Writes the byte at an address in the data of an instance.
     pub(crate) fn set_data_byte(&mut self, instance: &Instance, place: u64, byte: u8)
         requires { takes (data_ranges self.old.vector.images self.old.pieces instance.now) place ≡ true }
         ensures { WritesData self.old instance.now place byte self.new }

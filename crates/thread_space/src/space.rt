@@ -1,4 +1,4 @@
-//! A thread's memory: its stack, the blocks of its vector, data, and what is loaded.
+//! A thread's memory: its stack, the blocks of its vector, data, and the loaded parts.
 
 ghost use Rattle.std.specs.Prelude.{◌≡◌, ◌≤◌, ◌<◌, ◌+◌, ◌^◌, ℕ, true, [], IfOk, OnOk, OnErr, length, option_map};
 ghost use Rattle.loaded_modules.specs.Images.{infos};
@@ -20,10 +20,10 @@ use std::marker::Model;
 use std::mem;
 use thread_vector::Dtv;
 
-/// One more than the most images that a job has.
+/// One more than the most images that a job can have.
 const NUMBERS: u32 = 65;
 
-/// What a thread may reach while it runs. Contracts see what it keeps: a `Kept`.
+/// A thread's memory. Contracts see what it keeps: a `Kept`.
 #[derive(Drop)]
 pub struct ThreadSpace<'m> {
     pub(crate) alloc: Global,
@@ -31,7 +31,7 @@ pub struct ThreadSpace<'m> {
     pub(crate) dtv: Dtv<'m>,
     pub(crate) data: Data,
     pub(crate) stack: GuestRange<u8>,
-    /// The eight bytes at the thread pointer, which hold it.
+    /// The eight bytes at the thread pointer, which hold the thread pointer.
     pub(crate) pointer: GuestRange<u8>,
     /// The live instances, in the order of their images.
     pub(crate) live: Vec<Instance>,
@@ -49,7 +49,7 @@ impl<'m> Model for ThreadSpace<'m> {
     ghost invariant = { HoldsSpace };
 }
 
-/// The live instances that a thread's vector has seen, in the order of their images. It takes no memory.
+/// The live instances that a thread's vector has seen, in the order of their images. Allocates no memory.
 fn list_live(dtv: &Dtv, room: Vec<Instance>) -> Vec<Instance>
     requires empty { room.items ≡ [] }
     requires none { vec_len room ≡ 0 }
@@ -68,7 +68,7 @@ fn list_live(dtv: &Dtv, room: Vec<Instance>) -> Vec<Instance>
 
 impl<'m> ThreadSpace<'m> {
     /// The memory of a thread, from 1 to 64, of a job with these images, before any event. It has the blocks of the
-    /// images that start with the program, a stack of no byte, and no data.
+    /// startup images, an empty stack, and no data.
     pub fn new(
         alloc: Global,
         thread: u32,
@@ -100,12 +100,12 @@ impl<'m> ThreadSpace<'m> {
         self.dtv.thread()
     }
 
-    /// Where its memory comes from.
+    /// The allocator of its memory.
     pub fn alloc(&self) -> Global {
         self.alloc
     }
 
-    /// How many events the thread has seen; what it has seen is always a history of the job's images.
+    /// How many events the thread has seen. They are always a history of the job's images.
     pub fn seen(&self) -> u64
         ensures value { result ≡ self.now.vector.past.seen }
         ensures left { IsLeftBy self.now.vector.images self.now.vector.past }
@@ -113,7 +113,7 @@ impl<'m> ThreadSpace<'m> {
         self.dtv.seen()
     }
 
-    /// Looks: takes the events that follow those that the thread has seen. Where there is no memory for the list of live
+    /// Looks: takes the events that follow those that the thread has seen. If there is no memory for the list of live
     /// instances, nothing has changed.
     pub fn look(&mut self, events: &[Event]) -> Result<(), AllocError>
         requires legal { is_legal self.old.vector.past events.now ≡ true }
@@ -127,8 +127,8 @@ impl<'m> ThreadSpace<'m> {
         Ok(())
     }
 
-    /// Reaches the block of a live instance, as every access does: at the first, it is made. Where there is no memory
-    /// for it, nothing has changed.
+    /// Reaches the block of a live instance, as every access does. The first time, this makes the block. If there is
+    /// no memory for it, nothing has changed.
     pub fn reach(&mut self, instance: u32) -> Result<(), AllocError>
         requires { live self.old.vector.past instance ≡ true }
         ensures ok { OnOk result (Reaches self.old instance self.new) }
@@ -137,7 +137,7 @@ impl<'m> ThreadSpace<'m> {
         self.dtv.reach(instance)
     }
 
-    /// Makes the stack as a call finds it.
+    /// Makes a fresh stack, as a call needs it.
     pub fn renew_stack(&mut self) -> Result<(), AllocError>
         ensures ok { OnOk result (HasFreshStack self.old self.new) }
         ensures err { OnErr result (self.new ≡ self.old) }
@@ -146,14 +146,14 @@ impl<'m> ThreadSpace<'m> {
         Ok(())
     }
 
-    /// Puts data in the place of those that are there.
+    /// Replaces the data.
     pub fn put_data(&mut self, data: Data)
         ensures { HasData self.old «data» self.new }
     {
         self.data = data;
     }
 
-    /// Hands out the data, and leaves those of no image.
+    /// Takes the data out, and leaves those of no image.
     pub fn take_data(&mut self) -> Data
         ensures value { result ≡ self.old.pieces }
         ensures left { HasData self.old [] self.new }
@@ -161,7 +161,7 @@ impl<'m> ThreadSpace<'m> {
         mem::replace(&mut self.data, Data::none(self.alloc))
     }
 
-    /// Loads an instance: its image's data become those that the loader leaves.
+    /// Loads an instance: sets its image's data to those that the loader leaves.
     pub fn load(&mut self, instance: &Instance) -> Result<(), AllocError>
         ensures ok { OnOk result
             (HasData self.old (loaded self.old.vector.images instance.now self.old.pieces) self.new) }

@@ -11,21 +11,21 @@ use crate::space::ThreadSpace;
 use guest_machine::Access;
 
 impl<'m> ThreadSpace<'m> {
-    /// Whether a place lies on the stack and may be accessed so.
+    /// Whether an address lies on the stack, and the stack allows the access.
     pub(crate) fn is_on_stack(&self, access: Access, place: u64) -> bool
         ensures { result ≡ grants access (stack_range (stack_start self.now.vector.thread) self.now.stack) place }
     {
         self.stack.grants(access, place)
     }
 
-    /// The byte at a place on the stack.
+    /// The byte at an address on the stack.
     pub(crate) fn stack_byte(&self, place: u64) -> Option<u8>
         ensures { result ≡ slice_get self.now.stack (place - stack_start self.now.vector.thread) }
     {
         self.stack.byte(place)
     }
 
-    /// Writes the byte at a place on the stack.
+    /// Writes the byte at an address on the stack.
     pub(crate) fn set_stack_byte(&mut self, place: u64, byte: u8)
         requires { grants Write (stack_range (stack_start self.old.vector.thread) self.old.stack) place ≡ true }
         ensures { self.new ≡ record self.old {
@@ -35,14 +35,14 @@ impl<'m> ThreadSpace<'m> {
         self.stack.set_byte(place, byte);
     }
 
-    /// Whether a place lies in the word at the thread pointer and may be accessed so.
+    /// Whether an address lies in the word at the thread pointer, and the word allows the access.
     pub(crate) fn is_at_pointer(&self, access: Access, place: u64) -> bool
         ensures { result ≡ grants access (pointer_word plain_operations self.now.vector.thread) place }
     {
         self.pointer.grants(access, place)
     }
 
-    /// The byte at a place in that word.
+    /// The byte at an address in that word.
     pub(crate) fn pointer_byte(&self, place: u64) -> Option<u8>
         ensures { result ≡ slice_get (word_bytes plain_operations (pointer_of self.now.vector.thread))
             (place - pointer_of self.now.vector.thread) }

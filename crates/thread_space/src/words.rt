@@ -23,7 +23,7 @@ const VARIABLE: Rights = Rights {
     runnable: false,
 };
 
-/// The thread pointer of a thread, from 1.
+/// The thread pointer of a thread, which is numbered from 1.
 pub fn thread_pointer(thread: u32) -> u64
     requires { thread ≤ 64 }
     ensures { result ≡ pointer_of thread }
@@ -31,7 +31,7 @@ pub fn thread_pointer(thread: u32) -> u64
     u64::from(thread) * (1 << 40) + (1 << 38)
 }
 
-/// Where a thread's stack ends.
+/// The end of a thread's stack.
 pub fn end_of_stack(thread: u32) -> u64
     requires { thread ≤ 64 }
     ensures { result ≡ stack_end thread }
@@ -39,7 +39,7 @@ pub fn end_of_stack(thread: u32) -> u64
     u64::from(thread) * (1 << 40) + (1 << 39)
 }
 
-/// So many zeros.
+/// A list of `count` zeros.
 #[tactic(auto, unfolding(thread_blocks::specs::MachineTurns::zeros))]
 fn zeros(alloc: Global, count: usize) -> Result<Vec<u8>, AllocError>
     ensures { IfOk result (λ bytes. bytes.items ≡ zeros 0 count) }
@@ -57,7 +57,7 @@ fn bytes_of(alloc: Global, number: u64) -> Result<Vec<u8>, AllocError>
     Vec::from_slice(alloc, &number.to_le_bytes())
 }
 
-/// A stack of no byte, at the place of a thread's stack.
+/// An empty stack, at the address of a thread's stack.
 pub(crate) fn no_stack(alloc: Global, thread: u32) -> GuestRange<u8>
     requires { thread ≤ 64 }
     ensures { result ≡ stack_range (stack_start thread) [] }
@@ -65,7 +65,7 @@ pub(crate) fn no_stack(alloc: Global, thread: u32) -> GuestRange<u8>
     GuestRange::new(end_of_stack(thread) - STACK_SIZE, Vec::new(alloc), VARIABLE)
 }
 
-/// The stack before a call: zeros, and in its last eight bytes the address to return to.
+/// The stack before a call: zeros, and the return address in its last eight bytes.
 #[tactic(auto, unfolding(guest_arithmetic::specs::Plain::plain_operations))]
 pub(crate) fn stack_of(alloc: Global, thread: u32) -> Result<GuestRange<u8>, AllocError>
     requires { thread ≤ 64 }
@@ -77,7 +77,7 @@ pub(crate) fn stack_of(alloc: Global, thread: u32) -> Result<GuestRange<u8>, All
     Ok(GuestRange::new(start, bytes, VARIABLE))
 }
 
-/// The eight bytes at the thread pointer, which hold it and can only be read.
+/// The eight bytes at the thread pointer, which hold the thread pointer and can only be read.
 pub(crate) fn pointer_word(alloc: Global, thread: u32) -> Result<GuestRange<u8>, AllocError>
     requires { thread ≤ 64 }
     ensures { IfOk result (λ range. range ≡ pointer_word plain_operations thread) }

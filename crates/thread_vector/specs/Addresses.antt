@@ -1,6 +1,6 @@
--- Where the blocks of a thread begin. Each thread has 2^40 addresses of its own; its thread pointer stands in their
--- middle, with the blocks of startup images and of the static surplus below it (Drepper, "ELF Handling For Thread-Local
--- Storage", section 3, variant II), and each other block has 2^24 addresses by the number of its instance.
+-- Where the blocks of a thread begin. Each thread has 2^40 addresses of its own. Its thread pointer stands in their
+-- middle, with the blocks of startup images and of the static surplus below it (Drepper, "ELF Handling For
+-- Thread-Local Storage", section 3, variant II). Each other block has 2^24 addresses, by its instance's number.
 use Rattle.std.specs.Prelude.{◌+◌, ◌-◌, ◌*◌, ◌^◌, ℕ, if◌then◌else◌, Option, Some, None}
 use Rattle.module_table.specs.declared.modules.Module.{Module}
 use Rattle.module_table.specs.Past.{Past, module_of, image_of}
@@ -9,15 +9,15 @@ use Rattle.loaded_modules.specs.Images.{JobImages, static_offset}
 abbrev pub thread_pointer : ℕ → ℕ
 thread_pointer thread = thread * 2 ^ 40 + 2 ^ 38
 
--- where the stack ends
+-- the end of the stack
 abbrev pub stack_end : ℕ → ℕ
 stack_end thread = thread * 2 ^ 40 + 2 ^ 39
 
--- how many bytes the stack has below its end
+-- the size of the stack in bytes
 abbrev pub stack_size : ℕ
 stack_size = 65536
 
--- how far below the thread pointer the blocks of a loaded image begin, if that is fixed
+-- the distance from the blocks of a loaded image up to the thread pointer, if it is fixed
 abbrev pub distance_of : JobImages → ℕ → Module → Option ℕ
 distance_of images image m = if m.info.late then m.offset else Some (static_offset images image)
 

@@ -1,4 +1,4 @@
--- What a vector is once a block of it was lent.
+-- A vector after a block of it was lent.
 use Rattle.std.specs.Prelude.{ℕ, List, []}
 use Rattle.std.specs.Borrow.{Array, Lends, MutBor, Fml, u8}
 use mir.Syntax.{named}

@@ -1,4 +1,4 @@
--- What a thread's vector keeps beside what contracts see.
+-- The invariant that the code of a vector keeps.
 use Rattle.std.specs.Prelude.{◌≡◌, ◌≤◌, ℕ, true, List, length, Some}
 use Rattle.module_table.specs.declared.TheConstants.{SURPLUS}
 use Rattle.module_table.specs.declared.events.Event.{Event}
@@ -8,13 +8,13 @@ use Rattle.module_table.specs.History.{IsLegal}
 use Rattle.loaded_modules.specs.Images.{JobImages, infos, last_offset}
 use Rattle.thread_vector.specs.Vectors.{Vector, slot_of, is_number}
 
--- a history of the job's images leaves it
+-- some history of the job's images leaves this state
 pub record IsLeftBy (images : JobImages) (p : Past) : Type 0 where
   pub events : List Event
   pub legal : IsLegal (infos images) (last_offset images) events
   pub left : p ≡ past (infos images) (last_offset images) events
 
--- the slots are those of what was seen: each of an instance that was made, and as long as the image's blocks are
+-- the slots match the events seen: each belongs to an instance that was made, and is as long as the image's blocks are
 pub record IsVector (v : Vector) : Type 0 where
   pub low : 1 ≤ v.thread
   pub high : v.thread ≤ 64

@@ -1,4 +1,4 @@
--- What a slot is once its bytes were lent.
+-- A slot after its bytes were lent.
 use Rattle.std.specs.Prelude.{ℕ, List}
 use Rattle.std.specs.Borrow.{Array, Lends, MutBor, Fml, u8}
 use Rattle.thread_vector.specs.Vectors.{Piece, rewritten}

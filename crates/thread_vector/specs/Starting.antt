@@ -7,7 +7,7 @@ use Rattle.loaded_modules.specs.Loader.{fresh_block}
 use Rattle.loaded_modules.specs.declared.instance.Instance.{Instance}
 use Rattle.thread_vector.specs.Vectors.{Piece, no_piece, slot_of}
 
--- what is known of an image, if it starts with the program
+-- the image, if it is a startup image
 abbrev pub if_early : Option ImageInfo → Option ImageInfo
 if_early None = None
 if_early (Some info) = if info.late then None else Some info
@@ -15,11 +15,11 @@ if_early (Some info) = if info.late then None else Some info
 abbrev pub startup_info : List ImageInfo → ℕ → Option ImageInfo
 startup_info infos image = if_early (slice_get infos (image - 1))
 
--- a startup image as a loader knows it: its number is its instance's and its module id
+-- a startup image as a loader knows it: its number is also its instance's number and its module id
 abbrev pub startup_instance : JobImages → ℕ → Instance
 startup_instance images image = record { image = image; number = image; id = image; offset = Some (static_offset images image) }
 
--- the slot of a number: the block of the startup image that has it
+-- the slot of a number: the block of the startup image with that number
 abbrev pub IsFirstOf : JobImages → ℕ → Piece → Option ImageInfo → Type 0
 IsFirstOf images image piece None = piece ≡ no_piece
 IsFirstOf images image piece (Some info) =

@@ -1,4 +1,4 @@
--- What clauses say of a vector before and after a call.
+-- A vector before and after a call, as clauses state it.
 use Rattle.std.specs.Prelude.{◌≡◌, ◌+◌, ◌%◌, ◌^◌, ℕ, false, length, Option, Some, None}
 use Rattle.module_table.specs.Past.{Past, module_of, live, instance_of}
 use Rattle.loaded_modules.specs.Loader.{fresh_block}
@@ -7,7 +7,7 @@ use Rattle.thread_vector.specs.declared.dtv.AddressRefusal.TheVariants.{Unloaded
 use Rattle.thread_vector.specs.Addresses.{start_of}
 use Rattle.thread_vector.specs.Vectors.{Vector, held, loaded_as, reached, written}
 
--- the vector is still that of the thread of its job, and has seen what leaves this
+-- the vector is still of the same thread and job, and has seen events that leave this state
 pub record Leaves (old new : Vector) (p : Past) : Type 0 where
   pub thread : new.thread ≡ old.thread
   pub images : new.images ≡ old.images
@@ -25,13 +25,13 @@ pub record MadeAt (old : Vector) (image : ℕ) (new : Vector) : Type 0 where
   pub slots : new ≡ record old { slots = written old.slots old.past.limit (module_of old.past image) None (fresh_block old.images (loaded_as old.images old.past image)) }
   pub long : length (fresh_block old.images (loaded_as old.images old.past image)) ≡ (module_of old.past image).info.size
 
--- the address in the block of the live instance with the id, which was reached
+-- the address in the block of the live instance with this id, which was reached
 abbrev pub IsAddress : Vector → ℕ → ℕ → Vector → ℕ → Type 0
 IsAddress old id offset new address = (instance : ℕ) → instance_of old.past id ≡ Some instance
     → (address ≡ (start_of old.thread old.images old.past instance + offset) % 2 ^ 64)
     × ((i : ℕ) → held new i ≡ reached old instance i)
 
--- why there is no address: the instance that asks is live no more, or the block was not there
+-- why there is no address: the instance that asks is closed, or there was no memory for the block
 abbrev pub IsRefused : Vector → ℕ → ℕ → AddressRefusal → Type 0
 IsRefused old asking id Unloaded = live old.past asking ≡ false
 IsRefused old asking id OutOfMemory = (instance : ℕ) → instance_of old.past id ≡ Some instance → held old instance ≡ None

@@ -1,5 +1,5 @@
--- What a thread has of each module's thread-local storage (Drepper, "ELF Handling For Thread-Local Storage", section 3:
--- the dynamic thread vector), as events and accesses leave it.
+-- A thread's blocks of each module's thread-local storage (Drepper, "ELF Handling For Thread-Local Storage", section
+-- 3: the dynamic thread vector), after events and accesses.
 use Rattle.std.specs.Prelude.{◌+◌, ◌-◌, ◌==◌, ℕ, Bool, false, if◌then◌else◌, List, [], slice_index_or}
 use Rattle.std.specs.Prelude.{◌++◌, length, take, drop, slice_set, slice_range, Option, Some, None, is_some, option_map, option_and_then}
 use Rattle.std.specs.Option.{option_or}
@@ -11,13 +11,13 @@ use Rattle.loaded_modules.specs.Images.{JobImages}
 use Rattle.loaded_modules.specs.Loader.{fresh_block}
 use Rattle.thread_vector.specs.Addresses.{distance_of}
 
--- what a slot holds: a block, and the instance that it is of
+-- a slot: a block, and the instance that it belongs to
 pub record Piece : Type 0 where
   pub instance : Option ℕ
   pub bytes : List ℕ
 
--- of a thread of a job: what the events that it has seen leave, and a slot for each module id; slot 0, which is no
--- module's, holds the bytes of the static surplus
+-- a thread's vector: the state after the events that it has seen, and a slot for each module id; slot 0, which belongs
+-- to no module, holds the bytes of the static surplus
 pub record Vector : Type 0 where
   pub thread : ℕ
   pub images : JobImages
@@ -34,11 +34,11 @@ abbrev pub is_number : ℕ → Option ℕ → Bool
 is_number instance None = false
 is_number instance (Some number) = number == instance
 
--- the bytes of a slot, if it is of the instance: one of another instance counts for nothing
+-- the bytes of a slot, if it belongs to the instance
 abbrev pub bytes_for : ℕ → Piece → Option (List ℕ)
 bytes_for instance piece = if is_number instance piece.instance then Some piece.bytes else None
 
--- the block of a loaded image: with an offset it lies in the surplus, whose first byte is `limit` below the thread
+-- the block of a loaded image; with an offset it lies in the surplus, whose first byte is `limit` below the thread
 -- pointer
 abbrev pub block_at : List Piece → ℕ → Module → Option ℕ → Option (List ℕ)
 block_at slots limit m None = bytes_for m.instance (slot_of slots m.id)
@@ -48,12 +48,11 @@ block_at slots limit m (Some offset) =
 abbrev pub block_in : List Piece → Past → ℕ → Option (List ℕ)
 block_in slots p image = block_at slots p.limit (module_of p image) (module_of p image).offset
 
--- the bytes of the block that the thread has of an instance; none where the instance is not live or the block was not
--- reached
+-- the bytes of the thread's block of an instance; none if the instance is not live or the block was not reached
 unfoldable pub held : Vector → ℕ → Option (List ℕ)
 held v instance = option_and_then (block_in v.slots v.past) (image_of v.past instance)
 
--- ---- blocks as they begin
+-- ---- fresh blocks
 
 -- a loaded image, as a loader knows it
 abbrev pub loaded_as : JobImages → Past → ℕ → Instance
@@ -69,33 +68,33 @@ instance_at images p image =
 unfoldable pub fresh : JobImages → Past → ℕ → Option (List ℕ)
 fresh images p instance = option_map (λ image. fresh_block images (loaded_as images p image)) (image_of p instance)
 
--- ---- what changes
+-- ---- changes
 
--- a block of the static surplus is there as soon as its instance is seen to be live
+-- a block of the static surplus is there as soon as the thread sees its instance live
 abbrev pub at_once : JobImages → Past → ℕ → Option (List ℕ)
 at_once images p instance = if is_some (offset p instance) then fresh images p instance else None
 
--- the blocks once what is loaded is seen anew: those of instances that are live no more are gone, and each other stays
+-- the blocks after the thread has seen this state: those of closed instances are dropped, and each other one stays
 unfoldable pub caught_up : Vector → Past → ℕ → Option (List ℕ)
 caught_up v p instance =
     if live p instance then option_or (held v instance) (at_once v.images p instance) else None
 
--- the blocks once that of a live instance was asked for
+-- the blocks after that of a live instance was reached
 unfoldable pub reached : Vector → ℕ → ℕ → Option (List ℕ)
 reached v asked instance =
     if instance == asked then option_or (held v asked) (fresh v.images v.past asked) else held v instance
 
--- bytes with others in the place of so many, from one on
+-- the bytes, with `size` of them from `from` on replaced by others
 abbrev pub over : ℕ → ℕ → List ℕ → List ℕ → List ℕ
 over from size bytes new = take from bytes ++ (new ++ drop (from + size) bytes)
 
--- the slots once the block of a loaded image is these bytes, as many as it has
+-- the slots after the block of a loaded image was set to these bytes, as many as it has
 abbrev pub written : List Piece → ℕ → Module → Option ℕ → List ℕ → List Piece
 written slots limit m None bytes = slice_set slots m.id (record { instance = Some m.instance; bytes = bytes })
 written slots limit m (Some offset) bytes = slice_set slots 0 (record
     { instance = (slot_of slots 0).instance; bytes = over (limit - offset) m.info.size (slot_of slots 0).bytes bytes })
 
--- bytes with others over them, from one on; their number stays
+-- the bytes, with others written over them from `from` on; the length stays
 abbrev pub with_new : List ℕ → ℕ → List ℕ → List ℕ
 with_new bytes from new = take from bytes ++ (new ++ drop (length new) (drop from bytes))
 

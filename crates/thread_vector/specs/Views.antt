@@ -1,4 +1,4 @@
--- How contracts see a thread's vector.
+-- A thread's vector as contracts see it.
 use Rattle.thread_vector.specs.declared.dtv.Dtv.TheInside.{Inside}
 use Rattle.thread_vector.specs.Vectors.{Vector}
 use Rattle.thread_vector.specs.Holding.{IsVector}

@@ -1,4 +1,4 @@
-//! What a thread has of each module's thread-local storage.
+//! A thread's dynamic thread vector.
 
 ghost use Rattle.std.specs.Prelude.{List, ◌≡◌, ◌≢◌, ◌+◌, ◌-◌, ◌*◌, ◌%◌, ◌<◌, ◌≤◌, ◌^◌, ℕ, Some, None, Ok, Err, IfOk, IfErr, OnOk, OnErr, IsErr, IsSome, true, false, length, is_some, option_map};
 ghost use Rattle.module_table.specs.Modules.{is_loaded};
@@ -21,7 +21,7 @@ use thiserror::Error;
 /// Why there is no address.
 #[derive(Clone, Copy, PartialEq, Eq, Debug, Error)]
 pub enum AddressRefusal {
-    /// The instance that asks is live no more.
+    /// The instance that asks is closed.
     #[error("the module that asks is not loaded")]
     Unloaded,
     /// There was no memory for the block.
@@ -29,7 +29,7 @@ pub enum AddressRefusal {
     OutOfMemory,
 }
 
-/// So many bytes of a slot, from one on.
+/// A range of bytes in a slot.
 #[derive(Clone, Copy)]
 pub(crate) struct Place {
     pub slot: usize,
@@ -44,7 +44,7 @@ pub struct Dtv<'m> {
     thread: u32,
     modules: &'m Modules,
     table: ModuleTable,
-    /// Blocks by module id; at 0 the bytes of the static surplus.
+    /// Blocks by module id. Slot 0 holds the bytes of the static surplus.
     slots: Vec<Slot>,
 }
 
@@ -66,8 +66,8 @@ impl<'m> Dtv<'m> {
     ghost use Rattle.thread_vector.specs.DtvLends.{LendsBlock};
     ghost use Rattle.thread_vector.specs.declared.dtv.AddressRefusal.TheVariants.{Unloaded};
 
-    /// The vector of a thread, from 1 to 64, of a job with these images, before any event: it has the blocks of those
-    /// that start with the program, and room for the static surplus.
+    /// The vector of a thread, from 1 to 64, of a job with these images, before any event. It has the blocks of the
+    /// startup images, and room for the static surplus.
     pub fn new(alloc: Global, thread: u32, modules: &'m Modules) -> Result<Dtv<'m>, AllocError>
         requires low { 1 ≤ thread }
         requires high { thread ≤ 64 }
@@ -87,7 +87,7 @@ impl<'m> Dtv<'m> {
         })
     }
 
-    /// How many events the thread has seen; what it has seen is always a history of the job's images.
+    /// How many events the thread has seen. They are always a history of the job's images.
     pub fn seen(&self) -> u64
         ensures value { result ≡ self.now.past.seen }
         ensures left { IsLeftBy self.now.images self.now.past }
@@ -123,7 +123,7 @@ impl<'m> Dtv<'m> {
         self.table.instance_of(id)
     }
 
-    /// How far below the thread pointer the blocks of a loaded image begin, if that is fixed.
+    /// The distance from the blocks of a loaded image up to the thread pointer, if it is fixed.
     fn distance_of(&self, image: u32) -> Option<u64>
         requires { is_loaded (module_of self.now.past image) ≡ true }
         ensures { result ≡ distance_of self.now.images image (module_of self.now.past image) }
@@ -150,7 +150,7 @@ impl<'m> Dtv<'m> {
         }
     }
 
-    /// Takes an event, and leaves the bytes.
+    /// Takes an event, and leaves the bytes as they are.
     fn see(&mut self, event: Event)
         requires accepted { accepts self.old.past event ≡ true }
         requires room { self.old.past.seen < 2 ^ 63 }
@@ -167,7 +167,7 @@ impl<'m> Dtv<'m> {
         self.table.module(image).is_loaded()
     }
 
-    /// The live instance of an image, as a loader knows it; `None` exactly where the image is not loaded.
+    /// The live instance of an image, as a loader knows it. `None` exactly if the image is not loaded.
     pub fn instance(&self, image: u32) -> Option<Instance>
         ensures { result ≡ instance_at self.now.images self.now.past image }
     {
@@ -210,8 +210,8 @@ impl<'m> Dtv<'m> {
         }
     }
 
-    /// Takes the events that follow those that the thread has seen: the blocks of instances that are live no more are
-    /// gone, and each new one of the static surplus has its block. It takes no memory.
+    /// Takes the events that follow those that the thread has seen. Drops the blocks of closed instances, and fills
+    /// the block of each new instance of the static surplus. Allocates no memory.
     pub fn catch_up(&mut self, events: &[Event])
         requires legal { is_legal self.old.past events.now ≡ true }
         requires room { self.old.past.seen + length events.now < 2 ^ 62 }
@@ -257,14 +257,14 @@ impl<'m> Dtv<'m> {
         self.table.image_of(instance)
     }
 
-    /// How far below the thread pointer the block of an image lies in the static surplus.
+    /// The distance from an image's block in the static surplus up to the thread pointer.
     fn offset(&self, image: u32) -> Option<u64>
         ensures { result ≡ (module_of self.now.past image).offset }
     {
         self.table.module(image).offset
     }
 
-    /// The bytes of the block that the thread has of an instance.
+    /// The bytes of the thread's block of an instance, if it has one.
     pub fn block(&self, instance: u32) -> Option<&[u8]>
         ensures { held self.now instance ≡ option_map (λ b. b.now) result }
     {
@@ -277,7 +277,7 @@ impl<'m> Dtv<'m> {
         }
     }
 
-    /// Whether the thread has a block of an instance; it is as long as the image says.
+    /// Whether the thread has a block of an instance. It is as long as the image says.
     pub fn has_block(&self, instance: u32) -> bool
         ensures value { result ≡ is_some (held self.now instance) }
         ensures long { (bytes : List ℕ) → held self.now instance ≡ Some bytes → length bytes ≡ block_length self.now.past instance }
@@ -306,8 +306,8 @@ impl<'m> Dtv<'m> {
         Ok(())
     }
 
-    /// Reaches the block of a live instance, as every access does: at the first, it is made. Where there is no memory
-    /// for it, nothing has changed.
+    /// Reaches the block of a live instance, as every access does. The first time, this makes the block. If there is
+    /// no memory for it, nothing has changed.
     pub fn reach(&mut self, instance: u32) -> Result<(), AllocError>
         requires { live self.old.past instance ≡ true }
         ensures leaves { Leaves self.old self.new self.old.past }
@@ -338,14 +338,14 @@ impl<'m> Dtv<'m> {
         }
     }
 
-    /// The address of a place in the thread's block of the live instance with a module id, as an access of another
-    /// instance asks for it: the block is reached, and its first address counted on by `offset`, modulo 2^64. Where it is
-    /// refused, nothing has changed. A block that is there is found by one look at its slot.
+    /// The address of the byte at `offset` in the thread's block of the live instance with module id `id`, modulo
+    /// 2^64. The instance `asking` asks for it. This reaches the block. After an error nothing has changed. If the
+    /// block is there, this looks at one slot.
     ///
     /// # Errors
     ///
-    /// `Unloaded` where the instance that asks is live no more, and `OutOfMemory` where there is no memory for a block
-    /// that was not reached before.
+    /// `Unloaded` if the instance that asks is closed, and `OutOfMemory` if there is no memory for a block that was
+    /// not reached before.
     pub fn address(&mut self, asking: u32, id: u64, offset: u64) -> Result<u64, AddressRefusal>
         requires known { live self.old.past asking ≡ true → is_some (instance_of self.old.past id) ≡ true }
         ensures leaves { Leaves self.old self.new self.old.past }
@@ -367,7 +367,7 @@ impl<'m> Dtv<'m> {
         Ok(self.block_start(instance).wrapping_add(offset))
     }
 
-    /// Where the bytes of an instance's block lie among the slots.
+    /// The range of bytes of an instance's block among the slots.
     fn place(&self, instance: u32) -> Place
         requires { is_some (held self.now instance) ≡ true }
         ensures place { result ≡ place_of self.now instance }
@@ -399,7 +399,7 @@ impl<'m> Dtv<'m> {
         }
     }
 
-    /// The bytes of the block that the thread has of an instance, to be written: the one way in which a block changes.
+    /// The bytes of the thread's block of an instance, for writing: a block changes in no other way.
     pub fn block_mut(&mut self, instance: u32) -> &mut [u8]
         requires { is_some (held self.old instance) ≡ true }
         ensures* writes_back { sem 𝓛 (LendsBlock self.entry instance result) }

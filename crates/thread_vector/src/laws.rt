@@ -1,4 +1,4 @@
-//! Laws of where blocks lie: each function's contract is the law, and its body is empty.
+//! Laws of the addresses of blocks. Each function does nothing; its contract is the law.
 
 ghost use Rattle.module_table.specs.Past.{Past};
 ghost use Rattle.loaded_modules.specs.Images.{JobImages};
@@ -7,22 +7,23 @@ ghost use Rattle.thread_vector.specs.Laws.{BlocksAreApart, BlocksLieBelow, Threa
 
 use crate::dtv::Dtv;
 
-/// No address is in a thread's blocks of two live instances.
+/// The thread's blocks of two live instances share no address.
 pub fn blocks_are_apart()
     ensures { (images : JobImages) (p : Past) → IsLeftBy images p → BlocksAreApart images p }
 {}
 
-/// No address is in blocks of two threads, whatever events each has seen.
+/// Blocks of two threads share no address, whatever events each has seen.
 pub fn threads_are_apart()
     ensures { (images : JobImages) (p q : Past) → IsLeftBy images p → IsLeftBy images q → ThreadsAreApart images p q }
 {}
 
-/// Each address of a block is one of the thread's own 2^40, below the 8 bytes at its thread pointer and off its stack.
+/// Each address of a block is one of the thread's own 2^40, below the 8 bytes at its thread pointer and not on its
+/// stack.
 pub fn blocks_lie_below()
     ensures { (images : JobImages) (p : Past) → IsLeftBy images p → BlocksLieBelow images p }
 {}
 
-/// Asks that threads may move a type's values, and share them.
+/// Compiles only if threads may move and share a type's values.
 fn crosses_threads<T: Send + Sync>() {}
 
 /// Threads may move and share a thread's vector.

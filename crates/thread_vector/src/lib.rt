@@ -1,21 +1,21 @@
-//! What one thread has of each module's thread-local storage: its *dynamic thread vector*.
+//! One thread's blocks of each module's thread-local storage: its *dynamic thread vector*.
 //!
-//! Each thread of a program has a block of its own for the thread-local variables of each module, and reaches it in one
-//! of two ways (Drepper, "ELF Handling For Thread-Local Storage", section 3). The blocks of modules that start with the
-//! program, and of late ones that ask for it, lie at fixed distances below the thread pointer (variant II). All others
-//! are reached through the dynamic thread vector, an array with a slot for each module id: `__tls_get_addr` looks at the
-//! slot of the id that it is given, and makes the block where there is none yet. So a thread pays for a module's block
-//! only once it uses it.
+//! Each thread of a program has its own block for the thread-local variables of each module, and reaches it in one of
+//! two ways (Drepper, "ELF Handling For Thread-Local Storage", section 3). The blocks of startup modules, and of late
+//! ones that ask for it, lie at fixed distances below the thread pointer (variant II). All others are reached through
+//! the dynamic thread vector, an array with a slot for each module id: `__tls_get_addr` looks at the slot of the id
+//! that it is given, and makes the block if there is none yet. So a thread pays for a module's block only once it uses
+//! it.
 //!
-//! An id is used again once its module is gone, and modules come and go while a thread is busy with something else.
-//! **A thread sees what was loaded at the points where it looks, and a block is its instance's and no other's**: a slot
-//! names the instance that its block is of, and counts for nothing under another. What a thread has is therefore a
-//! function of the events that it has seen, and of its own accesses:
+//! An id is used again once its module is closed, and modules come and go while a thread is busy with something else.
+//! **A thread sees at its looks what is loaded, and a block belongs to one instance**: a slot names the instance of
+//! its block, and is empty for any other. So the blocks of a thread are a function of the events that it has seen, and
+//! of its own accesses:
 //!
-//! - a module that starts with the program has its block from the start;
+//! - a startup module has its block from the start;
 //! - one that takes its block from the static surplus has it as soon as the thread sees it loaded;
 //! - any other has it from the first access on;
-//! - a block is gone once the thread sees that its instance is live no more, and its bytes change only by the thread's
+//! - a block is dropped once the thread sees that its instance is closed, and its bytes change only by the thread's
 //!   own writes.
 //!
 //! Thread t has the 2^40 addresses from `t * 2^40` on, and its thread pointer is p = `t * 2^40 + 2^38`:
@@ -31,10 +31,10 @@
 //! close 2, seen   plug is gone, and so is its block; the next instance with id 3 begins with a fresh one
 //! ```
 //!
-//! [`Dtv`] is the vector. Startup blocks and the 4,096 bytes of the surplus are taken when it is made, so that seeing
-//! events takes no memory and can't fail; a block that is there is found by one look at its slot. [`laws`] states that
-//! no two blocks share an address, and that none lies on a stack or at a thread pointer. `specs/Vectors` has the
-//! definitions, `held` first: all clauses read it.
+//! [`Dtv`] is the vector. Startup blocks and the 4,096 bytes of the surplus are allocated when it is made, so seeing
+//! events allocates nothing and can't fail. A block that is there is found by one look at its slot. [`laws`] states
+//! that no two blocks share an address, and that none lies on a stack or at a thread pointer. `specs/Vectors` has the
+//! definitions; read `held` first, as all clauses use it.
 #![tactic(auto)]
 
 mod dtv;

@@ -11,7 +11,7 @@ use module_table::SURPLUS;
 use std::alloc::{AllocError, Global};
 use std::marker::Model;
 
-/// A block, and the instance that it is of.
+/// A block, and the instance that it belongs to.
 #[derive(Drop)]
 pub(crate) struct Slot {
     instance: Option<u32>,
@@ -30,7 +30,7 @@ impl Slot {
     ghost use Rattle.std.specs.Borrow.{sem};
     ghost use Rattle.thread_vector.specs.SlotLends.{LendsPart};
 
-    /// A slot of no block. It takes no memory.
+    /// A slot with no block. Allocates no memory.
     pub fn empty(alloc: Global) -> Slot
         ensures { result ≡ no_piece }
     {
@@ -40,7 +40,7 @@ impl Slot {
         }
     }
 
-    /// The bytes of the static surplus, which are no block's yet.
+    /// The bytes of the static surplus, which belong to no block yet.
     pub fn surplus(alloc: Global) -> Result<Slot, AllocError>
         ensures none { IfOk result (λ slot. slot.instance ≡ None) }
         ensures long { IfOk result (λ slot. length slot.bytes ≡ SURPLUS) }
@@ -52,7 +52,7 @@ impl Slot {
         })
     }
 
-    /// A block of an instance, of so many bytes, before any write.
+    /// A fresh block of an instance, with `size` bytes, before any write.
     pub fn fresh(
         alloc: Global,
         modules: &Modules,
@@ -74,7 +74,7 @@ impl Slot {
         })
     }
 
-    /// Writes an instance's block before any write over the bytes from a place on, so many as the block has.
+    /// Writes an instance's fresh block over the `size` bytes from `from` on.
     pub fn fill(&mut self, modules: &Modules, instance: &Instance, from: usize, size: usize)
         requires size { size ≡ size_at modules.now instance.now.image }
         requires room { from + size ≤ length self.old.bytes }
@@ -104,7 +104,7 @@ impl Slot {
         self.bytes.as_slice()
     }
 
-    /// So many of its bytes, from one on.
+    /// The `size` bytes from `from` on.
     pub fn part(&self, from: usize, size: usize) -> &[u8]
         requires { from + size ≤ length self.now.bytes }
         ensures { result.now ≡ slice_range self.now.bytes from (from + size) }
@@ -112,7 +112,7 @@ impl Slot {
         &self.bytes[from..from + size]
     }
 
-    /// So many of its bytes, from one on, to be written.
+    /// The `size` bytes from `from` on, for writing.
     pub fn part_mut(&mut self, from: usize, size: usize) -> &mut [u8]
         requires { from + size ≤ length self.old.bytes }
         ensures* writes_back { sem 𝓛 (LendsPart self.entry from result) }

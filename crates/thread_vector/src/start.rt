@@ -8,7 +8,7 @@ use loaded_modules::{Instance, Modules};
 use module_table::{ImageInfo, MOST_IDS};
 use std::alloc::{AllocError, Global};
 
-/// The TLS segment of an image that starts with the program, by the image's number from 1.
+/// The TLS segment of a startup image, by the image's number from 1.
 fn startup_info(infos: &[ImageInfo], image: u32) -> Option<ImageInfo>
     requires { 1 ≤ image }
     ensures { result ≡ startup_info infos.now image }
@@ -19,7 +19,7 @@ fn startup_info(infos: &[ImageInfo], image: u32) -> Option<ImageInfo>
     }
 }
 
-/// The slot of a module id: the block of the startup image of that number, if there is one.
+/// The slot of a module id: the block of the startup image with that number, if there is one.
 fn first_slot(alloc: Global, modules: &Modules, image: u32) -> Result<Slot, AllocError>
     requires { 1 ≤ image }
     ensures { IfOk result (λ slot. IsFirst modules.now image slot) }

@@ -27,13 +27,13 @@ pub record IsReady (ls : List Linking) (history : List Event) : Type 0 where
   pub program : ProgramFirst (map (λ l. l.kind) ls)
   pub legal : IsLegal (job_loads (images_of ls)).infos (job_loads (images_of ls)).last_offset history
 
--- in each instance that a number was given to, what stands where a sequence is meant does what it means
+-- in each instance that has a number, the code in place of a sequence does what the sequence means
 abbrev pub SequencesStand : List Linking → List Event → Type 0
 SequencesStand ls history = (l : Linking) (x : Instance) → IsKnown ls history x → IsInstanceOf ls l x
     → (place : ℕ) (s : Sequence) → (meaning_of ls).sequence x place ≡ Some s
     → Stands (setting_of ls history) (job_loads (images_of ls)) x place s
 
--- then all that is loaded in the job is tied
+-- if they do, all that is loaded in the job is tied
 abbrev pub JobsAreTied : Type 0
 JobsAreTied = (ls : List Linking) (history : List Event) → IsReady ls history → SequencesStand ls history
     → AreTied (setting_of ls history) (meaning_of ls) (job_loads (images_of ls)) history

@@ -1,4 +1,4 @@
--- What stands in the code of an instance where the meaning of a job marks a field, and everywhere else.
+-- The code of an instance, at fields that a job's meaning marks and elsewhere.
 use Rattle.std.specs.Prelude.{◌≡◌, ◌≤◌, ◌<◌, ◌+◌, ◌-◌, ◌%◌, ◌^◌, ℕ, ℤ, Bool, true, false, List, Some, None, IfSome}
 use Rattle.std.specs.Prelude.{length, map}
 use Rattle.std.specs.Prelude.{option_and_then}
@@ -57,8 +57,8 @@ abbrev pub FieldsHaveTheirBeginning : Type 0
 FieldsHaveTheirBeginning = (ls : List Linking) (l : Linking) (x : Instance) (place : ℕ) → IsInstanceOf ls l x
     → HasItsBeginning ls x place
 
--- at a usual place outside the room stands the byte that the meaning has there, and in fields and sequences some byte
--- on both sides; a field has four bytes
+-- a usual address outside the room has the meaning's byte, and fields and sequences have some byte on both sides; a
+-- field has four bytes
 abbrev pub CodeIsTied : Type 0
 CodeIsTied = (ls : List Linking) (l : Linking) (x : Instance) (place : ℕ) → IsInstanceOf ls l x
     → (meaning_of ls).room x place ≡ false
@@ -72,11 +72,11 @@ RoomsHaveNoCode = (ls : List Linking) (l : Linking) (x : Instance) (place : ℕ)
     → (meaning_of ls).room x place ≡ true
     → (byte_in Run ((meaning_of ls).loads.fixed x) place ≡ None) × ((meaning_of ls).mark x place ≡ Usual)
 
--- ** places
+-- ** addresses
 
--- all that is loaded of an instance, on both sides, lies at places that have its number; its data lie apart from what
--- no thread writes. No instruction runs on into the room, and four bytes that begin in code end at places of the
--- instance
+-- all that is loaded of an instance, on both sides, lies at addresses with its number in them; its data lie apart from
+-- what no thread writes. No instruction runs on into the room, and four bytes that begin in code end at addresses of
+-- the instance
 pub record LiesAtItsPlaces (ls : List Linking) (x : Instance) : Type 0 where
   pub there : (access : Access) (place byte : ℕ)
       → byte_in access ((job_loads (images_of ls)).fixed x) place ≡ Some byte → IsPlaceOf x place
@@ -109,7 +109,7 @@ OffsetFieldsAreTied = (ls : List Linking) (history : List Event) (l : Linking) (
 
 -- ** address fields
 
--- the four bytes of an address field lead, from where the instruction ends, to a word with the mark's number
+-- the four bytes of an address field lead, from the end of the instruction, to a word with the mark's number
 abbrev pub AddressFieldsAreTied : Type 0
 AddressFieldsAreTied = (ls : List Linking) (history : List Event) (l : Linking) (x : Instance) (place number size : ℕ)
     (addend : ℤ) (four : List ℕ) → IsKnown ls history x → IsInstanceOf ls l x
@@ -131,9 +131,9 @@ pub record IsDescriptorSite (l : Linking) (o : ℕ) (site : Site) : Type 0 where
   pub own : Contains (sites_at l o) site
   pub form : is_of_descriptor site.form ≡ true
 
--- what the setting has for the descriptor that it makes or calls. There is one if it makes it; and where there is one,
--- its number is the place of the sequence's entry, if the sequence is kept, and the variable's distance from the thread
--- pointer, if it is rewritten
+-- the setting's number for the descriptor that it makes or calls. There is one if the sequence makes it. Its number is
+-- the address of the sequence's entry, if the sequence is kept, and the variable's distance from the thread pointer,
+-- if it is rewritten
 pub record HasItsNumber (g : Setting) (ls : List Linking) (l : Linking) (x : Instance) (o : ℕ) (site : Site)
     (v : Variable) : Type 0 where
   pub made : makes site.form ≡ true → g.makes_descriptor x.number v.symbol ≡ true
@@ -146,7 +146,7 @@ pub record HasItsNumber (g : Setting) (ls : List Linking) (l : Linking) (x : Ins
       → (y : Instance) (below : ℕ) → g.known v.target ≡ Some y → y.offset ≡ Some below
       → g.descriptor x.number v.symbol ≡ less v.offset below
 
--- an image has few objects, so that a symbol's number is its own
+-- each image has fewer than 2^32 objects, so no two symbols have the same number
 abbrev pub DescriptorsHaveOneNumber : Type 0
 DescriptorsHaveOneNumber = (ls : List Linking) (history : List Event) (l : Linking) (x : Instance) (o : ℕ) (site : Site)
     → AreTogether ls → LateLast (map (λ l. l.kind) ls) → All (λ (l : Linking). length l.objects < 2 ^ 32) ls
@@ -156,7 +156,8 @@ DescriptorsHaveOneNumber = (ls : List Linking) (history : List Event) (l : Linki
 
 -- ** all of it
 
--- where each sequence of its code stands as it is meant, an instance is tied, if its objects are lists of bytes
+-- an instance is tied, if the code in place of each of its sequences does what it means, and its objects are lists of
+-- bytes
 abbrev pub InstancesAreTied : Type 0
 InstancesAreTied = (ls : List Linking) (history : List Event) (l : Linking) (x : Instance) → All AreBytes l.objects
     → IsKnown ls history x → IsInstanceOf ls l x

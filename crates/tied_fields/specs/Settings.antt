@@ -1,4 +1,4 @@
--- The setting of a link: the numbers that a linker chose for what is no number in the meaning of a job.
+-- The setting of a link: the numbers that a linker chose for the tokens of a job's meaning.
 use Rattle.std.specs.Prelude.{◌+◌, ◌&&◌, ◌==◌, ℕ, Bool, true, false, List, [], ◌∷◌, Option, Some, None, is_some}
 use Rattle.std.specs.Prelude.{option_and_then, option_map, unwrap_or, if◌then◌else◌}
 use Rattle.std.specs.List.{find}
@@ -25,7 +25,7 @@ use Rattle.whole_meaning.specs.Spots.{bias_of}
 
 -- ** the descriptor of a sequence
 
--- the form that makes a descriptor; the call of one is given it
+-- the form that makes a descriptor; the form that calls one gets it in %rax
 abbrev pub makes : Form → Bool
 makes DescLea = true
 makes form = false
@@ -35,9 +35,9 @@ pub record ObjectSite : Type 0 where
   pub object : ℕ
   pub site : Site
 
--- ls: the links of a job; known: the instances that numbers were given to; x: an instance, and l the link of its image
+-- ls: the links of a job; known: the instance of each number; x: an instance, and l the link of its image
 module _ (ls : List Linking) (known : ℕ → Option Instance) (x : Instance) (l : Linking) where
-  -- the variable that the meaning has for a sequence of object o
+  -- the meaning's variable for a sequence of object o
   abbrev pub variable_at : ℕ → Site → Variable
   variable_at o site = unwrap_or (variable_for ls x.image x.number l o site site.form) no_variable
 
@@ -45,16 +45,16 @@ module _ (ls : List Linking) (known : ℕ → Option Instance) (x : Instance) (l
   abbrev pub target_at : ℕ → Site → Option Target
   target_at o site = target_by l o site.symbol (binding l o (first_of site))
 
-  -- how far below the thread pointer the blocks of an instance begin, where they do
+  -- the distance from the blocks of an instance up to the thread pointer, if it is fixed
   abbrev pub distance_below : Option Instance → ℕ
   distance_below y = unwrap_or (option_and_then (λ (z : Instance). z.offset) y) 0
 
-  -- from the thread pointer to a variable, modulo 2^64
+  -- the distance of a variable from the thread pointer, modulo 2^64
   abbrev pub distance_to : Variable → ℕ
   distance_to v = less v.offset (distance_below (known v.target))
 
-  -- a descriptor's number: where the sequence is kept, the place of its entry, and where it is rewritten, the
-  -- variable's distance itself ("ELF Handling For Thread-Local Storage", section 5; psABI, "Thread-Local Storage")
+  -- a descriptor's number: if the sequence is kept, the address of its entry, and if it is rewritten, the variable's
+  -- distance itself ("ELF Handling For Thread-Local Storage", section 5; psABI, "Thread-Local Storage")
   abbrev pub number_for : ℕ → Site → ℕ
   number_for o site = if is_kept (choice l o site)
       then need_address l (option_map Descriptor (target_at o site)) + bias_of l.kind x.number
@@ -66,18 +66,18 @@ module _ (ls : List Linking) (known : ℕ → Option Instance) (x : Instance) (l
   abbrev pub makes_of : ℕ → ℕ → Site → Bool
   makes_of symbol o site = makes site.form && ((variable_at o site).symbol == symbol)
 
-  -- the first of the sequences of objects from number o on that does
+  -- the first sequence in the objects from number o on that does
   abbrev pub first_from : ℕ → ℕ → List (List Site) → Option ObjectSite
   first_from symbol o [] = None
   first_from symbol o (own ∷ more) =
       option_or (option_map (λ site. record { object = o; site = site }) (find (makes_of symbol o) own))
       (first_from symbol (o + 1) more)
 
-  -- the first of the image's
+  -- the first one of the image
   unfoldable pub maker_of : ℕ → Option ObjectSite
   maker_of symbol = first_from symbol 0 l.sites
 
-  -- so the number is one for all sequences with this symbol, and 0 where none makes a descriptor of it
+  -- one number for all sequences with this symbol, and 0 if none makes a descriptor of it
   abbrev pub number_by : Option ObjectSite → ℕ
   number_by None = 0
   number_by (Some maker) = number_for maker.object maker.site
@@ -85,7 +85,7 @@ module _ (ls : List Linking) (known : ℕ → Option Instance) (x : Instance) (l
 -- ** all of it
 
 module _ (ls : List Linking) (known : ℕ → Option Instance) where
-  -- of an instance, by its image's link
+  -- the number for an instance, by its image's link
   abbrev pub descriptor_by : ℕ → Instance → Option Linking → ℕ
   descriptor_by symbol x None = 0
   descriptor_by symbol x (Some l) = number_by ls known x l (maker_of ls known x l symbol)
@@ -94,7 +94,7 @@ module _ (ls : List Linking) (known : ℕ → Option Instance) where
   makes_by symbol x None = false
   makes_by symbol x (Some l) = is_some (maker_of ls known x l symbol)
 
-  -- of a number, by the instance that it was given to
+  -- the number for an instance's number
   abbrev pub descriptor_for : ℕ → Option Instance → ℕ
   descriptor_for symbol None = 0
   descriptor_for symbol (Some x) = descriptor_by symbol x (at_number ls x.image)
@@ -107,7 +107,7 @@ abbrev pub counts : Option Linking → Bool
 counts None = false
 counts (Some l) = counts_from_thread_pointer l
 
--- the setting of a job's links, where the job ends with a history; the program is image 1
+-- the setting of a job's links and the history that it ends with; the program is image 1
 abbrev pub setting_of : List Linking → List Event → Setting
 setting_of ls history = let known = known_in (job_loads (images_of ls)) history in record {
   known = known;

@@ -1,4 +1,4 @@
-//! The laws. The functions do nothing: what they ensure is the law.
+//! Laws of fields. Each function does nothing; what it ensures is the law.
 
 ghost use Rattle.tied_fields.specs.Jobs.{JobsAreTied};
 ghost use Rattle.tied_fields.specs.Laws.{AddressFieldsAreTied, CodeIsTied, DescriptorsHaveOneNumber};
@@ -6,7 +6,8 @@ ghost use Rattle.tied_fields.specs.Laws.{FieldsHaveTheirBeginning, InstancesAreT
 ghost use Rattle.tied_fields.specs.Laws.{PlacesAreTied};
 ghost use Rattle.tied_fields.specs.Laws.{RoomsHaveNoCode};
 
-/// At a place outside the room stands what the meaning marks there: the same byte, or one of a field or of a sequence.
+/// An address outside the room has the byte that the meaning marks there: the same one, or one of a field or of a
+/// sequence.
 pub fn code_is_tied()
     ensures { CodeIsTied }
 {}
@@ -21,32 +22,32 @@ pub fn fields_have_their_beginning()
     ensures { FieldsHaveTheirBeginning }
 {}
 
-/// An offset field moves the base of each thread's block to the address that the meaning has.
+/// An offset field moves the base of each thread's block to the meaning's address.
 pub fn offset_fields_are_tied()
     ensures { OffsetFieldsAreTied }
 {}
 
-/// An address field leads to a word with the address that the meaning has.
+/// An address field leads to a word that holds the meaning's address.
 pub fn address_fields_are_tied()
     ensures { AddressFieldsAreTied }
 {}
 
-/// All sequences of an image that make a symbol's descriptor, or call it, have it under one number.
+/// All sequences of an image that make a symbol's descriptor, or call it, have one number for it.
 pub fn descriptors_have_one_number()
     ensures { DescriptorsHaveOneNumber }
 {}
 
-/// All that is loaded of an instance lies at places that have its number.
+/// All that is loaded of an instance lies at addresses with its number in them.
 pub fn places_are_tied()
     ensures { PlacesAreTied }
 {}
 
-/// So an instance is tied, where its sequences stand as they are meant.
+/// An instance is tied, if the code in place of its sequences does what they mean.
 pub fn instances_are_tied()
     ensures { InstancesAreTied }
 {}
 
-/// And so are all of a job.
+/// So are all instances of a job.
 pub fn jobs_are_tied()
     ensures { JobsAreTied }
 {}

@@ -5,6 +5,6 @@ use Rattle.job_meaning.specs.Marked.{marked_operations}
 use Rattle.job_meaning.specs.Owner.{owner_at}
 use Rattle.tied_meaning.specs.Numbers.{Setting, alike}
 
--- what is computed of related values is related, in any setting; the code's own instance is read from its address
+-- results of related values are related, in any setting; the code's own instance is read from its address
 abbrev pub NumbersFollowMarkedValues : Type 0
 NumbersFollowMarkedValues = (g : Setting) → IsFollowed (alike g) (marked_operations owner_at) plain_operations

@@ -1,5 +1,5 @@
--- What stands in an image where the meaning has a sequence, in the machine's words: instructions of code, and words
--- that can be read. Nothing here knows how a linker chose or laid them.
+-- The code of an image in place of a sequence of the meaning, in the machine's terms: instructions, and words that can
+-- be read. Nothing here depends on how a linker chose or laid them.
 use Rattle.std.specs.Prelude.{◌≡◌, ◌≤◌, ◌<◌, ◌+◌, ◌*◌, ◌%◌, ◌^◌, ◌&&◌, ◌==◌, ◌⊎◌, ℕ, true, false, List, [], ◌∷◌, Some, slice_get}
 use Rattle.std.specs.List.{list_any}
 use Rattle.amd64_subset.specs.declared.instr.Decoded.{Decoded}
@@ -29,15 +29,15 @@ use Rattle.tied_meaning.specs.Numbers.{Setting}
 
 -- q: what is loaded of the linked images; x: an instance
 module _ (q : Loads ℕ) (x : Instance) where
-  -- ** what is loaded at a place of the instance
+  -- ** what is loaded at an address of the instance
 
-  -- an instruction: the bytes from the place on are those of a spelling of it
+  -- an instruction: the bytes from the address on begin with a spelling of it
   pub record HasInstruction (place : ℕ) (d : Decoded) : Type 0 where
     pub bytes : List ℕ
     pub read : decoded bytes ≡ Some d
     pub there : (k : ℕ) → k < d.len → byte_in Run (q.fixed x) (place + k) ≡ slice_get bytes k
 
-  -- instructions, one behind the other
+  -- instructions, one after another
   abbrev pub HasCode : ℕ → List Decoded → Type 0
   HasCode place [] = Unit {0}
   HasCode place (d ∷ more) = HasInstruction place d × HasCode (place + d.len) more
@@ -46,15 +46,15 @@ module _ (q : Loads ℕ) (x : Instance) where
   abbrev pub HasWord : ℕ → ℕ → Type 0
   HasWord address word = (k : ℕ) → k < 8 → byte_in Read (q.fixed x) (address + k) ≡ Some (digit word k)
 
-  -- ** what the run time is asked by
+  -- ** the run time's arguments
 
-  -- the module id of the instance that a sequence asks for: what started with the program has its number as its id; any
-  -- other is the code's own instance, and has the id that its load gave it
+  -- the module id of the instance that a sequence asks for: a startup instance's id is its number; any other one is
+  -- the code's own instance, and has the id that its load gave it
   abbrev pub IsIdFor : Sequence → ℕ → Type 0
   IsIdFor s id = ((0 < s.target) × ((s.target ≤ startup_count q.infos) × (id ≡ s.target)))
       ⊎ ((s.target ≡ x.number) × ((id ≡ x.id) × (startup_count q.infos < x.number)))
 
-  -- two words of a table of the instance, a module id and an offset: what `__tls_get_addr` is called with
+  -- two words of a table of the instance, a module id and an offset: the argument of `__tls_get_addr`
   pub record HasPair (s : Sequence) (address : ℕ) : Type 0 where
     pub table : list_any (has_words address) (q.tables x) ≡ true
     pub id : ℕ
@@ -63,7 +63,7 @@ module _ (q : Loads ℕ) (x : Instance) where
     pub first : HasWord address id
     pub second : HasWord (address + 8) (s.offset % 2 ^ 64)
 
-  -- two words of a table of the instance, where the run time's function for descriptors is called, and both numbers in
+  -- two words of a table of the instance: the address of the run time's function for descriptors, and both numbers in
   -- one word
   pub record HasDescriptor (s : Sequence) (address : ℕ) : Type 0 where
     pub table : list_any (has_words address) (q.tables x) ≡ true
@@ -73,23 +73,23 @@ module _ (q : Loads ℕ) (x : Instance) where
     pub first : HasWord address 0x1800
     pub second : HasWord (address + 8) (id * 2 ^ 32 + s.offset)
 
--- a word is the distance of the sequence's variable from the thread pointer, and so it is for each thread. Threads have
--- numbers up to 64: from 2^24 on a thread pointer would be past 2^64
+-- a word is the distance of the sequence's variable from the thread pointer, for each thread. Threads have numbers up
+-- to 64: from 2^24 on a thread pointer would be past 2^64
 abbrev pub IsDistance : Setting → Sequence → ℕ → Type 0
 IsDistance g s word = (thread : ℕ) (y : Instance) → thread ≤ 64 → g.known s.target ≡ Some y
     → word ≡ variable_distance s (block_start thread y) (pointer_of thread)
 
--- how many bytes the first of the two instructions has, of a form with two
+-- the size of the first of the two instructions, for a form with two
 abbrev pub first_length : Form → ℕ
 first_length Gd = 8
 first_length GdInd = 8
 first_length form = 7
 
--- s: the sequence that is meant at this place of the instance
+-- s: the sequence at this address of the instance in the meaning
 module _ (g : Setting) (q : Loads ℕ) (x : Instance) (place : ℕ) (s : Sequence) where
   -- ** kept
 
-  -- gd, ld: lea pair(%rip), %rdi; call stub. The stub jumps through the word that holds the run time's place
+  -- gd, ld: lea pair(%rip), %rdi; call stub. The stub jumps through the word that holds the run time's address
   pub record CallsStub (first second : ℕ) : Type 0 where
     pub code : HasCode q x place (kept_instructions s.form 0 first second)
     pub pair : HasPair q x s (plus (place + first_length s.form) first)
@@ -118,14 +118,14 @@ module _ (g : Setting) (q : Loads ℕ) (x : Instance) (place : ℕ) (s : Sequenc
     pub made : g.makes_descriptor x.number s.symbol ≡ true
     pub number : plus s.next first ≡ g.descriptor x.number s.symbol % 2 ^ 64
 
-  -- desc-call: call *(%rax). There is a descriptor where some sequence makes one; where none does, no step gets here
+  -- desc-call: call *(%rax). There is a descriptor if some sequence makes one; if none does, no step gets here
   pub record CallsDescriptor : Type 0 where
     pub code : HasCode q x place (kept_instructions DescCall 0 0 0)
     pub low : g.descriptor x.number s.symbol < 2 ^ 64
     pub descriptor : g.makes_descriptor x.number s.symbol ≡ true
         → HasDescriptor q x s (g.descriptor x.number s.symbol)
 
-  -- a kept local dynamic sequence finds where the block begins, so its code may not count from the thread pointer
+  -- a kept Local Dynamic sequence finds the block's address, so its code may not count from the thread pointer
   abbrev pub CountsFromBlock : Type 0
   CountsFromBlock = (g.counts_from_pointer && (x.number == 1)) ≡ false
 
@@ -142,8 +142,8 @@ module _ (g : Setting) (q : Loads ℕ) (x : Instance) (place : ℕ) (s : Sequenc
 
   -- ** rewritten
 
-  -- the instructions of a choice, with a register and a number in their field. Only the program's code is rewritten,
-  -- and only where the variable's instance is there from the start: no such sequence asks the run time
+  -- the instructions of a choice, with a register, and a number in their field. Only the program's code is rewritten,
+  -- and only if the variable's instance is a startup one: no such sequence calls the run time
   pub record IsWritten (choice : Choice) (reg number : ℕ) : Type 0 where
     pub code : HasCode q x place (new_instructions s.form choice reg number)
     pub program : x.number ≡ 1
@@ -153,7 +153,7 @@ module _ (g : Setting) (q : Loads ℕ) (x : Instance) (place : ℕ) (s : Sequenc
   abbrev pub ReachesDistance : ℕ → Type 0
   ReachesDistance number = (word : ℕ) × (HasWord q x (plus s.next number) word × IsDistance g s word)
 
-  -- a descriptor's number is the variable's distance itself, so that what stood for its call has nothing to do
+  -- a descriptor's number is the variable's distance itself, so what replaces its call does nothing
   abbrev pub DescriptorIsDistance : Type 0
   DescriptorIsDistance = g.makes_descriptor x.number s.symbol ≡ true
       → IsDistance g s (g.descriptor x.number s.symbol % 2 ^ 64)
@@ -178,18 +178,18 @@ module _ (g : Setting) (q : Loads ℕ) (x : Instance) (place : ℕ) (s : Sequenc
 
   -- ** either
 
-  -- a local dynamic sequence asks for its own instance's block, from its first byte on
+  -- a Local Dynamic sequence asks for its own instance's block, from its first byte on
   abbrev pub AsksForOwnBlock : Form → Type 0
   AsksForOwnBlock Ld = (s.target ≡ x.number) × (s.offset ≡ 0)
   AsksForOwnBlock LdInd = (s.target ≡ x.number) × (s.offset ≡ 0)
   AsksForOwnBlock form = Unit {0}
 
-  -- what stands at the place does what the sequence means
+  -- the code at the address does what the sequence means
   pub record Stands : Type 0 where
     pub base : AsksForOwnBlock s.form
     pub own : s.instance ≡ x.number
     pub ends : s.next ≡ place + form_length s.form
-    -- the instance that it asks for is its own, or started with the program
+    -- the instance that it asks for is its own, or a startup one
     pub asked : (s.target ≡ x.number) ⊎ ((0 < s.target) × (s.target ≤ startup_count q.infos))
     pub stands : KeptAs s.form
         ⊎ ((choice : Choice) × ((reg : ℕ) × ((number : ℕ)

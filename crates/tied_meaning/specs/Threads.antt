@@ -1,5 +1,5 @@
--- A thread of the meaning and the same thread of the machine: what they have in common between two lines, in a call,
--- and where they wait for a look in the middle of one.
+-- A thread of the meaning and the same thread of the machine: how they are related between two lines, in a call, and
+-- while they wait for a look in the middle of one.
 use Rattle.std.specs.Prelude.{◌≡◌, ◌-◌, ◌%◌, ◌^◌, ◌&&◌, ℕ, Bool, true, false, List, All, Some, None, Ok, length}
 use Rattle.guest_arithmetic.specs.Plain.{plain_operations}
 use Rattle.guest_operands.specs.declared.state.State.{State}
@@ -30,50 +30,50 @@ use Rattle.whole_meaning.specs.Threads.{Meant, came_late, hidden_below, meant_st
 use Rattle.tied_meaning.specs.Numbers.{Setting, SameByte, alike}
 use Rattle.tied_meaning.specs.Sites.{IsIdFor}
 
--- ** what is written
+-- ** written ranges
 
--- a range that threads write: of one owner, at one place, the same byte by byte
+-- a range that threads write: the same owner and address, related byte by byte
 pub record SameOwned (g : Setting) (o : Owned Byte) (o' : Owned ℕ) : Type 0 where
   pub owner : o'.owner ≡ o.owner
   pub range : SameRange (SameByte g) o.range o'.range
 
--- the range is where the instance has it, and as long, whatever stands in it
+-- the range has the instance's address and size, whatever bytes it holds
 abbrev pub IsRangeOf : Loads ℕ → ℕ → Instance → Kind → Range ℕ → Type 0
 IsRangeOf q thread x Block range =
     (range ≡ block_range thread x range.bytes) × (length range.bytes ≡ length (q.block x))
 IsRangeOf q thread x Data range = (whole : Range ℕ) × ((q.shared x ≡ Some whole)
     × ((range ≡ record whole { bytes = range.bytes }) × (length range.bytes ≡ length whole.bytes)))
 
--- so is what a thread holds, of the instance that its owner's number was given to. Before a look a thread may have data
--- in its hands of an instance that it has not seen, so nothing is asked of the events that it saw
+-- the same for a range that a thread holds, of the instance with its owner's number. Before a look a thread may hold
+-- data of an instance that it has not seen, so the events that it saw don't matter
 abbrev pub IsPlaced : Setting → Loads ℕ → ℕ → Owned ℕ → Type 0
 IsPlaced g q thread o =
     (x : Instance) × ((g.known o.owner.instance ≡ Some x) × IsRangeOf q thread x o.owner.kind o.range)
 
--- the data of a job between two turns. Where data lie no thread is asked, so any will do
+-- the data of a job between two turns; the address of data is the same for every thread, so any thread will do
 pub record SameData (g : Setting) (q : Loads ℕ) (xs : List (Owned Byte)) (ys : List (Owned ℕ)) : Type 0 where
   pub all : All2 (SameOwned g) xs ys
   pub placed : All (IsPlaced g q 1) ys
   pub are : All (λ (o : Owned ℕ). is_block o.owner.kind ≡ false) ys
 
--- ** a sequence that has called and is not answered
+-- ** a sequence that has called, before the answer
 
--- whether the run time is asked by a descriptor
+-- whether the run time is called by a descriptor
 abbrev pub is_descriptor_call : Form → Bool
 is_descriptor_call DescCall = true
 is_descriptor_call form = false
 
--- what the meaning knows then: all that the sequence leaves, but the answer
+-- the meaning's state then: all that the sequence leaves, except the answer
 abbrev pub called_state : Form → State Word Flag → ℕ → State Word Flag
 called_state DescCall state next = at_place (without_flags (with_answer Undefined state)) next
 called_state form state next = at_place (with_answer Undefined (after_call state)) next
 
--- history: the events that the job ends with. thread: one of the first 64; of a much later one little would be true,
--- since its thread pointer is past 2^64
+-- history: the events that the job ends with. thread: one of the first 64; a much later one has its thread pointer
+-- past 2^64
 module _ (g : Setting) (m : Meaning) (q : Loads ℕ) (history : List Event) (thread : ℕ) where
   -- ** threads
 
-  -- two memories at the same events, with written ranges of these owners
+  -- two memories after the same events, with written ranges of these owners
   pub record SameMemory (owners : List Owner) (seen : List Event) (s : Space Event Byte) (s' : Space Event ℕ) : Type 0
     where
       pub space : SameSpace (SameByte g) s s'
@@ -82,7 +82,7 @@ module _ (g : Setting) (m : Meaning) (q : Loads ℕ) (history : List Event) (thr
       pub paired : length owners ≡ length s'.own
       pub deep : length s.stack ≡ stack_size
 
-  -- between two lines: of registers and stack nothing is asked, since the next call begins with its own
+  -- between two lines: registers and stack don't matter, since the next call begins with its own
   pub record AtRest (h : Meant) (h' : Runs) : Type 0 where
     pub owners : h'.owners ≡ h.owners
     pub own : All2 (SameRange (SameByte g)) h.after.memory.own h'.after.memory.own
@@ -92,7 +92,7 @@ module _ (g : Setting) (m : Meaning) (q : Loads ℕ) (history : List Event) (thr
     pub front : IsFront h.after.memory.seen history
     pub asked : h'.asked ≡ None
 
-  -- in a call, at a place where both begin a step
+  -- in a call, at an address where both begin a step
   pub record InCall (h : Meant) (h' : Runs) : Type 0 where
     pub state : SameState (alike g) h.after.state h'.after.state
     pub pointer : h.after.state.thread_pointer ≡ pointer_of thread
@@ -101,10 +101,10 @@ module _ (g : Setting) (m : Meaning) (q : Loads ℕ) (history : List Event) (thr
     pub front : IsFront h.after.memory.seen history
     pub asked : h'.asked ≡ None
 
-  -- ** at a look in the middle of a line: the meaning stands before the sequence, the machine has called the run time
+  -- ** at a look in the middle of a line: the meaning is before the sequence, and the machine has called the run time
 
-  -- the sequence's tests are passed, and the machine is where the sequence ends, but for the answer and the return
-  -- address that is still on its stack. stack: where %rsp points before the call
+  -- the sequence's tests are passed, and the machine is at the sequence's end, except for the answer and the return
+  -- address that is still on its stack. stack: %rsp before the call
   pub record HasCalled (s : Sequence) (stack : ℕ) (h : Meant) (h' : Runs) : Type 0 where
     pub room : stack_use (meant_stack m thread) h.after.state h.after.memory ≡ Ok stack
     pub descriptor : s.form ≡ DescCall → descriptor_use s h.after.state.registers.rax ≡ Ok tt
@@ -118,14 +118,14 @@ module _ (g : Setting) (m : Meaning) (q : Loads ℕ) (history : List Event) (thr
     pub back : (memory : Space Event ℕ) → memory.stack ≡ h'.after.memory.stack
         → load_of plain_operations (thread_accesses q thread) memory (plus stack (2 ^ 64 - 8)) 8 ≡ Ok s.next
 
-  -- what the machine asks for is what the sequence means
+  -- the machine asks for what the sequence means
   pub record Asks (s : Sequence) (asked : Asked) : Type 0 where
     pub asking : asked.asking ≡ s.instance
     pub id : (x : Instance) → g.known s.instance ≡ Some x → IsIdFor q x s asked.id
     pub offset : asked.offset ≡ s.offset % 2 ^ 64
     pub kind : asked.is_descriptor ≡ is_descriptor_call s.form
 
-  -- both wait: the meaning before a sequence of an instance that came late, the machine behind its call
+  -- both wait: the meaning before a sequence of an instance that is not a startup one, the machine after its call
   pub record Waiting (h : Meant) (h' : Runs) : Type 0 where
     pub owners : h'.owners ≡ h.owners
     pub own : All2 (SameRange (SameByte g)) h.after.memory.own h'.after.memory.own

@@ -1,4 +1,4 @@
-//! The law of values. The function does nothing: what it ensures is the law.
+//! The law of values. The function does nothing; what it ensures is the law.
 
 ghost use Rattle.tied_meaning.specs.Laws.{NumbersFollowMarkedValues};
 

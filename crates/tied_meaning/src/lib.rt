@@ -1,19 +1,17 @@
-//! What a job's meaning and its machine have to do with each other: definitions, and one law. No code runs here.
+//! Definitions and one law of the relation between a job's meaning and its machine. No code runs here.
 //!
-//! A job is run twice. The machine runs the linked images (`thread_blocks`); beside it, the meaning runs what
-//! their objects say (`whole_meaning`). Both take the same turns and hold the same kinds of things: registers, a
-//! stack, blocks, data, code. They differ where a linker chooses: in the numbers of bases and descriptors, in
-//! fields that hold such numbers, in the bytes of sequences, and in tables and stubs, which the meaning does not
-//! have at all.
+//! A job is run twice. The machine runs the linked images (`thread_blocks`), and the meaning runs what their objects
+//! say (`whole_meaning`). Both take the same turns and hold the same kinds of things: registers, a stack, blocks,
+//! data, code. They differ where a linker chooses: in the numbers of bases and descriptors, in fields that hold such
+//! numbers, in the bytes of sequences, and in tables and stubs, which the meaning does not have.
 //!
-//! The rule of the crate: **where the two differ, it is said by what**, and everywhere else they are the same.
-//! What a linker may choose is one record of a few functions, a `Setting`. All else is said over any setting and
-//! any load, and knows nothing of linking: of an image only bytes, words and instructions that stand at places of
-//! an instance.
+//! The rule of the crate: **every difference between the two is named**, and everywhere else they are the same. A
+//! linker's choices are one record of a few functions, a `Setting`. All else is defined for any setting and any load,
+//! without linking: an image is only bytes, words and instructions at addresses of an instance.
 //!
-//! Take a program with 8 bytes of thread-local storage, x at offset 4, and local dynamic code. Kept, its sequence
-//! finds the block's first byte, and the field of `x@dtpoff` holds 4. Rewritten ("ELF Handling For Thread-Local
-//! Storage", section 5), the sequence finds the thread pointer, and the field holds -4 (psABI, "Thread-Local
+//! Take a program with 8 bytes of thread-local storage, x at offset 4, and Local Dynamic code. If its sequence is
+//! kept, it finds the block's first byte, and the field of `x@dtpoff` holds 4. If it is rewritten ("ELF Handling For
+//! Thread-Local Storage", section 5), it finds the thread pointer, and the field holds -4 (psABI, "Thread-Local
 //! Storage"):
 //!
 //! ```text
@@ -25,25 +23,25 @@
 //! its address                 0x13ffffffff8 + 4     0x13ffffffff8 + 4            0x14000000000 - 4
 //! ```
 //!
-//! The register's number is one in each image, and the meaning has a token for it; the two fields differ; the
-//! address is the same. So a relation of words says which number stands for a token (`SameWord`), one of fields
-//! that they move each thread's base to one address (`SameField`), and both take the setting as a parameter.
+//! Each image has its own number in the register, and the meaning has a token for it; the two fields differ; the
+//! address is the same. So the relation of words says which number stands for a token (`SameWord`), and that of fields
+//! says that they move each thread's base to one address (`SameField`). Both take the setting as a parameter.
 //!
 //! From the smallest to the largest:
 //!
 //! - `specs/Numbers.antt`: words, flags, bytes and fields, and what a setting is;
-//! - `specs/Codes.antt`: code that the meaning marks, and code of an image, place by place;
-//! - `specs/Sites.antt`: the instructions and words that stand in an image where a sequence is meant;
+//! - `specs/Codes.antt`: code that the meaning marks, and code of an image, address by address;
+//! - `specs/Sites.antt`: the instructions and words that an image has in place of a sequence;
 //! - `specs/Ties.antt`: all that is loaded of an instance (`IsTied`), and of all instances of a job (`AreTied`);
-//! - `specs/Threads.antt`: two threads between lines, in a call, and where they wait for a look.
+//! - `specs/Threads.antt`: two threads between lines, in a call, and while they wait for a look.
 //!
 //! **The history is a parameter.** A job ends with one list of events, and each list that a thread ever sees is a
-//! front of it. In all these fronts a number stands for one instance. So what a number was given to, where its
-//! blocks begin and which number its base has are functions that no look changes, and data that another thread
-//! wrote later than this one looked is related at once.
+//! front of it. In all these fronts a number stands for one instance. So the instance of a number, the addresses of
+//! its blocks and the number of its base are functions that no look changes, and data that another thread wrote after
+//! this one's look is related at once.
 //!
-//! The law is of values alone ([`laws::numbers_follow_marked_values`]): arithmetic on plain numbers does what
-//! arithmetic on marked values does, in any setting. The example above stands in `proofs/Examples.antt`.
+//! The law is about values alone ([`laws::numbers_follow_marked_values`]): arithmetic on plain numbers does what
+//! arithmetic on marked values does, in any setting. `proofs/Examples.antt` has the example above.
 #![tactic(auto)]
 
 pub mod laws;

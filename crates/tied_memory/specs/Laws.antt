@@ -1,4 +1,4 @@
--- What a thread reads, where loads are tied.
+-- What a thread reads, if loads are tied.
 use Rattle.std.specs.Prelude.{◌≡◌, ◌≤◌, ◌<◌, ◌^◌, ℕ, List, Some, Ok}
 use Rattle.amd64_subset.specs.declared.instr.Decoded.{Decoded}
 use Rattle.amd64_subset.specs.Decoding.{decoded}
@@ -17,8 +17,8 @@ use Rattle.tied_meaning.specs.Sites.{HasInstruction, HasWord}
 use Rattle.tied_meaning.specs.Ties.{AreTied}
 use Rattle.tied_memory.specs.Places.{AreInPlace}
 
--- so it is of each thread, in any memory of its in which what it writes is in its place. Which owners its ranges have,
--- and which history the job ends with, is any
+-- the property holds for each thread, in any memory with all written ranges in place, whatever the owners of its
+-- ranges, and whatever history the job ends with
 abbrev pub OfThreads : (Loads ℕ → ℕ → Space Event ℕ → Type 0) → Type 0
 OfThreads Reads = (g : Setting) (m : Meaning) (q : Loads ℕ) (history : List Event) (thread : ℕ)
     → AreTied g m q history → 1 ≤ thread
@@ -36,7 +36,7 @@ WordsAreLoaded = OfThreads (λ q thread space. (x : Instance)
     → (address word : ℕ) → HasWord q x address word → word < 2 ^ 64
     → load_of plain_operations (thread_accesses q thread) space address 8 ≡ Ok word)
 
--- of the first 64 threads: a much later one has its pointer past 2^64
+-- for the first 64 threads: a much later one has its pointer past 2^64
 abbrev pub PointersAreLoaded : Type 0
 PointersAreLoaded = OfThreads (λ q thread space. thread ≤ 64
     → load_of plain_operations (thread_accesses q thread) space (pointer_of thread) 8 ≡ Ok (pointer_of thread))

@@ -1,4 +1,4 @@
--- What is asked of a thread so that nothing lies in the way of what it reads.
+-- The condition on a thread's written ranges that makes it read what is loaded.
 use Rattle.std.specs.Prelude.{◌≡◌, ℕ, List, All, length}
 use Rattle.module_table.specs.declared.events.Event.{Event}
 use Rattle.thread_blocks.specs.Held.{Owner, owned}
@@ -9,8 +9,8 @@ use Rattle.thread_blocks.specs.TurnsAlike.{IsFront}
 use Rattle.tied_meaning.specs.Numbers.{Setting}
 use Rattle.tied_meaning.specs.Threads.{IsPlaced}
 
--- the ranges that a thread writes, which have these owners, are each where an instance of the history has it; and the
--- thread has seen a front of that history, and has a stack
+-- the ranges that a thread writes, with these owners, each have the address that an instance of the history gives
+-- them; and the thread has seen a front of that history, and has a stack
 pub record AreInPlace (g : Setting) (q : Loads ℕ) (history : List Event) (thread : ℕ) (owners : List Owner)
     (space : Space Event ℕ) : Type 0 where
   pub placed : All (IsPlaced g q thread) (owned owners space.own)

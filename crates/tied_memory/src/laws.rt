@@ -1,13 +1,13 @@
-//! What a thread reads. The functions do nothing: what they ensure is the law.
+//! Laws of what a thread reads. Each function does nothing; what it ensures is the law.
 
 ghost use Rattle.tied_memory.specs.Laws.{InstructionsAreFetched, PointersAreLoaded, WordsAreLoaded};
 
-/// An instruction that stands in a live instance is the one that a thread fetches there.
+/// A thread fetches the instruction that a live instance has at an address.
 pub fn instructions_are_fetched()
     ensures { InstructionsAreFetched }
 {}
 
-/// A word that stands in a live instance is the one that a thread loads there.
+/// A thread loads the word that a live instance has at an address.
 pub fn words_are_loaded()
     ensures { WordsAreLoaded }
 {}

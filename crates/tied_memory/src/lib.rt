@@ -1,6 +1,6 @@
-//! The memory of a thread, at the places of what is loaded: laws, and no code that runs.
+//! Laws of a thread's memory at the addresses of live instances. No code runs here.
 //!
-//! A thread of the machine reads one list of ranges, and takes the first that holds the place (`thread_blocks`):
+//! A thread of the machine reads one list of ranges, and takes the first that holds the address (`thread_blocks`):
 //!
 //! ```text
 //! its stack                       from the thread's own stack start on
@@ -9,22 +9,22 @@
 //! what is fixed                   of each live instance its code, its constants, its tables
 //! ```
 //!
-//! That an instruction or a word *stands* at a place of an instance is said of the instance alone
-//! (`HasInstruction`, `HasWord` of `tied_meaning`). The rule of the crate: **what stands in a live instance is what
-//! the thread reads there**, whatever else it holds ([`laws::instructions_are_fetched`], [`laws::words_are_loaded`]),
-//! and at its thread pointer it reads the thread pointer ([`laws::pointers_are_loaded`]).
+//! `HasInstruction` and `HasWord` of `tied_meaning` say that an instance has an instruction or a word at an address,
+//! without any thread. The rule of the crate: **a thread reads what a live instance has at an address**, whatever else
+//! the thread holds ([`laws::instructions_are_fetched`], [`laws::words_are_loaded`]), and at its thread pointer it
+//! reads the thread pointer ([`laws::pointers_are_loaded`]).
 //!
-//! It holds because nothing lies in the way. A place of an instance is below 2^39 and has the instance's number in
-//! it. Stacks, blocks and thread pointers are above 2^40, so they don't reach down to it. Another instance's code has
-//! another number in its places; so have its data, and the instance's own data are apart from all that is fixed of
-//! it. At the thread pointer it is the blocks that come close: each ends there or below.
+//! The reason is that no earlier range holds the address. An address of an instance is below 2^39 and has the
+//! instance's number in it. Stacks, blocks and thread pointers are above 2^40. Code and data of another instance have
+//! another number in their addresses, and the instance's own data are apart from all that is fixed of it. Only blocks
+//! come close to the thread pointer: each ends there or below.
 //!
-//! All that is asked of a thread is that what it writes is in its place (`AreInPlace` in `specs/Places.antt`): each of
-//! its ranges is where some instance of the history has it, and as long. What the bytes are makes no difference.
+//! A thread need only have its written ranges in place (`AreInPlace` in `specs/Places.antt`): each of them has the
+//! address and size that some instance of the history gives it. The bytes in them don't matter.
 //!
 //! Proofs go from a list of ranges (`proofs/Ranges.antt`) to a thread's ranges (`proofs/Found.antt`,
-//! `proofs/Pointer.antt`); from bytes to words and instructions, of any memory (`proofs/Bytes.antt`); and both are put
-//! together (`proofs/Standing.antt`).
+//! `proofs/Pointer.antt`), and from bytes to words and instructions of any memory (`proofs/Bytes.antt`);
+//! `proofs/Standing.antt` joins both.
 #![tactic(auto)]
 
 pub mod laws;

@@ -1,4 +1,4 @@
--- What is asked of an instance of a job, and of the numbers that its run gave to instances.
+-- The conditions on an instance of a job, and on the numbers that its run gave to instances.
 use Rattle.std.specs.Prelude.{◌≡◌, ◌≢◌, ◌<◌, ◌≤◌, ◌^◌, ℕ, true, false, List, Some, IsSome, IfSome}
 use Rattle.link_faults.specs.declared.symbol_ref.SymbolRef.{SymbolRef}
 use Rattle.link_faults.specs.ImageKinds.{is_module}
@@ -15,8 +15,8 @@ use Rattle.tied_meaning.specs.Numbers.{Setting}
 use Rattle.tls_symbols.specs.Definitions.{definition_of}
 use Rattle.whole_meaning.specs.Loads.{wants_surplus}
 
--- the numbers of an instance of link l: the program is instance 1, its blocks begin right below the thread pointer, and
--- what starts with it has its number as its id
+-- the numbers of an instance of link l: the program is instance 1, its blocks begin right below the thread pointer,
+-- and the id of a startup instance is its number
 pub record IsCounted (ls : List Linking) (l : Linking) (x : Instance) : Type 0 where
   pub some : 0 < x.number
   pub few : x.number < 2 ^ 12
@@ -26,10 +26,10 @@ pub record IsCounted (ls : List Linking) (l : Linking) (x : Instance) : Type 0 w
   pub program : is_module l.kind ≡ false → (x.number ≡ 1) × (x.offset ≡ Some (block_offset l))
   pub early : is_module l.kind ≡ false → x.number ≤ startup_count (job_loads (images_of ls)).infos
   pub later : is_module l.kind ≡ true → x.number ≢ 1
-  -- a module whose code finds a variable at a fixed distance from the thread pointer has its blocks below that
+  -- a module whose code finds a variable at a fixed distance from the thread pointer has its blocks below it
   pub surplus : wants_surplus l ≡ true → IsSome x.offset
 
--- a name that startup image k exports is that of a variable of its objects, and the first export of that name
+-- the name that startup image k exports is that of a variable of its objects, and the first export of that name
 pub record IsShared (ls : List Linking) (name : List ℕ) (k : ℕ) : Type 0 where
   pub link : Linking
   pub found : SymbolRef
@@ -41,8 +41,8 @@ pub record IsShared (ls : List Linking) (name : List ℕ) (k : ℕ) : Type 0 whe
   pub low : k < 2 ^ 12
   pub small : offset link found < 2 ^ 30
 
--- the setting knows the instance, and those that started with the program, whose blocks begin where their images' sizes
--- say; and whether the program's local dynamic code is rewritten
+-- the setting knows the instance, and the startup ones, whose blocks begin where their images' sizes say; and whether
+-- the program's Local Dynamic code is rewritten
 pub record Knows (g : Setting) (ls : List Linking) (l : Linking) (x : Instance) : Type 0 where
   pub own : g.known x.number ≡ Some x
   pub startup : (k : ℕ) → 0 < k → k ≤ startup_count (job_loads (images_of ls)).infos

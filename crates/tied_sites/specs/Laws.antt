@@ -1,4 +1,4 @@
--- What stands where the meaning of a job has a sequence.
+-- The loaded code in place of a sequence of the meaning.
 use Rattle.std.specs.Prelude.{◌≡◌, ◌<◌, ◌^◌, ℕ, List, Some, length, map}
 use Rattle.std.specs.List.{All}
 use Rattle.job_text.specs.LateImages.{LateLast}
@@ -36,7 +36,7 @@ IsInitial IeMov = Unit {0}
 IsInitial IeAdd = Unit {0}
 IsInitial form = ⊥
 
--- of descriptors
+-- descriptors
 abbrev pub IsOfDescriptor : Form → Type 0
 IsOfDescriptor DescLea = Unit {0}
 IsOfDescriptor DescCall = Unit {0}
@@ -44,7 +44,7 @@ IsOfDescriptor form = ⊥
 
 -- ** laws
 
--- in a job whose links are linked together, the meaning has the sequence at this place of an instance that the job's
+-- in a job whose links are linked together, the meaning has the sequence at this address of an instance that the job's
 -- history made
 pub record IsMeant (ls : List Linking) (history : List Event) (l : Linking) (x : Instance) (place : ℕ) (s : Sequence) :
     Type 0 where
@@ -54,7 +54,7 @@ pub record IsMeant (ls : List Linking) (history : List Event) (l : Linking) (x :
   pub of : IsInstanceOf ls l x
   pub meant : (meaning_of ls).sequence x place ≡ Some s
 
--- what stands there does what it means
+-- the code there does what the sequence means
 abbrev pub StandsInJob : List Linking → List Event → Instance → ℕ → Sequence → Type 0
 StandsInJob ls history x place s = Stands (setting_of ls history) (job_loads (images_of ls)) x place s
 
@@ -70,14 +70,14 @@ abbrev pub InitialSitesStand : Type 0
 InitialSitesStand = (ls : List Linking) (history : List Event) (l : Linking) (x : Instance) (place : ℕ) (s : Sequence)
     → IsMeant ls history l x place s → IsInitial s.form → StandsInJob ls history x place s
 
--- of descriptors it is so where no image has 2^32 objects: then a symbol's number is its own
+-- for descriptors this holds if no image has 2^32 objects: then no two symbols have the same number
 abbrev pub DescriptorSitesStand : Type 0
 DescriptorSitesStand = (ls : List Linking) (history : List Event) (l : Linking) (x : Instance) (place : ℕ)
     (s : Sequence)
     → All (λ l. length l.objects < 2 ^ 32) ls → IsMeant ls history l x place s → IsOfDescriptor s.form
     → StandsInJob ls history x place s
 
--- so it is of each form
+-- each form of sequence does what it means
 abbrev pub SitesStand : Type 0
 SitesStand = (ls : List Linking) (history : List Event) (l : Linking) (x : Instance) (place : ℕ) (s : Sequence)
     → All (λ l. length l.objects < 2 ^ 32) ls → IsMeant ls history l x place s → StandsInJob ls history x place s

@@ -1,5 +1,5 @@
--- What the sections of an instance hold, by the table of relocations alone (psABI, "Relocation Types"), and its
--- variables and functions. No table that a linker makes enters.
+-- The bytes in the sections of an instance, by the table of relocations alone (psABI, "Relocation Types"), and its
+-- variables and functions. No table that a linker makes is used.
 use Rattle.std.specs.Prelude.{ℕ, ◌+◌, ◌-◌, ◌&&◌, ◌++◌, Bool, true, false, List, Option, Some, None, length, map, nat_le, nat_lt, replicate, slice_index_or, unwrap_or, option_and_then, if◌then◌else◌}
 use Rattle.std.specs.List.{find, range_with_len}
 use Rattle.elf_object.specs.declared.relocation.Relocation.{Relocation}
@@ -35,15 +35,15 @@ use Rattle.whole_meaning.specs.Spots.{Spot, spot_in}
 abbrev pub covers : ℕ → Relocation → Bool
 covers k r = nat_le r.offset k && nat_lt k (r.offset + field_width r.kind)
 
--- bias: how far the instance is moved
+-- bias: the instance's load bias
 module _ (l : Linking) (bias : ℕ) where
-  -- S, the symbol's place at the instance, or O, its offset in the TLS segment; a field that names the run time's
+  -- S, the symbol's address in the instance, or O, its offset in the TLS segment; a field that names the run time's
   -- function lies in a sequence, of which no byte is read
   abbrev pub symbol_number : RelocationKind → Option Binding → ℕ
   symbol_number kind (Some (Here found)) = if is_offset kind then offset l found else address l found + bias
   symbol_number kind bound = 0
 
-  -- what is subtracted from an offset from the thread pointer
+  -- the number that is subtracted from an offset from the thread pointer
   abbrev pub subtracted_from : FieldValue → ℕ
   subtracted_from ThreadOffset = block_offset l
   subtracted_from value = 0
@@ -51,7 +51,7 @@ module _ (l : Linking) (bias : ℕ) where
   abbrev pub subtracted : RelocationKind → ℕ
   subtracted kind = subtracted_from (row kind).value
 
-  -- what the field of a relocation of section s of object o holds at the instance's place
+  -- the field of a relocation of section s of object o, at the instance's address
   unfoldable pub value_of : ℕ → ℕ → Relocation → Option Field
   value_of o s r =
       stored_field r.kind (symbol_number r.kind (binding l o r)) r.addend (place l o s r.offset + bias) (subtracted r.kind)
@@ -62,13 +62,13 @@ module _ (l : Linking) (bias : ℕ) where
   byte_by o s k None = slice_index_or (section_bytes (object l o) s) k 0
   byte_by o s k (Some r) = slice_index_or (field_bytes (unwrap_or (value_of o s r) Empty)) (k - r.offset) 0
 
-  -- a byte of a section: of the field that covers it, else the section's own
+  -- a byte of a section: that of the field that covers it, or else the section's own
   abbrev pub byte_of : Option Spot → ℕ
   byte_of None = 0
   byte_of (Some spot) = byte_by spot.object spot.section spot.within
       (find (λ r. has_value r.kind && covers spot.within r) (relocations (object l spot.object) spot.section))
 
-  -- the bytes of a class, from where it begins to where it ends; between sections they are zeros
+  -- the bytes of a class, from its start to its end; between sections they are zeros
   unfoldable pub class_bytes : SectionClass → List ℕ
   class_bytes class =
       let extent = extent_for class (layout l) in
@@ -81,7 +81,7 @@ module _ (l : Linking) (bias : ℕ) where
 
 -- ** functions and variables
 
--- a symbol of object o that lies so far behind the start of its section, if it is a byte of the executable class
+-- a symbol of object o at this offset in its section, if it is a byte of the executable class
 abbrev pub below : ℕ → ℕ → Option ℕ
 below end at = if nat_lt at end then Some at else None
 
@@ -98,7 +98,7 @@ abbrev pub variable_at : Linking → SymbolRef → Option ℕ
 variable_at l found =
     if is_tls_symbol (object l found.object) found.symbol then Some (offset l found) else None
 
--- where a function begins by its name, before its image is moved, and how far into a block a variable lies
+-- the address of a function by its name, before the load bias is added, and the offset of a variable in a block
 unfoldable pub function_of : Linking → List ℕ → Option ℕ
 function_of l name = option_and_then (function_at l) (definition_of l.objects name)
 

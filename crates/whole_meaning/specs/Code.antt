@@ -1,4 +1,4 @@
--- What each place of an instance's code is, and which sequence begins there.
+-- The mark of each address of an instance's code, and the sequence that begins there.
 use Rattle.std.specs.Prelude.{ℕ, pos, ◌+ℤ◌, ◌+◌, ◌-◌, ◌*◌, ◌%◌, ◌^◌, ◌==◌, ◌&&◌, Bool, List, Option, Some, None, nat_le, nat_lt, unwrap_or, option_map, option_and_then}
 use Rattle.std.specs.List.{find}
 use Rattle.amd64_subset.specs.Register.{register_of as numbered_register}
@@ -40,18 +40,18 @@ starts_at s k site = (site.section == s) && (site.start == k)
 
 -- ** marks
 
--- bias: how far the instance is moved
+-- bias: the instance's load bias
 module _ (l : Linking) (bias : ℕ) where
-  -- O + A, a whole number of either sign, as a word
+  -- O + A, an integer that may be negative, as a word
   abbrev pub offset_number : Relocation → Option Binding → ℕ
   offset_number r (Some (Here found)) = modulo (2 ^ 64) (pos (offset l found) +ℤ r.addend)
   offset_number r bound = 0
 
-  -- S at the instance's place
+  -- S at the instance's address
   abbrev pub address_number : Relocation → Option Binding → ℕ
   address_number r bound = symbol_number l bias r.kind bound % 2 ^ 64
 
-  -- byte k of the field of a relocation, by what it holds and which entry it reaches
+  -- byte k of the field of a relocation, by its value and the table entry that it reaches
   abbrev pub mark_for : ℕ → Relocation → Option Binding → FieldValue → TableEntry → Mark
   mark_for k r bound SegmentOffset entry = Offset (offset_number r bound) (k - r.offset)
   mark_for k r bound value AddressWord = Address (address_number r bound) r.addend (k - r.offset)
@@ -75,18 +75,18 @@ module _ (l : Linking) (bias : ℕ) where
       (relocated_mark spot.object spot.within
       (find (covers spot.within) (relocations (object l spot.object) spot.section)))
 
-  -- what a place of the instance is
+  -- the mark of an address of the instance
   unfoldable pub mark_of : ℕ → Mark
   mark_of place = spot_mark (moved_spot l Executable bias place)
 
 -- ** symbols as numbers
 
--- a symbol of an object of an image, as a number that no other symbol has where an image has fewer than 2^32 objects,
+-- a symbol of an object of an image, as a number that no other symbol has, if an image has fewer than 2^32 objects,
 -- and an object fewer than 2^24 symbols
 abbrev pub definition_number : ℕ → SymbolRef → ℕ
 definition_number image found = (image * 2 ^ 32 + found.object) * 2 ^ 24 + found.symbol
 
--- ** the sequence that begins at a place
+-- ** the sequence that begins at an address
 
 -- a variable: the instance in whose blocks it lies, its offset there, and its definition's number
 pub record Variable : Type 0 where
@@ -97,16 +97,16 @@ pub record Variable : Type 0 where
 abbrev pub no_variable : Variable
 no_variable = record { target = 0; offset = 0; symbol = 0 }
 
--- that of a definition of image l, which is of this number, and of which this is the instance
+-- the variable of a definition of image l, which has this number and this instance
 abbrev pub defined_in : Linking → ℕ → ℕ → SymbolRef → Variable
 defined_in l image number found =
     record { target = number; offset = offset l found; symbol = definition_number image found }
 
--- a startup image and its instance have one number
+-- a startup image and its instance have the same number
 abbrev pub shared_by : List ℕ → ℕ → Linking → Option Variable
 shared_by name image l = option_map (defined_in l image image) (definition_of l.objects name)
 
--- ls: the images of the job; image, number: those of the instance whose code it is
+-- ls: the images of the job; image, number: those of the instance whose code it is in
 module _ (ls : List Linking) (image number : ℕ) where
   abbrev pub variable_by : Linking → ℕ → Site → Option Binding → Option Variable
   variable_by l o site (Some (Here found)) = Some (defined_in l image number found)
@@ -114,7 +114,7 @@ module _ (ls : List Linking) (image number : ℕ) where
       option_and_then (shared_by (symbol_name (object l o) site.symbol) k) (at_number ls k)
   variable_by l o site bound = None
 
-  -- a local dynamic sequence asks for the block of its own instance, whatever symbol it names
+  -- a Local Dynamic sequence asks for the block of its own instance, whatever symbol it names
   abbrev pub variable_for : Linking → ℕ → Site → Form → Option Variable
   variable_for l o site Ld = Some (record { target = number; offset = 0; symbol = 0 })
   variable_for l o site LdInd = Some (record { target = number; offset = 0; symbol = 0 })
@@ -136,7 +136,7 @@ module _ (ls : List Linking) (image number : ℕ) where
       (λ site. sequence_with place site (unwrap_or (variable_for l spot.object site site.form) no_variable))
       (find (starts_at spot.section spot.within) (sites_at l spot.object))
 
-  -- that of the image's instance at a place, if one begins there
+  -- the sequence at an address of the image's instance, if one begins there
   unfoldable pub sequence_of : Linking → ℕ → Option Sequence
   sequence_of l place =
       option_and_then (sequence_in l place) (moved_spot l Executable (bias_of l.kind number) place)

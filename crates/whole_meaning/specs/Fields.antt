@@ -1,4 +1,4 @@
--- What an instruction may do with a field that stands in it: a number that only the linker knows.
+-- What an instruction may do with a field in it that holds a number which only the linker knows.
 use Rattle.std.specs.Prelude.{ℕ, ℤ, pos, negsuc, suc, ◌-◌, ◌%◌, ◌^◌, ◌==◌, ◌&&◌, ◌||◌, Bool, true, false, not, nat_lt, Option, Some, None, option_and_then, Result, Ok, Err, if◌then◌else◌}
 use Rattle.amd64_subset.specs.declared.instr.Arithmetic.TheVariants.{Add, Compare}
 use Rattle.amd64_subset.specs.declared.instr.Decoded.{Decoded}
@@ -77,28 +77,28 @@ read_in operation = None
 
 -- ** the numbers of fields
 
--- an offset field begins there
+-- an offset field begins here
 abbrev pub starts_offset : Mark → Bool
 starts_offset Usual = false
 starts_offset (Offset number byte) = byte == 0
 starts_offset (Address number addend byte) = false
 starts_offset Inside = false
 
--- where an offset field begins its own number stands, and else what was read
+-- the field's own number if an offset field begins here, and else what was decoded
 abbrev pub field_number : Mark → ℕ → ℕ
 field_number Usual read = read
 field_number (Offset number byte) read = if byte == 0 then number else read
 field_number (Address number addend byte) read = read
 field_number Inside read = read
 
--- the address that an address field stands for, where one begins
+-- the address that an address field stands for, if one begins here
 abbrev pub field_address : Mark → Option ℕ
 field_address Usual = None
 field_address (Offset number byte) = None
 field_address (Address number addend byte) = if byte == 0 then Some number else None
 field_address Inside = None
 
--- an addend is minus so many
+-- an addend is minus this many
 abbrev pub is_minus : ℤ → ℕ → Bool
 is_minus (pos n) size = false
 is_minus (negsuc n) size = suc n == size
@@ -118,12 +118,12 @@ reads_next None = false
 reads_next (Some memory) = is_from_next memory.base && not memory.from_thread_pointer
 
 module _ (mark : ℕ → Mark) where
-  -- the number of a displacement or an immediate of four bytes, which begins there in an instruction
+  -- the number of a displacement or an immediate of four bytes that begins here in an instruction
   abbrev pub number_in : ℕ → Option ℕ → ℕ → ℕ
   number_in here None read = read
   number_in here (Some at) read = field_number (mark (plus here at)) read
 
-  -- what stands around an instruction: a field's own number in its place
+  -- the frame of an instruction, with a field's own number in its place
   unfoldable pub marked_frame : ℕ → Decoded → Frame
   marked_frame here it = record (frame_of (λ place. starts_offset (mark place)) here it) {
     displacement = number_in here it.disp it.instr.displacement;
@@ -157,28 +157,28 @@ module _ {W F B : Type 0} (ops : Operations W F B) (mark : ℕ → Mark) (state 
 
   -- ** address fields
 
-  -- an address field may begin at byte k: as the displacement of an operand that is read, where its addend leads from
-  -- the field to the next instruction
+  -- an address field may begin at byte k: as the displacement of an operand that is read, if its addend leads from the
+  -- field to the next instruction
   abbrev pub takes_address : ℤ → ℕ → Decoded → Bool
   takes_address addend k it =
       (is_at it.disp k && reads_next (read_in it.instr.operation)) && is_minus addend (it.len - k)
 
--- an address field's word stands at address 0 for the step, where nothing else is: what the object has in the field's
--- place counts for nothing
+-- for the step, an address field's word lies at address 0, and nothing else does: the object's bytes in the field are
+-- ignored
 abbrev pub lent_frame : Option ℕ → Frame → Frame
 lent_frame None frame = frame
 lent_frame (Some number) frame = record frame { displacement = (2 ^ 64 - frame.next) % 2 ^ 64 }
 
 module _ {W F B : Type 0} (ops : Operations W F B) where
-  -- byte k of a word that is lent, and behind its eight bytes what is there
+  -- byte k of a word that is lent, and after its eight bytes what the memory has
   abbrev pub lent_byte : ℕ → ℕ → Result B Refusal → Result B Refusal
   lent_byte number k other = if nat_lt k 8 then Ok (ops.byte_of (ops.word number) k) else other
 
-  -- a memory with a word lent at address 0, to be read alone
+  -- a memory with a word lent at address 0, which can only be read
   abbrev pub lent_at : {M : Type 0} → Accesses M B → ℕ → Accesses M B
   lent_at acc number = record acc { byte = λ memory place. lent_byte number place (acc.byte memory place) }
 
--- the word that an address field stands for is the operand; no memory is touched for it
+-- the word that an address field stands for is the operand; no memory is accessed for it
 module _ {W F M B : Type 0} (ops : Operations W F B) (acc : Accesses M B) where
   abbrev pub lent : Option ℕ → Accesses M B
   lent None = acc

@@ -1,5 +1,5 @@
--- What all threads of a job mean, and whether that is clean: the turns are those of the machine's threads, in the same
--- order, and the data goes from turn to turn.
+-- What all threads of a job mean, and whether that is clean. The turns are those of the machine's threads, in the same
+-- order, and the data go from turn to turn.
 use Rattle.std.specs.Prelude.{ℕ, ◌+◌, ◌*◌, ◌++◌, true, suc, List, [], ◌∷◌, codes, map, Option, Some, None}
 use Rattle.std.specs.Fmt.{decimal}
 use Rattle.std.specs.List.{flat_map}
@@ -31,20 +31,19 @@ module _ (m : Meaning) where
   ready_from thread (lines ∷ more) =
       ready (meant_ready m thread) (numbered_lines 1 lines) ∷ ready_from (suc thread) more
 
-  -- before the first turn the data is that of the images that start with the program
+  -- before the first turn the data are those of the startup images
   abbrev pub first_data : List (Owned Byte)
   first_data = flat_map (data_after m.loads (λ x. true) []) (instances m.loads [])
 
   abbrev pub job_start : List (List ThreadLine) → Shared Word Flag Byte Line
   job_start lines = record { threads = ready_from 1 lines; events = []; shared = first_data }
 
-  -- all turns of a job: as many for each thread as the machine's may want; a thread that has come to its end does
-  -- nothing in a turn
+  -- all turns of a job: as many for each thread as the machine's may need; a finished thread does nothing in a turn
   unfoldable pub meant_world : ℕ → List (List ThreadLine) → List ℕ → Shared Word Flag Byte Line
   meant_world fuel lines order = shared_order (λ thread. meant_turns m thread fuel) (λ thread. event_by m.loads thread)
       (whole_order (4 * fuel) lines order) (job_start lines)
 
--- what each thread says of its lines
+-- the lines of each thread
 abbrev pub lines_of : Shared Word Flag Byte Line → List (List Said)
 lines_of w = map (λ t. t.said) w.threads
 
@@ -68,16 +67,16 @@ abbrev pub first_in : ℕ → ℕ → List Said → Option UncleanStep
 first_in thread line [] = None
 first_in thread line (said ∷ more) = option_or (unclean_ending thread line said.ending) (first_in thread (line + 1) more)
 
--- that of the lowest thread from this number on
+-- the first of the lowest thread from this number on
 abbrev pub first_from : ℕ → List (List Said) → Option UncleanStep
 first_from thread [] = None
 first_from thread (said ∷ more) = option_or (first_in thread 1 said) (first_from (thread + 1) more)
 
--- the first unclean step of the lowest thread that has one; a job without is clean
+-- the first unclean step of the lowest thread that has one; a job without one is clean
 unfoldable pub verdict_of : List (List Said) → Option UncleanStep
 verdict_of said = first_from 1 said
 
--- ** how it is told
+-- ** the printed verdict
 
 abbrev pub cause_name : Cause → List ℕ
 cause_name cause.Inside = codes "inside"

@@ -1,4 +1,4 @@
--- What is so of the meaning, in words that know nothing of how it is defined.
+-- Laws of the meaning.
 use Rattle.std.specs.Prelude.{◌≡◌, ◌<◌, ◌^◌, ℕ, true, false, Ok}
 use Rattle.guest_operands.specs.declared.state.State.{State}
 use Rattle.guest_operands.specs.Use.{After, plus}
@@ -18,14 +18,14 @@ use Rattle.whole_meaning.specs.Sequences.{Stack, does}
 use Rattle.whole_meaning.specs.declared.sequences.Sequence.{Sequence}
 use Rattle.whole_meaning.specs.Threads.{Memory}
 
--- the forms of a general dynamic sequence
+-- the forms of a General Dynamic sequence
 abbrev pub IsGeneral : Form → Type 0
 IsGeneral Gd = Unit {0}
 IsGeneral GdInd = Unit {0}
 IsGeneral form = ⊥
 
--- what a general dynamic sequence leaves in %rax is what the call of a descriptor leaves there for the same offset in the
--- same block, and the thread pointer, wherever both are done
+-- a General Dynamic sequence leaves in %rax what the call of a descriptor leaves there for the same offset in the same
+-- block, plus the thread pointer, if both are done
 abbrev pub AnswersAgree : Type 0
 AnswersAgree = (stack : Stack Memory) (thread start : ℕ) (form : Form) (general descriptor : Sequence)
     (state state' : State Word Flag) (memory memory' : Memory) (after after' : After Word Flag Memory)
@@ -35,14 +35,14 @@ AnswersAgree = (stack : Stack Memory) (thread start : ℕ) (form : Form) (genera
     → (distance : ℕ) × (after'.state.registers.rax ≡ Number distance)
     × (after.state.registers.rax ≡ Number (plus distance state'.thread_pointer))
 
--- and so does the run time: what `__tls_get_addr` answers is what a descriptor's function answers, and the thread pointer
+-- the run time does so too: `__tls_get_addr` returns what a descriptor's function returns, plus the thread pointer
 abbrev pub RunTimeAnswersAgree : Type 0
 RunTimeAnswersAgree = (l : Loads ℕ) (thread : ℕ) (general descriptor : Asked) (x : Instance)
     → pointer_of thread < 2 ^ 64 → general.offset ≡ descriptor.offset
     → general.is_descriptor ≡ false → descriptor.is_descriptor ≡ true
     → plus (answer_word l thread descriptor x) (pointer_of thread) ≡ answer_word l thread general x
 
--- symbols of images have numbers of their own, where an image has fewer than 2^32 objects and an object fewer than 2^24
+-- no two symbols of images have the same number, if an image has fewer than 2^32 objects and an object fewer than 2^24
 -- symbols
 abbrev pub NumbersAreOwn : Type 0
 NumbersAreOwn = (image image' : ℕ) (x y : SymbolRef) → x.object < 2 ^ 32 → y.object < 2 ^ 32

@@ -1,5 +1,5 @@
--- The meaning of a job's images, made of their objects: each section of a live instance at its place. There is no table
--- of a linker's, no module id, and nothing that a loader would write.
+-- What is loaded of a job's images in the meaning, made of their objects: each section of a live instance at its
+-- address. There is no table that a linker makes, no module id, and nothing that a loader would write.
 use Rattle.std.specs.Prelude.{ℕ, ◌+◌, ◌&&◌, Bool, true, false, List, [], ◌∷◌, Option, Some, None, map, nat_lt, option_and_then, option_map, if◌then◌else◌}
 use Rattle.std.specs.List.{list_any}
 use Rattle.guest_machine.specs.Ranges.{Range}
@@ -34,7 +34,7 @@ is_initial IeMov = true
 is_initial IeAdd = true
 is_initial form = false
 
--- a module that does wants its blocks below the thread pointer
+-- a module whose code does so needs its blocks below the thread pointer
 unfoldable pub wants_surplus : Linking → Bool
 wants_surplus l = is_module l.kind && list_any (λ own. list_any (λ (site : Site). is_initial site.form) own) l.sites
 
@@ -48,7 +48,7 @@ info_of l = record {
 
 -- ** what is loaded of an instance
 
--- the bytes of a class at an instance's place
+-- the bytes of a class at an instance's address
 abbrev pub class_range : Linking → ℕ → SectionClass → Range Byte
 class_range l bias class = record {
   start = (extent_for class (layout l)).start + bias;
@@ -80,7 +80,7 @@ has_data l = let extent = extent_for (Writable true) (layout l) in nat_lt extent
 abbrev pub data_ranges : Linking → ℕ → Option (Range Byte)
 data_ranges l bias = if has_data l then Some (data_range l bias) else None
 
--- of an instance's image, if there is one
+-- for an instance's image, if there is one
 abbrev pub at_bias : {A : Type 0} → A → (Linking → ℕ → A) → ℕ → Option Linking → A
 at_bias none f number None = none
 at_bias none f number (Some l) = f l (bias_of l.kind number)

@@ -1,4 +1,4 @@
--- How the meaning reads and does an instruction, where code has fields that only the linker knows and sequences.
+-- How the meaning decodes and does an instruction, in code with sequences and with fields that only the linker knows.
 use Rattle.std.specs.Prelude.{ℕ, zero, suc, ◌+◌, ◌-◌, ◌&&◌, Bool, true, List, length, take, nat_le, Option, Some, None, Result, Err, if◌then◌else◌}
 use Rattle.std.specs.List.{list_any}
 use Rattle.std.specs.Option.{option_or}
@@ -28,7 +28,8 @@ module _ {W F B : Type 0} (ops : Operations W F B) (mark : ℕ → Mark) (state 
   abbrev pub unless_taken : Bool → Option Cause
   unless_taken taken = if taken then None else Some cause.Field
 
-  -- why byte k of an instruction may not be read: it is of a sequence, or of a field that the instruction may not cover
+  -- why byte k of an instruction may not be read: it lies in a sequence, or in a field that the instruction may not
+  -- cover
   abbrev pub hindrance_of : Option Decoded → ℕ → Mark → Option Cause
   hindrance_of it k Usual = None
   hindrance_of None k (Offset number byte) = Some cause.Field
@@ -39,24 +40,23 @@ module _ {W F B : Type 0} (ops : Operations W F B) (mark : ℕ → Mark) (state 
       unless_taken (nat_le byte k && takes_address ops mark state addend (k - byte) it)
   hindrance_of it k Inside = Some cause.Inside
 
-  -- the same where the bytes before it spell no instruction and may yet begin one; where they do or cannot, it is not
-  -- read
+  -- the same if the bytes before it are a proper prefix of a spelling; otherwise byte k is not read
   abbrev pub hindered : List ℕ → ℕ → Option Cause
   hindered bytes k =
       if begins_of (take k bytes) then hindrance_of (completed bytes) k (mark (place_at state.place k)) else None
 
-  -- the first hindrance from byte k on, of so many more
+  -- the first hindrance from byte k on, in this many more bytes
   abbrev pub first_hindrance : List ℕ → ℕ → ℕ → Option Cause
   first_hindrance bytes k zero = hindered bytes k
   first_hindrance bytes k (suc more) = option_or (hindered bytes k) (first_hindrance bytes (k + 1) more)
 
-  -- a hindrance in the bytes, or behind the last of them
+  -- a hindrance in the bytes, or right after the last of them
   unfoldable pub hindrance : List ℕ → Option Cause
   hindrance bytes = first_hindrance bytes 0 (length bytes)
 
   -- ** data
 
-  -- the accesses of an instruction, but for the operand that its address field stands for
+  -- the accesses of an instruction, except that to the operand which its address field stands for
   abbrev pub own_touches : Option Decoded → Touches
   own_touches None = paired None None
   own_touches (Some it) = without_operand (address_at mark state.place it.disp)
@@ -65,7 +65,7 @@ module _ {W F B : Type 0} (ops : Operations W F B) (mark : ℕ → Mark) (state 
 module _ {W F B M : Type 0} (ops : Operations W F B) (acc : Accesses M B) (mark : ℕ → Mark) where
   -- ** doing
 
-  -- an instruction that was read
+  -- an instruction that was decoded
   abbrev pub acted : Frame → Decoded → State W F → M → Result (After W F M) Stop
   acted frame it state memory = let number = address_at mark state.place it.disp in
       act ops (lent ops acc number) (lent_frame number frame) it.instr.operation state memory
@@ -75,18 +75,18 @@ module _ {W F B M : Type 0} (ops : Operations W F B) (acc : Accesses M B) (mark 
   done None None state memory = Err (Code state.place)
   done None (Some it) state memory = acted (marked_frame mark state.place it) it state memory
 
-  -- one step where no sequence begins
+  -- one step at an address where no sequence begins
   unfoldable pub plain_step : State W F → M → Result (After W F M) Stop
   plain_step state memory = done (hindrance ops mark state (fetch_of acc memory state.place))
       (decoded (fetch_of acc memory state.place)) state memory
 
-  -- shut: the places that are the linker's own
+  -- shut: the addresses that are the linker's own
   module _ (shut : ℕ → Bool) where
-    -- an instruction begins there, or touches a data byte there
+    -- an instruction begins at such an address, or touches a data byte at one
     unfoldable pub reaches_linker : State W F → M → Bool
     reaches_linker state memory = if shut state.place then true else
         list_any shut (touched acc memory (own_touches ops mark state (decoded (fetch_of acc memory state.place))))
 
-    -- one step of the meaning where no sequence begins
+    -- one step of the meaning at an address where no sequence begins
     unfoldable pub marked_step : State W F → M → Result (After W F M) Stop
     marked_step state memory = beside_linker (reaches_linker state memory) state.place (plain_step state memory)

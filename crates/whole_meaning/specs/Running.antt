@@ -10,8 +10,8 @@ use Rattle.guest_machine.specs.Run.{Next, Goes, Ends, Looks, Stepping, next_of, 
 use Rattle.whole_meaning.specs.declared.marks.Mark.{Mark}
 use Rattle.whole_meaning.specs.Reading.{marked_step}
 
--- a step that may not be made any more is asked for its cause, without its effect and without a look; where it has
--- none, steps are what is wanting
+-- a step past the limit is asked for its cause, without its effect and without a look; if it has none, the cause is
+-- the limit of steps
 abbrev pub asked_stop : ℕ → Stop → Stop
 asked_stop place (Returned number) = Unclean place cause.Steps
 asked_stop place (Look at) = Unclean place cause.Steps
@@ -29,8 +29,8 @@ abbrev pub sequence_or : {S : Type 0} → Option (Next S) → Next S → Next S
 sequence_or None next = next
 sequence_or (Some sequence) next = sequence
 
--- mark: what each place of code is, in a memory; shut: which places are the linker's own; sequence: what the sequence
--- does that begins where the thread is, if one does
+-- mark: the mark of each address, in a memory; shut: the addresses that are the linker's own; sequence: the step of
+-- the sequence that begins where the thread is, if one does
 module _ {W F B M : Type 0} (ops : Operations W F B) (acc : Accesses M B) (mark : M → ℕ → Mark)
     (shut : M → ℕ → Bool) (sequence : After W F M → Option (Next (After W F M))) where
   abbrev pub meant_step : After W F M → Next (After W F M)

@@ -1,5 +1,5 @@
--- The step of a sequence, each form by a sentence of its own (Drepper, "ELF Handling For Thread-Local Storage",
--- section 4; psABI, "Thread-Local Storage"): what it finds, what it leaves unknown, and what it asks of the stack.
+-- The step of a sequence, with one definition for each form (Drepper, "ELF Handling For Thread-Local Storage", section
+-- 4; psABI, "Thread-Local Storage"): what it finds, what it leaves unknown, and how much stack it needs.
 use Rattle.std.specs.Prelude.{ℕ, ◌-◌, ◌^◌, Bool, true, false, Result, Ok, Err, if◌then◌else◌}
 use Rattle.std.specs.List.{list_all}
 use Rattle.guest_arithmetic.specs.declared.cause.Cause.{Cause}
@@ -22,14 +22,14 @@ use Rattle.sequence_forms.specs.declared.forms.Form.{Form}
 use Rattle.sequence_forms.specs.declared.forms.Form.TheVariants.{Gd, Ld, IeMov, IeAdd, GdInd, LdInd, DescLea, DescCall}
 use Rattle.whole_meaning.specs.declared.sequences.Sequence.{Sequence}
 
--- what a thread's memory says of its stack
+-- the stack in a thread's memory
 pub record Stack (M : Type 0) : Type 0 where
-  -- the byte at a place is one of the stack
+  -- the byte at an address lies on the stack
   pub holds : M → ℕ → Bool
-  -- nothing is known any more of the stack's bytes below a place
+  -- the memory with the stack's bytes below an address unknown
   pub forget : M → ℕ → M
 
--- ** what it asks
+-- ** what it needs
 
 module _ {M : Type 0} (stack : Stack M) where
   -- the eight bytes below %rsp are stack
@@ -42,7 +42,7 @@ module _ {M : Type 0} (stack : Stack M) where
   room_below memory (Ok number) = has_room memory number
   room_below memory (Err why) = Err why
 
-  -- where %rsp points, with room for a return address below
+  -- %rsp, with room for a return address below it
   abbrev pub stack_use : State Word Flag → M → Result ℕ Cause
   stack_use state memory = room_below memory (used_number state.registers.rsp)
 
@@ -65,7 +65,7 @@ without_flags state = record state { flags = no_flags }
 abbrev pub with_answer : Word → State Word Flag → State Word Flag
 with_answer word state = record state { registers = record state.registers { rax = word } }
 
--- a call leaves its caller these registers unknown (psABI, "Registers and the Stack Frame"), and the flags
+-- a call leaves these registers unknown to its caller (psABI, "Registers and the Stack Frame"), and the flags
 abbrev pub after_call : State Word Flag → State Word Flag
 after_call state = without_flags (record state {
   registers = record state.registers {
@@ -82,7 +82,7 @@ after_call state = without_flags (record state {
 
 -- ** the step
 
--- start: where the thread's block of the target's instance begins
+-- start: the address of the thread's block of the target's instance
 module _ (s : Sequence) (start : ℕ) where
   -- the address of the variable, and its distance from the thread pointer
   abbrev pub variable_address : ℕ
@@ -93,11 +93,11 @@ module _ (s : Sequence) (start : ℕ) where
 
 -- thread: the thread that runs it
 module _ {M : Type 0} (stack : Stack M) (s : Sequence) (thread start : ℕ) where
-  -- the base of the thread's own block
+  -- the base of the thread's block of the code's own instance
   abbrev pub own_base : Word
   own_base = Marked (Base (record { thread = thread; instance = s.instance; start = start }))
 
-  -- %rax holds the answer, and below %rsp nothing is known
+  -- %rax holds the answer, and nothing is known below %rsp
   abbrev pub called_with : Word → State Word Flag → M → Result (After Word Flag M) Stop
   called_with word state memory = do
     below ← clean state.place (stack_use stack state memory)
@@ -126,14 +126,14 @@ module _ {M : Type 0} (stack : Stack M) (s : Sequence) (thread start : ℕ) wher
   abbrev pub descriptor_calls : State Word Flag → M → Result (Unit {0} × ℕ) Cause
   descriptor_calls state memory = both (descriptor_use s state.registers.rax) (stack_use stack state memory)
 
-  -- %rax held the descriptor and holds the distance, the flags are unknown, and below %rsp nothing is known
+  -- %rax held the descriptor and holds the distance, the flags are unknown, and nothing is known below %rsp
   abbrev pub descriptor_called : State Word Flag → M → Result (After Word Flag M) Stop
   descriptor_called state memory = do
     uses ← clean state.place (descriptor_calls state memory)
     Ok (left (at_place (without_flags (with_answer (Number (variable_distance s start state.thread_pointer)) state)) s.next)
         (stack.forget memory uses.1))
 
-  -- what the form does
+  -- the step of each form
   abbrev pub does : Form → State Word Flag → M → Result (After Word Flag M) Stop
   does Gd state memory = called_with (Number (variable_address s start)) state memory
   does GdInd state memory = called_with (Number (variable_address s start)) state memory
@@ -147,7 +147,7 @@ module _ {M : Type 0} (stack : Stack M) (s : Sequence) (thread start : ℕ) wher
   unfoldable pub sequence_result : State Word Flag → M → Result (After Word Flag M) Stop
   sequence_result state memory = does s.form state memory
 
--- the forms that ask the run time, and look if their variable came late
+-- the forms that call the run time, and look if their variable's instance is not a startup one
 abbrev pub asks : Form → Bool
 asks Gd = true
 asks GdInd = true
@@ -158,7 +158,7 @@ asks IeMov = false
 asks IeAdd = false
 asks DescLea = false
 
--- a look changes nothing, and is made only where all else is well
+-- a look changes nothing, and is made only if the rest of the step is clean
 abbrev pub looks_first : {W F M : Type 0} → Bool → After W F M → Result (After W F M) Stop → Next (After W F M)
 looks_first false at result = next_of result
 looks_first true at (Ok after) = Looks at

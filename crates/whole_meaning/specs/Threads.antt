@@ -1,5 +1,5 @@
--- What a thread means: its steps, its looks and its lines. The lines, looks, blocks and data are those of the machine's
--- threads, over marked values; the steps have sequences besides.
+-- What a thread means: its steps, its looks and its lines. The lines, looks, blocks and data are those of the
+-- machine's threads, over marked values; the steps also have sequences.
 use Rattle.std.specs.Prelude.{ℕ, ◌+◌, ◌-◌, ◌++◌, ◌&&◌, ◌==◌, Bool, true, false, List, [], ◌∷◌, drop, Option, Some, None, Result, Ok, Err, nat_lt, position, replicate, unwrap_or, option_and_then, option_map, if◌then◌else◌}
 use Rattle.std.specs.List.{list_any}
 use Rattle.std.specs.Option.{option_or}
@@ -43,7 +43,7 @@ use Rattle.whole_meaning.specs.Running.{meaning}
 use Rattle.whole_meaning.specs.Sequences.{Stack, asks, looks_first, sequence_result}
 use Rattle.whole_meaning.specs.declared.sequences.Sequence.{Sequence}
 
--- the operations of marked values; whose code stands at a place, its address says
+-- the operations of marked values; an address tells whose code lies there
 abbrev pub ops : Operations Word Flag Byte
 ops = marked_operations owner_at
 
@@ -54,14 +54,14 @@ Memory = Space Event Byte
 abbrev pub Meant : Type 0
 Meant = Held Word Flag Byte
 
--- a stack of whose lowest bytes nothing is known
+-- a stack whose lowest bytes are unknown
 abbrev pub hidden_below : ℕ → List Byte → List Byte
 hidden_below count stack = replicate count Hidden ++ drop count stack
 
 module _ (m : Meaning) (thread : ℕ) where
   -- ** memory
 
-  -- what a thread's memory lets it do
+  -- the accesses that a thread's memory offers
   unfoldable pub meant_accesses : Accesses Memory Byte
   meant_accesses = space_accesses ops (stack_start thread)
       (λ seen. pointer_word ops thread ∷ fixed_at m.loads seen) open_everywhere
@@ -76,7 +76,7 @@ module _ (m : Meaning) (thread : ℕ) where
 
   -- ** code
 
-  -- the live instance whose code stands at a place
+  -- the live instance whose code lies at an address
   abbrev pub code_owner : List Event → ℕ → Option Instance
   code_owner seen place = numbered_instance m.loads seen (owner_at place)
 
@@ -84,11 +84,11 @@ module _ (m : Meaning) (thread : ℕ) where
   marked_in place None = Usual
   marked_in place (Some x) = m.mark x place
 
-  -- what a place of code is, where the events were seen
+  -- the mark of an address of code, after the events that the thread has seen
   abbrev pub meant_mark : Memory → ℕ → Mark
   meant_mark space place = marked_in place (code_owner space.seen place)
 
-  -- where the run time is called, and the rooms of live instances, are the linker's own
+  -- the addresses of the run time, and the rooms of live instances, are the linker's own
   abbrev pub meant_shut : Memory → ℕ → Bool
   meant_shut space place =
       if is_look place then true else list_any (λ x. m.room x place) (instances m.loads space.seen)
@@ -98,21 +98,21 @@ module _ (m : Meaning) (thread : ℕ) where
   abbrev pub sequence_at : List Event → ℕ → Option Sequence
   sequence_at seen place = option_and_then (λ x. m.sequence x place) (code_owner seen place)
 
-  -- an instance that did not start with the program
+  -- an instance that is not a startup one
   abbrev pub came_late : ℕ → Bool
   came_late number = nat_lt (startup_count m.loads.infos) number
 
-  -- where the thread's block of an instance begins
+  -- the address of the thread's block of an instance
   abbrev pub start_in : Option Instance → ℕ
   start_in None = 0
   start_in (Some x) = block_start thread x
 
-  -- what a sequence does, a look aside
+  -- the step of a sequence, without a look
   abbrev pub sequence_does : Sequence → After Word Flag Memory → Result (After Word Flag Memory) Stop
   sequence_does s at = sequence_result meant_stack s thread
       (start_in (numbered_instance m.loads at.memory.seen s.target)) at.state at.memory
 
-  -- one that asks the run time for a variable of an instance that came late looks first
+  -- a sequence that asks the run time for a variable of an instance that is not a startup one looks first
   abbrev pub sequence_next : After Word Flag Memory → Sequence → Next (After Word Flag Memory)
   sequence_next at s = looks_first (asks s.form && came_late s.target) at (sequence_does s at)
 
@@ -139,7 +139,7 @@ module _ (m : Meaning) (thread : ℕ) where
   resumed h (Ok after) = Calls (record h { after = after })
   resumed h (Err stop) = Says (Stopped stop) h
 
-  -- the thread reaches its block of the instance, and the sequence does what it does
+  -- the thread reaches its block of the instance, and does the sequence
   abbrev pub resumed_by : Meant → Sequence → Option Instance → Begun Meant
   resumed_by h s None = Calls h
   resumed_by h s (Some x) = let h = reached m.loads thread x h in resumed h (sequence_does s h.after)
@@ -148,7 +148,7 @@ module _ (m : Meaning) (thread : ℕ) where
   resumed_at h None = Calls h
   resumed_at h (Some s) = resumed_by h s (numbered_instance m.loads h.after.memory.seen s.target)
 
-  -- where the instance is gone whose code asks, nothing is found
+  -- if the instance whose code asks is closed, nothing is found
   abbrev pub resumed_for : Meant → Option Instance → Begun Meant
   resumed_for h None = Says (Answered (Fault Unloaded)) h
   resumed_for h (Some x) = resumed_at h (sequence_at h.after.memory.seen h.after.state.place)
@@ -159,7 +159,7 @@ module _ (m : Meaning) (thread : ℕ) where
 
   -- ** bytes that a line shows
 
-  -- why a byte is no number
+  -- why a byte is not a number
   abbrev pub byte_cause : Byte → Option Cause
   byte_cause (Value number) = None
   byte_cause Hidden = Some cause.Undefined
@@ -170,30 +170,30 @@ module _ (m : Meaning) (thread : ℕ) where
   is_for why None = false
   is_for why (Some other) = rank_of why == rank_of other
 
-  -- the lowest byte that is none for this cause
+  -- the lowest byte that is not a number for this cause
   abbrev pub unclean_for : ℕ → List Byte → Cause → Option Stop
   unclean_for address bytes why =
       option_map (λ k. Unclean (address + k) why) (position (λ byte. is_for why (byte_cause byte)) bytes)
 
-  -- of the causes the first, whichever byte comes first
+  -- the first of the causes, whichever byte comes first
   abbrev pub unclean_bytes : ℕ → List Byte → Stop
   unclean_bytes address bytes = unwrap_or (option_or (unclean_for address bytes cause.Undefined)
       (option_or (unclean_for address bytes cause.Base) (unclean_for address bytes cause.Descriptor)))
       (Unclean address cause.Undefined)
 
-  -- bytes from an address on: their numbers, where each has one
+  -- the bytes from an address on: their numbers, if each has one
   abbrev pub shown_as : ℕ → List Byte → Option (List ℕ) → Ending
   shown_as address bytes (Some numbers) = Answered (Bytes numbers)
   shown_as address bytes None = Stopped (unclean_bytes address bytes)
 
   -- ** lines
 
-  -- where a variable lies in the thread's block of an image's live instance
+  -- the address of a variable in the thread's block of an image's live instance
   abbrev pub variable_start : Option Instance → Option ℕ → ℕ
   variable_start (Some x) (Some offset) = block_start thread x + offset
   variable_start x offset = 0
 
-  -- where the bytes lie that a line shows
+  -- the address of the bytes that a line shows
   abbrev pub shown_at : ℕ → List Event → Action → ℕ
   shown_at image seen (Call symbol a b c) = 0
   shown_at image seen Open = 0
@@ -204,7 +204,7 @@ module _ (m : Meaning) (thread : ℕ) where
   abbrev pub meant_show : Line → List Event → List Byte → Ending
   meant_show line seen bytes = shown_as (shown_at line.told.image seen line.told.action) bytes (values_of bytes)
 
-  -- a line's first look: that of the machine's lines
+  -- a line's first look, as in the machine's lines
   unfoldable pub begin_meant : Line → List Event → Meant → Begun Meant
   begin_meant line seen h = begin_line ops m.loads (meant_show line seen) thread line seen h
 
@@ -217,7 +217,7 @@ module _ (m : Meaning) (thread : ℕ) where
     resume = λ seen h. resume_meant seen h;
   }
 
-  -- what a thread holds before its first line: its blocks of the images that start with the program
+  -- what a thread holds before its first line: its blocks of the startup images
   abbrev pub meant_ready : Meant
   meant_ready = looked m.loads thread [] (record {
     after = left (start_of ops 0 0 (Number 0) (Number 0) (Number 0)) (record { seen = []; stack = []; own = [] });

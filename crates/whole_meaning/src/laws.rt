@@ -1,8 +1,8 @@
-//! Laws of the meaning. The functions do nothing: what they ensure is the law.
+//! Laws of the meaning. Each function does nothing; what it ensures is the law.
 
 ghost use Rattle.whole_meaning.specs.Laws.{AnswersAgree, NumbersAreOwn, RunTimeAnswersAgree};
 
-/// A general dynamic sequence and the call of a descriptor find one variable at one address.
+/// A General Dynamic sequence and the call of a descriptor find one variable at one address.
 #[tactic(auto, using(crate::proofs::Answering::answers))]
 pub fn answers_agree()
     ensures { AnswersAgree }
@@ -14,7 +14,7 @@ pub fn run_time_answers_agree()
     ensures { RunTimeAnswersAgree }
 {}
 
-/// Symbols have numbers of their own.
+/// No two symbols have the same number.
 #[tactic(auto, using(crate::proofs::Numbers::own_numbers))]
 pub fn numbers_are_own()
     ensures { NumbersAreOwn }

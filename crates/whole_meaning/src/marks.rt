@@ -1,15 +1,14 @@
-//! What a place of code is.
+//! Marks of code: what is known of each byte.
 
-/// What a place of code is.
+/// The mark of a byte of code.
 #[derive(Clone, Copy, PartialEq, Eq, Debug)]
 pub enum Mark {
-    /// A byte that the program alone decides.
+    /// A byte that only the program decides.
     Usual,
-    /// A byte of an offset field: the number of the whole field, modulo 2^64, and which of its four
-    /// bytes this is, from 0.
+    /// A byte of an offset field: the number of the whole field, modulo 2^64, and the byte's index in the field, from
+    /// 0 to 3.
     Offset(u64, u8),
-    /// A byte of an address field: the address that its word holds, its addend, and which of its
-    /// four bytes this is.
+    /// A byte of an address field: the address that its word holds, its addend, and the byte's index in the field.
     Address(u64, i64, u8),
     /// A byte of a sequence.
     Inside,

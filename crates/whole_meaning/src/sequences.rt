@@ -1,22 +1,22 @@
-//! A sequence of an instance's code.
+//! A sequence in an instance's code.
 
 use amd64_words::Register;
 use sequence_forms::Form;
 
-/// A sequence of an instance's code.
+/// A sequence in an instance's code.
 #[derive(Clone, Copy, Debug)]
 pub struct Sequence {
     pub form: Form,
-    /// Where it ends.
+    /// The address after its last byte.
     pub next: u64,
-    /// The register that it names, of the forms that name one.
+    /// The register that it names, for the forms that name one.
     pub register: Register,
-    /// The number of the instance whose code it is.
+    /// The number of the instance whose code it is in.
     pub instance: u64,
-    /// The symbol that it names, as a number that no other symbol has.
+    /// The number of the symbol that it names. No other symbol has it.
     pub symbol: u64,
     /// The number of the instance whose blocks hold the variable.
     pub target: u64,
-    /// How far into a block the variable lies.
+    /// The variable's offset in a block.
     pub offset: u64,
 }
