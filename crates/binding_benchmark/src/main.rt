@@ -34,7 +34,7 @@ fn names(alloc: Global, object: u32) -> Result<Vec<String>, AllocError> {
     Ok(names)
 }
 
-/// Symbols that define variables, and behind them those of variables that are used.
+/// Symbols that define variables, and after them those of variables that are used.
 fn symbols<'a>(
     alloc: Global,
     own: &'a [String],

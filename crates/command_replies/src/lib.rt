@@ -2,7 +2,7 @@
 //!
 //! Who runs a command sees two things of it once it has ended: its exit status, a number, and a text. A script
 //! decides by the number and a person reads the text, so success over a text that was cut off is a wrong answer,
-//! however right the work behind it was.
+//! however right the work after it was.
 //!
 //! The rule that the crate keeps: **a command ends in exactly one of its output, a refusal of its input with a
 //! status and a line of its own, a fault of its store or of its sink, and want of memory; and its text goes to the

@@ -124,7 +124,7 @@ impl Folder {
         Ok(self.put(name.as_str(), bytes.as_slice())?)
     }
 
-    /// Gives a file this length, with zeros behind it.
+    /// Gives a file this length, with zeros after it.
     pub(crate) fn pad(&mut self, name: &str, length: usize) -> Result<()> {
         let mut bytes = self.copy(name)?;
         bytes.resize(length, 0)?;

@@ -11,7 +11,7 @@ pub(crate) enum Gift<'a> {
     Text(&'a str),
     /// A line of that file.
     TextLine(&'a str),
-    /// Zeros behind a file, up to this length.
+    /// Zeros after a file, up to this length.
     Pad(&'a str, usize),
 }
 

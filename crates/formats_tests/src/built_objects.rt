@@ -8,7 +8,7 @@ use object_builder::{Section, Symbol, draft_of, object_of, rela};
 use std::alloc::{AllocError, Global};
 use std::test::Fail;
 
-/// Where the contents of sections begin: behind the headers of the file and of eight sections.
+/// Where the contents of sections begin: after the headers of the file and of eight sections.
 const CONTENTS: u64 = Header::SIZE + 8 * SectionHeader::SIZE;
 
 /// Of the object below: 13 bytes of contents, one relocation, three symbols, and the names.

@@ -32,7 +32,7 @@ pub(crate) fn example(alloc: Global) -> Result<Vec<u8>, AllocError> {
     object_of(alloc, &sections, &symbols)
 }
 
-/// Where each record of the example begins: the file's header, the headers of sections, behind the contents of
+/// Where each record of the example begins: the file's header, the headers of sections, after the contents of
 /// sections the relocations and the symbols, and the last byte of each table of names.
 const RECORDS: &str = "\
 h 0
@@ -207,7 +207,7 @@ ok: r1.r_offset=5 r1.r_type=0 r1.r_sym=2
 2 1 RelocRange: r1.r_offset=6 r1.r_type=23 r1.r_sym=2 r0.r_offset=5
 ";
 
-/// What a table has behind a name.
+/// What a table has after a name.
 fn behind(table: &'static str, name: &str) -> Option<&'static str> {
     for row in table.lines() {
         let (first, rest) = row.split_once(' ')?;

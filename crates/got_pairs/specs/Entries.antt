@@ -58,7 +58,7 @@ entry_of kind block (AddressWord s p) =
     by_kind kind (One (held p)) (One (loaded p Relative Image p)) (One (loaded p Relative Image p))
 entry_of kind block RuntimeWord = One (filled JumpSlot Runtime 0)
 
--- the words of an entry, one behind another
+-- the words of an entry, one after another
 abbrev pub words : Entry → List Word
 words (One v) = v ∷ []
 words (Two v w) = v ∷ w ∷ []

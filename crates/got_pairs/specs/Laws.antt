@@ -28,6 +28,6 @@ rank group.SymbolWords = 3
 rank group.AddressWords = 4
 rank group.RuntimeWord = 5
 
--- no entry stands behind one of a later group
+-- no entry stands after one of a later group
 abbrev pub GroupsStandInOrder : Type 0
 GroupsStandInOrder = (needs : List Need) → AllPairs (λ x y. rank (group_of x) ≤ rank (group_of y)) (entries needs)

@@ -17,7 +17,7 @@ pub fn entries_differ()
     ensures { EntriesDiffer }
 {}
 
-/// Groups stand in order: no entry stands behind one of a later group.
+/// Groups stand in order: no entry stands after one of a later group.
 pub fn groups_stand_in_order()
     ensures { GroupsStandInOrder }
 {}

@@ -101,7 +101,7 @@ fn close_twice(
     Ok(())
 }
 
-/// An open of image 3 behind so many opens of image 2.
+/// An open of image 3 after so many opens of image 2.
 fn open_behind(
     rt: &(impl Abort + Print),
     alloc: Global,
@@ -112,7 +112,7 @@ fn open_behind(
     open_twice(rt, &registry, want)
 }
 
-/// A close of image 2 behind the one open of it.
+/// A close of image 2 after the one open of it.
 fn close_behind(rt: &(impl Abort + Print), alloc: Global, want: Closed) -> Result<(), AllocError> {
     let registry = opened_so_often(rt, alloc, 1)?;
     close_twice(rt, &registry, want)

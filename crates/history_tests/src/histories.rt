@@ -10,7 +10,7 @@ use std::fmt::Debug;
 use std::process::Abort;
 use std::test::Fail;
 
-/// Histories, with an empty line between them. The first line of each has the late images behind the program, from
+/// Histories, with an empty line between them. The first line of each has the late images after the program, from
 /// image 2 on: their sizes, with `s` before each whose block is static. The program's block has 4 bytes and begins 4
 /// bytes below the thread pointer. Then a line for each call and its answer: `open` and `close` with a thread, a line
 /// and an image, and questions with one number. `reopen` closes and opens an image so many times, and answers how long
@@ -98,7 +98,7 @@ fn late(word: &str) -> ImageInfo {
     }
 }
 
-/// The program, and behind it these late images.
+/// The program, and after it these late images.
 fn images(alloc: Global, words: &str) -> Result<Vec<ImageInfo>, AllocError> {
     let mut infos = vec![in alloc; image(false, false, 4)]?;
     for word in words.split_whitespace() {

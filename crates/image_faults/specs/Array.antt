@@ -75,7 +75,7 @@ relocations_size b = if has_relocations b && has_tag b 6 DT_RELASZ then (entry b
 unfoldable pub relocation_count : List ℕ → ℕ
 relocation_count b = relocations_size b / 24
 
--- the entry behind those of the tables
+-- the entry after those of the tables
 abbrev pub flags_entry : List ℕ → ℕ
 flags_entry b = if has_relocations b then 8 else 5
 

@@ -39,7 +39,7 @@ last b = segment b (loads b - 1)
 abbrev pub is_writable : List ℕ → ℕ → Bool
 is_writable b i = (segment b i).flags == PF_R + PF_W
 
--- the number behind that of the last LOAD that may be written; 0 where there is none
+-- the number after that of the last LOAD that may be written; 0 where there is none
 abbrev pub behind_last_writable : List ℕ → ℕ
 behind_last_writable b = behind_last (is_writable b) (loads b)
 
@@ -51,7 +51,7 @@ is_relro b i = (segment b i).kind == PT_GNU_RELRO
 abbrev pub has_relro : List ℕ → Bool
 has_relro b = nat_lt 0 (behind_last (is_relro b) (count b))
 
--- the header behind DYNAMIC is that of a TLS segment
+-- the header after DYNAMIC is that of a TLS segment
 abbrev pub has_tls : List ℕ → Bool
 has_tls b = nat_lt (loads b + 1) (count b) && ((segment b (loads b + 1)).kind == PT_TLS)
 
@@ -63,6 +63,6 @@ tls b = if has_tls b then Some (segment b (loads b + 1)) else None
 abbrev pub tls_size : List ℕ → ℕ
 tls_size b = if has_tls b then (segment b (loads b + 1)).memsz else 0
 
--- where GNU_RELRO stands, if there is one: behind DYNAMIC and TLS
+-- where GNU_RELRO stands, if there is one: after DYNAMIC and TLS
 abbrev pub relro_place : List ℕ → ℕ
 relro_place b = if has_tls b then loads b + 2 else loads b + 1

@@ -52,7 +52,7 @@ HoldsField b r i =
     (i + 1 < loads b) × ((segment b i).vaddr ≤ r.offset)
     × (r.offset + field_width (rela_kind r) ≤ (segment b i).vaddr + (segment b i).memsz)
 
--- it stands behind what the relocation before it writes
+-- it stands after what the relocation before it writes
 abbrev pub IsBehindLast : List ℕ → ℕ → Type 0
 IsBehindLast b k =
     (k ≡ 0) ⊎ ((rela b (k - 1)).offset + field_width (rela_kind (rela b (k - 1))) ≤ (rela b k).offset)

@@ -49,7 +49,7 @@ IsRightLoad b i =
     IsPlaced b (segment b i) × IsClass (segment b i) × IsWhole (segment b i) × IsInRange b i × IsOfFewWritten b i
     × IsLastConstant b i
 
--- header i, behind the LOADs, of which there is one at least, is that of the dynamic array: at the start of the last
+-- header i, after the LOADs, of which there is one at least, is that of the dynamic array: at the start of the last
 -- LOAD, and within it
 abbrev pub IsRightDynamic : List ℕ → ℕ → Type 0
 IsRightDynamic b i =
@@ -75,7 +75,7 @@ IsRightRelro b s =
     IsPlaced b s × (0 < behind_last_writable b) × (s.vaddr ≡ written.vaddr) × (s.filesz ≡ written.filesz)
     × (s.memsz ≡ written.memsz)
 
--- header i, behind DYNAMIC, is that of a TLS segment right behind it, or GNU_RELRO behind both
+-- header i, after DYNAMIC, is that of a TLS segment right after it, or GNU_RELRO after both
 abbrev pub IsRightRest : List ℕ → ℕ → Type 0
 IsRightRest b i =
     ((i ≡ loads b + 1) × ((segment b i).kind ≡ PT_TLS) × IsRightTls b (segment b i))

@@ -24,7 +24,7 @@ IsRightSymbol b k =
 abbrev pub IsImport : List ℕ → ℕ → Type 0
 IsImport b k = (k ≢ 0) × ((symbol b k).shndx ≡ SHN_UNDEF) × (symbol_kind (symbol b k) ≡ STT_TLS)
 
--- the function of the run time that finds thread-local data, by its name and the zero byte behind it
+-- the function of the run time that finds thread-local data, by its name and the zero byte after it
 abbrev pub IsRuntime : List ℕ → ℕ → Type 0
 IsRuntime b k =
     ((symbol b k).shndx ≡ SHN_UNDEF) × ((symbol b k).name + 15 ≤ strings_size b)

@@ -146,7 +146,7 @@ impl Segments<'_> {
         }
     }
 
-    /// The entry behind those of the tables.
+    /// The entry after those of the tables.
     pub fn flags_entry(&self) -> u64
         ensures entry { result ≡ entry_of_flags self.now.headers.bytes.now }
         ensures few { result ≤ 8 }

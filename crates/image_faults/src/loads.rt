@@ -39,7 +39,7 @@ fn is_whole(segment: &Segment) -> bool
     segment.filesz == segment.memsz && 0 < segment.memsz && segment.vaddr % PAGE == 0
 }
 
-/// The address behind a segment.
+/// The address after a segment.
 fn end_of(segment: &Segment) -> u128
     ensures { result ≡ segment.now.vaddr + segment.now.memsz }
 {

@@ -62,7 +62,7 @@ fn is_in_load(tables: &Tables, rela: &Rela) -> bool
     false
 }
 
-/// Whether a relocation stands behind what the one before it writes.
+/// Whether a relocation stands after what the one before it writes.
 fn is_behind_last(tables: &Tables, number: u64) -> bool
     requires { number < tables.now.places.relocation_count }
     ensures { IsTrue result ↔ IsBehindLast tables.now.bytes.now number }
@@ -75,7 +75,7 @@ fn is_behind_last(tables: &Tables, number: u64) -> bool
     end <= u128::from(tables.relocation(number).offset)
 }
 
-/// Whether a relocation is of a type that a loader knows, of a symbol that it may name, and behind the last one.
+/// Whether a relocation is of a type that a loader knows, of a symbol that it may name, and after the last one.
 pub fn is_right_relocation(tables: &Tables, number: u64) -> bool
     requires { number < tables.now.places.relocation_count }
     ensures { IsTrue result ↔ IsRightRelocation tables.now.bytes.now number }

@@ -38,7 +38,7 @@ pub fn written_below(headers: &Headers, end: u64) -> u64
     count
 }
 
-/// The number behind that of the last LOAD that may be written, or 0.
+/// The number after that of the last LOAD that may be written, or 0.
 pub fn behind_last_writable(headers: &Headers, loads: u64) -> u64
     requires loads { loads ≡ loads_of headers.now.bytes.now }
     requires few { loads ≤ headers.now.count }

@@ -46,7 +46,7 @@ pub struct Segments<'a> {
     pub ghost tls_small: { tls_size ≤ 2 ^ 20 },
 }
 
-/// Whether the header behind the LOADs is that of the dynamic array.
+/// Whether the header after the LOADs is that of the dynamic array.
 fn is_right_dynamic(headers: &Headers, loads: u64) -> bool
     requires { loads ≡ loads_of headers.now.bytes.now }
     ensures { IsTrue result ↔ IsRightDynamic headers.now.bytes.now loads }
@@ -118,7 +118,7 @@ fn is_right_relro(headers: &Headers, loads: u64, relro: &Segment) -> bool
         && relro.memsz == written.memsz
 }
 
-/// Whether the header behind DYNAMIC is that of a TLS segment.
+/// Whether the header after DYNAMIC is that of a TLS segment.
 fn has_tls(headers: &Headers, loads: u64) -> bool
     requires loads { loads ≡ loads_of headers.now.bytes.now }
     requires few { loads ≤ headers.now.count }
@@ -140,7 +140,7 @@ fn relro_place(headers: &Headers, loads: u64) -> u64
     }
 }
 
-/// Whether a header behind DYNAMIC is TLS or GNU_RELRO, at its place, and says what it is to say.
+/// Whether a header after DYNAMIC is TLS or GNU_RELRO, at its place, and says what it is to say.
 fn is_right_rest(headers: &Headers, loads: u64, number: u64) -> bool
     requires loads { loads ≡ loads_of headers.now.bytes.now }
     requires few { loads ≤ headers.now.count }
@@ -154,7 +154,7 @@ fn is_right_rest(headers: &Headers, loads: u64, number: u64) -> bool
             && is_right_relro(headers, loads, &segment))
 }
 
-/// The first header behind DYNAMIC that is not as it should be.
+/// The first header after DYNAMIC that is not as it should be.
 fn first_wrong_rest(headers: &Headers, loads: u64) -> Option<u64>
     requires loads { loads ≡ loads_of headers.now.bytes.now }
     requires few { loads < headers.now.count }

@@ -8,7 +8,7 @@ ghost use Rattle.image_faults.specs.Symbols.{IsRightSymbol, IsImport, IsRuntime,
 use crate::tables::Tables;
 use elf_records::symbol::{SHN_UNDEF, STB_GLOBAL, STB_WEAK, STT_COMMON, STT_TLS};
 
-/// The name of the function of the run time, with the zero byte behind it.
+/// The name of the function of the run time, with the zero byte after it.
 pub const TLS_GET_ADDR: [u8; 15] = *b"__tls_get_addr\0";
 
 /// Whether a name that begins at this offset of the names ends.

@@ -30,7 +30,7 @@ pub struct ImagePart<'a> {
 pub struct TlsPart {
     /// The address of the initial image.
     pub address: u64,
-    /// How many bytes that has; those of the block behind it begin as zero.
+    /// How many bytes that has; those of the block after it begin as zero.
     pub initial: u64,
     /// How many bytes the block has.
     pub size: u64,

@@ -10,7 +10,7 @@
 //! the first is not defined.
 //!
 //! 1. The first symbol is a *function* where it is defined, not thread-local, and its value is the address of a byte of
-//!    a part that is executed. The address behind the last byte is none of the part's.
+//!    a part that is executed. The address after the last byte is none of the part's.
 //!    [`function`](ImageNames::function) answers the address, before the image is moved.
 //! 2. It is a *variable* where it is defined and thread-local. The value of such a symbol is no address: it is an offset
 //!    in the TLS segment, and so in the block that each thread has of it (gABI, "Symbol Table", `STT_TLS`; Drepper, "ELF

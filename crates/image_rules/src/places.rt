@@ -30,7 +30,7 @@ pub struct Places {
     pub strings: u64,
     /// How many bytes they take.
     pub strings_size: u64,
-    /// The offset behind the last zero byte of the names, or 0.
+    /// The offset after the last zero byte of the names, or 0.
     pub names_end: u64,
     /// Where the symbols begin.
     pub symbols: u64,

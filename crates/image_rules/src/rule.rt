@@ -63,7 +63,7 @@ pub enum EntryRule {
     RelocationSize,
     /// FLAGS, FLAGS_1 or NULL.
     Flags,
-    /// NULL behind FLAGS or FLAGS_1.
+    /// NULL after FLAGS or FLAGS_1.
     End,
 }
 

@@ -67,7 +67,7 @@ fn files_of(alloc: Global, image: Image) -> Result<Files, AllocError>
     Ok(Files { appended, made })
 }
 
-/// Writes the image `WRITTEN`, from the bytes of its parts behind a page.
+/// Writes the image `WRITTEN`, from the bytes of its parts after a page.
 fn written_program(alloc: Global, file: Vec<u8>) -> Result<Files, AllocError>
     requires { length file.items ≡ 20486 }
 {
@@ -104,7 +104,7 @@ fn written_program(alloc: Global, file: Vec<u8>) -> Result<Files, AllocError>
     files_of(alloc, image_of(alloc, &draft, file)?)
 }
 
-/// Writes a module that asks for its thread-local data at a fixed distance, from the bytes of its parts behind a page.
+/// Writes a module that asks for its thread-local data at a fixed distance, from the bytes of its parts after a page.
 fn written_surplus(alloc: Global, file: Vec<u8>) -> Result<Files, AllocError>
     requires { length file.items ≡ 12296 }
 {
@@ -137,7 +137,7 @@ fn written_surplus(alloc: Global, file: Vec<u8>) -> Result<Files, AllocError>
     files_of(alloc, image_of(alloc, &draft, file)?)
 }
 
-/// The bytes of an image's parts, but for its tables, behind a page of zeros.
+/// The bytes of an image's parts, but for its tables, after a page of zeros.
 fn parts_of(alloc: Global, image: &[u8], end: usize) -> Result<Vec<u8>, Fail> {
     let parts = image.get(4096..end).ok_or("the parts")?;
     let mut file = vec![in alloc; 0u8; 4096]?;

@@ -69,20 +69,20 @@ Holds c r i =
     let p = part (outline_of (finished c)) i in
     (i < length c.parts) × (p.address ≤ r.place) × (r.place + width r.kind ≤ end_of p)
 
--- the relocation names what it may, lies in a part, and behind what the one before it writes
+-- the relocation names what it may, lies in a part, and after what the one before it writes
 pub record IsRightRelocation (c : Contents) (r : ImageRelocation) : Type 0 where
   pub symbol_in : r.symbol ≤ length c.symbols
   pub names : MayName c r.kind r.symbol
   pub own : r.symbol ≡ 0 → HasOwnTls c r.kind r.addend
   pub held : (i : ℕ) × Holds c r i
 
--- relocations lie behind each other
+-- relocations lie one after another
 abbrev pub AreRising : List ImageRelocation → Type 0
 AreRising [] = Unit {0}
 AreRising (r ∷ []) = Unit {0}
 AreRising (r ∷ (s ∷ more)) = (r.place + width r.kind ≤ s.place) × AreRising (s ∷ more)
 
--- what a linker owes. The parts, with the tables behind them, can be told by a page of headers; only a module may ask
+-- what a linker owes. The parts, with the tables after them, can be told by a page of headers; only a module may ask
 -- for its thread-local data at a fixed distance from the thread pointer.
 pub record IsLinkable (c : Contents) : Type 0 where
   pub loadable : IsLoadable (outline_of (finished c))

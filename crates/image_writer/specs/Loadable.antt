@@ -19,7 +19,7 @@ is_writable Writable = true
 abbrev pub is_written : Outlined → ℕ → Bool
 is_written o i = is_writable (part o i).class
 
--- part i has bytes, begins at a page, behind the part before it, and lies in the range of the image
+-- part i has bytes, begins at a page, after the part before it, and lies in the range of the image
 pub record IsRightPart (o : Outlined) (i : ℕ) : Type 0 where
   pub filled : 0 < (part o i).size
   pub paged : (part o i).address % 4096 ≡ 0

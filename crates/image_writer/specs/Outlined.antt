@@ -48,6 +48,6 @@ part o i = slice_index_or o.parts i no_part
 abbrev pub last_part : Outlined → PartPlace
 last_part o = part o (length o.parts - 1)
 
--- the address behind a part
+-- the address after a part
 abbrev pub end_of : PartPlace → ℕ
 end_of p = p.address + p.size

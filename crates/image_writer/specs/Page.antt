@@ -1,4 +1,4 @@
--- The first page of an image's file: its header, its program headers, and zeros behind them (gABI, "ELF Header",
+-- The first page of an image's file: its header, its program headers, and zeros after them (gABI, "ELF Header",
 -- "Program Header"; "ELF Handling For Thread-Local Storage", "Program Headers").
 use Rattle.std.specs.Prelude.{◌+◌, ◌-◌, ◌*◌, ℕ, List, [], ◌∷◌, ◌++◌, Option, Some, None, length, map, replicate}
 use Rattle.std.specs.List.{flat_map}

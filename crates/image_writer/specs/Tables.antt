@@ -49,7 +49,7 @@ is_pie Exe = false
 is_pie Pie = true
 is_pie Module = false
 
--- how many bytes each table has, and where it begins behind the start of the part
+-- how many bytes each table has, and where it begins after the start of the part
 abbrev pub array_size : Contents → ℕ
 array_size c =
     16 * (6 + (if has_relocations c then 3 else 0) + (if c.is_flagged || is_pie c.kind then 1 else 0))
@@ -66,7 +66,7 @@ relocations_start c = symbols_start c + 24 * symbol_total c
 abbrev pub strings_start : Contents → ℕ
 strings_start c = relocations_start c + 24 * length c.relocations
 
--- the names, each with a zero byte behind it; that of number 0 is empty
+-- the names, each with a zero byte after it; that of number 0 is empty
 abbrev pub name_bytes : List ℕ → List ℕ
 name_bytes name = name ++ (0 ∷ [])
 

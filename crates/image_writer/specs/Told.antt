@@ -31,7 +31,7 @@ places_end kind [] = base_of kind
 places_end kind (p ∷ []) = p.address + p.size
 places_end kind (p ∷ (q ∷ more)) = places_end kind (q ∷ more)
 
--- the page behind it
+-- the page after it
 abbrev pub next_page : Draft → ℕ
 next_page d = next_multiple_of (places_end d.kind d.parts.now) 4096
 

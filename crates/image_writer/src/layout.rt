@@ -1,4 +1,4 @@
-//! Where the dynamic tables of an image lie behind the start of their part.
+//! Where the dynamic tables of an image lie after the start of their part.
 
 ghost use Rattle.std.specs.Prelude.{◌≡◌, ◌+◌, ◌*◌, ◌^◌, ◌<◌, ◌≤◌, length, option_to_list};
 ghost use Rattle.image_writer.specs.Tables.{array_size, strings, flags_entries};
@@ -25,7 +25,7 @@ pub const WORD_SIZE: u64 = 4;
 /// How many words stand before the chains of the hash table.
 pub const HASH_HEAD: u64 = 3;
 
-/// Where the tables begin behind the start of their part, which is that of the array.
+/// Where the tables begin after the start of their part, which is that of the array.
 #[derive(Clone, Copy)]
 pub struct Layout {
     pub array_size: u64,
@@ -64,7 +64,7 @@ pub fn flags_entry(is_flagged: bool, kind: FileKind) -> Option<DynamicEntry>
     }
 }
 
-/// How many bytes the names have, each with the zero byte behind it; that of number 0 is empty.
+/// How many bytes the names have, each with the zero byte after it; that of number 0 is empty.
 fn strings_size(draft: &Draft<'_>) -> u64
     requires { length (strings (told draft.now)) < 2 ^ 32 }
     ensures { result ≡ length (strings (told draft.now)) }
@@ -122,7 +122,7 @@ fn places_end(draft: &Draft<'_>) -> u64
     }
 }
 
-/// The address at which the tables begin: the next page behind the parts.
+/// The address at which the tables begin: the next page after the parts.
 pub fn next_page(draft: &Draft<'_>) -> u64
     requires { next_page draft.now < 2 ^ 64 }
     ensures { result ≡ next_page draft.now }

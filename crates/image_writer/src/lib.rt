@@ -2,7 +2,7 @@
 //!
 //! A loader reads a file from its first bytes: a header, and *program headers*, one for each part that is loaded, one
 //! for the dynamic array, one for the TLS segment and one for the part that the loader alone writes. Here these fill
-//! the first page of 4,096 bytes, with zeros behind them, and each part stands where its address says: the byte of
+//! the first page of 4,096 bytes, with zeros after them, and each part stands where its address says: the byte of
 //! address `a` at offset `a` + 4,096 - the base of the image ([`file_offset`]). The base is 0x400000 in a program at
 //! fixed addresses, else 0. The last part holds the *dynamic tables*: the array, the hash table, the symbols, the
 //! relocations and the names.
@@ -13,7 +13,7 @@
 //! - [`into_file`] makes that file of the image's own bytes, for which the image is given up. Its parts stand at their
 //!   offsets already: headers and the zeros between parts are put around them.
 //! - [`image_of`] makes an image of a [`Draft`], all that a linker knows but the tables, and of the file so far. It
-//!   lays the tables behind the last part and the headers over the first page, and the image is the draft's: its
+//!   lays the tables after the last part and the headers over the first page, and the image is the draft's: its
 //!   parts, its symbols and their names, its relocations. `specs/Linkable` says what it asks of the draft.
 //!
 //! Memory is taken first and at once. Where there is none, `write` leaves what it was to append to as it was. It copies

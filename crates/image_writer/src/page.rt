@@ -37,7 +37,7 @@ pub fn base_of(kind: FileKind) -> u64
     }
 }
 
-/// Where the byte of an address stands in the file of an image, behind the page of headers.
+/// Where the byte of an address stands in the file of an image, after the page of headers.
 pub fn file_offset(kind: FileKind, address: u64) -> u64
     requires above { base_of kind ≤ address + 4096 }
     requires below { address + 4096 < 2 ^ 64 }

@@ -119,7 +119,7 @@ fn bucket(total: u32) -> u32
     if total == 1 { 0 } else { 1 }
 }
 
-/// The word of a symbol in the hash table's chains: the number of the next, or 0 behind the last.
+/// The word of a symbol in the hash table's chains: the number of the next, or 0 after the last.
 fn chain(total: u32, number: u32) -> u32
     requires { number < total }
     ensures { result ≡ chain total number }
@@ -173,7 +173,7 @@ fn put_relocations(relocations: &[ImageRelocation], out: &mut [u8], at: usize)
     }
 }
 
-/// Puts the names, each with a zero byte behind it; that of number 0 is empty.
+/// Puts the names, each with a zero byte after it; that of number 0 is empty.
 fn put_strings(draft: &Draft<'_>, out: &mut [u8], at: usize)
     requires { at + length (strings (told draft.now)) ≤ length out.old }
     ensures { out.new ≡ splice at (strings (told draft.now)) out.old }

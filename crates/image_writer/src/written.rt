@@ -51,7 +51,7 @@ fn file_size(outline: &Outline<'_>) -> usize
     file_offset(outline.kind, last.address + last.size) as usize
 }
 
-/// Puts a part behind what ends at an address, with zeros between them.
+/// Puts a part after what ends at an address, with zeros between them.
 fn put_part(part: &ImagePart<'_>, end: u64, out: &mut [u8], at: usize)
     requires rising { end ≤ part.now.address }
     requires room { at + (part.now.address - end + length part.now.bytes.now) ≤ length out.old }

@@ -45,7 +45,7 @@ IsDataFaultOf writable b OutOfMemory = ⊥
 IsDataFaultOf writable b (At section entry kind) = IsDataFault writable b section entry kind
 
 -- what a refusal says of it: its first fault, and where it is an object, its lowest section that is refused, and where
--- none is, the first fault of its sequences; of want of memory nothing
+-- none is, the first fault of its sequences; nothing when memory runs out
 abbrev pub IsFileFault : WritableSections → List ℕ → ObjectFault → Type 0
 IsFileFault writable b OutOfMemory = Unit {0}
 IsFileFault writable b (At section entry kind) =

@@ -24,13 +24,13 @@ pub record IsFirstIn (writable : WritableSections) (bytes : List ℕ → List �
   pub here : IsFileFault writable (bytes name) (object.At section entry kind)
   pub before : (k : ℕ) (other : List ℕ) → k < at → slice_get names k ≡ Some other → IsTaken writable (bytes other)
 
--- what a refusal says of files by these names; of want of memory nothing
+-- what a refusal says of files by these names; nothing when memory runs out
 abbrev pub IsRefusalIn : WritableSections → (List ℕ → List ℕ) → List (List ℕ) → ReadRefusal → Type 0
 IsRefusalIn writable bytes names unread.OutOfMemory = Unit {0}
 IsRefusalIn writable bytes names (unread.At name section entry kind) =
     IsFirstIn writable bytes names name.now section entry kind
 
--- what is told of the file of this name; of want of memory nothing
+-- what is told of the file of this name; nothing when memory runs out
 abbrev pub IsRefusalOf : WritableSections → (List ℕ → List ℕ) → List ℕ → ReadRefusal → Type 0
 IsRefusalOf writable bytes name unread.OutOfMemory = Unit {0}
 IsRefusalOf writable bytes name (unread.At told section entry kind) =

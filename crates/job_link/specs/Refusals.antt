@@ -1,4 +1,4 @@
--- What a refusal says of a job's objects and images; of want of memory nothing.
+-- What a refusal says of a job's objects and images; nothing when memory runs out.
 use Rattle.std.specs.Prelude.{ℕ, Bool, List}
 use Rattle.job_text.specs.Jobs.{JobParts}
 use Rattle.job_link.specs.declared.preparing.ImageRefusal.{ImageRefusal}

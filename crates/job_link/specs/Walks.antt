@@ -25,7 +25,7 @@ files_in (name ∷ names) (file ∷ files) = (name.now, file.items) ∷ files_in
 abbrev pub is_among : List (List ℕ) → List ℕ → Bool
 is_among names name = list_any (bytes_eq name) names
 
--- a file behind others, unless one of its name is among them
+-- a file after others, unless one of its name is among them
 abbrev pub with_unseen : Fetched → List ℕ → List ℕ → Fetched
 with_unseen files name bytes = if is_among (names_of files) name then files else files ++ (name, bytes) ∷ []
 

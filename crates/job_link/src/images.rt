@@ -19,7 +19,7 @@ pub(crate) struct ReadObject<'a> {
 }
 
 impl<'a> ReadObject<'a> {
-    /// Reads the object of these bytes, or answers its first fault: a section that is refused comes behind those of the
+    /// Reads the object of these bytes, or answers its first fault: a section that is refused comes after those of the
     /// object, and the faults of its sequences last.
     pub(crate) fn read(
         alloc: Global,

@@ -18,7 +18,7 @@
 //!
 //! The rule that the crate keeps: **each file is fetched once, and each step does what the job says or names the
 //! first thing that stops it.** A step goes through its things in one order and tells of the first that fails: what
-//! stands before it is sound, and of what lies behind it nothing is said, though other objects of the same image may
+//! stands before it is sound, and of what lies after it nothing is said, though other objects of the same image may
 //! have been read. Want of memory can stop any step, and is its own answer.
 //!
 //! Take a job whose two images share an object:

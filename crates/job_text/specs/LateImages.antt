@@ -24,7 +24,7 @@ is_late Pie = false
 is_late Start = false
 is_late Late = true
 
--- images that are loaded by an open come behind all that start with the program
+-- images that are loaded by an open come after all that start with the program
 abbrev pub LateLast : List ImageKind → Type 0
 LateLast kinds = AllPairs (λ (a b : ImageKind). is_late a ≡ true → is_late b ≡ true) kinds
 

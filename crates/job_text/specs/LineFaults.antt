@@ -45,7 +45,7 @@ abbrev pub has_bad_argument : List (List ℕ) → Bool
 has_bad_argument words =
     is_none (number (word_at 4 words)) || is_none (number (word_at 5 words)) || is_none (number (word_at 6 words))
 
--- the numbers behind a verb
+-- the numbers after a verb
 abbrev pub has_bad_operand : Verb → List (List ℕ) → Bool
 has_bad_operand verb.Call words = has_bad_argument words
 has_bad_operand verb.Open words = false

@@ -1,4 +1,4 @@
-//! What stands behind the first words of a line: numbers, symbols and the names of objects.
+//! What stands after the first words of a line: numbers, symbols and the names of objects.
 
 ghost use Rattle.std.specs.Prelude.{◌≡◌, IfOk, drop, not};
 ghost use Rattle.std.specs.List.{list_any};

@@ -1,6 +1,6 @@
 //! Bytes that lie in an image.
 
-/// Bytes that lie in an image, one behind another.
+/// Bytes that lie in an image, one after another.
 #[derive(Debug, Drop)]
 pub struct Part {
     /// The address of the first.

@@ -131,7 +131,7 @@ fn push_image(alloc: Global, text: &mut String, linked: &Linked) -> Result<(), A
     Ok(())
 }
 
-/// Adds the bytes of each part but the last as digits, with a semicolon behind them.
+/// Adds the bytes of each part but the last as digits, with a semicolon after them.
 fn push_bytes(alloc: Global, text: &mut String, linked: &Linked) -> Result<(), AllocError> {
     text.push_str(" # ")?;
     for next in 1..linked.image.part_count() {

@@ -1,5 +1,5 @@
 //! Images. An image lies at 400000, or at 0 where it may lie anywhere; each class of sections begins a page, and so do
-//! the global offset table, the stub and the dynamic tables behind them. These are an array of 16 for each entry, a
+//! the global offset table, the stub and the dynamic tables after them. These are an array of 16 for each entry, a
 //! hash table of 12 and 4 for each symbol, up to a multiple of 8, 24 for each symbol and each relocation, and the
 //! names, the empty one of symbol 0 included. Types of relocations: 7 a jump slot, 8 RELATIVE, 16 DTPMOD64, 17
 //! DTPOFF64, 18 TPOFF64, 36 TLSDESC.
@@ -90,7 +90,7 @@ reloc 002000 18 0 0 reloc 002008 18 0 8 static-tls choices / Keep / Keep
 * exe ~x=v0 f=c0 v:01000000 mov:x | x=v0 v:02000000 ->
 kind exe part x 400000 7 part r 401000 12 part r 402000 197 tls 401000 12 12 8 symbol 000008 6 x symbol 400000 2 f
 choices / IeLe / # 48c7c0 f8ffffff; 01000000 00000000 02000000;
-// Zeros lie behind all initial images, 1 byte at 0 and at 8: x is at 9 and z at d of a block of 24. Tables: 96 + 24 +
+// Zeros lie after all initial images, 1 byte at 0 and at 8: x is at 9 and z at d of a block of 24. Tables: 96 + 24 +
 // 72 + 5
 * exe x=z0 v:01 z:4 le:x | z=z0 v:02 z:4 mov:z d:03 b:10,1 ->
 kind exe part x 400000 16 part r 401000 9 part rw 402000 17 part r 403000 197 tls 401000 9 17 8 symbol 000009 6 x symbol
@@ -119,7 +119,7 @@ kind module part x 000000 45 part r 001000 4 part rw 002000 56 part x 003000 6 p
 kind module part x 000000 8 part rw 001000 8 part r 002000 259 relro 001000 8 symbol 000000 6 import y reloc 001000 18 1
 0 static-tls choices / / Keep
 // Offsets in the block with addends: 8 + 7fffffff is above 2^31 - 1, and 8 - 80000000 - 24 below -2^31. Offsets count
-// from the thread pointer, 24 behind the block, where any object has local dynamic code that is rewritten
+// from the thread pointer, 24 past the block, where any object has local dynamic code that is rewritten
 * exe-kept x=v8 v:0000000000000000 v:2a000000 v:0000000000000000 ld:x off:x,7fffffff ->
 Overflow at object Some(0) section 4 entry 2
 * exe x=v8 v:0000000000000000 v:2a000000 v:0000000000000000 ld:x off:x,7fffffff ->

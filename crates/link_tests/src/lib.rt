@@ -4,7 +4,7 @@
 //! and images that a reader works out by hand, with the arithmetic of each field.
 //!
 //! A case is kinds of image, objects of words (`objects`), and what is told: a fault, or the image as `image_text`
-//! shows it, with six digits of each place and with the choices for each object's sequences; and behind a `#` the bytes
+//! shows it, with six digits of each place and with the choices for each object's sequences; and after a `#` the bytes
 //! of its parts but for the last, the dynamic tables. For example, a program whose function f reaches its variable x:
 //!
 //! ```text

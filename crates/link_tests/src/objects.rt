@@ -5,7 +5,7 @@
 //! are z: of `.tbss` and b:SIZE,COUNT of more sections of zeros. PIECE:NAME,ADDEND is code whose field names a symbol,
 //! with so much added to its addend, and q:NAME,ADDEND,PLACE an address in data. Numbers are hexadecimal.
 //!
-//! The sections are `.tdata` (1), `.tbss` (2) and `.text` (3), behind it the relocations of code (4), if there are any,
+//! The sections are `.tdata` (1), `.tbss` (2) and `.text` (3), after it the relocations of code (4), if there are any,
 //! then `.data` and its relocations, the sections of zeros, and the symbols.
 
 use elf_records::relocation::R_X86_64_64;

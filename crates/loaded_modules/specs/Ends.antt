@@ -1,4 +1,4 @@
--- How far below the thread pointer the blocks of startup images begin, one behind another, and what each image keeps of
+-- How far below the thread pointer the blocks of startup images begin, one after another, and what each image keeps of
 -- its TLS segment.
 use Rattle.std.specs.Prelude.{◌≤◌, ◌<◌, ◌+◌, ◌^◌, ℕ, List, [], ◌∷◌, if◌then◌else◌}
 use Rattle.std.specs.Int.{next_multiple_of}
@@ -12,7 +12,7 @@ pub record IsTls (tls : TlsPart) : Type 0 where
   pub aligned : 0 < tls.alignment
   pub page : tls.alignment ≤ 4096
 
--- where the block of an image begins, behind those before it
+-- where the block of an image begins, after those before it
 abbrev pub end_behind : ℕ → ImageInfo → ℕ
 end_behind taken info = if info.late then taken else next_multiple_of (taken + info.size) info.align
 

@@ -60,7 +60,7 @@ pub(crate) fn infos_of(
     Ok(infos)
 }
 
-/// Where the block of an image begins, counted from the thread pointer down, behind the blocks before it; that of a
+/// Where the block of an image begins, counted from the thread pointer down, after the blocks before it; that of a
 /// late image takes no room there.
 fn end_behind(taken: u64, info: ImageInfo) -> u64
     requires room { taken ≤ 2 ^ 32 }

@@ -37,7 +37,7 @@ impl Modules {
     }
 
     /// Writes what the relocation of a number asks for, as far as a window of a part shows it. The window begins `from`
-    /// bytes behind the part's start.
+    /// bytes past the part's start.
     fn relocate(
         &self,
         image: &Image,

@@ -132,7 +132,7 @@ fn count_of(words: Words) -> u64
 }
 
 /// Writes the words at `place` of a part that they lie in, as far as a window shows it, which begins `from` bytes
-/// behind the part's start.
+/// past the part's start.
 fn put_words(window: &mut [u8], from: u64, place: u64, words: Words)
     requires window { from + length window.old < 2 ^ 64 }
     requires words { place + length (words_bytes words) < 2 ^ 64 }

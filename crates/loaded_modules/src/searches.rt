@@ -6,7 +6,7 @@ ghost use Rattle.loaded_modules.specs.Places.{AllBelow, NoneBelow};
 use image_file::{Image, image_is_spelled};
 
 /// Whether the relocation of a number has its place below an address. Places rise, so all before it have then, and else
-/// none behind it has.
+/// none after it has.
 fn is_below(image: &Image, number: u64, address: u128) -> bool
     ensures below { result ≡ true → AllBelow image.now.relocations (number + 1) address }
     ensures above { result ≡ false → NoneBelow image.now.relocations number address }

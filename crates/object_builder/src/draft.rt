@@ -15,13 +15,13 @@ pub struct Draft {
     /// The headers of sections, number 0 included. The last three are of the symbols, of their names and of the
     /// sections' names.
     pub sections: Vec<SectionHeader>,
-    /// What sections hold, one behind the other.
+    /// What sections hold, one after another.
     pub contents: Vec<u8>,
-    /// The relocations of all sections, one behind the other.
+    /// The relocations of all sections, one after another.
     pub relocations: Vec<Rela>,
     /// The symbols, number 0 included.
     pub symbols: Vec<SymbolEntry>,
-    /// The names of symbols, each behind a zero byte.
+    /// The names of symbols, each after a zero byte.
     pub names: Vec<u8>,
     /// The names of sections.
     pub section_names: Vec<u8>,
@@ -168,7 +168,7 @@ fn add_name(table: &mut Vec<u8>, name: &[u8]) -> Result<u32, AllocError> {
 }
 
 impl Draft {
-    /// Adds a section, and behind it the one of its relocations, if it has any.
+    /// Adds a section, and after it the one of its relocations, if it has any.
     fn add_section(&mut self, section: &Section, layout: &Layout) -> Result<(), AllocError> {
         let number = u32::try_from(self.sections.len()).unwrap_or(u32::MAX);
         let name = add_name(&mut self.section_names, section.name)?;

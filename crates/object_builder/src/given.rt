@@ -109,7 +109,7 @@ fn entry_of(info: u8, section: u16, value: u64, size: u64) -> SymbolEntry {
 }
 
 impl<'a> Symbol<'a> {
-    /// A GLOBAL symbol of a type, as `STT_FUNC`, so far behind the start of the section.
+    /// A GLOBAL symbol of a type, as `STT_FUNC`, so far past the start of the section.
     pub fn global(name: &'a [u8], kind: u8, section: u16, value: u64, size: u64) -> Symbol<'a>
         requires { kind < 16 }
     {

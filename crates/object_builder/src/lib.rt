@@ -11,16 +11,16 @@
 //! let bytes = object_of(alloc, &sections, &symbols)?;
 //! ```
 //!
-//! Sections are numbered from 1 in their order, and the relocations of one are a section of their own, right behind
-//! it, as an assembler has it (gABI, "Sections"). Behind these come the symbol table, its names, and the names of
+//! Sections are numbered from 1 in their order, and the relocations of one are a section of their own, right after
+//! it, as an assembler has it (gABI, "Sections"). After these come the symbol table, its names, and the names of
 //! sections. Symbols are numbered from 1 in their order; LOCAL ones come first, as the gABI wants it ("Symbol Table").
 //!
 //! For an object that is not as it should be, [`draft_of`] gives the same as records: change a field of one, then
 //! write the [`Draft`]. The bytes are written by `elf_records`, so a field stands where the gABI has it. No call
 //! judges what it is given.
 //!
-//! [`put_header`] and those beside it put records behind the bytes of a file. Each ensures that these bytes are kept, and
-//! that behind them stand those of the records, one after the other.
+//! [`put_header`] and those beside it put records after the bytes of a file. Each ensures that these bytes are kept, and
+//! that after them stand those of the records, one after the other.
 #![tactic(auto)]
 
 mod draft;

@@ -7,7 +7,7 @@ use anyhow::Result;
 use elf_object::{Object, Relocation, SectionPart, SymbolPart};
 use std::{env, fs, io, str};
 
-/// A name as text; names that are none are shown as a question mark.
+/// A name as text; a question mark for a name that is not UTF-8.
 fn text(name: &[u8]) -> &str {
     str::from_utf8(name).unwrap_or("?")
 }

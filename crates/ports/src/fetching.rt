@@ -34,7 +34,7 @@ fn read_each<'n, S: Store, R: Threads + Sync>(
 }
 
 /// Fetches the files of these names in their order, up to the first refusal, which is answered. Threads read the
-/// files side by side, and then the caller counts each in its turn; what was read behind a refusal is not counted.
+/// files side by side, and then the caller counts each in its turn; what was read after a refusal is not counted.
 pub fn fetch_each<S: Store, R: Threads + Sync>(
     rt: &R,
     alloc: Global,

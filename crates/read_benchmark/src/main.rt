@@ -63,7 +63,7 @@ fn example(alloc: Global, texts: usize) -> Result<Vec<u8>, AllocError> {
         symbols.push(Symbol::global(b"", STT_FUNC, 2, 0, 1))?;
     }
     let mut draft = draft_of(alloc, sections.as_slice(), symbols.as_slice())?;
-    // The first name of each string table stands behind its zero byte.
+    // The first name of each string table stands after its zero byte.
     share_names(&mut draft, 1, 1);
     draft.bytes(alloc)
 }

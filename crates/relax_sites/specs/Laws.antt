@@ -38,7 +38,7 @@ pub record IsRewrittenIn (bytes : List ℕ) (site : Site) (choice : Choice) : Ty
   pub own : IsChoiceOf site.form choice
   pub changes : choice ≢ Keep
 
--- the row stands in the site's place, and what stands before and behind it stays
+-- the row stands in the site's place, and what stands before and after it stays
 pub record StaysInItsSite (bytes : List ℕ) (site : Site) (choice : Choice) : Type 0 where
   pub length-is : length (rewritten site choice bytes) ≡ length bytes
   pub before : take site.start (rewritten site choice bytes) ≡ take site.start bytes

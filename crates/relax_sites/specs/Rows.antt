@@ -69,7 +69,7 @@ new_bytes form choice reg = []
 abbrev pub tpoff : ℕ → Option NewField
 tpoff at = Some (record { at = at; kind = TpOff32; addend = pos 0 })
 
--- GOTTPOFF of it: how far behind the field's end the GOT's word for it lies
+-- GOTTPOFF of it: how far past the field's end the GOT's word for it lies
 abbrev pub gottpoff : ℕ → Option NewField
 gottpoff at = Some (record { at = at; kind = GotTpOff; addend = negsuc 3 })
 

@@ -18,7 +18,7 @@ pub fn rows_end_in_their_fields()
     ensures { RowsEndInTheirFields }
 {}
 
-/// Where a site is rewritten, the new bytes stand in its place, and what stands before and behind it stays.
+/// Where a site is rewritten, the new bytes stand in its place, and what stands before and after it stays.
 pub fn rewriting_stays_in_the_site()
     ensures { RewritingStaysInTheSite }
 {}

@@ -43,7 +43,7 @@ fn tpoff(at: u64) -> NewField
     }
 }
 
-/// How far behind the field's end the GOT's word lies.
+/// How far past the field's end the GOT's word lies.
 fn gottpoff(at: u64) -> NewField
     ensures { Some result ≡ gottpoff at }
 {

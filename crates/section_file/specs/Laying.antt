@@ -1,4 +1,4 @@
--- Laying sections down one behind another.
+-- Laying sections down one after another.
 use Rattle.std.specs.Prelude.{◌-◌, ℕ, List, [], ◌∷◌, ◌++◌, length}
 use Rattle.tls_relocs.specs.Laid.{Placed, zeros}
 

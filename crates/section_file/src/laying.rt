@@ -36,7 +36,7 @@ pub fn offset_of(kind: ImageKind, address: u64) -> u64
     address + PAGE - kind.base()
 }
 
-/// Lays bytes down at an offset, behind zeros from where the file ends, and zeros behind them.
+/// Lays bytes down at an offset, after zeros from where the file ends, and zeros after them.
 fn push(file: &mut Vec<u8>, offset: u64, bytes: &[u8], zeros: usize) -> Result<(), AllocError>
     requires near { offset ≤ 2 ^ 26 }
     requires few { zeros ≤ 2 ^ 20 }

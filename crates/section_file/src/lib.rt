@@ -1,7 +1,7 @@
 //! The bytes of sections in an image's file.
 //!
 //! A linker puts the sections of many objects into one file, and a loader maps that file into memory a page of 4,096
-//! bytes at a time. A page of memory is a page of the file, so a byte stands as far behind its page's begin in the
+//! bytes at a time. A page of memory is a page of the file, so a byte stands as far past its page's begin in the
 //! one as in the other: the offset and the address of a segment are congruent (gABI, "Program Header",
 //! `p_align`). Where each section goes in memory is known before a byte is written, by `tls_layout`. What is left is
 //! a file that has the same order and the same gaps.
@@ -26,7 +26,7 @@
 //! end of the file         0x402010   0x3010
 //! ```
 //!
-//! A class of sections may end behind the last byte of its sections: one of no bytes moves the end up to a multiple of
+//! A class of sections may end past the last byte of its sections: one of no bytes moves the end up to a multiple of
 //! its alignment. The file then has zeros up to there, so that a segment's bytes are all in the file.
 //!
 //! [`lay_sections`] makes the file. It takes memory for all of it at once, copies each section once, and goes over the

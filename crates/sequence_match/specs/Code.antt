@@ -132,7 +132,7 @@ abbrev pub AreBytes : List ℕ → List Cell → ℕ → Type 0
 AreBytes code cells start =
     (k : ℕ) (cell : Cell) → slice_get cells k ≡ Some cell → IsTrue (fits cell (slice_index code (start + k)))
 
--- the bytes that a row spells behind its first field: up to its second one, if it has one
+-- the bytes that a row spells after its first field: up to its second one, if it has one
 abbrev pub behind_at : Sequence → ℕ
 behind_at sequence = sequence.first_at + field_width sequence.first
 

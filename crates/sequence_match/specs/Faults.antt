@@ -85,7 +85,7 @@ pub record IsFirst (b : List ℕ) (r e : ℕ) (kind : FaultKind) : Type 0 where
   pub nowhere_earlier : (t f : ℕ) → Earlier t f r e → Stands kind b t f → ⊥
   pub earlier_kinds : (earlier : FaultKind) → number earlier < number kind → Nowhere earlier b
 
--- what a refusal says of the object; of want of memory nothing
+-- what a refusal says of the object; nothing when memory runs out
 abbrev pub IsFault : List ℕ → ObjectFault → Type 0
 IsFault b OutOfMemory = Unit {0}
 IsFault b (At r e kind) = IsFirst b r e kind

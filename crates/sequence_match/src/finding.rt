@@ -375,7 +375,7 @@ fn first_with(
     }
 }
 
-/// Sites, and others behind them.
+/// Sites, and others after them.
 fn joined(mut sites: Vec<Site>, others: Vec<Site>) -> Result<Vec<Site>, AllocError>
     ensures { IfOk result (λ all. all.items ≡ sites.items ++ others.items) }
 {

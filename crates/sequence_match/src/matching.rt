@@ -143,7 +143,7 @@ fn are_bytes(bytes: &[u8], cells: &[Cell], start: usize) -> bool
     true
 }
 
-/// Where the bytes behind the first field of a row end: at its second field, if it has one.
+/// Where the bytes after the first field of a row end: at its second field, if it has one.
 fn end_behind(form: Form, spelling: &Row) -> u64
     requires { IsRow (row form) spelling.now }
     ensures { result ≡ behind_end (row form) }
@@ -154,7 +154,7 @@ fn end_behind(form: Form, spelling: &Row) -> u64
     }
 }
 
-/// Whether no field covers a byte that a row spells before its first field, nor one behind it.
+/// Whether no field covers a byte that a row spells before its first field, nor one after it.
 #[tactic(auto, using(crate::proofs::Literals::ranges_short))]
 fn is_uncovered(code: &Code, form: Form, spelling: &Row, start: u64, near: u32) -> bool
     requires ready { IsReady code.now }

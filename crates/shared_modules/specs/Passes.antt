@@ -109,7 +109,7 @@ pub record IsCaught (p : PassView) (history : List Event) (q : PassView) : Type 
   pub told : StartsWith history p.told
   pub legal : IsLegal p.shared.images.infos p.shared.images.last_offset q.seen
 
--- the list has what the pass lacked of the history, behind what stood in it
+-- the list has what the pass lacked of the history, after what stood in it
 abbrev pub IsTold : PassView → List Event → List Event → List Event → Type 0
 IsTold p history before after = after ≡ before ++ drop (length p.seen) history
 

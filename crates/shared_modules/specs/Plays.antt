@@ -57,7 +57,7 @@ pub record Loads (me : Sat) (found : ℕ) (after : Sat) : Type 0 where
 abbrev pub Publishes : Sat → ℕ → Sat → Type 0
 Publishes me found after = (h : History) → me.1 ≡ (0, Some h) ∷ [] → after ≡ (published h.events me.0, me.1)
 
--- the next ticket is served, and the registry left behind
+-- the next ticket is served, and the registry left
 abbrev pub Leaves : Sat → ℕ → Sat → Type 0
 Leaves me found after = after ≡ (away me.0, [])
 

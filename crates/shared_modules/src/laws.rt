@@ -1,5 +1,5 @@
 //! Laws for whoever states facts of a thread while others go on: each function's contract is the law, and its body is
-//! empty. `specs/Stable` has the one behind them, for a fact of any kind.
+//! empty. `specs/Stable` has the one after them, for a fact of any kind.
 
 ghost use Rattle.std.specs.Prelude.{◌≡◌, ◌≤◌, ℕ, List, length, take};
 ghost use Rattle.module_table.specs.declared.events.Event.{Event};

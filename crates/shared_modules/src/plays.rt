@@ -41,7 +41,7 @@ impl Play<Option<Registry>, View> for Publish {
     ghost then = { λ _. Publishes };
 }
 
-/// Leaves the registry behind, and serves the next ticket.
+/// Leaves the registry, and serves the next ticket.
 pub(crate) struct Leave;
 
 impl Play<Option<Registry>, View> for Leave {

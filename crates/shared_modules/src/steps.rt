@@ -105,7 +105,7 @@ fn publish(steps: &Steps, seat: &mut Place)
     steps.fetch_add::<Publish>(seat, GENERATION, 1);
 }
 
-/// Leaves the registry behind, and serves the next ticket. Whoever has one may be asleep.
+/// Leaves the registry, and serves the next ticket. Whoever has one may be asleep.
 fn leave(steps: &Steps, seat: &mut Place)
     requires fits { IsAt seat.old.table_id steps.now.table_id }
     requires ends { (h : History) × (seat.old.me.1 ≡ (0, Some h) ∷ []) × Ending h (seat.old.me.0, (0, None) ∷ []) }

@@ -6,7 +6,7 @@
 //! load, which waits for nobody.
 //!
 //! What is shown is that a thousand looks, each of which found nothing new, came to their end after the other thread
-//! had begun, and before it was done. Looks that took the lock would come behind the other's ticket, all but the few
+//! had begun, and before it was done. Looks that took the lock would come after the other's ticket, all but the few
 //! that draw one before it. A machine may let one of the two threads rest as long as the other works, so it is tried
 //! up to 16 times. That a look returns at all needs no test: `newer` has no leave to wait.
 

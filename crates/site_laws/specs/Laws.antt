@@ -16,7 +16,7 @@ use Rattle.relax_sites.specs.Choices.{IsChoiceOf}
 use Rattle.relax_sites.specs.Rows.{form_length, new_bytes, new_field}
 use Rattle.site_laws.specs.Instructions.{kept_instructions, new_instructions}
 
--- the bytes are read as these instructions, each behind the one before, and then comes the rest
+-- the bytes are read as these instructions, each after the one before, and then comes the rest
 abbrev pub AreRead : List Decoded → List ℕ → List ℕ → Type 0
 AreRead [] rest bytes = bytes ≡ rest
 AreRead (d ∷ more) rest bytes = (decoded bytes ≡ Some d) × AreRead more rest (drop d.len bytes)

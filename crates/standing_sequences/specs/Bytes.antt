@@ -38,7 +38,7 @@ byte_of address (Some part) = slice_get part.bytes (address - part.address)
 unfoldable pub byte_at : Spelled → ℕ → Option ℕ
 byte_at image address = byte_of address (find (holds address) image.parts)
 
--- these bytes stand in the image from the address on, one behind the other
+-- these bytes stand in the image from the address on, one after another
 abbrev pub Stand : Spelled → ℕ → List ℕ → Type 0
 Stand image address bytes = (k : ℕ) → k < length bytes → byte_at image (address + k) ≡ slice_get bytes k
 

@@ -104,7 +104,7 @@ fn push_symbols(alloc: Global, text: &mut String, symbols: &[SymbolRef]) -> Resu
     Ok(())
 }
 
-/// Adds names, with a space behind each.
+/// Adds names, with a space after each.
 fn push_names(text: &mut String, names: &[&[u8]]) -> Result<(), AllocError> {
     for name in names {
         for byte in *name {

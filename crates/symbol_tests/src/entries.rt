@@ -47,7 +47,7 @@ fn check(rt: &impl Abort, alloc: Global, line: &str) -> Result<(), Fail> {
     Ok(())
 }
 
-/// The needs of a program that may lie anywhere. What stands behind a `?` is asked for, but not needed.
+/// The needs of a program that may lie anywhere. What stands after a `?` is asked for, but not needed.
 const NEEDS: &str = "runtime addr:400020 word:4 pair:4 desc:x pair:x module addr:400010 pair:4 \
     addr:400020 desc:x runtime ?pair:y ?word:x";
 

@@ -13,7 +13,7 @@ use std::test::Fail;
 use tls_symbols::{Bindings, Exports, exports, resolve};
 
 /// The section of each object's code. Section 1 holds its variables, section 3 the code's relocations, where there are
-/// any, and the symbols come behind that.
+/// any, and the symbols come after that.
 const CODE: u32 = 2;
 
 /// The kinds of symbols: st_info, st_shndx, st_other, st_value and st_size of each. `v` is a GLOBAL variable, `f` a
@@ -82,7 +82,7 @@ fn symbols_of(alloc: Global, words: &str) -> Result<Vec<Symbol<'_>>, Fail> {
     Ok(symbols)
 }
 
-/// The relocations of an object's words TYPE@SYMBOL, one behind the other.
+/// The relocations of an object's words TYPE@SYMBOL, one after another.
 fn relocations_of(alloc: Global, words: &str) -> Result<Vec<Rela>, Fail> {
     let mut relocations = Vec::new(alloc);
     let mut offset = 0_u64;
@@ -113,7 +113,7 @@ pub(crate) fn files_of(alloc: Global, objects: &str) -> Result<Vec<Vec<u8>>, Fai
     Ok(files)
 }
 
-/// Images, each behind a `|`.
+/// Images, each after a `|`.
 pub(crate) fn images_of(alloc: Global, text: &str) -> Result<Vec<Vec<Vec<u8>>>, Fail> {
     let mut images = Vec::new(alloc);
     for objects in text.split('|').skip(1) {
@@ -144,7 +144,7 @@ pub(crate) fn exports_of<'a>(
     Ok(startup)
 }
 
-/// Adds the names that an image exports, one behind the other.
+/// Adds the names that an image exports, one after another.
 fn push_names(exports: &Exports, text: &mut Vec<u8>) -> Result<(), AllocError> {
     for name in exports.names() {
         text.extend_from_slice(name)?;
@@ -154,7 +154,7 @@ fn push_names(exports: &Exports, text: &mut Vec<u8>) -> Result<(), AllocError> {
     Ok(())
 }
 
-/// The names that images export, with a `/` behind each image's.
+/// The names that images export, with a `/` after each image's.
 pub(crate) fn exported(alloc: Global, images: &[Vec<Vec<u8>>]) -> Result<Vec<u8>, Fail> {
     let startup = exports_of(alloc, images)?;
     let mut text = Vec::new(alloc);
@@ -215,7 +215,7 @@ fn push_said(
     Ok(())
 }
 
-/// What each relocation is bound to, one behind the other.
+/// What each relocation is bound to, one after another.
 fn all_said(alloc: Global, bindings: &Bindings, objects: &[Object]) -> Result<String, AllocError>
     requires { bindings.now.objects ≡ objects.now }
 {

@@ -6,7 +6,7 @@ use std::process::Abort;
 use std::test::Fail;
 
 /// Each line: what each use is bound to, or the fault; then the objects of an image, with `/` between them, and each
-/// startup image behind a `|`. An object is words KIND:NAME, its symbols from number 1 on, and TYPE@SYMBOL, its uses by
+/// startup image after a `|`. An object is words KIND:NAME, its symbols from number 1 on, and TYPE@SYMBOL, its uses by
 /// relocations. Of the types, 23 (TPOFF32) and 20 (TLSLD) are uses of the own image alone; 19 (TLSGD), 22 (GOTTPOFF), 34
 /// (GOTPC32_TLSDESC) and 35 (TLSDESC_CALL) leave room for another one; 0 (NONE), 1 (64), 4 (PLT32) and 9 (GOTPCREL) are
 /// not for variables.

@@ -15,7 +15,7 @@ use tls_symbols::{Bindings, Exports, resolve};
 /// variable, a function and a variable of the program. Its relocations are in section 3: 0 is NONE, 10 is 32, 11 is
 /// 32S, 19 is TLSGD, 20 is TLSLD, 22 is GOTTPOFF, 23 is TPOFF32, and 34 is GOTPC32_TLSDESC.
 const CASES: &str = "\
-// an offset from the thread pointer, and addresses in 32 bits; the former is told, though it stands behind
+// an offset from the thread pointer, and addresses in 32 bits; the former is told, though it stands after
 late|8|LocalExecInModule at object Some(0) section 3 entry 2|v:x f:f u:y 0@0 11@2 23@1 10@2
 pie|8|NarrowInModule at object Some(0) section 3 entry 1|v:x f:f u:y 0@0 11@2 23@1 10@2
 exe|8|4 fit|v:x f:f u:y 0@0 11@2 23@1 10@2

@@ -97,7 +97,7 @@ pub(crate) fn push_entry(text: &mut String, entry: &Entry) -> Result<(), AllocEr
     text.push_str("; ")
 }
 
-/// The needs of words, but for those that are only asked for, behind a `?`.
+/// The needs of words, but for those that are only asked for, after a `?`.
 fn needs_of(alloc: Global, words: &str) -> Result<Vec<Need<'_>>, AllocError> {
     let mut needs = Vec::new(alloc);
     for word in words.split(' ') {

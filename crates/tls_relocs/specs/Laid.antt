@@ -16,7 +16,7 @@ abbrev pub laid : ℕ → List Placed → List ℕ
 laid at [] = []
 laid at (s ∷ more) = zeros (s.place - at) ++ (s.bytes ++ laid (s.place + length s.bytes) more)
 
--- the byte of place p: a part's byte, 0 in front of a part, None behind the last
+-- the byte of place p: a part's byte, 0 before a part, None after the last
 abbrev pub unit_at : List Placed → ℕ → Option ℕ
 unit_at [] p = None
 unit_at (s ∷ more) p =
@@ -24,7 +24,7 @@ unit_at (s ∷ more) p =
     if nat_lt p (s.place + length s.bytes) then slice_get s.bytes (p - s.place) else
     unit_at more p
 
--- each part begins no earlier than the one in front of it ends, the first no earlier than at `at`
+-- each part begins no earlier than the one before it ends, the first no earlier than at `at`
 abbrev pub Rising : ℕ → List Placed → Type 0
 Rising at [] = Unit {0}
 Rising at (s ∷ more) = (at ≤ s.place) × Rising (s.place + length s.bytes) more

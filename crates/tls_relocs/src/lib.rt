@@ -7,7 +7,7 @@
 //!
 //! The psABI writes these values in letters: S is the place of the symbol, A the addend, P the place of the field
 //! itself, and G the place of an entry in the GOT, the table of words that a loader fills. A call is `S + A - P`,
-//! since the processor adds the field to the address behind it (A is then -4, for the field's own four bytes). A
+//! since the processor adds the field to the address after it (A is then -4, for the field's own four bytes). A
 //! thread-local variable has no one address: its field holds `O + A` less how far its module's block begins below the
 //! thread pointer, O being the offset in that block. For example, in
 //!

@@ -22,7 +22,7 @@ fn keep_freed(alloc: Global) {
     let _given_back = Vec::<u8>::with_capacity(alloc, LARGEST_KEPT);
 }
 
-/// The words behind the program's name. Each must be UTF-8.
+/// The words after the program's name. Each must be UTF-8.
 fn words_of(rt: &(impl Env + AllocGlobal)) -> io::Result<Vec<String>> {
     let mut words = Vec::new(rt.alloc());
     for word in env::args(rt)?.skip(1) {

@@ -9,7 +9,7 @@ use std::rt::Files;
 use std::test::Fail;
 use std::{env, fs, io, process};
 
-/// What the file of that name holds, behind a mark, through the trait.
+/// What the file of that name holds, after a mark, through the trait.
 pub(crate) fn fetched<S: Store>(
     alloc: Global,
     store: &mut S,
@@ -33,7 +33,7 @@ fn new_folder<R: Files>(
     Ok(folder)
 }
 
-/// What a file holds, behind a mark.
+/// What a file holds, after a mark.
 fn read_back(rt: &HostRuntime, alloc: Global, name: &str) -> io::Result<Vec<u8>> {
     match fetched(alloc, &mut HostStore::new(rt, alloc), name) {
         Ok(text) => Ok(text),

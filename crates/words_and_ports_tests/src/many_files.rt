@@ -16,7 +16,7 @@ fn letters(alloc: Global) -> Result<MemoryStore, AllocError> {
     Ok(store)
 }
 
-/// The files of these names, one behind another.
+/// The files of these names, one after another.
 fn joined<S: Store, R: Threads + Sync>(
     rt: &R,
     alloc: Global,
@@ -60,7 +60,7 @@ fn the_first_refusal_is_the_last_call(rt: HostRuntime) -> Result<(), Fail> {
         assert!(rt; joined(&rt, rt.alloc(), &mut store, &names) == Err(FetchFault::Failed));
         assert!(rt; store.faults() == 1, "failing at {fails_at}");
     }
-    // Calls behind the one that was refused are not counted: the fourth is the next.
+    // Calls after the one that was refused are not counted: the fourth is the next.
     let mut store = letters(rt.alloc())?;
     store.fail_at(4);
     let names = ["a", "b", "none", "c", "d"];

@@ -4,7 +4,7 @@ use std::alloc::{AllocError, Global};
 use std::process::Abort;
 use std::test::Fail;
 
-/// Each line: what is asked for, and each word behind a `|`.
+/// Each line: what is asked for, and each word after a `|`.
 const CASES: &str = "\
 run job allowed|run|job
 run job off|run|job|--no-relax

@@ -93,7 +93,7 @@ fn fill<R: Read>(from: &mut R, buffer: &mut [u8]) -> io::Result<usize>
 
 /// Appends the next `expected` bytes of the reader, or all that it has left where those are fewer, and answers
 /// how many it was. They are read straight into the room made for them. After a refusal some of that room may
-/// stand behind what was there.
+/// stand after what was there.
 fn read_front<R: Read>(
     from: &mut R,
     into: &mut Vec<u8>,
