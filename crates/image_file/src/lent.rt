@@ -1,4 +1,4 @@
-//! What an image lends, found in the tables of its file.
+//! What an image lends, taken from the tables of its file.
 
 ghost use Rattle.std.specs.Prelude.{◌≡◌, ◌+◌, ◌<◌, ◌≤◌, length, slice_get, slice_range};
 ghost use Rattle.image_faults.specs.Array.{symbol_count};

@@ -1,4 +1,4 @@
-//! The image that a linker's draft becomes.
+//! Makes an image from a linker's draft.
 
 ghost use Rattle.std.specs.Prelude.{◌≡◌, ◌+◌, ◌^◌, ◌<◌, ◌≤◌, ◌++◌, ◌∷◌, [], All, IfOk, length, vec_len};
 ghost use Rattle.image_file.specs.declared.part.PartClass.TheVariants.{ReadOnly};
@@ -20,7 +20,7 @@ use crate::tables::put_tables;
 use image_file::{Image, PartClass};
 use std::alloc::{AllocError, Global};
 
-/// The parts of a draft, and after them that of the tables.
+/// The parts of a draft, and after them the part of the tables.
 fn with_tables(
     alloc: Global,
     parts: &[PartPlace],
@@ -57,9 +57,9 @@ fn put_made(draft: &Draft<'_>, layout: &Layout, outline: &Outline<'_>, out: &mut
     put_page(outline, out, 0);
 }
 
-/// The image that a draft becomes. The file has a page, which is overwritten with the headers, and then the bytes of
-/// each part at the offset of its address ([`file_offset`]), up to the end of the last part. The dynamic tables are
-/// put after it, and the image keeps the bytes.
+/// The image of a draft. The file has one page, which the headers overwrite, and then the bytes of each part at the
+/// offset of its address ([`file_offset`]), up to the end of the last part. The dynamic tables are appended to it,
+/// and the image keeps the bytes.
 pub fn image_of(alloc: Global, draft: &Draft<'_>, file: Vec<u8>) -> Result<Image, AllocError>
     requires linkable { IsLinkable (contents_of draft.now file.items) }
     requires ends { length file.items ≡ file_offset draft.now.kind (parts_end draft.now.kind (contents_of draft.now file.items).parts) }
