@@ -48,7 +48,7 @@ slice_get-splice_before at k new old inside before =
     let there : k < length (take at old) = omega arith in
     slice_get-append (take at old) (new ++ drop (at + length new) old) k there ∙ slice_get-take at k old before
 
--- in what was written
+-- inside what was written
 pub slice_get-splice_within : (at k : ℕ) (new old : List ℕ) → at + length new ≤ length old → at ≤ k
     → k < at + length new → slice_get (splice at new old) k ≡ slice_get new (k - at)
 unfolding splice
