@@ -48,7 +48,7 @@ last_offset m = startup_end (infos m) 0
 unfoldable pub static_offset : JobImages → ℕ → ℕ
 static_offset m number = startup_end (take number (infos m)) 0
 
--- an image and its kind, by its number, counted from 1
+-- an image, by its number, counted from 1
 unfoldable pub image_at : JobImages → ℕ → Option Spelled
 image_at m zero = None
 image_at m (suc index) = slice_get m.images index
