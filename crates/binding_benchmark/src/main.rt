@@ -1,6 +1,8 @@
-//! How long it takes to bind names: `binding_benchmark OBJECTS [time]` makes OBJECTS objects, from 1 to 10,000. Each
-//! defines 100 thread-local variables and uses the 100 of the object before it. With `time` it prints how long it
-//! took to bind the names of all objects, and then to look up the binding of each relocation's symbol.
+//! Measures how long it takes to bind names.
+//!
+//! `binding_benchmark OBJECTS [time]` makes OBJECTS objects, from 1 to 10,000. Each defines 100 thread-local
+//! variables and uses the 100 of the object before it. With `time` it prints how long it took to bind the names of
+//! all objects, and then to look up the binding of each relocation's symbol.
 #![tactic(auto)]
 
 ghost use Rattle.std.specs.Prelude.{◌≡◌, ◌<◌, length};

@@ -1,8 +1,8 @@
 //! The words of a command line: reads them as a command.
 //!
-//! A user asks a linker for work by words: a command, the names of files, and options that may stand before, between
-//! or after them. This crate reads the words that follow the program's name, and returns a [`Command`], or `Usage` if
-//! they are not one:
+//! A user asks a linker for work by words: a command, the names of files, and options that may stand before,
+//! between or after them. This crate reads the words that follow the program's name, and returns a [`Command`], or
+//! `Usage` if they are not one:
 //!
 //! | words | what is asked for |
 //! |---|---|

@@ -12,8 +12,8 @@ StoreCounts before now (Err fault.Store) = Counted before now
 StoreCounts before now (Err fault.OutOfMemory) = now ≡ before
 StoreCounts before now (Err (fault.Refused r)) = now ≡ before
 
--- the files are as before if a command is refused or the store failed; if it succeeded, or ran out of memory for saying
--- so, they may differ
+-- the files are as before if a command is refused or the store failed; if it succeeded, or ran out of memory for
+-- saying so, they may differ
 abbrev pub KeepsFiles : {T : Type 0} → Option Files → Option Files → Result T CommandFault → Type 0
 KeepsFiles before after (Ok x) = Unit {0}
 KeepsFiles before after (Err fault.OutOfMemory) = Unit {0}

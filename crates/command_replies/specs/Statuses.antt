@@ -36,8 +36,7 @@ pub record SinkShown (before now code : ℕ) : Type 0 where
   pub cause : code ≡ 4 → Rose before now
   pub shown : before < now → code ≡ 4
 
--- 2 means that the words are not accepted; if they are not, the status is 2, or that of a text that did not get
--- through
+-- 2 means that the words are not accepted; if they are not, the status is 2, or that of a text that did not get through
 pub record UsageShown (taken : Bool) (code : ℕ) : Type 0 where
   pub cause : code ≡ 2 → taken ≡ false
   pub shown : taken ≡ false → (code ≡ 2) ⊎ IsLate code

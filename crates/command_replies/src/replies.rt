@@ -29,8 +29,8 @@ pub enum Answer {
     NoMemory,
 }
 
-/// Writes the text, and returns the status to end with: its own; 4 if the sink failed; if the sink ran out of memory,
-/// that of saying so.
+/// Writes the text, and returns the status to end with: its own; 4 if the sink failed; if the sink ran out of
+/// memory, that of saying so.
 pub fn say<K: Sink>(out: &mut K, status: Status, text: &[u8]) -> u8
     ensures delivers { Delivers text.now (code_of status) (K.view out.old) (K.view out.new) result }
     ensures sink { SinkShown (K.view out.old).faults (K.view out.new).faults result }

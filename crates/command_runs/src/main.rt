@@ -22,10 +22,9 @@
 //! same out wanted                  there is a file `out` now, with the bytes of `wanted`
 //! ```
 //!
-//! A command is passed to [`commands::tlsld`] as the program `tlsld` does it, with a store in memory that has the
-//! files of the folder so far, and a sink in memory. Each run that differs prints a line, and each list ends with a
-//! line of counts. The status is 1 if any run differs, or if a list has an unknown line or names a file that does not
-//! exist.
+//! A command is passed to [`commands::tlsld`] as the program `tlsld` does it, with a store in memory that has the files
+//! of the folder so far, and a sink in memory. Each run that differs prints a line, and each list ends with a line of
+//! counts. The status is 1 if any run differs, or if a list has an unknown line or names a file that does not exist.
 //!
 //! **Rows make tables.** A row says in words what it changes, then has the change itself, the command, and the status
 //! with the one expected line, or `< wanted` for all lines of that file. Columns may have more spaces for looks. The

@@ -1,5 +1,5 @@
--- What each command says over the files of a store, which names it asks for, and how it leaves the files: for tasks and
--- for `race`.
+-- What each command says over the files of a store, which names it asks for, and how it leaves the files:
+-- for tasks and for `race`.
 use Rattle.std.specs.Prelude.{◌≡◌, ℕ, List, Option}
 use Rattle.command_line.specs.declared.tasks.Command.{Command}
 use Rattle.command_line.specs.declared.tasks.Command.TheVariants.{Plain, Race}

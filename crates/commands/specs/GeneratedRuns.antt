@@ -12,8 +12,7 @@ use Rattle.commands.specs.declared.telling.Telling.TheVariants.{Summary}
 use Rattle.commands.specs.Jobs.{BytesSay, DoLink}
 use Rattle.commands.specs.RunJobs.{IsRun}
 
--- it ran: its objects are the generated ones, all its images link, with sequences rewritten, and the output is one
--- line
+-- it ran: its objects are the generated ones, all its images link, with sequences rewritten, and the output is one line
 pub record GenSays (count status : ℕ) (text : List ℕ) : Type 0 where
   pub images : List Given
   pub given : AreGiven (bytes_in (generated_files count)) (generated_parts count) images

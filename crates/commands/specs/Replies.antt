@@ -10,8 +10,8 @@ use Rattle.ports.specs.Files.{Files}
 use Rattle.ports.specs.Sinks.{SinkView}
 use Rattle.commands.specs.Commands.{CommandLeaves, CommandSays, command_names}
 
--- the answer is what the command says over these files, with the second files after it; or the store fails, or memory
--- runs out
+-- the answer is what the command says over these files, with the second files after it; or the store
+-- fails, or memory runs out
 abbrev pub AnswerSays : Files → Option Files → Command → Answer → Type 0
 AnswerSays fs after asked (Replies reply) = CommandSays fs after asked (code_of reply.status) reply.text.items
 AnswerSays fs after asked StoreFails = Unit {0}

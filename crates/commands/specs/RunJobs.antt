@@ -1,5 +1,5 @@
--- What `run` and `check` say over the files of a store: for a job whose images all link, the text of its run, or
--- whether it is clean.
+-- What `run` and `check` say over the files of a store: for a job whose images all link, the text of its run,
+-- or whether it is clean.
 use Rattle.std.specs.Prelude.{◌≡◌, ℕ, Bool, true, List, map, None}
 use Rattle.command_line.specs.declared.tasks.Rewriting.{Rewriting}
 use Rattle.command_line.specs.Rewritings.{is_allowed}

@@ -58,8 +58,8 @@ world_of job modules = job_world (job_loads modules) job.fuel job.lines job.orde
 abbrev pub as_checked : List Linking → List Linking
 as_checked ls = map (λ (l : Linking). record l { relax = true }) ls
 
--- all turns of the job's threads, in the same order, as its objects mean them: no image, no table and no rewritten byte
--- occurs in it
+-- all turns of the job's threads, in the same order, as its objects mean them: no image, no table and no
+-- rewritten byte occurs in it
 abbrev pub meaning_of_job : JobParts → List Linking → Shared Word Flag Byte Line
 meaning_of_job job ls = meant_world (meaning_of ls) job.fuel job.lines job.order
 

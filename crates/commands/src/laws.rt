@@ -10,8 +10,8 @@ pub fn images_are_in_order()
     ensures { (text : List ℕ) (job : JobParts) → IsInOrder text job }
 {}
 
-/// `run` promises the meaning's lines for exactly the jobs for which `check` prints `clean`, in either setting of
-/// `run`.
+/// `run` promises the meaning's lines for exactly the jobs for which `check` prints `clean`, in
+/// either setting of `run`.
 pub fn checked_links_are_run()
     ensures { CheckedLinksAreRun }
 {}

@@ -1,5 +1,6 @@
-//! The commands of `tlsld`, a static linker for thread-local storage on x86-64 with a run time that shows what the
-//! linked images do.
+//! The commands of `tlsld`, from the words to the output: run, race, check, link, sites, show and gen.
+//!
+//! `tlsld` is a static linker for thread-local storage on x86-64, with a run time that shows what the linked images do.
 //!
 //! A thread-local variable has one name and a copy for each thread. The compiler cannot know where a thread's copy
 //! stands, so it leaves a field in the instruction, and a relocation says what belongs there. For a variable of the
@@ -12,17 +13,16 @@
 //! A wrong byte there gives one thread another thread's data, and no test of the program may show it. So a contract
 //! says what this program does with its input: the clauses of `tlsld` and `tlsld_plain`, in `top`.
 //!
-//! Read a command from top to bottom in `command`. `show` fetches the file, reads it as an image, and writes its
-//! text. The others are about a job, and one chain of steps (`told`) refuses it for the same reasons, in the same
-//! order: it fetches and reads the job; finds the image that `link` or `sites` name; fetches and reads the objects of
-//! all its images; and links all images. No byte of an image is laid until then. Only then does a command go its own
-//! way (`endings`): `run` (`runs`) writes all images, reads them back, runs the job's threads over them and prints
-//! the transcript; `check` (`checks`) says whether what they do is decided by the objects alone, or depends on what a
-//! linker chooses; `sites` (`site_lines`) prints what stands in the place of each sequence; and `link` (`links`)
-//! writes only its image, and puts the file into the store, whole. `gen` (`generated`) is `run` of a job that it
-//! makes instead of fetching it. `race` (`races`) is `run` without an order: each thread of the job in a thread of
-//! its own (`race_runs`). Only `race` may wait, so its steps and its answer stand next to those of the others, which
-//! are tasks.
+//! Read a command from top to bottom in `command`. `show` fetches the file, reads it as an image, and writes its text.
+//! The others are about a job, and one chain of steps (`told`) refuses it for the same reasons, in the same order: it
+//! fetches and reads the job; finds the image that `link` or `sites` name; fetches and reads the objects of all its
+//! images; and links all images. No byte of an image is laid until then. Only then does a command go its own way
+//! (`endings`): `run` (`runs`) writes all images, reads them back, runs the job's threads over them and prints the
+//! transcript; `check` (`checks`) says whether what they do is decided by the objects alone, or depends on what a
+//! linker chooses; `sites` (`site_lines`) prints what stands in the place of each sequence; and `link` (`links`) writes
+//! only its image, and puts the file into the store, whole. `gen` (`generated`) is `run` of a job that it makes instead
+//! of fetching it. `race` (`races`) is `run` without an order: each thread of the job in a thread of its own
+//! (`race_runs`). Only `race` may wait, so its steps and its answer stand next to those of the others, which are tasks.
 //!
 //! `run` and `check` are tied: if `check` says `clean`, `run` prints what the objects mean, event by event and line by
 //! line, whether sequences were rewritten or not (`specs/Runs`, `HasRun`, by the laws of `linked_jobs`).

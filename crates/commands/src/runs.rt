@@ -52,8 +52,8 @@ pub fn told_run<R: Threads + Sync>(
     telling.text(alloc, job, counts, &transcript)
 }
 
-/// Runs a job whose images are linked: writes each image, reads it back, and runs all threads over those that were
-/// read.
+/// Runs a job whose images are linked: writes each image, reads it back, and runs all threads
+/// over those that were read.
 fn run_linked(alloc: Global, job: &Job, all: Vec<Linked>) -> Result<Transcript, AllocError>
     requires links { (ls : List Linking) × AreLinks job.now ls × (all.items ≡ map linked_of ls) }
     ensures ran { IfOk result (λ transcript. (ls : List Linking) → AreLinks job.now ls → all.items ≡ map linked_of ls

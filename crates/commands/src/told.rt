@@ -1,8 +1,8 @@
 //! The chain of steps of a command about a job, from its file to images that all link.
 //!
-//! `run`, `check`, `link` and `sites` take these steps, and so does `gen`, which begins with files that it made. The
-//! command (`Purpose`) decides only the last step (`endings`). Each function returns the command's output, or a
-//! refusal.
+//! `run`, `check`, `link` and `sites` take these steps, and so does `gen`, which begins with files that it
+//! made. The command (`Purpose`) decides only the last step (`endings`). Each function returns the
+//! command's output, or a refusal.
 ghost use Rattle.std.specs.Prelude.{◌≡◌, ℕ, List, IfSome, Some, Ok, map};
 ghost use Rattle.command_line.specs.Rewritings.{is_allowed};
 ghost use Rattle.command_replies.specs.Faults.{NoStoreFault, StoreCounts};

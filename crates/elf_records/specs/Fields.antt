@@ -17,8 +17,8 @@ signed_at at bytes = cast_signed w64 (number_at 8 at bytes)
 unfoldable pub part_at : ℕ → ℕ → List ℕ → List ℕ
 part_at n at bytes = take n (drop at bytes)
 
--- what a reader of records of this size returns: None exactly where the record would pass the end, else the
--- record there
+-- what a reader of records of this size returns: None exactly where the record would pass the
+-- end, else the record there
 abbrev pub IsReadAt : {R : Type 0} → ℕ → (ℕ → List ℕ → R) → List ℕ → ℕ → Option R → Type 0
 IsReadAt size record_at bytes at result =
     result ≡ (if nat_le (at + size) (length bytes) then Some (record_at at bytes) else None)

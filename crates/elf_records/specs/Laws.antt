@@ -36,7 +36,7 @@ number_at-field n k at i j xs within =
     let further : i + (at + k) ≡ i + at + k = omega arith in
     number_at-part n (at + k) i j xs within ∙ ap (λ p. number_at n p xs) further
 
--- a number inside m bytes is read from those bytes alone
+-- a number inside m bytes depends only on those bytes
 pub number_at-own : (n k m at : ℕ) (xs : List ℕ) → k + n ≤ m
     → number_at n k (part_at m at xs) ≡ number_at n (at + k) xs
 unfolding part_at
@@ -74,7 +74,7 @@ pub part_at-drop : (n at i : ℕ) (xs : List ℕ) → part_at n at (drop i xs) �
 unfolding part_at
 part_at-drop n at i xs = ap (take n) (drop-drop at i xs)
 
--- bytes inside m bytes are taken from those alone
+-- bytes inside m bytes are taken only from those
 pub part_at-own : (n k m at : ℕ) (xs : List ℕ) → k + n ≤ m
     → part_at n k (part_at m at xs) ≡ part_at n (at + k) xs
 unfolding part_at

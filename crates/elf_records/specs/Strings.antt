@@ -6,8 +6,8 @@ use Rattle.std.specs.List.{before_first}
 unfoldable pub text_at : List ℕ → ℕ → List ℕ
 text_at table at = before_first (λ byte. byte == 0) (drop at table)
 
--- in the string table of this size that begins at `from`, a zero byte stands at offset `at` or after it, so a text that
--- begins there ends
+-- in the string table of this size that begins at `from`, a zero byte stands at offset `at` or after it, so a text
+-- that begins there ends
 abbrev pub Ends : List ℕ → ℕ → ℕ → ℕ → Type 0
 Ends b from size at = (k : ℕ) × (at ≤ k) × (k < size) × (slice_index b (from + k) ≡ 0)
 

@@ -8,8 +8,8 @@ ghost use Rattle.elf_records.specs.Relocations.{relocation_kind, width_of};
 use crate::field::{fits, i64_at, put_i64, put_u64, u64_at};
 
 // Relocation types, by what they write: S is the symbol's address, A the addend, P the address of the field, G the
-// address of the symbol's entry in the GOT (psABI, "Relocation Types"). TLS types: psABI, "Thread-Local Storage", and
-// Drepper's TLS paper.
+// address of the symbol's entry in the GOT (psABI, "Relocation Types"). TLS types: psABI, "Thread-Local Storage",
+// and Drepper's TLS paper.
 /// Nothing.
 pub const R_X86_64_NONE: u32 = 0;
 /// S + A, in 64 bits.
@@ -104,8 +104,7 @@ impl RelocationKind {
     }
 }
 
-/// How many bytes the field of a relocation of this type has; 0 for a number that is not a
-/// [`RelocationKind`].
+/// How many bytes the field of a relocation of this type has; 0 for a number that is not a [`RelocationKind`].
 #[inline]
 pub fn width_of(number: u32) -> u64
     ensures { result ≡ width_of (relocation_kind number) }

@@ -275,8 +275,7 @@ impl RelocationKind {
         matches!(self.row().value, SegmentOffset | ThreadOffset)
     }
 
-    /// Whether its field holds an address, a distance or a thread offset, with no table of the linker
-    /// involved.
+    /// Whether its field holds an address, a distance or a thread offset, with no table of the linker involved.
     #[inline(always)]
     pub fn has_value(self) -> bool
         ensures { result ≡ has_value self }

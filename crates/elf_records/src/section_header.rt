@@ -61,8 +61,8 @@ pub struct SectionHeader {
     pub size: u64,
     /// Another section: for a symbol table its string table, for relocations their symbol table.
     pub link: u32,
-    /// For a symbol table, the number of its first symbol that is not local; for relocations, the section
-    /// that they apply to.
+    /// For a symbol table, the number of its first symbol that is not local; for relocations, the
+    /// section that they apply to.
     pub info: u32,
     /// A power of two; the address must be a multiple of it. 0 and 1 require nothing.
     pub addralign: u64,

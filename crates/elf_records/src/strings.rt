@@ -47,8 +47,7 @@ pub fn text_at(table: &[u8], at: usize) -> &[u8]
     &rest[..text_len(rest)]
 }
 
-/// The text at an offset, as [`text_at`]; `None` if it has more than `limit` bytes. No byte after the limit
-/// is read.
+/// The text at an offset, as [`text_at`]; `None` if it has more than `limit` bytes. No byte after the limit is read.
 #[tactic(auto, unfolding(crate::specs::Strings::text_at), using(crate::proofs::TextLengths::longer_than, crate::proofs::TextLengths::is_short))]
 pub fn short_text_at(table: &[u8], at: usize, limit: usize) -> Option<&[u8]>
     ensures { MatchOption result (limit < length (text_at table.now at))

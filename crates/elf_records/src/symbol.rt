@@ -65,8 +65,8 @@ pub struct SymbolEntry {
     pub other: u8,
     /// The section that the symbol is defined in, or a reserved number such as [`SHN_UNDEF`].
     pub shndx: u16,
-    /// In an object, the offset in its section. In an image, the offset in the TLS segment for a TLS symbol,
-    /// else an address.
+    /// In an object, the offset in its section. In an image, the offset in the TLS segment for a TLS
+    /// symbol, else an address.
     pub value: u64,
     /// How many bytes the symbol names, or 0.
     pub size: u64,

@@ -161,8 +161,7 @@ const LITTLE_SAID: &str = "\
 [Image { name: Name { text: \"app\" }, kind: Exe, objects: Names { items: [Name { text: \"a.o\" }] } }]\n\
 [ThreadLine { image: 1, action: Open }]\n[]\n";
 
-/// What a job says, as one text: its threads, steps and order, its mentions, its images, and the lines of two
-/// threads.
+/// What a job says, as one text: its threads, steps and order, its mentions, its images, and the lines of two threads.
 fn said(alloc: Global, job: &str) -> Result<String, Fail> {
     let job = Job::read(alloc, job.as_bytes())?;
     let (threads, fuel, order) = (job.threads(), job.fuel(), job.order());

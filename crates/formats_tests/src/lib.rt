@@ -1,8 +1,8 @@
 //! Tests of the crates for file formats, through public calls only: one module for each crate.
 //!
-//! They stand in a crate of their own, as integration tests do, so that each tested crate is proved only once. They
-//! test what no clause says: that the definitions agree with the standards, and that a call with enough memory
-//! succeeds.
+//! They stand in a crate of their own, as integration tests do, so that each tested crate is proved only
+//! once. They test what no clause says: that the definitions agree with the standards, and that a call with
+//! enough memory succeeds.
 #![tactic(auto)]
 
 #[cfg(test)]

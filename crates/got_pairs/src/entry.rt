@@ -23,8 +23,8 @@ pub enum DynamicKind {
     DtpOff64,
     /// The symbol's offset from the thread pointer (R_X86_64_TPOFF64).
     TpOff64,
-    /// A TLS descriptor: a function and its argument, which together give the symbol's offset from the thread pointer
-    /// (R_X86_64_TLSDESC).
+    /// A TLS descriptor: a function and its argument, which together give the symbol's offset from the thread
+    /// pointer (R_X86_64_TLSDESC).
     TlsDesc,
 }
 
@@ -120,8 +120,7 @@ fn own_offset<'a>(kind: ImageKind, block_offset: u64, offset: u64) -> Entry<'a>
     })
 }
 
-/// The address of a symbol of the image itself. It stands in the file, and the loader adds how far it moved the
-/// image.
+/// The address of a symbol of the image itself. It stands in the file, and the loader adds how far it moved the image.
 fn own_address<'a>(kind: ImageKind, place: u64) -> Entry<'a>
     ensures { result ≡ by_kind kind (One (held place)) (One (loaded place Relative Image place))
         (One (loaded place Relative Image place)) }

@@ -8,8 +8,8 @@ use std::io::Print;
 use std::process::Abort;
 use std::test::Fail;
 
-/// A registry of a program, image 1, and of late images of 8 bytes; image 3 has static blocks. Image 2 was opened
-/// `opens` times.
+/// A registry of a program, image 1, and of late images of 8 bytes; image 3 has static blocks. Image 2
+/// was opened `opens` times.
 fn opened_so_often(rt: &impl Abort, alloc: Global, opens: u32) -> Result<Registry, AllocError> {
     let program = ImageInfo {
         late: false,

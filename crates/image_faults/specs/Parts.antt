@@ -19,8 +19,8 @@ count b = (header b).e_phnum
 unfoldable pub segment : List ℕ → ℕ → Segment
 segment b i = segment_at (64 + 56 * i) b
 
--- the address at which an image begins: fixed in a program at fixed addresses, 0 in an image that may be loaded
--- anywhere
+-- the address at which an image begins: fixed in a program at fixed addresses, 0 in an image that
+-- may be loaded anywhere
 abbrev pub base : List ℕ → ℕ
 base b = if (header b).e_type == ET_EXEC then 0x400000 else 0
 

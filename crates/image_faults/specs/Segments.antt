@@ -49,8 +49,8 @@ IsRightLoad b i =
     IsPlaced b (segment b i) × IsClass (segment b i) × IsWhole (segment b i) × IsInRange b i × IsOfFewWritten b i
     × IsLastConstant b i
 
--- header i, after the LOADs, of which there is one at least, is that of the dynamic array: at the start of the last
--- LOAD, and within it
+-- header i, after the LOADs, of which there is one at least, is that of the dynamic array: at the start of the
+-- last LOAD, and within it
 abbrev pub IsRightDynamic : List ℕ → ℕ → Type 0
 IsRightDynamic b i =
     (0 < i) × (i < count b) × ((segment b i).kind ≡ PT_DYNAMIC) × IsPlaced b (segment b i)

@@ -13,8 +13,8 @@ use Rattle.image_faults.specs.Names.{Ends}
 unfoldable pub symbol : List ℕ → ℕ → SymbolEntry
 symbol b k = symbol_at (symbols_place b + 24 * k) b
 
--- its name ends in the string table, its type is known, and it is GLOBAL or WEAK; number 0, the reserved one, need
--- not be
+-- its name ends in the string table, its type is known, and it is GLOBAL or WEAK; number 0, the
+-- reserved one, need not be
 abbrev pub IsRightSymbol : List ℕ → ℕ → Type 0
 IsRightSymbol b k =
     Ends b (strings_place b) (strings_size b) (symbol b k).name

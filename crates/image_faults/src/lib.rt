@@ -24,10 +24,10 @@
 //!
 //! With the variable's symbol at 5, past the 4 bytes of its TLS segment, it is refused as `image 12456 TlsPlace`.
 //!
-//! The format is that of the System V ABI (gABI, "Program Loading and Dynamic Linking"), of its supplement for x86-64
-//! (psABI) and of "ELF Handling For Thread-Local Storage". The narrow form that is required here is this project's
-//! own: a byte's address decides its offset in the file, and the array has its entries in one order. Its linker
-//! writes that form.
+//! The format is that of the System V ABI (gABI, "Program Loading and Dynamic Linking"), of its supplement for
+//! x86-64 (psABI) and of "ELF Handling For Thread-Local Storage". The narrow form that is required here is this
+//! project's own: a byte's address decides its offset in the file, and the array has its entries in one order. Its
+//! linker writes that form.
 #![tactic(auto)]
 
 mod array;

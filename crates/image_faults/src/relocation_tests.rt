@@ -28,7 +28,7 @@ fn may_name(tables: &Tables, kind: Option<LoaderKind>, symbol: u64) -> bool
     }
 }
 
-/// Whether a relocation is of a type that a loader knows, and of a symbol that it may name.
+/// Whether a loader knows the type of a relocation, and the relocation may name its symbol.
 fn names_right(tables: &Tables, rela: &Rela) -> bool
     ensures { IsTrue result ↔ NamesRight tables.now.bytes.now rela.now }
 {

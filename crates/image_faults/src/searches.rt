@@ -24,7 +24,7 @@ pub fn load_count(headers: &Headers) -> u64
     headers.count
 }
 
-/// How many of the first `end` headers are of a writable part. There are at most ten headers.
+/// How many of the first `end` headers are those of a writable part. There are at most ten headers.
 pub fn written_below(headers: &Headers, end: u64) -> u64
     requires { end ≤ headers.now.count }
     ensures { result ≡ how_many (is_writable headers.now.bytes.now) end }

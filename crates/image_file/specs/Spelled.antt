@@ -93,7 +93,7 @@ abbrev pub visibility_numbered : ℕ → Visibility
 visibility_numbered n = if n == STV_DEFAULT then Default else if n == STV_INTERNAL then Internal else if n ==
     STV_HIDDEN then Hidden else Protected
 
--- what a symbol says, but for its name
+-- the symbol of an entry, without its name
 unfoldable pub symbol_of : SymbolEntry → ImageSymbol
 symbol_of s = record {
   binding = binding_numbered (symbol_binding s);

@@ -42,7 +42,7 @@ pub fn tls_in(tables: &Tables) -> Option<TlsPart>
     })
 }
 
-/// A symbol, but for its name.
+/// A symbol, without its name.
 pub fn symbol_in(tables: &Tables, number: u64) -> Option<ImageSymbol>
     ensures { result ≡ slice_get (symbols tables.now.bytes.now) number }
 {

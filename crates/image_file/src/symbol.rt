@@ -40,7 +40,7 @@ pub enum Visibility {
     Protected,
 }
 
-/// A symbol of an image, but for its name.
+/// A symbol of an image, without its name.
 #[derive(Clone, Copy, PartialEq, Eq, Debug)]
 pub struct ImageSymbol {
     pub binding: SymbolBinding,

@@ -1,8 +1,10 @@
-//! Changes images and reads them: `image_fuzz COUNT FILE..` makes COUNT changed images from the files in turn, each
-//! with one to three bytes changed, and reads each. Reading must end with an image, all of whose parts, symbols,
-//! names and relocations can be read, or with a fault at an offset of the file or at its end. What the writer makes
-//! of an image is read again, and of the given images the writer makes the same files. The changes follow a fixed
-//! sequence of numbers, so each run makes the same ones.
+//! Changes bytes of images, and checks how reading and writing the changed images ends.
+//!
+//! `image_fuzz COUNT FILE..` makes COUNT changed images from the files in turn, each with one to three bytes
+//! changed, and reads each. Reading must end with an image, all of whose parts, symbols, names and relocations can
+//! be read, or with a fault at an offset of the file or at its end. What the writer makes of an image is read again,
+//! and from the given images the writer makes the same files. The changes follow a fixed sequence of numbers, so
+//! each run makes the same ones.
 //!
 //! Its data are an executable, a program that may be loaded anywhere, and a module. Programs outside this repository
 //! wrote them, and a reader outside it counted how many changed images are accepted.

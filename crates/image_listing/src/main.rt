@@ -1,5 +1,6 @@
-//! Lists images: `image_listing FILE..` prints what each file spells, as the command `show` prints it. At the first
-//! file that is not an image it prints what is wrong with it, and ends with status 8.
+//! Lists images: `image_listing FILE..` prints what each file spells, as the command `show` does.
+//!
+//! At the first file that is not an image it prints what is wrong with it, and ends with status 8.
 //!
 //! Its data are images of known small objects, linked in known ways by programs outside this repository; `stdout` is
 //! what other programs print of them. data/README.md has each image's origin.

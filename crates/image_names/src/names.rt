@@ -32,8 +32,8 @@ impl<'i> Model for ImageNames<'i> {
 }
 
 impl<'i> ImageNames<'i> {
-    /// Hashes the names of an image: one walk over its symbols, and one over each name. The only error is
-    /// `OutOfMemory`.
+    /// Hashes the names of an image: one walk over its symbols, and one over each name. The only
+    /// error is `OutOfMemory`.
     pub fn new(alloc: Global, image: &'i Image) -> Result<ImageNames<'i>, AllocError>
         ensures { IfOk result (λ names. names ≡ image.now) }
     {
@@ -63,8 +63,8 @@ impl<'i> ImageNames<'i> {
         self.meaning(name)?.function()
     }
 
-    /// The thread-local variable of a name. The first symbol with the name decides; it must be defined and
-    /// thread-local.
+    /// The thread-local variable of a name. The first symbol with the name decides; it must be
+    /// defined and thread-local.
     pub fn variable(&self, name: &[u8]) -> Option<Variable>
         ensures { result ≡ variable_in self.now name.now }
     {

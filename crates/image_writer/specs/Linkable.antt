@@ -19,8 +19,7 @@ abbrev pub tls_size : Option TlsPart → ℕ
 tls_size None = 0
 tls_size (Some t) = t.size
 
--- each symbol is GLOBAL or WEAK, has a name without a zero byte, and lies in the TLS segment if it is thread-local
--- here
+-- each symbol is GLOBAL or WEAK, has a name without a zero byte, and lies in the TLS segment if it is thread-local here
 pub record IsRightSymbol (c : Contents) (k : ℕ) : Type 0 where
   pub shared : (symbol c k).binding ≢ Local
   pub named : All (λ byte. byte ≢ 0) (name c k)
@@ -83,8 +82,8 @@ AreRising [] = Unit {0}
 AreRising (r ∷ []) = Unit {0}
 AreRising (r ∷ (s ∷ more)) = (r.place + width r.kind ≤ s.place) × AreRising (s ∷ more)
 
--- what a linker must ensure: a page of headers can describe the parts with the tables after them, and only a module
--- uses static TLS
+-- what a linker must ensure: a page of headers can describe the parts with the tables after them, and only a
+-- module uses static TLS
 pub record IsLinkable (c : Contents) : Type 0 where
   pub loadable : IsLoadable (outline_of (finished c))
   pub holds_tls : HoldsTls (outline_of (finished c))

@@ -59,7 +59,7 @@ pub record IsLoadable (o : Outlined) : Type 0 where
   pub array_in : o.array_size ≤ (last_part o).size
   pub tls_is : IfSome o.tls (IsRightTlsPart o)
 
--- the TLS segment begins no further than the last part ends; with an empty initial image it might, and the file would
--- end before it
+-- the TLS segment begins no further than the last part ends; with an empty initial image it might, and the
+-- file would end before it
 abbrev pub HoldsTls : Outlined → Type 0
 HoldsTls o = IfSome o.tls (λ t. t.address ≤ end_of (last_part o))

@@ -132,8 +132,8 @@ fn put_gaps(outline: &Outline<'_>, out: &mut [u8])
     }
 }
 
-/// Puts everything of a file except its parts, which are at their offsets already: the page of headers, and zeros
-/// between the parts.
+/// Puts everything of a file except its parts, which are at their offsets already: the page of headers, and
+/// zeros between the parts.
 fn put_around(outline: &Outline<'_>, out: &mut [u8])
     requires loadable { IsLoadable (outlined outline.now) }
     requires tls { HoldsTls (outlined outline.now) }
@@ -164,9 +164,9 @@ pub fn into_file(alloc: Global, image: Image) -> Result<Vec<u8>, AllocError>
 /// Appends the file of an image: a page of headers, and each part at its address. The file is read as that very
 /// image. If memory runs out, nothing is appended.
 ///
-/// It requires that the TLS segment begins no further than the last part ends (`HoldsTls`). An image that was read
-/// may break that if its initial image is empty: its file would end before that segment begins, and no reader would
-/// accept it.
+/// It requires that the TLS segment begins no further than the last part ends (`HoldsTls`). An image that was
+/// read may break that if its initial image is empty: its file would end before that segment begins, and no
+/// reader would accept it.
 pub fn write(alloc: Global, image: &Image, into: &mut Vec<u8>) -> Result<(), AllocError>
     requires { HoldsTls (outline_of image.now) }
     ensures ok { OnOk result (into.new.items ≡ into.old.items ++ written image.now) }

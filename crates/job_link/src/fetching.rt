@@ -51,8 +51,7 @@ impl<'j> Files<'j> {
         }
     }
 
-    /// Adds a file that is in no store, unless its name is there already. If memory runs out, the files are as
-    /// before.
+    /// Adds a file that is in no store, unless its name is there already. If memory runs out, the files are as before.
     pub fn add(&mut self, name: &'j str, bytes: &[u8]) -> Result<(), AllocError>
         ensures added { OnOk result (self.new ≡ with_unseen self.old name.now bytes.now) }
         ensures kept { OnErr result (self.new ≡ self.old) }

@@ -18,10 +18,9 @@
 //!    writes
 //!    only that; a checker takes what the objects mean ([`inputs_of`]), and needs no file.
 //!
-//! Two orders meet here. The job's lines **mention** images in any order; in **image order** the program is first,
-//! then come the modules that start with it, then the late ones. Files are fetched and read in the order of mentions,
-//! so that a user is told of the first wrong line; images are linked in image order, in which the loader numbers
-//! them.
+//! Two orders meet here. The job's lines **mention** images in any order; in **image order** the program is first, then
+//! come the modules that start with it, then the late ones. Files are fetched and read in the order of mentions, so
+//! that a user is told of the first wrong line; images are linked in image order, in which the loader numbers them.
 //!
 //! The rule that the crate keeps: **each file is fetched once, and each step does what the job says or names the
 //! first thing that stops it.** A step takes its things in one order and reports the first that fails: everything

@@ -93,8 +93,8 @@ abbrev pub fault_or : ℕ → Option JobFaultKind → Result JobParts JobFault �
 fault_or number None rest = rest
 fault_or number (Some kind) rest = Err (At number kind)
 
--- the job that these lines make, the first of which has this number, after lines that declared d; or the fault of the
--- first faulty line
+-- the job that these lines make, the first of which has this number, after lines that declared d; or the fault
+-- of the first faulty line
 unfoldable pub job_from : Declared → ℕ → List (List ℕ) → Result JobParts JobFault
 job_from d number [] = job_declared d
 job_from d number (line ∷ more) =

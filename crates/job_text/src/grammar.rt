@@ -34,8 +34,8 @@ pub(crate) enum Heading {
     Short,
 }
 
-/// The kind of a line. `None` if the first word begins no line, or if the kind of the image or the verb is there and
-/// unknown.
+/// The kind of a line. `None` if the first word begins no line, or if the kind of the image or the
+/// verb is there and unknown.
 #[tactic(auto, unfolding(crate::specs::Grammar::heading_of))]
 pub(crate) fn heading_of(words: &Words) -> Option<Heading>
     ensures { result ≡ heading_of words.now }

@@ -32,7 +32,7 @@ exe x:17:16 t:20:8 b:5:16 / x:9:16 t:1:8 = 400000 401000+0 +20 400020 401018+18 
 // objects in their order; data with bytes of all objects before data without
 exe x:1:1 w:3:4 z:5:8 / x:1:16 n:9:8 z:1:1 w:2:1 = 400000 401000 401008 400010 - 40100d 401003 tls 0 1 401000 0 room 402000
 exe t:1:1 b:1:1 / t:1:8 b:3:4 = 400000+0 +9 400008+8 +c tls f 8 400000 9 room 401000
-// sections of no bytes move the end of their class, but for data, which is dropped
+// sections of no bytes move the end of their class, except for data, which is dropped
 exe x:1:1 x:0:4096 r:1:1 r:0:4096 t:1:1 t:0:4096 b:0:4096 w:1:1 w:0:4096 z:0:4096 = 400000 401000 401000 402000 402000+0 403000+1000 +1000 403000 - - tls 1000 1000 402000 1000 room 404000
 exe t:0:4096 b:0:64 = 400000+0 +0 tls 0 1 400000 0 room 400000
 exe b:1:1 b:0:4096 = +0 +1000 tls 1000 1000 400000 0 room 400000

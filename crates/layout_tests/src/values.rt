@@ -7,8 +7,8 @@ use std::process::Abort;
 use std::test::Fail;
 use tls_relocs::{Field, Overflow, value};
 
-/// Each line: types, separated by commas, and the letters S, A, P and G (A in decimal, the others in hexadecimal); then
-/// what is stored.
+/// Each line: types, separated by commas, and the letters S, A, P and G (A in decimal, the others in
+/// hexadecimal); then what is stored.
 const VALUES: &str = "\
 // S + A - P: PC32 and PLT32
 2,4 80000003 -4 0 4d = Some(Ok(Word32(2147483647)))

@@ -7,8 +7,8 @@ use crate::symbol_ref::SymbolRef;
 pub enum Binding {
     /// A symbol of the image itself.
     Here(SymbolRef),
-    /// The symbol of that name that a startup image exports: 1 is the program, and from 2 on come the modules that
-    /// are loaded with it.
+    /// The symbol of that name that a startup image exports: 1 is the program, and from 2 on come the modules
+    /// that are loaded with it.
     Startup(u32),
     /// The run time's function, `__tls_get_addr`.
     Runtime,

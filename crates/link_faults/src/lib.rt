@@ -21,8 +21,8 @@
 //! is a symbol of one of its objects. A relocation's symbol is bound to such a symbol, to the symbol of that name in
 //! an image that is loaded with it, or to the run time's function: its [`Binding`].
 //!
-//! The crate has no rules of its own beyond these words, so that each crate of linking can use them without using
-//! another.
+//! The crate has no rules of its own beyond these words, so that each crate of linking can use them
+//! without using another.
 #![tactic(auto)]
 
 mod binding;

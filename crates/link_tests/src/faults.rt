@@ -45,8 +45,7 @@ const ALONE: &str = "\
 * exe f=c0 call:f,-7ffffffb -> links
 ";
 
-/// Two faults each: the earlier kind is reported, wherever it is, and of one kind the first object, section and
-/// entry.
+/// Two faults each: the earlier kind is reported, wherever it is, and of one kind the first object, section and entry.
 const TWO: &str = "
 * exe f=c0 f=c0 | gd:u -> Undefined at object Some(1) section 4 entry 0
 * start x=v0 v:00 le:x gd:u -> Undefined at object Some(0) section 4 entry 1

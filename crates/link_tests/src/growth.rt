@@ -1,6 +1,5 @@
-//! A link fails only when memory runs out, at any point where it allocates, and a second try gives the same image,
-//! byte for byte. Its objects are borrowed, so nothing can change them. A test that met such a failure says so in a
-//! line.
+//! A link fails only when memory runs out, at any point where it allocates, and a second try gives the same image, byte
+//! for byte. Its objects are borrowed, so nothing can change them. A test that met such a failure says so in a line.
 
 use crate::cases::{Unready, linked};
 use elf_object::{Object, ObjectFault};

@@ -1,8 +1,8 @@
 //! Images. An image lies at 400000, or at 0 if it may lie anywhere; each class of sections begins a page, and so do
 //! the global offset table, the stub and then the dynamic tables. These are an array of 16 for each entry, a hash
 //! table of 12 and 4 for each symbol, up to a multiple of 8, 24 for each symbol and each relocation, and the names,
-//! the empty one of symbol 0 included. Types of relocations: 7 a jump slot, 8 RELATIVE, 16 DTPMOD64, 17 DTPOFF64, 18
-//! TPOFF64, 36 TLSDESC.
+//! the empty one of symbol 0 included. Types of relocations: 7 a jump slot, 8 RELATIVE, 16 DTPMOD64, 17 DTPOFF64,
+//! 18 TPOFF64, 36 TLSDESC.
 
 use crate::cases::check_all;
 use std::test::Fail;
@@ -90,8 +90,8 @@ reloc 002000 18 0 0 reloc 002008 18 0 8 static-tls choices / Keep / Keep
 * exe ~x=v0 f=c0 v:01000000 mov:x | x=v0 v:02000000 ->
 kind exe part x 400000 7 part r 401000 12 part r 402000 197 tls 401000 12 12 8 symbol 000008 6 x symbol 400000 2 f
 choices / IeLe / # 48c7c0 f8ffffff; 01000000 00000000 02000000;
-// Zeros lie after all initial images, 1 byte at 0 and at 8: x is at 9 and z at d of a block of 24. Tables: 96 + 24 +
-// 72 + 5
+// Zeros lie after all initial images, 1 byte at 0 and at 8: x is at 9 and z at d of a block of 24.
+// Tables: 96 + 24 + 72 + 5
 * exe x=z0 v:01 z:4 le:x | z=z0 v:02 z:4 mov:z d:03 b:10,1 ->
 kind exe part x 400000 16 part r 401000 9 part rw 402000 17 part r 403000 197 tls 401000 9 17 8 symbol 000009 6 x symbol
 00000d 6 z choices / / IeLe # 64488b0425 f1ffffff 48c7c0 f5ffffff; 01 00000000000000 02; 03 - -;

@@ -8,7 +8,7 @@ use Rattle.module_data.specs.Parts.{data_part}
 use Rattle.object_faults.specs.declared.class.SectionClass.TheVariants.{Writable}
 use Rattle.tls_layout.specs.Laws.{extent_for}
 
--- no section of the object that is of the writable class has bytes, in the file or in memory
+-- no section of the object in the writable class has bytes, in the file or in memory
 abbrev pub IsDataless : List ℕ → Type 0
 IsDataless b = (s : ℕ) → IsWritable b s → ⊥
 
@@ -20,8 +20,8 @@ IsOfDataless l = All IsDataless l.objects
 abbrev pub has_writable : Linking → Bool
 has_writable l = let extent = extent_for (Writable true) (layout l) in nat_lt extent.start extent.end
 
--- the images of these links have no data that threads share: in each, the writable class is empty, and no part is
--- written by programs
+-- the images of these links have no data that threads share: in each, the writable class is empty, and no part
+-- is written by programs
 pub record ShareNoData (ls : List Linking) : Type 0 where
   pub classes : All (λ (l : Linking). has_writable l ≡ false) ls
   pub parts : list_any (λ image. is_some (data_part image)) (map image_of ls) ≡ false

@@ -23,8 +23,8 @@ file_kind_of Late = ModuleFile
 abbrev pub of_job : JobParts → List Spelled → JobImages
 of_job job images = record { kinds = map (λ image. image.kind) job.images; images = images }
 
--- a startup image shares the symbol that the relocation names; JUMP_SLOT names the run time's function that finds
--- thread-local data
+-- a startup image shares the symbol that the relocation names; JUMP_SLOT names the run time's function that
+-- finds thread-local data
 abbrev pub NamesShared : JobImages → Spelled → ImageRelocation → Type 0
 NamesShared m image r = r.symbol ≢ 0 → r.kind ≢ JumpSlot → is_some (export_of m (name_of image r.symbol)) ≡ true
 

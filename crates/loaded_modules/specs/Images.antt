@@ -1,7 +1,7 @@
 -- The images of a job, and the facts about them before anything is loaded: when each is loaded, its TLS segment
 -- (gABI, "Program Header": PT_TLS), whether it uses static TLS (gABI, "Dynamic Section": DF_STATIC_TLS), and where
--- the blocks of the images that start with the program lie (Drepper, "ELF Handling For Thread-Local Storage", section
--- 3, variant II).
+-- the blocks of the images that start with the program lie (Drepper, "ELF Handling For Thread-Local Storage",
+-- section 3, variant II).
 use Rattle.std.specs.Prelude.{ℕ, zero, suc, List, [], ◌∷◌, take, Option, Some, None, slice_get}
 use Rattle.image_file.specs.declared.part.TlsPart.{TlsPart}
 use Rattle.image_file.specs.Spelled.{Spelled}

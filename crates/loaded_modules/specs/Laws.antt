@@ -16,8 +16,8 @@ abbrev pub LieApart : FileKind → ℕ → Part → FileKind → ℕ → Part �
 LieApart k a p l b q =
     (start_of k a p + length p.bytes ≤ start_of l b q) ⊎ (start_of l b q + length q.bytes ≤ start_of k a p)
 
--- the parts of two instances with different numbers lie apart, unless both are of programs at fixed addresses, of
--- which a job has one
+-- the parts of two instances with different numbers lie apart, unless both are of programs at fixed addresses,
+-- of which a job has one
 abbrev pub InstancesApart : Spelled → Spelled → Type 0
 InstancesApart first second =
     (a b i j : ℕ) (p q : Part) → a ≢ b → (first.kind ≢ Exe) ⊎ (second.kind ≢ Exe) → slice_get first.parts i ≡ Some p

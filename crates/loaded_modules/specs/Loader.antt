@@ -1,6 +1,6 @@
--- What a loader makes of an image: where it lies, the words of its relocations (psABI, "Relocation Types"; Drepper,
--- "ELF Handling For Thread-Local Storage", section 4.4), and the TLS block that each thread begins with (gABI,
--- "Program Loading").
+-- What a loader makes of an image: where it lies, the words of its relocations (psABI, "Relocation Types";
+-- Drepper, "ELF Handling For Thread-Local Storage", section 4.4), and the TLS block that each thread begins with
+-- (gABI, "Program Loading").
 use Rattle.std.specs.Prelude.{◌+◌, ◌-◌, ◌*◌, ◌%◌, ◌^◌, ◌==◌, ◌&&◌, ℕ, Bool, true, false, suc, List, [], ◌∷◌, ◌++◌}
 use Rattle.std.specs.Prelude.{drop, fold, length, replicate, nat_le, Option, Some, None, slice_get, slice_range}
 use Rattle.std.specs.Prelude.{ℤ, option_map, unwrap_or, if◌then◌else◌}

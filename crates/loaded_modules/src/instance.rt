@@ -5,8 +5,8 @@
 pub struct Instance {
     /// The number of the image, counted from 1.
     pub image: u32,
-    /// The number of the load: for an image that starts with the program, that of the image; no two loads have the
-    /// same.
+    /// The number of the load: for an image that starts with the program, that of the image; no
+    /// two loads have the same.
     pub number: u32,
     /// The module id by which code names its blocks.
     pub id: u64,

@@ -35,9 +35,9 @@
 //! DTPOFF64 total         00 00 00 00 00 00 00 00   04 00 00 00 00 00 00 00
 //! ```
 //!
-//! A block is the initial image of the TLS segment with such words in it, and zeros up to the segment's size (gABI,
-//! "Program Loading"). `specs/Images` and `specs/Loader` define all of this; `specs/Given` says when images are those
-//! of a job.
+//! A block is the initial image of the TLS segment with such words in it, and zeros up to the segment's size
+//! (gABI, "Program Loading"). `specs/Images` and `specs/Loader` define all of this; `specs/Given` says when
+//! images are those of a job.
 #![tactic(auto)]
 
 mod blocks;

@@ -123,8 +123,8 @@ impl Modules {
         }
     }
 
-    /// Copies bytes of a part of an instance, with its relocations done, from an offset in the part on. The bytes lie
-    /// in the part.
+    /// Copies bytes of a part of an instance, with its relocations done, from an offset in the part on. The
+    /// bytes lie in the part.
     pub fn copy_bytes(&self, instance: &Instance, part: u64, from: u64, into: &mut [u8])
         requires { from + length into.old ≤ length (loaded_part self.now instance.now part) }
         ensures value { into.new ≡ slice_range (loaded_part self.now instance.now part) from (from + length into.old) }

@@ -124,8 +124,8 @@ impl Data {
         self.pieces[image as usize].bytes_mut()
     }
 
-    /// A byte of an instance's data, by its offset. `None` exactly past their end, or if the image has no data of the
-    /// instance.
+    /// A byte of an instance's data, by its offset. `None` exactly past their end, or if the image has
+    /// no data of the instance.
     #[tactic(auto, unfolding(crate::specs::Laws::byte_read))]
     pub fn byte(&self, image: u32, instance: u32, at: u64) -> Option<u8>
         ensures { result ≡ byte_read self.now instance image at }

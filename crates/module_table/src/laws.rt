@@ -12,8 +12,8 @@ use crate::modules::Module;
 use crate::registry::Registry;
 use crate::table::ModuleTable;
 
-/// The number of uses of an image is its opens minus its closes, plus one for a startup image, which so is always
-/// loaded.
+/// The number of uses of an image is its opens minus its closes, plus one for a startup image,
+/// which so is always loaded.
 #[tactic(auto, using(crate::proofs::LawsOfNumbers::balances))]
 pub fn opens_and_closes_balance()
     ensures { (infos : List ImageInfo) (last_offset : ℕ) (events : List Event) (image : ℕ)
@@ -34,8 +34,7 @@ pub fn numbers_are_their_own()
         → HaveOwnNumbers (past infos last_offset events) }
 {}
 
-/// An instance that was closed for the last time is never live again, so data kept under its number belong to no
-/// other.
+/// An instance that was closed for the last time is never live again, so data kept under its number belong to no other.
 #[tactic(auto, using(crate::proofs::LawsOfEnds::ends_for_good))]
 pub fn instances_end_for_good()
     ensures { (infos : List ImageInfo) (last_offset : ℕ) (front rest : List Event) (instance : ℕ)

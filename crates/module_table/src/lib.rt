@@ -1,9 +1,8 @@
 //! Which modules are loaded, under which numbers: all computed from the history of opens and closes.
 //!
-//! A program with thread-local variables consists of *modules*: the program itself, the shared objects that start
-//! with it, and those that it opens while it runs, such as plug-ins. Every thread has a block of each module's
-//! variables, and code reaches a block in one of two ways (Drepper, "ELF Handling For Thread-Local Storage", sections
-//! 3 and 4):
+//! A program with thread-local variables consists of *modules*: the program itself, the shared objects that start with
+//! it, and those that it opens while it runs, such as plug-ins. Every thread has a block of each module's variables,
+//! and code reaches a block in one of two ways (Drepper, "ELF Handling For Thread-Local Storage", sections 3 and 4):
 //!
 //! - by a *module id* and an offset, which it passes to `__tls_get_addr`. Ids are small and are used again after a
 //!   module

@@ -48,8 +48,7 @@ impl Module {
         offset: None,
     };
 
-    /// An image before any event. A startup image is always loaded, and its number is its instance's and its module
-    /// id.
+    /// An image before any event. A startup image is always loaded, and its number is its instance's and its module id.
     pub(crate) fn at_start(info: ImageInfo, image: u32) -> Module
         ensures { result ≡ first_module info image }
     {

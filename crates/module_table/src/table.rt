@@ -60,8 +60,8 @@ impl ModuleTable {
     ghost use Rattle.module_table.specs.Past.{new_instance, least_free, IsLeastFree};
     ghost use Rattle.module_table.specs.Tables.{IsTheImage, IsTheImageUnder, CanLoad, HasFreeId};
 
-    /// The tables before any event, for these images; the last startup image's block begins `last_offset` bytes below
-    /// the thread pointer.
+    /// The tables before any event, for these images; the last startup image's block begins `last_offset` bytes
+    /// below the thread pointer.
     pub fn new(
         alloc: Global,
         infos: &[ImageInfo],
@@ -120,8 +120,8 @@ impl ModuleTable {
             .unwrap_or(Module::NONE)
     }
 
-    /// Where a block of the image would begin in the static surplus: past the bytes given so far, at a multiple of its
-    /// alignment.
+    /// Where a block of the image would begin in the static surplus: past the bytes given so far, at a
+    /// multiple of its alignment.
     fn next_offset(&self, image: u32) -> u64
         ensures value { result ≡ next_offset self.now (module_of self.now image) }
     {
@@ -241,8 +241,8 @@ impl ModuleTable {
         self.image_of(instance).is_some()
     }
 
-    /// How far below the thread pointer the block of a live instance begins; `None` if the block is not in the static
-    /// surplus.
+    /// How far below the thread pointer the block of a live instance begins; `None` if the block is not
+    /// in the static surplus.
     #[tactic(auto, unfolding(crate::specs::Past::offset))]
     pub fn offset(&self, instance: u32) -> Option<u64>
         ensures { result ≡ offset self.now instance }

@@ -211,8 +211,8 @@ impl Draft {
         Ok(())
     }
 
-    /// Adds the symbol table, whose first symbol that is not LOCAL has number `first_shared`, and the two string
-    /// tables.
+    /// Adds the symbol table, whose first symbol that is not LOCAL has number `first_shared`, and
+    /// the two string tables.
     fn add_tables(&mut self, layout: &Layout, first_shared: u32) -> Result<(), AllocError> {
         let name = add_name(&mut self.section_names, b".symtab")?;
         let size = behind(0, self.symbols.len(), SymbolEntry::SIZE);

@@ -66,15 +66,14 @@ HasPartPastEnd b s = IsSection b s × HasBytes (section b s) × (length b < (sec
 abbrev pub PassesEnd : List ℕ → ℕ → Type 0
 PassesEnd b s = ((s ≡ 0) × (length b < (header b).e_shoff + 64 * (header b).e_shnum)) ⊎ HasPartPastEnd b s
 
--- the section's flags and type fit no class, or it is of a type that linking refuses
+-- the section's flags and type fit no class, or linking refuses its type
 abbrev pub IsRefused : SectionHeader → Type 0
 IsRefused h =
     (h.kind ≡ SHT_REL) ⊎ (h.kind ≡ SHT_GROUP) ⊎ (h.kind ≡ SHT_SYMTAB_SHNDX)
     ⊎ ((bit_and h.flags SHF_TLS ≢ 0) × (bit_and h.flags SHF_ALLOC ≡ 0))
     ⊎ ((bit_and h.flags SHF_ALLOC ≢ 0) × IsNone (class_of h))
 
--- a section of symbols that is a second one, or whose entry size, size, string table or first global symbol
--- is wrong
+-- a section of symbols that is a second one, or whose entry size, size, string table or first global symbol is wrong
 abbrev pub IsBadTable : List ℕ → ℕ → Type 0
 IsBadTable b s =
     (s ≢ symbol_table b) ⊎ ((section b s).entsize ≢ 24) ⊎ ((section b s).size % 24 ≢ 0)

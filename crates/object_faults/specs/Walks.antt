@@ -23,7 +23,7 @@ end_at b r e = (rela b r e).offset + width_at b r e
 abbrev pub Rise : List ℕ → ℕ → Type 0
 Rise b r = (e : ℕ) → IsReloc b r (e + 1) → end_at b r e ≤ (rela b r (e + 1)).offset
 
--- what the walk over section r tells
+-- the result of the walk over section r
 abbrev pub Tells : List ℕ → ℕ → Walk → Type 0
 Tells b r Faulty = (e : ℕ) × IsFaulty b r e
 Tells b r Scattered = IsFaultless b r × (Rise b r → ⊥)

@@ -22,8 +22,8 @@ pub enum SectionClass {
     Writable { initial: bool },
 }
 
-/// The flags that decide a class. SHF_ALLOC, which each class has, and SHF_MERGE and SHF_STRINGS, which each may have,
-/// decide nothing.
+/// The flags that decide a class. SHF_ALLOC, which each class has, and SHF_MERGE and SHF_STRINGS, which each
+/// may have, decide nothing.
 pub const CLASS_FLAGS: u64 = !(SHF_ALLOC | SHF_MERGE | SHF_STRINGS);
 
 /// The flags of thread-local storage, which programs write.

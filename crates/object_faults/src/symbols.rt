@@ -34,8 +34,7 @@ fn is_strings(tables: &Tables, section: u64) -> bool
     }
 }
 
-/// Whether a section of symbols is a second one, or its entry size, size, string table or first global symbol
-/// is wrong.
+/// Whether a section of symbols is a second one, or its entry size, size, string table or first global symbol is wrong.
 fn is_bad_table(tables: &Tables, section: u64) -> bool
     requires { IsTable tables.now.bytes.now section }
     ensures { IsTrue result ↔ IsBadTable tables.now.bytes.now section }

@@ -23,8 +23,7 @@ fn is_table(tables: &Tables, section: u64) -> bool
     }
 }
 
-/// Whether an earlier section holds relocations of the same target. `found` has the section found for each
-/// target.
+/// Whether an earlier section holds relocations of the same target. `found` has the section found for each target.
 #[tactic(auto, using(crate::specs::Searches::second_found, crate::specs::Searches::second_is))]
 fn is_second(tables: &Tables, section: u64, found: &[u32]) -> bool
     requires section { IsSection tables.now.bytes.now section }
@@ -96,8 +95,8 @@ fn first_mistargeted(tables: &Tables, found: &mut [u32]) -> Option<u64>
     None
 }
 
-/// Checks the targets of all sections of relocations, and returns for each section the one that holds its
-/// relocations, or 0.
+/// Checks the targets of all sections of relocations, and returns for each section the one that holds
+/// its relocations, or 0.
 pub fn ask_targets(alloc: Global, tables: &Tables) -> Result<Vec<u32>, ObjectFault>
     requires { NoneBelow 12 tables.now.bytes.now }
     ensures answers { Answers 12 tables.now.bytes.now result }

@@ -16,13 +16,11 @@ pub enum Walk {
     Faulty,
     /// None is at fault, and a field begins before the end of the one before it.
     Scattered,
-    /// None is at fault, and each field begins no earlier than the end of the one before it, so no two share
-    /// a byte.
+    /// None is at fault, and each field begins no earlier than the end of the one before it, so no two share a byte.
     Rising,
 }
 
-/// Walks over the relocations that a section holds. If it holds none of a kept section, the result is
-/// `Rising`.
+/// Walks over the relocations that a section holds. If it holds none of a kept section, the result is `Rising`.
 pub fn walk_over(tables: &Tables, section: u64) -> Walk
     requires { IsSection tables.now.bytes.now section }
     ensures { Tells tables.now.bytes.now section result }

@@ -1,6 +1,7 @@
-//! Lists objects: `object_listing FILE..` prints each file's sections, relocations and symbols as linking sees them,
-//! or what is wrong with it. Its data are objects that an assembler and a compiler wrote; data/commands has the
-//! commands.
+//! Lists objects: `object_listing FILE..` prints each file's sections, relocations and symbols, or its fault.
+//!
+//! Sections are listed as linking sees them. The data are objects that an assembler and a compiler wrote;
+//! data/commands has the commands.
 #![tactic(auto)]
 
 use anyhow::Result;

@@ -12,13 +12,12 @@ use thiserror::Error;
 /// symbol or relocation of the fault, else 0.
 #[derive(Clone, Copy, PartialEq, Eq, Debug)]
 pub enum FaultKind {
-    /// The file is shorter than its header, or the table of section headers or a section's bytes pass its
-    /// end.
+    /// The file is shorter than its header, or the table of section headers or a section's bytes pass its end.
     Truncated,
     /// The file is not ELF with 64 bits and little-endian data.
     NotElf,
-    /// The file is not an object for x86-64, or it has no sections, too many for `e_shnum`, or no section of
-    /// their names.
+    /// The file is not an object for x86-64, or it has no sections, too many for `e_shnum`, or no
+    /// section of their names.
     NotRelocatable,
     /// The section of names is not a string table, or a section's name does not end in it.
     SectionName,
@@ -28,8 +27,7 @@ pub enum FaultKind {
     SectionAlign,
     /// A section that linking keeps has more than 2^20 bytes, or a table more than 2^20 entries.
     TooLarge,
-    /// There is a second symbol table, or the symbol table's entry size, size, string table or order is
-    /// wrong.
+    /// There is a second symbol table, or the symbol table's entry size, size, string table or order is wrong.
     SymbolTable,
     /// A symbol's name does not end, or it is empty and the symbol is not LOCAL.
     SymbolName,
@@ -53,8 +51,8 @@ pub enum FaultKind {
     Sequence,
     /// A call of `__tls_get_addr` stands in no such sequence. Reading an object does not check this.
     StrayCall,
-    /// The object has data that programs write. Reading does not check this: `elf_object` lends an object
-    /// with such data.
+    /// The object has data that programs write. Reading does not check this: `elf_object` lends an
+    /// object with such data.
     WritableData,
 }
 

@@ -12,8 +12,7 @@ use std::thread::Threads;
 /// One thread reads fewer files than this.
 const FEW: usize = 4;
 
-/// Reads each file, by as many threads as are worth starting. If a thread cannot be started, its starter reads
-/// instead.
+/// Reads each file, by as many threads as are worth starting. If a thread cannot be started, its starter reads instead.
 fn read_each<'n, S: Store, R: Threads + Sync>(
     rt: &R,
     alloc: Global,

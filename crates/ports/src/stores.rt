@@ -38,8 +38,8 @@ pub trait Store: Sync {
     fn read(&self, alloc: Global, name: &str) -> Result<Vec<u8>, FetchFault>
         ensures file { IfOk result (λ file. IsFile (files self.now) name.now file.items) };
 
-    /// Completes a fetch of the file of that name, for which `read` gave this result. Returns it, or that the store
-    /// fails.
+    /// Completes a fetch of the file of that name, for which `read` gave this result. Returns it,
+    /// or that the store fails.
     fn count(
         &mut self,
         name: &str,
@@ -52,8 +52,7 @@ pub trait Store: Sync {
         ensures asked { asked self.new ≡ with_name name.now (asked self.old) }
         ensures same { OnOk result (result ≡ read) };
 
-    /// Makes these bytes the whole content of the file of that name, new or not. On a refusal the files are as
-    /// before.
+    /// Makes these bytes the whole content of the file of that name, new or not. On a refusal the files are as before.
     fn put(&mut self, name: &str, bytes: &[u8]) -> Result<(), PutFault>
         ensures ok { OnOk result (files self.new ≡ with_file name.now bytes.now (files self.old)) }
         ensures err { OnErr result (files self.new ≡ files self.old) }

@@ -1,7 +1,9 @@
-//! How long it takes to read an object and to walk over its parts. `read_benchmark TEXTS [time]` makes an object of
-//! TEXTS sections of code, from 1 to 8, each with 200,000 relocations, and of 50,000 symbols. All its sections and
-//! symbols have one name of a million bytes: none of the loops below may read it. With `time` it prints how long
-//! reading and walking took, and how long one pass takes that adds the file's bytes.
+//! Measures how long it takes to read an object and to walk over its parts.
+//!
+//! `read_benchmark TEXTS [time]` makes an object of TEXTS sections of code, from 1 to 8, each with 200,000
+//! relocations, and of 50,000 symbols. All its sections and symbols have one name of a million bytes: none of the
+//! loops below may read it. With `time` it prints how long reading and walking took, and how long one pass takes that
+//! adds the file's bytes.
 #![tactic(auto)]
 
 use anyhow::{Context, Result, ensure};
@@ -68,8 +70,7 @@ fn example(alloc: Global, texts: usize) -> Result<Vec<u8>, AllocError> {
     draft.bytes(alloc)
 }
 
-/// Walks over what an object lends: each section, and for each relocation its symbol. The sum says how much there
-/// was.
+/// Walks over what an object lends: each section, and for each relocation its symbol. The sum says how much there was.
 fn lend_all(object: &Object) -> u64 {
     let mut sum = 0_u64;
     for number in 0..object.section_count() {

@@ -50,7 +50,7 @@ fn push(file: &mut Vec<u8>, offset: u64, bytes: &[u8], zeros: usize) -> Result<(
     file.resize(file.len() + zeros, 0)
 }
 
-/// Whether a section is of a class.
+/// Whether a section has this class.
 fn is_of(class: SectionClass, kept: Option<SectionClass>) -> bool
     ensures { result ≡ is_class class kept }
 {
@@ -65,8 +65,8 @@ fn is_of(class: SectionClass, kept: Option<SectionClass>) -> bool
     }
 }
 
-/// The offset of a section in the file. Callers ask only for sections with an address; for others it is that of
-/// address 0.
+/// The offset of a section in the file. Callers ask only for sections with an address; for others
+/// it is that of address 0.
 #[tactic(auto, using(tls_layout::proofs::Bounds::address_bounds))]
 fn section_offset(placement: &Placement, kind: ImageKind, number: usize, section: u32) -> u64
     requires kind { placement.now.kind ≡ kind }

@@ -1,10 +1,10 @@
 //! The file of an image's sections: each section at its place, and zeros between them.
 //!
-//! A linker puts the sections of many objects into one file, and a loader maps that file into memory a page of 4,096
-//! bytes at a time. A page of memory is a page of the file, so a byte has the same offset in its page in both: the
-//! offset and the address of a segment are congruent (gABI, "Program Header", `p_align`). `tls_layout` finds the
-//! address of each section before a byte is written. What is left is to make a file with the same order and the same
-//! gaps.
+//! A linker puts the sections of many objects into one file, and a loader maps that file into memory a page of
+//! 4,096 bytes at a time. A page of memory is a page of the file, so a byte has the same offset in its page in
+//! both: the offset and the address of a segment are congruent (gABI, "Program Header", `p_align`). `tls_layout`
+//! finds the address of each section before a byte is written. What is left is to make a file with the same
+//! order and the same gaps.
 //!
 //! The rule that the crate keeps: **each byte of a section is at its place, and all others are zero.** The first page
 //! is that of the headers, which another crate writes, so the byte of address `a` is at offset `a` + 4,096 - the base

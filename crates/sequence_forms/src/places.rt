@@ -13,8 +13,8 @@ pub struct Site {
     pub len: u64,
     /// Its row in the table.
     pub form: Form,
-    /// The symbol that its first relocation names: the variable, or for local dynamic forms the symbol that the
-    /// assembler put there.
+    /// The symbol that its first relocation names: the variable, or for local dynamic forms the symbol that
+    /// the assembler put there.
     pub symbol: u32,
     /// The register that it writes, from 0 to 15, for the two forms that name one; else 0.
     pub reg: u8,

@@ -1,5 +1,5 @@
--- What matching uses of the code of one section: its relocations by their places, and which symbols are
--- `__tls_get_addr`.
+-- What matching uses of the code of one section: its relocations by their places, and which
+-- symbols are `__tls_get_addr`.
 use Rattle.std.specs.Prelude.{◌≡◌, ◌+◌, ◌*◌, ◌<◌, ◌≤◌, ◌^◌, ℕ, Bool, false, List, length, Option, Some, None}
 use Rattle.std.specs.Prelude.{IsTrue, IfSome, slice_index, slice_index_or}
 use Rattle.std.specs.List.{All, AllPairs, AllWithin, Contains, slice_get}

@@ -1,5 +1,5 @@
--- Which sequences stand in code, by its bytes and its relocations. The definitions take as given which symbols are
--- `__tls_get_addr`.
+-- Which sequences stand in code, by its bytes and its relocations. The definitions take as given which
+-- symbols are `__tls_get_addr`.
 use Rattle.std.specs.Prelude.{◌≡◌, ◌+◌, ◌<◌, ◌≤◌, ℕ, negsuc, List, length, slice_index, IsTrue, IfSome}
 use Rattle.std.specs.Prelude.{Option, Some, None, pos}
 use Rattle.std.specs.List.{All, slice_get}

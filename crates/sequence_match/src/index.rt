@@ -1,5 +1,5 @@
-//! The relocations of a section by their places, to find the one whose field covers a byte, or the first call through a
-//! descriptor at a byte.
+//! The relocations of a section by their places, to find the one whose field covers a byte, or the first call through
+//! a descriptor at a byte.
 
 ghost use Rattle.std.specs.Prelude.{◌≡◌, ◌↔◌, ◌+◌, ◌<◌, ◌≤◌, ◌^◌, IfOk, IsTrue, length};
 ghost use Rattle.std.specs.List.{AllWithin};

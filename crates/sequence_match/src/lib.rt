@@ -23,9 +23,9 @@
 //!
 //! Most sections have no TLS code, so the search first looks for a relocation of a section whose type occurs in
 //! sequences or that names `__tls_get_addr`; a section without one has no site and no fault. In other sections it
-//! goes through the relocations once: it matches each one of those types with the one or two rows that it can open,
-//! and looks for each call of `__tls_get_addr` at the end of the last sequence found, then in every sequence that it
-//! could end.
+//! goes through the relocations once: it matches each one of those types with the one or two rows that it can
+//! open, and looks for each call of `__tls_get_addr` at the end of the last sequence found, then in every
+//! sequence that it could end.
 //!
 //! To match a relocation that opens a sequence, the search compares the bytes around it, and then its neighbours.
 //! Fields share no byte. So if relocations rise by offset, as compilers write them, the next ones show which bytes

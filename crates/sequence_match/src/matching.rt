@@ -225,8 +225,7 @@ fn has_call(code: &Code, second: Second, start: u64, near: u32) -> bool
     }
 }
 
-/// Whether the second relocation of a sequence is at its place, if the sequence has two. `near` is as for
-/// `field_over`.
+/// Whether the second relocation of a sequence is at its place, if the sequence has two. `near` is as for `field_over`.
 fn has_second(code: &Code, second: Option<Second>, start: u64, near: u32) -> bool
     requires ready { IsReady code.now }
     requires inside { IfSome second (λ second. start + second.at < length code.now.bytes.now) }
@@ -426,7 +425,7 @@ fn is_second_at(code: &Code, form: Form, entry: u32, start: u64, place: u64) -> 
     }
 }
 
-/// Whether a site is of this form and starts here.
+/// Whether a site has this form and starts here.
 fn is_at(site: &Site, form: Form, start: u64) -> bool
     ensures { IsTrue result ↔ (site.now.form ≡ form) × (site.now.start ≡ start) }
 {

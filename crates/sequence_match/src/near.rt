@@ -1,5 +1,5 @@
-//! Relocations that rise by offset, as compilers write them: the one whose field covers a byte is next to those near
-//! the byte.
+//! Relocations that rise by offset, as compilers write them: the one whose field covers a byte is next
+//! to those near the byte.
 
 ghost use Rattle.std.specs.Prelude.{◌↔◌, ◌+◌, ◌<◌, ◌≤◌, ◌^◌, IsTrue, length};
 ghost use Rattle.std.specs.List.{AllWithin};

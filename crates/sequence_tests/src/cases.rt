@@ -169,8 +169,7 @@ nothing = 8b8000000000 / 2:DTPOFF32:2:0
 2 1 Sequence = e80000000090909090 / 1:PLT32:3:-4 5:GOTTPOFF:2:-4
 2 1 Sequence = 90909090e800000000 / 5:PLT32:3:-4 0:TLSGD:2:-4
 2 0 Sequence = 488b0500000000488b0500000000 / 3:GOTTPOFF:2:0 10:GOTTPOFF:2:0
-// a general dynamic call with a wrong byte: its second relocation then names the undefined function outside a
-// sequence
+// a general dynamic call with a wrong byte: its second relocation then names the undefined function outside a sequence
 2 0 Sequence = 66488d3d00000000666648e900000000 / 4:TLSGD:2:-4 12:PLT32:3:-4
 // gcc -O2 -fPIC
 Gd@4+16:2:0 Ld@36+12:4:0 Gd@97+16:2:0 Ld@116+12:4:0 = 4883ec0866488d3d00000000666648e8000000004883c408c30f1f8000\

@@ -109,8 +109,7 @@ e 4010b2 0 4c8b3500000000 49c7c6f0ffffff
 f 4010b9 0 4c8b3d00000000 49c7c7f0ffffff
 ";
 
-/// The registers of add x@gottpoff(%rip), %r, which becomes lea x@tpoff(%r), %r, or for %rsp and %r12 add $x@tpoff,
-/// %r.
+/// The registers of add x@gottpoff(%rip), %r, which becomes lea x@tpoff(%r), %r, or for %rsp and %r12 add $x@tpoff, %r.
 const ADDED: &str = "
 0 4010c0 0 48030500000000 488d80f0ffffff
 1 4010c7 0 48030d00000000 488d89f0ffffff

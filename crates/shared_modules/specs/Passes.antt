@@ -72,8 +72,7 @@ joined p q = record p {
   threads = p.threads ++ q.threads;
 }
 
--- the shorter seen list is a prefix of the longer, and the rest of the longer names no thread of the shorter one's
--- pass
+-- the shorter seen list is a prefix of the longer, and the rest of the longer names no thread of the shorter one's pass
 abbrev pub Agree : PassView → PassView → Type 0
 Agree p q = MatchBool (nat_lt (length p.seen) (length q.seen))
     (Knows q.seen p.threads p.seen) (Knows p.seen q.threads q.seen)

@@ -1,5 +1,5 @@
--- Facts that hold of a seen list, and that events of other threads keep, hold of the history: laws for this crate and
--- those above it.
+-- Facts that hold of a seen list, and that events of other threads keep, hold of the history: laws for this
+-- crate and those above it.
 use Rattle.std.specs.Prelude.{◌≡◌, ◌≢◌, ◌==◌, ◌+◌, ◌≤◌, ℕ, false, if◌then◌else◌, List, [], ◌∷◌, ◌++◌, length, take}
 use Rattle.std.proofs.Common.{sym, refl, ap, ◌∙◌, subst, append_assoc, append-nil, ne_eqb, arith}
 use Rattle.std.proofs.lemmas.List.{take-append-le}

@@ -14,8 +14,8 @@ pub struct Images {
     pub last_offset: u64,
 }
 
-/// The state of a seat at the lock: it has no ticket, or waits with one, or its ticket is being served and it noted the
-/// history.
+/// The state of a seat at the lock: it has no ticket, or waits with one, or its ticket is being served
+/// and it noted the history.
 pub enum Turn {
     Away,
     Waits(u64),
@@ -58,8 +58,8 @@ impl TableRule<Option<Registry>, View, Snapshot<Registry>> for OneHistory {
     ghost first = { λ key. first_view (images_of key.value) key.value.events };
 }
 
-/// Word 0 is the next ticket, word 1 the ticket being served, word 2 the length of the history; slot 0 holds the
-/// registry.
+/// Word 0 is the next ticket, word 1 the ticket being served, word 2 the length of the history;
+/// slot 0 holds the registry.
 pub type Board = Table<Option<Registry>, View, Snapshot<Registry>, OneHistory, Global>;
 
 pub(crate) type Steps = Shared<Option<Registry>, View, Snapshot<Registry>, OneHistory>;

@@ -1,15 +1,14 @@
 //! One history of modules that running threads share: a lock by tickets, and a check for news that costs one load.
 //!
-//! `module_table` keeps one list of opens and closes, which decides which modules are loaded. Here threads that run
-//! at once share such a list. A loader has the same two needs: opens and closes must come one after another, and code
-//! that reaches a variable must find out at little cost whether the list grew (Drepper, "ELF Handling For
-//! Thread-Local Storage", section 3: a thread compares the generation of its own dynamic thread vector with the
-//! global one).
+//! `module_table` keeps one list of opens and closes, which decides which modules are loaded. Here threads that run at
+//! once share such a list. A loader has the same two needs: opens and closes must come one after another, and code that
+//! reaches a variable must find out at little cost whether the list grew (Drepper, "ELF Handling For Thread-Local
+//! Storage", section 3: a thread compares the generation of its own dynamic thread vector with the global one).
 //!
 //! # What a thread has
 //!
-//! A [`Pass`] speaks for some of the threads 1 to 64 and has a prefix of the history, its *seen list*. [`Shared`] has
-//! the history:
+//! A [`Pass`] speaks for some of the threads 1 to 64 and has a prefix of the history, its *seen list*.
+//! [`Shared`] has the history:
 //!
 //! ```text
 //! start      one pass, for all threads                  split, join   cut a pass in two, make two passes one

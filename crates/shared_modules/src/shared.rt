@@ -53,8 +53,8 @@ impl Model for Pass {
 }
 
 impl Shared {
-    /// Shares a registry. The pass has seen its history, and speaks for the threads 1 to 64. If memory runs out, the
-    /// registry is dropped.
+    /// Shares a registry. The pass has seen its history, and speaks for the threads 1 to 64. If memory runs out,
+    /// the registry is dropped.
     pub fn start(alloc: Global, registry: Registry) -> Result<(Shared, Pass), AllocError>
         ensures images { IfOk result (λ started. started.0.images ≡ images_of registry) }
         ensures pass { IfOk result (λ started. started.1 ≡ first_pass started.0 registry.events) }
@@ -69,8 +69,8 @@ impl Shared {
         Ok((Shared { board }, Pass { seen, seat }))
     }
 
-    /// Splits a pass in two. The first speaks for the first half of the threads, rounded up, the second for the rest,
-    /// with its counts at 0.
+    /// Splits a pass in two. The first speaks for the first half of the threads, rounded up, the second for the
+    /// rest, with its counts at 0.
     pub fn split(&self, pass: Pass) -> (Pass, Pass)
         requires of { pass.shared ≡ self.now }
         requires two { 2 ≤ length pass.threads }

@@ -118,8 +118,8 @@ fn leave(steps: &Steps, seat: &mut Place)
     }
 }
 
-/// Tells what two seats learned of each other when they were joined: a step of its own, since a join itself tells
-/// nothing.
+/// Tells what two seats learned of each other when they were joined: a step of its own, since a
+/// join itself tells nothing.
 pub(crate) fn learn(steps: &Steps, seat: &mut Place)
     requires fits { IsAt seat.old.table_id steps.now.table_id }
     ensures table { seat.new.table_id ≡ seat.old.table_id }

@@ -10,8 +10,8 @@ use std::process::Abort;
 use std::sync::Wait;
 use std::test::Fail;
 
-/// A pass's first thread opens or closes an image. The text has the answer, and then how many events the pass had not
-/// seen.
+/// A pass's first thread opens or closes an image. The text has the answer, and then how many events
+/// the pass had not seen.
 fn call<R: Wait>(
     rt: &R,
     alloc: Global,
@@ -56,8 +56,8 @@ fn ask<R: Wait + Abort>(
     Ok(())
 }
 
-// Image 1 is the program, image 2 a late one, and there is no image 9. A refused call also gives the events not seen
-// yet.
+// Image 1 is the program, image 2 a late one, and there is no image 9. A refused call also gives
+// the events not seen yet.
 #[test]
 fn a_pass_finds_what_the_other_did(rt: HostRuntime) -> Result<(), Fail> {
     let opened = "Ok(Opened { instance: 2, id: 2, at: 0 }) 0";

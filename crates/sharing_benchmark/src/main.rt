@@ -1,7 +1,8 @@
-//! How long looks and opens take while other threads do the same: `sharing_benchmark HALVINGS LOOKS OPENS [time]` has
-//! 2 threads for one halving, 4 for two, and so on up to 64. Each looks LOOKS times while nothing is new, and loads a
-//! word as often, which is the least that a look can cost. Then each opens a module that is loaded, and closes it
-//! again, OPENS times. With `time` it prints how long that took.
+//! Measures how long looks and opens take while other threads do the same.
+//!
+//! `sharing_benchmark HALVINGS LOOKS OPENS [time]` has 2 threads for one halving, 4 for two, and so on up to 64. Each
+//! looks LOOKS times while nothing is new, and loads a word as often, which is the least that a look can cost. Then
+//! each opens a module that is loaded, and closes it again, OPENS times. With `time` it prints how long that took.
 #![tactic(auto)]
 
 ghost use Rattle.std.specs.Prelude.{◌≡◌, ◌≤◌, IfOk};

@@ -24,8 +24,8 @@ site_place site = codes " " ++ decimal site.section ++ codes " " ++ hex16 site.s
 unfoldable pub site_choice : Site → Choice → List ℕ
 site_choice site choice = codes " " ++ form_name site.form ++ codes " " ++ choice_name choice ++ codes " "
 
--- the line of a site in an object with this name and these bytes: the name, the site's place, form and choice, its
--- symbol
+-- the line of a site in an object with this name and these bytes: the name, the site's place, form
+-- and choice, its symbol
 unfoldable pub site_line : List ℕ → List ℕ → Site → Choice → List ℕ
 site_line name object site choice =
     name ++ site_place site ++ site_choice site choice ++ shown_name (symbol_name object site.symbol) ++ codes "\n"

@@ -13,9 +13,9 @@
 //! | the choice | what stands in its place: `keep`, `gd-le`, `gd-ie`, `ld-le`, `ie-le`, `desc-le` or `desc-ie` |
 //! | the symbol | its name in the object, `-` for an empty one |
 //!
-//! For example, the code of `main.o` begins with `lea x@tlsgd(%rip), %rdi; call __tls_get_addr@plt`, and at byte 24
-//! it asks for the module's own block, with a symbol of the assembler that has no name. A program that defines `x`
-//! has the lines
+//! For example, the code of `main.o` begins with `lea x@tlsgd(%rip), %rdi; call __tls_get_addr@plt`, and at byte
+//! 24 it asks for the module's own block, with a symbol of the assembler that has no name. A program that
+//! defines `x` has the lines
 //!
 //! ```text
 //! main.o 1 0000000000000000 gd gd-le x

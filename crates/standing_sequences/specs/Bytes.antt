@@ -33,8 +33,8 @@ abbrev pub byte_of : ℕ → Option Part → Option ℕ
 byte_of address None = None
 byte_of address (Some part) = slice_get part.bytes (address - part.address)
 
--- the byte at an address of an image: that of the part that holds the address; none if no part does (gABI, "Program
--- Loading")
+-- the byte at an address of an image: that of the part that holds the address; none if no part does
+-- (gABI, "Program Loading")
 unfoldable pub byte_at : Spelled → ℕ → Option ℕ
 byte_at image address = byte_of address (find (holds address) image.parts)
 
@@ -42,8 +42,8 @@ byte_at image address = byte_of address (find (holds address) image.parts)
 abbrev pub Stand : Spelled → ℕ → List ℕ → Type 0
 Stand image address bytes = (k : ℕ) → k < length bytes → byte_at image (address + k) ≡ slice_get bytes k
 
--- objects that link, whose thread-local accesses are all sequences: `link` makes `image_of` from them, and `run`
--- loads it
+-- objects that link, whose thread-local accesses are all sequences: `link` makes `image_of` from
+-- them, and `run` loads it
 pub record IsLinked (l : Linking) : Type 0 where
   pub given : IsGiven l
   pub links : Links l

@@ -102,8 +102,8 @@ abbrev pub HasCode : Linking → List ℕ → Type 0
 HasCode l bytes =
     map (λ k. byte_at (image_of l) (0x400000 + k)) (range_with_len 0 (length bytes)) ≡ map Some bytes
 
--- linked with rewriting, two of the sequences match the table, and the third does not; without, none does; the code
--- is as the table says
+-- linked with rewriting, two of the sequences match the table, and the third does not; without, none does; the
+-- code is as the table says
 pub record ExampleStands : Type 0 where
   pub own : Matches (program true) 0 asks_for_x GdLe
   pub theirs : Matches (program true) 0 asks_for_y GdIe

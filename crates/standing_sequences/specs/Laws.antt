@@ -44,8 +44,8 @@ FieldsStand = (l : Linking) (o t address k : ℕ) (r : Relocation) → IsLinked 
 
 -- ** sequence by sequence
 
--- a byte of a rewritten form, outside its field, that no sequence of the form has there, and that is in none of its
--- fields
+-- a byte of a rewritten form, outside its field, that no sequence of the form has there, and that
+-- is in none of its fields
 pub record Differs (form : Form) (choice : Choice) (reg : ℕ) : Type 0 where
   pub at : ℕ
   pub cell : Cell

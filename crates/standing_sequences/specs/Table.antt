@@ -40,8 +40,8 @@ IsInTable DescCall (Here variable) DescLe = Unit {0}
 IsInTable DescCall (Startup image) DescIe = Unit {0}
 IsInTable form bound choice = ⊥
 
--- a program: its block is at a fixed offset from the thread pointer; a module may be opened late, and then its block
--- may be anywhere
+-- a program: its block is at a fixed offset from the thread pointer; a module may be opened late, and then
+-- its block may be anywhere
 abbrev pub IsProgram : ImageKind → Type 0
 IsProgram Exe = Unit {0}
 IsProgram Pie = Unit {0}

@@ -6,10 +6,10 @@
 //! that the linker did so wherever it may, and that it changed nothing else. `link_core` describes the image as a
 //! linker makes it; this crate says what stands in it, by the objects and the table alone.
 //!
-//! The rule of the crate: **a sequence's rewritten form stands exactly where its bytes, its relocations, its symbol's
-//! binding, the image's kind and the setting match the table; everywhere else the object's own bytes stand, except in
-//! fields.** The first two make it a sequence (`IsSequence`); for the other three the table has these lines
-//! (`specs/Table`):
+//! The rule of the crate: **a sequence's rewritten form stands exactly where its bytes, its relocations, its
+//! symbol's binding, the image's kind and the setting match the table; everywhere else the object's own bytes stand,
+//! except in fields.** The first two make it a sequence (`IsSequence`); for the other three the table has these
+//! lines (`specs/Table`):
 //!
 //! ```text
 //! rewriting, in a program    the program's own variable    one of a module that starts with it
@@ -43,10 +43,10 @@
 //! c3                ret                             c3                          ret
 //! ```
 //!
-//! The image is `image_of` (`link_core`); `link` writes its bytes, and `run` reads it back from them. `loaded_bytes`
-//! says what a loader makes of it, and `tied_sites` that each form does what its sequence means. The laws ask of the
-//! objects only what reading them has checked: they link, and each of their thread-local accesses is a sequence
-//! (`IsLinked`).
+//! The image is `image_of` (`link_core`); `link` writes its bytes, and `run` reads it back from them.
+//! `loaded_bytes` says what a loader makes of it, and `tied_sites` that each form does what its sequence means. The
+//! laws ask of the objects only what reading them has checked: they link, and each of their thread-local accesses
+//! is a sequence (`IsLinked`).
 //!
 //! The proof is short. `link_core` says what each byte is, by the linker's choice; the table gives that choice,
 //! sequences share no byte, and a relocation's field goes with its sequence.

@@ -164,8 +164,8 @@ pub(crate) fn exported(alloc: Global, images: &[Vec<Vec<u8>>]) -> Result<Vec<u8>
     Ok(text)
 }
 
-/// The binding of each relocation of each object's code, or the fault: `here OBJECT SYMBOL`, `startup IMAGE`,
-/// `run-time` or `none`.
+/// The binding of each relocation of each object's code, or the fault: `here OBJECT SYMBOL`, `startup
+/// IMAGE`, `run-time` or `none`.
 pub(crate) fn said(
     alloc: Global,
     files: &[Vec<u8>],

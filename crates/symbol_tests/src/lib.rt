@@ -1,5 +1,4 @@
-//! Tests of symbols: what names bind to, what images define, export, import and refuse, and the entries of the global
-//! offset table for them.
+//! Tests of symbols: definitions, bindings, exports, imports, refusals, and entries of the global offset table.
 //!
 //! Clauses are proved in `tls_symbols`, `link_refusals`, `dynamic_symbols` and `got_pairs`. These tests check what no
 //! clause says: that the definitions agree with the standard, on small images that a reader works out by hand and on

@@ -108,8 +108,8 @@ pub record IsFrontOfSegment (p : Layout) : Type 0 where
 
 -- ---- blocks below a thread pointer
 
--- module m's block, which begins `tlsoffset` bytes below the thread pointer, has the byte d bytes below the thread
--- pointer
+-- module m's block, which begins `tlsoffset` bytes below the thread pointer, has the byte d bytes
+-- below the thread pointer
 abbrev pub Holds : List TlsSize → ℕ → ℕ → Type 0
 Holds sizes m d = (m < length sizes) × (d ≤ tls_offset sizes (m + 1))
     × (tls_offset sizes (m + 1) < d + (tls_of sizes m).size)

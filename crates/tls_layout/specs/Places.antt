@@ -25,8 +25,8 @@ next_end class end section = if is_in class section then end_after end section e
 unfoldable pub end_of : SectionClass → ℕ → List Section → ℕ
 end_of class from sections = fold (next_end class) from sections
 
--- the place of the k-th section, if it is of the class: the least multiple of its alignment at or after the end of
--- those before it
+-- the place of the k-th section, if it is of the class: the least multiple of its alignment at or after the
+-- end of those before it
 unfoldable pub place_in : SectionClass → ℕ → List Section → ℕ → ℕ
 place_in class from sections k = round_up (end_of class from (take k sections)) (section_at sections k).alignment
 

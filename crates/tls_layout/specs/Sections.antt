@@ -34,8 +34,8 @@ all_sections objects = flat_map sections_of objects
 unfoldable pub section_counts : List (List ℕ) → List ℕ
 section_counts objects = map section_count objects
 
--- all that decides where sections go: the kind of the image, how many sections each object has, and all sections in
--- their order
+-- all that decides where sections go: the kind of the image, how many sections each object has, and all
+-- sections in their order
 pub record Layout : Type 0 where
   pub kind : ImageKind
   pub counts : List ℕ
@@ -67,7 +67,7 @@ abbrev pub is_class : SectionClass → Option SectionClass → Bool
 is_class class None = false
 is_class class (Some other) = same_class class other
 
--- whether a section is of a class
+-- whether a section has this class
 abbrev pub is_in : SectionClass → Section → Bool
 is_in class section = is_class class section.class
 

@@ -72,8 +72,8 @@ fn entry(table: &[Option<u64>], index: usize) -> Option<u64>
 }
 
 impl Placement {
-    /// The class of a section of an object, by their numbers; `None` if linking drops it, or if there is no such
-    /// section.
+    /// The class of a section of an object, by their numbers; `None` if linking drops it, or if
+    /// there is no such section.
     #[tactic(auto, unfolding(crate::specs::Places::section_named))]
     pub fn class(&self, object: usize, section: u32) -> Option<SectionClass>
         ensures class { result ≡ class_of self.now object section }

@@ -46,7 +46,7 @@ impl Section {
         }
     }
 
-    /// Whether the section is of a class.
+    /// Whether the section has this class.
     pub fn is_in(&self, class: SectionClass) -> bool
         ensures { result ≡ is_in class self.now }
     {
@@ -61,7 +61,7 @@ impl Section {
         }
     }
 
-    /// Whether the section is of thread-local storage.
+    /// Whether the section is thread-local.
     pub fn is_tls(&self) -> bool
         ensures { result ≡ is_tls_class self.now.class }
     {

@@ -33,8 +33,8 @@ pub fn no_places(alloc: Global, len: usize) -> Result<Vec<Option<u64>>, AllocErr
     vec![in alloc; None; len]
 }
 
-/// Gives thread-local sections their offsets: first those with bytes in the file, then those without. Returns the
-/// segment's size.
+/// Gives thread-local sections their offsets: first those with bytes in the file, then those without.
+/// Returns the segment's size.
 fn lay_out_tls(sections: &[Section], offsets: &mut [Option<u64>]) -> Result<u64, LinkFault>
     requires ordinary { All IsOrdinary sections.now }
     requires len { length offsets.old ≡ length sections.now }

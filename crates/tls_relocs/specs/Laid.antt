@@ -1,5 +1,5 @@
--- Parts laid out at rising places, with zeros in the gaps: as one list of bytes, and as a reader finds the byte at each
--- place.
+-- Parts laid out at rising places, with zeros in the gaps: as one list of bytes, and as a reader finds
+-- the byte at each place.
 use Rattle.std.specs.Prelude.{◌+◌, ◌-◌, ◌≤◌, ℕ, Option, Some, None, List, [], ◌∷◌, ◌++◌, length, replicate, slice_get}
 use Rattle.std.specs.Prelude.{nat_lt, if◌then◌else◌}
 

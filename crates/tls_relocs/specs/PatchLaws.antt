@@ -1,5 +1,5 @@
--- The laws of `Patches`: writers and readers agree, the length does not change, and a patch changes nothing outside
--- itself.
+-- The laws of `Patches`: writers and readers agree, the length does not change, and a patch changes
+-- nothing outside itself.
 use Rattle.std.proofs.Common.{◌≡◌, ◌+◌, ◌-◌, ◌<◌, ◌≤◌, ◌⊎◌, inl, inr, ℕ, false, List, [], ◌∷◌, ◌++◌, length, refl, ap}
 use Rattle.std.proofs.Common.{◌∙◌, arith}
 use Rattle.std.specs.Prelude.{slice_get, if◌then◌else◌}

@@ -1,5 +1,6 @@
-//! The program `tlsld`: passes the words of its command line, the host's files and its standard output to
-//! [`commands::tlsld`], whose contract says what it does with them.
+//! The program `tlsld`: runs the command that its words name, over the host's files and standard output.
+//!
+//! It passes all three to [`commands::tlsld`], whose contract says what happens.
 //!
 //! On a terminal, a long fetch of files shows its progress on standard error (`ports::ProgressStore`).
 #![tactic(auto)]

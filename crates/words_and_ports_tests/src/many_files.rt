@@ -70,8 +70,8 @@ fn the_first_refusal_is_the_last_call(rt: HostRuntime) -> Result<(), Fail> {
     Ok(())
 }
 
-/// The names of nine files in a folder. The first `there` of them exist, each a thousand bytes longer than the one
-/// before.
+/// The names of nine files in a folder. The first `there` of them exist, each a thousand bytes
+/// longer than the one before.
 fn lay_files<R: Files>(
     rt: &R,
     alloc: Global,

@@ -52,8 +52,8 @@ impl<'a, R: Clock + Eprint> Progress<'a, R> {
         }
     }
 
-    /// Whether it is time for a line. The next one is due a second later. A thread that finds another one here gets
-    /// `false`.
+    /// Whether it is time for a line. The next one is due a second later. A thread that finds another
+    /// one here gets `false`.
     fn is_due(&self) -> bool {
         let Some(since) = &self.since else {
             return false;

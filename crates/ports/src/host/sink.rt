@@ -9,8 +9,8 @@ use crate::{PutFault, Sink};
 use std::io::Write;
 use std::marker::Model;
 
-/// A writer, such as `io::writer(&rt)` for standard output. A caller that knows only [`Sink`] learns its counts, and
-/// none of its bytes.
+/// A writer, such as `io::writer(&rt)` for standard output. A caller that knows only [`Sink`] learns its counts,
+/// and none of its bytes.
 ///
 /// A put succeeds when the writer has taken and flushed the whole piece. It fails if the writer fails, takes no byte
 /// of the rest, or is interrupted by a signal a thousand times in a row; then a prefix of the piece has been written.

@@ -19,20 +19,19 @@ pub const LARGEST_FILE: usize = 1 << 28;
 /// How many names a put tries for its new file.
 const NAMES: u32 = 100;
 
-/// The files of the host, by path. Clauses say nothing of its files and names; a contract sees the store as the count
-/// of its faults.
+/// The files of the host, by path. Clauses say nothing of its files and names; a contract sees the store as
+/// the count of its faults.
 ///
-/// A fetch reads the file to its end, in one read if the file has the length that the host gives. It fails if the
-/// path cannot be opened or read, or if the file has more than [`LARGEST_FILE`] bytes; no memory is allocated if the
-/// host gives such a length. If a signal interrupts a read or write, it is tried again, up to a thousand times in a
-/// row; then the call fails. If the host itself runs out of memory, the result is `OutOfMemory`, which is not a
-/// fault.
+/// A fetch reads the file to its end, in one read if the file has the length that the host gives. It fails if the path
+/// cannot be opened or read, or if the file has more than [`LARGEST_FILE`] bytes; no memory is allocated if the host
+/// gives such a length. If a signal interrupts a read or write, it is tried again, up to a thousand times in a row;
+/// then the call fails. If the host itself runs out of memory, the result is `OutOfMemory`, which is not a fault.
 ///
-/// A put writes a new file `PATH.partN` next to the old one, and renames it to the path once all of it is written. So
-/// a reader sees the old file or the whole new one. After a refused put the old file is as it was, and the new one is
-/// removed. A put does not wait for the disk: it promises nothing for a loss of power. Only if the path is not a
-/// plain file but, say, a device, a pipe or a link, are the bytes written to it in place; a refused put may then
-/// leave a part.
+/// A put writes a new file `PATH.partN` next to the old one, and renames it to the path once all of it is
+/// written. So a reader sees the old file or the whole new one. After a refused put the old file is as it was,
+/// and the new one is removed. A put does not wait for the disk: it promises nothing for a loss of power. Only if
+/// the path is not a plain file but, say, a device, a pipe or a link, are the bytes written to it in place; a
+/// refused put may then leave a part.
 #[derive(Drop)]
 pub struct HostStore<'a, R: Files + Sync> {
     rt: &'a R,
