@@ -10,14 +10,11 @@
 //! first one is not defined.
 //!
 //! 1. The first symbol is a *function* if it is defined, not thread-local, and its value is the address of a byte of
-//!    an
-//!    executable part. The address after the last byte does not belong to the part.
+//!    an executable part. The address after the last byte does not belong to the part.
 //!    [`function`](ImageNames::function) returns the address, before the image is moved.
 //! 2. It is a *variable* if it is defined and thread-local. The value of such a symbol is not an address: it is an
-//!    offset
-//!    in the TLS segment, and so in each thread's block of it (gABI, "Symbol Table", `STT_TLS`; Drepper, "ELF
-//!    Handling For
-//!    Thread-Local Storage", section 3). [`variable`](ImageNames::variable) returns it.
+//!    offset in the TLS segment, and so in each thread's block of it (gABI, "Symbol Table", `STT_TLS`; Drepper, "ELF
+//!    Handling For Thread-Local Storage", section 3). [`variable`](ImageNames::variable) returns it.
 //!
 //! An example. A program has nine bytes of code at 0x400000, a TLS segment of eight bytes, and these symbols:
 //!

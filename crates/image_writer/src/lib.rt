@@ -9,15 +9,12 @@
 //!
 //! The rule that it keeps: **reading what was written gives what it was made of.**
 //! - [`write`] appends the file of an [`Image`](image_file::Image), and that file is read as this very image. It
-//!   requires
-//!   that the TLS segment begins no further than the last part ends.
+//!   requires that the TLS segment begins no further than the last part ends.
 //! - [`into_file`] makes that file from the image's own bytes, and takes the image. The parts are at their offsets
 //!   already; it puts headers and the zeros between parts around them.
 //! - [`image_of`] makes an image from a [`Draft`], which is all that a linker knows except the tables, and from the
-//!   file
-//!   so far. It puts the tables after the last part and the headers over the first page. The image has the draft's
-//!   parts,
-//!   symbols, names and relocations. `specs/Linkable` says what it requires of the draft.
+//!   file so far. It puts the tables after the last part and the headers over the first page. The image has the
+//!   draft's parts, symbols, names and relocations. `specs/Linkable` says what it requires of the draft.
 //!
 //! Memory is allocated first and at once. If it runs out, `write` leaves its output as it was. `write` copies parts
 //! once, `into_file` copies none, and `image_of` keeps the file that it was given.

@@ -6,17 +6,13 @@
 //! 1. [`fetch_objects`] asks a store for each object file, and keeps the bytes of all of them. Threads read side by
 //!    side.
 //! 2. [`read_objects`] reads the objects of each image, and finds the TLS code sequences. Threads read side by side;
-//!    the
-//!    results are taken in order. If threads will run at once, an object with data that programs write is refused
+//!    the results are taken in order. If threads will run at once, an object with data that programs write is refused
 //!    ([`WritableSections`]).
 //! 3. [`prepare_images`] makes each image ready, given the names that the startup images export
-//!    ([`startup_exports`]): the
-//!    program, and the modules that start with it. Or it returns the first image that does not link. No byte of any
-//!    image
-//!    is laid.
+//!    ([`startup_exports`]): the program, and the modules that start with it. Or it returns the first image that does
+//!    not link. No byte of any image is laid.
 //! 4. [`write_images`] writes all of them, and threads share the work on a large one. A caller that wants one image
-//!    writes
-//!    only that; a checker takes what the objects mean ([`inputs_of`]), and needs no file.
+//!    writes only that; a checker takes what the objects mean ([`inputs_of`]), and needs no file.
 //!
 //! Two orders meet here. The job's lines **mention** images in any order; in **image order** the program is first, then
 //! come the modules that start with it, then the late ones. Files are fetched and read in the order of mentions, so
@@ -40,11 +36,11 @@
 //! | read | `plugin.o` and `shared.o` for `plug`, then `main.o` and `shared.o` for `app`, over the same bytes |
 //! | linked | `app`, then `plug`, each beside what `app` exports, since a late image exports nothing to others |
 //!
-//! If the store has no `shared.o`, only `plugin.o` and `shared.o` are fetched. If `shared.o` and `main.o` both have
-//! faults, `shared.o` is reported, which the first line mentions, with its first fault in the order of `elf_object`;
-//! the faults of its sequences come last. If `shared.o` is an object with 4 bytes in its section 3, `.data`, and such
-//! data is refused, then section 3 is reported, before any search for sequences. If neither image links, `app` is
-//! reported, number 0 in image order.
+//! If the store has no `shared.o`, it is asked only for `plugin.o` and `shared.o`. If `shared.o` and `main.o` both
+//! have faults, `shared.o` is reported, which the first line mentions, with its first fault in the order of
+//! `elf_object`; the faults of its sequences come last. If `shared.o` is an object with 4 bytes in its section 3,
+//! `.data`, and such data is refused, then section 3 is reported, before any search for sequences. If neither image
+//! links, `app` is reported, number 0 in image order.
 //!
 //! `specs/` has the steps as definitions: the names that a job mentions and their files (`Mentions`), what an image is
 //! linked from and the first file that is refused (`Given`), and the links and the first image that does not link

@@ -20,8 +20,8 @@
 //! hexadecimal digits. A line that begins with `#` or has no word is skipped, but counted.
 //!
 //! [`Job::read`] returns the job that a text spells, or its **first fault**: that of the first faulty line, and in
-//! that line the first of the kinds of [`JobFaultKind`], in their order. So a user reads of one fault, and always of
-//! the same one. `specs/` has the grammar as definitions: a line is text (`Words`), has a heading (`Grammar`) and a
+//! that line the first of the kinds of [`JobFaultKind`], in their order. So a user gets one fault, and always the
+//! same one. `specs/` has the grammar as definitions: a line is text (`Words`), has a heading (`Grammar`) and a
 //! fault or none (`LineFaults`), adds to what is declared (`LineEffects`), and the lines together make a job
 //! (`Jobs`). The grammar is this project's own; the names in it are those of object files and of their symbols.
 #![tactic(auto)]

@@ -8,7 +8,7 @@
 //!
 //! The rule that all crates of linking keep: **the kinds are checked in one order, and the first object, section and
 //! entry of a kind is reported.** The order is that of [`LinkFaultKind`], except that `Overflow`, which needs the
-//! addresses of everything, comes last. So a user reads of one fault, and always of the same one.
+//! addresses of everything, comes last. So a user gets one fault, and always the same one.
 //!
 //! ```text
 //! kind Undefined, object 0, section 1, entry 3    relocation 3 of section 1 of the first object names what nothing defines

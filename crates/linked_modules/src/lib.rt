@@ -10,8 +10,7 @@
 //! images, with the kinds that a job gives them:
 //!
 //! - each thread-local variable that a relocation names is shared by an image that starts with the program: a symbol
-//!   is
-//!   imported if it is bound to an export of a startup image; and what an image exports (the definition of a name,
+//!   is imported if it is bound to an export of a startup image; and what an image exports (the definition of a name,
 //!   thread-local and with default or protected visibility) is among its dynamic symbols as such (gABI, "Symbol
 //!   Table");
 //! - a late image without DF_STATIC_TLS has no TPOFF64 at all (gABI, "Dynamic Section"; Drepper, "ELF Handling For

@@ -41,7 +41,7 @@ pub enum OpenRefusal {
     /// No late image has the number.
     #[error("no late image has this number")]
     Unknown,
-    /// The image is not loaded, and 4,095 instances exist.
+    /// The image is not loaded, and 4,095 instances were made.
     #[error("no more instances can be made")]
     Full,
     /// The image is not loaded, its blocks are static, and the rest of the static surplus is too small for one.

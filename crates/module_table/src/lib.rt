@@ -5,13 +5,10 @@
 //! and code reaches a block in one of two ways (Drepper, "ELF Handling For Thread-Local Storage", sections 3 and 4):
 //!
 //! - by a *module id* and an offset, which it passes to `__tls_get_addr`. Ids are small and are used again after a
-//!   module
-//!   is gone, since they are slots in an array of each thread, the dynamic thread vector;
+//!   module is gone, since they are slots in an array of each thread, the dynamic thread vector;
 //! - at a fixed distance below the thread pointer. That works for modules that start with the program, whose blocks
-//!   are
-//!   laid out once, and for late ones that say so (`DF_STATIC_TLS` in the gABI's dynamic array), as long as a reserve
-//!   of
-//!   bytes lasts: the *static surplus*, here 4,096 bytes past the last startup block.
+//!   are laid out once, and for late ones that say so (`DF_STATIC_TLS` in the gABI's dynamic array), as long as a
+//!   reserve of bytes lasts: the *static surplus*, here 4,096 bytes past the last startup block.
 //!
 //! This crate decides which module is loaded, and under which numbers. It keeps one list, the *history*: each
 //! accepted open and close with its thread and line. **All answers depend only on that list.** A late image is loaded
@@ -51,7 +48,7 @@ pub use crate::modules::{ImageInfo, Module};
 pub use crate::registry::Registry;
 pub use crate::table::ModuleTable;
 
-/// The most instances of modules, startup ones included.
+/// The most instances of modules that are ever made, startup ones included.
 pub const MOST_INSTANCES: u32 = 4095;
 
 /// The greatest module id: no more images can be loaded at the same time.

@@ -16,8 +16,8 @@ pub enum FaultKind {
     Truncated,
     /// The file is not ELF with 64 bits and little-endian data.
     NotElf,
-    /// The file is not an object for x86-64, or it has no sections, too many for `e_shnum`, or no
-    /// section of their names.
+    /// The file is not an object for x86-64, its section headers do not have 64 bytes each, or it has no sections,
+    /// 0xff00 or more, or no section of their names.
     NotRelocatable,
     /// The section of names is not a string table, or a section's name does not end in it.
     SectionName,
@@ -27,7 +27,8 @@ pub enum FaultKind {
     SectionAlign,
     /// A section that linking keeps has more than 2^20 bytes, or a table more than 2^20 entries.
     TooLarge,
-    /// There is a second symbol table, or the symbol table's entry size, size, string table or order is wrong.
+    /// There is a second symbol table, or the symbol table's entry size, size, string table, first symbol that is not
+    /// LOCAL, or order is wrong.
     SymbolTable,
     /// A symbol's name does not end, or it is empty and the symbol is not LOCAL.
     SymbolName,

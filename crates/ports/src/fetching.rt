@@ -9,7 +9,7 @@ use rayon::prelude::*;
 use std::alloc::{AllocError, Global};
 use std::thread::Threads;
 
-/// One thread reads fewer files than this.
+/// With fewer files than this, one thread reads them all.
 const FEW: usize = 4;
 
 /// Reads each file, by as many threads as are worth starting. If a thread cannot be started, its starter reads instead.

@@ -13,7 +13,7 @@
 //! names that were fetched so far; a sink may show its bytes, and how many pieces it was given. What is shown stays
 //! shown, and the clauses of each call say how the call changes it. What is not shown is `None`, and clauses claim
 //! nothing of it. Every store and sink keeps a count of its faults, in 64 bits: it never falls; it rises (or stays at
-//! its greatest value) in each call that returns `Failed`, and stays in every other call. So the counts alone convict
+//! its greatest value) in each call that returns `Failed`, and stays in every other call. So the counts alone expose
 //! a caller that hides a fault or makes one up.
 //!
 //! **`OutOfMemory`** is a result of its own, and never a fault. A sink counts these results too.

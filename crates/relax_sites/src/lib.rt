@@ -24,11 +24,9 @@
 //! There are two tables, and a call for each:
 //!
 //! - [`choice`] maps a site's form, its symbol's binding, the kind of image and the user's setting to a [`Choice`].
-//!   Modules
-//!   keep all of their sites, and so does every image that is linked without rewriting.
+//!   Modules keep all of their sites, and so does every image that is linked without rewriting.
 //! - [`rewrite`] maps a form and a choice to bytes; [`new_field`] says which field those bytes have, at which offset
-//!   and of
-//!   which type, so that no other crate repeats it.
+//!   and of which type, so that no other crate repeats it.
 //!
 //! The rules that the crate keeps: **the bytes of its row replace a site, as many as it had, with zeros in the
 //! field**, and

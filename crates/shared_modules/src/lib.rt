@@ -50,13 +50,10 @@
 //!
 //! - there is one history, it is legal, and its length is the generation;
 //! - each pass's seen list is a prefix of it, and the rest names none of the pass's threads: so a thread finds its
-//!   own opens
-//!   and closes where it left them, however many other events came meanwhile (`laws`);
+//!   own opens and closes where it left them, however many other events came meanwhile (`laws`);
 //! - tickets that were drawn and not served lie between the two words, and no two are the same; the registry is in
-//!   its slot
-//!   with the whole history, or in the hands of the one seat whose ticket is being served, which noted the history
-//!   when it
-//!   took the registry. Nobody else can make the history longer meanwhile, so the note stays true;
+//!   its slot with the whole history, or in the hands of the one seat whose ticket is being served, which noted the
+//!   history when it took the registry. Nobody else can make the history longer meanwhile, so the note stays true;
 //! - each thread has one pass that speaks for it.
 //!
 //! A pass's *view* (`board::View`) holds what is known of it. Views exist only in proofs, and cost nothing at run

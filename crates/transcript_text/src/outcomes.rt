@@ -11,7 +11,7 @@ use std::marker::Model;
 pub enum LineRefusal {
     /// No late image has the number.
     Unknown,
-    /// 4,095 instances exist, and the line needs one more.
+    /// 4,095 instances were made, and the line needs one more.
     Full,
     /// The static surplus is too small for the image.
     StaticFull,
