@@ -41,9 +41,8 @@ row_of value form symbol place entry part replaced refused = record {
   refused = refused;
 }
 
--- the table, by the psABI's letters; O is a symbol's offset in the TLS segment, and B how far the segment's
--- block begins
--- below the thread pointer
+-- the table, by the psABI's letters; O is a symbol's offset in the TLS segment, and B how far the segment's block
+-- begins below the thread pointer
 abbrev pub row : RelocationKind → RelocationRow
 -- nothing
 row Nothing = row_of NoValue NoField NoSymbol Anywhere NoEntry NoPart Never Accepted

@@ -4,9 +4,8 @@ ghost use Rattle.std.specs.Prelude.{◌≡◌, ◌==◌, ◌+◌, ◌<◌, ◌�
 ghost use Rattle.std.specs.List.{position_or_len};
 ghost use Rattle.elf_records.specs.Strings.{IsNamesEnd, text_at};
 
-/// The offset after the last zero byte of the string table of `size` bytes at `from`, or 0 if it has none. A
-/// name ends if
-/// it begins before this offset.
+/// The offset after the last zero byte of the string table of `size` bytes at `from`, or 0 if it has none. A name
+/// ends if it begins before this offset.
 pub fn names_end(bytes: &[u8], from: u64, size: u64) -> u64
     requires { from + size ≤ length bytes.now }
     ensures { IsNamesEnd bytes.now from size result }

@@ -3,8 +3,7 @@
 //! [`read`] takes the bytes of a file and returns an [`Image`], or the first fault of the file (`image_faults`). An
 //! image lends what a loader needs: the *parts* to load, with their addresses; which of them only the loader writes
 //! (the GOT); the *TLS segment*, from which each thread's block is made; the *symbols* that it defines or imports;
-//! and the
-//! *relocations* that are left to the loader.
+//! and the *relocations* that are left to the loader.
 //!
 //! The rule that it keeps: **an image is what the bytes of a file spell** (`specs/Spelled`). Bytes that no loader
 //! reads, such as the order of chains in the hash table, do not matter. No call but `read` allocates memory, and

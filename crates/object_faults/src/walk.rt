@@ -52,9 +52,8 @@ fn target_size(tables: &Tables, section: u64) -> u64
     }
 }
 
-/// How many marks it takes to find overlapping fields in a section's target; 0 if the fields rise. `None` if
-/// a relocation
-/// is at fault by itself.
+/// How many marks it takes to find overlapping fields in a section's target; 0 if the fields rise. `None` if a
+/// relocation is at fault by itself.
 fn bytes_to_mark(tables: &Tables, section: u64) -> Option<u64>
     requires { IsSection tables.now.bytes.now section }
     ensures { IsMarkedBy tables.now.bytes.now section result }
@@ -66,9 +65,8 @@ fn bytes_to_mark(tables: &Tables, section: u64) -> Option<u64>
     }
 }
 
-/// How many marks it takes to find overlapping fields in any target; 0 if the fields rise in each. `None` if
-/// a relocation
-/// is at fault by itself.
+/// How many marks it takes to find overlapping fields in any target; 0 if the fields rise in each. `None` if a
+/// relocation is at fault by itself.
 pub fn most_to_mark(tables: &Tables) -> Option<u64>
     ensures { AreMarkedBy tables.now.bytes.now result }
 {

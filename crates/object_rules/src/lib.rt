@@ -8,9 +8,8 @@
 //! `section 2 entry 0 RelocRange` says that the field of the first relocation in section 2 passes the end of the
 //! section that it applies to.
 //!
-//! The parts of an object that faults name are those of the System V ABI (gABI, "Object Files"). This crate
-//! uses no other
-//! crate of the repository.
+//! The parts of an object that faults name are those of the System V ABI (gABI, "Object Files"). This crate uses no
+//! other crate of the repository.
 #![tactic(auto)]
 
 mod fault;

@@ -4,7 +4,6 @@
 //! million events, and another, which has seen none of them, takes them all, and holds the lock while it copies them.
 //! Until it is done, the first one looks again and again. There is nothing new for it, so each of its looks is one
 //! load, which waits for nobody.
-//! load, which waits for nobody.
 //!
 //! The test shows that a thousand looks that found nothing new ended after the other thread had begun, and before it
 //! was done. Looks that took the lock would come after the other's ticket, all but the few that draw one before it. A

@@ -1,8 +1,7 @@
 //! What a relocation stores in its field, whether the value fits, and bytes written in place.
 //!
 //! An assembler does not know the address of a symbol. It leaves a *field* of zeros in the code or data, and next to
-//! it a
-//! *relocation*: where the field begins, which symbol it is about, an *addend*, and a *type*, which says what to
+//! it a *relocation*: where the field begins, which symbol it is about, an *addend*, and a *type*, which says what to
 //! compute and how wide the field is. A linker places everything first, and then computes each value and writes it.
 //!
 //! The psABI writes these values in letters: S is the address of the symbol, A the addend, P the address of the field
@@ -19,10 +18,9 @@
 //!
 //! The rule that the crate keeps: **a value is a whole number, and a field holds it or it overflows.** No sum wraps
 //! before the range is checked. [`value`] returns [`Overflow`] exactly where the value lies outside the range of its
-//! type: from
-//! -2^31 to 2^31 - 1 for a signed field of 4 bytes, from 0 to 2^32 - 1 for an unsigned one; a field of 8 bytes holds
-//! every value modulo 2^64. Otherwise it returns a [`Field`] as wide as the type says, and [`apply`] writes it and no
-//! other byte. Neither allocates memory.
+//! type: from -2^31 to 2^31 - 1 for a signed field of 4 bytes, from 0 to 2^32 - 1 for an unsigned one; a field of 8
+//! bytes holds every value modulo 2^64. Otherwise it returns a [`Field`] as wide as the type says, and [`apply`]
+//! writes it and no other byte. Neither allocates memory.
 //!
 //! The crate is the lowest that writes into the bytes of an image, so it has the definitions for that:
 //! `specs/Patches`, for writes in place, and `specs/Laid`, for parts at rising places with zeros in the gaps.
