@@ -27,7 +27,7 @@ IsReadAt size record_at bytes at result =
 unfoldable pub bytes_of : ℕ → ℕ → List ℕ
 bytes_of n x = little_bytes n x
 
--- the bytes, where others replace those from that offset on
+-- the bytes, with others written over them from that offset on
 unfoldable pub splice : ℕ → List ℕ → List ℕ → List ℕ
 splice at new bytes = take at bytes ++ (new ++ drop (at + length new) bytes)
 

@@ -91,7 +91,7 @@ fn is_outside_tls(tables: &Tables, addend: i64) -> bool
     addend < 0 || (tables.places.tls_size as i64) < addend
 }
 
-/// Whether a type needs a TLS segment of this image that does not exist, or an addend that lies in it.
+/// Whether a type needs a TLS segment and this image has none, or needs an addend inside the segment and has another.
 fn lacks_own_tls(tables: &Tables, kind: Option<LoaderKind>, addend: i64) -> bool
     ensures { IsTrue result ↔ LacksOwnTls tables.now.bytes.now kind addend }
 {

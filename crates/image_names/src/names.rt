@@ -33,7 +33,7 @@ impl<'i> Model for ImageNames<'i> {
 
 impl<'i> ImageNames<'i> {
     /// Hashes the names of an image: one walk over its symbols, and one over each name. The only
-    /// error is `OutOfMemory`.
+    /// error is `AllocError`.
     pub fn new(alloc: Global, image: &'i Image) -> Result<ImageNames<'i>, AllocError>
         ensures { IfOk result (λ names. names ≡ image.now) }
     {

@@ -1,4 +1,4 @@
-//! One history of modules that running threads share: a lock by tickets, and a check for news that costs one load.
+//! One history of modules that running threads share: a ticket lock, and a check for new events that costs one load.
 //!
 //! `module_table` keeps one list of opens and closes, which decides which modules are loaded. Here threads that run at
 //! once share such a list. A loader has the same two needs: opens and closes must come one after another, and code that
