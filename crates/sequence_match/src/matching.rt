@@ -407,7 +407,7 @@ pub fn is_loose(code: &Code, entry: u32) -> bool
     }
 }
 
-/// Whether relocation number `entry`, which fits as the second one of this form's sequence at `start`, is that: the
+/// Whether relocation number `entry` is the second one of this form's sequence at `start`, as which it fits: the
 /// first one is at `place`.
 fn is_second_at(code: &Code, form: Form, entry: u32, start: u64, place: u64) -> bool
     requires ready { IsReady code.now }
