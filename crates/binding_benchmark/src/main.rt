@@ -1,6 +1,8 @@
-//! How long names take to bind: `binding_benchmark OBJECTS [time]` makes 1 to 10,000 objects, each of which defines 100
-//! thread-local variables and uses the 100 of the object before it. With `time` it prints how long it took to bind the
-//! names of all objects, and then how long to tell what each relocation's symbol is bound to.
+//! Measures how long it takes to bind names.
+//!
+//! `binding_benchmark OBJECTS [time]` makes OBJECTS objects, from 1 to 10,000. Each defines 100 thread-local
+//! variables and uses the 100 of the object before it. With `time` it prints how long it took to bind the names of
+//! all objects, and then to look up the binding of each relocation's symbol.
 #![tactic(auto)]
 
 ghost use Rattle.std.specs.Prelude.{◌≡◌, ◌<◌, length};
@@ -34,7 +36,7 @@ fn names(alloc: Global, object: u32) -> Result<Vec<String>, AllocError> {
     Ok(names)
 }
 
-/// Symbols that define variables, and behind them those of variables that are used.
+/// Symbols that define variables, and after them those of variables that are used.
 fn symbols<'a>(
     alloc: Global,
     own: &'a [String],
@@ -50,7 +52,7 @@ fn symbols<'a>(
     Ok(symbols)
 }
 
-/// A use of each variable that is used.
+/// A relocation for each variable that is used.
 fn relocations(alloc: Global) -> Result<Vec<Rela>, AllocError> {
     let mut relocations = Vec::new(alloc);
     for number in 0..VARIABLES {
@@ -75,7 +77,7 @@ fn example(alloc: Global, object: u32, other: u32) -> Result<Vec<u8>, AllocError
     object_of(alloc, &[variables, code], symbols.as_slice())
 }
 
-/// The files of so many objects.
+/// The files of `number` objects.
 fn files_of(alloc: Global, number: u32) -> Result<Vec<Vec<u8>>, AllocError> {
     let mut files = Vec::new(alloc);
     for object in 0..number {
@@ -110,7 +112,7 @@ fn count_in(bindings: &Bindings, index: usize, object: &Object) -> u64
     count
 }
 
-/// How many of all objects' code are.
+/// How many relocations of all objects' code are bound to a symbol of the image.
 fn count_bound(bindings: &Bindings, objects: &[Object]) -> u64
     requires { bindings.now.objects ≡ objects.now }
 {
@@ -121,7 +123,7 @@ fn count_bound(bindings: &Bindings, objects: &[Object]) -> u64
     count
 }
 
-/// How many are, and how long it took to tell.
+/// How many relocations are bound to a symbol of the image, and how long it took to look up.
 fn tell(rt: &impl Clock, bindings: &Bindings, objects: &[Object]) -> io::Result<(u64, Duration)>
     requires { bindings.now.objects ≡ objects.now }
 {
@@ -130,7 +132,7 @@ fn tell(rt: &impl Clock, bindings: &Bindings, objects: &[Object]) -> io::Result<
     Ok((bound, start.elapsed(rt)?))
 }
 
-/// Binds the names of all objects, and prints what it came to.
+/// Binds the names of all objects, and prints the results.
 fn bind(
     rt: &(impl Print + Clock),
     alloc: Global,
@@ -148,7 +150,7 @@ fn bind(
     Ok(())
 }
 
-/// How many objects are asked for.
+/// The number of objects.
 fn number_of(word: Option<String>) -> Result<u32> {
     let number: u32 = word.context("how many objects")?.parse()?;
     ensure!(1 <= number && number <= 10_000, "1 to 10,000 objects");

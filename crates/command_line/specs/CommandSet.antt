@@ -4,7 +4,7 @@ use Rattle.clap.specs.Walk.{Rule, Text}
 use Rattle.clap.specs.Simple.{App, Shape, new_app, new_rule, on_top, with_rule, with_subcommand}
 use Rattle.clap.specs.declared.builder.action.ArgAction.TheVariants.{SetTrue}
 
--- a word that must stand there, any text
+-- a required word, which may be any text
 abbrev pub text_rule : Text → Rule
 text_rule id = record (new_rule id) { required = true }
 
@@ -59,14 +59,14 @@ bare_tool = on_top top_settings (new_app (codes "tlsld"))
 abbrev pub running_tool : App
 running_tool = with_subcommand (with_subcommand bare_tool run_app.top) race_app.top
 
--- the commands that link images: behind those the one that puts an image
+-- the commands that link images: after those the one that writes an image
 abbrev pub linking_tool : App
 linking_tool = with_subcommand running_tool link_app.top
 
--- the commands that read files: behind those the ones that print what is in an image
+-- the commands that read files: after those the ones that print what is in an image
 abbrev pub reading_tool : App
 reading_tool = with_subcommand (with_subcommand linking_tool sites_app.top) show_app.top
 
--- all the commands: behind those the one that checks a job, and the one that makes a job
+-- all the commands: after those the one that checks a job, and the one that generates a job
 abbrev pub tool_app : App
 tool_app = with_subcommand (with_subcommand reading_tool check_app.top) gen_app.top

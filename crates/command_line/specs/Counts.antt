@@ -1,10 +1,10 @@
--- Which words are a count of objects to be made.
+-- Which words are a count of objects to make.
 use Rattle.std.specs.Prelude.{ℕ, Bool, not, ◌&&◌, ◌==◌, nat_le, nat_lt, List, length, slice_index, Option, Some, None, if◌then◌else◌}
 use Rattle.std.specs.Char.{digit_value}
 use Rattle.std.specs.List.{list_all}
 use Rattle.std.specs.Str.Parse.{digits_value}
 
--- some decimal digits, of which the first is not zero, and nothing else
+-- decimal digits, at least one, of which the first is not zero, and nothing else
 abbrev pub is_numeral : List ℕ → Bool
 is_numeral word = not (length word == 0) && not (slice_index word 0 == 48) && list_all (λ c. nat_lt (digit_value c) 10) word
 

@@ -1,4 +1,4 @@
--- Which words are taken, and the command that they give.
+-- Which words are accepted, and the command that they give.
 use Rattle.std.specs.Prelude.{◌≤◌, ◌&&◌, Bool, true, false, List, [], ◌∷◌, Option, Some, None, codes, unwrap_or, if◌then◌else◌}
 use Rattle.std.specs.Prelude.{is_some}
 use Rattle.std.specs.Option.{option_and_then, option_map}
@@ -16,16 +16,16 @@ use Rattle.command_line.specs.declared.tasks.Task.TheVariants as task
 use Rattle.command_line.specs.CommandSet.{tool_app}
 use Rattle.command_line.specs.Counts.{count_of}
 
--- nothing is wrong with the words
+-- the words have no fault
 abbrev pub has_no_fault : Kinds → Bool
 has_no_fault [] = true
 has_no_fault (k ∷ ks) = false
 
--- the text of an argument; a required one has its own, and the empty text is never taken
+-- the text of an argument; a required one has its own, and no empty text is accepted
 abbrev pub text_at : Text → List Row → Text
 text_at id rows = unwrap_or (first_of id rows) []
 
--- whether sequences may be rewritten: not where the flag `--no-relax` is set, which reads as `true`
+-- whether sequences may be rewritten: unless the flag `--no-relax` is set, which reads as `true`
 abbrev pub rewriting_at : List Row → Rewriting
 rewriting_at rows = if bytes_eq (text_at (codes "no-relax") rows) (codes "true") then Off else Allowed
 
@@ -65,7 +65,7 @@ has_count None = true
 has_count (Some command) =
     if bytes_eq command.0 (codes "gen") then is_some (count_of (text_at (codes "N") command.1)) else true
 
--- `clap` takes the words, and a number among them is a count
+-- `clap` accepts the words, and a number among them is a count
 unfoldable pub takes_words : List Text → Bool
 takes_words words = has_no_fault (fault_of tool_app words) && has_count (subcommand_of tool_app words)
 
@@ -81,11 +81,11 @@ command_of command =
     if bytes_eq command.0 (codes "gen") then option_map Plain (gen_task command.1) else
     None
 
--- the command that the words give, where they are taken
+-- the command that the words give, if they are accepted
 unfoldable pub asked : List Text → Option Command
 asked words = if takes_words words then option_and_then command_of (subcommand_of tool_app words) else None
 
--- so many objects as `gen` makes
+-- `gen` makes from 1 to 1,000 objects
 abbrev pub IsInLimits : Task → Type 0
 IsInLimits (task.Gen count) = (1 ≤ count) × (count ≤ 1000)
 IsInLimits _ = Unit {0}

@@ -9,7 +9,7 @@ ghost use Rattle.command_line.specs.CommandSet.{bare_tool, running_tool, linking
 use clap::{Arg, ArgAction, Command};
 use std::alloc::{AllocError, Global};
 
-/// A word that must stand there.
+/// A required word.
 fn text_argument<'a>(alloc: Global, id: &'a str) -> Arg<'a>
     ensures rule { rule_of result ≡ text_rule id.entry.now }
     ensures local { result.global ≡ false }

@@ -1,11 +1,11 @@
-//! How many objects are to be made.
+//! How many objects to make.
 ghost use Rattle.std.specs.Prelude.{◌≡◌, ◌≤◌, IfSome, IsTrue, ◌↔◌, slice_index};
 ghost use Rattle.command_line.specs.Counts.{count_of, is_count};
 
-/// The greatest number of objects that a program is made of.
+/// The most objects of a generated program.
 const COUNT_LIMIT: u32 = 1_000;
 
-/// The count that a word writes, in decimal digits with no sign and no zero in front.
+/// The count that a word writes, in decimal digits without a sign or a leading zero.
 pub(crate) fn count_of(word: &str) -> Option<u32>
     ensures value { result ≡ count_of word.now }
     ensures low { IfSome result (λ count. 1 ≤ count) }
@@ -26,7 +26,7 @@ fn is_count(number: u32) -> bool
     1 <= number && number <= COUNT_LIMIT
 }
 
-/// Whether a digit other than zero stands first.
+/// Whether the first byte is a digit other than zero.
 fn begins_with_digit(word: &str) -> bool
     ensures { IsTrue result ↔ ((49 ≤ slice_index word.now 0) × (slice_index word.now 0 ≤ 57)) }
 {

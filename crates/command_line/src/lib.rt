@@ -1,8 +1,8 @@
-//! The words of a command line, read as a command.
+//! The words of a command line: reads them as a command.
 //!
-//! A linker is asked for its work by words: a command, the names of files, and options that may stand
-//! before, between or after them. This crate reads the words that follow the program's name, and answers
-//! with a [`Command`], or with `Usage` where they are none:
+//! A user asks a linker for work by words: a command, the names of files, and options that may stand before,
+//! between or after them. This crate reads the words that follow the program's name, and returns a [`Command`], or
+//! `Usage` if they are not one:
 //!
 //! | words | what is asked for |
 //! |---|---|
@@ -36,20 +36,19 @@
 //! --help                       usage: a wish for help is no command
 //! ```
 //!
-//! `--no-relax` is the name that linkers give to the option that keeps each code sequence for thread-local
-//! storage as the compiler wrote it, where a shorter one would do. All that `run` to `gen` do but `race` is a [`Task`]: it
-//! waits for nobody. The threads of a `race` wait for one another, so it is a [`Command`] of its own.
+//! `--no-relax` is the name that linkers give to the option that keeps each TLS code sequence as the compiler wrote
+//! it, even if a shorter one would do. Every command but `race` is a [`Task`]: it waits for no other thread. The
+//! threads of a `race` wait for one another, so it is a [`Command`] of its own.
 //!
-//! **The rule that the crate keeps.** The words are read as one simple command of `clap`, with a subcommand
-//! for each row of the table, and the contract says so in `clap`'s own definitions: `takes_words` says
-//! which words are taken, and `asked` which command they give. To `clap` all values are texts; that the one of
-//! `gen` is a number, and which one, this crate reads itself, since usual readers of numbers take `05` and
-//! `+5` too. [`read_words`] answers `Ok` only for words that are taken, with the command that they ask for, and
-//! `Usage` only for words that are not. What is left open is `OutOfMemory`, which may come in place of each
-//! answer.
+//! **The rule that the crate keeps.** The words are read as one simple command of `clap`, with a subcommand for each
+//! row of the table, and the contract says so in `clap`'s own definitions: `takes_words` says which words are
+//! accepted, and `asked` which command they give. For `clap` all values are texts. This crate itself reads the number
+//! of `gen`, since usual readers of numbers accept `05` and `+5` too. [`read_words`] returns `Ok` only for words that
+//! are accepted, with the command that they ask for, and `Usage` only for words that are not. Any call may return
+//! `OutOfMemory` instead.
 //!
-//! No other crate stands on `clap`: those above see a [`Command`], whose texts are an own type, [`Text`], that
-//! their contracts read as bytes.
+//! No other crate uses `clap`: those above see a [`Command`], whose texts have a type of their own, [`Text`], which
+//! contracts read as bytes.
 #![tactic(auto)]
 
 mod command_set;

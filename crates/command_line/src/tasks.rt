@@ -1,14 +1,14 @@
-//! What a user can ask for.
+//! The commands that a user can give.
 ghost use Rattle.std.specs.Prelude.{◌≡◌};
 ghost use Rattle.command_line.specs.Rewritings.{is_allowed};
 
 use crate::Text;
 use thiserror::Error;
 
-/// Whether a linker may put other code sequences in the place of those that the compiler wrote.
+/// Whether the linker may rewrite the code sequences that the compiler wrote.
 #[derive(Clone, Copy)]
 pub enum Rewriting {
-    /// It may, where another serves.
+    /// It may, if a shorter or faster one serves.
     Allowed,
     /// Each sequence stays as the compiler wrote it.
     Off,
@@ -26,7 +26,7 @@ impl Rewriting {
     }
 }
 
-/// What a user asks for of a command that waits for nobody, with the values of its words.
+/// A command that waits for no other thread, with the values of its words.
 #[derive(Drop)]
 pub enum Task {
     /// `run JOB [--no-relax]`: link the images of the job, run its threads, and print what they did.
@@ -47,8 +47,7 @@ pub enum Task {
         /// `Off` by `--no-relax`.
         rewriting: Rewriting,
     },
-    /// `sites JOB IMAGE`: print the code sequences of an image for thread-local storage, and what stands in the place
-    /// of each.
+    /// `sites JOB IMAGE`: print the TLS code sequences of an image, and what stands in the place of each.
     Sites {
         /// The name of the job's file.
         job: Text,
@@ -72,10 +71,10 @@ pub enum Task {
     },
 }
 
-/// What words ask for: a task, or the command whose threads really run.
+/// The command of some words: a task, or the one that runs threads at once.
 #[derive(Drop)]
 pub enum Command {
-    /// A task, which waits for nobody.
+    /// A task, which waits for no other thread.
     Plain(Task),
     /// `race JOB [--no-relax]`: link the images of the job, run each of its threads in a thread of its own, and print
     /// what they did.
@@ -87,13 +86,13 @@ pub enum Command {
     },
 }
 
-/// Why words give no command.
+/// Why words are not a command.
 #[derive(Clone, Copy, Debug, PartialEq, Eq, Error)]
 pub enum WordsFault {
-    /// The words are not those of a command, or wish for help.
+    /// The words are not a command, or they ask for help.
     #[error("usage")]
     Usage,
-    /// There was no memory to read them.
+    /// There was not enough memory to read them.
     #[error("out of memory")]
     OutOfMemory,
 }

@@ -25,7 +25,7 @@ impl From<AllocError> for WordsFault {
     }
 }
 
-/// The text of the argument, which is there where it is required.
+/// The text of an argument that is required.
 fn text_of<'a>(matches: &ArgMatches<'a>, id: &str) -> &'a str
     ensures { result.now ≡ text_at id.now (rows_of (found_of matches.now)) }
 {

@@ -1,19 +1,19 @@
--- Why a command gives no output, and what that has to do with the store.
+-- Why a command gives no output, and how that relates to the store.
 use Rattle.std.specs.Prelude.{◌≡◌, ℕ, Option, Result, Ok, Err}
 use Rattle.ports.specs.Counts.{Counted}
 use Rattle.ports.specs.Files.{Files}
 use Rattle.command_replies.specs.declared.fault.CommandFault.{CommandFault}
 use Rattle.command_replies.specs.declared.fault.CommandFault.TheVariants as fault
 
--- the store's count of faults rose where a command gave up because of the store, and only there
+-- the store's count of faults rose if the command gave up because of the store, and only then
 abbrev pub StoreCounts : {T : Type 0} → ℕ → ℕ → Result T CommandFault → Type 0
 StoreCounts before now (Ok x) = now ≡ before
 StoreCounts before now (Err fault.Store) = Counted before now
 StoreCounts before now (Err fault.OutOfMemory) = now ≡ before
 StoreCounts before now (Err (fault.Refused r)) = now ≡ before
 
--- the files are as before where a command is refused, or the store failed; where it did all that it should, or wanted
--- memory for saying so, they may not be
+-- the files are as before if a command is refused or the store failed; if it succeeded, or ran out of memory for
+-- saying so, they may differ
 abbrev pub KeepsFiles : {T : Type 0} → Option Files → Option Files → Result T CommandFault → Type 0
 KeepsFiles before after (Ok x) = Unit {0}
 KeepsFiles before after (Err fault.OutOfMemory) = Unit {0}
@@ -30,7 +30,7 @@ abbrev pub NoStoreFault : {T : Type 0} → Result T CommandFault → Type 0
 NoStoreFault (Ok x) = Unit {0}
 NoStoreFault (Err f) = IsNoStoreFault f
 
--- the file was not got; nothing is refused yet
+-- the file could not be fetched; nothing is refused yet
 abbrev pub IsFetchFault : CommandFault → Type 0
 IsFetchFault fault.Store = Unit {0}
 IsFetchFault fault.OutOfMemory = Unit {0}

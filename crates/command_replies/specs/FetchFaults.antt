@@ -1,4 +1,4 @@
--- What a fault of the store means for the command.
+-- The fault of a command for a fault of the store.
 use Rattle.ports.specs.declared.faults.FetchFault.{FetchFault}
 use Rattle.ports.specs.declared.faults.FetchFault.TheVariants as fetch
 use Rattle.ports.specs.declared.faults.PutFault.{PutFault}

@@ -1,4 +1,4 @@
--- What a command answers, and what that has to do with the store and with the number that the program ends with.
+-- What a command answers, and how that relates to the store and to the number that the program ends with.
 use Rattle.std.specs.Prelude.{◌≡◌, ℕ, ◌⊎◌, List, Option}
 use Rattle.ports.specs.Counts.{Counted}
 use Rattle.ports.specs.Files.{Files}
@@ -9,7 +9,7 @@ use Rattle.command_replies.specs.declared.statuses.Status.TheVariants as status
 use Rattle.command_replies.specs.Delivery.{store_line}
 use Rattle.command_replies.specs.Statuses.{code_of, IsLate}
 
--- a status that a command gives over files that it got: not that of the words, nor that of a store that failed
+-- a status of a command whose files were fetched: not that of the words, nor that of a store that failed
 abbrev pub IsOfFiles : Status → Type 0
 IsOfFiles status.Done = Unit {0}
 IsOfFiles status.Usage = ⊥
@@ -20,13 +20,13 @@ IsOfFiles status.Link = Unit {0}
 IsOfFiles status.Image = Unit {0}
 IsOfFiles status.Unclean = Unit {0}
 
--- the store's count of faults rose where the answer is that the store failed, and only there
+-- the store's count of faults rose if the answer is that the store failed, and only then
 abbrev pub AnswerCounts : ℕ → ℕ → Answer → Type 0
 AnswerCounts before now (Replies reply) = (now ≡ before) × IsOfFiles reply.status
 AnswerCounts before now StoreFails = Counted before now
 AnswerCounts before now NoMemory = now ≡ before
 
--- the files are as before, but where the answer has the command's own output, or memory was wanting
+-- the files are as before, unless the answer is the command's own output, or memory ran out
 abbrev pub IsOutput : Status → Type 0
 IsOutput status.Done = Unit {0}
 IsOutput status.Usage = ⊥
@@ -42,7 +42,7 @@ AnswerKeeps before after (Replies reply) = IsOutput reply.status ⊎ (after ≡ 
 AnswerKeeps before after StoreFails = after ≡ before
 AnswerKeeps before after NoMemory = Unit {0}
 
--- the number that the program ends with is that of the answer, or a late one
+-- the number that the program ends with is that of the answer, or one for a text that did not get through
 abbrev pub IsDelivered : Answer → ℕ → Type 0
 IsDelivered (Replies reply) code = (code ≡ code_of reply.status) ⊎ IsLate code
 IsDelivered StoreFails code = (code ≡ 3) ⊎ IsLate code

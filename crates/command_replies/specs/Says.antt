@@ -1,4 +1,4 @@
--- What a command says, a status and a text: the lines of refusals, and what is said of a job that has a fault.
+-- What a command says, a status and a text: the lines of refusals, and the refusal of a job with a fault.
 use Rattle.std.specs.Prelude.{◌≡◌, ℕ, List, ◌++◌, codes, slice_get, unwrap_or, Option, Some, None}
 use Rattle.std.specs.Fmt.{decimal}
 use Rattle.image_rules.specs.declared.fault.FaultKind.{FaultKind as ImageFaultKind}
@@ -24,7 +24,7 @@ fault_text name section entry kind =
     codes "object " ++ name ++ codes " section " ++ decimal section
     ++ codes " entry " ++ decimal entry ++ codes " " ++ object_kind_name kind ++ codes "\n"
 
--- the object of a fault of linking: `-` where it stands at none
+-- the object of a linking fault: `-` if the fault is at none
 abbrev pub shown_object : List (List ℕ) → Option ℕ → List ℕ
 shown_object names None = codes "-"
 shown_object names (Some o) = unwrap_or (slice_get names o) (codes "-")
@@ -50,7 +50,7 @@ HasFile (Some bytes) P = P bytes
 abbrev pub Is : ℕ → List ℕ → ℕ → List ℕ → Type 0
 Is own words status text = (status ≡ own) × (text ≡ words)
 
--- where the job has a fault: 5, and the first one; want of memory is none
+-- the refusal of a job with a fault: 5 and the first fault; out of memory is not a fault of the job
 abbrev pub JobFaultSays : JobFault → ℕ → List ℕ → Type 0
 JobFaultSays OutOfMemory status text = ⊥
 JobFaultSays (At line kind) status text = Is 5 (job_fault_text line kind) status text

@@ -1,4 +1,4 @@
--- The steps of a command: what each answers, and which names were asked for.
+-- The steps of a command: the result of each, and which names it asks for.
 use Rattle.std.specs.Prelude.{◌≡◌, ℕ, List, ◌++◌, take, Option, Some, None, string_bytes, Result, Ok, Err}
 use Rattle.std.specs.Option.{option_map}
 use Rattle.job_text.specs.declared.fault.JobFault.{JobFault}
@@ -27,7 +27,7 @@ refusal_text (Link image kind object section entry) =
 refusal_text (Image offset kind) = image_fault_text offset kind
 refusal_text (Unclean line) = string_bytes line
 
--- a step's answer is what says, but that the store may fail, and memory may be wanting
+-- a step's result is as `says` has it, or the store fails, or memory runs out
 abbrev pub Comes : {T : Type 0} → (T → List ℕ) → (ℕ → List ℕ → Type 0) → Result T CommandFault → Type 0
 Comes text_of Says (Ok text) = Says 0 (text_of text)
 Comes text_of Says (Err fault.Store) = Unit {0}
@@ -39,11 +39,11 @@ Comes text_of Says (Err (fault.Refused refusal)) = Says (refusal_code refusal) (
 abbrev pub with_names : List (List ℕ) → Option (List (List ℕ)) → Option (List (List ℕ))
 with_names names = option_map (λ before. before ++ names)
 
--- a front of these names
+-- a prefix of these names
 abbrev pub AsksFront : List (List ℕ) → Option (List (List ℕ)) → Option (List (List ℕ)) → Type 0
 AsksFront names old new = (k : ℕ) × (new ≡ with_names (take k names) old)
 
--- all of them where the step answered by itself
+-- all of them, if the step got to its own result
 abbrev pub Asks : {T : Type 0} → List (List ℕ) → Option (List (List ℕ)) → Option (List (List ℕ))
     → Result T CommandFault → Type 0
 Asks names old new (Ok x) = new ≡ with_names names old

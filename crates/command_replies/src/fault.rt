@@ -12,16 +12,16 @@ use std::alloc::{AllocError, AllocFailed};
 pub enum CommandFault {
     /// The store failed.
     Store,
-    /// There was no memory.
+    /// Memory ran out.
     OutOfMemory,
     /// The input is refused.
     Refused(InputRefusal),
 }
 
-/// What of the input is refused.
+/// What is refused of the input, and why.
 #[derive(Drop)]
 pub enum InputRefusal {
-    /// The job, at a line from 1; 0 stands for the job as a whole.
+    /// The job, at a line counted from 1; 0 means the job as a whole.
     Job {
         line: u64,
         kind: JobFaultKind,
@@ -33,7 +33,7 @@ pub enum InputRefusal {
         entry: u64,
         kind: FaultKind,
     },
-    /// The image of this name does not link; the object is `-` where the fault stands at none.
+    /// The image of this name does not link; the object is `-` if the fault is at none.
     Link {
         image: String,
         kind: LinkFaultKind,
@@ -46,7 +46,7 @@ pub enum InputRefusal {
         offset: u64,
         kind: image_rules::FaultKind,
     },
-    /// The job is unclean: this whole line says at which step, and why.
+    /// The job is unclean: the whole line says at which step, and why.
     Unclean {
         line: String,
     },

@@ -1,4 +1,4 @@
-//! Files of the store as bytes.
+//! Fetches files of the store.
 ghost use Rattle.std.specs.Prelude.{◌≡◌, IfOk, IfErr, IfSome, Some};
 ghost use Rattle.ports.specs.Files.{file_at, with_name};
 ghost use Rattle.command_replies.specs.Faults.{IsFetchFault, StoreCounts};

@@ -1,4 +1,4 @@
-//! Jobs, read.
+//! Reads jobs.
 ghost use Rattle.std.specs.Prelude.{◌≡◌, ◌-◌, ◌<◌, ◌+◌, Some, None, Ok, IfOk, IfErr, length};
 ghost use Rattle.job_text.specs.Images.{image_number};
 ghost use Rattle.job_text.specs.Jobs.{job_of as job_of_text};
@@ -24,7 +24,7 @@ pub fn job_of(alloc: Global, text: &[u8]) -> Result<Job, CommandFault>
     }
 }
 
-/// The place in image order, from 0, of the image of that name.
+/// The place in image order, counted from 0, of the image with this name.
 pub fn image_place(job: &Job, name: &str) -> Result<usize, CommandFault>
     ensures place { IfOk result (λ place. image_number job.now.images name.now ≡ Some (place + 1)) }
     ensures within { IfOk result (λ place. place < length job.now.images) }

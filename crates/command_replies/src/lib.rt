@@ -1,13 +1,13 @@
-//! What a command ends in, whichever command it is.
+//! How every command ends: with an exit status and a text, its output or the line of a refusal.
 //!
-//! Who runs a command sees two things of it once it has ended: its exit status, a number, and a text. A script
-//! decides by the number and a person reads the text, so success over a text that was cut off is a wrong answer,
-//! however right the work behind it was.
+//! A user sees two things of a command that has ended: its exit status, a number, and a text. A script decides
+//! by the number and a person reads the text, so success with a text that was cut off is a wrong answer,
+//! however right the work was.
 //!
 //! The rule that the crate keeps: **a command ends in exactly one of its output, a refusal of its input with a
-//! status and a line of its own, a fault of its store or of its sink, and want of memory; and its text goes to the
-//! sink in one piece.** Two statuses are no command's own, since they come of putting a text: 4, the sink failed,
-//! and 1, memory was wanting, whose line is `out of memory`.
+//! status and a line of its own, a fault of its store or of its sink, and out of memory; and its text goes to the
+//! sink in one piece.** Two statuses come only from writing a text: 4, the sink failed, and 1, memory ran out, with
+//! the line `out of memory`.
 //!
 //! ```text
 //! 0  linked app 12417                              the output, whatever the command makes
@@ -20,10 +20,9 @@
 //! 9  unclean t1 l1 at 0000000000400013 undefined   the first unclean step of thread 1, in its line 1
 //! ```
 //!
-//! A step of a command answers a value or a [`CommandFault`], as [`whole_file`], [`job_of`] and [`image_place`] do.
-//! All that comes of the steps is an [`Answer`], which [`deliver`] puts; [`reply_of`] makes the reply of a refusal.
-//! In `specs/` stand the lines (`Says`), what a step may answer (`Steps`, `Faults`) and what a status tells
-//! (`Statuses`, `Delivery`).
+//! A step of a command returns a value or a [`CommandFault`], as [`whole_file`], [`job_of`] and [`image_place`] do. All
+//! steps together give an [`Answer`], which [`deliver`] writes; [`reply_of`] makes the reply of a refusal. `specs/` has
+//! the lines (`Says`), what a step may return (`Steps`, `Faults`) and what a status means (`Statuses`, `Delivery`).
 #![tactic(auto)]
 
 mod fault;

@@ -1,4 +1,4 @@
-//! The line that a refusal puts in place of the output.
+//! The line of a refusal.
 ghost use Rattle.std.specs.Prelude.{◌≡◌, IfOk};
 ghost use Rattle.command_replies.specs.Says.{fault_text, image_fault_text, job_fault_text, link_line};
 ghost use Rattle.command_replies.specs.Steps.{refusal_code, refusal_text};
@@ -13,7 +13,7 @@ use link_faults::LinkFaultKind;
 use object_rules::FaultKind;
 use std::alloc::{AllocError, Global};
 
-/// The reply that refuses.
+/// The reply of a refusal.
 pub fn reply_of(alloc: Global, refusal: &InputRefusal) -> Result<Reply, AllocError>
     ensures status { IfOk result (λ reply. IsOfFiles reply.status) }
     ensures code { IfOk result (λ reply. code_of reply.status ≡ refusal_code refusal.now) }

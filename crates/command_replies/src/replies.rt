@@ -12,25 +12,25 @@ const OUT_OF_MEMORY: &[u8] = b"out of memory\n";
 /// The line of a command whose store failed.
 const STORE_FAULT: &[u8] = b"store fault\n";
 
-/// What a command answers: a status for the system, and a text for the sink.
+/// The output of a command, or a refusal: a status for the system, and a text for the sink.
 #[derive(Drop)]
 pub struct Reply {
     pub status: Status,
     pub text: Vec<u8>,
 }
 
-/// What a command answers in all.
+/// The end of a command.
 #[derive(Drop)]
 pub enum Answer {
     Replies(Reply),
     /// The store failed.
     StoreFails,
-    /// There was no memory.
+    /// Memory ran out.
     NoMemory,
 }
 
-/// Puts the text, and gives the status to end with: its own; 4 where the sink failed; where the sink had no memory,
-/// what saying so gives.
+/// Writes the text, and returns the status to end with: its own; 4 if the sink failed; if the sink ran out of
+/// memory, that of saying so.
 pub fn say<K: Sink>(out: &mut K, status: Status, text: &[u8]) -> u8
     ensures delivers { Delivers text.now (code_of status) (K.view out.old) (K.view out.new) result }
     ensures sink { SinkShown (K.view out.old).faults (K.view out.new).faults result }
@@ -42,7 +42,7 @@ pub fn say<K: Sink>(out: &mut K, status: Status, text: &[u8]) -> u8
     }
 }
 
-/// Puts the line for want of memory, and gives 1, or 4 where the sink failed.
+/// Writes the line `out of memory`, and returns 1, or 4 if the sink failed.
 pub fn say_no_memory<K: Sink>(out: &mut K) -> u8
     ensures says { Says memory_line 1 (K.view out.old) (K.view out.new) result }
     ensures sink { SinkShown (K.view out.old).faults (K.view out.new).faults result }
@@ -54,7 +54,7 @@ pub fn say_no_memory<K: Sink>(out: &mut K) -> u8
     }
 }
 
-/// Puts the answer's text, and gives the status to end with.
+/// Writes the answer's text, and returns the status to end with.
 pub fn deliver<K: Sink>(out: &mut K, answer: &Answer) -> u8
     ensures delivered { Delivered (IsAnswer answer.now) (K.view out.old) (K.view out.new) result }
     ensures sink { SinkShown (K.view out.old).faults (K.view out.new).faults result }

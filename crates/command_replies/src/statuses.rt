@@ -1,12 +1,12 @@
 //! The statuses that the program ends with.
 ghost use Rattle.std.specs.Prelude.{◌≡◌};
 
-/// What a command ended in. Two more statuses come only of putting its text: 1, want of memory, and 4, the sink failed.
+/// How a command ended. Two more statuses come only from writing its text: 1, memory ran out, and 4, the sink failed.
 #[derive(Clone, Copy)]
 pub enum Status {
     /// 0: the command's output.
     Done,
-    /// 2: the words are not of the command set.
+    /// 2: the words are not a command.
     Usage,
     /// 3: the store failed.
     Store,

@@ -8,7 +8,7 @@ use job_text::{Image, Name};
 use link_faults::LinkFaultKind;
 use std::alloc::{AllocError, Global};
 
-/// The refusal of an image that does not link, by its name and that of the object of its fault.
+/// The refusal of an image that does not link, by its name and the name of the object at fault.
 pub fn link_refusal(
     alloc: Global,
     image: &Image,
@@ -31,7 +31,7 @@ pub fn link_refusal(
     })
 }
 
-/// The name of the object of a fault; `-` where it stands at none.
+/// The name of the object at fault; `-` if the fault is at none.
 fn shown_object(names: &[Name], object: Option<u64>) -> &str
     ensures { result.now ≡ shown_object names.now object }
 {

@@ -1,6 +1,6 @@
 //! Where two texts differ.
 
-/// The first line in which two texts differ, with what each has there, if it goes so far.
+/// The first line in which two texts differ, with that line of each, if the text has it.
 #[derive(Drop)]
 pub(crate) struct Difference<'a> {
     /// Lines are counted from 1.

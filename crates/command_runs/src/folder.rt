@@ -1,4 +1,4 @@
-//! A folder: its files in memory, and what commands over them end with.
+//! A folder: files in memory, and commands over them.
 
 use crate::patches::patched;
 use crate::rows::Answer;
@@ -20,7 +20,7 @@ pub(crate) struct Folder {
     text: String,
 }
 
-/// What a command ends with.
+/// How a command ended.
 #[derive(Drop)]
 pub(crate) struct Ended {
     pub(crate) status: u8,
@@ -34,7 +34,7 @@ impl Ended {
     }
 }
 
-/// The bytes of a file.
+/// The bytes of a file in the store.
 pub(crate) fn fetched<S: Store>(alloc: Global, store: &mut S, path: &str) -> Result<Vec<u8>> {
     let mut bytes = Vec::new(alloc);
     store
@@ -53,7 +53,7 @@ fn words_of(alloc: Global, text: &str) -> Result<Vec<String>, AllocError> {
 }
 
 impl Folder {
-    /// A folder in which there is no file yet.
+    /// A folder without files.
     pub(crate) fn new(alloc: Global, title: &str) -> Result<Folder, AllocError> {
         Ok(Folder {
             alloc,
@@ -84,7 +84,7 @@ impl Folder {
         Ok(String::from_str(self.alloc, text)?)
     }
 
-    /// All that an answer says.
+    /// The text that an answer expects.
     pub(crate) fn wanted(&self, answer: Answer) -> Result<String> {
         match answer {
             Answer::Line(line) => Ok(format!(in self.alloc; "{line}\n")?),
@@ -97,25 +97,25 @@ impl Folder {
         self.files.add(name, bytes)
     }
 
-    /// Gives a file other bytes at some places.
+    /// Changes bytes of a file at some places.
     pub(crate) fn patch(&mut self, name: &str, places: &str) -> Result<()> {
         let bytes = patched(self.alloc, self.bytes(name)?, places)?;
         Ok(self.put(name, bytes.as_slice())?)
     }
 
-    /// Gives a file as many bytes of these as it is to have, which are not all.
+    /// Makes a file of the first `length` bytes of `whole`, which has more.
     pub(crate) fn cut(&mut self, name: &str, whole: &[u8], length: usize) -> Result<()> {
         ensure!(length < whole.len(), "{name} is no longer than {length}");
         Ok(self.put(name, &whole[..length])?)
     }
 
-    /// Begins a file whose lines follow.
+    /// Begins a file; its lines follow.
     pub(crate) fn begin_text(&mut self, name: &str) -> Result<(), AllocError> {
         self.text = String::from_str(self.alloc, name)?;
         self.put(name, b"")
     }
 
-    /// Adds a line to the file that was begun last.
+    /// Adds a line to the last file that was begun.
     pub(crate) fn push_line(&mut self, line: &str) -> Result<()> {
         let name = self.text.clone()?;
         let mut bytes = self.copy(name.as_str())?;
@@ -124,19 +124,19 @@ impl Folder {
         Ok(self.put(name.as_str(), bytes.as_slice())?)
     }
 
-    /// Gives a file this length, with zeros behind it.
+    /// Extends a file to this length with zeros.
     pub(crate) fn pad(&mut self, name: &str, length: usize) -> Result<()> {
         let mut bytes = self.copy(name)?;
         bytes.resize(length, 0)?;
         Ok(self.put(name, bytes.as_slice())?)
     }
 
-    /// Lets the store fail at this call from now on, counted from 1; at 0 at none.
+    /// Makes the store fail at this call, counted from 1 from now on; 0 means at none.
     pub(crate) fn fail_store(&mut self, call: u64) {
         self.files.fail_at(call);
     }
 
-    /// What a command over the files ends with, where the sink fails once it took so many bytes, if it is to fail.
+    /// Runs a command over the files, with a sink that fails after `taken` bytes, if given; returns how it ends.
     pub(crate) fn ended<R: Threads + Wait + Sync>(
         &mut self,
         rt: &R,

@@ -1,55 +1,55 @@
-//! The lines of a list of what is to be run.
+//! The lines of a list of runs.
 
 use crate::rows::{Row, row_of, run_of};
 
-/// What a folder is given.
+/// What a line adds to a folder.
 #[derive(Clone, Copy)]
 pub(crate) enum Gift<'a> {
-    /// A file of the first name, with the bytes of the file that the second one names.
+    /// A file of the first name, with the bytes of the file of the second name.
     File(&'a str, &'a str),
     /// A file of this name, whose lines follow.
     Text(&'a str),
     /// A line of that file.
     TextLine(&'a str),
-    /// Zeros behind a file, up to this length.
+    /// Extends a file to this length with zeros.
     Pad(&'a str, usize),
 }
 
-/// What must hold of a folder.
+/// What a line checks in a folder.
 #[derive(Clone, Copy)]
 pub(crate) enum Test<'a> {
-    /// A command over its files ends so.
+    /// A command over its files ends this way.
     Row(Row<'a>),
     /// It has no file of this name.
     Absent(&'a str),
-    /// It has a file of the first name, with the bytes of its file of the second.
+    /// It has a file of the first name, with the bytes of its file of the second name.
     Same(&'a str, &'a str),
 }
 
 /// A line of a list.
 #[derive(Clone, Copy)]
 pub(crate) enum Line<'a> {
-    /// It says nothing.
+    /// It has no effect.
     Comment,
-    /// The lines below are about a folder of this title, in which there is no file yet.
+    /// The lines below are about a folder of this title, which has no file yet.
     Folder(&'a str),
     Gift(Gift<'a>),
     Test(Test<'a>),
 }
 
-/// A file as the rest of a line has it: by one name, or by two.
+/// A file, from the rest of a line: one name, or two.
 fn file_of(text: &str) -> Gift<'_> {
     let (name, from) = text.split_once(' ').unwrap_or((text, text));
     Gift::File(name, from)
 }
 
-/// A longer file as the rest of a line has it.
+/// A file to extend, from the rest of a line.
 fn pad_of(text: &str) -> Option<Gift<'_>> {
     let (name, length) = text.split_once(' ')?;
     Some(Gift::Pad(name, length.parse().ok()?))
 }
 
-/// What a line of this kind gives a folder, if there is such a line.
+/// What a line of this kind adds to a folder, if it adds something.
 fn gift_of<'a>(kind: &str, rest: &'a str) -> Option<Gift<'a>> {
     match kind {
         "file" => Some(file_of(rest)),
@@ -60,13 +60,13 @@ fn gift_of<'a>(kind: &str, rest: &'a str) -> Option<Gift<'a>> {
     }
 }
 
-/// Two files as the rest of a line has them.
+/// Two files, from the rest of a line.
 fn same_of(text: &str) -> Option<Test<'_>> {
     let (name, other) = text.split_once(' ')?;
     Some(Test::Same(name, other))
 }
 
-/// What must hold by a line of this kind, if there is such a line.
+/// What a line of this kind checks, if it checks something.
 fn test_of<'a>(kind: &str, rest: &'a str) -> Option<Test<'a>> {
     match kind {
         "run" => Some(Test::Row(run_of(rest)?)),
@@ -77,7 +77,7 @@ fn test_of<'a>(kind: &str, rest: &'a str) -> Option<Test<'a>> {
     }
 }
 
-/// What a line says, if it is one.
+/// The parsed line; `None` if it is not one.
 pub(crate) fn line_of(text: &str) -> Option<Line<'_>> {
     if text.is_empty() || text.starts_with('#') {
         return Some(Line::Comment);

@@ -1,10 +1,10 @@
-//! Looks at what a command left of a folder's files.
+//! Checks of the files that a command left in a folder.
 
 use crate::folder::Folder;
 use anyhow::Result;
 use std::io;
 
-/// Whether there is a file that must not be there.
+/// Whether a file that must not exist exists.
 pub(crate) fn is_there(rt: &impl Print, folder: &Folder, name: &str) -> io::Result<bool> {
     let is_there = folder.get(name).is_some();
     if is_there {
@@ -14,7 +14,7 @@ pub(crate) fn is_there(rt: &impl Print, folder: &Folder, name: &str) -> io::Resu
     Ok(is_there)
 }
 
-/// Whether a file is not there, or has other bytes than this other one.
+/// Whether a file is missing, or has other bytes than the other file.
 pub(crate) fn is_unlike(rt: &impl Print, folder: &Folder, name: &str, other: &str) -> Result<bool> {
     let is_unlike = folder.get(name) != Some(folder.bytes(other)?);
     if is_unlike {

@@ -1,12 +1,12 @@
-//! Runs commands over files in memory, and compares what each prints and the status that it ends with.
+//! Runs commands over files in memory, and compares the output and the status of each with the expected ones.
 //!
-//! This is the test of the whole: of the examples, whose output stands beside them for readers, of cases that were
-//! worked out by hand, of files that lie, and of stores and sinks that fail. It is a program and not a crate of test
-//! functions, since what is run is data: so the crate, which stands on all others, is proved once however many runs
-//! there are, and they are made by what each of the two compilers builds.
+//! This is the test of the whole program: of the examples, whose output stands next to them for readers, of cases
+//! that were worked out by hand, of malformed files, and of stores and sinks that fail. It is a program and not a
+//! crate of test functions, since the runs are data: so the crate, which uses all others, is proved once for any
+//! number of runs, and the runs use what each of the two compilers builds.
 //!
-//! What is run stands in lists among the crate's data. A list is read from top to bottom, a line at a time, of words
-//! with single spaces between:
+//! The runs stand in lists among the crate's data. A list is read from top to bottom, a line at a time; a line is words
+//! with single spaces between them:
 //!
 //! ```text
 //! # a comment; so is an empty line
@@ -22,14 +22,13 @@
 //! same out wanted                  there is a file `out` now, with the bytes of `wanted`
 //! ```
 //!
-//! A command is handed to [`commands::tlsld`] as the program `tlsld` hands it, with a store in memory that has the
-//! files of the folder so far, and a sink in memory. For each run that differs a line is printed, and at the end of
-//! each list one that counts; the status is 1 if any differs, or if a list has another line or names a file that is
-//! not there.
+//! A command is passed to [`commands::tlsld`] as the program `tlsld` does it, with a store in memory that has the files
+//! of the folder so far, and a sink in memory. Each run that differs prints a line, and each list ends with a line of
+//! counts. The status is 1 if any run differs, or if a list has an unknown line or names a file that does not exist.
 //!
-//! **Rows make tables.** A row says in words what it changes, then the change itself, the command, and the status with
-//! the one line that is printed, or `< wanted` for all lines of that file. Columns may have more spaces for looks. The
-//! change stands for the row's run alone:
+//! **Rows make tables.** A row says in words what it changes, then has the change itself, the command, and the status
+//! with the one expected line, or `< wanted` for all lines of that file. Columns may have more spaces for looks. The
+//! change holds only for the row's own run:
 //!
 //! ```text
 //! row as it stands               | -                        | run job          | 0 t1 l1 g0 = 000000000000002a
@@ -40,14 +39,14 @@
 //! row six bytes of the line are  | sink 6                   | link job app out | 4 linked app 12485
 //! ```
 //!
-//! `put` gives a file these bytes, in hexadecimal digits, from an offset on, or from several; at the file's end they
-//! are added. `cut` makes a run for each length from the first to the one before the last, all of them shorter than the
-//! file, with the length in place of `{n}`. `store` lets the store fail at a call, counted from 1. `sink` lets the sink
-//! take so many bytes of what it is given, and fail: as much of the expected text is wanted.
+//! `put` overwrites a file with these bytes, in hexadecimal digits, from an offset on, or from several; at the file's
+//! end they are appended. `cut` runs once for each length from the first up to, but without, the last, all of them
+//! shorter than the file; `{n}` stands for the length. `store` makes the store fail at a call, counted from 1. `sink`
+//! makes the sink fail after it took as many bytes as given; then only that prefix of the expected text is expected.
 //!
-//! The list of the examples and the files beside it are copies, which tests/example_data.py writes; it knows which
+//! The list of the examples and the files next to it are copies that tests/example_data.py writes; it knows which
 //! file of an example belongs to which command. The others are written by hand: `cases/README.md` and
-//! `lying/README.md` say what their objects and images are.
+//! `lying/README.md` describe their objects and images.
 #![tactic(auto)]
 
 mod difference;
@@ -72,7 +71,7 @@ use std::thread::Threads;
 use tally::Tally;
 use trials::run_row;
 
-/// The lists of what is to be run: the folder of each, with the files that it names, and its name there.
+/// The lists of runs: each with its folder, the files that it names, and its name there.
 const LISTS: [(&str, &str); 7] = [
     ("examples", "runs"),
     ("cases", "commands"),
@@ -83,7 +82,7 @@ const LISTS: [(&str, &str); 7] = [
     ("lying", "images"),
 ];
 
-/// Lays a file into a folder.
+/// Copies a file into a folder.
 fn lay<S: Store>(
     store: &mut S,
     folder: &mut Folder,
@@ -96,7 +95,7 @@ fn lay<S: Store>(
     Ok(folder.put(name, bytes.as_slice())?)
 }
 
-/// Gives a folder what a list whose files are in this place gives it.
+/// Adds to a folder what a line of a list adds; the list's files are in `place`.
 fn give<S: Store>(store: &mut S, folder: &mut Folder, place: &str, gift: Gift) -> Result<()> {
     match gift {
         Gift::File(name, from) => lay(store, folder, place, name, from)?,
@@ -107,7 +106,7 @@ fn give<S: Store>(store: &mut S, folder: &mut Folder, place: &str, gift: Gift) -
     Ok(())
 }
 
-/// Tests a folder, and counts what comes of it.
+/// Checks a folder as a line says, and counts the result.
 fn test<R: Threads + Wait + Sync + Print>(
     rt: &R,
     folder: &mut Folder,
@@ -122,7 +121,7 @@ fn test<R: Threads + Wait + Sync + Print>(
     Ok(())
 }
 
-/// Does what a list whose files are in this place says, a line after another.
+/// Carries out the lines of a list one after another; the list's files are in `place`.
 fn run_list<R: Threads + Wait + Sync + Print, S: Store>(
     rt: &R,
     alloc: Global,
@@ -146,7 +145,7 @@ fn run_list<R: Threads + Wait + Sync + Print, S: Store>(
     Ok(tally)
 }
 
-/// Does what a list says, and whether all was as it must be.
+/// Carries out a list, and returns whether everything was as expected.
 fn holds<R: Threads + Wait + Sync + Print, S: Store>(
     rt: &R,
     alloc: Global,

@@ -1,9 +1,9 @@
-//! Other bytes at some places of a file, as a row spells them.
+//! Changes of a file's bytes at some places, as a row spells them.
 
 use anyhow::{Context, Result, ensure};
 use std::alloc::Global;
 
-/// Sets a byte, which at the end is one more.
+/// Sets a byte, or appends it at the end.
 fn set(bytes: &mut Vec<u8>, at: usize, byte: u8) -> Result<()> {
     if at == bytes.len() {
         bytes.push(byte)?;
@@ -27,7 +27,7 @@ fn patch(alloc: Global, bytes: &mut Vec<u8>, place: &str) -> Result<()> {
     Ok(())
 }
 
-/// These bytes with others at some places, which stand with a comma and a space between.
+/// The bytes with changes at some places, which are separated by a comma and a space.
 pub(crate) fn patched(alloc: Global, bytes: &[u8], places: &str) -> Result<Vec<u8>> {
     let mut patched = Vec::from_slice(alloc, bytes)?;
     for place in places.split(", ") {

@@ -1,4 +1,4 @@
-//! Rows: what is changed in a folder, the command that is run then, and what must come of it.
+//! Rows: a change of a folder, a command, and its expected end.
 
 /// What a row changes.
 #[derive(Clone, Copy)]
@@ -10,7 +10,7 @@ pub(crate) enum Change<'a> {
         file: &'a str,
         places: &'a str,
     },
-    /// A file is cut to each of these lengths in turn, `end` not among them.
+    /// A file is cut to each of these lengths in turn, without `end`.
     Lengths {
         file: &'a str,
         first: usize,
@@ -18,16 +18,16 @@ pub(crate) enum Change<'a> {
     },
     /// The store fails at this call, counted from 1.
     StoreFails(u64),
-    /// The sink takes so many bytes of what it is given, and fails.
+    /// The sink takes this many bytes, and then fails.
     SinkTakes(u64),
 }
 
-/// What a command must print.
+/// The expected output of a command.
 #[derive(Clone, Copy)]
 pub(crate) enum Answer<'a> {
     /// This line.
     Line(&'a str),
-    /// What the folder's file of this name has.
+    /// The text of the folder's file of this name.
     File(&'a str),
 }
 
@@ -39,13 +39,13 @@ pub(crate) struct Row<'a> {
     pub(crate) change: Change<'a>,
     /// The command's words, with single spaces between.
     pub(crate) words: &'a str,
-    /// The status that it ends with.
+    /// The expected status.
     pub(crate) status: u8,
     pub(crate) answer: Answer<'a>,
 }
 
 impl Row<'_> {
-    /// How many bytes the sink takes, if it is to fail.
+    /// After how many bytes the sink fails, if it does.
     pub(crate) fn taken(&self) -> Option<u64> {
         match self.change {
             Change::SinkTakes(count) => Some(count),
@@ -54,7 +54,7 @@ impl Row<'_> {
     }
 }
 
-/// Lengths of a file as the rest of a change has them.
+/// Lengths of a file, from the rest of a change.
 fn lengths_of(text: &str) -> Option<Change<'_>> {
     let (file, range) = text.split_once(' ')?;
     let (first, end) = range.split_once("..")?;
@@ -65,7 +65,7 @@ fn lengths_of(text: &str) -> Option<Change<'_>> {
     })
 }
 
-/// A change as a row has it.
+/// A change, from a row's column.
 fn change_of(text: &str) -> Option<Change<'_>> {
     let (kind, rest) = text.split_once(' ').unwrap_or((text, ""));
     match kind {
@@ -81,7 +81,7 @@ fn change_of(text: &str) -> Option<Change<'_>> {
     }
 }
 
-/// An answer as a row has it.
+/// An answer, from a row's column.
 fn answer_of(text: &str) -> Answer<'_> {
     match text.strip_prefix("< ") {
         Some(name) => Answer::File(name),
@@ -89,7 +89,7 @@ fn answer_of(text: &str) -> Answer<'_> {
     }
 }
 
-/// A row as the rest of a line has it, by its four columns.
+/// A row, from the four columns of a line's rest.
 pub(crate) fn row_of(text: &str) -> Option<Row<'_>> {
     let mut columns = text.splitn(4, '|');
     let about = columns.next()?.trim();
@@ -105,7 +105,7 @@ pub(crate) fn row_of(text: &str) -> Option<Row<'_>> {
     })
 }
 
-/// A row without a change, as the rest of a shorter line has it.
+/// A row without a change, from the rest of a shorter line.
 pub(crate) fn run_of(text: &str) -> Option<Row<'_>> {
     let (status, rest) = text.split_once(' ')?;
     let (expected, words) = rest.split_once(' ')?;

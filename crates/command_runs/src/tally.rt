@@ -1,8 +1,8 @@
-//! How many runs there were, and what of them was otherwise than it must be.
+//! Counts runs, and what differed from the expected.
 
 use std::io;
 
-/// The numbers that the last line of a list tells.
+/// The numbers in the last line of a list.
 #[derive(Drop)]
 pub(crate) struct Tally {
     folders: u64,
@@ -11,7 +11,7 @@ pub(crate) struct Tally {
 }
 
 impl Tally {
-    /// Nothing was seen yet.
+    /// All counts are 0.
     pub(crate) fn new() -> Tally {
         Tally {
             folders: 0,
@@ -25,20 +25,20 @@ impl Tally {
         self.folders = self.folders.saturating_add(1);
     }
 
-    /// Counts a run, and whether it ended otherwise than it must.
+    /// Counts a run, and whether it ended differently than expected.
     pub(crate) fn count_run(&mut self, differs: bool) {
         self.runs = self.runs.saturating_add(1);
         self.count_look(differs);
     }
 
-    /// Counts whether a file is otherwise than a run must leave it.
+    /// Counts whether a file differs from the expected.
     pub(crate) fn count_look(&mut self, differs: bool) {
         if differs {
             self.differences = self.differences.saturating_add(1);
         }
     }
 
-    /// Prints the last line of a list, and says whether all was as it must be.
+    /// Prints the last line of a list, and returns whether everything was as expected.
     pub(crate) fn conclude(&self, rt: &impl Print, list: &str) -> io::Result<bool> {
         let folders = self.folders;
         let runs = self.runs;

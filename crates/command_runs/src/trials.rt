@@ -1,4 +1,4 @@
-//! Commands that are run, and whether each ends as it must.
+//! Runs commands, and checks how each ends.
 
 use crate::difference::{Difference, difference_of};
 use crate::folder::Folder;
@@ -10,7 +10,7 @@ use std::ops::Range;
 use std::sync::Wait;
 use std::thread::Threads;
 
-/// Prints how a command ended otherwise than it must.
+/// Prints how the end of a command differs from the expected.
 fn print_differing(
     rt: &impl Print,
     row: Row,
@@ -29,7 +29,7 @@ fn print_differing(
     println!(rt; "")
 }
 
-/// As much of a text as a sink takes.
+/// The prefix of a text that a sink takes.
 fn front(text: &str, taken: Option<u64>) -> Option<&str> {
     match taken {
         Some(count) => text.get(..count as usize),
@@ -37,7 +37,7 @@ fn front(text: &str, taken: Option<u64>) -> Option<&str> {
     }
 }
 
-/// Runs a row's command, which must print this, and says whether it ends otherwise.
+/// Runs a row's command, which must print this, and returns whether its end differs.
 fn differs<R: Threads + Wait + Sync + Print>(
     rt: &R,
     folder: &mut Folder,
@@ -57,7 +57,7 @@ fn differs<R: Threads + Wait + Sync + Print>(
     Ok(differs)
 }
 
-/// Runs a row's command over a file that was cut to this length, which stands for `{n}` in the row.
+/// Runs a row's command over a file that was cut to this length; `{n}` in the row stands for the length.
 fn differs_at<R: Threads + Wait + Sync + Print>(
     rt: &R,
     folder: &mut Folder,
@@ -101,7 +101,7 @@ fn run_cut<R: Threads + Wait + Sync + Print>(
     Ok(folder.put(file, whole.as_slice())?)
 }
 
-/// Runs a row's command once, over a file with other bytes.
+/// Runs a row's command once, over a file with changed bytes.
 fn run_patched<R: Threads + Wait + Sync + Print>(
     rt: &R,
     folder: &mut Folder,
@@ -116,7 +116,7 @@ fn run_patched<R: Threads + Wait + Sync + Print>(
     Ok(folder.put(file, whole.as_slice())?)
 }
 
-/// Runs a row's command with what the row changes, once or more, and then takes the change back.
+/// Runs a row's command once or more, each time with the row's change, and then undoes the change.
 pub(crate) fn run_row<R: Threads + Wait + Sync + Print>(
     rt: &R,
     folder: &mut Folder,

@@ -7,12 +7,12 @@ use Rattle.whole_meaning.specs.Jobs.{lines_of, meant_world, verdict_of, verdict_
 use Rattle.whole_meaning.specs.Loads.{meaning_of}
 use Rattle.whole_meaning.specs.declared.unclean.UncleanStep.{UncleanStep}
 
--- the first unclean step of the lowest thread that makes one, of what the job means over its objects' own sections; none
--- where no step of any thread is unclean
+-- the first unclean step of the lowest thread that makes one, in the job's meaning over its objects' own sections; none
+-- if no step of any thread is unclean
 abbrev pub verdict : JobParts → List Linking → Option UncleanStep
 verdict job ls = verdict_of (lines_of (meant_world (meaning_of ls) job.fuel job.lines job.order))
 
--- 0 where there is none; else 9, and its thread, line, address and cause
+-- status 0 if there is none; else 9, and its thread, line, address and cause
 abbrev pub SaysOf : Option UncleanStep → ℕ → List ℕ → Type 0
 SaysOf None status text = Is 0 (verdict_text None) status text
 SaysOf (Some step) status text = Is 9 (verdict_text (Some step)) status text

@@ -1,5 +1,5 @@
--- Which commands complete: where nothing is wrong with what a command is given, and no port fails, its status is 0,
--- or 9 of a job that `check` finds unclean; or 1, where memory was wanting. So no good job is refused.
+-- Which commands complete: if nothing is wrong with the input and no port fails, the status is 0, or 9 for a job that
+-- `check` finds unclean; or 1 if memory runs out. So no good job is refused.
 use Rattle.std.specs.Prelude.{◌≡◌, ◌⊎◌, ℕ, Bool, true, List, Contains, map, Ok}
 use Rattle.std.specs.List.{All}
 use Rattle.command_line.specs.Rewritings.{is_allowed}
@@ -17,10 +17,10 @@ use Rattle.job_text.specs.Jobs.{JobParts, job_of}
 use Rattle.ports.specs.Counts.{Rose}
 use Rattle.ports.specs.Files.{Files, file_at}
 
--- ---- nothing is wrong with what a command is given
+-- ---- good input
 
--- the file of that name has a job; each object that the job names is there, and sound; and its images, with the
--- sequences of their objects, all link. relax: whether sequences may be rewritten
+-- the file of that name has a job; each object that the job names exists and is sound; and its images, with the
+-- sequences of their objects, all link; relax: whether sequences may be rewritten
 pub record IsGoodJob (fs : Files) (relax : Bool) (name : List ℕ) : Type 0 where
   pub job : JobParts
   pub text : HasFile (file_at fs name) (λ bytes. job_of bytes ≡ Ok job)
@@ -29,17 +29,17 @@ pub record IsGoodJob (fs : Files) (relax : Bool) (name : List ℕ) : Type 0 wher
   pub given : AreGiven (bytes_at fs) job images
   pub links : AllLink images relax
 
--- and the job declares an image of that name
+-- moreover, the job declares an image of that name
 pub record HasGoodImage (fs : Files) (relax : Bool) (name image : List ℕ) : Type 0 where
   pub good : IsGoodJob fs relax name
   pub declared : Contains (map (λ own. own.name) good.job.images) image
 
--- and no object that the job names has data for programs to write
+-- moreover, no object that the job names has data for programs to write
 pub record IsGoodRace (fs : Files) (relax : Bool) (name : List ℕ) : Type 0 where
   pub good : IsGoodJob fs relax name
   pub dataless : All (λ object. HasFile (file_at fs object) (Allows Refused)) (object_names good.job)
 
--- of `show` the file stands for an image; and nothing is ever wrong with the job that `gen` makes
+-- for `show`, the file is an image; the job that `gen` makes is always good
 abbrev pub IsGoodTask : Files → Task → Type 0
 IsGoodTask fs (Run job rewriting) = IsGoodJob fs (is_allowed rewriting) job
 IsGoodTask fs (Check job) = IsGoodJob fs true job
@@ -52,9 +52,9 @@ abbrev pub IsGood : Files → Command → Type 0
 IsGood fs (Plain task) = IsGoodTask fs task
 IsGood fs (Race job rewriting) = IsGoodRace fs (is_allowed rewriting) job
 
--- ---- and then it completes
+-- ---- completion
 
--- the status of a task that did all that it is to do
+-- the status of a task that completed
 abbrev pub IsDoneTask : Task → ℕ → Type 0
 IsDoneTask (Run job rewriting) code = code ≡ 0
 IsDoneTask (Check job) code = (code ≡ 0) ⊎ (code ≡ 9)
@@ -63,7 +63,7 @@ IsDoneTask (Sites job image) code = code ≡ 0
 IsDoneTask (Show file) code = code ≡ 0
 IsDoneTask (Gen count) code = code ≡ 0
 
--- and of a command
+-- the status of a command that completed
 abbrev pub IsDone : Command → ℕ → Type 0
 IsDone (Plain task) code = IsDoneTask task code
 IsDone (Race job rewriting) code = code ≡ 0

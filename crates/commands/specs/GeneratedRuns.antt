@@ -1,4 +1,4 @@
--- What `gen N` says: what is told of the run of a job that is made, over objects that are made.
+-- What `gen N` says: the summary of a run of a generated job over generated objects.
 use Rattle.std.specs.Prelude.{ℕ, true, List, Result, Ok, Err}
 use Rattle.command_replies.specs.Says.{JobFaultSays}
 use Rattle.generated_job.specs.Generated.{generated_files}
@@ -12,7 +12,7 @@ use Rattle.commands.specs.declared.telling.Telling.TheVariants.{Summary}
 use Rattle.commands.specs.Jobs.{BytesSay, DoLink}
 use Rattle.commands.specs.RunJobs.{IsRun}
 
--- it ran: its objects are those that were made, all its images link, with sequences rewritten, and one line is told
+-- it ran: its objects are the generated ones, all its images link, with sequences rewritten, and the output is one line
 pub record GenSays (count status : ℕ) (text : List ℕ) : Type 0 where
   pub images : List Given
   pub given : AreGiven (bytes_in (generated_files count)) (generated_parts count) images
@@ -20,7 +20,7 @@ pub record GenSays (count status : ℕ) (text : List ℕ) : Type 0 where
 
 -- ** on the way
 
--- what a job, or a text that is none, says over objects that were made
+-- what is said over generated objects of a job, or of a text that is not one
 abbrev pub MadeSays : ℕ → Result JobParts JobFault → ℕ → List ℕ → Type 0
 MadeSays count (Ok job) status text =
     BytesSay (IsRun (Summary count)) true Kept (bytes_in (generated_files count)) job status text

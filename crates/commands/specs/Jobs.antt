@@ -1,5 +1,5 @@
--- What a command of a job says over the files of a store: how the job is refused, in which order, and of a job whose
--- images all link what the command's own ending says.
+-- What a command about a job says over the files of a store: how the job is refused, in which order; and, if all its
+-- images link, what the command's own last step says.
 use Rattle.std.specs.Prelude.{◌⊎◌, ℕ, Bool, true, false, List, [], ◌∷◌, map, slice_get}
 use Rattle.std.specs.Prelude.{Option, Some, None, IsSome, Result, Ok, Err, is_some}
 use Rattle.std.specs.List.{All}
@@ -30,7 +30,7 @@ link_fault_text job number kind object section entry =
     link_line (option_map_or (λ image. image.name) (slice_get job.images number) []) kind
     (shown_object (objects_of job number) object) section entry
 
--- an object has a fault: 6, and the first; w: whether data that programs write is kept, or a fault too
+-- an object has a fault: 6, and the first fault; w: whether data that programs write is kept, or is a fault
 pub record IsUnread (w : WritableSections) (bytes : List ℕ → List ℕ) (job : JobParts) (status : ℕ) (text : List ℕ) : Type 0 where
   pub name : List ℕ
   pub section : ℕ
@@ -39,7 +39,7 @@ pub record IsUnread (w : WritableSections) (bytes : List ℕ → List ℕ) (job 
   pub first : IsFirstFaulty w bytes job name section entry kind
   pub says : Is 6 (fault_text name section entry kind) status text
 
--- an image does not link: 7, and the first
+-- an image does not link: 7, and the first fault
 pub record IsUnlinked (relax : Bool) (job : JobParts) (images : List Given) (status : ℕ) (text : List ℕ) : Type 0 where
   pub number : ℕ
   pub kind : LinkFaultKind
@@ -55,13 +55,13 @@ pub record IsUnlinked (relax : Bool) (job : JobParts) (images : List Given) (sta
 abbrev pub links_of : List Given → Bool → List Linking
 links_of images relax = map (link_in images relax) images
 
--- what is said of it and of these links: a status and a text
+-- what is said of a job and of these links: a status and a text
 abbrev pub Ending : Type 1
 Ending = JobParts → List Linking → ℕ → List ℕ → Type 0
 
 -- ---- the command
 
--- E: what it says where all images link; relax: whether sequences may be rewritten
+-- E: what is said if all images link; relax: whether sequences may be rewritten
 module _ (E : Ending) (relax : Bool) where
   -- all images link
   pub record DoLink (job : JobParts) (images : List Given) (status : ℕ) (text : List ℕ) : Type 0 where
@@ -77,40 +77,40 @@ module _ (E : Ending) (relax : Bool) where
     pub given : AreGiven bytes job images
     pub says : ImagesSay job images status text
 
-  -- w: what is asked of the sections that programs write
+  -- w: whether sections that programs write are kept, or are a fault
   module _ (w : WritableSections) where
     abbrev pub BytesSay : (List ℕ → List ℕ) → JobParts → ℕ → List ℕ → Type 0
     BytesSay bytes job status text = AreRead bytes job status text ⊎ IsUnread w bytes job status text
 
-    -- fs: the files; each object is there
+    -- fs: the files; each object exists
     pub record ObjectsSay (fs : Files) (job : JobParts) (status : ℕ) (text : List ℕ) : Type 0 where
       pub there : All (λ name. IsSome (file_at fs name)) (object_names job)
       pub says : BytesSay (bytes_at fs) job status text
 
-    -- the job has the image that the command names, or it has not
+    -- the job has the image that the command names, or not
     abbrev pub NamedSays : Files → JobParts → Bool → ℕ → List ℕ → Type 0
     NamedSays fs job true status text = ObjectsSay fs job status text
     NamedSays fs job false status text = Is 5 (job_fault_text 0 Name) status text
 
--- the job has an image of that name, where one is named
+-- the job has an image of that name, if the command names one
 abbrev pub has : JobParts → Option (List ℕ) → Bool
 has job None = true
 has job (Some name) = is_some (image_number job.images name)
 
--- image: the name of the image that the command is about; none where it is about all
+-- image: the name of the image that the command is about; none if it is about all
 module _ (image : Option (List ℕ)) where
   module _ (E : Ending) (relax : Bool) (w : WritableSections) (fs : Files) where
     abbrev pub JobSays : Result JobParts JobFault → ℕ → List ℕ → Type 0
     JobSays (Ok job) status text = NamedSays E relax w fs job (has job image) status text
     JobSays (Err fault) status text = JobFaultSays fault status text
 
-    -- of the job in the file of that name
+    -- for the job in the file of that name
     abbrev pub FileSays : List ℕ → ℕ → List ℕ → Type 0
     FileSays name status text = HasFile (file_at fs name) (λ bytes. JobSays (job_of bytes) status text)
 
 -- ---- the names asked for
 
--- the objects of all images of the job, where it has the image
+-- the objects of all images of the job, if it has the image
 abbrev pub named_objects : JobParts → Bool → List (List ℕ)
 named_objects job true = object_names job
 named_objects job false = []

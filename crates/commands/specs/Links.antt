@@ -36,41 +36,41 @@ unfoldable pub lines_of : List (List ℕ) → List (List ℕ) → List (List Sit
 lines_of names objects sites choices =
     flat_map (lines_at names objects sites choices) (range_with_len 0 (length names))
 
--- ---- what is said of an image that links: by all that decides it
+-- ---- what is said of an image that links
 
 abbrev pub Output : Type 1
 Output = Linking → ℕ → List ℕ → Type 0
 
--- `link`: the file has the whole written image, and the other files are as they were
+-- `link`: the file holds the whole written image, and the other files are as before
 pub record IsPut (fs : Files) (after : Option Files) (image out : List ℕ) (l : Linking)
     (status : ℕ) (text : List ℕ) : Type 0 where
   pub files_are : after ≡ with_file out (written (image_of l)) (Some fs)
   pub says : Is 0 (linked_text image (length (written (image_of l)))) status text
 
--- before it is put: the bytes of that file
+-- before the put: the bytes of that file
 abbrev pub IsFile : Output
 IsFile l status text = Is 0 (written (image_of l)) status text
 
--- `sites`: the lines of its objects' sites, by these names of them
+-- `sites`: the lines of the sites of its objects, which have these names
 abbrev pub AreLines : List (List ℕ) → Output
 AreLines names l status text = Is 0 (lines_of names l.objects l.sites (choices_from l 0 l.sites)) status text
 
--- ---- of a job's image
+-- ---- for an image of a job
 
--- by its number from 0
+-- by its number, counted from 0
 pub record OfLink (number : ℕ) (O : Output) (ls : List Linking) (status : ℕ) (text : List ℕ) : Type 0 where
   pub link : Linking
   pub there : slice_get ls number ≡ Some link
   pub says : O link status text
 
--- by its name; its output is that of its number
+-- by its name; the output is that of its number
 pub record OfImage (name : List ℕ) (O : JobParts → ℕ → Output) (job : JobParts) (ls : List Linking)
     (status : ℕ) (text : List ℕ) : Type 0 where
   pub number : ℕ
   pub named : image_number job.images name ≡ Some (number + 1)
   pub says : OfLink number (O job number) ls status text
 
--- `link JOB IMAGE OUT [--no-relax]`, after which the store's files are so
+-- `link JOB IMAGE OUT [--no-relax]`; the second files are those after it
 abbrev pub LinkSays : Files → Option Files → List ℕ → List ℕ → List ℕ → Rewriting → ℕ → List ℕ → Type 0
 LinkSays fs after job image out rewriting status text =
     FileSays (Some image) (OfImage image (λ own number. IsPut fs after image out)) (is_allowed rewriting) Kept fs job status text
@@ -80,12 +80,12 @@ abbrev pub SitesSays : Files → List ℕ → List ℕ → ℕ → List ℕ → 
 SitesSays fs job image status text =
     FileSays (Some image) (OfImage image (λ own number. AreLines (objects_of own number))) true Kept fs job status text
 
--- ---- the files after a command that may put: those before, or those of its output
+-- ---- the files after a command that may put: those before, or those that its output asks for
 abbrev pub Leaves : Option Files → Option Files → (Files → ℕ → List ℕ → Type 0) → Type 0
 Leaves None after Says = after ≡ None
 Leaves (Some fs) after Says = (after ≡ Some fs) ⊎ ((text : List ℕ) × Says fs 0 text)
 
--- ---- the names asked for: the job, and then its objects, where it has the image
+-- ---- the names asked for: the job, and then its objects, if it has the image
 abbrev pub image_names : Files → List ℕ → List ℕ → List (List ℕ)
 image_names fs job image = asked_names fs job (Some image)
 

@@ -1,4 +1,4 @@
--- What `show FILE` says of the bytes of its file: the image that they spell, or where they are none.
+-- What `show FILE` says of the bytes of its file: the image that they spell, or their first fault.
 use Rattle.std.specs.Prelude.{◌≡◌, ◌⊎◌, ℕ, List}
 use Rattle.command_replies.specs.Says.{image_fault_text}
 use Rattle.image_rules.specs.declared.fault.FaultKind.{FaultKind}
@@ -6,13 +6,13 @@ use Rattle.image_faults.specs.Faults.{IsImage, IsFirstFault}
 use Rattle.image_file.specs.Spelled.{spelled}
 use Rattle.image_text.specs.Shown.{shown}
 
--- where the bytes stand for an image: 0, and what it says
+-- the bytes are an image: 0, and its text
 pub record IsListed (b : List ℕ) (status : ℕ) (text : List ℕ) : Type 0 where
   pub image : IsImage b
   pub status_is : status ≡ 0
   pub text_is : text ≡ shown (spelled b)
 
--- where they have a fault: 8, and the first one
+-- the bytes have a fault: 8, and the first fault
 pub record IsNoImage (b : List ℕ) (status : ℕ) (text : List ℕ) : Type 0 where
   pub offset : ℕ
   pub kind : FaultKind

@@ -1,4 +1,4 @@
--- What is asked of a job, by the image's name, or where it is found by its place; and what is told of it.
+-- What a command does with a job, with the image by its name or by its place, and what it says.
 use Rattle.std.specs.Prelude.{◌≡◌, ◌+◌, ◌<◌, ℕ, Bool, true, false, List, Option, Some, None, Result, length}
 use Rattle.command_line.specs.declared.tasks.Rewriting.{Rewriting}
 use Rattle.command_line.specs.Rewritings.{is_allowed}
@@ -21,14 +21,14 @@ use Rattle.commands.specs.Jobs.{FileSays, JobSays, objects_of}
 use Rattle.commands.specs.Links.{AreLines, IsFile, OfImage, OfLink}
 use Rattle.commands.specs.RunJobs.{IsRun}
 
--- the name of the image that is asked about
+-- the name of the image that a command is about
 abbrev pub wanted_by : Purpose → Option (List ℕ)
 wanted_by (Run telling) = None
 wanted_by Check = None
 wanted_by (File image) = Some image.now
 wanted_by (Sites image) = Some image.now
 
--- what is said where all images link
+-- what is said if all images link
 abbrev pub Tells : Purpose → JobParts → List Linking → ℕ → List ℕ → Type 0
 Tells (Run telling) job ls status text = IsRun telling job ls status text
 Tells Check job ls status text = VerdictSays job ls status text
@@ -44,7 +44,7 @@ abbrev pub FileTold : Purpose → Rewriting → Files → List ℕ → ℕ → L
 FileTold purpose rewriting fs name status text =
     FileSays (wanted_by purpose) (Tells purpose) (is_allowed rewriting) Kept fs name status text
 
--- ---- where the image is found
+-- ---- with the image found
 
 abbrev pub Finds : Purpose → JobParts → Placed → Type 0
 Finds (Run telling) job ending = ending ≡ found.Run telling
@@ -53,14 +53,14 @@ Finds (File image) job (found.File place) = image_number job.images image.now �
 Finds (Sites image) job (found.Sites place) = image_number job.images image.now ≡ Some (place + 1)
 Finds purpose job ending = ⊥
 
--- it is an image of the job
+-- the image's place is one of the job's images
 abbrev pub IsWithin : Placed → JobParts → Type 0
 IsWithin (found.Run telling) job = Unit {0}
 IsWithin found.Check job = Unit {0}
 IsWithin (found.File place) job = place < length job.images
 IsWithin (found.Sites place) job = place < length job.images
 
--- why it is not found
+-- the refusal of a name without an image
 abbrev pub IsMissing : Bool → CommandFault → Type 0
 IsMissing true f = ⊥
 IsMissing false f = f ≡ Refused (Job 0 Name)

@@ -1,4 +1,4 @@
--- What `race` shows of a job whose images all link, and what it says over the files of a store.
+-- What `race` prints for a job whose images all link, and what it says over the files of a store.
 use Rattle.std.specs.Prelude.{◌≡◌, ℕ, List, Some, None}
 use Rattle.command_line.specs.declared.tasks.Rewriting.{Rewriting}
 use Rattle.command_line.specs.Rewritings.{is_allowed}
@@ -21,21 +21,21 @@ use Rattle.commands.specs.Runs.{IsMeant, meant_lines, modules_of}
 
 -- the threads of a job ran over these images
 pub record AreRaced (m : JobImages) (job : JobParts) (transcript : Shown) : Type 0 where
-  -- there was one history, in which each open and each close was accepted
+  -- there was one history, which accepted each open and each close
   pub legal : IsLegal (job_loads m).infos (job_loads m).last_offset transcript.events
-  -- and each thread took turns at lawful points of it, just those that its lines tell of
+  -- and each thread took turns at lawful points of it, exactly those that its lines print
   pub raced : IsRaced (job_loads m) job.fuel job.lines transcript
 
 -- the job's threads ran at once
 pub record HasRace (job : JobParts) (ls : List Linking) (transcript : Shown) : Type 0 where
-  -- whatever the job, each thread's lines are the machine's over the images that were written
+  -- for every job, each thread's lines are what the machine gives over the written images
   pub ran : AreRaced (modules_of job ls) job transcript
-  -- and each thread that is clean by itself has what its lines mean, at the points that they print
+  -- and the lines of each thread that is clean by itself are what the objects mean at the points that they print
   pub thread_is : (thread : ℕ) (own : List ThreadLine) (printed : List ShownLine) → at_number job.lines thread ≡ Some own
       → at_number transcript.threads thread ≡ Some printed
       → IsMeant printed (meant_lines job ls transcript thread own printed)
 
--- ** what is told of it
+-- ** the output
 
 -- they ran, and this is the text of their transcript
 pub record IsRaceTold (job : JobParts) (ls : List Linking) (text : List ℕ) : Type 0 where
@@ -47,7 +47,7 @@ pub record IsRaceTold (job : JobParts) (ls : List Linking) (text : List ℕ) : T
 abbrev pub IsRace : JobParts → List Linking → ℕ → List ℕ → Type 0
 IsRace job ls status text = (status ≡ 0) × IsRaceTold job ls text
 
--- `race JOB [--no-relax]`: refused as `run` is, and also for an object that has data for programs to write
+-- `race JOB [--no-relax]`: refused like `run`, and also for an object that has data for programs to write
 abbrev pub RaceSays : Files → List ℕ → Rewriting → ℕ → List ℕ → Type 0
 RaceSays fs name rewriting status text =
     FileSays None IsRace (is_allowed rewriting) Refused fs name status text

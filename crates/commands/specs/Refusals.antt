@@ -1,4 +1,4 @@
--- Refusals of objects and images, as a command has them.
+-- Refusals of objects and images as faults of a command.
 use Rattle.std.specs.Prelude.{◌≡◌, ◌<◌, length}
 use Rattle.command_replies.specs.declared.fault.CommandFault.{CommandFault}
 use Rattle.command_replies.specs.declared.fault.CommandFault.TheVariants as fault
@@ -20,7 +20,7 @@ IsImageRefusalOf job unlinked.OutOfMemory f = f ≡ fault.OutOfMemory
 IsImageRefusalOf job (unlinked.At number kind object section entry) f =
     IsRefusalWith 7 (link_fault_text job number kind object section entry) f
 
--- it names an image of the job
+-- the refusal is about an image of the job
 abbrev pub NamesImage : JobParts → ImageRefusal → Type 0
 NamesImage job unlinked.OutOfMemory = Unit {0}
 NamesImage job (unlinked.At number kind object section entry) = number < length job.images

@@ -1,4 +1,4 @@
--- What the answer of a command has to do with the store's files, and what the top calls show of it.
+-- How the answer of a command relates to the store's files, and what the top calls promise.
 use Rattle.std.specs.Prelude.{◌≡◌, ◌≤◌, ℕ, ◌⊎◌, List, Option, Some, None}
 use Rattle.command_line.specs.declared.tasks.Command.{Command}
 use Rattle.command_replies.specs.Steps.{AsksFront, with_names}
@@ -10,14 +10,14 @@ use Rattle.ports.specs.Files.{Files}
 use Rattle.ports.specs.Sinks.{SinkView}
 use Rattle.commands.specs.Commands.{CommandLeaves, CommandSays, command_names}
 
--- the answer is what the command says over these files, with those after it, but that the store may fail, and memory
--- may be wanting
+-- the answer is what the command says over these files, with the second files after it; or the store
+-- fails, or memory runs out
 abbrev pub AnswerSays : Files → Option Files → Command → Answer → Type 0
 AnswerSays fs after asked (Replies reply) = CommandSays fs after asked (code_of reply.status) reply.text.items
 AnswerSays fs after asked StoreFails = Unit {0}
 AnswerSays fs after asked NoMemory = Unit {0}
 
--- the names asked for are a front of the command's, and all of them where it replies
+-- the names asked for are a prefix of the command's names, and all of them if it replies
 abbrev pub AsksOfAnswer : Files → Command → Option (List (List ℕ)) → Option (List (List ℕ)) → Answer → Type 0
 AsksOfAnswer fs asked old new (Replies reply) = new ≡ with_names (command_names fs asked) old
 AsksOfAnswer fs asked old new StoreFails = AsksFront (command_names fs asked) old new
@@ -25,25 +25,25 @@ AsksOfAnswer fs asked old new NoMemory = AsksFront (command_names fs asked) old 
 
 -- ---- the whole command
 
--- what a command may say, and with which status: that the store failed, or what the command says over the store's files
--- before it and after it; where the store tells none, any text with a status of its own
+-- what a command may say, and with which status: that the store failed, or what it says over the store's files before
+-- and after it; if the store does not show its files, any text with a status of the command's own
 abbrev pub MaySay : Option Files → Option Files → Command → ℕ → List ℕ → Type 0
 MaySay None after asked own text = ((own ≡ 3) × (text ≡ store_line)) ⊎ ((own ≡ 0) ⊎ (5 ≤ own))
 MaySay (Some fs) after asked own text = ((own ≡ 3) × (text ≡ store_line)) ⊎ CommandSays fs after asked own text
 
--- what is shown: 1 is want of memory, and comes after a front of another text only where the sink had no memory for it;
--- 4 is a sink that failed; and every other status goes with the whole of its text
+-- what is shown: 1 means out of memory, and comes after a prefix of another text only if the sink ran out of memory for
+-- that text; 4 means that the sink failed; every other status comes with the whole of its text
 abbrev pub Shows : Option Files → Option Files → Command → SinkView → SinkView → ℕ → Type 0
 Shows files after asked old new code = Delivered (MaySay files after asked) old new code
 
--- the names asked for: a front of the command's, and all of them where it ended with a status of its own
+-- the names asked for: a prefix of the command's names, and all of them if it ended with a status of its own
 pub record Asked (fs : Files) (asked : Command) (old new : Option (List (List ℕ))) (code : ℕ) : Type 0 where
   pub front : AsksFront (command_names fs asked) old new
   pub all : (code ≡ 0) ⊎ (5 ≤ code) → new ≡ with_names (command_names fs asked) old
 
 -- ---- the words
 
--- what words may say: that they are not taken, or what their command may say
+-- what words may say: that they are not accepted, or what their command may say
 abbrev pub WordsMaySay : Option Files → Option Files → Option Command → ℕ → List ℕ → Type 0
 WordsMaySay files after None own text = (own ≡ 2) × (text ≡ usage_line)
 WordsMaySay files after (Some asked) own text = MaySay files after asked own text
@@ -51,7 +51,7 @@ WordsMaySay files after (Some asked) own text = MaySay files after asked own tex
 abbrev pub ShowsWords : Option Files → Option Files → Option Command → SinkView → SinkView → ℕ → Type 0
 ShowsWords files after asked old new code = Delivered (WordsMaySay files after asked) old new code
 
--- the files after words: as before, but that a command may have put the whole image
+-- the files after the command of some words: as before, unless it put a whole image
 abbrev pub WordsLeave : Option Files → Option Files → Option Command → Type 0
 WordsLeave before after None = after ≡ before
 WordsLeave before after (Some asked) = CommandLeaves before after asked

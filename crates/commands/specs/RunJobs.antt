@@ -1,5 +1,5 @@
--- What `run` and `check` say over the files of a store: of a job whose images all link what is told of its run, or whether
--- it is clean.
+-- What `run` and `check` say over the files of a store: for a job whose images all link, the text of its run,
+-- or whether it is clean.
 use Rattle.std.specs.Prelude.{◌≡◌, ℕ, Bool, true, List, map, None}
 use Rattle.command_line.specs.declared.tasks.Rewriting.{Rewriting}
 use Rattle.command_line.specs.Rewritings.{is_allowed}
@@ -19,28 +19,28 @@ use Rattle.commands.specs.Checks.{VerdictSays}
 use Rattle.commands.specs.Jobs.{FileSays, asked_names, links_of}
 use Rattle.commands.specs.Runs.{HasRun, as_checked}
 
--- ---- what is told
+-- ---- the text of a run
 
--- of a run of a job with these images, which have so many sites: the transcript, or a line of numbers
+-- for a job with these images and these numbers of sites: the transcript, or a line of numbers
 abbrev pub told : Telling → List Image → SiteCounts → Shown → List ℕ
 told Transcript images counts shown = transcript_text images shown
 told (Summary count) images counts shown = summary_text count counts shown
 
--- of a run of linked images
+-- for linked images
 abbrev pub told_of : Telling → JobParts → List Linking → Shown → List ℕ
 told_of telling job ls shown = told telling job.images (counts_of (map linked_of ls)) shown
 
--- the links of a run, as `check` has them, are those that `check` judges, in either setting of the run
+-- the links of a run, as `check` sees them, are those that `check` judges, in either setting of the run
 abbrev pub CheckedLinksAreRun : Type 0
 CheckedLinksAreRun = (images : List Given) (relax : Bool) → as_checked (links_of images relax) ≡ links_of images true
 
--- it ran, and this is told of its transcript
+-- it ran, and this is the text of its transcript or its summary
 pub record IsTold (telling : Telling) (job : JobParts) (ls : List Linking) (text : List ℕ) : Type 0 where
   pub transcript : Shown
   pub ran : HasRun job ls transcript
   pub told_is : text ≡ told_of telling job ls transcript
 
--- 0, and what is told of its run
+-- status 0, and the text of its run
 abbrev pub IsRun : Telling → JobParts → List Linking → ℕ → List ℕ → Type 0
 IsRun telling job ls status text = (status ≡ 0) × IsTold telling job ls text
 

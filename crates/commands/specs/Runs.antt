@@ -1,4 +1,4 @@
--- What `run` shows of a job whose images all link.
+-- What `run` prints for a job whose images all link.
 use Rattle.std.specs.Prelude.{◌≡◌, ℕ, Bool, true, false, List, [], ◌∷◌, map, Some, None}
 use Rattle.std.specs.List.{All}
 use Rattle.image_file.specs.Spelled.{Spelled, spelled}
@@ -27,7 +27,7 @@ use Rattle.commands.specs.Checks.{verdict}
 
 -- ** the images
 
--- an image as it is read back from the bytes that are written of it
+-- a linked image, read back from its written bytes
 abbrev pub read_back : LinkedImage → Spelled
 read_back linked = spelled (written linked.image)
 
@@ -35,12 +35,12 @@ read_back linked = spelled (written linked.image)
 unfoldable pub modules_of : JobParts → List Linking → JobImages
 modules_of job ls = of_job job (map (λ l. read_back (linked_of l)) ls)
 
--- the images of a job, as they are read back: those that are written and read are the linked ones
+-- the images of a job, read back: those that are written and read are the linked ones
 pub record AreBack (job : JobParts) (all : List LinkedImage) (images : List Spelled) : Type 0 where
   pub read : images ≡ map read_back all
   pub again : images ≡ map (λ linked. linked.image) all
 
--- and the modules that are made of them
+-- and the modules made from them
 pub record AreModulesBack (job : JobParts) (all : List LinkedImage) (modules : JobImages) : Type 0 where
   pub images : List Spelled
   pub back : AreBack job all images
@@ -48,28 +48,28 @@ pub record AreModulesBack (job : JobParts) (all : List LinkedImage) (modules : J
 
 -- ** what is printed
 
--- all turns of the job's threads, by the machine with its run time, over the bytes of these images
+-- all turns of the job's threads: the machine with its run time, over the bytes of these images
 abbrev pub world_of : JobParts → JobImages → Shared ℕ Bool ℕ Line
 world_of job modules = job_world (job_loads modules) job.fuel job.lines job.order
 
 -- ** what is meant
 
--- the links as `check` has them, with sequences rewritten: no meaning knows of that
+-- the links as `check` sees them, with sequences rewritten; the meaning does not depend on that
 abbrev pub as_checked : List Linking → List Linking
 as_checked ls = map (λ (l : Linking). record l { relax = true }) ls
 
--- all turns of the job's threads, in the same order, by what its objects mean: no image, no table and no rewritten byte is
--- in it
+-- all turns of the job's threads, in the same order, as its objects mean them: no image, no table and no
+-- rewritten byte occurs in it
 abbrev pub meaning_of_job : JobParts → List Linking → Shared Word Flag Byte Line
 meaning_of_job job ls = meant_world (meaning_of ls) job.fuel job.lines job.order
 
--- what one thread's lines mean, whatever the others do, where its looks see as many events of the transcript's history as
--- the thread's lines in the transcript say
+-- the meaning of one thread's lines, whatever the others do; its looks see as many events of the transcript's history
+-- as the thread's lines in the transcript say
 abbrev pub meant_lines : JobParts → List Linking → Shown → ℕ → List ThreadLine → List ShownLine → List Said
 meant_lines job ls transcript thread own printed =
     thread_meaning (meaning_of ls) job.fuel thread own transcript.events (printed_points printed)
 
--- the thread's lines in the transcript are those that are meant, if no step of these is unclean
+-- the thread's lines in the transcript are the meant ones, if no step of these is unclean
 abbrev pub IsMeant : List ShownLine → List Said → Type 0
 IsMeant printed said = verdict_of (said ∷ []) ≡ None → map Some printed ≡ map shown said
 
@@ -77,11 +77,11 @@ IsMeant printed said = verdict_of (said ∷ []) ≡ None → map Some printed �
 
 -- the job ran
 pub record HasRun (job : JobParts) (ls : List Linking) (transcript : Shown) : Type 0 where
-  -- whatever the job, the transcript is the machine's over the images that were written
+  -- for every job, the transcript is what the machine gives over the written images
   pub printed_is : Tells (world_of job (modules_of job ls)) transcript
-  -- and where the job is clean, which is what `check` prints of it, it is that of the job's meaning
+  -- and if the job is clean, for which `check` prints `clean`, the transcript is the job's meaning
   pub meant_is : verdict job (as_checked ls) ≡ None → Tells (meaning_of_job job ls) transcript
-  -- and where no image has data that threads write, so it is with each thread that is clean by itself
+  -- and if no image has data that threads write, the same holds of each thread that is clean by itself
   pub thread_is : All (λ (l : Linking). has_data l ≡ false) ls
       → (thread : ℕ) (own : List ThreadLine) (printed : List ShownLine) → at_number job.lines thread ≡ Some own
       → at_number transcript.threads thread ≡ Some printed

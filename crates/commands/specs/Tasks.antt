@@ -13,7 +13,7 @@ use Rattle.commands.specs.Listings.{ListingSays}
 abbrev pub ShowSays : Files → List ℕ → ℕ → List ℕ → Type 0
 ShowSays fs name status text = HasFile (file_at fs name) (λ b. ListingSays b status text)
 
--- what a task says over these files, after which the store's files are so
+-- what a task says over these files; the second files are those after it
 abbrev pub TaskSays : Files → Option Files → Task → ℕ → List ℕ → Type 0
 TaskSays fs after (Run job rewriting) status text = RunSays fs job rewriting status text
 TaskSays fs after (Check job) status text = CheckSays fs job status text
@@ -22,7 +22,7 @@ TaskSays fs after (Sites job image) status text = SitesSays fs job image status 
 TaskSays fs after (Show file) status text = ShowSays fs file status text
 TaskSays fs after (Gen count) status text = GenSays count status text
 
--- the files after a task: as before, but that `link` may have put the whole image
+-- the files after a task: as before, unless `link` put a whole image
 abbrev pub TaskLeaves : Option Files → Option Files → Task → Type 0
 TaskLeaves before after (Run job rewriting) = after ≡ before
 TaskLeaves before after (Check job) = after ≡ before
@@ -32,7 +32,7 @@ TaskLeaves before after (Sites job image) = after ≡ before
 TaskLeaves before after (Show file) = after ≡ before
 TaskLeaves before after (Gen count) = after ≡ before
 
--- the names: the job and then its objects, or the file; none of what is made
+-- the names that a task asks for: the job and then its objects, or the file; none for a generated job
 abbrev pub task_names : Files → Task → List (List ℕ)
 task_names fs (Run job rewriting) = run_names fs job
 task_names fs (Check job) = run_names fs job

@@ -1,4 +1,4 @@
-//! `check`: whether a job is clean whose images all link.
+//! `check`: whether a job whose images all link is clean.
 ghost use Rattle.std.specs.Prelude.{◌≡◌, List, IfOk};
 ghost use Rattle.command_replies.specs.Faults.{NoStoreFault};
 ghost use Rattle.command_replies.specs.Steps.{Comes};
@@ -15,8 +15,8 @@ use meant_images::MeantImages;
 use std::alloc::{AllocError, Global};
 use whole_meaning::UncleanStep;
 
-/// The first unclean step of the lowest thread of a job that makes one, or `None`. Its images link, and mean something
-/// before their fields are filled.
+/// The first unclean step of the lowest thread that makes one, or `None`. The job's images link; the meaning needs no
+/// field that a linker fills.
 fn verdict_of(
     alloc: Global,
     job: &Job,
@@ -30,7 +30,7 @@ fn verdict_of(
     check_job(alloc, job, &meant)
 }
 
-/// `clean`, or the refusal that tells the first unclean step.
+/// The line `clean`, or a refusal with the first unclean step.
 pub fn verdict_line(
     alloc: Global,
     job: &Job,

@@ -1,4 +1,4 @@
-//! The commands: for each one the steps from its words to its output, in the order in which their faults come.
+//! The commands: the steps of each, from its words to its output, in the order in which their faults come.
 ghost use Rattle.std.specs.Prelude.{◌≡◌, [], ◌∷◌, IfOk, IfSome};
 ghost use Rattle.command_line.specs.Words.{IsInLimits};
 ghost use Rattle.command_replies.specs.Faults.{StoreCounts, NoStoreFault, KeepsFiles};
@@ -25,7 +25,7 @@ use std::alloc::{AllocError, Global};
 use std::sync::Wait;
 use std::thread::Threads;
 
-/// What a task answers.
+/// The answer of a task.
 #[tactic(auto, using(crate::proofs::Asked::asks_all))]
 pub fn answer<R: Threads + Sync, S: Store>(
     rt: &R,
@@ -56,7 +56,7 @@ pub fn answer<R: Threads + Sync, S: Store>(
     }
 }
 
-/// What `race` answers of the job in the file of that name.
+/// The answer of `race` for the job in the file of that name.
 #[tactic(auto, using(crate::proofs::Asked::asks_all))]
 pub fn race_answer<R: Threads + Wait + Sync, S: Store>(
     rt: &R,
@@ -87,7 +87,7 @@ pub fn race_answer<R: Threads + Wait + Sync, S: Store>(
     }
 }
 
-/// What a task puts where nothing is wrong.
+/// The output of a task, or its refusal.
 #[tactic(auto, using(crate::proofs::Kept::keeps_same))]
 fn output<R: Threads + Sync, S: Store>(
     rt: &R,
@@ -152,7 +152,7 @@ fn sites<R: Threads + Sync, S: Store>(
     told(rt, alloc, store, job, Rewriting::Allowed, purpose)
 }
 
-/// `show FILE`: what the image says.
+/// `show FILE`: the text of the image.
 fn show<S: Store>(alloc: Global, store: &mut S, name: &str) -> Result<Vec<u8>, CommandFault>
     ensures files { S.files store.new ≡ S.files store.old }
     ensures cause { StoreCounts (S.faults store.old) (S.faults store.new) result }
@@ -165,7 +165,7 @@ fn show<S: Store>(alloc: Global, store: &mut S, name: &str) -> Result<Vec<u8>, C
     }
 }
 
-/// What the image of these bytes says.
+/// The text of the image with these bytes.
 fn show_file(alloc: Global, bytes: Vec<u8>) -> Result<Vec<u8>, CommandFault>
     ensures says { Comes (λ text. text.items) (ListingSays bytes.items) result }
     ensures cause { NoStoreFault result }
@@ -179,7 +179,7 @@ fn show_file(alloc: Global, bytes: Vec<u8>) -> Result<Vec<u8>, CommandFault>
     }
 }
 
-/// What an image says.
+/// The text of an image.
 fn listing_of(alloc: Global, image: &Image) -> Result<Vec<u8>, AllocError>
     ensures { IfOk result (λ text. text.items ≡ shown image.now) }
 {

@@ -1,7 +1,7 @@
-//! What is done with a job whose images all link: the last step of each command.
+//! The last step of each command, for a job whose images all link.
 //!
-//! The images are ready to be written, and no byte of them is laid. `run` writes them all, and `link` the one that it puts;
-//! `check` and `sites` write none.
+//! The images are ready to be written, and no byte of them is laid. `run` writes them all, `link` writes only the one
+//! that it puts, and `check` and `sites` write none.
 ghost use Rattle.std.specs.Prelude.{◌≡◌, ◌<◌, All, IfOk, length};
 ghost use Rattle.command_replies.specs.Faults.{NoStoreFault};
 ghost use Rattle.command_replies.specs.Steps.{Comes};
@@ -26,7 +26,7 @@ use link_core::laws::images_hold_tls;
 use std::alloc::{AllocError, Global};
 use std::thread::Threads;
 
-/// What is told of a job whose images are ready.
+/// Ends the command for a job whose images are ready: returns its output, or a refusal.
 pub fn ended<R: Threads + Sync>(
     rt: &R,
     alloc: Global,
@@ -48,7 +48,7 @@ pub fn ended<R: Threads + Sync>(
     }
 }
 
-/// What is told of a run.
+/// Runs the job, and returns the text of the run.
 fn run<R: Threads + Sync>(
     rt: &R,
     alloc: Global,
@@ -68,7 +68,7 @@ fn run<R: Threads + Sync>(
     }
 }
 
-/// The file of the image at that place. The others are dropped unwritten.
+/// The file of the image at that place. The other images are dropped unwritten.
 fn file_of<R: Threads + Sync>(
     rt: &R,
     alloc: Global,

@@ -1,7 +1,7 @@
-//! `gen N`: what `run` does, of a job that is made and not fetched.
+//! `gen N`: does what `run` does, for a job that it makes instead of fetching it.
 //!
 //! The job and its objects are made in memory, byte for byte as files would have them. From there on the command is
-//! `run`: the same steps read the job and the objects, link, write, read back and run. What is told is one line.
+//! `run`: the same steps read the job and the objects, link, write, read back and run. The output is one line.
 ghost use Rattle.std.specs.Prelude.{◌≡◌, ◌≤◌, IfOk, map, true};
 ghost use Rattle.command_replies.specs.Faults.{NoStoreFault};
 ghost use Rattle.command_replies.specs.Steps.{Comes};
@@ -28,7 +28,7 @@ use job_text::Job;
 use std::alloc::{AllocError, Global};
 use std::thread::Threads;
 
-/// `gen N`, of 1 to 1,000 objects: the line about its run.
+/// `gen N`, for `count` objects, from 1 to 1,000: the line about its run.
 pub fn generated<R: Threads + Sync>(
     rt: &R,
     alloc: Global,
@@ -70,7 +70,7 @@ fn run_generated<R: Threads + Sync>(
     told_of_files(rt, alloc, job, &files, Rewriting::Allowed, ending)
 }
 
-/// These files, as if they were fetched.
+/// These files, as if they had been fetched.
 fn files_of<'o>(alloc: Global, objects: &'o [GeneratedFile]) -> Result<Files<'o>, AllocError>
     ensures { IfOk result (λ files. bytes_in files ≡ bytes_in objects.now) }
 {

@@ -1,4 +1,4 @@
-//! `link`: an image, put into a file.
+//! `link`: puts an image into a file.
 ghost use Rattle.std.specs.Prelude.{◌≡◌, ◌⊎◌, length, IfErr, IfOk, IfSome, OnOk, Some};
 ghost use Rattle.command_replies.specs.Faults.{IsFetchFault, KeepsFiles, StoreCounts};
 ghost use Rattle.command_replies.specs.Steps.{Asks, Comes};
@@ -13,7 +13,7 @@ use ports::Store;
 use std::alloc::{AllocError, Global};
 use std::thread::Threads;
 
-/// `link JOB IMAGE OUT`: the image, put into the file OUT, and how long it is.
+/// `link JOB IMAGE OUT`: puts the image into the file OUT, and says how long it is.
 pub fn link<R: Threads + Sync, S: Store>(
     rt: &R,
     alloc: Global,
@@ -38,7 +38,7 @@ pub fn link<R: Threads + Sync, S: Store>(
     }
 }
 
-/// Puts an image's file, and says so.
+/// Puts an image's file, and returns the line that says so.
 fn put_image<S: Store>(
     alloc: Global,
     store: &mut S,
@@ -59,7 +59,7 @@ fn put_image<S: Store>(
     Ok(linked_line(alloc, image, file.len())?)
 }
 
-/// The text for an image that was put, with its length.
+/// The line for an image that was put, with its length.
 fn linked_line(alloc: Global, image: &str, size: usize) -> Result<Vec<u8>, AllocError>
     ensures { IfOk result (λ text. text.items ≡ linked_text image.now size) }
 {

@@ -1,4 +1,4 @@
-//! What is asked of a job whose images all link.
+//! What a command does with a job whose images all link.
 ghost use Rattle.std.specs.Prelude.{IfErr, IfOk};
 ghost use Rattle.commands.specs.Jobs.{has};
 ghost use Rattle.commands.specs.Purposes.{Finds, IsMissing, IsWithin, wanted_by};
@@ -7,20 +7,20 @@ use crate::telling::Telling;
 use command_replies::{CommandFault, image_place};
 use job_text::Job;
 
-/// What is asked of a job whose images all link.
+/// What a command does with a job whose images all link, with the image by its name.
 #[derive(Clone, Copy)]
 pub enum Purpose<'n> {
-    /// To run it, and to tell this of the run.
+    /// Runs it, and prints the run this way.
     Run(Telling),
-    /// To say whether it is clean.
+    /// Says whether it is clean.
     Check,
-    /// The file of its image of that name.
+    /// Makes the file of the image of that name.
     File { image: &'n str },
-    /// The lines of the sites of its image of that name.
+    /// Lists the sites of the image of that name.
     Sites { image: &'n str },
 }
 
-/// What is asked of a job, where its image is found: by its place in image order, from 0.
+/// The same, with the image by its place in image order, counted from 0.
 #[derive(Clone, Copy)]
 pub enum Ending {
     Run(Telling),
@@ -30,7 +30,7 @@ pub enum Ending {
 }
 
 impl<'n> Purpose<'n> {
-    /// What is asked of this job; refused, where it has no image of the name.
+    /// Finds the image in this job; it is refused if it has no image of that name.
     pub fn ending(self, job: &Job) -> Result<Ending, CommandFault>
         ensures ending { IfOk result (Finds self.entry job.now) }
         ensures within { IfOk result (λ ending. IsWithin ending job.now) }

@@ -1,12 +1,12 @@
-//! The threads of a job, running at once over images that link.
+//! Runs the threads of a job at once over images that link.
 //!
-//! Each image is written into its file and read back from it, as for `run`, and then each thread runs in a thread of its
-//! own (`job_race`). All that threads share is one history of opens and closes (`shared_modules`), which begins empty and
-//! is the transcript's in the end.
+//! Each image is written into its file and read back, as for `run`, and then each thread runs in a thread of its own
+//! (`job_race`). All that threads share is one history of opens and closes (`shared_modules`), which begins empty and
+//! ends as the transcript's history.
 //!
-//! Two runs may print different transcripts. What holds of each is `HasRace`: each thread's lines are the machine's at
-//! the points that they print, which are lawful, and where the thread is clean by itself they are its meaning's. That a
-//! thread gets on at all is no clause: threads wait for one another.
+//! Two runs may print different transcripts. `HasRace` holds of each: each thread's lines are what the machine gives
+//! at the points that they print, which are lawful; and the lines of a thread that is clean by itself are what the
+//! objects mean. No clause says that a thread makes progress: threads wait for one another.
 ghost use Rattle.std.specs.Prelude.{◌≡◌, List, [], All, IfOk, false, map};
 ghost use Rattle.commands.specs.InOrder.{AreLinks};
 ghost use Rattle.commands.specs.Races.{AreRaced, HasRace, IsRaceTold};
@@ -36,7 +36,7 @@ use std::sync::Wait;
 use std::thread::Threads;
 use transcript_text::Transcript;
 
-/// The transcript's text of a job whose images are ready to be written.
+/// Races a job whose images are ready to be written; returns the text of the transcript.
 pub fn told_race<R: Threads + Wait + Sync>(
     rt: &R,
     alloc: Global,
@@ -52,7 +52,7 @@ pub fn told_race<R: Threads + Wait + Sync>(
     text_of_transcript(alloc, job, &transcript)
 }
 
-/// What a job's threads say that run at once over linked images, each of which is written and read back.
+/// Races a job over linked images, each of which is written and read back.
 fn race_linked<R: Threads + Wait + Sync>(
     rt: &R,
     alloc: Global,
@@ -75,7 +75,7 @@ fn race_linked<R: Threads + Wait + Sync>(
     race_modules(rt, alloc, job, &modules)
 }
 
-/// What a job's threads say that run at once over these modules, and the one history that they share.
+/// Races a job over these modules; the threads share one history.
 fn race_modules<R: Threads + Wait + Sync>(
     rt: &R,
     alloc: Global,
@@ -92,7 +92,7 @@ fn race_modules<R: Threads + Wait + Sync>(
     race_shared(rt, alloc, job, modules, shared, pass)
 }
 
-/// The history that the threads share over these modules, before any event, and the pass of them all.
+/// The history that the threads share over these modules, before any event, and the pass for all of them.
 fn history_of(alloc: Global, modules: &Modules) -> Result<(Shared, Pass), AllocError>
     ensures images { IfOk result (λ started. started.0.images
         ≡ record { infos = infos modules.now; last_offset = last_offset modules.now }) }
@@ -102,7 +102,7 @@ fn history_of(alloc: Global, modules: &Modules) -> Result<(Shared, Pass), AllocE
     Shared::start(alloc, registry)
 }
 
-/// What the threads say that share this history.
+/// Races the threads over this history.
 fn race_shared<R: Threads + Wait + Sync>(
     rt: &R,
     alloc: Global,

@@ -1,9 +1,9 @@
-//! `race`: what a job's threads say that really run.
+//! `race`: runs a job's threads at once.
 //!
-//! The steps up to images that all link are those of `run` (`told`), but that objects may have no data for programs to
-//! write: threads that run at once would all write the same bytes. They stand here once more, since whoever calls those of
-//! `run` gives no leave to wait. The job's `order` lines are read, and mean nothing here. How the threads run is in
-//! `race_runs`.
+//! The steps up to images that all link are those of `run` (`told`), but objects with data for programs to write are
+//! refused: threads that run at once would all write the same bytes. The steps stand here once more, since those of
+//! `run` may be called by callers that allow no waiting. The job's `order` lines are read, and have no effect.
+//! `race_runs` runs the threads.
 ghost use Rattle.std.specs.Prelude.{◌≡◌, ℕ, List, All, IfSome, None, Ok, map};
 ghost use Rattle.command_line.specs.Rewritings.{is_allowed};
 ghost use Rattle.command_replies.specs.Faults.{KeepsFiles, NoStoreFault, StoreCounts};
@@ -34,7 +34,7 @@ use std::alloc::Global;
 use std::sync::Wait;
 use std::thread::Threads;
 
-/// `race JOB [--no-relax]`: what the job's threads say that run at once, each in a thread of its own.
+/// `race JOB [--no-relax]`: runs the job's threads at once, each in a thread of its own.
 #[tactic(auto, using(crate::proofs::Kept::keeps_same))]
 pub fn raced<R: Threads + Wait + Sync, S: Store>(
     rt: &R,
@@ -57,7 +57,7 @@ pub fn raced<R: Threads + Wait + Sync, S: Store>(
     }
 }
 
-/// What the threads say of the job of a text.
+/// Races the job of a text.
 fn raced_of_text<R: Threads + Wait + Sync, S: Store>(
     rt: &R,
     alloc: Global,
@@ -78,7 +78,7 @@ fn raced_of_text<R: Threads + Wait + Sync, S: Store>(
     }
 }
 
-/// What the threads of a job say whose objects are fetched.
+/// Races a job whose objects are fetched.
 fn raced_of_job<R: Threads + Wait + Sync, S: Store>(
     rt: &R,
     alloc: Global,
@@ -98,7 +98,7 @@ fn raced_of_job<R: Threads + Wait + Sync, S: Store>(
     raced_of_files(rt, alloc, job, &files, rewriting)
 }
 
-/// What the threads of a job say that has these files. None of its objects may have data that programs write.
+/// Races a job with these files. None of its objects may have data that programs write.
 fn raced_of_files<R: Threads + Wait + Sync>(
     rt: &R,
     alloc: Global,
@@ -118,7 +118,7 @@ fn raced_of_files<R: Threads + Wait + Sync>(
     }
 }
 
-/// What the threads of a job say whose images are these.
+/// Races a job with these images.
 fn raced_of_images<R: Threads + Wait + Sync>(
     rt: &R,
     alloc: Global,
@@ -141,7 +141,7 @@ fn raced_of_images<R: Threads + Wait + Sync>(
     }
 }
 
-/// What the threads of a job say whose images are ready to be written.
+/// Races a job whose images are ready to be written.
 fn race_ready<R: Threads + Wait + Sync>(
     rt: &R,
     alloc: Global,

@@ -1,11 +1,11 @@
-//! What is told of a run of a job whose images all link.
+//! Runs a job whose images all link.
 //!
-//! Each image is written into its file and read back from it, and then all threads of the job take their turns over the
-//! images that were read. So what is printed comes of bytes that `link` would put into files, by a reader and a run time
+//! Each image is written into its file and read back, and then all threads of the job take their turns over the images
+//! that were read. So what is printed comes from the bytes that `link` would put into files, by a reader and a run time
 //! that know nothing of this linker.
 //!
-//! What is printed is the machine's, and of a clean job also what its objects mean: `HasRun` says both, and the laws of
-//! `linked_jobs` tie the one to the other.
+//! The output is what the machine does, and for a clean job also what its objects mean: `HasRun` says both, and the
+//! laws of `linked_jobs` tie the two.
 ghost use Rattle.std.specs.Prelude.{◌≡◌, List, All, IfOk, map, true};
 ghost use Rattle.commands.specs.RunJobs.{IsTold};
 ghost use Rattle.commands.specs.InOrder.{AreLinks, IsOfFew};
@@ -35,7 +35,7 @@ use std::alloc::{AllocError, Global};
 use std::thread::Threads;
 use transcript_text::Transcript;
 
-/// What is told of the run of a job whose images are ready to be written.
+/// Runs a job whose images are ready to be written; returns the text of the run.
 pub fn told_run<R: Threads + Sync>(
     rt: &R,
     alloc: Global,
@@ -52,8 +52,8 @@ pub fn told_run<R: Threads + Sync>(
     telling.text(alloc, job, counts, &transcript)
 }
 
-/// What a job shows whose images are linked: each is written and read back, and all threads run over those that were
-/// read.
+/// Runs a job whose images are linked: writes each image, reads it back, and runs all threads
+/// over those that were read.
 fn run_linked(alloc: Global, job: &Job, all: Vec<Linked>) -> Result<Transcript, AllocError>
     requires links { (ls : List Linking) × AreLinks job.now ls × (all.items ≡ map linked_of ls) }
     ensures ran { IfOk result (λ transcript. (ls : List Linking) → AreLinks job.now ls → all.items ≡ map linked_of ls
@@ -69,7 +69,7 @@ fn run_linked(alloc: Global, job: &Job, all: Vec<Linked>) -> Result<Transcript, 
     run_job(alloc, job, &modules)
 }
 
-/// The modules of a job whose images are linked, each read from the file that is written of it.
+/// The modules of a job whose images are linked, each read from its written file.
 pub fn modules_again(alloc: Global, job: &Job, all: Vec<Linked>) -> Result<Modules, AllocError>
     requires links { (ls : List Linking) × AreLinks job.now ls × (all.items ≡ map linked_of ls) }
     ensures back { IfOk result (AreModulesBack job.now all.items) }
@@ -81,7 +81,7 @@ pub fn modules_again(alloc: Global, job: &Job, all: Vec<Linked>) -> Result<Modul
     Modules::new(alloc, job, images)
 }
 
-/// Whether each image is linked of so few objects that each of their symbols has a number of its own.
+/// Whether each image is linked from fewer than 2^32 objects, so that all their symbols have numbers of their own.
 pub fn are_of_few(images: &[ImageObjects]) -> bool
     ensures few { result ≡ true → All IsOfFew images.now }
     ensures many { All IsOfFew images.now → result ≡ true }
@@ -94,7 +94,7 @@ pub fn are_of_few(images: &[ImageObjects]) -> bool
     true
 }
 
-/// All linked images, each as it is read from the file that is written of it.
+/// All linked images, each read from its written file.
 fn images_again(alloc: Global, all: Vec<Linked>) -> Result<Vec<Image>, AllocError>
     requires { All (λ linked. HoldsTls (outline_of linked.image)) all.items }
     ensures read { IfOk result (λ images. images.items ≡ map read_back all.items) }
@@ -107,7 +107,7 @@ fn images_again(alloc: Global, all: Vec<Linked>) -> Result<Vec<Image>, AllocErro
     Ok(images)
 }
 
-/// A linked image, as it is read from the file that is written of it.
+/// A linked image, read from its written file.
 fn image_again(alloc: Global, linked: Linked) -> Result<Image, AllocError>
     requires { HoldsTls (outline_of linked.image) }
     ensures read { IfOk result (λ image. image ≡ read_back linked) }

@@ -1,4 +1,4 @@
-//! What is told of a run.
+//! How a run is printed.
 
 ghost use Rattle.std.specs.Prelude.{◌≡◌, All, IfOk};
 ghost use Rattle.transcript_text.specs.Texts.{IsImageNumber, transcript_text};
@@ -9,12 +9,12 @@ use run_summary::{SiteCounts, summary};
 use std::alloc::{AllocError, Global};
 use transcript_text::Transcript;
 
-/// What is told of a run.
+/// How a run is printed.
 #[derive(Clone, Copy)]
 pub enum Telling {
     /// Its transcript.
     Transcript,
-    /// One line of numbers, about the job of `gen count`.
+    /// One line of numbers, for the job of `gen count`.
     Summary { count: u32 },
 }
 
@@ -33,7 +33,7 @@ pub fn text_of_transcript(
 }
 
 impl Telling {
-    /// The text of a run, whose images have so many sites.
+    /// The text of a run; `counts` are the numbers of sites in its images.
     pub fn text(
         self,
         alloc: Global,

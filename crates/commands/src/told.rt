@@ -1,7 +1,8 @@
-//! What is told of a job: how it is refused, and where its images all link what is asked of it.
+//! The chain of steps of a command about a job, from its file to images that all link.
 //!
-//! The steps are those of `run`, `check`, `link` and `sites`, and of `gen`, which begins with files that it made. What is
-//! asked (`Purpose`) says what the last step does (`endings`).
+//! `run`, `check`, `link` and `sites` take these steps, and so does `gen`, which begins with files that it
+//! made. The command (`Purpose`) decides only the last step (`endings`). Each function returns the
+//! command's output, or a refusal.
 ghost use Rattle.std.specs.Prelude.{◌≡◌, ℕ, List, IfSome, Some, Ok, map};
 ghost use Rattle.command_line.specs.Rewritings.{is_allowed};
 ghost use Rattle.command_replies.specs.Faults.{NoStoreFault, StoreCounts};
@@ -30,7 +31,7 @@ use ports::Store;
 use std::alloc::Global;
 use std::thread::Threads;
 
-/// What is told of the job in the file of that name.
+/// Fetches the job in the file of that name, and goes on.
 pub fn told<R: Threads + Sync, S: Store>(
     rt: &R,
     alloc: Global,
@@ -52,7 +53,7 @@ pub fn told<R: Threads + Sync, S: Store>(
     }
 }
 
-/// What is told of the job of a text.
+/// Reads the job of a text, and goes on.
 fn told_of_text<R: Threads + Sync, S: Store>(
     rt: &R,
     alloc: Global,
@@ -75,7 +76,7 @@ fn told_of_text<R: Threads + Sync, S: Store>(
     }
 }
 
-/// What is told of a job. It is refused for an image that it does not have before any object is fetched.
+/// Fetches the objects of a job, and goes on. An image that the job does not have is refused before that.
 fn told_of_job<R: Threads + Sync, S: Store>(
     rt: &R,
     alloc: Global,
@@ -98,7 +99,7 @@ fn told_of_job<R: Threads + Sync, S: Store>(
     }
 }
 
-/// What is told of a job whose objects are fetched.
+/// Goes on with a job whose objects are fetched.
 fn told_of_objects<R: Threads + Sync, S: Store>(
     rt: &R,
     alloc: Global,
@@ -120,7 +121,7 @@ fn told_of_objects<R: Threads + Sync, S: Store>(
     told_of_files(rt, alloc, job, &files, rewriting, ending)
 }
 
-/// What is told of a job that has these files.
+/// Reads these files of a job, and goes on.
 pub fn told_of_files<R: Threads + Sync>(
     rt: &R,
     alloc: Global,
@@ -142,7 +143,7 @@ pub fn told_of_files<R: Threads + Sync>(
     }
 }
 
-/// What is told of a job whose images are these.
+/// Links these images of a job, and ends the command.
 fn told_of_images<R: Threads + Sync>(
     rt: &R,
     alloc: Global,

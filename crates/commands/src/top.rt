@@ -15,8 +15,8 @@ use std::alloc::Global;
 use std::sync::Wait;
 use std::thread::Threads;
 
-/// Reads the words, which hold no program name, and answers the command that they are: puts its output, or the one line
-/// that says why there is none, and gives the status to end with.
+/// Reads the words, without the program's name, and runs their command: puts its output, or the one line that says why
+/// there is none, and returns the status to end with.
 #[tactic(auto, using(crate::proofs::Words::asked_late, crate::proofs::Words::asked_usage, crate::proofs::Words::shows_command, crate::proofs::Words::asked_command, crate::proofs::Words::leave_command, crate::proofs::Words::leave_usage, crate::proofs::Words::leave_late, crate::proofs::Completing::words_complete, crate::proofs::Completing::usage_completes, crate::proofs::Completing::late_completes))]
 pub fn tlsld<R: Threads + Wait + Sync, S: Store, K: Sink>(
     rt: &R,
@@ -45,7 +45,7 @@ pub fn tlsld<R: Threads + Wait + Sync, S: Store, K: Sink>(
     }
 }
 
-/// Answers a command.
+/// Runs a command and puts its answer.
 fn command_shown<R: Threads + Wait + Sync, S: Store, K: Sink>(
     rt: &R,
     alloc: Global,
@@ -73,7 +73,7 @@ fn command_shown<R: Threads + Wait + Sync, S: Store, K: Sink>(
     }
 }
 
-/// Answers a command that waits for nobody.
+/// Runs a command that waits for no other thread.
 #[tactic(auto, using(crate::proofs::Kept::answer_kept))]
 pub fn tlsld_plain<R: Threads + Sync, S: Store, K: Sink>(
     rt: &R,
@@ -100,7 +100,7 @@ pub fn tlsld_plain<R: Threads + Sync, S: Store, K: Sink>(
     deliver(out, &answer)
 }
 
-/// Answers `race`, whose threads wait for one another.
+/// Runs `race`, whose threads wait for one another.
 #[tactic(auto, using(crate::proofs::Kept::answer_kept))]
 fn race_shown<R: Threads + Wait + Sync, S: Store, K: Sink>(
     rt: &R,
@@ -127,7 +127,7 @@ fn race_shown<R: Threads + Wait + Sync, S: Store, K: Sink>(
     deliver(out, &raced)
 }
 
-/// Puts the line for words that are not taken.
+/// Puts the line for words that are not accepted.
 fn say_usage<K: Sink>(out: &mut K) -> u8
     ensures usage { UsageShown false result }
     ensures shows { ShowsWords untold_files untold_files None (K.view out.old) (K.view out.new) result }

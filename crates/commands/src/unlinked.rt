@@ -1,4 +1,4 @@
-//! Refusals of objects and of images that do not link, as the command has them.
+//! Turns refusals of objects and of images that do not link into faults of a command.
 ghost use Rattle.command_replies.specs.Faults.{IsNoStoreFault};
 ghost use Rattle.commands.specs.Refusals.{IsImageRefusalOf, IsReadRefusalOf, NamesImage};
 
@@ -7,7 +7,7 @@ use job_link::{ImageRefusal, ReadRefusal};
 use job_text::Job;
 use std::alloc::{AllocError, Global};
 
-/// The fault of a command whose objects are not read.
+/// The fault of a command for objects that cannot be read.
 pub fn unread(alloc: Global, refusal: ReadRefusal) -> CommandFault
     ensures says { IsReadRefusalOf refusal.entry result }
     ensures cause { IsNoStoreFault result }
@@ -31,7 +31,7 @@ pub fn unread(alloc: Global, refusal: ReadRefusal) -> CommandFault
     }
 }
 
-/// The fault of a command whose images do not link.
+/// The fault of a command for images that do not link.
 pub fn unlinked(alloc: Global, job: &Job, refusal: ImageRefusal) -> CommandFault
     requires { NamesImage job.now refusal }
     ensures says { IsImageRefusalOf job.now refusal result }

@@ -17,7 +17,8 @@ signed_at at bytes = cast_signed w64 (number_at 8 at bytes)
 unfoldable pub part_at : ℕ → ℕ → List ℕ → List ℕ
 part_at n at bytes = take n (drop at bytes)
 
--- what a reader of records of this size answers: None exactly where the record would pass the end, else the record there
+-- what a reader of records of this size returns: None exactly where the record would pass the
+-- end, else the record there
 abbrev pub IsReadAt : {R : Type 0} → ℕ → (ℕ → List ℕ → R) → List ℕ → ℕ → Option R → Type 0
 IsReadAt size record_at bytes at result =
     result ≡ (if nat_le (at + size) (length bytes) then Some (record_at at bytes) else None)
@@ -26,11 +27,11 @@ IsReadAt size record_at bytes at result =
 unfoldable pub bytes_of : ℕ → ℕ → List ℕ
 bytes_of n x = little_bytes n x
 
--- the bytes with others in place of those that stand at that offset
+-- the bytes, with others written over them from that offset on
 unfoldable pub splice : ℕ → List ℕ → List ℕ → List ℕ
 splice at new bytes = take at bytes ++ (new ++ drop (at + length new) bytes)
 
--- the bytes of a row of fields, each given by its width and its value
+-- the bytes of a row of fields; each field is given by its width and its value
 unfoldable pub spelled : List (ℕ × ℕ) → List ℕ
 spelled [] = []
 spelled (f ∷ fs) = bytes_of f.0 f.1 ++ spelled fs
@@ -45,7 +46,7 @@ abbrev pub FitAll : List (ℕ × ℕ) → Type 0
 FitAll [] = Unit {0}
 FitAll (f ∷ fs) = (f.1 < 256 ^ f.0) × FitAll fs
 
--- a row of fields reads as their values, from k bytes behind `at` on
+-- a row of fields reads as their values, from k bytes past `at` on
 abbrev pub Reads : ℕ → ℕ → List (ℕ × ℕ) → List ℕ → Type 0
 Reads at k [] bytes = Unit {0}
 Reads at k (f ∷ fs) bytes = (number_at f.0 (at + k) bytes ≡ f.1) × Reads at (k + f.0) fs bytes

@@ -1,6 +1,5 @@
--- The laws of `Fields`, which crates above cite: numbers and bytes at an offset, seen in a part of a list, in lists
--- joined and
--- beside what was written; and fields that were written, read again.
+-- The laws of `Fields`, which crates above cite: numbers and bytes at an offset, in a part of a list, in joined lists
+-- and next to what was written; and fields that were written and are read again.
 use Rattle.std.proofs.Common.{ℕ, zero, suc, ◌+◌, ◌-◌, ◌^◌, ◌<◌, ◌≤◌, ◌≡◌, List, [], ◌∷◌, ◌++◌, length, take, drop}
 use Rattle.std.proofs.Common.{slice_index, slice_range, refl, sym, ap, ◌∙◌, arith, append_assoc, length-append}
 use Rattle.std.proofs.Common.{length-drop, zero-add}
@@ -10,7 +9,7 @@ use Rattle.byteorder.specs.Endian.{little_from}
 use Rattle.byteorder.specs.Numbers.{length-bytes_low_first, little_from-lt, little_from-take, little_number-reads_back}
 use Rattle.elf_records.specs.Fields.{FitAll, Reads, ReadsAll, bytes_of, number_at, part_at, spelled, splice, width}
 
--- a number read behind the first i bytes is a number i bytes further on
+-- a number read after the first i bytes is a number i bytes further on
 pub number_at-drop : (n at i : ℕ) (xs : List ℕ) → number_at n at (drop i xs) ≡ number_at n (i + at) xs
 unfolding number_at
 number_at-drop zero at i xs = refl
@@ -20,7 +19,7 @@ number_at-drop (suc n) at i xs =
     let next : i + suc at ≡ suc (i + at) = omega arith in
     rw (byte, rest, next) refl
 
--- a number reads no byte behind its own
+-- a number depends on no byte after its own
 pub number_at-take : (n at m : ℕ) (xs : List ℕ) → at + n ≤ m → number_at n at (take m xs) ≡ number_at n at xs
 unfolding number_at
 number_at-take n at m xs within = little_from-take at n m xs within
@@ -30,20 +29,20 @@ pub number_at-part : (n at i j : ℕ) (xs : List ℕ) → at + n ≤ j - i
     → number_at n at (slice_range xs i j) ≡ number_at n (i + at) xs
 number_at-part n at i j xs within = number_at-take n at (j - i) (drop i xs) within ∙ number_at-drop n at i xs
 
--- the same of a field that stands k bytes behind an offset
+-- the same of a field that stands k bytes past an offset
 pub number_at-field : (n k at i j : ℕ) (xs : List ℕ) → at + k + n ≤ j - i
     → number_at n (at + k) (slice_range xs i j) ≡ number_at n (i + at + k) xs
 number_at-field n k at i j xs within =
     let further : i + (at + k) ≡ i + at + k = omega arith in
     number_at-part n (at + k) i j xs within ∙ ap (λ p. number_at n p xs) further
 
--- a number inside m bytes is read from those bytes alone
+-- a number inside m bytes depends only on those bytes
 pub number_at-own : (n k m at : ℕ) (xs : List ℕ) → k + n ≤ m
     → number_at n k (part_at m at xs) ≡ number_at n (at + k) xs
 unfolding part_at
 number_at-own n k m at xs within = number_at-take n k m (drop at xs) within ∙ number_at-drop n k at xs
 
--- bytes behind a number change nothing
+-- bytes after a number change nothing
 pub number_at-append : (n at : ℕ) (xs ys : List ℕ) → at + n ≤ length xs
     → number_at n at (xs ++ ys) ≡ number_at n at xs
 number_at-append n at xs ys within =
@@ -52,7 +51,7 @@ number_at-append n at xs ys within =
     ∙ ap (number_at n at) (take-append-le (length xs) xs ys inside)
     ∙ number_at-take n at (length xs) xs within
 
--- bytes in front of a number only move it on
+-- bytes before a number only move it on
 pub number_at-behind : (n at : ℕ) (xs ys : List ℕ) → number_at n (length xs + at) (xs ++ ys) ≡ number_at n at ys
 number_at-behind n at xs ys =
     sym (number_at-drop n at (length xs) (xs ++ ys)) ∙ ap (number_at n at) (drop_at xs ys (length xs) refl)
@@ -70,12 +69,12 @@ number_at-rest n at xs =
     let start : at + 0 ≡ at = omega arith in
     ap (little_from 0 n) (take_rest xs at) ∙ number_at-drop n 0 at xs ∙ ap (λ i. number_at n i xs) start
 
--- bytes behind the first i are bytes i further on in the whole
+-- bytes after the first i are bytes i further on in the whole
 pub part_at-drop : (n at i : ℕ) (xs : List ℕ) → part_at n at (drop i xs) ≡ part_at n (i + at) xs
 unfolding part_at
 part_at-drop n at i xs = ap (take n) (drop-drop at i xs)
 
--- bytes inside m bytes are taken from those alone
+-- bytes inside m bytes are taken only from those
 pub part_at-own : (n k m at : ℕ) (xs : List ℕ) → k + n ≤ m
     → part_at n k (part_at m at xs) ≡ part_at n (at + k) xs
 unfolding part_at
@@ -87,7 +86,7 @@ part_at-own n k m at xs within =
     ∙ take-take n (m - k) (drop k (drop at xs)) enough
     ∙ ap (take n) (drop-drop k at xs)
 
--- no byte behind the bytes counts
+-- bytes after the part do not matter
 pub part_at-take : (n at m : ℕ) (xs : List ℕ) → at + n ≤ m → part_at n at (take m xs) ≡ part_at n at xs
 unfolding part_at
 part_at-take n at m xs within = part_at-own n at m 0 xs within ∙ ap (λ p. part_at n p xs) (zero-add at)
@@ -104,7 +103,7 @@ part_at-part n at i j xs within =
     ∙ take-take n (j - i - at) (drop at (drop i xs)) enough
     ∙ ap (take n) (drop-drop at i xs)
 
--- bytes behind change nothing
+-- bytes after change nothing
 pub part_at-append : (n at : ℕ) (xs ys : List ℕ) → at + n ≤ length xs
     → part_at n at (xs ++ ys) ≡ part_at n at xs
 unfolding part_at
@@ -123,7 +122,7 @@ pub length-bytes_of : (n x : ℕ) → length (bytes_of n x) ≡ n
 unfolding bytes_of
 length-bytes_of n x = length-bytes_low_first 0 n x
 
--- a number that was written is read again as itself, whatever stands in front and behind
+-- a number that was written is read again as itself, whatever stands before and after
 pub number_again : (n x at : ℕ) (front back : List ℕ) → length front ≡ at → x < 256 ^ n
     → number_at n at (front ++ (bytes_of n x ++ back)) ≡ x
 unfolding number_at bytes_of
@@ -138,7 +137,7 @@ unfolding part_at
 part_again at front part back place =
     rw (drop_at front (part ++ back) at place) (take_at part back (length part) refl)
 
--- the bytes in front of what was written stay
+-- the bytes before what was written stay
 pub take-splice : (at n : ℕ) (new bytes : List ℕ) → n ≤ at → at ≤ length bytes
     → take n (splice at new bytes) ≡ take n bytes
 unfolding splice
@@ -147,7 +146,7 @@ take-splice at n new bytes below inside =
     let fits : n ≤ length (take at bytes) = omega arith in
     take-append-le n (take at bytes) (new ++ drop (at + length new) bytes) fits ∙ take-take n at bytes below
 
--- the bytes behind what was written stay
+-- the bytes after what was written stay
 pub drop-splice : (at n : ℕ) (new bytes : List ℕ) → at + length new ≤ n → at ≤ length bytes
     → drop n (splice at new bytes) ≡ drop n bytes
 unfolding splice
@@ -176,7 +175,7 @@ length-splice at new bytes inside =
     let back = length-drop (at + length new) bytes in
     omega arith
 
--- bytes written right behind others are one writing of both
+-- bytes written right after others are one writing of both
 pub splice_more : (at next : ℕ) (xs ys bytes : List ℕ) → next ≡ at + length xs → at ≤ length bytes
     → splice next ys (splice at xs bytes) ≡ splice at (xs ++ ys) bytes
 unfolding splice
@@ -203,7 +202,7 @@ unfolding splice
 part_at-splice at new bytes inside = part_again at (take at bytes) new (drop (at + length new) bytes)
     (length-take-le at bytes inside)
 
--- bytes in front of what was written stay
+-- bytes before what was written stay
 pub part_at-splice_before : (n i at : ℕ) (new bytes : List ℕ) → i + n ≤ at → at ≤ length bytes
     → part_at n i (splice at new bytes) ≡ part_at n i bytes
 part_at-splice_before n i at new bytes below inside =
@@ -211,7 +210,7 @@ part_at-splice_before n i at new bytes below inside =
     ∙ ap (part_at n i) (take-splice at at new bytes (omega arith) inside)
     ∙ part_at-take n i at bytes below
 
--- bytes behind what was written stay
+-- bytes after what was written stay
 pub part_at-splice_after : (n i at : ℕ) (new bytes : List ℕ) → at + length new ≤ i → at ≤ length bytes
     → part_at n i (splice at new bytes) ≡ part_at n i bytes
 unfolding part_at

@@ -1,6 +1,5 @@
--- What holds of each of the six records, which crates above cite: its size in bytes, that it is read again as it was
--- written,
--- and that it depends on its own bytes alone.
+-- Laws of each of the six records, which crates above cite: its size in bytes, that reading gives what was written, and
+-- that it depends only on its own bytes.
 use Rattle.std.proofs.Common.{ℕ, ◌+◌, ◌-◌, ◌^◌, ◌<◌, ◌≤◌, ◌≡◌, List, ◌++◌, length, take, drop, slice_range, refl, sym}
 use Rattle.std.proofs.Common.{ap, ◌∙◌, arith, add-zero, append_assoc, length-append}
 use Rattle.std.proofs.lemmas.List.{length-take-le}
@@ -48,7 +47,7 @@ pub length-dynamic_bytes : (r : DynamicEntry) → length (dynamic_bytes r) ≡ 1
 unfolding dynamic_bytes
 length-dynamic_bytes r = length-spelled (dynamic_fields r)
 
--- a record that was written behind `front` is read there again as itself
+-- a record that was written after `front` is read there again as itself
 pub header_again : (at : ℕ) (r : Header) (front back : List ℕ) → length front ≡ at → FitsHeader r
     → header_at at (front ++ (header_bytes r ++ back)) ≡ r
 unfolding header_at header_bytes
@@ -142,7 +141,7 @@ dynamic_again at r front back place fits =
     let all = reads_all at (dynamic_fields r) front back place fits in
     rw (all.0, all.1.0) refl
 
--- a record that was written in place of other bytes is read again as itself
+-- a record that was written over other bytes is read again as itself
 pub header_at-splice : (at : ℕ) (r : Header) (bytes : List ℕ) → at ≤ length bytes → FitsHeader r
     → header_at at (splice at (header_bytes r) bytes) ≡ r
 unfolding splice
@@ -179,7 +178,7 @@ unfolding splice
 dynamic_at-splice at r bytes inside fits = dynamic_again at r (take at bytes)
     (drop (at + length (dynamic_bytes r)) bytes) (length-take-le at bytes inside) fits
 
--- a record depends on its own bytes alone
+-- a record depends only on its own bytes
 pub header_at-own : (at : ℕ) (xs : List ℕ) → header_at 0 (part_at 64 at xs) ≡ header_at at xs
 unfolding header_at
 header_at-own at xs = rw (

@@ -31,7 +31,7 @@ header_at at bytes = record {
   e_shstrndx = number_at 2 (at + 62) bytes;
 }
 
--- the fields behind the identification, as their widths and values in the order of the file
+-- the fields after the identification, as their widths and values in the order of the file
 abbrev pub header_fields : Header → List (ℕ × ℕ)
 header_fields r =
     (2, r.e_type) ∷ (2, r.e_machine) ∷ (4, r.e_version) ∷ (8, r.e_entry) ∷ (8, r.e_phoff)
@@ -42,7 +42,7 @@ header_fields r =
 unfoldable pub header_bytes : Header → List ℕ
 header_bytes r = r.ident ++ spelled (header_fields r)
 
--- each field lies in the range of its type, as it does in every record that code holds
+-- each field is in the range of its type, as in every record that code holds
 abbrev pub FitsHeader : Header → Type 0
 FitsHeader r = (length r.ident ≡ 16) × FitAll (header_fields r)
 
@@ -71,7 +71,7 @@ section_fields r =
 unfoldable pub section_bytes : SectionHeader → List ℕ
 section_bytes r = spelled (section_fields r)
 
--- each field lies in the range of its type, as it does in every record that code holds
+-- each field is in the range of its type, as in every record that code holds
 abbrev pub FitsSectionHeader : SectionHeader → Type 0
 FitsSectionHeader r = FitAll (section_fields r)
 
@@ -96,7 +96,7 @@ symbol_fields r =
 unfoldable pub symbol_bytes : SymbolEntry → List ℕ
 symbol_bytes r = spelled (symbol_fields r)
 
--- each field lies in the range of its type, as it does in every record that code holds
+-- each field is in the range of its type, as in every record that code holds
 abbrev pub FitsSymbolEntry : SymbolEntry → Type 0
 FitsSymbolEntry r = FitAll (symbol_fields r)
 
@@ -116,7 +116,7 @@ rela_fields r = (8, r.offset) ∷ (8, r.info) ∷ (8, cast_unsigned w64 r.addend
 unfoldable pub rela_bytes : Rela → List ℕ
 rela_bytes r = spelled (rela_fields r)
 
--- each field lies in the range of its type, as it does in every record that code holds
+-- each field is in the range of its type, as in every record that code holds
 abbrev pub FitsRela : Rela → Type 0
 FitsRela r = FitAll ((8, r.offset) ∷ (8, r.info) ∷ []) × FitsSigned w64 r.addend
 
@@ -143,7 +143,7 @@ segment_fields r =
 unfoldable pub segment_bytes : Segment → List ℕ
 segment_bytes r = spelled (segment_fields r)
 
--- each field lies in the range of its type, as it does in every record that code holds
+-- each field is in the range of its type, as in every record that code holds
 abbrev pub FitsSegment : Segment → Type 0
 FitsSegment r = FitAll (segment_fields r)
 
@@ -162,7 +162,7 @@ dynamic_fields r = (8, r.tag) ∷ (8, r.value) ∷ []
 unfoldable pub dynamic_bytes : DynamicEntry → List ℕ
 dynamic_bytes r = spelled (dynamic_fields r)
 
--- each field lies in the range of its type, as it does in every record that code holds
+-- each field is in the range of its type, as in every record that code holds
 abbrev pub FitsDynamicEntry : DynamicEntry → Type 0
 FitsDynamicEntry r = FitAll (dynamic_fields r)
 

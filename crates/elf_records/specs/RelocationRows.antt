@@ -1,5 +1,5 @@
--- The table of relocation types (psABI, "Relocation Types"; those of thread-local storage: Drepper, "ELF Handling For
--- Thread-Local Storage", section 4), and what is asked of a type by its row.
+-- The table of relocation types (psABI, "Relocation Types"; for thread-local storage: Drepper, "ELF Handling For
+-- Thread-Local Storage", section 4), and the questions that a row answers.
 use Rattle.std.specs.Prelude.{ℕ, Bool, true, false}
 use Rattle.elf_records.specs.declared.relocation.RelocationKind.{RelocationKind}
 use Rattle.elf_records.specs.declared.relocation.RelocationKind.TheVariants.{Nothing, Absolute64, Pc32, Plt32}
@@ -41,8 +41,8 @@ row_of value form symbol place entry part replaced refused = record {
   refused = refused;
 }
 
--- the table, by the psABI's letters; of offsets in a segment of thread-local storage, O is the symbol's, and B how far
--- the segment's block begins below the thread pointer
+-- the table, by the psABI's letters; O is a symbol's offset in the TLS segment, and B how far the segment's block
+-- begins below the thread pointer
 abbrev pub row : RelocationKind → RelocationRow
 -- nothing
 row Nothing = row_of NoValue NoField NoSymbol Anywhere NoEntry NoPart Never Accepted
@@ -86,7 +86,7 @@ form_width Signed32 = 4
 form_width Unsigned32 = 4
 form_width Wrapped64 = 8
 
--- it stands in executable sections alone
+-- it stands only in executable sections
 abbrev pub IsInCode : FieldPlace → Type 0
 IsInCode Anywhere = ⊥
 IsInCode InCode = Unit {0}
@@ -99,7 +99,7 @@ is_wide form = false
 abbrev pub is_absolute : RelocationKind → Bool
 is_absolute kind = is_wide (row kind).form
 
--- those whose field holds how far a symbol is from it
+-- the types whose field holds the distance from the field to a symbol
 abbrev pub is_place_distance : FieldValue → Bool
 is_place_distance Distance = true
 is_place_distance value = false
@@ -107,7 +107,7 @@ is_place_distance value = false
 abbrev pub is_distance : RelocationKind → Bool
 is_distance kind = is_place_distance (row kind).value
 
--- those whose field holds an offset in a segment of thread-local storage
+-- the types whose field holds an offset in a TLS segment
 abbrev pub is_tls_offset : FieldValue → Bool
 is_tls_offset SegmentOffset = true
 is_tls_offset ThreadOffset = true
@@ -116,7 +116,7 @@ is_tls_offset value = false
 abbrev pub is_offset : RelocationKind → Bool
 is_offset kind = is_tls_offset (row kind).value
 
--- those whose field holds a number of the program's own: no table that a linker makes enters
+-- the types whose field holds an address, a distance or a thread offset, with no table of the linker involved
 abbrev pub is_own_value : FieldValue → Bool
 is_own_value Address = true
 is_own_value Distance = true
@@ -136,7 +136,7 @@ is_named role = true
 abbrev pub names_symbol : RelocationKind → Bool
 names_symbol kind = is_named (row kind).symbol
 
--- the types of thread-local storage
+-- the types for thread-local storage
 abbrev pub is_variable : SymbolRole → Bool
 is_variable OwnVariable = true
 is_variable AnyVariable = true
@@ -145,7 +145,7 @@ is_variable role = false
 abbrev pub is_tls_kind : RelocationKind → Bool
 is_tls_kind kind = is_variable (row kind).symbol
 
--- the types that another image's variable may be reached by: the loader fills in what they need
+-- the types that may name another image's variable: the loader fills in what they need
 abbrev pub is_any_variable : SymbolRole → Bool
 is_any_variable AnyVariable = true
 is_any_variable role = false
@@ -163,7 +163,7 @@ is_entry entry = true
 abbrev pub reaches_entry : RelocationKind → Bool
 reaches_entry kind = is_entry (row kind).entry
 
--- those whose field reaches a word with an address
+-- the types whose field reaches an entry that holds an address
 abbrev pub is_address_word : TableEntry → Bool
 is_address_word AddressWord = true
 is_address_word entry = false

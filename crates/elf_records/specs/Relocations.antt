@@ -14,7 +14,7 @@ use Rattle.elf_records.specs.declared.relocation.RelocationKind.TheVariants.{TpO
 use Rattle.elf_records.specs.declared.relocation.RelocationKind.TheVariants.{GotPcRelX, RexGotPcRelX}
 use Rattle.elf_records.specs.RelocationRows.{row, form_width, IsInCode}
 
--- the type of a number
+-- the type with this number
 abbrev pub relocation_kind : ℕ → Option RelocationKind
 relocation_kind n =
     if n == R_X86_64_NONE then Some Nothing else
@@ -39,11 +39,11 @@ relocation_kind n =
 abbrev pub field_width : RelocationKind → ℕ
 field_width kind = form_width (row kind).form
 
--- the type belongs to an instruction, so it stands in executable sections alone
+-- the type belongs to an instruction, so it stands only in executable sections
 abbrev pub IsOfCode : RelocationKind → Type 0
 IsOfCode kind = IsInCode (row kind).place
 
--- the field's width, 0 for a number that is no type of the list
+-- the field's width; 0 for a number that is not a type of the list
 abbrev pub width_of : Option RelocationKind → ℕ
 width_of None = 0
 width_of (Some kind) = field_width kind

@@ -1,9 +1,9 @@
-//! Alignments of what a file asks to be loaded (gABI, "Sections" and "Program Header").
+//! Alignments of loaded sections and segments (gABI, "Sections" and "Program Header").
 
 ghost use Rattle.std.specs.Prelude.{◌↔◌, IsTrue};
 ghost use Rattle.elf_records.specs.Alignments.{IsAlignment};
 
-/// The greatest alignment that is taken, the size of a page.
+/// The greatest alignment that is accepted, the size of a page.
 const ALIGNMENT_LIMIT: u64 = 4_096;
 
 /// Whether this is an alignment: a power of two up to 4,096.

@@ -64,7 +64,7 @@ pub fn put_bytes(bytes: &mut [u8], at: usize, part: &[u8])
     bytes[at..at + part.len()].copy_from_slice(part);
 }
 
-// The clause `fits` tells a record's writer that the field is in its type's range.
+// The clause `fits` tells the writer of a record that the field's value is in the range of its type.
 pub fn put_u8(bytes: &mut [u8], at: usize, value: u8)
     requires { at + 1 ≤ length bytes.old }
     ensures written { bytes.new ≡ splice at (bytes_of 1 value) bytes.old }

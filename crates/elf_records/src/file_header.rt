@@ -19,7 +19,7 @@ pub const ET_EXEC: u16 = 2;
 pub const ET_DYN: u16 = 3;
 /// The x86-64 processor.
 pub const EM_X86_64: u16 = 62;
-/// The one version of the format that there is.
+/// The only version of the format.
 pub const EV_CURRENT: u32 = 1;
 
 /// The header of an ELF file: what the file is, and where its two tables of headers lie.

@@ -23,8 +23,8 @@
 //! - `read_rela(bytes, at)` is `None` exactly where the record would pass the end of `bytes`. Any offset may be asked
 //!   for, up to 2^64 - 1. Else it is the record whose fields stand there; no field is judged, and every 24 bytes are
 //!   some entry.
-//! - `write_rela(&entry, bytes, at)` asks that the record fits, as [`fits`] tests. It is then read again as `entry`,
-//!   and no other byte changes.
+//! - `write_rela(&entry, bytes, at)` requires that the record fits, as [`fits`] tests. It is then read again as
+//!   `entry`, and no other byte changes.
 //!
 //! The other five pairs do the same for their record. No call takes memory. Numbers with a name in the standard, as
 //! `SHT_RELA` or `R_X86_64_TLSGD`, are constants in the module of their record.

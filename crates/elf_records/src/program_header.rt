@@ -11,9 +11,9 @@ use crate::field::{fits, put_u32, put_u64, u32_at, u64_at};
 pub const PT_LOAD: u32 = 1;
 /// The dynamic array.
 pub const PT_DYNAMIC: u32 = 2;
-/// What each thread's block of this image begins with.
+/// The TLS segment: the initial image of each thread's block.
 pub const PT_TLS: u32 = 7;
-/// A part that is written by the loader alone.
+/// A part that only the loader writes.
 pub const PT_GNU_RELRO: u32 = 0x6474_e552;
 
 // Segment flags (gABI, "Segment Permissions").
@@ -41,7 +41,7 @@ pub struct Segment {
     pub filesz: u64,
     /// How many bytes of memory it has; those past `filesz` are zeros.
     pub memsz: u64,
-    /// A power of two of which the address, like the offset in the file, keeps the remainder.
+    /// A power of two; the address and the offset in the file leave the same remainder.
     pub align: u64,
 }
 

@@ -7,44 +7,44 @@ ghost use Rattle.elf_records.specs.Relocations.{relocation_kind, width_of};
 
 use crate::field::{fits, i64_at, put_i64, put_u64, u64_at};
 
-// Relocation types, by what they write: S is the symbol's place, A the addend, P the place of the field, G the place
-// of the symbol's entry in the GOT (psABI, "Relocation Types"). TLS types: psABI, "Thread-Local Storage", and
-// Drepper's TLS paper.
+// Relocation types, by what they write: S is the symbol's address, A the addend, P the address of the field, G the
+// address of the symbol's entry in the GOT (psABI, "Relocation Types"). TLS types: psABI, "Thread-Local Storage",
+// and Drepper's TLS paper.
 /// Nothing.
 pub const R_X86_64_NONE: u32 = 0;
 /// S + A, in 64 bits.
 pub const R_X86_64_64: u32 = 1;
 /// S + A - P, in 32 bits.
 pub const R_X86_64_PC32: u32 = 2;
-/// As `R_X86_64_PC32`, to a function that may be called through a table.
+/// As `R_X86_64_PC32`, for a function that may be called through the procedure linkage table.
 pub const R_X86_64_PLT32: u32 = 4;
 /// In an image: the address of a function of another image.
 pub const R_X86_64_JUMP_SLOT: u32 = 7;
-/// In an image: how far it was moved, plus A.
+/// In an image: how far the loader moved it, plus A.
 pub const R_X86_64_RELATIVE: u32 = 8;
 /// G + A - P, in 32 bits.
 pub const R_X86_64_GOTPCREL: u32 = 9;
-/// S + A, in 32 bits without a sign.
+/// S + A, in 32 bits, unsigned.
 pub const R_X86_64_32: u32 = 10;
-/// S + A, in 32 bits with a sign.
+/// S + A, in 32 bits, signed.
 pub const R_X86_64_32S: u32 = 11;
 /// In an image: the number of the module that holds the symbol.
 pub const R_X86_64_DTPMOD64: u32 = 16;
 /// In an image: the symbol's offset in its module's TLS block.
 pub const R_X86_64_DTPOFF64: u32 = 17;
-/// In an image: the symbol's distance from the thread pointer.
+/// In an image: the symbol's offset from the thread pointer.
 pub const R_X86_64_TPOFF64: u32 = 18;
-/// G + A - P, of a pair in the GOT: the symbol's module and its offset there.
+/// G + A - P, where G is a pair in the GOT: the symbol's module and its offset there.
 pub const R_X86_64_TLSGD: u32 = 19;
-/// G + A - P, of a pair in the GOT: this module, and 0.
+/// G + A - P, where G is a pair in the GOT: this module, and 0.
 pub const R_X86_64_TLSLD: u32 = 20;
 /// The symbol's offset in this module's TLS block, plus A.
 pub const R_X86_64_DTPOFF32: u32 = 21;
-/// G + A - P, of a GOT entry with the symbol's distance from the thread pointer.
+/// G + A - P, where G is a GOT entry with the symbol's offset from the thread pointer.
 pub const R_X86_64_GOTTPOFF: u32 = 22;
-/// The symbol's distance from the thread pointer, plus A.
+/// The symbol's offset from the thread pointer, plus A.
 pub const R_X86_64_TPOFF32: u32 = 23;
-/// G + A - P, of the symbol's TLS descriptor.
+/// G + A - P, where G is the symbol's TLS descriptor.
 pub const R_X86_64_GOTPC32_TLSDESC: u32 = 34;
 /// No field: marks the call through a TLS descriptor.
 pub const R_X86_64_TLSDESC_CALL: u32 = 35;
@@ -77,7 +77,7 @@ pub enum RelocationKind {
 }
 
 impl RelocationKind {
-    /// The type of a number.
+    /// The type with this number.
     #[inline]
     pub fn numbered(number: u32) -> Option<RelocationKind>
         ensures { result ≡ relocation_kind number }
@@ -104,7 +104,7 @@ impl RelocationKind {
     }
 }
 
-/// How many bytes the field of a relocation of this type has; 0 for a number that is no [`RelocationKind`].
+/// How many bytes the field of a relocation of this type has; 0 for a number that is not a [`RelocationKind`].
 #[inline]
 pub fn width_of(number: u32) -> u64
     ensures { result ≡ width_of (relocation_kind number) }
@@ -123,7 +123,7 @@ pub struct Rela {
     pub offset: u64,
     /// The symbol's number times 2^32, plus the relocation's type.
     pub info: u64,
-    /// A number that is added to the symbol's value.
+    /// The addend, which is added to the symbol's value.
     pub addend: i64,
 }
 

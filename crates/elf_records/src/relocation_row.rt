@@ -1,5 +1,5 @@
-//! The table of relocation types: what linking asks of each type that it takes from an object (psABI, "Relocation
-//! Types"; those of thread-local storage: Drepper, "ELF Handling For Thread-Local Storage", section 4).
+//! The table of relocation types: what the linker does with each type that it takes from an object (psABI, "Relocation
+//! Types"; for thread-local storage: Drepper, "ELF Handling For Thread-Local Storage", section 4).
 
 ghost use Rattle.std.specs.Prelude.{◌≡◌, ◌↔◌, IsTrue};
 ghost use Rattle.elf_records.specs.RelocationRows.{row, form_width, is_absolute, is_address_kind, is_distance};
@@ -18,9 +18,9 @@ use SequencePart::*;
 use SymbolRole::*;
 use TableEntry::*;
 
-/// What the field holds: S is the symbol's place, A the addend, P the place of the field, G the place of the entry in
-/// the global offset table, O the symbol's offset in its segment of thread-local storage, and B how far the segment's
-/// block begins below the thread pointer.
+/// What the field holds: S is the symbol's address, A the addend, P the address of the field, G the address of the
+/// entry in the global offset table, O the symbol's offset in the TLS segment, and B how far the segment's block
+/// begins below the thread pointer.
 #[derive(Clone, Copy, PartialEq, Eq, Debug)]
 pub enum FieldValue {
     /// Nothing.
@@ -35,7 +35,7 @@ pub enum FieldValue {
     SegmentOffset,
     /// O + A - B.
     ThreadOffset,
-    /// G + A - P, of a descriptor.
+    /// G + A - P, where G is a TLS descriptor.
     DescriptorDistance,
 }
 
@@ -52,7 +52,7 @@ pub enum FieldForm {
     Wrapped64,
 }
 
-/// What the relocation may name.
+/// What a relocation of the type may name.
 #[derive(Clone, Copy, PartialEq, Eq, Debug)]
 pub enum SymbolRole {
     /// Nothing.
@@ -61,20 +61,20 @@ pub enum SymbolRole {
     Ordinary,
     /// A thread-local variable of the image itself.
     OwnVariable,
-    /// One of the image itself, or of an image that starts with the program: the loader fills in what it needs.
+    /// A thread-local variable of the image itself or of a startup image: the loader fills in what it needs.
     AnyVariable,
 }
 
-/// Where it may stand.
+/// Where a relocation of the type may stand.
 #[derive(Clone, Copy, PartialEq, Eq, Debug)]
 pub enum FieldPlace {
     /// In any section that linking keeps.
     Anywhere,
-    /// In executable sections alone, since it belongs to an instruction.
+    /// Only in executable sections, since it belongs to an instruction.
     InCode,
 }
 
-/// The entry of the global offset table that G is the place of.
+/// The kind of entry of the global offset table whose address is G.
 #[derive(Clone, Copy, PartialEq, Eq, Debug)]
 pub enum TableEntry {
     NoEntry,
@@ -90,7 +90,7 @@ pub enum TableEntry {
     AddressWord,
 }
 
-/// Which relocation of a sequence of thread-local storage it may be.
+/// Which relocation of a TLS code sequence it may be.
 #[derive(Clone, Copy, PartialEq, Eq, Debug)]
 pub enum SequencePart {
     NoPart,
@@ -100,7 +100,7 @@ pub enum SequencePart {
     Second,
 }
 
-/// Where programs are rewritten: whether the field goes with its sequence.
+/// Whether the field goes with its sequence when a program is relaxed.
 #[derive(Clone, Copy, PartialEq, Eq, Debug)]
 pub enum Replaced {
     Never,
@@ -115,9 +115,9 @@ pub enum Replaced {
 #[derive(Clone, Copy, PartialEq, Eq, Debug)]
 pub enum Refused {
     Accepted,
-    /// A module: it does not know how far its block lies from the thread pointer.
+    /// A module: it does not know how far its TLS block lies from the thread pointer.
     InModule,
-    /// An image that may lie at any address: the field does not hold that of it.
+    /// An image that may be loaded at any address: the field may be too narrow for it.
     WhereMoved,
 }
 
@@ -211,7 +211,7 @@ impl RelocationKind {
         self.row().form.width()
     }
 
-    /// Whether it belongs to an instruction, so that it stands in executable sections alone.
+    /// Whether it belongs to an instruction, so that it stands only in executable sections.
     #[inline(always)]
     pub fn is_of_code(self) -> bool
         ensures { IsTrue result ↔ IsOfCode self }
@@ -235,7 +235,7 @@ impl RelocationKind {
         matches!(self.row().symbol, OwnVariable | AnyVariable)
     }
 
-    /// Whether it may name what another image exports.
+    /// Whether it may name a symbol that another image exports.
     #[inline(always)]
     pub fn may_import(self) -> bool
         ensures { result ≡ may_import self }
@@ -251,7 +251,7 @@ impl RelocationKind {
         matches!(self.row().part, First)
     }
 
-    /// Whether its field reaches an entry of the table.
+    /// Whether its field reaches an entry of the global offset table.
     #[inline(always)]
     pub fn reaches_entry(self) -> bool
         ensures { result ≡ reaches_entry self }
@@ -259,7 +259,7 @@ impl RelocationKind {
         !matches!(self.row().entry, NoEntry)
     }
 
-    /// Whether its field reaches a word with an address.
+    /// Whether its field reaches an entry that holds an address.
     #[inline(always)]
     pub fn reaches_address(self) -> bool
         ensures { result ≡ is_address_kind self }
@@ -267,7 +267,7 @@ impl RelocationKind {
         matches!(self.row().entry, AddressWord)
     }
 
-    /// Whether its field holds an offset in a segment of thread-local storage.
+    /// Whether its field holds an offset in a TLS segment.
     #[inline(always)]
     pub fn is_offset(self) -> bool
         ensures { result ≡ is_offset self }
@@ -275,7 +275,7 @@ impl RelocationKind {
         matches!(self.row().value, SegmentOffset | ThreadOffset)
     }
 
-    /// Whether its field holds a number of the program's own: no table that a linker makes enters.
+    /// Whether its field holds an address, a distance or a thread offset, with no table of the linker involved.
     #[inline(always)]
     pub fn has_value(self) -> bool
         ensures { result ≡ has_value self }
@@ -283,7 +283,7 @@ impl RelocationKind {
         matches!(self.row().value, Address | Distance | ThreadOffset)
     }
 
-    /// Whether its field holds how far a symbol is from it.
+    /// Whether its field holds the distance from the field to a symbol.
     #[inline(always)]
     pub fn is_distance(self) -> bool
         ensures { result ≡ is_distance self }

@@ -7,13 +7,13 @@ ghost use Rattle.elf_records.specs.Records.{section_at, section_bytes, HasBytes}
 use crate::field::{fits, put_u32, put_u64, u32_at, u64_at};
 
 // Section types (gABI, "Section Types").
-/// The header names no section.
+/// The header is unused: it describes no section.
 pub const SHT_NULL: u32 = 0;
-/// Bytes whose meaning is the program's own.
+/// Bytes whose meaning the program decides.
 pub const SHT_PROGBITS: u32 = 1;
 /// A symbol table.
 pub const SHT_SYMTAB: u32 = 2;
-/// A string table: texts, each with a zero byte behind it.
+/// A string table: texts, each with a zero byte after it.
 pub const SHT_STRTAB: u32 = 3;
 /// Relocation entries with an addend.
 pub const SHT_RELA: u32 = 4;
@@ -25,7 +25,7 @@ pub const SHT_NOBITS: u32 = 8;
 pub const SHT_REL: u32 = 9;
 /// A group of sections that are kept or dropped together.
 pub const SHT_GROUP: u32 = 17;
-/// Section numbers that do not fit a symbol's 16 bits.
+/// Section numbers that do not fit in a symbol's 16 bits.
 pub const SHT_SYMTAB_SHNDX: u32 = 18;
 /// Tables for unwinding the stack (psABI, "Special Sections").
 pub const SHT_X86_64_UNWIND: u32 = 0x7000_0001;
@@ -37,11 +37,11 @@ pub const SHF_WRITE: u64 = 0x1;
 pub const SHF_ALLOC: u64 = 0x2;
 /// The section holds code.
 pub const SHF_EXECINSTR: u64 = 0x4;
-/// A linker may keep equal entries once.
+/// A linker may merge equal entries.
 pub const SHF_MERGE: u64 = 0x10;
-/// The entries are texts, each with a zero byte behind it.
+/// The entries are texts, each with a zero byte after it.
 pub const SHF_STRINGS: u64 = 0x20;
-/// Each thread has a copy of the section of its own.
+/// Each thread has its own copy of the section.
 pub const SHF_TLS: u64 = 0x400;
 
 /// An entry of the section header table: what a section is called, what it holds and where its bytes lie in the file.
@@ -59,12 +59,12 @@ pub struct SectionHeader {
     pub offset: u64,
     /// How many bytes the section has; those of [`SHT_NOBITS`] take none of the file.
     pub size: u64,
-    /// Another section: of a symbol table its string table, of relocations their symbol table.
+    /// Another section: for a symbol table its string table, for relocations their symbol table.
     pub link: u32,
-    /// Of a symbol table the number of its first symbol that is not local, of relocations the section that they apply
-    /// to.
+    /// For a symbol table, the number of its first symbol that is not local; for relocations, the
+    /// section that they apply to.
     pub info: u32,
-    /// A power of two of which the address is to be a multiple; 0 and 1 ask for nothing.
+    /// A power of two; the address must be a multiple of it. 0 and 1 require nothing.
     pub addralign: u64,
     /// Bytes that each entry takes, in a section that is a table.
     pub entsize: u64,

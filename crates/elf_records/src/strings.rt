@@ -4,8 +4,8 @@ ghost use Rattle.std.specs.Prelude.{◌≡◌, ◌==◌, ◌+◌, ◌<◌, ◌�
 ghost use Rattle.std.specs.List.{position_or_len};
 ghost use Rattle.elf_records.specs.Strings.{IsNamesEnd, text_at};
 
-/// The offset behind the last zero byte of the string table of `size` bytes at `from`, or 0. A name that begins before
-/// it ends.
+/// The offset after the last zero byte of the string table of `size` bytes at `from`, or 0 if it has none. A name
+/// ends if it begins before this offset.
 pub fn names_end(bytes: &[u8], from: u64, size: u64) -> u64
     requires { from + size ≤ length bytes.now }
     ensures { IsNamesEnd bytes.now from size result }
@@ -27,7 +27,7 @@ fn text_len(bytes: &[u8]) -> usize
         .unwrap_or(bytes.len())
 }
 
-/// The bytes of a string table from an offset on; none past its end.
+/// The bytes of a string table from an offset on; empty past its end.
 fn rest_at(table: &[u8], at: usize) -> &[u8]
     ensures { result.now ≡ drop at table.now }
 {
@@ -46,7 +46,7 @@ pub fn text_at(table: &[u8], at: usize) -> &[u8]
     &rest[..text_len(rest)]
 }
 
-/// The same of a text of at most `limit` bytes; `None` of a longer one. No byte behind the limit is looked at.
+/// The text at an offset, as [`text_at`]; `None` if it has more than `limit` bytes. No byte after the limit is read.
 #[tactic(auto, unfolding(crate::specs::Strings::text_at), using(crate::proofs::TextLengths::longer_than, crate::proofs::TextLengths::is_short))]
 pub fn short_text_at(table: &[u8], at: usize, limit: usize) -> Option<&[u8]>
     ensures { MatchOption result (limit < length (text_at table.now at))

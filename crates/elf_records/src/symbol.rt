@@ -7,15 +7,15 @@ ghost use Rattle.elf_records.specs.Records.{symbol_at, symbol_binding, symbol_by
 use crate::field::{fits, put_u8, put_u16, put_u32, put_u64, u8_at, u16_at, u32_at, u64_at};
 
 // Bindings (gABI, "Symbol Binding").
-/// Seen in its object alone.
+/// Visible only in its object.
 pub const STB_LOCAL: u8 = 0;
-/// Seen by all objects that are linked together.
+/// Visible to all objects that are linked together.
 pub const STB_GLOBAL: u8 = 1;
-/// As a global one, but a global definition goes before it.
+/// Like GLOBAL, but a GLOBAL definition takes precedence.
 pub const STB_WEAK: u8 = 2;
 
 // Types (gABI, "Symbol Types").
-/// Nothing is said.
+/// No type is given.
 pub const STT_NOTYPE: u8 = 0;
 /// Data.
 pub const STT_OBJECT: u8 = 1;
@@ -35,19 +35,19 @@ pub const STT_GNU_IFUNC: u8 = 10;
 // Visibilities, the low two bits of `other` (gABI, "Symbol Visibility").
 /// As the binding says.
 pub const STV_DEFAULT: u8 = 0;
-/// Hidden, and free to be treated further.
+/// Hidden; a processor may give it a further meaning.
 pub const STV_INTERNAL: u8 = 1;
-/// Not seen outside its image.
+/// Not visible outside its image.
 pub const STV_HIDDEN: u8 = 2;
-/// Seen outside, but never replaced from there.
+/// Visible outside its image, but not preempted there.
 pub const STV_PROTECTED: u8 = 3;
 
 // Section numbers with a meaning of their own (gABI, "Special Section Indexes").
 /// The symbol is defined elsewhere.
 pub const SHN_UNDEF: u16 = 0;
-/// The first number that names no section.
+/// The first of the reserved numbers, which name no section.
 pub const SHN_LORESERVE: u16 = 0xff00;
-/// The value is a number that no move changes.
+/// The value is absolute: relocation does not change it.
 pub const SHN_ABS: u16 = 0xfff1;
 /// The symbol is common data, not yet placed.
 pub const SHN_COMMON: u16 = 0xfff2;
@@ -65,8 +65,8 @@ pub struct SymbolEntry {
     pub other: u8,
     /// The section that the symbol is defined in, or a reserved number such as [`SHN_UNDEF`].
     pub shndx: u16,
-    /// In an object the offset in its section. Of a TLS symbol in an image, the offset in the TLS segment; else an
-    /// address.
+    /// In an object, the offset in its section. In an image, the offset in the TLS segment for a TLS
+    /// symbol, else an address.
     pub value: u64,
     /// How many bytes the symbol names, or 0.
     pub size: u64,

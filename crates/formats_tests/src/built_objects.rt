@@ -1,4 +1,4 @@
-//! What is built is an object of the sections and symbols that were given.
+//! A built object has the sections and symbols that were given.
 
 use elf_records::relocation::R_X86_64_TPOFF32;
 use elf_records::section_header::{SHT_RELA, SHT_STRTAB, SHT_SYMTAB};
@@ -8,10 +8,10 @@ use object_builder::{Section, Symbol, draft_of, object_of, rela};
 use std::alloc::{AllocError, Global};
 use std::test::Fail;
 
-/// Where the contents of sections begin: behind the headers of the file and of eight sections.
+/// Where the contents of sections begin: after the headers of the file and of eight sections.
 const CONTENTS: u64 = Header::SIZE + 8 * SectionHeader::SIZE;
 
-/// Of the object below: 13 bytes of contents, one relocation, three symbols, and the names.
+/// The length of the object below: headers, 13 bytes of contents, one relocation, three symbols, and the names.
 const LENGTH: usize = 576 + 13 + 24 + 72 + 5 + 52;
 
 /// An object of a function and of two thread-local variables, one of which has no bytes.
@@ -29,7 +29,7 @@ fn example(alloc: Global) -> Result<Vec<u8>, AllocError> {
     object_of(alloc, &sections, &symbols)
 }
 
-/// The kind of a section; a large number where there is none.
+/// The kind of a section; a large number if there is no such section.
 fn kind_of(bytes: &[u8], number: u64) -> u32 {
     match read_section(bytes, 64 + 64 * (number % 8)) {
         Some(section) => section.kind,
@@ -37,7 +37,7 @@ fn kind_of(bytes: &[u8], number: u64) -> u32 {
     }
 }
 
-/// How many sections a file has, and which holds their names.
+/// How many sections a file has, and which one holds their names.
 fn counts_of(bytes: &[u8]) -> Option<(u16, u16)> {
     let header = read_header(bytes, 0)?;
     Some((header.e_shnum, header.e_shstrndx))

@@ -1,5 +1,5 @@
-//! Every number of the file format that has a name, beside the number itself (gABI; psABI). Definitions cite the names, so a
-//! wrong number would prove; here it is refused where the crate is built.
+//! The names of numbers of the file format, each next to its number (gABI; psABI). Definitions use the names, so a
+//! proof would pass with a wrong number; here a wrong number fails the build.
 
 use elf_records::dynamic::{
     DF_1_PIE, DF_STATIC_TLS, DT_FLAGS, DT_FLAGS_1, DT_HASH, DT_NULL, DT_RELA, DT_RELAENT,

@@ -1,5 +1,5 @@
-//! The reading of an object is refused for want of memory alone, wherever it asks for some, and the same bytes read again
-//! are the object that they spell. They are lent, so nothing can change them. A test that met this says so in a line.
+//! Reading an object fails only when memory runs out, at any point where it allocates, and the same bytes read again
+//! give the object. They are borrowed, so nothing can change them. A test that met such a failure says so in a line.
 
 use crate::objects::example;
 use elf_object::{Object, ObjectFault};
@@ -18,7 +18,7 @@ fn is_example(object: &Object) -> bool {
         && object.symbol_name(2) == b"x".as_slice()
 }
 
-/// Reads the example, and again where that is refused.
+/// Reads the example, and again if the first read fails.
 fn read_twice(rt: &(impl Abort + Print), alloc: Global) -> Result<(), AllocError> {
     let bytes = example(alloc)?;
     let mut answer = Object::read(alloc, &bytes);

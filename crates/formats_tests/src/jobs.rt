@@ -1,11 +1,11 @@
-//! Jobs against the answers that the grammar gives.
+//! Jobs and the answers that the grammar gives.
 
 use crate::objects::same;
 use job_text::{Job, JobFault};
 use std::alloc::Global;
 use std::test::Fail;
 
-/// Jobs and what is wrong with them: the line, the kind, and the job's text with `|` for each line's end.
+/// Jobs with a fault: the line, the kind, and the job's text with `|` for each end of line.
 const FAULTS: &str = "\
 0 NoExe: \n\
 0 NoExe: |\n\
@@ -72,7 +72,7 @@ const FAULTS: &str = "\
 2 Twice: order 1|order 1\n\
 5 Twice: image app exe a.o||#|fuel 1|  fuel   0x2  \n";
 
-/// What is wrong with a job, as the command prints it, or nothing.
+/// What is wrong with a job, as the command prints it; empty if nothing is.
 fn fault_text(alloc: Global, job: &str) -> Result<String, Fail> {
     match Job::read(alloc, job.as_bytes()) {
         Ok(_) => Ok(String::new(alloc)),
@@ -81,7 +81,7 @@ fn fault_text(alloc: Global, job: &str) -> Result<String, Fail> {
     }
 }
 
-/// The text of a job that a table has on one line.
+/// The text of a job from its form on one line.
 fn text_of(alloc: Global, row: &str) -> Result<String, Fail> {
     let mut text = String::new(alloc);
     for line in row.split('|') {
@@ -103,7 +103,7 @@ fn finds_the_first_fault(rt: HostRuntime) -> Result<(), Fail> {
     Ok(())
 }
 
-/// A text that is repeated.
+/// `text`, repeated `count` times.
 fn repeated(alloc: Global, text: &str, count: usize) -> Result<String, Fail> {
     let mut all = String::new(alloc);
     for _ in 0..count {
@@ -139,7 +139,7 @@ const GOOD: &str = "# each group in the order of the job\nimage plug late p.o q.
     2 call lib f 1 0xFFFFFFFFFFFFFFff 0\n1 open plug\n1 peek plug v 4096\n1 close plug\n\
     image more late m.o\n2 open more\n0x1 call app main 0 0 0";
 
-/// What that job says, as Debug prints it.
+/// What that job says, as `Debug` prints it.
 const GOOD_SAID: &str = "\
 2 4294967295 [2, 1, 2]\n[3, 2, 1, 4]\n\
 [\
@@ -161,8 +161,7 @@ const LITTLE_SAID: &str = "\
 [Image { name: Name { text: \"app\" }, kind: Exe, objects: Names { items: [Name { text: \"a.o\" }] } }]\n\
 [ThreadLine { image: 1, action: Open }]\n[]\n";
 
-/// What a job says, as one text: its threads, steps and order, its mentions, its images, and the lines of
-/// two threads.
+/// What a job says, as one text: its threads, steps and order, its mentions, its images, and the lines of two threads.
 fn said(alloc: Global, job: &str) -> Result<String, Fail> {
     let job = Job::read(alloc, job.as_bytes())?;
     let (threads, fuel, order) = (job.threads(), job.fuel(), job.order());
@@ -177,7 +176,7 @@ fn said(alloc: Global, job: &str) -> Result<String, Fail> {
 fn reads_a_job(rt: HostRuntime) -> Result<(), Fail> {
     let found = said(rt.alloc(), GOOD)?;
     same(&rt, found.as_str(), GOOD_SAID, GOOD);
-    // what is not said: one thread, 100,000 steps, and no order
+    // by default a job has one thread, 100,000 steps, and no order
     let found = said(rt.alloc(), "image app exe a.o\n1 open app\n")?;
     same(&rt, found.as_str(), LITTLE_SAID, "a small job");
     Ok(())

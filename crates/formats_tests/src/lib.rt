@@ -1,8 +1,8 @@
-//! Tests of the crates of file formats that use public calls alone: one module a crate.
+//! Tests of the crates for file formats, through public calls only: one module for each crate.
 //!
-//! They stand in a crate of their own, as integration tests do, so that each tested crate is proved only once. Each
-//! tests what no clause says: whether the definitions say what the standards mean, and that a call with ample memory
-//! answers.
+//! They stand in a crate of their own, as integration tests do, so that each tested crate is proved only
+//! once. They test what no clause says: that the definitions agree with the standards, and that a call with
+//! enough memory succeeds.
 #![tactic(auto)]
 
 #[cfg(test)]

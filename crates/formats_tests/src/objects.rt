@@ -1,4 +1,4 @@
-//! Whether the definitions of faults say what the standard means. Each case changes some fields of one small object and
+//! Tests that the definitions of faults agree with the standard. Each case changes some fields of one small object and
 //! gives the answer that a reader of the gABI expects.
 
 use elf_object::{FaultKind, Object, ObjectFault};
@@ -32,8 +32,8 @@ pub(crate) fn example(alloc: Global) -> Result<Vec<u8>, AllocError> {
     object_of(alloc, &sections, &symbols)
 }
 
-/// Where each record of the example begins: the file's header, the headers of sections, behind the contents of
-/// sections the relocations and the symbols, and the last byte of each table of names.
+/// Where each record of the example begins: the file's header; the headers of sections; after the contents of sections,
+/// the relocations and the symbols; and the last byte of each table of names.
 const RECORDS: &str = "\
 h 0
 0 64
@@ -88,8 +88,8 @@ last 0 1
 ";
 
 /// Each line: the answer, `ok` or a section, an entry and a kind; then changes RECORD.FIELD=NUMBER of the example. A
-/// record is the file's header `h`, a section by its number, a symbol `y1`, a relocation `r0`, or the names, whose last
-/// byte can be changed.
+/// record is the file's header `h`, a section's number, a symbol such as `y1`, a relocation such as `r0`, or the names,
+/// whose last byte can be changed.
 const CASES: &str = "\
 // the file as a whole
 0 0 Truncated: h.e_shoff=18446744073709551615
@@ -207,7 +207,7 @@ ok: r1.r_offset=5 r1.r_type=0 r1.r_sym=2
 2 1 RelocRange: r1.r_offset=6 r1.r_type=23 r1.r_sym=2 r0.r_offset=5
 ";
 
-/// What a table has behind a name.
+/// The text after a name in a table.
 fn behind(table: &'static str, name: &str) -> Option<&'static str> {
     for row in table.lines() {
         let (first, rest) = row.split_once(' ')?;
@@ -218,12 +218,12 @@ fn behind(table: &'static str, name: &str) -> Option<&'static str> {
     None
 }
 
-/// A number of a table; a word that is none is a large one.
+/// A number in a table; a word that is not a number gives a large one.
 fn number(word: &str) -> u64 {
     word.parse().unwrap_or(u64::MAX)
 }
 
-/// Writes a number at an offset, in so many bytes, the lowest first.
+/// Writes a number at an offset, in `width` bytes, the lowest first.
 fn put(bytes: &mut [u8], at: u64, width: u64, number: u64) -> Option<()> {
     let mut rest = number;
     for index in 0..width {
@@ -233,7 +233,7 @@ fn put(bytes: &mut [u8], at: u64, width: u64, number: u64) -> Option<()> {
     Some(())
 }
 
-/// Makes a change of the example, if it is one.
+/// Makes a change of the example; `None` if the word is not a change.
 fn change(bytes: &mut [u8], word: &str) -> Option<()> {
     let (place, value) = word.split_once('=')?;
     let (record, field) = place.split_once('.')?;
@@ -251,7 +251,7 @@ fn changed(alloc: Global, words: &str) -> Result<Vec<u8>, Fail> {
     Ok(bytes)
 }
 
-/// What reading answers, as a case writes it.
+/// The answer of reading, as a case writes it.
 fn answer(alloc: Global, bytes: &[u8]) -> Result<String, AllocError> {
     match Object::read(alloc, bytes) {
         Ok(_) => String::from_str(alloc, "ok"),
@@ -266,7 +266,7 @@ fn answer(alloc: Global, bytes: &[u8]) -> Result<String, AllocError> {
     }
 }
 
-/// Compares an answer with the one that a case wants.
+/// Compares an answer with the expected one.
 pub(crate) fn same(rt: &impl Abort, found: &str, want: &str, line: &str) {
     assert!(rt; found == want, "{found} in {line}");
 }
@@ -289,7 +289,7 @@ fn finds_the_first_fault(rt: HostRuntime) -> Result<(), Fail> {
     Ok(())
 }
 
-/// Whether a file is shorter than what its headers speak of.
+/// Whether a file is shorter than its headers say.
 fn is_truncated(alloc: Global, bytes: &[u8]) -> bool {
     match Object::read(alloc, bytes) {
         Err(ObjectFault::At { kind, .. }) => kind == FaultKind::Truncated,
@@ -323,8 +323,8 @@ fn prints_a_fault(rt: HostRuntime) -> Result<(), Fail> {
     Ok(())
 }
 
-/// What no listing of an object prints (`object_listing` prints the rest): the section that programs write, that of the
-/// symbols, that of the relocations of section 1, and the section of which section 2 holds the relocations.
+/// What no listing of an object prints (`object_listing` prints the rest): the section that programs write, the section
+/// of symbols, the section of relocations for section 1, and the section that section 2 relocates.
 fn lent(alloc: Global, bytes: &[u8]) -> Result<String, Fail> {
     let object = Object::read(alloc, bytes)?;
     let (writable, symbols) = (object.writable(), object.symbol_table());
@@ -340,7 +340,7 @@ fn lends_code(alloc: Global, bytes: &[u8]) -> Result<bool, Fail> {
     }
 }
 
-/// Whether the name of symbol 2 has at most so many bytes.
+/// Whether the name of symbol 2 has at most `limit` bytes.
 fn lends_short_name(alloc: Global, bytes: &[u8], limit: usize) -> Result<bool, Fail> {
     let object = Object::read(alloc, bytes)?;
     Ok(object.symbol_count() == 3 && object.short_symbol_name(2, limit).is_some())

@@ -1,8 +1,7 @@
-//! The table of relocation types beside those of the standards, from which each line here is typed: number, field and
-//! calculation from the psABI, "Relocation Types"; what those of thread-local storage name and reach from Drepper, "ELF
-//! Handling For Thread-Local Storage", sections 4.1 to 4.4 and, for descriptors, the psABI, "Thread-Local Storage".
-//! Where a type may stand, its part of a sequence, when it is replaced and what refuses it are rules of this linker, typed
-//! once more.
+//! The table of relocation types, typed once more from the standards: number, field and calculation from the psABI,
+//! "Relocation Types"; what TLS types name and reach from Drepper, "ELF Handling For Thread-Local Storage", sections
+//! 4.1 to 4.4 and, for descriptors, the psABI, "Thread-Local Storage". Where a type may stand, its part of a
+//! sequence, when it is replaced and what refuses it are rules of this linker, typed once more.
 
 use elf_records::RelocationKind;
 use elf_records::relocation_row::{
@@ -10,7 +9,7 @@ use elf_records::relocation_row::{
     TableEntry,
 };
 
-/// The psABI's column "Field"; a `sword32` is one whose sign is kept.
+/// The psABI's column "Field"; a `sword32` is signed.
 macro_rules! field {
     (none) => {
         FieldForm::NoField
@@ -26,7 +25,7 @@ macro_rules! field {
     };
 }
 
-/// The psABI's column "Calculation", and for thread-local storage the operators of an assembler that stand there.
+/// The psABI's column "Calculation"; for thread-local storage, the assembler's operators.
 macro_rules! value {
     (none) => {
         FieldValue::NoValue
@@ -63,8 +62,8 @@ macro_rules! value {
     };
 }
 
-/// A line: number, field, calculation, symbol, place, entry of the global offset table, part of a sequence, where it is
-/// replaced when programs are rewritten, and what refuses it.
+/// A line: number, field, calculation, symbol, place, entry of the global offset table, part of a sequence, when a
+/// relaxed program replaces it, and what refuses it.
 macro_rules! line {
     (
         $number:literal $field:ident ($($value:tt)*) $symbol:ident $place:ident $entry:ident $part:ident
@@ -121,7 +120,7 @@ const LINES: [(u32, RelocationRow); 16] = [
     line!(42 sword32 (G + GOT + A - P) Ordinary InCode AddressWord Second WhereRuntime Accepted),
 ];
 
-/// The row of the type of a number.
+/// The row of the type with this number.
 fn row_of(number: u32) -> Option<RelocationRow> {
     match RelocationKind::numbered(number) {
         Some(kind) => Some(kind.row()),

@@ -1,4 +1,4 @@
--- The table of entries: what each holds, and what the loader does to it (Drepper, "ELF Handling For Thread-Local
+-- The table of entries: what each holds, and what the loader writes to it (Drepper, "ELF Handling For Thread-Local
 -- Storage", sections 3 and 4; psABI, "Relocation Types").
 use Rattle.std.specs.Prelude.{◌+◌, ◌-◌, ◌%◌, ◌^◌, ℕ, List, [], ◌∷◌, Some, None}
 use Rattle.link_faults.specs.declared.image_kind.ImageKind.{ImageKind}
@@ -20,28 +20,28 @@ use Rattle.got_pairs.specs.declared.need.Target.TheVariants.{Here, Import}
 abbrev pub held : ℕ → Word
 held n = record { number = n; relocation = None }
 
--- a number that the loader writes over
+-- a number in the file that the loader overwrites
 abbrev pub loaded : ℕ → DynamicKind → DynamicSymbol → ℕ → Word
 loaded n kind symbol addend =
     record { number = n; relocation = Some (record { kind = kind; symbol = symbol; addend = addend }) }
 
--- no number: what the loader writes needs none
+-- 0 in the file; the loader overwrites it
 abbrev pub filled : DynamicKind → DynamicSymbol → ℕ → Word
 filled = loaded 0
 
--- a number less another, modulo 2^64
+-- a number minus another, modulo 2^64
 abbrev pub less : ℕ → ℕ → ℕ
 less n m = (n + (2 ^ 64 - m)) % 2 ^ 64
 
--- one of three, by what an image is linked as: a program at a fixed address, one at any address, a module
+-- one of three entries, by the kind of image: a program at a fixed address, a program at any address, a module
 abbrev pub by_kind : ImageKind → Entry → Entry → Entry → Entry
 by_kind Exe in_exe in_pie in_module = in_exe
 by_kind Pie in_exe in_pie in_module = in_pie
 by_kind Start in_exe in_pie in_module = in_module
 by_kind Late in_exe in_pie in_module = in_module
 
--- The table of entries. Of what is the image's own: in a program at a fixed address, in one at any address, in a
--- module; of what another image exports the same in all three. `block` is how far below the thread pointer the
+-- The table of entries. For a need of the image itself: in a program at a fixed address, in one at any address, in a
+-- module; for what another image exports, the same in all three. `block` is how far below the thread pointer the
 -- program's block begins.
 abbrev pub entry_of : ImageKind → ℕ → Need → Entry
 entry_of kind block ModulePair =
@@ -58,7 +58,7 @@ entry_of kind block (AddressWord s p) =
     by_kind kind (One (held p)) (One (loaded p Relative Image p)) (One (loaded p Relative Image p))
 entry_of kind block RuntimeWord = One (filled JumpSlot Runtime 0)
 
--- the words of an entry, one behind another
+-- the words of an entry, one after another
 abbrev pub words : Entry → List Word
 words (One v) = v ∷ []
 words (Two v w) = v ∷ w ∷ []

@@ -1,4 +1,4 @@
--- What code needs of the global offset table, and the order of its entries (Drepper, "ELF Handling For Thread-Local
+-- What code needs from the global offset table, and the order of the entries (Drepper, "ELF Handling For Thread-Local
 -- Storage", section 4; psABI, "Relocation Types").
 use Rattle.std.specs.Prelude.{◌+◌, ◌&&◌, ℕ, Bool, true, false, not, nat_eq, if◌then◌else◌}
 use Rattle.std.specs.Prelude.{List, [], ◌∷◌, Option, Some, None, filter}
@@ -23,7 +23,7 @@ same_target (Here s o) (Here t p) = same_symbol s t && nat_eq o p
 same_target (Import n) (Import m) = bytes_eq n m
 same_target x y = false
 
--- the same sort of entry, of the same symbol or name; a symbol has one offset and one place
+-- the same kind of entry, for the same symbol or name; a symbol has one offset and one place
 abbrev pub same_need : Need → Need → Bool
 same_need ModulePair ModulePair = true
 same_need (SymbolPair x) (SymbolPair y) = same_target x y
@@ -75,12 +75,12 @@ groups =
 abbrev pub by_group : List Need → List Need
 by_group needs = flat_map (λ g. of_group g needs) groups
 
--- each of these needs once, where it comes first
+-- each of these needs once, at its first occurrence
 abbrev pub distinct : List Need → List Need
 distinct [] = []
 distinct (need ∷ needs) = need ∷ filter (λ other. not (same_need need other)) (distinct needs)
 
--- the entries of the table, by the need that each serves: group by group, in each in order of first need
+-- the needs that the table's entries serve: group by group, and in each group in the order of first need
 unfoldable pub entries : List Need → List Need
 entries needs = distinct (by_group needs)
 
@@ -90,7 +90,7 @@ abbrev pub total_size : List Need → ℕ
 total_size [] = 0
 total_size (entry ∷ more) = size_of entry + total_size more
 
--- where the entry of a need begins, among entries of which the first begins at this byte
+-- where the entry for a need begins, if the first of these entries begins at this byte
 abbrev pub start_from : ℕ → List Need → Need → Option ℕ
 start_from at [] need = None
 start_from at (entry ∷ more) need =

@@ -5,22 +5,22 @@ use Rattle.link_faults.specs.declared.image_kind.ImageKind.{ImageKind}
 use Rattle.got_pairs.specs.declared.need.Need.{Need}
 use Rattle.got_pairs.specs.Needs.{same_need, size_of}
 
--- the image's kind, how far below the thread pointer the program's block begins, and the need that each entry serves
+-- the image's kind, how far below the thread pointer the program's block begins, and the need for each entry
 pub record Table : Type 0 where
   pub kind : ImageKind
   pub block_offset : ℕ
   pub entries : List Need
 
--- each of these entries with the byte that it begins at, the first at this one
+-- each of these entries with the byte at which it begins; the first begins at `at`
 abbrev pub starts_from : ℕ → List Need → List (Need × ℕ)
 starts_from at [] = []
 starts_from at (entry ∷ more) = (entry, at) ∷ starts_from (at + size_of entry) more
 
--- whether one of these needs is equal to it
+-- whether one of these needs equals the need
 abbrev pub is_among : List Need → Need → Bool
 is_among needs need = list_any (same_need need) needs
 
--- these entries, and one more for a need that none of them serves
+-- these entries, and one for the need, unless one of them serves it
 abbrev pub with_need : List Need → Need → List Need
 with_need entries need = if is_among entries need then entries else entries ++ need ∷ []
 

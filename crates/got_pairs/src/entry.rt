@@ -1,4 +1,4 @@
-//! What an entry holds.
+//! The contents of an entry.
 ghost use Rattle.std.specs.Prelude.{◌≡◌, ◌*◌, length};
 ghost use Rattle.got_pairs.specs.declared.entry.DynamicKind.TheVariants.{DtpMod64, Relative, TlsDesc, TpOff64};
 ghost use Rattle.got_pairs.specs.declared.entry.DynamicSymbol.TheVariants.{Image, Imported};
@@ -10,12 +10,12 @@ use crate::name::Name;
 use crate::need::{Need, Target};
 use link_faults::ImageKind;
 
-/// What a loader writes, and where it takes it from. It fills one word, but that a descriptor fills both of an entry.
+/// A dynamic relocation's type: what the loader writes. It writes one word, except that a descriptor takes two.
 #[derive(Clone, Copy, PartialEq, Eq, Debug)]
 pub enum DynamicKind {
     /// The address of a function (R_X86_64_JUMP_SLOT).
     JumpSlot,
-    /// The addend, moved as far as the image is (R_X86_64_RELATIVE).
+    /// The addend plus how far the image was moved (R_X86_64_RELATIVE).
     Relative,
     /// The id of the module that has the symbol (R_X86_64_DTPMOD64).
     DtpMod64,
@@ -23,15 +23,15 @@ pub enum DynamicKind {
     DtpOff64,
     /// The symbol's offset from the thread pointer (R_X86_64_TPOFF64).
     TpOff64,
-    /// A function and its argument, which together give the symbol's offset from the thread pointer
-    /// (R_X86_64_TLSDESC).
+    /// A TLS descriptor: a function and its argument, which together give the symbol's offset from the thread
+    /// pointer (R_X86_64_TLSDESC).
     TlsDesc,
 }
 
 /// The symbol of a dynamic relocation.
 #[derive(PartialEq, Eq, Debug, Drop)]
 pub enum DynamicSymbol<'a> {
-    /// None, which stands for the image itself; the addend is the offset.
+    /// No symbol: the image itself; the addend is the offset.
     Image,
     /// A variable that a startup image exports by this name.
     Imported(Name<'a>),
@@ -48,7 +48,7 @@ pub struct DynamicRelocation<'a> {
     pub addend: u64,
 }
 
-/// A word of the table as it stands in the file, and what the loader does to it.
+/// A word of the table as it stands in the file, and the relocation for it.
 #[derive(PartialEq, Eq, Debug, Drop)]
 pub struct Word<'a> {
     pub number: u64,
@@ -62,8 +62,8 @@ pub enum Entry<'a> {
     Two(Word<'a>, Word<'a>),
 }
 
-/// The entry of a need, in an image of this kind. `block_offset` is how far below the thread pointer the block of the
-/// program begins; a module's entries don't depend on it.
+/// The entry for a need, in an image of this kind. `block_offset` is how far below the thread pointer the program's
+/// block begins; a module's entries do not depend on it.
 pub fn entry_of<'a>(kind: ImageKind, block_offset: u64, need: &Need<'a>) -> Entry<'a>
     ensures row { result ≡ entry_of kind block_offset need.now }
     ensures size { 8 * length (words result) ≡ size_of need.now }
@@ -86,7 +86,7 @@ pub fn entry_of<'a>(kind: ImageKind, block_offset: u64, need: &Need<'a>) -> Entr
     }
 }
 
-/// The id of the image itself, and an offset. A program is module 1.
+/// The pair of the image's own module id and an offset. A program is module 1.
 fn own_pair<'a>(kind: ImageKind, offset: u64) -> Entry<'a>
     ensures { result ≡ by_kind kind (Two (held 1) (held offset)) (Two (held 1) (held offset))
         (Two (filled DtpMod64 Image 0) (held offset)) }
@@ -100,7 +100,7 @@ fn own_pair<'a>(kind: ImageKind, offset: u64) -> Entry<'a>
     Entry::Two(id, held(offset))
 }
 
-/// A descriptor: the loader writes both words.
+/// A TLS descriptor: the loader writes both words.
 fn descriptor<'a>(symbol: DynamicSymbol<'a>, addend: u64) -> Entry<'a>
     ensures { result ≡ Two (filled TlsDesc symbol.entry addend) (held 0) }
 {
@@ -120,7 +120,7 @@ fn own_offset<'a>(kind: ImageKind, block_offset: u64, offset: u64) -> Entry<'a>
     })
 }
 
-/// The address of a symbol of the image itself. It stands in the file too, and the loader moves it with the image.
+/// The address of a symbol of the image itself. It stands in the file, and the loader adds how far it moved the image.
 fn own_address<'a>(kind: ImageKind, place: u64) -> Entry<'a>
     ensures { result ≡ by_kind kind (One (held place)) (One (loaded place Relative Image place))
         (One (loaded place Relative Image place)) }
@@ -150,14 +150,14 @@ fn held<'a>(number: u64) -> Word<'a>
     }
 }
 
-/// A word that the loader writes; it holds nothing until then.
+/// A word that the loader writes; it is 0 in the file.
 fn filled<'a>(kind: DynamicKind, symbol: DynamicSymbol<'a>, addend: u64) -> Word<'a>
     ensures { result ≡ filled kind symbol.entry addend }
 {
     loaded(0, kind, symbol, addend)
 }
 
-/// A number that the loader writes over.
+/// A number in the file that the loader overwrites.
 fn loaded<'a>(number: u64, kind: DynamicKind, symbol: DynamicSymbol<'a>, addend: u64) -> Word<'a>
     ensures { result ≡ loaded number kind symbol.entry addend }
 {

@@ -1,4 +1,4 @@
-//! A table that is laid out.
+//! Lays out the table.
 ghost use Rattle.std.specs.Prelude.{◌≡◌, ◌+◌, ◌*◌, ◌≤◌, [], length, slice_get};
 ghost use Rattle.std.specs.Prelude.{All, IfOk, IfSome, IsSome, OnOk};
 ghost use Rattle.std.specs.Option.{option_map};
@@ -14,14 +14,14 @@ use std::alloc::{AllocError, Global};
 use std::marker::Model;
 
 /// The global offset table of an image, laid out. Contracts see the image's kind, the offset of the program's block,
-/// and the need that each entry serves, in the table's order.
+/// and the need for each entry, in the table's order.
 #[derive(Drop)]
 pub struct GotPlan<'a> {
     kind: ImageKind,
     block_offset: u64,
-    /// Each entry, and the byte that it begins at.
+    /// Each need with an entry, and the byte at which the entry begins.
     starts: IndexMap<Need<'a>, u64>,
-    /// All bytes so far.
+    /// How many bytes the entries so far take.
     size: u64,
 }
 
@@ -39,8 +39,8 @@ impl<'a> Model for GotPlan<'a> {
         × (plan.size ≡ total_size (keys plan.starts)) };
 }
 
-/// Lays out the table of an image of this kind, whose code has these needs, in their order. `block_offset` is how far
-/// below the thread pointer the block of the program begins. The only error is want of memory.
+/// Lays out the table of an image of this kind for the needs of its code, in their order. `block_offset` is how far
+/// below the thread pointer the program's block begins. The only error is `AllocError`.
 pub fn plan<'a>(
     alloc: Global,
     needs: &[Need<'a>],
@@ -50,7 +50,7 @@ pub fn plan<'a>(
     ensures plan { IfOk result (λ plan. plan
         ≡ record { kind = kind; block_offset = block_offset; entries = entries needs.now }) }
 
-    // Each need has an entry, and the table has at most 16 bytes a need.
+    // Each need has an entry, and the table has at most 16 bytes for each need.
     ensures served { IfOk result (λ plan. All (λ need. IsSome (start_of plan.entries need)) needs.now) }
     ensures small { IfOk result (λ plan. total_size plan.entries ≤ 16 * length needs.now) }
 {
@@ -76,7 +76,7 @@ impl<'a> GotPlan<'a> {
         }
     }
 
-    /// Adds the entries of a group's needs.
+    /// Adds the entries for a group's needs.
     fn add_group(&mut self, group: Group, needs: &[Need<'a>]) -> Result<(), AllocError>
         ensures { OnOk result (self.new
             ≡ record self.old { entries = with_needs self.old.entries (of_group group needs.now) }) }
@@ -89,7 +89,7 @@ impl<'a> GotPlan<'a> {
         Ok(())
     }
 
-    /// Adds the entry of a need, unless it is there.
+    /// Adds the entry for a need, unless it has one.
     fn add(&mut self, need: &Need<'a>) -> Result<(), AllocError>
         ensures { OnOk result (self.new ≡ record self.old { entries = with_need self.old.entries need.now }) }
     {
@@ -97,7 +97,7 @@ impl<'a> GotPlan<'a> {
             return Ok(());
         }
         let Some(end) = self.size.checked_add(need.size()) else {
-            // No memory holds so many entries.
+            // So many entries fit in no memory.
             return Err(AllocError);
         };
         self.starts.insert(need.again(), self.size)?;
@@ -105,8 +105,8 @@ impl<'a> GotPlan<'a> {
         Ok(())
     }
 
-    /// Where the entry of a need begins, in bytes from the table's start; `None` where the table has no such entry.
-    /// The time does not depend on how many entries there are.
+    /// Where the entry for a need begins, in bytes from the table's start; `None` if the table has no such entry. The
+    /// time does not depend on the number of entries.
     pub fn start(&self, need: &Need<'a>) -> Option<u64>
         ensures start { result ≡ start_of self.now.entries need.now }
         ensures within { IfSome result (λ at. at + size_of need.now ≤ total_size self.now.entries) }
@@ -128,7 +128,7 @@ impl<'a> GotPlan<'a> {
         self.starts.len()
     }
 
-    /// What the entry of this number holds, in the table's order from 0; `None` past the last.
+    /// The contents of an entry, by its number in the table's order, from 0; `None` past the last.
     pub fn entry(&self, number: usize) -> Option<Entry<'a>>
         ensures { result
             ≡ option_map (entry_of self.now.kind self.now.block_offset) (slice_get self.now.entries number) }

@@ -7,17 +7,17 @@ pub fn needs_have_entries()
     ensures { NeedsHaveEntries }
 {}
 
-/// Each entry is a need's.
+/// Each entry serves a need.
 pub fn entries_are_needed()
     ensures { EntriesAreNeeded }
 {}
 
-/// Entries differ: equal needs share one.
+/// Entries differ: equal needs share an entry.
 pub fn entries_differ()
     ensures { EntriesDiffer }
 {}
 
-/// Groups stand in order: no entry stands behind one of a later group.
+/// Groups are in order: no entry comes after one of a later group.
 pub fn groups_stand_in_order()
     ensures { GroupsStandInOrder }
 {}

@@ -4,8 +4,7 @@ ghost use Rattle.std.specs.Prelude.{◌≡◌};
 use std::hash::{Hash, Hasher};
 use std::marker::Model;
 
-/// The name of a symbol of another image, lent. A contract sees its bytes, and two names are equal where their bytes
-/// are.
+/// The name of a symbol of another image, borrowed. A contract sees its bytes; two names are equal if their bytes are.
 #[derive(Debug, Drop)]
 pub struct Name<'a> {
     bytes: &'a [u8],
@@ -32,7 +31,7 @@ impl<'a> Name<'a> {
         self.bytes
     }
 
-    /// The same name, lent once more.
+    /// The same name, borrowed again.
     pub fn again(&self) -> Name<'a>
         ensures { result ≡ self.now }
     {

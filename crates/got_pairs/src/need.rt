@@ -1,4 +1,4 @@
-//! What code needs of the table.
+//! What code needs from the table.
 ghost use Rattle.std.specs.Prelude.{◌≡◌};
 ghost use Rattle.got_pairs.specs.Needs.{group_of, size_of};
 
@@ -8,31 +8,31 @@ use link_faults::SymbolRef;
 /// A thread-local variable.
 #[derive(PartialEq, Eq, Hash, Debug, Drop)]
 pub enum Target<'a> {
-    /// One of the image itself, and its offset in the image's TLS segment.
+    /// A variable of the image itself, and its offset in the image's TLS segment.
     Here { symbol: SymbolRef, offset: u64 },
-    /// One that a startup image exports by this name.
+    /// A variable that a startup image exports by this name.
     Import(Name<'a>),
 }
 
 /// What an instruction, or the stub, reads from the table. Equal needs share an entry; a symbol has one offset and one
-/// place, so needs of the same symbol are equal.
+/// place, so needs for the same symbol are equal.
 #[derive(PartialEq, Eq, Hash, Debug, Drop)]
 pub enum Need<'a> {
-    /// The pair of the image itself: its module id, and 0 (TLSLD).
+    /// The pair for the image itself: its module id, and 0 (TLSLD).
     ModulePair,
-    /// The pair of a variable: its module's id, and its offset there (TLSGD).
+    /// The pair for a variable: its module's id, and its offset there (TLSGD).
     SymbolPair(Target<'a>),
-    /// The descriptor of a variable (GOTPC32_TLSDESC).
+    /// The descriptor for a variable (GOTPC32_TLSDESC).
     Descriptor(Target<'a>),
     /// The word with a variable's offset from the thread pointer (GOTTPOFF).
     SymbolWord(Target<'a>),
-    /// The word with the address of a symbol of the image, and that address as the image is linked (GOTPCREL).
+    /// The word with the address of a symbol of the image, and its address before the image is moved (GOTPCREL).
     AddressWord { symbol: SymbolRef, place: u64 },
     /// The word with the address of `__tls_get_addr`.
     RuntimeWord,
 }
 
-/// The entries of one sort stand together. The groups are in the order of the table.
+/// The kinds of entry, in the order of the table; entries of one kind stand together.
 #[derive(Clone, Copy, PartialEq, Eq, Debug)]
 pub enum Group {
     ModulePair,
@@ -44,7 +44,7 @@ pub enum Group {
 }
 
 impl<'a> Target<'a> {
-    /// The same target, its name lent once more.
+    /// The same target, with its name borrowed again.
     pub fn again(&self) -> Target<'a>
         ensures { result ≡ self.now }
     {
@@ -82,7 +82,7 @@ impl<'a> Need<'a> {
         }
     }
 
-    /// The same need, its name lent once more.
+    /// The same need, with its name borrowed again.
     pub fn again(&self) -> Need<'a>
         ensures { result ≡ self.now }
     {

@@ -1,4 +1,4 @@
-//! What a test finds against what it wants.
+//! Compares found and expected values.
 
 use std::process::Abort;
 

@@ -1,5 +1,6 @@
-//! An open or a close whose event finds no memory is refused for that alone: every answer of the registry stays as it
-//! was, and the call made again is answered as it is where nothing is refused. A test that met this says so in a line.
+//! An open or a close that cannot store its event fails only with `OutOfMemory`: the registry then gives the same
+//! answers as before, and a second try gives the result that the first would have given. A test that met such a
+//! failure says so in a line.
 
 use module_table::{CloseRefusal, Closed, ImageInfo, OpenRefusal, Opened, Registry};
 use std::alloc::{AllocError, Global};
@@ -7,8 +8,8 @@ use std::io::Print;
 use std::process::Abort;
 use std::test::Fail;
 
-/// A registry of a program, image 1, and of late images of 8 bytes, image 3 with static blocks; image 2 was opened so
-/// often.
+/// A registry of a program, image 1, and of late images of 8 bytes; image 3 has static blocks. Image 2
+/// was opened `opens` times.
 fn opened_so_often(rt: &impl Abort, alloc: Global, opens: u32) -> Result<Registry, AllocError> {
     let program = ImageInfo {
         late: false,
@@ -38,7 +39,7 @@ fn opened_so_often(rt: &impl Abort, alloc: Global, opens: u32) -> Result<Registr
     Ok(registry)
 }
 
-/// Whether questions with a number have one answer.
+/// Whether two registries give the same answer to each question with this number.
 fn answer_alike(one: &Registry, other: &Registry, number: u32) -> bool {
     one.live(number) == other.live(number)
         && one.current(number) == other.current(number)
@@ -46,7 +47,7 @@ fn answer_alike(one: &Registry, other: &Registry, number: u32) -> bool {
         && one.offset(number) == other.offset(number)
 }
 
-/// Whether all questions have one answer; there are no more than three images, instances and ids.
+/// Whether two registries give the same answers; there are at most three images, instances and ids.
 fn are_alike(one: &Registry, other: &Registry) -> bool {
     if one.len() != other.len() || one.since(0) != other.since(0) {
         return false;
@@ -59,7 +60,7 @@ fn are_alike(one: &Registry, other: &Registry) -> bool {
     true
 }
 
-/// Opens image 3 of a copy, whose list of events is full, and again where that is refused.
+/// Opens image 3 in a copy whose list of events is full, and again if the first try fails.
 fn open_twice(
     rt: &(impl Abort + Print),
     registry: &Registry,
@@ -80,7 +81,7 @@ fn open_twice(
     Ok(())
 }
 
-/// Closes image 2 of a copy, whose list of events is full, and again where that is refused.
+/// Closes image 2 in a copy whose list of events is full, and again if the first try fails.
 fn close_twice(
     rt: &(impl Abort + Print),
     registry: &Registry,
@@ -101,7 +102,7 @@ fn close_twice(
     Ok(())
 }
 
-/// An open of image 3 behind so many opens of image 2.
+/// An open of image 3 after `opens` opens of image 2.
 fn open_behind(
     rt: &(impl Abort + Print),
     alloc: Global,
@@ -112,7 +113,7 @@ fn open_behind(
     open_twice(rt, &registry, want)
 }
 
-/// A close of image 2 behind the one open of it.
+/// A close of image 2 after its one open.
 fn close_behind(rt: &(impl Abort + Print), alloc: Global, want: Closed) -> Result<(), AllocError> {
     let registry = opened_so_often(rt, alloc, 1)?;
     close_twice(rt, &registry, want)

@@ -1,4 +1,4 @@
-//! Histories as sequences of calls, with the numbers that they must give.
+//! Histories as sequences of calls, with the expected numbers.
 
 ghost use Rattle.std.specs.Bool.{OnTrue};
 ghost use Rattle.module_table.specs.Modules.{AreInfos};
@@ -10,11 +10,11 @@ use std::fmt::Debug;
 use std::process::Abort;
 use std::test::Fail;
 
-/// Histories, with an empty line between them. The first line of each has the late images behind the program, from
-/// image 2 on: their sizes, with `s` before each whose block is static. The program's block has 4 bytes and begins 4
-/// bytes below the thread pointer. Then a line for each call and its answer: `open` and `close` with a thread, a line
-/// and an image, and questions with one number. `reopen` closes and opens an image so many times, and answers how long
-/// the history is then.
+/// Histories, separated by an empty line. The first line of each has the late images after the program, from image 2
+/// on: their sizes, with `s` before each whose block is static. The program's block has 4 bytes and begins 4 bytes
+/// below the thread pointer. Then comes a line for each call and its result: `open` and `close` with a thread, a line
+/// and an image, and questions with one number. `reopen` closes and opens an image a number of times, and gives the
+/// length of the history after that.
 const HISTORIES: &str = "\
 8
 open 1 1 2: Ok(Opened { instance: 2, id: 2, at: 0 })
@@ -51,11 +51,11 @@ open 1 2 2: Err(Full)
 open 1 3 1: Err(Unknown)
 open 1 4 3: Ok(Opened { instance: 3, id: 3, at: 8186 })";
 
-// Of these, the first calls each question once. The second: 4 + 4,096 is all of the surplus, and a close gives nothing
-// back; an open that makes no instance needs no room. The third is longer than a job can have lines for: images 2 to 4
+// The first history asks each question once. The second: 4 + 4,096 is all of the surplus, and a close gives nothing
+// back; an open that makes no instance needs no room. The third is longer than any job's lines allow: images 2 to 4
 // stay loaded as instances 5, 3 and 4, each further load needs a close before it, and no instance has number 4,096.
 
-/// Whether these may be the images of a registry.
+/// Whether a registry may have these images.
 fn are_images(infos: &[ImageInfo]) -> bool
     ensures { OnTrue result (AreInfos infos.now) }
 {
@@ -72,7 +72,7 @@ fn are_images(infos: &[ImageInfo]) -> bool
     !infos.is_empty() && infos.len() <= 64
 }
 
-/// An image of so many bytes, aligned to 4.
+/// An image of `size` bytes, aligned to 4.
 fn image(late: bool, statics: bool, size: u64) -> ImageInfo {
     ImageInfo {
         late,
@@ -82,7 +82,7 @@ fn image(late: bool, statics: bool, size: u64) -> ImageInfo {
     }
 }
 
-/// A number, or 0 where it is none.
+/// A number; 0 if there are no digits.
 fn number(digits: Option<&str>) -> u32 {
     match digits {
         Some(digits) => digits.parse().unwrap_or(0),
@@ -98,7 +98,7 @@ fn late(word: &str) -> ImageInfo {
     }
 }
 
-/// The program, and behind it these late images.
+/// The program, and after it these late images.
 fn images(alloc: Global, words: &str) -> Result<Vec<ImageInfo>, AllocError> {
     let mut infos = vec![in alloc; image(false, false, 4)]?;
     for word in words.split_whitespace() {
@@ -120,7 +120,7 @@ fn shown<T: Debug>(alloc: Global, value: &T) -> Result<String, AllocError> {
     format!(in alloc; "{value:?}")
 }
 
-/// Closes and opens an image so many times, and says how long the history is then.
+/// Closes and opens an image `count` times, and returns the length of the history after that.
 fn reopen(registry: &mut Registry, image: u32, count: u32) -> u64 {
     for _ in 0..count {
         let _ = registry.close(1, 1, image);
@@ -129,7 +129,7 @@ fn reopen(registry: &mut Registry, image: u32, count: u32) -> u64 {
     registry.len()
 }
 
-/// What a call with three numbers answers.
+/// The result of a call with three numbers.
 fn changes(
     alloc: Global,
     registry: &mut Registry,
@@ -145,7 +145,7 @@ fn changes(
     }
 }
 
-/// What a question with one number answers.
+/// The answer to a question with one number.
 fn asks(alloc: Global, registry: &Registry, verb: &str, of: u32) -> Result<String, AllocError> {
     match verb {
         "current" => shown(alloc, &registry.current(of)),
@@ -157,7 +157,7 @@ fn asks(alloc: Global, registry: &Registry, verb: &str, of: u32) -> Result<Strin
     }
 }
 
-/// What the call of a line answers.
+/// The result of the call of a line.
 fn answer(alloc: Global, registry: &mut Registry, call: &str) -> Result<String, AllocError> {
     let mut words = call.split(' ');
     let verb = words.next().unwrap_or("");
@@ -169,7 +169,7 @@ fn answer(alloc: Global, registry: &mut Registry, call: &str) -> Result<String, 
     changes(alloc, registry, verb, first, number(Some(second)), third)
 }
 
-/// Makes the calls of a history, and compares what each answers.
+/// Makes the calls of a history, and compares each result.
 fn check(rt: &impl Abort, alloc: Global, history: &str) -> Result<(), Fail> {
     let (images, calls) = history.split_once('\n').ok_or("images")?;
     let mut registry = registry_of(alloc, images)?;
@@ -205,7 +205,7 @@ fn open_all(registry: &mut Registry) {
     }
 }
 
-// Opens and closes of a loaded image walk nothing, however long the history is.
+// Opens and closes of a loaded image walk over nothing, however long the history is.
 #[test]
 fn holds_64_images_and_many_events(rt: HostRuntime) -> Result<(), Fail> {
     let mut registry = registry_of(rt.alloc(), MANY)?;

@@ -1,9 +1,9 @@
-//! Tests of `module_table` and `transcript_text`: the history of modules, and how lines and events are printed.
+//! Tests of `module_table` and `transcript_text`: the history of modules, and the text of lines and events.
 //!
-//! What a clause says is proved in the crate that says it. Here stands what no clause says: numbers that a reader
-//! works out by hand, among them those that no job reaches, printed text, and each limit beside its number, since
-//! definitions cite a limit by its name. Tests call what is public alone, so they stand in a crate of their own, and
-//! the crates that they test are proved once.
+//! Clauses are proved in their own crates. These tests check what no clause says: numbers that a reader works out by
+//! hand, some of which no job reaches, printed text, and each limit next to its number, since definitions use a
+//! limit by its name. The tests call only public functions, so they stand in a crate of their own, and the crates
+//! that they test are proved once.
 #![tactic(auto)]
 
 #[cfg(test)]

@@ -1,4 +1,4 @@
-//! The limits of the run time, each beside its number.
+//! The limits of the run time, each next to its number.
 
 use module_table::{MOST_IDS, MOST_INSTANCES, SURPLUS};
 

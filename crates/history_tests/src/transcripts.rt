@@ -1,4 +1,4 @@
-//! Transcripts against the text that they are to print.
+//! Transcripts and their expected text.
 
 ghost use Rattle.std.specs.Prelude.{◌≡◌};
 
@@ -9,7 +9,7 @@ use std::alloc::{AllocError, Global};
 use std::test::Fail;
 use transcript_text::{Bytes, Line, LineFault, LineRefusal, Outcome, Points, Transcript};
 
-/// The text of a transcript of these threads, over a job of one image.
+/// The text of a transcript with these two threads, over a job of one image.
 fn text_of(alloc: Global, first: Vec<Line>, second: Vec<Line>) -> Result<String, Fail> {
     let job = Job::read(alloc, b"image app exe a.o\nthreads 2\n")?;
     let mut transcript = Transcript::new(alloc);
@@ -20,7 +20,7 @@ fn text_of(alloc: Global, first: Vec<Line>, second: Vec<Line>) -> Result<String,
     Ok(String::from_utf8(text).ok().ok_or("no text")?)
 }
 
-/// Adds a line that looked at these points.
+/// Adds a line with these points.
 fn push(
     alloc: Global,
     lines: &mut Vec<Line>,
@@ -32,7 +32,7 @@ fn push(
     Ok(())
 }
 
-/// Lines that went well.
+/// Lines that succeeded.
 fn good_lines(alloc: Global) -> Result<Vec<Line>, AllocError> {
     let mut lines = Vec::new(alloc);
     push(alloc, &mut lines, &[0], Outcome::Returned(42))?;

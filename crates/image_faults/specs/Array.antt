@@ -1,4 +1,4 @@
--- What the dynamic array says: HASH, STRTAB, SYMTAB, STRSZ, SYMENT; RELA, RELASZ, RELAENT if there are relocations;
+-- What the dynamic array holds: HASH, STRTAB, SYMTAB, STRSZ, SYMENT; RELA, RELASZ, RELAENT if there are relocations;
 -- FLAGS or FLAGS_1, or neither; NULL (gABI, "Dynamic Section").
 use Rattle.std.specs.Prelude.{◌≡◌, ◌+◌, ◌-◌, ◌*◌, ◌/◌, ◌%◌, ◌≤◌, ◌==◌, ◌&&◌, ◌⊎◌, ℕ, Bool, List}
 use Rattle.std.specs.Prelude.{nat_le, if◌then◌else◌}
@@ -30,7 +30,7 @@ HasTag b j tag = (16 * (j + 1) ≤ array_size b) × ((entry b j).tag ≡ tag)
 abbrev pub has_tag : List ℕ → ℕ → ℕ → Bool
 has_tag b j tag = nat_le (16 * (j + 1)) (array_size b) && ((entry b j).tag == tag)
 
--- where the bytes of an address in the last LOAD stand in the file
+-- the offset in the file of an address in the last LOAD
 abbrev pub place : List ℕ → ℕ → ℕ
 place b address = (last b).offset + (address - (last b).vaddr)
 
@@ -40,7 +40,7 @@ HoldsTable b address n =
     ((last b).vaddr ≤ address) × ((address - (last b).vaddr) % 8 ≡ 0)
     × (address + n ≤ (last b).vaddr + (last b).filesz)
 
--- where the hash table stands, and how many chains it says that it has: one a symbol
+-- where the hash table stands, and how many chains it has, by its own count: one for each symbol
 abbrev pub hash_place : List ℕ → ℕ
 hash_place b = place b (entry b 0).value
 
@@ -50,7 +50,7 @@ bucket_count b = number_at 4 (hash_place b) b
 unfoldable pub symbol_count : List ℕ → ℕ
 symbol_count b = number_at 4 (hash_place b + 4) b
 
--- where the names stand, and how many bytes they take; none where the array does not say it
+-- where the names stand, and how many bytes they take; 0 where the array does not say it
 abbrev pub strings_place : List ℕ → ℕ
 strings_place b = place b (entry b 1).value
 
@@ -75,11 +75,11 @@ relocations_size b = if has_relocations b && has_tag b 6 DT_RELASZ then (entry b
 unfoldable pub relocation_count : List ℕ → ℕ
 relocation_count b = relocations_size b / 24
 
--- the entry behind those of the tables
+-- the entry after those of the tables
 abbrev pub flags_entry : List ℕ → ℕ
 flags_entry b = if has_relocations b then 8 else 5
 
--- the image asks for its thread-local data at a fixed distance from the thread pointer
+-- the image uses static TLS
 abbrev pub IsFlagged : List ℕ → Type 0
 IsFlagged b = HasTag b (flags_entry b) DT_FLAGS × ((entry b (flags_entry b)).value ≡ DF_STATIC_TLS)
 
@@ -101,7 +101,7 @@ entry_place RelocationSize b = 7
 entry_place Flags b = flags_entry b
 entry_place End b = flags_entry b + 1
 
--- what each entry says; the three of relocations only where the first of them stands
+-- what each entry holds; the three of relocations only if the first of them is there
 abbrev pub IsRightEntry : EntryRule → List ℕ → Type 0
 IsRightEntry Hash b =
     HasTag b 0 DT_HASH × HoldsTable b (entry b 0).value (12 + 4 * symbol_count b) × (bucket_count b ≡ 1)

@@ -1,4 +1,4 @@
--- When bytes stand for an image: what each rule says, and which fault is the first.
+-- When bytes are an image: when a rule is broken, and which fault is the first.
 use Rattle.std.specs.Prelude.{◌≡◌, ◌+◌, ◌*◌, ◌<◌, ℕ, List, Option, Some, None, Result, Ok, Err, length}
 use Rattle.image_rules.specs.declared.fault.FaultKind.{FaultKind}
 use Rattle.image_rules.specs.declared.fault.ImageFault.{ImageFault}
@@ -37,8 +37,8 @@ BreaksTable Relocation b e = IsRightRelocation b e → ⊥
 BreaksTable TlsSymbol b e = IsPastTls b e
 BreaksTable TlsRelocation b e = IsOwnOutside b e
 
--- entry e breaks the rule: a byte of the identification, a program header, an entry of the array, of a table; 0 of
--- the whole file
+-- entry e breaks the rule: a byte of the identification, a program header, an entry of the array or of a table; e is 0
+-- for a rule about the whole file
 unfoldable pub Breaks : Rule → List ℕ → ℕ → Type 0
 Breaks Length b e = (e ≡ 0) × (length b < 64)
 Breaks Ident b e = IsWrongIdent (header b) e
@@ -48,7 +48,7 @@ Breaks Segment b e = IsWrongSegment b e
 Breaks (Entry rule) b e = (e ≡ entry_place rule b) × (IsRightEntry rule b → ⊥)
 Breaks (Table rule) b e = (e < table_count rule b) × BreaksTable rule b e
 
--- where in the file the fault of a rule at an entry is told
+-- the offset in the file of the fault of a rule at an entry
 abbrev pub offset_of : Rule → List ℕ → ℕ → ℕ
 offset_of Length b e = length b
 offset_of Ident b e = e
@@ -70,7 +70,7 @@ KeepsBelow n b = (rule : Rule) → number rule < n → Keeps rule b
 abbrev pub IsImage : List ℕ → Type 0
 IsImage b = (rule : Rule) → Keeps rule b
 
--- the least number at which P holds, or that there is none
+-- the least number at which P holds, or that it holds at none
 abbrev pub IsFirstAt : (ℕ → Type 0) → Option ℕ → Type 0
 IsFirstAt P None = (e : ℕ) → P e → ⊥
 IsFirstAt P (Some e) = P e × ((f : ℕ) → f < e → P f → ⊥)
@@ -89,12 +89,12 @@ pub record IsFirstFault (b : List ℕ) (offset : ℕ) (kind : FaultKind) : Type 
   pub offset_is : offset ≡ offset_of rule b entry
   pub kind_is : kind ≡ kind_of rule
 
--- what a refusal says of the bytes; asking takes no memory
+-- what a refusal says of the bytes; a check allocates no memory
 abbrev pub IsFault : List ℕ → ImageFault → Type 0
 IsFault b OutOfMemory = ⊥
 IsFault b (At offset kind) = IsFirstFault b offset kind
 
--- what a step says that asked all rules up to number n
+-- what a step returns that checked all rules up to number n
 abbrev pub Answers : {X : Type 0} → ℕ → List ℕ → Result X ImageFault → Type 0
 Answers n b (Ok _) = KeepsBelow (n + 1) b
 Answers n b (Err fault) = IsFault b fault

@@ -19,7 +19,8 @@ count b = (header b).e_phnum
 unfoldable pub segment : List ℕ → ℕ → Segment
 segment b i = segment_at (64 + 56 * i) b
 
--- the address at which an image begins: a program at fixed addresses, or an image that may be loaded anywhere
+-- the address at which an image begins: fixed in a program at fixed addresses, 0 in an image that
+-- may be loaded anywhere
 abbrev pub base : List ℕ → ℕ
 base b = if (header b).e_type == ET_EXEC then 0x400000 else 0
 
@@ -39,19 +40,19 @@ last b = segment b (loads b - 1)
 abbrev pub is_writable : List ℕ → ℕ → Bool
 is_writable b i = (segment b i).flags == PF_R + PF_W
 
--- the number behind that of the last LOAD that may be written; 0 where there is none
+-- the number after that of the last LOAD that may be written; 0 if there is none
 abbrev pub behind_last_writable : List ℕ → ℕ
 behind_last_writable b = behind_last (is_writable b) (loads b)
 
--- header i names what the loader alone writes
+-- header i names the part that only the loader writes
 abbrev pub is_relro : List ℕ → ℕ → Bool
 is_relro b i = (segment b i).kind == PT_GNU_RELRO
 
--- a header of the table names what the loader alone writes
+-- a header of the table names the part that only the loader writes
 abbrev pub has_relro : List ℕ → Bool
 has_relro b = nat_lt 0 (behind_last (is_relro b) (count b))
 
--- the header behind DYNAMIC is that of a TLS segment
+-- the header after DYNAMIC is that of a TLS segment
 abbrev pub has_tls : List ℕ → Bool
 has_tls b = nat_lt (loads b + 1) (count b) && ((segment b (loads b + 1)).kind == PT_TLS)
 
@@ -59,10 +60,10 @@ has_tls b = nat_lt (loads b + 1) (count b) && ((segment b (loads b + 1)).kind ==
 abbrev pub tls : List ℕ → Option Segment
 tls b = if has_tls b then Some (segment b (loads b + 1)) else None
 
--- how many bytes the image's block of each thread has; 0 where it has none
+-- how many bytes each thread's block of the image has; 0 if it has none
 abbrev pub tls_size : List ℕ → ℕ
 tls_size b = if has_tls b then (segment b (loads b + 1)).memsz else 0
 
--- where GNU_RELRO stands, if there is one: behind DYNAMIC and TLS
+-- where GNU_RELRO stands, if there is one: after DYNAMIC and TLS
 abbrev pub relro_place : List ℕ → ℕ
 relro_place b = if has_tls b then loads b + 2 else loads b + 1

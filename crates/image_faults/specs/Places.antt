@@ -1,4 +1,4 @@
--- What a read keeps of an image: numbers found once, so that each later look is quick.
+-- What a read keeps of an image: numbers that are computed once, so that later look-ups are quick.
 use Rattle.std.specs.Prelude.{◌≡◌, ◌+◌, ◌-◌, ◌*◌, ◌^◌, ◌<◌, ◌≤◌, ◌==◌, ℕ, Bool, List, Option, Some, None, length}
 use Rattle.std.specs.Prelude.{◌&&◌, nat_lt, if◌then◌else◌}
 use Rattle.image_rules.specs.declared.places.Places.{Places}
@@ -13,7 +13,7 @@ use Rattle.image_faults.specs.Array.{relocation_count, IsRightEntry}
 use Rattle.image_rules.specs.declared.rule.EntryRule.TheVariants.{Hash, Strings, Symbols, Relocations}
 use Rattle.image_faults.specs.Names.{IsNamesEnd}
 
--- what the file says that the image is: by its type, and by whether it has FLAGS_1
+-- what kind of image the file is: by its type, and by whether it has FLAGS_1
 abbrev pub file_kind : List ℕ → FileKind
 file_kind b =
     if (header b).e_type == ET_DYN then (if has_tag b (flags_entry b) DT_FLAGS_1 then Pie else Module) else Exe

@@ -1,4 +1,4 @@
--- What a relocation of an image says (psABI, "Relocation Types"; "ELF Handling For Thread-Local Storage").
+-- When a relocation of an image is right (psABI, "Relocation Types"; "ELF Handling For Thread-Local Storage").
 use Rattle.std.specs.Prelude.{◌≡◌, ◌+◌, ◌-◌, ◌*◌, ◌<◌, ◌≤◌, ◌⊎◌, ◌==◌, ◌<ℤ◌, ℕ, ℤ, pos, List, Option, Some, None}
 use Rattle.std.specs.Prelude.{IsTrue, if◌then◌else◌}
 use Rattle.elf_records.specs.declared.relocation.Rela.{Rela}
@@ -17,7 +17,7 @@ use Rattle.image_faults.specs.Symbols.{IsImport, IsRuntime}
 unfoldable pub rela : List ℕ → ℕ → Rela
 rela b k = rela_at (relocations_place b + 24 * k) b
 
--- the type of a number
+-- the type with this number
 abbrev pub loader_kind : ℕ → Option LoaderKind
 loader_kind n =
     if n == R_X86_64_JUMP_SLOT then Some JumpSlot else
@@ -52,29 +52,29 @@ HoldsField b r i =
     (i + 1 < loads b) × ((segment b i).vaddr ≤ r.offset)
     × (r.offset + field_width (rela_kind r) ≤ (segment b i).vaddr + (segment b i).memsz)
 
--- it stands behind what the relocation before it writes
+-- its place is after the field of the relocation before it
 abbrev pub IsBehindLast : List ℕ → ℕ → Type 0
 IsBehindLast b k =
     (k ≡ 0) ⊎ ((rela b (k - 1)).offset + field_width (rela_kind (rela b (k - 1))) ≤ (rela b k).offset)
 
--- a type that a loader knows, of a symbol that it may name, at a place of the image, and places rise
+-- a type that a loader knows, a symbol that it may name, a place in the image, and places that rise
 abbrev pub IsRightRelocation : List ℕ → ℕ → Type 0
 IsRightRelocation b k =
     NamesRight b (rela b k) × ((i : ℕ) × HoldsField b (rela b k) i) × IsBehindLast b k
 
--- an offset outside the image's own TLS segment, its end left in
+-- an offset outside the image's own TLS segment; the segment's end counts as inside
 abbrev pub IsOutsideTls : List ℕ → ℤ → Type 0
 IsOutsideTls b addend = (addend <ℤ pos 0) ⊎ (pos (tls_size b) <ℤ addend)
 
--- of a relocation that names no symbol: the type needs a TLS segment of this image, and there is none; or its addend
--- is to be an offset there, and is none
+-- for a relocation without a symbol: its type needs a TLS segment of this image and there is none, or its addend must
+-- be an offset there and is not
 abbrev pub LacksOwnTls : List ℕ → Option LoaderKind → ℤ → Type 0
 LacksOwnTls b (Some Module) addend = IsTrue (has_tls b) → ⊥
 LacksOwnTls b (Some ThreadOffset) addend = (IsTrue (has_tls b) → ⊥) ⊎ IsOutsideTls b addend
 LacksOwnTls b (Some Descriptor) addend = (IsTrue (has_tls b) → ⊥) ⊎ IsOutsideTls b addend
 LacksOwnTls b _ addend = ⊥
 
--- a relocation of the image's own TLS segment lies outside it
+-- a relocation for the image's own TLS segment lies outside it
 abbrev pub IsOwnOutside : List ℕ → ℕ → Type 0
 IsOwnOutside b k =
     (rela_symbol (rela b k) ≡ 0) × LacksOwnTls b (loader_kind (rela_kind (rela b k))) (rela b k).addend

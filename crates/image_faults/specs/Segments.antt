@@ -1,6 +1,6 @@
--- What the program headers of an image say: LOADs at rising pages, the dynamic array at the start of the last of them,
--- a TLS segment whose initial image is one of them, and what the loader alone writes (gABI, "Program Header", "Program
--- Loading"; "ELF Handling For Thread-Local Storage", "Program Headers").
+-- When the program headers of an image are right: LOADs at rising pages, the dynamic array at the start of the last
+-- one, a TLS segment whose initial image is one of them, and the part that only the loader writes (gABI, "Program
+-- Header", "Program Loading"; "ELF Handling For Thread-Local Storage", "Program Headers").
 use Rattle.std.specs.Prelude.{◌≡◌, ◌≢◌, ◌+◌, ◌-◌, ◌*◌, ◌%◌, ◌^◌, ◌<◌, ◌≤◌, ◌⊎◌, ℕ, List, length, if◌then◌else◌}
 use Rattle.elf_records.specs.declared.program_header.Segment.{Segment}
 use Rattle.elf_records.specs.declared.program_header.TheConstants.{PT_DYNAMIC, PT_TLS, PT_GNU_RELRO, PF_X, PF_R, PF_W}
@@ -24,7 +24,7 @@ IsPlaced b s = s.vaddr + 4096 ≡ s.offset + base b
 abbrev pub IsClass : Segment → Type 0
 IsClass s = (s.flags ≡ PF_X) ⊎ (s.flags ≡ PF_R) ⊎ (s.flags ≡ PF_R + PF_W)
 
--- whole pages of bytes that all stand in the file
+-- a segment that begins at a page and has bytes, all of them in the file
 abbrev pub IsWhole : Segment → Type 0
 IsWhole s = (s.filesz ≡ s.memsz) × (0 < s.memsz) × (s.vaddr % 4096 ≡ 0)
 
@@ -43,14 +43,14 @@ IsOfFewWritten b i =
 abbrev pub IsLastConstant : List ℕ → ℕ → Type 0
 IsLastConstant b i = (i + 1 ≢ loads b) ⊎ ((segment b i).flags ≡ PF_R)
 
--- what LOAD i says
+-- when LOAD i is right
 abbrev pub IsRightLoad : List ℕ → ℕ → Type 0
 IsRightLoad b i =
     IsPlaced b (segment b i) × IsClass (segment b i) × IsWhole (segment b i) × IsInRange b i × IsOfFewWritten b i
     × IsLastConstant b i
 
--- header i, behind the LOADs, of which there is one at least, is that of the dynamic array: at the start of the last
--- LOAD, and within it
+-- header i, after the LOADs, of which there is one at least, is that of the dynamic array: at the start of the
+-- last LOAD, and within it
 abbrev pub IsRightDynamic : List ℕ → ℕ → Type 0
 IsRightDynamic b i =
     (0 < i) × (i < count b) × ((segment b i).kind ≡ PT_DYNAMIC) × IsPlaced b (segment b i)
@@ -62,26 +62,26 @@ HoldsInitialImage b s i =
     (i + 1 < loads b) × ((segment b i).flags ≡ PF_R) × ((segment b i).vaddr ≡ s.vaddr)
     × ((segment b i).filesz ≡ s.filesz)
 
--- what the TLS segment says
+-- when the TLS segment is right
 abbrev pub IsRightTls : List ℕ → Segment → Type 0
 IsRightTls b s =
     IsPlaced b s × (s.filesz ≤ s.memsz) × (0 < s.memsz) × (s.memsz ≤ 2 ^ 20) × IsAlignment s.align
     × (s.vaddr % s.align ≡ 0) × ((s.filesz ≡ 0) ⊎ ((i : ℕ) × HoldsInitialImage b s i))
 
--- what GNU_RELRO says: it is the last LOAD that is written
+-- when GNU_RELRO is right: it is the last LOAD that is written
 abbrev pub IsRightRelro : List ℕ → Segment → Type 0
 IsRightRelro b s =
     let written = segment b (behind_last_writable b - 1) in
     IsPlaced b s × (0 < behind_last_writable b) × (s.vaddr ≡ written.vaddr) × (s.filesz ≡ written.filesz)
     × (s.memsz ≡ written.memsz)
 
--- header i, behind DYNAMIC, is that of a TLS segment right behind it, or GNU_RELRO behind both
+-- header i, after DYNAMIC, is that of a TLS segment right after it, or GNU_RELRO after both
 abbrev pub IsRightRest : List ℕ → ℕ → Type 0
 IsRightRest b i =
     ((i ≡ loads b + 1) × ((segment b i).kind ≡ PT_TLS) × IsRightTls b (segment b i))
     ⊎ ((i ≡ relro_place b) × ((segment b i).kind ≡ PT_GNU_RELRO) × IsRightRelro b (segment b i))
 
--- header i is not as it should be; where DYNAMIC is missing, the end of the table
+-- header i is wrong; if DYNAMIC is missing, i is the end of the table
 abbrev pub IsWrongSegment : List ℕ → ℕ → Type 0
 IsWrongSegment b i =
     ((i < loads b) × (IsRightLoad b i → ⊥))

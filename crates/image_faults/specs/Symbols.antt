@@ -1,4 +1,4 @@
--- What a symbol of an image says (gABI, "Symbol Table").
+-- When a symbol of an image is right (gABI, "Symbol Table").
 use Rattle.std.specs.Prelude.{◌≡◌, ◌≢◌, ◌+◌, ◌*◌, ◌<◌, ◌≤◌, ◌⊎◌, ℕ, List}
 use Rattle.elf_records.specs.declared.symbol.SymbolEntry.{SymbolEntry}
 use Rattle.elf_records.specs.Fields.{part_at}
@@ -13,7 +13,8 @@ use Rattle.image_faults.specs.Names.{Ends}
 unfoldable pub symbol : List ℕ → ℕ → SymbolEntry
 symbol b k = symbol_at (symbols_place b + 24 * k) b
 
--- its name ends in the string table, its type is known, and it is shared; number 0, the reserved one, need not be
+-- its name ends in the string table, its type is known, and it is GLOBAL or WEAK; number 0, the
+-- reserved one, need not be
 abbrev pub IsRightSymbol : List ℕ → ℕ → Type 0
 IsRightSymbol b k =
     Ends b (strings_place b) (strings_size b) (symbol b k).name
@@ -24,7 +25,7 @@ IsRightSymbol b k =
 abbrev pub IsImport : List ℕ → ℕ → Type 0
 IsImport b k = (k ≢ 0) × ((symbol b k).shndx ≡ SHN_UNDEF) × (symbol_kind (symbol b k) ≡ STT_TLS)
 
--- the function of the run time that finds thread-local data, by its name and the zero byte behind it
+-- the run time's function that finds thread-local data, by its name with the zero byte after it
 abbrev pub IsRuntime : List ℕ → ℕ → Type 0
 IsRuntime b k =
     ((symbol b k).shndx ≡ SHN_UNDEF) × ((symbol b k).name + 15 ≤ strings_size b)

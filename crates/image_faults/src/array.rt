@@ -20,7 +20,7 @@ use elf_records::dynamic::{
 use elf_records::{DynamicEntry, Rela, SymbolEntry, read_dynamic};
 use image_rules::EntryRule;
 
-/// What the address of each table is a multiple of, from the start of its LOAD.
+/// The address of each table is a multiple of this, counted from the start of its LOAD.
 const TABLE_ALIGNMENT: u64 = 8;
 
 /// Bytes of a hash table of one bucket and no chains.
@@ -29,7 +29,7 @@ const HASH_SIZE: u64 = 12;
 /// Bytes of a word of a hash table.
 const WORD_SIZE: u64 = 4;
 
-/// More than the entries that an array of the tables has.
+/// More than the number of entries that lead to tables.
 const ENTRY_LIMIT: u64 = 16;
 
 impl Segments<'_> {
@@ -57,18 +57,18 @@ impl Segments<'_> {
         DynamicEntry::SIZE * (number + 1) <= self.array_size && self.entry(number).tag == tag
     }
 
-    /// Where the bytes of an address in the last LOAD stand in the file.
+    /// The offset in the file of an address in the last LOAD.
     pub fn place(&self, address: u64) -> u64
         requires above { self.now.last.vaddr ≤ address }
         requires below { address ≤ self.now.last.vaddr + self.now.last.filesz }
         ensures { result ≡ place_of self.now.headers.bytes.now address }
     {
-        // The last LOAD lies in the file, whose length is a number.
+        // The last LOAD lies in the file, and the file's length fits in 64 bits.
         let _length = self.headers.bytes.len();
         self.last.offset + (address - self.last.vaddr)
     }
 
-    /// Where an entry of the array stands in the file, or would stand.
+    /// The offset in the file of an entry of the array, even if there is no such entry.
     pub fn entry_offset(&self, number: u64) -> u64
         requires { number < ENTRY_LIMIT }
         ensures { result ≡ (last_of self.now.headers.bytes.now).offset + 16 * number }
@@ -146,7 +146,7 @@ impl Segments<'_> {
         }
     }
 
-    /// The entry behind those of the tables.
+    /// The number of the entry after those of the tables.
     pub fn flags_entry(&self) -> u64
         ensures entry { result ≡ entry_of_flags self.now.headers.bytes.now }
         ensures few { result ≤ 8 }
@@ -185,7 +185,7 @@ impl Segments<'_> {
             || self.has_tag(6, DT_RELASZ) && self.entry(6).value % Rela::SIZE == 0
     }
 
-    /// Whether the image asks for its thread-local data at a fixed distance from the thread pointer.
+    /// Whether the image uses static TLS.
     pub fn is_flagged(&self) -> bool
         ensures { IsTrue result ↔ IsFlagged self.now.headers.bytes.now }
     {
@@ -203,7 +203,7 @@ impl Segments<'_> {
             && self.headers.is_shared
     }
 
-    /// Whether an entry of the array says what it is to say.
+    /// Whether an entry of the array keeps its rule.
     pub fn is_right_entry(&self, rule: EntryRule) -> bool
         requires { 0 < entry_number rule → IsRightEntry Hash self.now.headers.bytes.now }
         ensures { IsTrue result ↔ IsRightEntry rule self.now.headers.bytes.now }

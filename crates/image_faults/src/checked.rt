@@ -1,4 +1,4 @@
-//! All rules, asked in their order.
+//! All rules, checked in their order.
 
 ghost use Rattle.std.specs.Prelude.{◌≡◌, ◌+◌, ◌*◌, ◌<◌, ◌≤◌, ◌↔◌, IsTrue, IfOk, IfErr, length};
 ghost use Rattle.image_rules.specs.Rules.{table_number};
@@ -50,7 +50,7 @@ fn breaks(rule: TableRule, tables: &Tables, entry: u64) -> bool
     }
 }
 
-/// Asks the entries of a table.
+/// Checks the entries of a table.
 fn ask_table(rule: TableRule, tables: &Tables) -> Result<(), ImageFault>
     requires { KeepsBelow (20 + table_number rule) tables.now.bytes.now }
     ensures { Answers (20 + table_number rule) tables.now.bytes.now result }
@@ -64,7 +64,7 @@ fn ask_table(rule: TableRule, tables: &Tables) -> Result<(), ImageFault>
     Ok(())
 }
 
-/// Asks all rules. Answers the fault of the first that is broken, or where the tables of the image lie.
+/// Checks all rules. Returns the fault of the first broken one, or where the tables of the image lie.
 #[tactic(auto, using(crate::proofs::Order::image_of))]
 pub fn fault_free(bytes: &[u8]) -> Result<Tables<'_>, ImageFault>
     ensures tables { IfOk result (λ tables. tables.bytes.now ≡ bytes.now) }

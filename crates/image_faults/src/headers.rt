@@ -1,4 +1,4 @@
-//! The file's header and the program headers: that they lie in the file, and say what it is.
+//! The file's header and the program headers: they lie in the file, and have the right values.
 
 ghost use Rattle.std.specs.Prelude.{◌≡◌, ◌+◌, ◌*◌, ◌<◌, ◌≤◌, ◌↔◌, ℕ, length, IsTrue, MatchOption, IfOk};
 ghost use Rattle.image_rules.specs.declared.rule.Rule.TheVariants.{Field};
@@ -19,7 +19,7 @@ const SEGMENT_LIMIT: u16 = 10;
 /// The address at which a program at fixed addresses begins.
 const PROGRAM_BASE: u64 = 0x40_0000;
 
-/// The bytes of a file whose program headers, and the bytes of whose segments, lie in it.
+/// The bytes of a file that holds all its program headers and the bytes of all segments.
 #[derive(Clone, Copy)]
 pub struct Headers<'a> {
     pub bytes: &'a [u8],
@@ -46,7 +46,7 @@ fn file_header(bytes: &[u8]) -> Option<Header>
     read_header(bytes, 0)
 }
 
-/// The first byte in which the identification is not that of ELF with 64 bits and little-endian data.
+/// The first byte of the identification that differs from that of ELF with 64 bits and little-endian data.
 fn first_wrong_ident(header: &Header) -> Option<u64>
     ensures { IsFirstAt (IsWrongIdent header.now) result }
 {
@@ -58,7 +58,7 @@ fn first_wrong_ident(header: &Header) -> Option<u64>
     None
 }
 
-/// Whether a field of the header says what it is to say.
+/// Whether a field of the header has the right value.
 fn is_right_field(rule: FieldRule, header: &Header) -> bool
     ensures { IsTrue result ↔ IsRightField rule header.now }
 {
@@ -86,7 +86,7 @@ fn field_offset(rule: FieldRule) -> u64
     }
 }
 
-/// Asks a field of the header.
+/// Checks a field of the header.
 fn ask_field(rule: FieldRule, bytes: &[u8], found: &Header) -> Result<(), ImageFault>
     requires header { found.now ≡ header bytes.now }
     requires earlier { KeepsBelow (2 + field_number rule) bytes.now }
@@ -100,7 +100,7 @@ fn ask_field(rule: FieldRule, bytes: &[u8], found: &Header) -> Result<(), ImageF
     }
 }
 
-/// Asks the file's header.
+/// Checks the file's header.
 fn ask_header(bytes: &[u8]) -> Result<Header, ImageFault>
     ensures answers { Answers 7 bytes.now result }
     ensures header { IfOk result (λ found. found ≡ header bytes.now) }
@@ -147,7 +147,7 @@ fn has_segment_past_end(bytes: &[u8], found: &Header, number: u64) -> bool
     !fits(bytes, segment.offset, segment.filesz)
 }
 
-/// A segment whose bytes pass the end of the file.
+/// The first segment whose bytes pass the end of the file.
 fn segment_past_end(bytes: &[u8], found: &Header) -> Option<u64>
     requires header { found.now ≡ header bytes.now }
     requires few { found.now.e_phnum ≤ 10 }
@@ -174,7 +174,7 @@ fn passes_end(bytes: &[u8], found: &Header) -> bool
     !fits(bytes, Header::SIZE, size) || segment_past_end(bytes, found).is_some()
 }
 
-/// Reads the file's header, and asks what is wrong with it or with where the segments lie.
+/// Reads the file's header, and checks it and where the segments lie.
 pub fn headers_of(bytes: &[u8]) -> Result<Headers<'_>, ImageFault>
     ensures headers { IfOk result (λ headers. headers.bytes.now ≡ bytes.now) }
     ensures answers { Answers 8 bytes.now result }

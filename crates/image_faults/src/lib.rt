@@ -1,16 +1,16 @@
-//! What may be wrong with an image, a program or a module that a linker wrote.
+//! What may be wrong with an image, that is a program or a module that a linker wrote: finds its first fault.
 //!
 //! A linker's output tells its loader where everything is: *program headers* say which bytes of the file to put at
-//! which addresses, one of them leads to the *dynamic array*, and that leads to a hash table, symbols, their names
-//! and the relocations that are left for the loader. Every one of these numbers may lie. This crate asks each of
-//! them once, and takes no memory.
+//! which addresses; one of them leads to the *dynamic array*, and the array leads to a hash table, symbols, their
+//! names and the relocations that are left to the loader. Every one of these numbers may be wrong. This crate checks
+//! each of them once, and allocates no memory.
 //!
-//! The rule that it keeps: **an image is exactly what keeps every [`Rule`]**, and the fault that is answered is the
-//! first: all earlier rules are kept, and no earlier entry breaks this one. It is told with its offset in the file.
+//! The rule that it keeps: **an image is exactly what keeps every [`Rule`]**, and the fault that is returned is the
+//! first: all earlier rules are kept, and no earlier entry breaks this one. It comes with its offset in the file.
 //! `specs/` has the rules: `Fields` for the header, `Segments` for the program headers, `Array`, `Symbols` and
-//! `Relocations`; `Faults` puts them in order. They know nothing of how the code looks for what breaks them.
-//! Checking goes through each table at most twice, with no search through another table (a LOAD is looked for among
-//! the ten that there may be at most), so its time grows with the file.
+//! `Relocations`; `Faults` puts them in order. They know nothing of how the code finds a broken rule. Checking goes
+//! through each table at most twice and searches no other table meanwhile (except for a LOAD, of which there are at
+//! most ten), so its time is linear in the file's size.
 //!
 //! An example. The image of one function and one thread-local variable has five program headers,
 //!
@@ -25,9 +25,9 @@
 //! With the variable's symbol at 5, past the 4 bytes of its TLS segment, it is refused as `image 12456 TlsPlace`.
 //!
 //! The format is that of the System V ABI (gABI, "Program Loading and Dynamic Linking"), of its supplement for
-//! x86-64 (psABI) and of "ELF Handling For Thread-Local Storage". The narrow form asked here, in which a part of
-//! the file at an address stands at one offset and the array has its entries in one order, is this project's own:
-//! it is what its linker writes.
+//! x86-64 (psABI) and of "ELF Handling For Thread-Local Storage". The narrow form that is required here is this
+//! project's own: a byte's address decides its offset in the file, and the array has its entries in one order. Its
+//! linker writes that form.
 #![tactic(auto)]
 
 mod array;

@@ -1,4 +1,4 @@
-//! The types of relocation that a loader works on.
+//! The types of relocation that a loader carries out.
 
 ghost use Rattle.std.specs.Prelude.{◌≡◌};
 ghost use Rattle.image_faults.specs.Relocations.{loader_kind, field_width};
@@ -8,12 +8,12 @@ use elf_records::relocation::{
     R_X86_64_TPOFF64,
 };
 
-/// A type of relocation that a loader works on (psABI, "Relocation Types").
+/// A type of relocation that a loader carries out (psABI, "Relocation Types").
 #[derive(Clone, Copy, PartialEq, Eq, Debug)]
 pub enum LoaderKind {
     /// JUMP_SLOT: the address of a function of the run time.
     JumpSlot,
-    /// RELATIVE: where the image is loaded, and the addend.
+    /// RELATIVE: how far the image was moved, plus the addend.
     Relative,
     /// DTPMOD64: the number of a module with thread-local data.
     Module,
@@ -21,12 +21,12 @@ pub enum LoaderKind {
     ModuleOffset,
     /// TPOFF64: a symbol's offset from the thread pointer.
     ThreadOffset,
-    /// TLSDESC: two words by which a function finds a symbol.
+    /// TLSDESC: a TLS descriptor, two words by which a function finds a symbol.
     Descriptor,
 }
 
 impl LoaderKind {
-    /// The type of a number.
+    /// The type with this number.
     pub fn numbered(number: u32) -> Option<LoaderKind>
         ensures { result ≡ loader_kind number }
     {

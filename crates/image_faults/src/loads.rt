@@ -17,7 +17,7 @@ const PAGE: u64 = 4_096;
 /// How many addresses an image may span.
 const RANGE: u128 = 1 << 26;
 
-/// Whether the bytes of a segment stand in the file where its address says.
+/// Whether the bytes of a segment stand in the file at the offset that its address requires.
 pub fn is_placed(headers: &Headers, segment: &Segment) -> bool
     ensures { IsTrue result ↔ IsPlaced headers.now.bytes.now segment.now }
 {
@@ -25,7 +25,7 @@ pub fn is_placed(headers: &Headers, segment: &Segment) -> bool
         == u128::from(segment.offset) + u128::from(headers.base)
 }
 
-/// Whether the flags are those of code, of constant data or of data that is written.
+/// Whether the flags are those of code, of constant data or of data that programs write.
 fn is_class(segment: &Segment) -> bool
     ensures { IsTrue result ↔ IsClass segment.now }
 {
@@ -39,7 +39,7 @@ fn is_whole(segment: &Segment) -> bool
     segment.filesz == segment.memsz && 0 < segment.memsz && segment.vaddr % PAGE == 0
 }
 
-/// The address behind a segment.
+/// The address after a segment.
 fn end_of(segment: &Segment) -> u128
     ensures { result ≡ segment.now.vaddr + segment.now.memsz }
 {
@@ -58,7 +58,7 @@ fn is_in_range(headers: &Headers, number: u64) -> bool
     number == 0 || end_of(&headers.segment(number - 1)) <= u128::from(segment.vaddr)
 }
 
-/// Whether a LOAD is not written, or is one of the few that may be.
+/// Whether a LOAD is not writable, or is one of the two that may be.
 fn is_of_few_written(headers: &Headers, number: u64) -> bool
     requires { number < headers.now.count }
     ensures { IsTrue result ↔ IsOfFewWritten headers.now.bytes.now number }
@@ -76,7 +76,7 @@ fn is_last_constant(headers: &Headers, loads: u64, number: u64) -> bool
     number + 1 != loads || headers.segment(number).flags == PF_R
 }
 
-/// Whether the header of a LOAD says what it is to say.
+/// Whether the header of a LOAD keeps its rule.
 fn is_right_load(headers: &Headers, loads: u64, number: u64) -> bool
     requires loads { loads ≡ loads_of headers.now.bytes.now }
     requires number { number < headers.now.count }
@@ -91,7 +91,7 @@ fn is_right_load(headers: &Headers, loads: u64, number: u64) -> bool
         && is_last_constant(headers, loads, number)
 }
 
-/// The first LOAD whose header does not say what it is to say.
+/// The first LOAD whose header breaks its rule.
 pub fn first_wrong_load(headers: &Headers, loads: u64) -> Option<u64>
     requires loads { loads ≡ loads_of headers.now.bytes.now }
     requires few { loads ≤ headers.now.count }

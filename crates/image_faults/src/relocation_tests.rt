@@ -28,7 +28,7 @@ fn may_name(tables: &Tables, kind: Option<LoaderKind>, symbol: u64) -> bool
     }
 }
 
-/// Whether a relocation is of a type that a loader knows, and of a symbol that it may name.
+/// Whether a loader knows the type of a relocation, and the relocation may name its symbol.
 fn names_right(tables: &Tables, rela: &Rela) -> bool
     ensures { IsTrue result ↔ NamesRight tables.now.bytes.now rela.now }
 {
@@ -50,7 +50,7 @@ fn holds_field(tables: &Tables, rela: &Rela, number: u64) -> bool
             <= u128::from(load.vaddr) + u128::from(load.memsz)
 }
 
-/// Whether any LOAD does. There are at most ten.
+/// Whether some LOAD, which is not the last, holds them. There are at most ten.
 fn is_in_load(tables: &Tables, rela: &Rela) -> bool
     ensures { IsTrue result ↔ ((i : ℕ) × HoldsField tables.now.bytes.now rela.now i) }
 {
@@ -62,7 +62,7 @@ fn is_in_load(tables: &Tables, rela: &Rela) -> bool
     false
 }
 
-/// Whether a relocation stands behind what the one before it writes.
+/// Whether a relocation's place is after the field of the one before it.
 fn is_behind_last(tables: &Tables, number: u64) -> bool
     requires { number < tables.now.places.relocation_count }
     ensures { IsTrue result ↔ IsBehindLast tables.now.bytes.now number }
@@ -75,7 +75,7 @@ fn is_behind_last(tables: &Tables, number: u64) -> bool
     end <= u128::from(tables.relocation(number).offset)
 }
 
-/// Whether a relocation is of a type that a loader knows, of a symbol that it may name, and behind the last one.
+/// Whether a relocation's type is known to a loader, its symbol is allowed, and it comes after the one before it.
 pub fn is_right_relocation(tables: &Tables, number: u64) -> bool
     requires { number < tables.now.places.relocation_count }
     ensures { IsTrue result ↔ IsRightRelocation tables.now.bytes.now number }
@@ -91,7 +91,7 @@ fn is_outside_tls(tables: &Tables, addend: i64) -> bool
     addend < 0 || (tables.places.tls_size as i64) < addend
 }
 
-/// Whether a type needs a TLS segment of this image that there is not, or an addend within it.
+/// Whether a type needs a TLS segment and this image has none, or needs an addend inside the segment and has another.
 fn lacks_own_tls(tables: &Tables, kind: Option<LoaderKind>, addend: i64) -> bool
     ensures { IsTrue result ↔ LacksOwnTls tables.now.bytes.now kind addend }
 {
@@ -104,7 +104,7 @@ fn lacks_own_tls(tables: &Tables, kind: Option<LoaderKind>, addend: i64) -> bool
     }
 }
 
-/// Whether a relocation means a place of the image's own TLS segment that is not there.
+/// Whether a relocation refers to a place of the image's own TLS segment that does not exist.
 pub fn is_own_outside(tables: &Tables, number: u64) -> bool
     requires { number < tables.now.places.relocation_count }
     ensures { IsTrue result ↔ IsOwnOutside tables.now.bytes.now number }

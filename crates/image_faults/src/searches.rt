@@ -1,4 +1,4 @@
-//! Looking through the program headers: how many LOADs lead, which are written, whether one is GNU_RELRO.
+//! Searches in the program headers: how many LOADs lead, which are writable, whether there is a GNU_RELRO.
 
 ghost use Rattle.std.specs.Prelude.{◌≡◌, ◌≤◌, ◌<◌, ◌+◌};
 ghost use Rattle.image_faults.specs.Counts.{how_many};
@@ -24,7 +24,7 @@ pub fn load_count(headers: &Headers) -> u64
     headers.count
 }
 
-/// How many of the first headers are of a part that may be written. There are at most ten headers.
+/// How many of the first `end` headers are those of a writable part. There are at most ten headers.
 pub fn written_below(headers: &Headers, end: u64) -> u64
     requires { end ≤ headers.now.count }
     ensures { result ≡ how_many (is_writable headers.now.bytes.now) end }
@@ -38,7 +38,7 @@ pub fn written_below(headers: &Headers, end: u64) -> u64
     count
 }
 
-/// The number behind that of the last LOAD that may be written, or 0.
+/// The number after that of the last writable LOAD, or 0.
 pub fn behind_last_writable(headers: &Headers, loads: u64) -> u64
     requires loads { loads ≡ loads_of headers.now.bytes.now }
     requires few { loads ≤ headers.now.count }
@@ -54,7 +54,7 @@ pub fn behind_last_writable(headers: &Headers, loads: u64) -> u64
     behind
 }
 
-/// Whether a header is GNU_RELRO.
+/// Whether one of the headers is GNU_RELRO.
 pub fn has_relro(headers: &Headers) -> bool
     ensures { result ≡ has_relro_of headers.now.bytes.now }
 {

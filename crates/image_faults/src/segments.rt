@@ -18,10 +18,10 @@ use elf_records::program_header::{PF_R, PT_DYNAMIC, PT_GNU_RELRO, PT_TLS};
 use elf_records::{Header, Segment};
 use image_rules::{ImageFault, Rule};
 
-/// The most bytes of an image's block of each thread.
+/// The most bytes of an image's TLS block.
 const TLS_LIMIT: u64 = 1 << 20;
 
-/// An image whose program headers say what they are to say.
+/// An image whose program headers are right.
 #[derive(Clone, Copy)]
 pub struct Segments<'a> {
     pub headers: Headers<'a>,
@@ -29,7 +29,7 @@ pub struct Segments<'a> {
     pub loads: u64,
     /// The last of them, which holds the dynamic tables.
     pub last: Segment,
-    /// How many bytes the dynamic array has, which begins where the last LOAD does.
+    /// How many bytes the dynamic array has. It begins where the last LOAD does.
     pub array_size: u64,
     /// Whether there is a TLS segment.
     pub has_tls: bool,
@@ -46,7 +46,7 @@ pub struct Segments<'a> {
     pub ghost tls_small: { tls_size ≤ 2 ^ 20 },
 }
 
-/// Whether the header behind the LOADs is that of the dynamic array.
+/// Whether the header after the LOADs is that of the dynamic array.
 fn is_right_dynamic(headers: &Headers, loads: u64) -> bool
     requires { loads ≡ loads_of headers.now.bytes.now }
     ensures { IsTrue result ↔ IsRightDynamic headers.now.bytes.now loads }
@@ -72,7 +72,7 @@ fn holds_initial_image(headers: &Headers, loads: u64, tls: &Segment, number: u64
     number + 1 < loads && load.flags == PF_R && load.vaddr == tls.vaddr && load.filesz == tls.filesz
 }
 
-/// Whether any LOAD does.
+/// Whether some LOAD holds it.
 fn has_initial_image(headers: &Headers, loads: u64, tls: &Segment) -> bool
     requires loads { loads ≡ loads_of headers.now.bytes.now }
     requires few { loads ≤ headers.now.count }
@@ -86,7 +86,7 @@ fn has_initial_image(headers: &Headers, loads: u64, tls: &Segment) -> bool
     false
 }
 
-/// Whether the header of a TLS segment says what it is to say.
+/// Whether the header of a TLS segment keeps its rule.
 fn is_right_tls(headers: &Headers, loads: u64, tls: &Segment) -> bool
     requires loads { loads ≡ loads_of headers.now.bytes.now }
     requires few { loads ≤ headers.now.count }
@@ -118,7 +118,7 @@ fn is_right_relro(headers: &Headers, loads: u64, relro: &Segment) -> bool
         && relro.memsz == written.memsz
 }
 
-/// Whether the header behind DYNAMIC is that of a TLS segment.
+/// Whether the header after DYNAMIC is that of a TLS segment.
 fn has_tls(headers: &Headers, loads: u64) -> bool
     requires loads { loads ≡ loads_of headers.now.bytes.now }
     requires few { loads ≤ headers.now.count }
@@ -140,7 +140,7 @@ fn relro_place(headers: &Headers, loads: u64) -> u64
     }
 }
 
-/// Whether a header behind DYNAMIC is TLS or GNU_RELRO, at its place, and says what it is to say.
+/// Whether a header after DYNAMIC is TLS or GNU_RELRO, at its place, and keeps its rule.
 fn is_right_rest(headers: &Headers, loads: u64, number: u64) -> bool
     requires loads { loads ≡ loads_of headers.now.bytes.now }
     requires few { loads ≤ headers.now.count }
@@ -154,7 +154,7 @@ fn is_right_rest(headers: &Headers, loads: u64, number: u64) -> bool
             && is_right_relro(headers, loads, &segment))
 }
 
-/// The first header behind DYNAMIC that is not as it should be.
+/// The first header after DYNAMIC that breaks its rule.
 fn first_wrong_rest(headers: &Headers, loads: u64) -> Option<u64>
     requires loads { loads ≡ loads_of headers.now.bytes.now }
     requires few { loads < headers.now.count }
@@ -182,7 +182,7 @@ fn tls_size(headers: &Headers, loads: u64) -> u64
     }
 }
 
-/// The fault of a program header, or of the end of the table.
+/// The fault of a program header, or of a missing one at the end of the table.
 fn segment_fault(headers: &Headers, number: u64) -> ImageFault
     requires few { number ≤ 10 }
     requires first { IsFirst headers.now.bytes.now Rule.Segment number }
@@ -192,7 +192,7 @@ fn segment_fault(headers: &Headers, number: u64) -> ImageFault
     fault_at(Rule::Segment, headers.bytes, number, offset)
 }
 
-/// Asks what is wrong with the program headers.
+/// Checks the program headers.
 pub fn segments_of<'a>(headers: Headers<'a>) -> Result<Segments<'a>, ImageFault>
     requires { KeepsBelow 9 headers.bytes.now }
     ensures segments { IfOk result (λ segments. segments.headers.bytes.now ≡ headers.entry.bytes.now) }

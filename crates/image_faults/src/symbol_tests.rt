@@ -8,7 +8,7 @@ ghost use Rattle.image_faults.specs.Symbols.{IsRightSymbol, IsImport, IsRuntime,
 use crate::tables::Tables;
 use elf_records::symbol::{SHN_UNDEF, STB_GLOBAL, STB_WEAK, STT_COMMON, STT_TLS};
 
-/// The name of the function of the run time, with the zero byte behind it.
+/// The name of the run time's function, with the zero byte after it.
 pub const TLS_GET_ADDR: [u8; 15] = *b"__tls_get_addr\0";
 
 /// Whether a name that begins at this offset of the names ends.
@@ -20,7 +20,7 @@ fn name_ends(tables: &Tables, at: u64) -> bool
     at < tables.places.names_end
 }
 
-/// Whether a symbol's name ends, its type is known, and it is shared, or the reserved one.
+/// Whether a symbol's name ends, its type is known, and it is GLOBAL or WEAK, or the reserved one.
 pub fn is_right_symbol(tables: &Tables, number: u64) -> bool
     requires { number < tables.now.places.symbol_count }
     ensures { IsTrue result ↔ IsRightSymbol tables.now.bytes.now number }
@@ -41,7 +41,7 @@ pub fn is_import(tables: &Tables, number: u64) -> bool
     number != 0 && symbol.shndx == SHN_UNDEF && symbol.kind() == STT_TLS
 }
 
-/// Whether a symbol is the function of the run time.
+/// Whether a symbol is the run time's function.
 #[tactic(auto, unfolding(elf_records::specs::Fields::part_at))]
 pub fn is_runtime(tables: &Tables, number: u64) -> bool
     requires { number < tables.now.places.symbol_count }

@@ -27,7 +27,7 @@ pub struct Tables<'a> {
     pub ghost are: { ArePlaces bytes.now places },
 }
 
-/// Asks an entry of the dynamic array.
+/// Checks an entry of the dynamic array.
 fn ask_entry(rule: EntryRule, segments: &Segments) -> Result<(), ImageFault>
     requires earlier { KeepsBelow (10 + entry_number rule) segments.now.headers.bytes.now }
     requires hash { 0 < entry_number rule → IsRightEntry Hash segments.now.headers.bytes.now }
@@ -42,7 +42,7 @@ fn ask_entry(rule: EntryRule, segments: &Segments) -> Result<(), ImageFault>
     Err(fault_at(Rule::Entry(rule), segments.headers.bytes, entry, offset))
 }
 
-/// Asks the entries of the dynamic array.
+/// Checks the entries of the dynamic array.
 fn ask_array(segments: &Segments) -> Result<(), ImageFault>
     requires { KeepsBelow 10 segments.now.headers.bytes.now }
     ensures answers { Answers 19 segments.now.headers.bytes.now result }
@@ -73,7 +73,7 @@ fn relocations_place(segments: &Segments) -> u64
     }
 }
 
-/// What the image is.
+/// What kind of image it is.
 fn file_kind(segments: &Segments) -> FileKind
     ensures { result ≡ file_kind segments.now.headers.bytes.now }
 {
@@ -86,7 +86,7 @@ fn file_kind(segments: &Segments) -> FileKind
     }
 }
 
-/// The LOAD that the loader alone writes.
+/// The LOAD that only the loader writes, if there is one.
 fn got_of(segments: &Segments) -> Option<u64>
     ensures got { result ≡ got segments.now.headers.bytes.now }
     ensures within { (n : ℕ) → result ≡ Some n → n < loads_of segments.now.headers.bytes.now }
@@ -124,7 +124,7 @@ fn places_of(segments: &Segments) -> Places
     }
 }
 
-/// Asks the dynamic array.
+/// Checks the dynamic array.
 pub fn tables_of<'a>(segments: Segments<'a>) -> Result<Tables<'a>, ImageFault>
     requires { KeepsBelow 10 segments.headers.bytes.now }
     ensures tables { IfOk result (λ tables. tables.bytes.now ≡ segments.entry.headers.bytes.now) }

@@ -4,7 +4,7 @@ use Rattle.image_rules.specs.declared.fault.ImageFault.{ImageFault}
 use Rattle.image_rules.specs.declared.fault.ImageFault.TheVariants.{OutOfMemory, At}
 use Rattle.image_faults.specs.Faults.{IsFirstFault}
 
--- the first fault, or, of want of memory, nothing
+-- the first fault; nothing when memory runs out
 abbrev pub IsRefusal : List ℕ → ImageFault → Type 0
 IsRefusal b OutOfMemory = Unit {0}
 IsRefusal b (At offset kind) = IsFirstFault b offset kind

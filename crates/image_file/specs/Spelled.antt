@@ -76,7 +76,7 @@ abbrev pub tls_of : Option Segment → Option TlsPart
 tls_of None = None
 tls_of (Some s) = Some (tls_part s)
 
--- the binding, the type and the visibility that numbers of the file stand for
+-- the binding, the type and the visibility with these numbers
 abbrev pub binding_numbered : ℕ → SymbolBinding
 binding_numbered n = if n == STB_GLOBAL then Global else if n == STB_WEAK then Weak else Local
 
@@ -93,7 +93,7 @@ abbrev pub visibility_numbered : ℕ → Visibility
 visibility_numbered n = if n == STV_DEFAULT then Default else if n == STV_INTERNAL then Internal else if n ==
     STV_HIDDEN then Hidden else Protected
 
--- what a symbol says, but for its name
+-- the symbol of an entry, without its name
 unfoldable pub symbol_of : SymbolEntry → ImageSymbol
 symbol_of s = record {
   binding = binding_numbered (symbol_binding s);
@@ -104,7 +104,7 @@ symbol_of s = record {
   size = s.size;
 }
 
--- the names, and the text among them where a symbol has its name
+-- the bytes of the names, and among them the text at which a symbol has its name
 abbrev pub strings : List ℕ → List ℕ
 strings b = slice_range b (strings_place b) (strings_place b + strings_size b)
 
@@ -116,7 +116,7 @@ abbrev pub text_seen : Option (Bor (List ℕ)) → Option (List ℕ)
 text_seen None = None
 text_seen (Some lent) = Some lent.now
 
--- what a relocation says; no other number than that of a type stands in an image
+-- the relocation of an entry; an image has only types of relocation that a loader knows
 unfoldable pub relocation_of : Rela → ImageRelocation
 relocation_of r = record {
   place = r.offset;
@@ -125,7 +125,7 @@ relocation_of r = record {
   addend = r.addend;
 }
 
--- the lists of an image: the names of symbols stand beside them, since each is found when it is asked for
+-- the lists of an image; names are a list of their own, since each is found only when asked for
 abbrev pub parts : List ℕ → List Part
 parts b = tabled (part b) (loads b)
 

@@ -1,4 +1,4 @@
--- A list of what stands at each number below another.
+-- The list of a function's values at 0, 1, .. up to a number.
 use Rattle.std.proofs.Common.{◌≡◌, ◌<◌, ◌≤◌, ◌∙◌, ℕ, List, map, length, Some, None, ap, arith}
 use Rattle.std.specs.List.{slice_get, range_with_len}
 use Rattle.std.proofs.lemmas.List.FromFn.{length-map-range_with_len, get_or-map-range_with_len}

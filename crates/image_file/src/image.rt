@@ -1,4 +1,4 @@
-//! An image: a file that was read and found without fault.
+//! An image: a file that was read and has no fault.
 
 ghost use Rattle.std.specs.Prelude.{◌≡◌, ◌<◌, ℕ, List, IfOk, IfErr, IfSome, length, slice_get};
 ghost use Rattle.image_faults.specs.Faults.{IsImage, IsFault};
@@ -13,7 +13,7 @@ use image_faults::{FileKind, ImageFault, Places, Tables, fault_free};
 use std::alloc::Global;
 use std::marker::Model;
 
-/// An image that was read. It keeps the bytes of the file. Contracts see what they spell.
+/// An image that was read. It keeps the bytes of the file. Contracts see what these bytes spell.
 #[derive(Drop)]
 pub struct Image {
     bytes: Vec<u8>,
@@ -32,7 +32,7 @@ impl Model for Image {
     ghost invariant = { λ image. IsImage image.bytes.items × ArePlaces image.bytes.items image.places };
 }
 
-/// Reads an image. Answers the first fault that stands, or the image that the bytes spell.
+/// Reads an image. Returns the first fault, or the image that the bytes spell.
 pub fn read(alloc: Global, bytes: &[u8]) -> Result<Image, ImageFault>
     ensures image { IfOk result (λ image. (image ≡ spelled bytes.now) × IsImage bytes.now) }
     ensures fault { IfErr result (IsRefusal bytes.now) }
@@ -44,7 +44,7 @@ pub fn read(alloc: Global, bytes: &[u8]) -> Result<Image, ImageFault>
     })
 }
 
-/// The same of bytes that are handed over. They are kept as they are, so that no memory is taken.
+/// Reads an image from bytes that it keeps as they are, so that it allocates no memory.
 pub fn read_owned(bytes: Vec<u8>) -> Result<Image, ImageFault>
     ensures image { IfOk result (λ image. (image ≡ spelled bytes.items) × IsImage bytes.items) }
     ensures fault { IfErr result (IsFault bytes.items) }
@@ -54,7 +54,7 @@ pub fn read_owned(bytes: Vec<u8>) -> Result<Image, ImageFault>
 }
 
 impl Image {
-    /// The image of bytes that are known to stand for one. They are kept as they are, and not copied.
+    /// The image of bytes that are known to be one. It keeps them as they are, without a copy.
     pub fn from_bytes(bytes: Vec<u8>) -> Image
         requires { IsImage bytes.items }
         ensures { result ≡ spelled bytes.items }
@@ -68,7 +68,7 @@ impl Image {
         }
     }
 
-    /// The bytes of the file, which the image gives up. They are not copied.
+    /// Gives up the image for the bytes of its file, without a copy.
     pub fn into_bytes(self) -> Vec<u8>
         ensures spelled { spelled result.items ≡ self }
         ensures image { IsImage result.items }
@@ -76,21 +76,21 @@ impl Image {
         self.bytes
     }
 
-    /// What the image is.
+    /// What kind of image it is.
     pub fn kind(&self) -> FileKind
         ensures { result ≡ self.now.kind }
     {
         self.places.kind
     }
 
-    /// Whether it asks for its thread-local data at a fixed distance from the thread pointer.
+    /// Whether it uses static TLS: its code needs its TLS block at a fixed distance from the thread pointer.
     pub fn is_flagged(&self) -> bool
         ensures { result ≡ self.now.is_flagged }
     {
         self.places.is_flagged
     }
 
-    /// The number of the part that the loader alone writes, if there is one.
+    /// The number of the part that only the loader writes, if there is one.
     pub fn got(&self) -> Option<u64>
         ensures got { result ≡ self.now.got }
         ensures within { IfSome result (λ n. n < length self.now.parts) }
@@ -157,7 +157,7 @@ impl Image {
         symbol_in(&tables, number)
     }
 
-    /// The name of a symbol, by its number. It is looked for here, up to its last byte.
+    /// The name of a symbol, by its number. Each call searches for its end.
     pub fn symbol_name(&self, number: u64) -> Option<&[u8]>
         ensures { text_seen result ≡ slice_get self.now.names number }
     {
@@ -175,7 +175,7 @@ impl Image {
         self.places.relocation_count
     }
 
-    /// A relocation, by its number. `None` exactly past the last. Its symbol is one of this image's.
+    /// A relocation, by its number. `None` exactly past the last. Its symbol is one of this image.
     pub fn relocation(&self, number: u64) -> Option<ImageRelocation>
         ensures relocation { result ≡ slice_get self.now.relocations number }
         ensures symbol { IfSome result (λ found. found.symbol < length self.now.symbols) }
@@ -188,7 +188,7 @@ impl Image {
     }
 }
 
-/// An image is what the bytes of some file spell that was found without fault. The call only tells a proof so.
+/// An image is what the bytes of some file without a fault spell. The call does nothing; it gives a proof this fact.
 pub fn image_is_spelled(image: &Image)
     ensures { (b : List ℕ) × (IsImage b × (image.now ≡ spelled b)) }
 {

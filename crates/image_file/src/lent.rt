@@ -1,4 +1,4 @@
-//! What an image lends, found in the tables of its file.
+//! What an image lends, taken from the tables of its file.
 
 ghost use Rattle.std.specs.Prelude.{◌≡◌, ◌+◌, ◌<◌, ◌≤◌, length, slice_get, slice_range};
 ghost use Rattle.image_faults.specs.Array.{symbol_count};
@@ -42,7 +42,7 @@ pub fn tls_in(tables: &Tables) -> Option<TlsPart>
     })
 }
 
-/// A symbol, but for its name.
+/// A symbol, without its name.
 pub fn symbol_in(tables: &Tables, number: u64) -> Option<ImageSymbol>
     ensures { result ≡ slice_get (symbols tables.now.bytes.now) number }
 {

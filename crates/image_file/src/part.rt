@@ -25,12 +25,12 @@ pub struct ImagePart<'a> {
     pub bytes: &'a [u8],
 }
 
-/// What each thread's block of an image begins as.
+/// The TLS segment, from which each thread's block of the image is made.
 #[derive(Clone, Copy, PartialEq, Eq, Debug)]
 pub struct TlsPart {
     /// The address of the initial image.
     pub address: u64,
-    /// How many bytes that has; those of the block behind it begin as zero.
+    /// How many bytes the initial image has; the rest of the block begins as zeros.
     pub initial: u64,
     /// How many bytes the block has.
     pub size: u64,

@@ -1,4 +1,4 @@
-//! What an image says of a relocation (gABI, "Relocation").
+//! A relocation of an image (gABI, "Relocation").
 
 ghost use Rattle.std.specs.Prelude.{◌≡◌};
 ghost use Rattle.image_file.specs.Spelled.{relocation_of};
@@ -6,7 +6,7 @@ ghost use Rattle.image_file.specs.Spelled.{relocation_of};
 use elf_records::Rela;
 use image_faults::LoaderKind;
 
-/// A relocation that a loader works on.
+/// A relocation that a loader carries out.
 #[derive(Clone, Copy, PartialEq, Eq, Debug)]
 pub struct ImageRelocation {
     /// The address of the bytes that it writes, before the image is moved.
@@ -14,11 +14,11 @@ pub struct ImageRelocation {
     pub kind: LoaderKind,
     /// The number of the symbol, or 0.
     pub symbol: u32,
-    /// What is added.
+    /// The addend.
     pub addend: i64,
 }
 
-/// What an entry of the table of relocations says.
+/// The relocation of an entry of the table.
 #[tactic(auto, unfolding(crate::specs::Spelled::relocation_of))]
 pub fn relocation_of(entry: Rela) -> ImageRelocation
     ensures { result ≡ relocation_of entry }

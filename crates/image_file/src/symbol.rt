@@ -1,4 +1,4 @@
-//! What an image says of a symbol (gABI, "Symbol Table").
+//! A symbol of an image (gABI, "Symbol Table").
 
 ghost use Rattle.std.specs.Prelude.{◌≡◌};
 ghost use Rattle.image_file.specs.Spelled.{binding_numbered, type_numbered, visibility_numbered, symbol_of};
@@ -9,14 +9,14 @@ use elf_records::symbol::{
     STV_DEFAULT, STV_HIDDEN, STV_INTERNAL,
 };
 
-/// How a symbol is shared.
+/// The binding of a symbol.
 #[derive(Clone, Copy, PartialEq, Eq, Debug)]
 pub enum SymbolBinding {
-    /// Not at all: the reserved symbol, number 0.
+    /// Not shared: the reserved symbol, number 0.
     Local,
     /// There is one definition.
     Global,
-    /// A GLOBAL definition of the name goes before it.
+    /// A GLOBAL definition of the name takes precedence.
     Weak,
 }
 
@@ -40,7 +40,7 @@ pub enum Visibility {
     Protected,
 }
 
-/// A symbol of an image, but for its name.
+/// A symbol of an image, without its name.
 #[derive(Clone, Copy, PartialEq, Eq, Debug)]
 pub struct ImageSymbol {
     pub binding: SymbolBinding,
@@ -48,13 +48,13 @@ pub struct ImageSymbol {
     pub visibility: Visibility,
     /// Whether this image defines it.
     pub is_defined: bool,
-    /// Its address, or of a thread-local symbol its offset in the TLS segment.
+    /// Its address, or for a thread-local symbol its offset in the TLS segment.
     pub value: u64,
-    /// How many bytes it names.
+    /// Its size in bytes.
     pub size: u64,
 }
 
-/// The binding of a number.
+/// The binding with this number.
 fn binding_numbered(number: u8) -> SymbolBinding
     ensures { result ≡ binding_numbered number }
 {
@@ -65,7 +65,7 @@ fn binding_numbered(number: u8) -> SymbolBinding
     }
 }
 
-/// The type of a number.
+/// The type with this number.
 fn type_numbered(number: u8) -> SymbolType
     ensures { result ≡ type_numbered number }
 {
@@ -79,7 +79,7 @@ fn type_numbered(number: u8) -> SymbolType
     }
 }
 
-/// The visibility of a number.
+/// The visibility with this number.
 fn visibility_numbered(number: u8) -> Visibility
     ensures { result ≡ visibility_numbered number }
 {
@@ -91,7 +91,7 @@ fn visibility_numbered(number: u8) -> Visibility
     }
 }
 
-/// What an entry of the symbol table says.
+/// The symbol of an entry of the symbol table.
 #[tactic(auto, unfolding(crate::specs::Spelled::symbol_of))]
 pub fn symbol_of(entry: SymbolEntry) -> ImageSymbol
     ensures { result ≡ symbol_of entry }

@@ -1,4 +1,4 @@
-//! Changes of an image's bytes: in its headers, in its dynamic tables or anywhere, to a byte that is near or to any.
+//! Changes bytes of an image, in its headers, in its dynamic tables or anywhere, to a nearby byte or to any byte.
 
 ghost use Rattle.std.specs.Prelude.{◌<◌};
 
@@ -7,7 +7,7 @@ use crate::generator::Generator;
 /// Bytes of the header and of ten program headers.
 const HEADERS: u64 = 64 + 10 * 56;
 
-/// An offset in a file of this size, whose last bytes hold tables of that size.
+/// An offset in a file of `size` bytes, of which the last `tables` hold the dynamic tables.
 fn offset(generator: &mut Generator, size: u64, tables: u64) -> u64
     requires { 0 < size }
     ensures { result < size }
@@ -20,7 +20,7 @@ fn offset(generator: &mut Generator, size: u64, tables: u64) -> u64
     }
 }
 
-/// Another byte in place of this one, or by chance the same.
+/// A byte to put in place of `old`; it may be the same.
 fn byte(generator: &mut Generator, old: u8) -> u8 {
     match generator.below(3) {
         0 => old ^ (1 << generator.below(8)),

@@ -7,7 +7,7 @@ const FACTOR: u64 = 6_364_136_223_846_793_005;
 
 const SUMMAND: u64 = 1_442_695_040_888_963_407;
 
-/// Where in the sequence it is.
+/// The state of the generator.
 #[derive(Drop)]
 pub struct Generator {
     state: u64,
@@ -19,7 +19,7 @@ impl Generator {
         Generator { state: 1 }
     }
 
-    /// The next number below an end. The low bits of the state repeat soon, so the high ones are taken.
+    /// The next number below `end`. The low bits of the state repeat soon, so the high ones are used.
     pub(crate) fn below(&mut self, end: u64) -> u64
         requires { 0 < end }
         ensures { result < end }

@@ -1,11 +1,13 @@
-//! Changes images and reads them: `image_fuzz COUNT FILE..` changes one to three bytes of the images in turn, COUNT times
-//! in all, and reads each changed one. Reading must end with an image, all of whose parts, symbols, names and relocations
-//! are there, or with a fault at an offset of the file or at its end. What the writer makes of an image is read again,
-//! and of those given it makes the very files. The changes are those of a fixed sequence of numbers, so each run makes
-//! the same.
+//! Changes bytes of images, and checks how reading and writing the changed images ends.
 //!
-//! Its data are an executable, one that may be loaded anywhere, and a module. Other programs than this repository's
-//! wrote them, and a reader apart from it counted how many changed images are accepted.
+//! `image_fuzz COUNT FILE..` makes COUNT changed images from the files in turn, each with one to three bytes
+//! changed, and reads each. Reading must end with an image, all of whose parts, symbols, names and relocations can
+//! be read, or with a fault at an offset of the file or at its end. What the writer makes of an image is read again,
+//! and from the given images the writer makes the same files. The changes follow a fixed sequence of numbers, so
+//! each run makes the same ones.
+//!
+//! Its data are an executable, a program that may be loaded anywhere, and a module. Programs outside this repository
+//! wrote them, and a reader outside it counted how many changed images are accepted.
 #![tactic(auto)]
 
 mod change;
@@ -22,7 +24,7 @@ use std::alloc::Global;
 use std::{env, fs};
 use writing::check_written;
 
-/// An image that is changed.
+/// An image to change.
 #[derive(Drop)]
 struct Sample {
     bytes: Vec<u8>,
@@ -37,7 +39,7 @@ struct Counts {
     refused: u64,
 }
 
-/// The image that a file is. The writer makes this file of it.
+/// The sample of a file. The writer must make this file from its image.
 fn sample_of(alloc: Global, bytes: Vec<u8>) -> Result<Sample> {
     let image = read(alloc, bytes.as_slice())?;
     check_written(alloc, &image, bytes.as_slice())?;
@@ -46,7 +48,7 @@ fn sample_of(alloc: Global, bytes: Vec<u8>) -> Result<Sample> {
     Ok(Sample { bytes, tables })
 }
 
-/// Changes each sample in turn until so many changes were made.
+/// Changes each sample in turn, `count` times in all.
 fn try_changes(alloc: Global, samples: &[Sample], count: u64) -> Result<Counts> {
     let mut generator = Generator::new();
     let mut counts = Counts {

@@ -1,4 +1,4 @@
-//! What reading a changed image must end with.
+//! The allowed results of reading a changed image.
 
 use crate::writing::check_again;
 use anyhow::{Context, Result, bail};
@@ -8,13 +8,13 @@ use std::alloc::Global;
 /// How reading ended.
 #[derive(Clone, Copy)]
 pub enum Outcome {
-    /// It is an image, and what the writer makes of it too.
+    /// It is an image, and so is what the writer makes of it.
     Accepted,
     /// It has a fault, at an offset of the file or at its end.
     Refused,
 }
 
-/// Takes the symbols that an image lends, and their names.
+/// Reads all symbols of an image, and their names.
 fn take_symbols(image: &Image) -> Result<()> {
     for number in 0..image.symbol_count() {
         image.symbol(number).context("a symbol")?;
@@ -23,7 +23,7 @@ fn take_symbols(image: &Image) -> Result<()> {
     Ok(())
 }
 
-/// Takes all that an image lends.
+/// Reads everything that an image lends.
 fn take_all(image: &Image) -> Result<()> {
     for number in 0..image.part_count() {
         image.part(number).context("a part")?;

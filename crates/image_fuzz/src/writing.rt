@@ -1,4 +1,4 @@
-//! Images that were read, written again.
+//! Writes images that were read.
 
 ghost use Rattle.std.specs.Prelude.{IsTrue};
 ghost use Rattle.image_writer.specs.Loadable.{HoldsTls};
@@ -9,7 +9,7 @@ use image_file::{Image, read};
 use image_writer::write;
 use std::alloc::Global;
 
-/// Whether the TLS segment begins no further than the last part ends, as the writer asks.
+/// Whether the TLS segment begins no further than the last part ends, as the writer requires.
 #[tactic(auto, using(crate::proofs::LastPart::held))]
 fn holds_tls(image: &Image) -> bool
     ensures { IsTrue result → HoldsTls (outline_of image.now) }
@@ -29,7 +29,7 @@ fn holds_tls(image: &Image) -> bool
     }
 }
 
-/// The file that the writer makes of an image, if it may.
+/// The file that the writer makes of an image, if the writer accepts it.
 fn written(alloc: Global, image: &Image) -> Result<Option<Vec<u8>>> {
     if !holds_tls(image) {
         return Ok(None);
@@ -47,7 +47,7 @@ pub(crate) fn check_written(alloc: Global, image: &Image, bytes: &[u8]) -> Resul
     Ok(())
 }
 
-/// Checks that what the writer makes of an image, if it may, is read, and written as the same bytes.
+/// Checks that the file that the writer makes of an image, if any, is read and written again with the same bytes.
 pub(crate) fn check_again(alloc: Global, image: &Image) -> Result<()> {
     match written(alloc, image)? {
         None => Ok(()),

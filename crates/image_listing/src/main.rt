@@ -1,8 +1,9 @@
-//! Lists images: `image_listing FILE..` prints what each file spells, as the command `show` prints it. At the first file
-//! that is no image it prints what is wrong with it, and ends with status 8.
+//! Lists images: `image_listing FILE..` prints what each file spells, as the command `show` does.
 //!
-//! Its data are images of known small objects, linked in known ways, by other programs than this repository's; `stdout`
-//! is what other programs print of them. data/README.md has each image's origin.
+//! At the first file that is not an image it prints what is wrong with it, and ends with status 8.
+//!
+//! Its data are images of known small objects, linked in known ways by programs outside this repository; `stdout` is
+//! what other programs print of them. data/README.md has each image's origin.
 #![tactic(auto)]
 
 use anyhow::Result;
@@ -12,7 +13,7 @@ use std::io::Write;
 use std::process::ExitCode;
 use std::{env, fs, io};
 
-/// The status of a file that is no image.
+/// The status for a file that is not an image.
 const REFUSED: u8 = 8;
 
 fn main(rt: HostRuntime) -> Result<ExitCode> {

@@ -12,17 +12,17 @@ use Rattle.image_file.specs.declared.symbol.SymbolType.{SymbolType}
 use Rattle.image_file.specs.declared.symbol.SymbolType.TheVariants.{Tls}
 use Rattle.image_file.specs.Spelled.{Part, Spelled}
 
--- what is lent of a part, without the loan
+-- a part that is borrowed, without the borrow
 abbrev pub lent_part : ImagePart → Part
 lent_part lent = record { class = lent.class; address = lent.address; bytes = lent.bytes.now }
 
--- code can be fetched, and not be read
+-- code can be executed, but not read
 abbrev pub is_code : PartClass → Bool
 is_code Executable = true
 is_code ReadOnly = false
 is_code Writable = false
 
--- whether a byte of a part that is executed stands at an address
+-- whether a byte of an executable part has this address
 abbrev pub runs_at : ℕ → Part → Bool
 runs_at address part =
     is_code part.class && (nat_le part.address address && nat_lt address (part.address + length part.bytes))
@@ -31,7 +31,7 @@ abbrev pub is_tls : SymbolType → Bool
 is_tls Tls = true
 is_tls kind = false
 
--- where a symbol stands, if it is defined, is no variable of threads, and names a byte that is executed
+-- a symbol's address, if it is defined, is not thread-local, and names an executable byte
 abbrev pub function_place : List Part → ImageSymbol → Option ℕ
 function_place parts symbol =
     if (symbol.is_defined && not (is_tls symbol.kind)) && list_any (runs_at symbol.value) parts

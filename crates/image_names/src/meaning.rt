@@ -1,4 +1,4 @@
-//! What a symbol of an image is to the threads that run it.
+//! What a symbol of an image means to the threads that run it.
 
 ghost use Rattle.std.specs.Prelude.{◌≡◌};
 ghost use Rattle.std.specs.List.{list_any};
@@ -13,14 +13,14 @@ use image_file::{Image, ImagePart, ImageSymbol, PartClass, SymbolType};
 pub enum Meaning {
     /// A function that begins at this address, before the image is moved.
     Function(u64),
-    /// A variable of threads.
+    /// A thread-local variable.
     Variable(Variable),
-    /// Neither: it is not defined, or no byte that is executed stands there.
+    /// Neither: it is not defined, or its value is not the address of an executable byte.
     Other,
 }
 
 impl Meaning {
-    /// Where the function begins, if it is one.
+    /// Where the function begins, if the symbol is one.
     pub fn function(self) -> Option<u64>
         ensures { result ≡ function_of self }
     {
@@ -30,7 +30,7 @@ impl Meaning {
         }
     }
 
-    /// The variable of threads, if it is one.
+    /// The thread-local variable, if the symbol is one.
     pub fn variable(self) -> Option<Variable>
         ensures { result ≡ variable_of self }
     {
@@ -41,7 +41,7 @@ impl Meaning {
     }
 }
 
-/// What a symbol of the image is.
+/// What a symbol of the image means.
 pub fn meaning_of(image: &Image, symbol: ImageSymbol) -> Meaning
     ensures { result ≡ meaning_of image.now.parts symbol }
 {
@@ -52,7 +52,7 @@ pub fn meaning_of(image: &Image, symbol: ImageSymbol) -> Meaning
     }
 }
 
-/// What a defined symbol of the image is.
+/// What a defined symbol of the image means.
 fn defined_meaning(image: &Image, symbol: ImageSymbol) -> Meaning
     ensures { result ≡ defined_meaning image.now.parts symbol }
 {
@@ -67,7 +67,7 @@ fn defined_meaning(image: &Image, symbol: ImageSymbol) -> Meaning
     }
 }
 
-/// Whether a symbol of this type names a variable of threads.
+/// Whether a symbol of this type is a thread-local variable.
 pub fn is_tls(kind: SymbolType) -> bool
     ensures { result ≡ is_tls kind }
 {
@@ -77,7 +77,7 @@ pub fn is_tls(kind: SymbolType) -> bool
     }
 }
 
-/// Whether a byte of some part that is executed stands at an address.
+/// Whether a byte of an executable part has this address.
 pub fn is_executed(image: &Image, address: u64) -> bool
     ensures { result ≡ list_any (runs_at address) image.now.parts }
 {
@@ -91,7 +91,7 @@ pub fn is_executed(image: &Image, address: u64) -> bool
     false
 }
 
-/// Whether a byte of this part stands at an address, and is executed.
+/// Whether a byte of this part has this address, and the part is executable.
 fn runs_at(address: u64, part: ImagePart) -> bool
     ensures { result ≡ runs_at address (lent_part part.entry) }
 {

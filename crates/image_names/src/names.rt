@@ -32,8 +32,8 @@ impl<'i> Model for ImageNames<'i> {
 }
 
 impl<'i> ImageNames<'i> {
-    /// Hashes the names of an image. Its symbols are walked once, and so is the name of each. The only error is want of
-    /// memory.
+    /// Hashes the names of an image: one walk over its symbols, and one over each name. The only
+    /// error is `AllocError`.
     pub fn new(alloc: Global, image: &'i Image) -> Result<ImageNames<'i>, AllocError>
         ensures { IfOk result (λ names. names ≡ image.now) }
     {
@@ -48,22 +48,23 @@ impl<'i> ImageNames<'i> {
         self.image
     }
 
-    /// What the first symbol of a name is.
+    /// The meaning of the first symbol with a name.
     fn meaning(&self, name: &[u8]) -> Option<Meaning>
         ensures { result ≡ meaning_in self.now name.now }
     {
         self.meanings.get(name).copied()
     }
 
-    /// Where the function of a name begins, before the image is moved: an address of a byte that is executed. The first
-    /// symbol of the name decides; it must be defined, and no variable of threads.
+    /// Where the function of a name begins, before the image is moved: the address of an executable byte. The first
+    /// symbol with the name decides; it must be defined, and not thread-local.
     pub fn function(&self, name: &[u8]) -> Option<u64>
         ensures { result ≡ entry_in self.now name.now }
     {
         self.meaning(name)?.function()
     }
 
-    /// The variable of threads of a name. The first symbol of the name decides; it must be defined and thread-local.
+    /// The thread-local variable of a name. The first symbol with the name decides; it must be
+    /// defined and thread-local.
     pub fn variable(&self, name: &[u8]) -> Option<Variable>
         ensures { result ≡ variable_in self.now name.now }
     {

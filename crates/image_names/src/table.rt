@@ -1,4 +1,4 @@
-//! The table of an image's names: each is hashed once, and has the meaning of its first symbol.
+//! The table of an image's names: each is hashed once, and gets the meaning of its first symbol.
 
 ghost use Rattle.std.specs.Prelude.{◌≡◌, ◌<◌, IfOk, OnOk, Some, length, slice_get};
 ghost use Rattle.image_names.specs.Meanings.{Tells, TellsWith, noted};
@@ -8,7 +8,7 @@ use image_file::Image;
 use indexmap::IndexMap;
 use std::alloc::{AllocError, Global};
 
-/// Gives a name its meaning, where it has none yet.
+/// Gives a name its meaning, unless it has one.
 fn note<'i>(
     meanings: &mut IndexMap<&'i [u8], Meaning>,
     name: &'i [u8],
@@ -20,7 +20,7 @@ fn note<'i>(
     Ok(())
 }
 
-/// What each name of an image means, by its first symbol.
+/// The meaning of each name of an image, by its first symbol.
 pub fn meanings_of<'i>(
     alloc: Global,
     image: &'i Image,

@@ -1,8 +1,8 @@
-//! A variable of threads.
+//! A thread-local variable.
 
 /// A variable of which each thread has its own copy.
 #[derive(Clone, Copy, PartialEq, Eq, Debug)]
 pub struct Variable {
-    /// Where it begins in each thread's block, in bytes from the block's first.
+    /// Its offset in each thread's block, in bytes.
     pub offset: u64,
 }

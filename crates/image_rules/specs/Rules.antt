@@ -1,4 +1,4 @@
--- The order of the rules, and the kind of fault where one is broken.
+-- The order of the rules, and the kind of fault of a broken rule.
 use Rattle.std.specs.Prelude.{◌+◌, ℕ}
 use Rattle.image_rules.specs.declared.fault.FaultKind.{FaultKind}
 use Rattle.image_rules.specs.declared.fault.FaultKind.TheVariants as kind
@@ -36,7 +36,7 @@ entry_number RelocationSize = 7
 entry_number Flags = 8
 entry_number End = 9
 
--- the tables in the order in which they are asked
+-- the tables in the order of the checks
 abbrev pub table_number : TableRule → ℕ
 table_number Symbol = 0
 table_number Relocation = 1
@@ -53,7 +53,7 @@ number Segment = 9
 number (Entry rule) = 10 + entry_number rule
 number (Table rule) = 20 + table_number rule
 
--- the kind of fault where the rule is broken
+-- the kind of fault of a broken rule
 abbrev pub kind_of : Rule → FaultKind
 kind_of Length = kind.Truncated
 kind_of Ident = kind.Header

@@ -1,4 +1,4 @@
-//! What may be wrong with an image, and where in the file.
+//! The faults of an image: their kinds, and where in the file one stands.
 
 ghost use Rattle.std.specs.Prelude.{◌≡◌, Some, codes};
 ghost use Rattle.image_rules.specs.declared.fault.ImageFault.TheVariants.{OutOfMemory};
@@ -8,16 +8,16 @@ use std::alloc::AllocError;
 use std::fmt;
 use thiserror::Error;
 
-/// What is wrong with an image. [`crate::Rule`] says what is asked, and in which order.
+/// What is wrong with an image. [`crate::Rule`] lists the checks in their order.
 #[derive(Clone, Copy, PartialEq, Eq, Debug)]
 pub enum FaultKind {
-    /// The file is shorter than its header, its program headers or a segment ask for; at the file's length.
+    /// The file is too short for its header, its program headers or a segment; at the file's length.
     Truncated,
     /// A field of the file's header is not that of an image for x86-64; at the field.
     Header,
     /// A program header is not as a linker of static TLS writes it; at the header, or where a missing one would begin.
     Segment,
-    /// An entry of the dynamic array, or a symbol, is not as it should be; at the entry, or at the symbol.
+    /// An entry of the dynamic array, or a symbol, breaks its rule; at the entry, or at the symbol.
     Dynamic,
     /// A relocation is not one that a loader of such images knows; at the relocation.
     Relocation,
@@ -49,7 +49,7 @@ impl fmt::Display for FaultKind {
     }
 }
 
-/// Why an image is refused: want of memory, or the first fault that stands.
+/// Why an image is refused: memory ran out, or the first fault.
 #[derive(Debug, Drop, Error)]
 pub enum ImageFault {
     #[error("out of memory")]

@@ -1,4 +1,4 @@
-//! The rules that an image keeps, in the order in which they are asked.
+//! The rules that an image keeps, in the order of the checks.
 
 ghost use Rattle.std.specs.Prelude.{◌≡◌};
 ghost use Rattle.image_rules.specs.Rules.{kind_of};
@@ -11,7 +11,7 @@ use crate::fault::FaultKind;
 pub enum Rule {
     /// The file holds a header.
     Length,
-    /// The first seven bytes are those of ELF with 64 bits and little-endian data, version 1.
+    /// The first seven bytes are those of ELF with 64 bits, little-endian data and version 1.
     Ident,
     /// A field of the header.
     Field(FieldRule),
@@ -63,11 +63,11 @@ pub enum EntryRule {
     RelocationSize,
     /// FLAGS, FLAGS_1 or NULL.
     Flags,
-    /// NULL behind FLAGS or FLAGS_1.
+    /// NULL after FLAGS or FLAGS_1.
     End,
 }
 
-/// A table whose entries are asked one after another.
+/// A table whose entries are checked one after another.
 #[derive(Clone, Copy, PartialEq, Eq, Debug)]
 pub enum TableRule {
     /// A symbol's name, type and binding.
@@ -76,7 +76,7 @@ pub enum TableRule {
     Relocation,
     /// A symbol's offset in the TLS segment.
     TlsSymbol,
-    /// A relocation that means the image's own TLS segment.
+    /// A relocation that refers to the image's own TLS segment.
     TlsRelocation,
 }
 

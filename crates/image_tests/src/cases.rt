@@ -1,9 +1,9 @@
-//! Changes of images, and what reading answers.
+//! Changes of images, and the answer of reading each.
 
 /// Each line: the answer, `ok` or the fault, then an image and changes OFFSET=BYTES of it. The images are `a`, a
 /// program, `p`, a program that may be loaded anywhere, `m`, a module, `w`, a program with data and a GOT, and `g`, a
-/// module with relocations of every type. The answers are those of a program written apart from this repository, which
-/// agrees with two more on some 160 images.
+/// module with relocations of every type. The answers come from a program that was written apart from this repository
+/// and agrees with two more on some 160 images.
 pub const CASES: &str = "\
 // the header
 image 0 Header: a 0=7e

@@ -1,4 +1,4 @@
-//! Images that a linker's drafts become, and their files.
+//! Images made from a linker's drafts, and their files.
 
 ghost use Rattle.std.specs.Prelude.{◌≡◌, length};
 ghost use Rattle.image_writer.specs.Loadable.{HoldsTls};
@@ -14,7 +14,7 @@ use image_writer::{Draft, NamedSymbol, PartPlace, image_of, into_file, write};
 use std::alloc::{AllocError, Global};
 use std::test::Fail;
 
-/// A symbol that is shared.
+/// A GLOBAL symbol.
 fn symbol(kind: SymbolType, is_defined: bool, value: u64, size: u64) -> ImageSymbol
     ensures { result ≡ record {
       binding = SymbolBinding.Global;
@@ -51,7 +51,7 @@ fn place(class: PartClass, address: u64, size: u64) -> PartPlace
     }
 }
 
-/// The file of an image: appended to nothing, and made of the image itself.
+/// The file of an image, made in two ways: appended to nothing, and made from the image itself.
 #[derive(Drop)]
 struct Files {
     appended: Vec<u8>,
@@ -67,7 +67,7 @@ fn files_of(alloc: Global, image: Image) -> Result<Files, AllocError>
     Ok(Files { appended, made })
 }
 
-/// Writes the image `WRITTEN`, from the bytes of its parts behind a page.
+/// Writes the image `WRITTEN` from a file of a page and the bytes of its parts.
 fn written_program(alloc: Global, file: Vec<u8>) -> Result<Files, AllocError>
     requires { length file.items ≡ 20486 }
 {
@@ -104,7 +104,7 @@ fn written_program(alloc: Global, file: Vec<u8>) -> Result<Files, AllocError>
     files_of(alloc, image_of(alloc, &draft, file)?)
 }
 
-/// Writes a module that asks for its thread-local data at a fixed distance, from the bytes of its parts behind a page.
+/// Writes a module that uses static TLS from a file of a page and the bytes of its parts.
 fn written_surplus(alloc: Global, file: Vec<u8>) -> Result<Files, AllocError>
     requires { length file.items ≡ 12296 }
 {
@@ -137,7 +137,7 @@ fn written_surplus(alloc: Global, file: Vec<u8>) -> Result<Files, AllocError>
     files_of(alloc, image_of(alloc, &draft, file)?)
 }
 
-/// The bytes of an image's parts, but for its tables, behind a page of zeros.
+/// The bytes of an image's parts without its tables, after a page of zeros.
 fn parts_of(alloc: Global, image: &[u8], end: usize) -> Result<Vec<u8>, Fail> {
     let parts = image.get(4096..end).ok_or("the parts")?;
     let mut file = vec![in alloc; 0u8; 4096]?;
@@ -145,7 +145,7 @@ fn parts_of(alloc: Global, image: &[u8], end: usize) -> Result<Vec<u8>, Fail> {
     Ok(file)
 }
 
-/// The same bytes but for one of them, which is 1.
+/// The same file with the byte at `at` set to 1.
 fn with_one(file: Vec<u8>, at: usize) -> Result<Vec<u8>, Fail> {
     let mut file = file;
     *file.get_mut(at).ok_or("the byte")? = 1;
@@ -174,7 +174,7 @@ fn makes_the_module_of_its_draft(rt: HostRuntime) -> Result<(), Fail> {
     Ok(())
 }
 
-/// The first part has 23 bytes: the byte at 4,096 + 23 is of no part.
+/// The first part has 23 bytes: the byte at 4,096 + 23 belongs to no part.
 #[test]
 fn puts_zeros_between_parts(rt: HostRuntime) -> Result<(), Fail> {
     let want = bytes_of(rt.alloc(), WRITTEN)?;

@@ -1,5 +1,5 @@
-//! Images as a linker writes them. Each is its size and the bytes that stand at some offsets; all others are zero.
-//! Other programs wrote them than this repository's.
+//! Images as linkers write them, as a size and the bytes at some offsets; all others are zero. Programs outside this
+//! repository wrote them.
 
 /// A program at fixed addresses: a function that reads a thread-local variable at a fixed offset.
 pub const PROGRAM: &str = "\
@@ -42,7 +42,7 @@ pub const ANYWHERE: &str = "\
 12492 0000000000660078
 ";
 
-/// A module of thread-local data alone.
+/// A module with nothing but thread-local data.
 pub const MODULE: &str = "\
 8363
 0 7f454c4602010100000000000000000003003e0001000000000000000000000040
@@ -90,7 +90,7 @@ pub const WRITTEN: &str = "\
 24897 660078006e005f5f746c735f6765745f61646472
 ";
 
-/// A module whose relocations are of every type that a loader works on.
+/// A module with relocations of every type that a loader carries out.
 pub const DYNAMIC: &str = "\
 25696
 0 7f454c4602010100000000000000000003003e0001000000000000000000000040
@@ -151,7 +151,7 @@ pub const DYNAMIC: &str = "\
 25681 5f5f746c735f6765745f61646472
 ";
 
-/// A module that asks for its thread-local data at a fixed distance from the thread pointer.
+/// A module that uses static TLS.
 pub const SURPLUS: &str = "\
 16669
 0 7f454c4602010100000000000000000003003e0001

@@ -1,8 +1,8 @@
-//! Tests of the reader and the writer of images that use public calls alone.
+//! Tests of the reader and the writer of images, through public calls only.
 //!
-//! They test what no clause says: whether the definitions say what the standards mean, on images that other programs
-//! wrote and on changes of them, and that a call with ample memory answers. What an image spells is tested by
-//! `image_listing`'s stored run.
+//! They test what no clause says: that the definitions agree with the standards, on images that other programs
+//! wrote and on changes of them, and that a call with enough memory succeeds. `image_listing`'s stored run
+//! tests what an image spells.
 #![tactic(auto)]
 
 #[cfg(test)]

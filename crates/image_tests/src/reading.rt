@@ -1,4 +1,4 @@
-//! Reading images: what a change of them answers, and that no front of one is taken.
+//! Reads changed images, and checks that no proper prefix of one is accepted.
 
 use crate::cases::CASES;
 use crate::images::{ANYWHERE, DYNAMIC, MODULE, PROGRAM, WRITTEN};
@@ -31,7 +31,7 @@ pub(crate) fn bytes_of(alloc: Global, pieces: &str) -> Result<Vec<u8>, Fail> {
     Ok(bytes)
 }
 
-/// The image of a letter.
+/// The image that a letter stands for.
 fn lettered(alloc: Global, letter: &str) -> Result<Vec<u8>, Fail> {
     match letter {
         "a" => bytes_of(alloc, PROGRAM),
@@ -43,7 +43,7 @@ fn lettered(alloc: Global, letter: &str) -> Result<Vec<u8>, Fail> {
     }
 }
 
-/// What reading answers, as a case writes it.
+/// The answer of reading, as a case writes it.
 fn answer(alloc: Global, bytes: &[u8]) -> Result<String, AllocError> {
     match read(alloc, bytes) {
         Ok(_) => String::from_str(alloc, "ok"),
@@ -51,7 +51,7 @@ fn answer(alloc: Global, bytes: &[u8]) -> Result<String, AllocError> {
     }
 }
 
-/// Compares the answer of one case.
+/// Checks one case.
 fn check(rt: &(impl Abort + AllocGlobal), line: &str) -> Result<(), Fail> {
     let (want, words) = line.split_once(": ").ok_or("an answer")?;
     let (letter, changes) = words.split_once(' ').ok_or("an image")?;
@@ -75,7 +75,7 @@ fn finds_the_first_fault(rt: HostRuntime) -> Result<(), Fail> {
     Ok(())
 }
 
-/// Each front of an image is truncated, at its length.
+/// Each proper prefix of an image is truncated, at its length.
 fn fronts_are_truncated(rt: &(impl Abort + AllocGlobal), pieces: &str) -> Result<(), Fail> {
     let bytes = bytes_of(rt.alloc(), pieces)?;
     for len in 0..bytes.len() {
@@ -102,7 +102,7 @@ fn program(alloc: Global) -> Result<Image, Fail> {
     Ok(read(alloc, bytes.as_slice())?)
 }
 
-/// What is lent of parts.
+/// Checks the parts that an image lends.
 fn lends_parts(rt: &impl Abort, image: &Image) -> Result<(), Fail> {
     let code = image.part(0).ok_or("there is code")?;
     assert_eq!(rt;
@@ -115,7 +115,7 @@ fn lends_parts(rt: &impl Abort, image: &Image) -> Result<(), Fail> {
     Ok(())
 }
 
-/// What is lent of symbols.
+/// Checks the symbols that an image lends.
 fn lends_symbols(rt: &impl Abort, image: &Image) -> Result<(), Fail> {
     assert!(rt; image.symbol(3).is_none());
     assert!(rt; image.symbol_name(3).is_none());

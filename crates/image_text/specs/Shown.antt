@@ -15,11 +15,11 @@ use Rattle.image_text.specs.Words.{kind_word, class_word, import_word, type_numb
 abbrev pub hex16 : ℕ → List ℕ
 hex16 n = padded_integral (format_spec 32 0 4 16 (2 ^ 64 - 1)) false [] (digits 16 false n)
 
--- what the image is
+-- the kind of the image
 unfoldable pub kind_line : FileKind → List ℕ
 kind_line kind = codes "kind " ++ kind_word kind ++ codes "\n"
 
--- a part that is lent, without the loan
+-- a part that is borrowed, without the borrow
 abbrev pub lent_part : ImagePart → Part
 lent_part lent = record { class = lent.class; address = lent.address; bytes = lent.bytes.now }
 
@@ -35,7 +35,7 @@ tls_line tls =
     codes "tls " ++ hex16 tls.address ++ codes " " ++ decimal tls.initial ++ codes " " ++ decimal tls.size ++ codes " "
     ++ decimal tls.alignment ++ codes "\n"
 
--- the part that the loader alone writes
+-- the part that only the loader writes
 unfoldable pub relro_line : Part → List ℕ
 relro_line part = codes "relro " ++ hex16 part.address ++ codes " " ++ decimal (length part.bytes) ++ codes "\n"
 
@@ -51,11 +51,11 @@ relocation_line relocation =
     codes "reloc " ++ hex16 relocation.place ++ codes " " ++ decimal (loader_number relocation.kind) ++ codes " "
     ++ decimal relocation.symbol ++ codes " " ++ signed_decimal relocation.addend ++ codes "\n"
 
--- that the image wants its thread-local data at a fixed distance from the thread pointer, if it does
+-- the line of static TLS, if the image uses it
 abbrev pub flag_line : Bool → List ℕ
 flag_line is_flagged = if is_flagged then codes "static-tls\n" else []
 
--- the part that the loader alone writes, if there is one
+-- the part that only the loader writes, if there is one
 abbrev pub got_part : Spelled → Option Part
 got_part image = option_and_then (slice_get image.parts) image.got
 

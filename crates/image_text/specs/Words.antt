@@ -1,4 +1,4 @@
--- The words and numbers that stand for the choices of an image (gABI, "Symbol Table"; psABI, "Relocation Types").
+-- The words and numbers for the choices of an image (gABI, "Symbol Table"; psABI, "Relocation Types").
 use Rattle.std.specs.Prelude.{ℕ, List, [], Bool, true, false, codes}
 use Rattle.elf_records.specs.declared.symbol.TheConstants.{STT_NOTYPE, STT_OBJECT, STT_FUNC, STT_SECTION, STT_FILE}
 use Rattle.elf_records.specs.declared.symbol.TheConstants.{STT_TLS}
@@ -14,7 +14,7 @@ use Rattle.image_file.specs.declared.part.PartClass.TheVariants.{Executable, Rea
 use Rattle.image_file.specs.declared.symbol.SymbolType.{SymbolType}
 use Rattle.image_file.specs.declared.symbol.SymbolType.TheVariants.{NoType, Object, Func, Section, File, Tls}
 
--- what an image is
+-- the kind of an image
 abbrev pub kind_word : FileKind → List ℕ
 kind_word Exe = codes "exe"
 kind_word Pie = codes "pie"

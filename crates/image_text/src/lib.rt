@@ -1,4 +1,4 @@
-//! An image as text, as the command `show` prints it: a line for each thing that a loader asks of it.
+//! An image as text, as the command `show` prints it: a line for each fact that a loader needs.
 //!
 //! [`push_shown`] appends the text of an image (`image_file`). This is the text of a program that defines a
 //! function `f`, a thread-local variable `x` and a variable `n`, and calls `__tls_get_addr` of the run time:
@@ -21,10 +21,11 @@
 //! reloc 0000000000403010 7 4 0                      each relocation: its place, its type, its symbol, its addend
 //! ```
 //!
-//! A last line `static-tls` says that the image wants its thread-local data at a fixed distance from the thread
-//! pointer. Addresses, values and places have 16 hexadecimal digits, all other numbers are decimal, and only an addend
-//! has a sign. Types are the numbers of the gABI and the psABI. Symbol 0, the reserved one, is left out, so symbol 4 is
-//! the fourth line of symbols. A name is written byte for byte, whatever it holds: the text is a list of bytes.
+//! A last line `static-tls` says that the image uses static TLS: its code needs its TLS block at a fixed distance
+//! from the thread pointer. Addresses, values and places have 16 hexadecimal digits, all other numbers are decimal,
+//! and only an addend has a sign. Types are the numbers of the gABI and the psABI. Symbol 0, the reserved one, is
+//! left out, so symbol 4 is on the fourth line of symbols. A name is written byte for byte, even if it is not UTF-8:
+//! the text is a list of bytes.
 //!
 //! The text is a function of what the bytes of the file spell (`specs/Shown`), so two files that spell one image have
 //! one text.

@@ -15,7 +15,7 @@ use image_file::{
 };
 use std::alloc::AllocError;
 
-/// The word for what an image is.
+/// The word for the kind of an image.
 fn kind_word(kind: FileKind) -> &'static str
     ensures { result.now ≡ kind_word kind }
 {
@@ -37,7 +37,7 @@ fn class_word(class: PartClass) -> &'static str
     }
 }
 
-/// What stands before the name of a symbol.
+/// The word before the name of a symbol.
 fn import_word(is_defined: bool) -> &'static str
     ensures { result.now ≡ import_word is_defined }
 {
@@ -72,7 +72,7 @@ fn loader_number(kind: LoaderKind) -> u32
     }
 }
 
-/// Appends the line of what an image is.
+/// Appends the line with the kind of the image.
 #[tactic(auto, unfolding(crate::specs::Shown::kind_line))]
 pub fn push_kind(text: &mut Vec<u8>, kind: FileKind) -> Result<(), AllocError>
     ensures { OnOk result (text.new.items ≡ text.old.items ++ kind_line kind) }
@@ -107,7 +107,7 @@ pub fn push_tls(text: &mut Vec<u8>, tls: TlsPart) -> Result<(), AllocError>
     text.extend_from_slice(line.as_bytes())
 }
 
-/// Appends the line of the part that the loader alone writes.
+/// Appends the line of the part that only the loader writes.
 #[tactic(auto, unfolding(crate::specs::Shown::relro_line))]
 pub fn push_relro(text: &mut Vec<u8>, part: ImagePart) -> Result<(), AllocError>
     ensures { OnOk result (text.new.items ≡ text.old.items ++ relro_line (lent_part part.entry)) }
@@ -145,7 +145,7 @@ pub fn push_relocation(text: &mut Vec<u8>, relocation: ImageRelocation) -> Resul
     text.extend_from_slice(line.as_bytes())
 }
 
-/// Appends the line of the flag, if it is set.
+/// Appends the line of static TLS, if the flag is set.
 pub fn push_flag(text: &mut Vec<u8>, is_flagged: bool) -> Result<(), AllocError>
     ensures { OnOk result (text.new.items ≡ text.old.items ++ flag_line is_flagged) }
 {

@@ -107,7 +107,7 @@ fn push_relocations(text: &mut Vec<u8>, image: &Image) -> Result<(), AllocError>
     Ok(())
 }
 
-/// Appends the text of an image. Where there is no memory, nothing is appended.
+/// Appends the text of an image. If memory runs out, nothing is appended.
 #[tactic(auto, unfolding(crate::specs::Shown::shown))]
 pub fn push_shown(image: &Image, into: &mut Vec<u8>) -> Result<(), AllocError>
     ensures ok { OnOk result (into.new.items ≡ into.old.items ++ shown image.now) }

@@ -26,7 +26,7 @@ pub record Contents : Type 0 where
   pub relocations : List ImageRelocation
   pub is_flagged : Bool
 
--- where the last of these parts ends; the base where there is none
+-- where the last of these parts ends; the base if there is none
 abbrev pub parts_end : FileKind → List Part → ℕ
 parts_end kind [] = base_of kind
 parts_end kind (p ∷ []) = p.address + length p.bytes

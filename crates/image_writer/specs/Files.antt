@@ -1,5 +1,5 @@
--- When bytes are a file of an image: its page of headers leads, and each part stands at its offset. Nothing is said of
--- the bytes between parts, which no loader looks at.
+-- When bytes are a file of an image: it begins with the page of headers, and each part stands at its offset. Bytes
+-- between parts may be anything; no loader reads them.
 use Rattle.std.specs.Prelude.{◌≡◌, ℕ, List, Some, length, take, slice_get}
 use Rattle.elf_records.specs.Fields.{part_at}
 use Rattle.image_file.specs.Spelled.{Part, Spelled}

@@ -12,7 +12,7 @@ use Rattle.image_writer.specs.Page.{base_of, load_header, type_of}
 abbrev pub IsNear : FileKind → ℕ → Type 0
 IsNear kind address = (base_of kind ≤ address + 4096) × (address + 4096 < 2 ^ 64)
 
--- the header of a file with so many program headers
+-- the header of a file with this many program headers
 unfoldable pub header_of : FileKind → ℕ → Header
 header_of kind count = record {
   ident = ELF_IDENT ++ replicate 9 0;

@@ -1,4 +1,4 @@
--- What a linker owes of the contents of an image.
+-- What a linker must ensure of the contents of an image.
 use Rattle.std.specs.Prelude.{◌≡◌, ◌≢◌, ◌+◌, ◌<◌, ◌≤◌, ◌⊎◌, ◌≤ℤ◌, ℕ, ℤ, pos, true, false, List, [], ◌∷◌}
 use Rattle.std.specs.Prelude.{Option, Some, None, All, IsSome, length, codes}
 use Rattle.image_rules.specs.declared.places.FileKind.TheVariants as file
@@ -19,7 +19,7 @@ abbrev pub tls_size : Option TlsPart → ℕ
 tls_size None = 0
 tls_size (Some t) = t.size
 
--- each symbol is shared, has a name of no zero byte, and lies in the TLS segment if it is thread-local here
+-- each symbol is GLOBAL or WEAK, has a name without a zero byte, and lies in the TLS segment if it is thread-local here
 pub record IsRightSymbol (c : Contents) (k : ℕ) : Type 0 where
   pub shared : (symbol c k).binding ≢ Local
   pub named : All (λ byte. byte ≢ 0) (name c k)
@@ -50,11 +50,11 @@ width ModuleOffset = 8
 width ThreadOffset = 8
 width Descriptor = 16
 
--- an offset in the image's own TLS segment, its end left in
+-- an offset in the image's own TLS segment; the segment's end counts as inside
 abbrev pub IsOffset : Contents → ℤ → Type 0
 IsOffset c addend = (pos 0 ≤ℤ addend) × (addend ≤ℤ pos (tls_size c.tls))
 
--- of a relocation that names no symbol: what its type needs of the image's own TLS segment
+-- what the type of a relocation without a symbol needs of the image's own TLS segment
 abbrev pub HasOwnTls : Contents → LoaderKind → ℤ → Type 0
 HasOwnTls c Module addend = IsSome c.tls
 HasOwnTls c ThreadOffset addend = IsSome c.tls × IsOffset c addend
@@ -69,21 +69,21 @@ Holds c r i =
     let p = part (outline_of (finished c)) i in
     (i < length c.parts) × (p.address ≤ r.place) × (r.place + width r.kind ≤ end_of p)
 
--- the relocation names what it may, lies in a part, and behind what the one before it writes
+-- the relocation names what it may, lies in a part, and after the field of the one before it
 pub record IsRightRelocation (c : Contents) (r : ImageRelocation) : Type 0 where
   pub symbol_in : r.symbol ≤ length c.symbols
   pub names : MayName c r.kind r.symbol
   pub own : r.symbol ≡ 0 → HasOwnTls c r.kind r.addend
   pub held : (i : ℕ) × Holds c r i
 
--- relocations lie behind each other
+-- relocations stand in the order of their places, and no two fields overlap
 abbrev pub AreRising : List ImageRelocation → Type 0
 AreRising [] = Unit {0}
 AreRising (r ∷ []) = Unit {0}
 AreRising (r ∷ (s ∷ more)) = (r.place + width r.kind ≤ s.place) × AreRising (s ∷ more)
 
--- what a linker owes. The parts, with the tables behind them, can be told by a page of headers; only a module may ask
--- for its thread-local data at a fixed distance from the thread pointer.
+-- what a linker must ensure: a page of headers can describe the parts with the tables after them, and only a
+-- module uses static TLS
 pub record IsLinkable (c : Contents) : Type 0 where
   pub loadable : IsLoadable (outline_of (finished c))
   pub holds_tls : HoldsTls (outline_of (finished c))

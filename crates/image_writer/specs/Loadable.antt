@@ -1,4 +1,4 @@
--- When a page of headers can say what an image is: what the parts, the GOT and the TLS segment keep (gABI, "Program
+-- When a page of headers can describe an image: what holds of the parts, the GOT and the TLS segment (gABI, "Program
 -- Header"; "ELF Handling For Thread-Local Storage", "Program Headers").
 use Rattle.std.specs.Prelude.{◌≡◌, ◌+◌, ◌-◌, ◌%◌, ◌^◌, ◌<◌, ◌≤◌, ◌⊎◌, ℕ, Bool, true, false, Option, Some, None, length}
 use Rattle.std.specs.Prelude.{IfSome, is_some, if◌then◌else◌}
@@ -19,7 +19,7 @@ is_writable Writable = true
 abbrev pub is_written : Outlined → ℕ → Bool
 is_written o i = is_writable (part o i).class
 
--- part i has bytes, begins at a page, behind the part before it, and lies in the range of the image
+-- part i has bytes, begins at a page, after the part before it, and lies in the range of the image
 pub record IsRightPart (o : Outlined) (i : ℕ) : Type 0 where
   pub filled : 0 < (part o i).size
   pub paged : (part o i).address % 4096 ≡ 0
@@ -43,7 +43,7 @@ pub record IsRightTlsPart (o : Outlined) (t : TlsPart) : Type 0 where
   pub aligned : t.address % t.alignment ≡ 0
   pub held : (t.initial ≡ 0) ⊎ ((i : ℕ) × HoldsInitial o t i)
 
--- how many headers stand for what there may be
+-- how many headers an optional part takes
 abbrev pub one_if_some : {X : Type 0} → Option X → ℕ
 one_if_some None = 0
 one_if_some (Some x) = 1
@@ -59,7 +59,7 @@ pub record IsLoadable (o : Outlined) : Type 0 where
   pub array_in : o.array_size ≤ (last_part o).size
   pub tls_is : IfSome o.tls (IsRightTlsPart o)
 
--- the TLS segment begins no further than the last part ends. An empty initial image might, and the file would end
--- before it.
+-- the TLS segment begins no further than the last part ends; with an empty initial image it might, and the
+-- file would end before it
 abbrev pub HoldsTls : Outlined → Type 0
 HoldsTls o = IfSome o.tls (λ t. t.address ≤ end_of (last_part o))

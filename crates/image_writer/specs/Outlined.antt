@@ -1,4 +1,4 @@
--- What a page of headers says of an image: what it is, where its parts lie, and which of them is the GOT.
+-- What a page of headers says of an image: its kind, where its parts lie, and which of them is the GOT.
 use Rattle.std.specs.Prelude.{◌+◌, ◌-◌, ℕ, List, Option, length, map, slice_index_or}
 use Rattle.image_rules.specs.declared.places.FileKind.{FileKind}
 use Rattle.image_file.specs.declared.part.PartClass.TheVariants.{ReadOnly}
@@ -37,7 +37,7 @@ outline_of s = record {
   tls = s.tls;
 }
 
--- part i, or one of no bytes past the last
+-- part i; past the last, one of no bytes
 abbrev pub no_part : PartPlace
 no_part = record { class = ReadOnly; address = 0; size = 0 }
 
@@ -48,6 +48,6 @@ part o i = slice_index_or o.parts i no_part
 abbrev pub last_part : Outlined → PartPlace
 last_part o = part o (length o.parts - 1)
 
--- the address behind a part
+-- the address after a part
 abbrev pub end_of : PartPlace → ℕ
 end_of p = p.address + p.size

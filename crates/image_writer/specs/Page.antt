@@ -1,4 +1,4 @@
--- The first page of an image's file: its header, its program headers, and zeros behind them (gABI, "ELF Header",
+-- The first page of an image's file: its header, its program headers, and zeros after them (gABI, "ELF Header",
 -- "Program Header"; "ELF Handling For Thread-Local Storage", "Program Headers").
 use Rattle.std.specs.Prelude.{◌+◌, ◌-◌, ◌*◌, ℕ, List, [], ◌∷◌, ◌++◌, Option, Some, None, length, map, replicate}
 use Rattle.std.specs.List.{flat_map}
@@ -34,7 +34,7 @@ base_of Exe = 0x400000
 base_of Pie = 0
 base_of Module = 0
 
--- where the byte of an address stands in the file: the first page is that of the headers
+-- the offset in the file of an address: the first page is that of the headers
 abbrev pub file_offset : FileKind → ℕ → ℕ
 file_offset kind address = address + 4096 - base_of kind
 
@@ -77,7 +77,7 @@ tls_header kind t = record {
   align = t.alignment;
 }
 
--- GNU_RELRO: the part that the loader alone writes
+-- GNU_RELRO: the part that only the loader writes
 unfoldable pub relro_header : FileKind → PartPlace → Segment
 relro_header kind p = record {
   kind = PT_GNU_RELRO;
@@ -98,7 +98,7 @@ abbrev pub relro_headers : Outlined → Option ℕ → List Segment
 relro_headers o None = []
 relro_headers o (Some g) = relro_header o.kind (part o g) ∷ []
 
--- the program headers: one a part, and then DYNAMIC, TLS and GNU_RELRO
+-- the program headers: one for each part, and then DYNAMIC, TLS and GNU_RELRO
 unfoldable pub program_headers : Outlined → List Segment
 program_headers o =
     map (load_header o.kind) o.parts

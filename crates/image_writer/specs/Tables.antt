@@ -43,13 +43,13 @@ symbol_total c = length c.symbols + 1
 abbrev pub has_relocations : Contents → Bool
 has_relocations c = nat_lt 0 (length c.relocations)
 
--- the array names a flag: that of static TLS, or that of a program that may be loaded anywhere
+-- the array has a flag: that of static TLS, or that of a program that may be loaded anywhere
 abbrev pub is_pie : FileKind → Bool
 is_pie Exe = false
 is_pie Pie = true
 is_pie Module = false
 
--- how many bytes each table has, and where it begins behind the start of the part
+-- how many bytes each table has, and where it begins, in bytes from the start of the part
 abbrev pub array_size : Contents → ℕ
 array_size c =
     16 * (6 + (if has_relocations c then 3 else 0) + (if c.is_flagged || is_pie c.kind then 1 else 0))
@@ -66,7 +66,7 @@ relocations_start c = symbols_start c + 24 * symbol_total c
 abbrev pub strings_start : Contents → ℕ
 strings_start c = relocations_start c + 24 * length c.relocations
 
--- the names, each with a zero byte behind it; that of number 0 is empty
+-- the names, each with a zero byte after it; the name of symbol 0 is empty
 abbrev pub name_bytes : List ℕ → List ℕ
 name_bytes name = name ++ (0 ∷ [])
 
@@ -103,7 +103,7 @@ array c =
     )
     ++ (relocation_entries c (has_relocations c) ++ (flags_entries c.is_flagged c.kind ++ (array_entry DT_NULL 0 ∷ [])))
 
--- the hash table: one bucket, and a chain through all symbols but number 0
+-- the hash table: one bucket, and a chain through all symbols except number 0
 abbrev pub chain : ℕ → ℕ → ℕ
 chain n k = if k == 0 then 0 else (if k + 1 == n then 0 else k + 1)
 

@@ -1,4 +1,4 @@
--- What a draft tells of an image's dynamic tables, wherever the bytes of its parts stand.
+-- What a draft says of an image's dynamic tables, wherever the bytes of its parts stand.
 use Rattle.std.specs.Prelude.{◌+◌, ◌-◌, ◌*◌, ◌^◌, ◌<◌, ◌==◌, ℕ, Bool, true, false, List, [], ◌∷◌, ◌++◌, length, replicate}
 use Rattle.std.specs.Prelude.{FitsSigned, if◌then◌else◌}
 use Rattle.std.specs.List.{flat_map}
@@ -21,17 +21,17 @@ use Rattle.image_writer.specs.Tables.{array_size, hash_size, symbols_start, relo
 use Rattle.image_writer.specs.Tables.{array_entry, flags_entries, has_relocations, hash_words, relocation_entry}
 use Rattle.image_writer.specs.Tables.{symbol_rows, symbol_total}
 
--- the contents that a draft tells, but for the bytes of its parts
+-- the contents that a draft describes, without the bytes of its parts
 abbrev pub told : Draft → Contents
 told d = contents_of d []
 
--- where the last part ends; the base where there is none
+-- where the last part ends; the base if there is none
 abbrev pub places_end : FileKind → List PartPlace → ℕ
 places_end kind [] = base_of kind
 places_end kind (p ∷ []) = p.address + p.size
 places_end kind (p ∷ (q ∷ more)) = places_end kind (q ∷ more)
 
--- the page behind it
+-- the page after it
 abbrev pub next_page : Draft → ℕ
 next_page d = next_multiple_of (places_end d.kind d.parts.now) 4096
 
@@ -45,7 +45,7 @@ layout_of c = record {
   strings_size = length (strings c);
 }
 
--- the part of tables of so many bytes
+-- the place of the part of tables, by its address and its size
 abbrev pub tables_place : ℕ → ℕ → PartPlace
 tables_place address size = record { class = ReadOnly; address = address; size = size }
 
@@ -53,7 +53,7 @@ tables_place address size = record { class = ReadOnly; address = address; size =
 abbrev pub tables_size : Contents → ℕ
 tables_size c = strings_start c + length (strings c)
 
--- the entries of the array that each image has but for the last, and those that lead to relocations
+-- the entries of the array that every image has, without the last, and those that lead to relocations
 abbrev pub place_entries : Layout → ℕ → List DynamicEntry
 place_entries l address =
     array_entry DT_HASH (address + l.array_size)
@@ -72,7 +72,7 @@ leading_entries true place count =
 abbrev pub bucket : ℕ → ℕ
 bucket total = if total == 1 then 0 else 1
 
--- the array and the tables of contents, were they at an address
+-- the array and the tables of contents whose part begins at an address
 abbrev pub array_at : ℕ → Contents → List DynamicEntry
 array_at address c =
     place_entries (layout_of c) address
@@ -88,7 +88,7 @@ tables_at address c =
     ++ (flat_map (λ r. rela_bytes (relocation_entry r)) c.relocations
     ++ strings c))))
 
--- numbers in the range of their types, as in all that code holds
+-- numbers in the range of their types, as in everything that code holds
 abbrev pub IsSymbolFitting : NamedSymbol → Type 0
 IsSymbolFitting s = (s.symbol.value < 2 ^ 64) × (s.symbol.size < 2 ^ 64)
 

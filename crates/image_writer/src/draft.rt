@@ -10,19 +10,19 @@ pub struct NamedSymbol<'a> {
     pub name: &'a [u8],
 }
 
-/// An image but for the bytes of its parts and for its dynamic tables.
+/// An image without the bytes of its parts and without its dynamic tables.
 #[derive(Clone, Copy)]
 pub struct Draft<'a> {
     pub kind: FileKind,
     /// The parts, in the order of their addresses.
     pub parts: &'a [PartPlace],
-    /// The number of the part that the loader alone writes, if there is one.
+    /// The number of the part that only the loader writes, if there is one.
     pub got: Option<u64>,
     pub tls: Option<TlsPart>,
     /// The symbols from number 1 on.
     pub symbols: &'a [NamedSymbol<'a>],
     /// The relocations, in the order of their places.
     pub relocations: &'a [ImageRelocation],
-    /// Whether the image asks for its thread-local data at a fixed distance from the thread pointer.
+    /// Whether the image uses static TLS.
     pub is_flagged: bool,
 }

@@ -1,4 +1,4 @@
-//! What symbols and relocations are in the tables of an image.
+//! Symbols and relocations as entries of an image's tables.
 
 ghost use Rattle.std.specs.Prelude.{◌≡◌, ◌^◌, ◌<◌, FitsSigned};
 ghost use Rattle.std.specs.Int.{w64};
@@ -17,7 +17,7 @@ use elf_records::symbol::{
 use elf_records::{Rela, SymbolEntry};
 use image_file::{ImageRelocation, ImageSymbol, LoaderKind, SymbolBinding, SymbolType, Visibility};
 
-/// The number of a section, which stands for the whole image: it has no table of sections.
+/// The section number of defined symbols. It stands for the whole image, which has no table of sections.
 const WHOLE_IMAGE: u16 = 1;
 
 /// The reserved symbol, number 0.

@@ -1,4 +1,4 @@
-//! Where the dynamic tables of an image lie behind the start of their part.
+//! Where the dynamic tables of an image lie in their part.
 
 ghost use Rattle.std.specs.Prelude.{◌≡◌, ◌+◌, ◌*◌, ◌^◌, ◌<◌, ◌≤◌, length, option_to_list};
 ghost use Rattle.image_writer.specs.Tables.{array_size, strings, flags_entries};
@@ -10,10 +10,10 @@ use elf_records::dynamic::{DF_1_PIE, DF_STATIC_TLS, DT_FLAGS, DT_FLAGS_1};
 use elf_records::{DynamicEntry, Rela, SymbolEntry};
 use image_file::FileKind;
 
-/// What the tables' addresses are multiples of.
+/// The address of each table is a multiple of this.
 const TABLE_ALIGNMENT: u64 = 8;
 
-/// How many entries of the array each image has.
+/// How many entries of the array every image has.
 const ALWAYS_ENTRIES: u64 = 6;
 
 /// How many entries lead to relocations.
@@ -25,7 +25,7 @@ pub const WORD_SIZE: u64 = 4;
 /// How many words stand before the chains of the hash table.
 pub const HASH_HEAD: u64 = 3;
 
-/// Where the tables begin behind the start of their part, which is that of the array.
+/// Where the tables begin, in bytes from the start of their part, at which the array stands.
 #[derive(Clone, Copy)]
 pub struct Layout {
     pub array_size: u64,
@@ -64,7 +64,7 @@ pub fn flags_entry(is_flagged: bool, kind: FileKind) -> Option<DynamicEntry>
     }
 }
 
-/// How many bytes the names have, each with the zero byte behind it; that of number 0 is empty.
+/// How many bytes the names have, each with the zero byte after it; the name of symbol 0 is empty.
 fn strings_size(draft: &Draft<'_>) -> u64
     requires { length (strings (told draft.now)) < 2 ^ 32 }
     ensures { result ≡ length (strings (told draft.now)) }
@@ -122,7 +122,7 @@ fn places_end(draft: &Draft<'_>) -> u64
     }
 }
 
-/// The address at which the tables begin: the next page behind the parts.
+/// The address at which the tables begin: the next page after the parts.
 pub fn next_page(draft: &Draft<'_>) -> u64
     requires { next_page draft.now < 2 ^ 64 }
     ensures { result ≡ next_page draft.now }

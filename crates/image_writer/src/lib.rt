@@ -1,23 +1,23 @@
-//! The bytes of an image's file: of one that was read, written again, and of one that a linker has laid out.
+//! The bytes of an image's file: writes an image that was read, and makes one of what a linker has laid out.
 //!
-//! A loader reads a file from its first bytes: a header, and *program headers*, one for each part that is loaded, one
-//! for the dynamic array, one for the TLS segment and one for the part that the loader alone writes. Here these fill
-//! the first page of 4,096 bytes, with zeros behind them, and each part stands where its address says: the byte of
-//! address `a` at offset `a` + 4,096 - the base of the image ([`file_offset`]). The base is 0x400000 in a program at
-//! fixed addresses, else 0. The last part holds the *dynamic tables*: the array, the hash table, the symbols, the
+//! A loader reads a file from its first bytes: a header, and *program headers*, one for each part to load, one for
+//! the dynamic array, one for the TLS segment and one for the part that only the loader writes. Here they fill the
+//! first page of 4,096 bytes, with zeros after them. Each part stands where its address says: the byte of address `a`
+//! is at offset `a` + 4,096 - the base of the image ([`file_offset`]). The base is 0x400000 in a program at fixed
+//! addresses, else 0. The last part holds the *dynamic tables*: the array, the hash table, the symbols, the
 //! relocations and the names.
 //!
-//! The rule that it keeps: **what is written is read as just what it was made of.**
-//! - [`write`] appends the file of an [`Image`](image_file::Image), and that file is read as this very image. It asks
-//!   that the TLS segment begins no further than the last part ends.
-//! - [`into_file`] makes that file of the image's own bytes, for which the image is given up. Its parts stand at their
-//!   offsets already: headers and the zeros between parts are put around them.
-//! - [`image_of`] makes an image of a [`Draft`], all that a linker knows but the tables, and of the file so far. It
-//!   lays the tables behind the last part and the headers over the first page, and the image is the draft's: its
-//!   parts, its symbols and their names, its relocations. `specs/Linkable` says what it asks of the draft.
+//! The rule that it keeps: **reading what was written gives what it was made of.**
+//! - [`write`] appends the file of an [`Image`](image_file::Image), and that file is read as this very image. It
+//!   requires that the TLS segment begins no further than the last part ends.
+//! - [`into_file`] makes that file from the image's own bytes, and takes the image. The parts are at their offsets
+//!   already; it puts headers and the zeros between parts around them.
+//! - [`image_of`] makes an image from a [`Draft`], which is all that a linker knows except the tables, and from the
+//!   file so far. It puts the tables after the last part and the headers over the first page. The image has the
+//!   draft's parts, symbols, names and relocations. `specs/Linkable` says what it requires of the draft.
 //!
-//! Memory is taken first and at once. Where there is none, `write` leaves what it was to append to as it was. It copies
-//! parts once, `into_file` none of them, and `image_of` keeps the file that it was given.
+//! Memory is allocated first and at once. If it runs out, `write` leaves its output as it was. `write` copies parts
+//! once, `into_file` copies none, and `image_of` keeps the file that it was given.
 //!
 //! For example, a module that defines one symbol, `x`, thread-local at offset 8, has these tables at address 0x1000,
 //!

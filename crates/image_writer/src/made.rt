@@ -1,4 +1,4 @@
-//! The image that a linker's draft becomes.
+//! Makes an image from a linker's draft.
 
 ghost use Rattle.std.specs.Prelude.{◌≡◌, ◌+◌, ◌^◌, ◌<◌, ◌≤◌, ◌++◌, ◌∷◌, [], All, IfOk, length, vec_len};
 ghost use Rattle.image_file.specs.declared.part.PartClass.TheVariants.{ReadOnly};
@@ -20,7 +20,7 @@ use crate::tables::put_tables;
 use image_file::{Image, PartClass};
 use std::alloc::{AllocError, Global};
 
-/// The parts of a draft, and behind them that of the tables.
+/// The parts of a draft, and after them the part of the tables.
 fn with_tables(
     alloc: Global,
     parts: &[PartPlace],
@@ -40,7 +40,7 @@ fn with_tables(
     Ok(all)
 }
 
-/// Puts the tables behind the parts, and the headers over the first page.
+/// Puts the tables after the parts, and the headers over the first page.
 fn put_made(draft: &Draft<'_>, layout: &Layout, outline: &Outline<'_>, out: &mut [u8], at: usize)
     requires layout { layout.now ≡ layout_of (told draft.now) }
     requires small { layout.now.strings_start + layout.now.strings_size < 2 ^ 32 }
@@ -57,9 +57,9 @@ fn put_made(draft: &Draft<'_>, layout: &Layout, outline: &Outline<'_>, out: &mut
     put_page(outline, out, 0);
 }
 
-/// The image that a draft becomes. The file has a page, which is overwritten with the headers, and then the bytes of
-/// each part at the offset of its address ([`file_offset`]), up to the end of the last part. The dynamic tables are
-/// put behind it, and the image keeps the bytes.
+/// The image of a draft. The file has one page, which the headers overwrite, and then the bytes of each part at the
+/// offset of its address ([`file_offset`]), up to the end of the last part. The dynamic tables are appended to it,
+/// and the image keeps the bytes.
 pub fn image_of(alloc: Global, draft: &Draft<'_>, file: Vec<u8>) -> Result<Image, AllocError>
     requires linkable { IsLinkable (contents_of draft.now file.items) }
     requires ends { length file.items ≡ file_offset draft.now.kind (parts_end draft.now.kind (contents_of draft.now file.items).parts) }

@@ -1,4 +1,4 @@
-//! What a page of headers says of an image.
+//! What the page of headers says of an image.
 
 use image_file::{FileKind, PartClass, TlsPart};
 
@@ -13,7 +13,7 @@ pub struct PartPlace {
     pub size: u64,
 }
 
-/// An image as its headers tell it.
+/// An image as its headers describe it.
 #[derive(Clone, Copy)]
 pub struct Outline<'a> {
     pub kind: FileKind,
@@ -21,7 +21,7 @@ pub struct Outline<'a> {
     pub parts: &'a [PartPlace],
     /// How many bytes the dynamic array has.
     pub array_size: u64,
-    /// The number of the part that the loader alone writes, if there is one.
+    /// The number of the part that only the loader writes, if there is one.
     pub got: Option<u64>,
     pub tls: Option<TlsPart>,
 }

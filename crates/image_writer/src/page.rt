@@ -37,7 +37,7 @@ pub fn base_of(kind: FileKind) -> u64
     }
 }
 
-/// Where the byte of an address stands in the file of an image, behind the page of headers.
+/// The offset in an image's file of an address, after the page of headers.
 pub fn file_offset(kind: FileKind, address: u64) -> u64
     requires above { base_of kind ≤ address + 4096 }
     requires below { address + 4096 < 2 ^ 64 }
@@ -67,7 +67,7 @@ fn type_of(kind: FileKind) -> u16
     }
 }
 
-/// The header of a file with so many program headers.
+/// The header of a file with `count` program headers.
 #[tactic(auto, unfolding(crate::specs::Headers::header_of))]
 fn header_of(kind: FileKind, count: u16) -> Header
     ensures { result ≡ header_of kind count }
@@ -110,7 +110,7 @@ fn load_header(kind: FileKind, part: &PartPlace) -> Segment
     }
 }
 
-/// The program header of the dynamic array, which is at the start of the last part.
+/// The program header of the dynamic array, at the start of the last part.
 #[tactic(auto, unfolding(crate::specs::Page::dynamic_header))]
 fn dynamic_header(outline: &Outline<'_>) -> Segment
     requires some { 0 < length outline.now.parts.now }
@@ -150,7 +150,7 @@ fn tls_header(outline: &Outline<'_>) -> Option<Segment>
     })
 }
 
-/// The program header of the part that the loader alone writes.
+/// The program header of the part that only the loader writes.
 #[tactic(auto, unfolding(crate::specs::Page::relro_header))]
 fn relro_header(kind: FileKind, part: &PartPlace) -> Segment
     requires { IsNear kind part.now.address }
@@ -168,7 +168,7 @@ fn relro_header(kind: FileKind, part: &PartPlace) -> Segment
     }
 }
 
-/// The same, if there is such a part.
+/// The program header of the part that only the loader writes, if there is one.
 fn got_header(outline: &Outline<'_>) -> Option<Segment>
     requires loadable { IsLoadable (outlined outline.now) }
     ensures { option_to_list result ≡ relro_headers (outlined outline.now) outline.now.got }

@@ -1,4 +1,4 @@
-//! Bytes that are put into a file whose memory is taken.
+//! Puts bytes into a file whose memory is allocated.
 
 ghost use Rattle.std.specs.Prelude.{◌≡◌, ◌+◌, ◌≤◌, ◌++◌, OnOk, OnErr, length, replicate, vec_len};
 ghost use Rattle.elf_records.specs.Fields.{bytes_of, splice};
@@ -6,7 +6,7 @@ ghost use Rattle.elf_records.specs.Fields.{bytes_of, splice};
 use byteorder::{ByteOrder, LittleEndian};
 use std::alloc::AllocError;
 
-/// Makes a file longer by zeros. Where there is no memory, it stays as it is.
+/// Appends `count` zeros to a file. If memory runs out, the file stays as it is.
 pub fn grow(file: &mut Vec<u8>, count: usize) -> Result<(), AllocError>
     ensures ok { OnOk result (file.new.items ≡ file.old.items ++ replicate count 0) }
     ensures err { OnErr result (file.new.items ≡ file.old.items) }

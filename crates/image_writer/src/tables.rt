@@ -19,7 +19,7 @@ use elf_records::dynamic::{
 use elf_records::{DynamicEntry, Rela, SymbolEntry, write_dynamic, write_rela, write_symbol};
 use image_file::ImageRelocation;
 
-/// How many entries of the array say where the tables are that each image has.
+/// How many entries of the array lead to the tables that every image has.
 const PLACE_ENTRIES: usize = 5;
 
 const ENTRY_SIZE: usize = DynamicEntry::SIZE as usize;
@@ -45,7 +45,7 @@ fn put_entries(entries: &[DynamicEntry], out: &mut [u8], at: usize)
     }
 }
 
-/// Puts the entries that lead to relocations, if there are any, and answers where the next entry begins.
+/// Puts the entries that lead to relocations, if there are any, and returns where the next entry begins.
 fn put_relocation_entries(place: u64, count: u64, out: &mut [u8], at: usize) -> usize
     requires few { 24 * count < 2 ^ 64 }
     requires room { at + 16 * length (leading_entries (nat_lt 0 count) place count) ≤ length out.old }
@@ -64,7 +64,7 @@ fn put_relocation_entries(place: u64, count: u64, out: &mut [u8], at: usize) -> 
     at + ENTRY_SIZE * RELOCATION_ENTRIES as usize
 }
 
-/// Puts an entry, if there is one, and answers where the next begins.
+/// Puts an entry, if there is one, and returns where the next begins.
 fn put_if(entry: Option<DynamicEntry>, out: &mut [u8], at: usize) -> usize
     requires { at + 16 ≤ length out.old }
     ensures bytes { out.new ≡ splice at (flat_map dynamic_bytes (option_to_list entry)) out.old }
@@ -79,7 +79,7 @@ fn put_if(entry: Option<DynamicEntry>, out: &mut [u8], at: usize) -> usize
     }
 }
 
-/// Puts the entries that each image has but for the last.
+/// Puts the entries that every image has, without the last.
 fn put_places(layout: &Layout, address: u64, out: &mut [u8], at: usize)
     requires below { address + layout.now.strings_start < 2 ^ 64 }
     requires hash { layout.now.array_size ≤ layout.now.strings_start }
@@ -119,7 +119,7 @@ fn bucket(total: u32) -> u32
     if total == 1 { 0 } else { 1 }
 }
 
-/// The word of a symbol in the hash table's chains: the number of the next, or 0 behind the last.
+/// A symbol's word in the hash table's chains: the number of the next symbol, or 0 after the last.
 fn chain(total: u32, number: u32) -> u32
     requires { number < total }
     ensures { result ≡ chain total number }
@@ -131,7 +131,7 @@ fn chain(total: u32, number: u32) -> u32
     }
 }
 
-/// Puts the hash table of so many symbols: one bucket, with all of them but number 0.
+/// Puts the hash table of `total` symbols: one bucket, and all symbols but number 0 in its chain.
 fn put_hash(total: u32, out: &mut [u8], at: usize)
     requires some { 0 < total }
     requires room { at + (12 + 4 * total) ≤ length out.old }
@@ -173,7 +173,7 @@ fn put_relocations(relocations: &[ImageRelocation], out: &mut [u8], at: usize)
     }
 }
 
-/// Puts the names, each with a zero byte behind it; that of number 0 is empty.
+/// Puts the names, each with a zero byte after it; the name of symbol 0 is empty.
 fn put_strings(draft: &Draft<'_>, out: &mut [u8], at: usize)
     requires { at + length (strings (told draft.now)) ≤ length out.old }
     ensures { out.new ≡ splice at (strings (told draft.now)) out.old }
@@ -187,7 +187,7 @@ fn put_strings(draft: &Draft<'_>, out: &mut [u8], at: usize)
     }
 }
 
-/// Puts the tables, whose part begins at an address.
+/// Puts the tables of the part that begins at `address`.
 pub fn put_tables(draft: &Draft<'_>, layout: &Layout, address: u64, out: &mut [u8], at: usize)
     requires layout { layout.now ≡ layout_of (told draft.now) }
     requires small { layout.now.strings_start + layout.now.strings_size < 2 ^ 32 }

@@ -1,4 +1,4 @@
-//! An image's file, written.
+//! Writes the file of an image.
 
 ghost use Rattle.std.specs.Prelude.{◌≡◌, ◌+◌, ◌-◌, ◌^◌, ◌<◌, ◌≤◌, ◌++◌, OnOk, OnErr, IfOk, length, map, replicate};
 ghost use Rattle.elf_records.specs.Fields.{splice};
@@ -51,7 +51,7 @@ fn file_size(outline: &Outline<'_>) -> usize
     file_offset(outline.kind, last.address + last.size) as usize
 }
 
-/// Puts a part behind what ends at an address, with zeros between them.
+/// Puts a part after the one that ends at `end`, with zeros between them.
 fn put_part(part: &ImagePart<'_>, end: u64, out: &mut [u8], at: usize)
     requires rising { end ≤ part.now.address }
     requires room { at + (part.now.address - end + length part.now.bytes.now) ≤ length out.old }
@@ -81,7 +81,7 @@ fn put_parts(image: &Image, out: &mut [u8], at: usize)
     }
 }
 
-/// What an image's headers tell of it, with the places of its parts.
+/// What an image's headers say of it, with the places of its parts.
 fn outline_of<'a>(image: &Image, places: &'a [PartPlace]) -> Outline<'a>
     requires { places.now ≡ map place_of image.now.parts }
     ensures { outlined result ≡ outline_of image.now }
@@ -95,7 +95,7 @@ fn outline_of<'a>(image: &Image, places: &'a [PartPlace]) -> Outline<'a>
     }
 }
 
-/// What is written of an image is read as that very image. The call only tells a proof so.
+/// The written file of an image is read as that very image. The call does nothing; it gives a proof this fact.
 fn written_again(image: &Image)
     requires { HoldsTls (outline_of image.now) }
     ensures loadable { IsLoadable (outline_of image.now) }
@@ -132,8 +132,8 @@ fn put_gaps(outline: &Outline<'_>, out: &mut [u8])
     }
 }
 
-/// Puts all of a file but its parts, which stand at their offsets already: the page of headers, and zeros between the
-/// parts.
+/// Puts everything of a file except its parts, which are at their offsets already: the page of headers, and
+/// zeros between the parts.
 fn put_around(outline: &Outline<'_>, out: &mut [u8])
     requires loadable { IsLoadable (outlined outline.now) }
     requires tls { HoldsTls (outlined outline.now) }
@@ -145,8 +145,8 @@ fn put_around(outline: &Outline<'_>, out: &mut [u8])
     put_page(outline, out, 0);
 }
 
-/// The file of an image, which is given up for it. The bytes of its parts stay where they are, and are not copied.
-/// What it makes is read as that very image. It takes the images that [`write`] takes.
+/// Gives up an image for its file. The bytes of its parts stay where they are, without a copy. The file is read as that
+/// very image. It accepts the images that [`write`] accepts.
 pub fn into_file(alloc: Global, image: Image) -> Result<Vec<u8>, AllocError>
     requires { HoldsTls (outline_of image) }
     ensures file { IfOk result (λ file. file.items ≡ written image) }
@@ -161,12 +161,12 @@ pub fn into_file(alloc: Global, image: Image) -> Result<Vec<u8>, AllocError>
     Ok(file)
 }
 
-/// Appends the file of an image: a page of headers, and each part at its address. What is appended is read as that
-/// very image. Where there is no memory for all of it, nothing is.
+/// Appends the file of an image: a page of headers, and each part at its address. The file is read as that very
+/// image. If memory runs out, nothing is appended.
 ///
-/// It takes only images whose TLS segment begins no further than the last part ends (`HoldsTls`). An image that was read
-/// may break that, where its initial image is empty: what is written of it would end before that segment begins, and no
-/// reader would take it.
+/// It requires that the TLS segment begins no further than the last part ends (`HoldsTls`). An image that was
+/// read may break that if its initial image is empty: its file would end before that segment begins, and no
+/// reader would accept it.
 pub fn write(alloc: Global, image: &Image, into: &mut Vec<u8>) -> Result<(), AllocError>
     requires { HoldsTls (outline_of image.now) }
     ensures ok { OnOk result (into.new.items ≡ into.old.items ++ written image.now) }

@@ -18,13 +18,13 @@ use Rattle.job_link.specs.Mentions.{mentions_of}
 
 -- ** one file
 
--- it is an object, and its accesses of thread-local storage are sequences
+-- it is an object, and its thread-local accesses are sequences
 pub record IsSound (b : List ℕ) : Type 0 where
   pub object : IsObject b
   pub no_loose : Nowhere Sequence b
   pub no_stray : Nowhere StrayCall b
 
--- where data that programs write is refused, no section of it has any, in the file or in memory
+-- if data that programs write is refused, no section of it has any, in the file or in memory
 abbrev pub Allows : WritableSections → List ℕ → Type 0
 Allows Kept b = Unit {0}
 Allows Refused b = (section : ℕ) → IsWritable b section → ⊥
@@ -44,8 +44,8 @@ abbrev pub IsDataFaultOf : WritableSections → List ℕ → ObjectFault → Typ
 IsDataFaultOf writable b OutOfMemory = ⊥
 IsDataFaultOf writable b (At section entry kind) = IsDataFault writable b section entry kind
 
--- what a refusal says of it: its first fault, and where it is an object, its lowest section that is refused, and where
--- none is, the first fault of its sequences; of want of memory nothing
+-- what a refusal says of a file: its first fault as an object; without one, its lowest refused section; without one,
+-- the first fault of its sequences; nothing when memory runs out
 abbrev pub IsFileFault : WritableSections → List ℕ → ObjectFault → Type 0
 IsFileFault writable b OutOfMemory = Unit {0}
 IsFileFault writable b (At section entry kind) =
@@ -55,19 +55,19 @@ IsFileFault writable b (At section entry kind) =
 
 -- ** the images
 
--- what an image is linked from
+-- the input of a link
 pub record Given : Type 0 where
   pub kind : ImageKind
   pub objects : List (List ℕ)
   pub sites : List (List Site)
 
--- objects, and their own sequences
+-- the objects are sound, and the sites are their own sequences
 pub record IsGiven (g : Given) : Type 0 where
   pub sound : All IsSound g.objects
   pub each : length g.sites ≡ length g.objects
   pub own : (o : ℕ) → o < length g.objects → AreSites (slice_index_or g.objects o []) (slice_index_or g.sites o [])
 
--- they are the images of the job, in image order, over the bytes of files by their names
+-- these are the images of the job, in image order, over the bytes of files by their names
 pub record AreGiven (bytes : List ℕ → List ℕ) (job : JobParts) (images : List Given) : Type 0 where
   pub kinds : map (λ (g : Given). g.kind) images ≡ map (λ (image : Image). image.kind) job.images
   pub objects : map (λ (g : Given). g.objects) images

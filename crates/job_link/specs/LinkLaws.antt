@@ -21,7 +21,7 @@ fewer t (x ∷ xs) = kept (t x) (fewer t xs)
     kept true h = omega arith
     kept false h = omega arith
 
--- they are at most as many as there are images
+-- the startup images export at most as many lists as there are images
 pub exports_few : (images : List Given) → length (exports_of images) ≤ length images
 unfolding exports_of
 exports_few images =
@@ -31,7 +31,7 @@ exports_few images =
 
 -- ** the links
 
--- what each is linked from is in order
+-- the input of each link is sound
 pub is_given : (images : List Given) (relax : Bool) (g : Given) → length images ≤ 64 → IsGiven g
     → IsGivenLink (link_in images relax g)
 unfolding link_in
@@ -42,7 +42,7 @@ is_given images relax g few given = record {
   are_sites = given.own;
 }
 
--- they are of the images' kinds
+-- the links have the images' kinds
 pub kinds_linked : (images : List Given) (relax : Bool) (gs : List Given)
     → map (λ (l : Linking). l.kind) (map (link_in images relax) gs) ≡ map (λ (g : Given). g.kind) gs
 unfolding link_in

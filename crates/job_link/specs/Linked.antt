@@ -10,7 +10,7 @@ use Rattle.link_faults.specs.declared.image_kind.ImageKind.TheVariants.{Exe, Pie
 use Rattle.tls_symbols.specs.Bindings.{exported_names}
 use Rattle.job_link.specs.Given.{Given}
 
--- the program, and a module that starts with it
+-- whether an image is the program, or a module that starts with it
 abbrev pub is_startup : ImageKind → Bool
 is_startup Exe = true
 is_startup Pie = true
@@ -21,7 +21,7 @@ is_startup Late = false
 unfoldable pub exports_of : List Given → List (List (List ℕ))
 exports_of images = map (λ (g : Given). exported_names g.objects) (filter (λ (g : Given). is_startup g.kind) images)
 
--- the link of one of them
+-- the link of an image of the job
 unfoldable pub link_in : List Given → Bool → Given → Linking
 link_in images relax g = record {
   kind = g.kind;
@@ -31,11 +31,11 @@ link_in images relax g = record {
   relax = relax;
 }
 
--- all link
+-- all images link
 abbrev pub AllLink : List Given → Bool → Type 0
 AllLink images relax = All (λ g. Links (link_in images relax g)) images
 
--- image `number`, from 0, is the first that does not link, and this is its first fault
+-- image `number`, counted from 0, is the first that does not link, and this is its first fault
 pub record IsFirstUnlinked (images : List Given) (relax : Bool) (number : ℕ) (kind : LinkFaultKind)
     (object : Option ℕ) (section entry : ℕ) : Type 0 where
   pub image : Given

@@ -12,11 +12,11 @@ use Rattle.ports.specs.Files.{Files, file_at}
 abbrev pub mentioned : JobParts → List Image
 mentioned job = filter_map (λ (number : ℕ). slice_get job.images (number - 1)) job.mentions
 
--- the names of their objects, as they come
+-- the names of their objects, in that order
 unfoldable pub mentions_of : JobParts → List (List ℕ)
 mentions_of job = flat_map (λ (image : Image). image.objects) (mentioned job)
 
--- each of these names once, where it comes first
+-- each of these names once, at its first occurrence
 abbrev pub once : List (List ℕ) → List (List ℕ)
 once [] = []
 once (name ∷ names) = name ∷ filter (λ other. not (bytes_eq name other)) (once names)
@@ -27,7 +27,7 @@ object_names job = once (mentions_of job)
 
 -- ** their bytes
 
--- those of a file of the store; none where it is not there
+-- the bytes of a file of the store; none if it is not there
 abbrev pub bytes_at : Files → List ℕ → List ℕ
 bytes_at fs name = unwrap_or (file_at fs name) []
 

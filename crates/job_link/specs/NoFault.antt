@@ -1,4 +1,4 @@
--- What links has no fault.
+-- A link that succeeds has no fault.
 use Rattle.std.proofs.Common.{ℕ, Option, Some, None, inl, inr, arith}
 use Rattle.link_core.specs.Faults.{IsLinkFault, Links}
 use Rattle.link_faults.specs.declared.fault.LinkFault.TheVariants.{At}
@@ -6,7 +6,7 @@ use Rattle.link_faults.specs.declared.fault.LinkFaultKind.{LinkFaultKind}
 use Rattle.link_faults.specs.declared.fault.LinkFaultKind.TheVariants as fault
 use Rattle.link_needs.specs.Linking.{Linking}
 
--- neither the first one of any kind, nor any other
+-- neither a first fault of any kind, nor any other
 pub no_link_fault : (l : Linking) (kind : LinkFaultKind) (object : Option ℕ) (section entry : ℕ) → Links l
     → IsLinkFault l (At kind object section entry) → ⊥
 no_link_fault l fault.Undefined (Some o) section entry links first =

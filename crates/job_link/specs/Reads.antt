@@ -1,4 +1,4 @@
--- Objects that are read one after another.
+-- Reading objects one after another.
 use Rattle.std.specs.Prelude.{◌≡◌, ◌+◌, ◌<◌, ℕ, List, [], Some, length, map, slice_get, slice_index_or}
 use Rattle.std.specs.Prelude.{MatchResult, Result}
 use Rattle.std.specs.Borrow.{Bor}
@@ -24,25 +24,25 @@ pub record IsFirstIn (writable : WritableSections) (bytes : List ℕ → List �
   pub here : IsFileFault writable (bytes name) (object.At section entry kind)
   pub before : (k : ℕ) (other : List ℕ) → k < at → slice_get names k ≡ Some other → IsTaken writable (bytes other)
 
--- what a refusal says of files by these names; of want of memory nothing
+-- what a refusal says of files by these names; nothing when memory runs out
 abbrev pub IsRefusalIn : WritableSections → (List ℕ → List ℕ) → List (List ℕ) → ReadRefusal → Type 0
 IsRefusalIn writable bytes names unread.OutOfMemory = Unit {0}
 IsRefusalIn writable bytes names (unread.At name section entry kind) =
     IsFirstIn writable bytes names name.now section entry kind
 
--- what is told of the file of this name; of want of memory nothing
+-- what a refusal says of the file of this name; nothing when memory runs out
 abbrev pub IsRefusalOf : WritableSections → (List ℕ → List ℕ) → List ℕ → ReadRefusal → Type 0
 IsRefusalOf writable bytes name unread.OutOfMemory = Unit {0}
 IsRefusalOf writable bytes name (unread.At told section entry kind) =
     (told.now ≡ name) × IsFileFault writable (bytes name) (object.At section entry kind)
 
--- what comes of reading the file of this name
+-- the result of reading the file of this name
 abbrev pub IsReading : WritableSections → (List ℕ → List ℕ) → List ℕ → Result ReadObject ReadRefusal → Type 0
 IsReading writable bytes name came = MatchResult came
     (λ read. (read.object ≡ bytes name) × AreSites (bytes name) read.sites.items × IsTaken writable (bytes name))
     (IsRefusalOf writable bytes name)
 
--- what is told of an object of this name that has this fault
+-- the refusal of an object of this name with this fault
 abbrev pub read_refusal_of : Bor (List ℕ) → ObjectFault → ReadRefusal
 read_refusal_of name object.OutOfMemory = unread.OutOfMemory
 read_refusal_of name (object.At section entry kind) = unread.At name section entry kind
@@ -51,11 +51,11 @@ read_refusal_of name (object.At section entry kind) = unread.At name section ent
 abbrev pub objects_of : (List ℕ → List ℕ) → JobParts → List (List (List ℕ))
 objects_of bytes job = map (λ (image : Image). map bytes image.objects) job.images
 
--- what images are linked as
+-- the kinds of image to link
 abbrev pub kinds_of : List Given → List ImageKind
 kinds_of images = map (λ (g : Given). g.kind) images
 
--- images of the job's kinds, in image order, of which these are read
+-- images of the job's kinds, in image order; those of these numbers have been read
 pub record IsReadIn (bytes : List ℕ → List ℕ) (job : JobParts) (numbers : List ℕ) (images : List Given) : Type 0 where
   pub kinds : kinds_of images ≡ map (λ (image : Image). image.kind) job.images
   pub given : All IsGiven images

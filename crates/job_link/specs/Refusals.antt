@@ -1,4 +1,4 @@
--- What a refusal says of a job's objects and images; of want of memory nothing.
+-- What a refusal says of a job's objects and images; nothing when memory runs out.
 use Rattle.std.specs.Prelude.{ℕ, Bool, List}
 use Rattle.job_text.specs.Jobs.{JobParts}
 use Rattle.job_link.specs.declared.preparing.ImageRefusal.{ImageRefusal}
@@ -21,7 +21,7 @@ IsImageRefusal images relax unlinked.OutOfMemory = Unit {0}
 IsImageRefusal images relax (unlinked.At number kind object section entry) =
     IsFirstUnlinked images relax number kind object section entry
 
--- what is told of the image of this number, from 0, that has this fault
+-- the refusal of the image of this number, counted from 0, with this fault
 abbrev pub refusal_of : ℕ → LinkFault → ImageRefusal
 refusal_of number link.OutOfMemory = unlinked.OutOfMemory
 refusal_of number (link.At kind object section entry) = unlinked.At number kind object section entry

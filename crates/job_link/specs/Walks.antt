@@ -1,4 +1,4 @@
--- The names of files that are fetched one after another, and the files beside them.
+-- The names of files that are fetched one after another, and the files so far.
 use Rattle.std.specs.Prelude.{◌-◌, ◌++◌, ℕ, Bool, List, [], ◌∷◌, map, slice_get, Vec}
 use Rattle.std.specs.Prelude.{if◌then◌else◌}
 use Rattle.std.specs.List.{filter_map, flat_map, list_any}
@@ -12,11 +12,11 @@ use Rattle.job_link.specs.Mentions.{Fetched}
 abbrev pub names_of : Fetched → List (List ℕ)
 names_of files = map (λ (file : List ℕ × List ℕ). file.0) files
 
--- the same of names that are lent
+-- the texts of borrowed names
 abbrev pub texts : List (Bor (List ℕ)) → List (List ℕ)
 texts names = map (λ name. name.now) names
 
--- names that are lent, each with the file that stands beside it
+-- borrowed names, each with its file
 abbrev pub files_in : {A : Type 0} → List (Bor (List ℕ)) → List (Vec ℕ A) → Fetched
 files_in [] files = []
 files_in (name ∷ names) [] = []
@@ -25,11 +25,11 @@ files_in (name ∷ names) (file ∷ files) = (name.now, file.items) ∷ files_in
 abbrev pub is_among : List (List ℕ) → List ℕ → Bool
 is_among names name = list_any (bytes_eq name) names
 
--- a file behind others, unless one of its name is among them
+-- these files and one more, unless its name is among them
 abbrev pub with_unseen : Fetched → List ℕ → List ℕ → Fetched
 with_unseen files name bytes = if is_among (names_of files) name then files else files ++ (name, bytes) ∷ []
 
--- those of some names that were not seen, each once
+-- those of some names that were not seen yet, each once
 abbrev pub unseen : List (List ℕ) → List (List ℕ) → List (List ℕ)
 unseen seen [] = []
 unseen seen (name ∷ names) =

@@ -1,4 +1,4 @@
-//! Files of objects, fetched once each.
+//! Fetches the files of objects, once each.
 
 ghost use Rattle.std.specs.Prelude.{◌≡◌, ◌<◌, ◌++◌, [], ℕ, List, All, IfOk, IfSome, OnErr, OnOk};
 ghost use Rattle.ports.specs.Counts.{FetchCounts};
@@ -13,12 +13,12 @@ use std::alloc::{AllocError, Global};
 use std::marker::Model;
 use std::thread::Threads;
 
-/// Bytes are numbers below 256. The call only tells a proof so.
+/// Bytes are numbers below 256. The call does nothing; it gives a proof this fact.
 fn are_small(bytes: &[u8])
     ensures { All (λ (byte : ℕ). byte < 256) bytes.now }
 {}
 
-/// How many bytes of objects are worth a thread of their own.
+/// A thread of its own pays for this many bytes of objects.
 const WORTH_A_THREAD: usize = 1 << 18;
 
 /// The files of a job's objects. Contracts see each name with its bytes.
@@ -41,7 +41,7 @@ impl<'j> Model for Files<'j> {
 }
 
 impl<'j> Files<'j> {
-    /// No file.
+    /// No files.
     pub fn empty(alloc: Global) -> Self
         ensures { result ≡ [] }
     {
@@ -51,8 +51,7 @@ impl<'j> Files<'j> {
         }
     }
 
-    /// Adds a file that no store holds, unless one of its name is there. Where there is no memory for it, the files are as
-    /// they were.
+    /// Adds a file that is in no store, unless its name is there already. If memory runs out, the files are as before.
     pub fn add(&mut self, name: &'j str, bytes: &[u8]) -> Result<(), AllocError>
         ensures added { OnOk result (self.new ≡ with_unseen self.old name.now bytes.now) }
         ensures kept { OnErr result (self.new ≡ self.old) }
@@ -67,7 +66,7 @@ impl<'j> Files<'j> {
         Ok(())
     }
 
-    /// The bytes of the file of that name; none where it was not fetched.
+    /// The bytes of the file of that name; empty if it was not fetched.
     pub fn file(&self, name: &str) -> &[u8]
         ensures { result.now ≡ bytes_in self.now name.now }
     {
@@ -77,7 +76,7 @@ impl<'j> Files<'j> {
         }
     }
 
-    /// How many files of the mean size are worth a thread of their own, at least one.
+    /// How many files of the mean size are worth a thread of their own; at least one.
     pub(crate) fn share(&self) -> usize {
         let mut total: usize = 0;
         for file in self.files.as_slice() {
@@ -87,7 +86,7 @@ impl<'j> Files<'j> {
         WORTH_A_THREAD.div_ceil(mean.max(1))
     }
 
-    /// Files hold bytes, numbers below 256. The call only tells a proof so.
+    /// Files hold bytes, numbers below 256. The call does nothing; it gives a proof this fact.
     pub fn are_bytes(&self)
         ensures { (name : List ℕ) → All (λ (byte : ℕ). byte < 256) (bytes_in self.now name) }
     {
@@ -97,7 +96,7 @@ impl<'j> Files<'j> {
     }
 }
 
-/// Adds the names of an image's objects that are not there.
+/// Adds the names of an image's objects that are not there yet.
 fn add_names<'j>(names: &mut IndexSet<&'j str>, image: &'j Image) -> Result<(), AllocError>
     ensures { OnOk result (texts names.new.keys
         ≡ texts names.old.keys ++ unseen (texts names.old.keys) image.now.objects) }
@@ -119,7 +118,7 @@ fn names_once<'j>(alloc: Global, job: &'j Job) -> Result<IndexSet<&'j str>, Allo
     Ok(names)
 }
 
-/// Fetches each object of a job once, in the order of first mentions. Threads share the reading.
+/// Fetches each object of a job once, in the order of first mentions. Threads read side by side.
 pub fn fetch_objects<'j, R: Threads + Sync, S: Store>(
     rt: &R,
     alloc: Global,

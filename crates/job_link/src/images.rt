@@ -19,8 +19,8 @@ pub(crate) struct ReadObject<'a> {
 }
 
 impl<'a> ReadObject<'a> {
-    /// Reads the object of these bytes, or answers its first fault: a section that is refused comes behind those of the
-    /// object, and the faults of its sequences last.
+    /// Reads the object of these bytes, or returns its first fault: first the faults of the object, then a refused
+    /// section, and the faults of its sequences last.
     pub(crate) fn read(
         alloc: Global,
         bytes: &'a [u8],
@@ -74,7 +74,7 @@ impl<'a> Model for ImageObjects<'a> {
 }
 
 impl<'a> ImageObjects<'a> {
-    /// No object yet.
+    /// No objects yet.
     pub(crate) fn new(alloc: Global, kind: ImageKind) -> Self
         ensures value { result ≡ record { kind = kind; objects = []; sites = [] } }
         ensures given { IsGiven result }
@@ -86,7 +86,7 @@ impl<'a> ImageObjects<'a> {
         }
     }
 
-    /// What the image is linked as.
+    /// The kind of image to link.
     pub fn kind(&self) -> ImageKind
         ensures kind { result ≡ self.now.kind }
         ensures given { IsGiven self.now }

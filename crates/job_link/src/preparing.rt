@@ -1,6 +1,6 @@
-//! The images of a job, made ready in image order, and written.
+//! Makes the images of a job ready in image order, and writes them.
 //!
-//! Whoever asks what a job means, or wants one of its images, needs no file of the others.
+//! A caller that needs what a job means, or one of its images, needs no file of the others.
 
 ghost use Rattle.std.specs.Prelude.{◌≡◌, ◌≤◌, ◌<◌, ◌-◌, ◌^◌, All, IfErr, IfOk, OnOk, length, map};
 ghost use Rattle.link_core.specs.Faults.{IsLinkFault, IsSound, Links};
@@ -20,9 +20,9 @@ use tls_symbols::{Exports, exports};
 /// Why the images of a job do not link.
 #[derive(Clone, Copy)]
 pub enum ImageRefusal {
-    /// There was no memory for an image.
+    /// Memory ran out for an image.
     OutOfMemory,
-    /// The first image that does not link, by its number in image order from 0, and its first fault.
+    /// The first image that does not link, by its number in image order, counted from 0, and its first fault.
     At {
         image: usize,
         kind: LinkFaultKind,
@@ -64,7 +64,7 @@ fn is_startup(kind: ImageKind) -> bool
     }
 }
 
-/// What the startup images export: the program, and the modules that start with it.
+/// The names that the startup images export: the program, and the modules that start with it.
 pub fn startup_exports<'a>(
     alloc: Global,
     images: &[ImageObjects<'a>],
@@ -80,7 +80,7 @@ pub fn startup_exports<'a>(
     Ok(startup)
 }
 
-/// A link that is ready, where all its fields hold their values, or the first that does not.
+/// A link that is ready, if the values of all its fields fit; else the first that does not.
 fn fitting<'l, 's, 'a>(ready: ReadyLink<'l, 's, 'a>) -> Result<ReadyLink<'l, 's, 'a>, LinkFault>
     requires { IsSound ready }
     ensures ready { IfOk result (λ same. same ≡ ready.entry) }
@@ -93,7 +93,7 @@ fn fitting<'l, 's, 'a>(ready: ReadyLink<'l, 's, 'a>) -> Result<ReadyLink<'l, 's,
     }
 }
 
-/// Makes an image ready that links beside startup images that export these names, or answers its first fault.
+/// Makes an image ready, given the exports of the startup images, or returns its first fault.
 fn ready_one<'i, 'a>(
     alloc: Global,
     image: &'i ImageObjects<'a>,
@@ -118,7 +118,7 @@ fn ready_one<'i, 'a>(
     }
 }
 
-/// What is told of the image of this number.
+/// The refusal of the image of this number.
 fn refused(image: usize, fault: LinkFault) -> ImageRefusal
     ensures { result ≡ refusal_of image fault }
 {
@@ -139,8 +139,8 @@ fn refused(image: usize, fault: LinkFault) -> ImageRefusal
     }
 }
 
-/// Makes the images of a job ready, which stand in image order, or answers the first that does not link. `startup` is
-/// what the startup images export, and `relax` says whether sequences may be rewritten. No byte of an image is laid.
+/// Makes the images of a job, given in image order, ready, or returns the first that does not link. `startup` is what
+/// the startup images export, and `relax` says whether sequences may be rewritten. No byte of an image is laid.
 pub fn prepare_images<'i, 'a>(
     alloc: Global,
     images: &'i [ImageObjects<'a>],
@@ -163,7 +163,7 @@ pub fn prepare_images<'i, 'a>(
     Ok(all)
 }
 
-/// Writes images that link. The only error is want of memory.
+/// Writes images that link. The only error is `AllocError`.
 pub fn write_images<R: Threads + Sync>(
     rt: &R,
     alloc: Global,
@@ -179,7 +179,7 @@ pub fn write_images<R: Threads + Sync>(
     Ok(written)
 }
 
-/// What is known of images, where no byte of them is asked for.
+/// What the meaning of images needs; it needs no byte of them.
 pub fn inputs_of<'l, 's, 'a>(
     alloc: Global,
     all: Vec<ReadyLink<'l, 's, 'a>>,

@@ -1,4 +1,4 @@
-//! The objects of all images of a job, read.
+//! Reads the objects of all images of a job.
 
 ghost use Rattle.std.specs.Prelude.{◌≡◌, ◌<◌, [], All, IfErr, IfOk, OnOk, length, map, slice_set};
 ghost use Rattle.std.specs.List.{AllZip};
@@ -18,10 +18,10 @@ use std::alloc::{AllocError, Global};
 use std::mem;
 use std::thread::Threads;
 
-/// Why the objects of a job are not read.
+/// Why the objects of a job cannot be read.
 #[derive(Clone, Copy)]
 pub enum ReadRefusal<'j> {
-    /// There was no memory for what is kept of them.
+    /// Memory ran out.
     OutOfMemory,
     /// The first object that has a fault, by its name in the job, and its first fault.
     At {
@@ -43,7 +43,7 @@ impl From<AllocError> for ReadRefusal<'_> {
     }
 }
 
-/// The images of a job, without objects yet.
+/// The images of a job, still without objects.
 fn empty_images<'a>(alloc: Global, job: &Job) -> Result<Vec<ImageObjects<'a>>, AllocError>
     ensures kinds { IfOk result (λ images. kinds_of images.items
         ≡ map (λ (image : DeclaredImage). image.kind) job.now.images) }
@@ -57,7 +57,7 @@ fn empty_images<'a>(alloc: Global, job: &Job) -> Result<Vec<ImageObjects<'a>>, A
     Ok(images)
 }
 
-/// What is told of an object of this name.
+/// The refusal of an object of this name.
 fn refused(name: &str, fault: ObjectFault) -> ReadRefusal<'_>
     ensures { result ≡ read_refusal_of name.entry fault }
 {
@@ -91,7 +91,7 @@ fn read_object<'j, 'a>(
     }
 }
 
-/// Reads the objects of these names. What one says hangs on no other, so that threads share them.
+/// Reads the objects of these names. Each result depends on no other object, so threads read side by side.
 fn read_each<'j, 'a, R: Threads + Sync>(
     rt: &R,
     alloc: Global,
@@ -138,7 +138,7 @@ fn read_image<'j, 'a, R: Threads + Sync>(
     Ok(read)
 }
 
-/// Puts an image in the place of the one that stands there.
+/// Replaces the image at an index.
 fn put<'a>(images: &mut Vec<ImageObjects<'a>>, at: usize, read: ImageObjects<'a>)
     requires { at < length images.old.items }
     ensures { images.new.items ≡ slice_set images.old.items at read.entry }
@@ -146,9 +146,9 @@ fn put<'a>(images: &mut Vec<ImageObjects<'a>>, at: usize, read: ImageObjects<'a>
     let _former = mem::replace(&mut images[at], read);
 }
 
-/// The objects of all images of a job, which stand in image order. They are read in the order in which the job mentions
-/// them, and the first that has a fault is answered; that one has data which programs write is a fault of it where such
-/// data is refused. Threads share the objects of an image.
+/// Reads the objects of all images of a job; the images are in image order. They are read in the order in which the
+/// job mentions them, and the first that has a fault is returned; data that programs write is a fault where
+/// `writable` refuses it. Threads share the objects of an image.
 pub fn read_objects<'j, 'a, R: Threads + Sync>(
     rt: &R,
     alloc: Global,

@@ -5,17 +5,17 @@ ghost use Rattle.job_link.specs.Given.{Allows, IsDataFaultOf};
 
 use elf_object::{FaultKind, Object, ObjectFault};
 
-/// What is asked of the sections of an object that programs write, and that have bytes.
+/// Whether sections that programs write, and that have bytes, are allowed.
 #[derive(Clone, Copy)]
 pub enum WritableSections {
-    /// They are kept, as all others.
+    /// They are kept, like all others.
     Kept,
-    /// An object that has one is refused: threads that really run would all write the same bytes.
+    /// An object that has one is refused: threads that run at once would all write the same bytes.
     Refused,
 }
 
 impl WritableSections {
-    /// The fault of an object that has such a section where it is refused: the lowest of them.
+    /// The fault of an object with such a section, if they are refused: the lowest one.
     pub(crate) fn fault(self, object: &Object) -> Option<ObjectFault>
         ensures { MatchOption result (Allows self object.now) (IsDataFaultOf self object.now) }
     {
@@ -26,7 +26,7 @@ impl WritableSections {
     }
 }
 
-/// What is told of an object by its lowest section that programs write.
+/// The fault for the object's lowest section that programs write.
 fn lowest_writable(object: &Object) -> Option<ObjectFault>
     ensures { MatchOption result (Allows WritableSections.Refused object.now)
         (IsDataFaultOf WritableSections.Refused object.now) }

@@ -1,4 +1,4 @@
--- What a thread may be told.
+-- What a thread may do.
 use Rattle.std.specs.Prelude.{◌≤◌}
 use Rattle.job_text.specs.declared.thread_lines.Action.{Action}
 use Rattle.job_text.specs.declared.thread_lines.Action.TheVariants.{Call, Open, Close, Peek}

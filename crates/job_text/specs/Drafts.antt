@@ -15,9 +15,8 @@ use Rattle.job_text.specs.declared.draft.Slot.{Slot}
 use Rattle.job_text.specs.declared.draft.Plan.{Plan}
 use Rattle.job_text.specs.declared.images.Image.{Image}
 
--- the images in their groups, each in the order of the job; the images' slots in the order of their
--- lines; whether there was a line `threads`; the numbers of `fuel` and `order`; and the lines of each
--- thread, thread 1 first
+-- the images in their groups, each in the order of the job; the images' slots in the order of their lines; whether
+-- there was a line `threads`; the numbers of `fuel` and `order`; and the lines of each thread, thread 1 first
 pub record Declared : Type 0 where
   pub program : Option Image
   pub starts : List Image
@@ -51,7 +50,7 @@ nothing_declared = declared None [] [] [] false None None ([] ∷ [])
 abbrev pub image_count : Declared → ℕ
 image_count d = (if is_some d.program then 1 else 0) + length d.starts + length d.lates
 
--- the limits that hold at any time
+-- the limits that always hold
 pub record IsWithinLimits (d : Declared) : Type 0 where
   pub few_images : image_count d ≤ 64
   pub some_thread : 1 ≤ length d.lines
@@ -59,24 +58,24 @@ pub record IsWithinLimits (d : Declared) : Type 0 where
   pub one_thread : d.has_threads ≡ false → length d.lines ≡ 1
   pub fuel_within : (steps : ℕ) → d.fuel ≡ Some steps → (1 ≤ steps) × (steps < 2 ^ 32)
 
--- the first of two that is there
+-- the first of two slots, if it is there, else the second
 abbrev pub or_else : Option Slot → Option Slot → Option Slot
 or_else None other = other
 or_else (Some slot) other = Some slot
 
--- the program's slot, if it has the name
+-- the program's slot, if the program has the name
 abbrev pub program_slot : List ℕ → Option Image → Option Slot
 program_slot name None = None
 program_slot name (Some image) = if is_named name image then Some slot.Program else None
 
--- the slot of the image of a name, among a program, start images and late ones
+-- the slot of the image with a name, among a program, start images and late ones
 unfoldable pub slot_among : Option Image → List Image → List Image → List ℕ → Option Slot
 slot_among program starts lates name =
     or_else (program_slot name program)
     (or_else (option_map slot.Start (position_from (is_named name) 0 starts))
     (option_map slot.Late (position_from (is_named name) 0 lates)))
 
--- the slot of the image of a name that an earlier line declares
+-- the slot of the image with a name that an earlier line declares
 abbrev pub slot_of : Declared → List ℕ → Option Slot
 slot_of d name = slot_among d.program d.starts d.lates name
 
@@ -95,7 +94,7 @@ pub record IsPlan (program : Option Image) (starts lates : List Image) (plan : P
   pub placed : IsSlot program starts lates plan.slot
   pub shown : IsAction plan.action
 
--- the lines of all threads are such
+-- each line of each thread has an image that is declared
 abbrev pub ArePlans : Declared → Type 0
 ArePlans d = All (All (IsPlan d.program d.starts d.lates)) d.lines
 
@@ -103,7 +102,7 @@ ArePlans d = All (All (IsPlan d.program d.starts d.lates)) d.lines
 abbrev pub IsOrder : Declared → Type 0
 IsOrder d = (order : List ℕ) → d.order ≡ Some order → All (IsThread (length d.lines)) order
 
--- what is true of a draft at any time
+-- what always holds of a draft
 pub record IsDraft {S : Type 0} (names : HashMap (Bor (List ℕ)) Slot S) (d : Declared) : Type 0 where
   pub within : IsWithinLimits d
   pub slots : FindsSlots names d

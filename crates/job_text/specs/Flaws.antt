@@ -1,4 +1,4 @@
--- What is wrong with a line, at the line.
+-- A fault of a line, with the line's number.
 use Rattle.std.specs.Prelude.{ℕ}
 use Rattle.job_text.specs.declared.fault.Flaw.{Flaw}
 use Rattle.job_text.specs.declared.fault.Flaw.TheVariants as flaw

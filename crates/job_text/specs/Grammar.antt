@@ -1,4 +1,4 @@
--- What the words of a line begin, and how many there are to be.
+-- The kinds of lines, by their first words, and how many words each takes.
 use Rattle.std.specs.Prelude.{ℕ, Bool, false, ◌&&◌, ◌||◌, ◌==◌, nat_lt, nat_le, List, length, slice_index, codes}
 use Rattle.std.specs.Prelude.{Option, Some, None, if◌then◌else◌}
 use Rattle.std.specs.List.{list_all}
@@ -35,8 +35,8 @@ verb_heading word =
     else if bytes_eq word (codes "peek") then Some (heading.Thread Peek)
     else None
 
--- what a line is: an image is told by its third word, a thread's line by its second; short where
--- that word is not there, and none where it is unknown or the first word begins no line
+-- the kind of a line: an image's line by its third word, a thread's line by its second; short if that word is
+-- missing, and none if it is unknown or the first word begins no line
 unfoldable pub heading_of : List (List ℕ) → Option Heading
 heading_of words =
     if bytes_eq (word_at 0 words) (codes "image")
@@ -48,7 +48,7 @@ heading_of words =
     then (if nat_lt (length words) 2 then Some heading.Short else verb_heading (word_at 1 words))
     else None
 
--- whether a line has as many words as it takes: `image NAME KIND OBJ..`, `threads N`, `fuel N`,
+-- whether a line has the number of words that its kind takes: `image NAME KIND OBJ..`, `threads N`, `fuel N`,
 -- `order T T ..`, `T call IMAGE SYM A B C`, `T open IMAGE`, `T close IMAGE`, `T peek IMAGE SYM LEN`
 abbrev pub has_its_words : Heading → ℕ → Bool
 has_its_words (heading.Image kind) count = nat_le 4 count
@@ -67,7 +67,7 @@ is_name_byte b =
     (nat_le 65 b && nat_le b 90) || (nat_le 97 b && nat_le b 122) || is_digit_byte b || (b == 95) || (b == 46)
     || (b == 45)
 
--- such bytes alone
+-- only such bytes
 abbrev pub has_name_bytes : List ℕ → Bool
 has_name_bytes word = list_all is_name_byte word
 

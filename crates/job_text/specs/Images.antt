@@ -16,6 +16,6 @@ image_name images number = option_map_or (λ image. image.name) (slice_get image
 abbrev pub is_named : List ℕ → Image → Bool
 is_named name image = bytes_eq name image.name
 
--- the number of the image of a name
+-- the number of the image with this name
 abbrev pub image_number : List Image → List ℕ → Option ℕ
 image_number images name = option_map (λ index. index + 1) (position (is_named name) images)

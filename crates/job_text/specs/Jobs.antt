@@ -1,4 +1,4 @@
--- A job, as contracts see it, and how it is made of what its lines declare.
+-- A job, as contracts see it, and how the lines make it.
 use Rattle.std.specs.List.{All}
 use Rattle.std.specs.Prelude.{◌≡◌, ℕ, ◌+◌, ◌≤◌, ◌<◌, ◌^◌, List, [], ◌∷◌, ◌++◌, length, map, Option, Some, None}
 use Rattle.std.specs.Prelude.{unwrap_or, Result, Ok, Err}
@@ -39,7 +39,7 @@ pub record IsLineOf (images : List Image) (line : ThreadLine) : Type 0 where
   pub image : IsImageNumber images line.image
   pub shown : IsAction line.action
 
--- what is true of each job
+-- what holds of each job
 pub record IsJob (job : JobParts) : Type 0 where
   pub some_image : 1 ≤ length job.images
   pub few_images : length job.images ≤ 64
@@ -51,12 +51,11 @@ pub record IsJob (job : JobParts) : Type 0 where
   pub order_named : All (IsThread (length job.lines)) job.order
   pub lines_placed : All (All (IsLineOf job.images)) job.lines
 
--- the lines of a thread, and none of a thread that there is not
+-- the lines of a thread; none if there is no such thread
 abbrev pub lines_of_thread : JobParts → ℕ → List ThreadLine
 lines_of_thread job thread = of_thread job.lines thread
 
--- the number of an image, where so many images start with the program: the program is 1, then come
--- the start images, then the late ones
+-- the number of an image: the program is 1, then come the `starts` start images, then the late ones
 abbrev pub number_of : ℕ → Slot → ℕ
 number_of starts Program = 1
 number_of starts (Start index) = 2 + index
@@ -94,8 +93,8 @@ abbrev pub fault_or : ℕ → Option JobFaultKind → Result JobParts JobFault �
 fault_or number None rest = rest
 fault_or number (Some kind) rest = Err (At number kind)
 
--- the job that these lines make, the first of them with its number, after others that declared d; or
--- the fault of the first faulty line
+-- the job that these lines make, the first of which has this number, after lines that declared d; or the fault
+-- of the first faulty line
 unfoldable pub job_from : Declared → ℕ → List (List ℕ) → Result JobParts JobFault
 job_from d number [] = job_declared d
 job_from d number (line ∷ more) =
@@ -105,7 +104,7 @@ job_from d number (line ∷ more) =
 unfoldable pub job_of : List ℕ → Result JobParts JobFault
 job_of text = job_from nothing_declared 1 (lines_of text)
 
--- an answer is what it should be, but that want of memory may come in place of any
+-- a result is the defined one, or OutOfMemory
 abbrev pub IsAnswer : Result JobParts JobFault → Result JobParts JobFault → Type 0
 IsAnswer right (Ok job) = right ≡ Ok job
 IsAnswer right (Err OutOfMemory) = Unit {0}

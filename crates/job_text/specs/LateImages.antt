@@ -1,4 +1,4 @@
--- The images of a job in image order: those that are loaded by an open come last.
+-- The images of a job in image order: the late ones, which a thread opens, come last.
 use Rattle.std.proofs.Common.{◌≡◌, ◌∙◌, ◌+◌, ◌<◌, ℕ, zero, suc, Bool, true, false, List, [], ◌∷◌, ◌++◌, map, length, get_or, Option, Some, None, Result, Ok, refl, sym, ap, subst, arith}
 use Rattle.std.proofs.lemmas.Bool.{false≢true}
 use Rattle.std.proofs.lemmas.List.{length-map}
@@ -17,18 +17,18 @@ use Rattle.job_text.specs.declared.images.Image.{Image}
 use Rattle.link_faults.specs.declared.image_kind.ImageKind.{ImageKind}
 use Rattle.link_faults.specs.declared.image_kind.ImageKind.TheVariants.{Exe, Pie, Start, Late}
 
--- an image is loaded by an open, and else starts with the program
+-- whether an image is late, so that a thread opens it; the others are loaded with the program
 abbrev pub is_late : ImageKind → Bool
 is_late Exe = false
 is_late Pie = false
 is_late Start = false
 is_late Late = true
 
--- images that are loaded by an open come behind all that start with the program
+-- late images come after all that are loaded with the program
 abbrev pub LateLast : List ImageKind → Type 0
 LateLast kinds = AllPairs (λ (a b : ImageKind). is_late a ≡ true → is_late b ≡ true) kinds
 
--- each group of images is of one time
+-- the images of each group are all late, or all not
 abbrev AreOf : Bool → List Image → Type 0
 AreOf late [] = Unit {0}
 AreOf late (image ∷ images) = (is_late image.kind ≡ late) × AreOf late images

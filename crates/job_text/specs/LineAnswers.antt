@@ -1,4 +1,4 @@
--- What the calls that read a line answer.
+-- The results of the calls that read a line.
 use Rattle.std.specs.List.{filter_map}
 use Rattle.std.specs.Prelude.{◌≡◌, ℕ, true, false, List, drop, Option, Some, None, Result, Ok, Err, Vec}
 use Rattle.std.specs.declared.alloc.Global.{Global}
@@ -11,20 +11,20 @@ use Rattle.job_text.specs.declared.fault.JobFaultKind.TheVariants as kind
 use Rattle.job_text.specs.declared.fault.JobFaultKind.{JobFaultKind}
 use Rattle.job_text.specs.declared.grammar.Heading.TheVariants as heading
 
--- a value is read where there is no fault; want of memory may come in place of any answer
+-- a value is read if there is no fault; any result may be OutOfMemory instead
 abbrev pub IsRead : {X : Type 0} → Option JobFaultKind → X → Result X Flaw → Type 0
 IsRead fault value (Ok x) = (fault ≡ None) × (x ≡ value)
 IsRead fault value (Err flaw.OutOfMemory) = Unit {0}
 IsRead fault value (Err (flaw.Kind kind)) = fault ≡ Some kind
 
--- the threads of an order are read where each of its words names one
+-- the threads of an order are read if each of its words names one
 abbrev pub IsOrderAnswer : Declared → List (List ℕ) → Result (Vec ℕ Global) Flaw → Type 0
 IsOrderAnswer d words (Ok order) =
     (has_bad_number d heading.Order words ≡ false) × (order.items ≡ filter_map number (drop 1 words))
 IsOrderAnswer d words (Err flaw.OutOfMemory) = Unit {0}
 IsOrderAnswer d words (Err (flaw.Kind found)) = (has_bad_number d heading.Order words ≡ true) × (found ≡ kind.Number)
 
--- the same of a line: what is declared with it is the new draft
+-- the same for a line: the new draft has what the line declares
 abbrev pub IsLineAnswer : Option JobFaultKind → Declared → Declared → Result (Unit {0}) Flaw → Type 0
 IsLineAnswer fault after new (Ok _) = (fault ≡ None) × (new ≡ after)
 IsLineAnswer fault after new (Err flaw.OutOfMemory) = Unit {0}

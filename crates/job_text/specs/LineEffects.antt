@@ -1,4 +1,4 @@
--- What a line without fault adds to what is declared.
+-- What a line without a fault adds to what is declared.
 use Rattle.std.specs.List.{filter_map}
 use Rattle.std.specs.Prelude.{ℕ, ◌-◌, true, if◌then◌else◌, List, [], ◌∷◌, ◌++◌, length, drop, replicate, slice_set}
 use Rattle.std.specs.Prelude.{slice_index_or, Option, Some, None, unwrap_or}
@@ -18,7 +18,7 @@ use Rattle.link_faults.specs.declared.image_kind.ImageKind.{ImageKind}
 use Rattle.job_text.specs.declared.thread_lines.Action.TheVariants as action
 use Rattle.job_text.specs.declared.thread_lines.Action.{Action}
 
--- the number that a word of a line without fault writes
+-- the number that a word of a line without a fault writes
 abbrev pub number_at : ℕ → List (List ℕ) → ℕ
 number_at k words = unwrap_or (number (word_at k words)) 0
 
@@ -43,7 +43,7 @@ abbrev pub with_line : ℕ → Plan → Declared → Declared
 with_line thread plan d =
     record d { lines = slice_set d.lines (thread - 1) (slice_index_or d.lines (thread - 1) [] ++ plan ∷ []) }
 
--- what a line without fault adds
+-- what a line without a fault adds
 abbrev pub with_words : Heading → List (List ℕ) → Declared → Declared
 with_words (heading.Image kind) words d =
     with_image (record { name = word_at 1 words; kind = kind; objects = drop 3 words }) kind d
@@ -61,6 +61,6 @@ abbrev pub with_heading : Option Heading → List (List ℕ) → Declared → De
 with_heading None words d = d
 with_heading (Some heading) words d = with_words heading words d
 
--- what a line without fault adds; a skipped line adds nothing
+-- what a line without a fault adds; a skipped line adds nothing
 unfoldable pub with_text : List ℕ → Declared → Declared
 with_text line d = if is_skipped line then d else with_heading (heading_of (words_of line)) (words_of line) d

@@ -1,4 +1,4 @@
--- What is wrong with a line: the kinds of faults, each by itself, and their order.
+-- When a line has a fault: each kind by itself, and their order.
 use Rattle.std.specs.List.{list_any}
 use Rattle.std.specs.Prelude.{ℕ, ◌==◌, Bool, true, false, not, ◌&&◌, ◌||◌, nat_lt, if◌then◌else◌, List, length, drop}
 use Rattle.std.specs.Prelude.{Option, Some, None, is_some, is_none}
@@ -15,11 +15,11 @@ use Rattle.job_text.specs.declared.grammar.Verb.{Verb}
 use Rattle.link_faults.specs.declared.image_kind.ImageKind.TheVariants as image
 use Rattle.link_faults.specs.declared.image_kind.ImageKind.{ImageKind}
 
--- the thread that a word names: it is one of those declared so far
+-- the thread that a word names, if it is declared so far
 abbrev pub thread_named : Declared → List ℕ → Option ℕ
 thread_named d word = number_within 1 (length d.lines) word
 
--- a program: of the two kinds there is one in all
+-- an executable program or a position-independent one; a job has one program
 abbrev pub is_program : ImageKind → Bool
 is_program image.Exe = true
 is_program image.Pie = true
@@ -35,7 +35,7 @@ is_image heading.Order = false
 is_image (heading.Thread verb) = false
 is_image heading.Short = false
 
--- Count: a wrong number of words, a 65th image, or a line past 65,536
+-- Count: a wrong number of words, a 65th image, or a line past the 65,536th
 abbrev pub is_miscounted : Declared → ℕ → Heading → ℕ → Bool
 is_miscounted d number heading count =
     not (has_its_words heading count) || (is_image heading && (image_count d == 64)) || nat_lt 65536 number
@@ -45,7 +45,7 @@ abbrev pub has_bad_argument : List (List ℕ) → Bool
 has_bad_argument words =
     is_none (number (word_at 4 words)) || is_none (number (word_at 5 words)) || is_none (number (word_at 6 words))
 
--- the numbers behind a verb
+-- the numbers after a verb
 abbrev pub has_bad_operand : Verb → List (List ℕ) → Bool
 has_bad_operand verb.Call words = has_bad_argument words
 has_bad_operand verb.Open words = false
@@ -104,7 +104,7 @@ fault_in_words d heading words =
     else if is_second d heading words then Some kind.Twice
     else None
 
--- the fault of a line with these words, the number of which is told
+-- the fault of a line of this number, kind and words
 abbrev pub fault_under : Declared → ℕ → Option Heading → List (List ℕ) → Option JobFaultKind
 fault_under d number None words = Some kind.Word
 fault_under d number (Some heading) words =

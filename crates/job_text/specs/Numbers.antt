@@ -5,11 +5,11 @@ use Rattle.std.specs.Char.{digit_value}
 use Rattle.std.specs.List.{list_all, starts_with}
 use Rattle.std.specs.Str.Parse.{digits_value}
 
--- one digit of this base or more, and nothing else
+-- at least one digit in this base, and nothing else
 abbrev pub is_numeral : ℕ → List ℕ → Bool
 is_numeral base digits = not (length digits == 0) && list_all (λ c. nat_lt (digit_value c) base) digits
 
--- the number that digits of a base write, if it is below 2^64
+-- the number that digits in a base write, if it is below 2^64
 unfoldable pub numeral : ℕ → List ℕ → Option ℕ
 numeral base digits = if is_numeral base digits && nat_lt (digits_value base digits) (2 ^ 64)
     then Some (digits_value base digits) else None
@@ -26,11 +26,11 @@ number word =
     else if has_leading_zero word then None
     else numeral 10 word
 
--- a number where it lies between two bounds
+-- a number, if it lies between two bounds
 abbrev pub if_within : ℕ → ℕ → Option ℕ → Option ℕ
 if_within low high None = None
 if_within low high (Some value) = if nat_le low value && nat_le value high then Some value else None
 
--- the number that a word writes, where it lies between two bounds
+-- the number that a word writes, if it lies between two bounds
 abbrev pub number_within : ℕ → ℕ → List ℕ → Option ℕ
 number_within low high word = if_within low high (number word)

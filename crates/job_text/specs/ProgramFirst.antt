@@ -17,12 +17,12 @@ use Rattle.link_faults.specs.ImageKinds.{is_module}
 use Rattle.link_faults.specs.declared.image_kind.ImageKind.{ImageKind}
 use Rattle.link_faults.specs.declared.image_kind.ImageKind.TheVariants.{Exe, Pie, Start, Late}
 
--- of the kinds of images, in image order: the first is a program, all others are modules
+-- of the kinds of images in image order, the first is a program and all others are modules
 abbrev pub ProgramFirst : List ImageKind → Type 0
 ProgramFirst [] = ⊥
 ProgramFirst (kind ∷ kinds) = (is_module kind ≡ false) × All (λ other. is_module other ≡ true) kinds
 
--- ** what the lines declare: of the program's group a program, of the others modules
+-- ** the lines declare a program as the program, and modules in the other groups
 
 abbrev AreAllModules : List Image → Type 0
 AreAllModules [] = Unit {0}

@@ -11,7 +11,7 @@ lines_of text = slice_split (λ b. b == 10) text
 abbrev pub is_blank : List ℕ → Bool
 is_blank line = list_all (λ b. b == 32) line
 
--- a line that is not looked at: its first byte is `#`, or it has no word
+-- a line that is not read: its first byte is `#`, or it has no word
 abbrev pub is_skipped : List ℕ → Bool
 is_skipped line = (slice_index line 0 == 35) || is_blank line
 
@@ -31,6 +31,6 @@ has_bytes word = not (length word == 0)
 unfoldable pub words_of : List ℕ → List (List ℕ)
 words_of line = filter has_bytes (slice_split (λ b. b == 32) line)
 
--- a word, counted from 0, and the empty one past the last
+-- a word, counted from 0; past the last, the empty word
 abbrev pub word_at : ℕ → List (List ℕ) → List ℕ
 word_at k words = slice_index_or words k []

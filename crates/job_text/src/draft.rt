@@ -1,4 +1,4 @@
-//! A job as far as it is read.
+//! A job as far as it has been read.
 
 ghost use Rattle.std.specs.Prelude.{All, ◌≡◌, ◌≤◌, ◌<◌, ◌||◌, ◌&&◌, [], false, Some, is_some, IfOk};
 ghost use Rattle.std.specs.Prelude.{IfSome, IsTrue, OnOk, None, length, map, replicate, drop};
@@ -28,7 +28,7 @@ use std::alloc::{AllocError, Global};
 use std::collections::HashMap;
 use std::marker::Model;
 
-/// The limits of a job.
+/// The most images of a job.
 const MAX_IMAGES: usize = 64;
 
 const MAX_LINES: u64 = 65_536;
@@ -37,7 +37,7 @@ const MAX_THREADS: u64 = 64;
 
 const MAX_FUEL: u64 = 0xffff_ffff;
 
-/// Where an image stands: each group of images is counted from 0 in the order of the job.
+/// The place of an image in its group; each group is counted from 0 in the order of the job.
 #[derive(Clone, Copy)]
 pub(crate) enum Slot {
     Program,
@@ -52,7 +52,7 @@ pub(crate) struct Plan {
     pub(crate) action: Action,
 }
 
-/// What the lines so far declare.
+/// What the lines that were read declare.
 #[derive(Drop)]
 pub(crate) struct Draft<'a> {
     pub(crate) names: HashMap<&'a str, Slot>,
@@ -82,7 +82,7 @@ impl<'a> Model for Draft<'a> {
 }
 
 impl<'a> Draft<'a> {
-    /// A job of which no line is read: it has one thread.
+    /// A job before its first line: it has one thread.
     pub(crate) fn new(alloc: Global) -> Result<Draft<'a>, AllocError>
         ensures { IfOk result (λ draft. draft ≡ nothing_declared) }
     {
@@ -101,7 +101,7 @@ impl<'a> Draft<'a> {
         })
     }
 
-    /// Reads a line that is not skipped, of printable characters.
+    /// Reads a line of printable characters that is not skipped.
     pub(crate) fn read_line(
         &mut self,
         alloc: Global,
@@ -179,14 +179,14 @@ impl<'a> Draft<'a> {
         Ok(())
     }
 
-    /// Whether an image of the name, or a program as this one, is declared.
+    /// Whether the name has an image already, or a second program would be declared.
     fn is_declared(&self, kind: ImageKind, name: &'a str) -> bool
         ensures { result ≡ (is_some (slot_of self.now name.now) || (is_program kind && is_some self.now.program)) }
     {
         self.slot_of(name).is_some() || (is_program(kind) && self.program.is_some())
     }
 
-    /// The slot of the image of a name.
+    /// The slot of the image with this name.
     fn slot_of(&self, name: &'a str) -> Option<Slot>
         ensures value { result ≡ slot_of self.now name.now }
         ensures slot { IfSome result (IsSlot self.now.program self.now.starts self.now.lates) }
@@ -194,7 +194,7 @@ impl<'a> Draft<'a> {
         self.names.get(&name).copied()
     }
 
-    /// Adds an image of a new name to its group, and mentions it after those before it.
+    /// Adds an image with a new name to its group, and mentions it after the images before it.
     fn declare(&mut self, name: &'a str, image: Image) -> Result<(), AllocError>
         requires room { image_count self.old < 64 }
         requires named { image.name ≡ name.now }
@@ -337,7 +337,7 @@ impl<'a> Draft<'a> {
         Ok(())
     }
 
-    /// The thread that a word names, where it is declared so far.
+    /// The thread that a word names, if it is declared so far.
     fn thread_named(&self, word: &str) -> Option<u32>
         ensures value { result ≡ thread_named self.now word.now }
         ensures some { IfSome result (λ thread. 1 ≤ thread) }
@@ -348,7 +348,7 @@ impl<'a> Draft<'a> {
     }
 }
 
-/// The lines of so many threads, none yet.
+/// Empty lists of lines for `count` threads.
 fn empty_lines(alloc: Global, count: u64) -> Result<Vec<Vec<Plan>>, AllocError>
     ensures { IfOk result (λ all. map (λ lines. lines.items) all.items ≡ replicate count []) }
 {

@@ -8,10 +8,10 @@ use std::alloc::{AllocError, AllocFailed};
 use std::fmt;
 use thiserror::Error;
 
-/// The kinds of faults of a job, in the order in which a line is tested for them.
+/// The kinds of faults of a job, in the order in which a line is checked for them.
 #[derive(Clone, Copy, PartialEq, Eq, Debug)]
 pub enum JobFaultKind {
-    /// A byte that is no printable ASCII character.
+    /// A byte that is not a printable ASCII character.
     NotText,
     /// The first word begins no line, or the kind of an image or the verb of a thread is unknown.
     Word,
@@ -43,7 +43,7 @@ impl fmt::Display for JobFaultKind {
     }
 }
 
-/// Why a text is no job: its first fault, or want of memory.
+/// Why a text is not a job: its first fault, or memory ran out.
 #[derive(Debug, Drop, Error)]
 pub enum JobFault {
     #[error("out of memory")]
@@ -80,7 +80,7 @@ impl Flaw {
     ghost use Rattle.std.specs.Prelude.{◌≡◌};
     ghost use Rattle.job_text.specs.Flaws.{fault_at};
 
-    /// The same at a line.
+    /// The fault of the job, with the number of the line.
     pub(crate) fn at(self, line: u64) -> JobFault
         ensures { result ≡ fault_at line self }
     {

@@ -1,4 +1,4 @@
-//! What the words of a line begin.
+//! The kinds of lines, by their first words.
 
 ghost use Rattle.std.specs.Prelude.{◌≡◌};
 ghost use Rattle.job_text.specs.Grammar.{begins_with_digit, has_name_bytes, has_name_length, has_its_words};
@@ -34,8 +34,8 @@ pub(crate) enum Heading {
     Short,
 }
 
-/// What a line is. None where the first word begins no line, or where the kind or the verb is
-/// there and unknown.
+/// The kind of a line. `None` if the first word begins no line, or if the kind of the image or the
+/// verb is there and unknown.
 #[tactic(auto, unfolding(crate::specs::Grammar::heading_of))]
 pub(crate) fn heading_of(words: &Words) -> Option<Heading>
     ensures { result ≡ heading_of words.now }
@@ -99,7 +99,7 @@ fn verb_heading(word: &str) -> Option<Heading>
     }
 }
 
-/// Whether a line has as many words as what it is takes.
+/// Whether a line has the number of words that its kind takes.
 pub(crate) fn has_its_words(heading: Heading, count: usize) -> bool
     ensures { result ≡ has_its_words heading count }
 {

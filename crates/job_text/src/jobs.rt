@@ -17,7 +17,7 @@ use crate::words::{is_skipped, text_of};
 use std::alloc::{AllocError, Global};
 use std::marker::Model;
 
-/// The steps of a call where no line says otherwise.
+/// The steps of a call if no line sets them.
 const DEFAULT_FUEL: u64 = 100_000;
 
 /// A job: the images to link, and what the threads do with them.
@@ -50,10 +50,9 @@ impl Job {
 
     /// Reads a job.
     ///
-    /// The answer is the job that the bytes spell, or their first fault: the number of the first
-    /// faulty line, counted from 1, and the first of the kinds that it has. Where all lines are good
-    /// and no program is declared, it is `NoExe` at line 0. Want of memory is its own answer.
-    /// The cost is linear in the bytes.
+    /// The result is the job that the bytes spell, or their first fault: the number of the first faulty line, counted
+    /// from 1, and the first kind of fault that it has. If all lines are good and no program is declared, it is
+    /// `NoExe` at line 0. Any call may return `OutOfMemory` instead. The cost is linear in the number of bytes.
     pub fn read(alloc: Global, bytes: &[u8]) -> Result<Job, JobFault>
         ensures { IsAnswer (job_of bytes.now) result }
     {
@@ -94,7 +93,7 @@ impl Job {
         &self.images[number as usize - 1]
     }
 
-    /// The number of the image of a name, if there is one.
+    /// The number of the image with this name, if there is one.
     pub fn number(&self, name: &str) -> Option<u32>
         ensures value { result ≡ image_number self.now.images name.now }
         ensures within { IfSome result (IsImageNumber self.now.images) }
@@ -102,7 +101,7 @@ impl Job {
         image_number(self.images.as_slice(), name)
     }
 
-    /// How many threads there are, 1 to 64.
+    /// How many threads there are, from 1 to 64.
     pub fn threads(&self) -> u32
         ensures value { result ≡ length self.now.lines }
         ensures some { 1 ≤ result }
@@ -111,7 +110,7 @@ impl Job {
         self.lines.len() as u32
     }
 
-    /// The steps of one call, 1 to 2^32 - 1.
+    /// The most steps of one call, from 1 to 2^32 - 1.
     pub fn fuel(&self) -> u64
         ensures value { result ≡ self.now.fuel }
         ensures some { 1 ≤ result }
@@ -128,7 +127,7 @@ impl Job {
         self.order.as_slice()
     }
 
-    /// The lines of a thread, and none of a thread that there is not.
+    /// The lines of a thread; none if there is no such thread.
     pub fn lines(&self, thread: u32) -> &[ThreadLine]
         ensures value { result.now ≡ lines_of_thread self.now thread }
         ensures placed { All (IsLineOf self.now.images) result.now }
@@ -143,7 +142,7 @@ impl Job {
     }
 }
 
-/// The number of the image of a name.
+/// The number of the image with this name.
 fn image_number(images: &[Image], name: &str) -> Option<u32>
     requires { length images.now ≤ 64 }
     ensures value { result ≡ image_number images.now name.now }
@@ -155,7 +154,7 @@ fn image_number(images: &[Image], name: &str) -> Option<u32>
     }
 }
 
-/// The index of the image of a name.
+/// The index of the image with this name.
 fn image_index(images: &[Image], name: &str) -> Option<usize>
     ensures value { result ≡ position (is_named name.now) images.now }
     ensures within { IfSome result (λ index. index < length images.now) }
@@ -234,7 +233,7 @@ fn in_image_order(
     Ok(images)
 }
 
-/// The order, which is empty where there is no line of it.
+/// The order; empty if no line gives one.
 fn order_or_none(alloc: Global, order: Option<Vec<u32>>) -> Vec<u32>
     ensures { result.items ≡ unwrap_or (option_map (λ threads. threads.items) order) [] }
 {
@@ -301,7 +300,7 @@ fn number_of(slot: Slot, starts: u8) -> u32
     }
 }
 
-/// Asks that threads may move a type's values, and share them.
+/// Checks that threads may move and share a type's values.
 fn crosses_threads<T: Send + Sync>() {}
 
 /// Threads may move and share a job, and all that it is made of.

@@ -3,8 +3,8 @@
 ghost use Rattle.std.specs.Prelude.{◌≡◌, ◌==◌, ◌≤◌, IfSome, slice_index};
 ghost use Rattle.job_text.specs.Numbers.{has_leading_zero, number, number_within, numeral};
 
-/// The number that a word writes: decimal digits without a leading zero, or `0x` and hexadecimal
-/// digits of either case. None where it writes none, or one that does not fit 64 bits.
+/// The number that a word writes: decimal digits without a leading zero, or `0x` and hexadecimal digits of either case.
+/// `None` if it writes none, or one that does not fit in 64 bits.
 #[tactic(auto, unfolding(crate::specs::Numbers::number))]
 pub(crate) fn number(word: &str) -> Option<u64>
     ensures { result ≡ number word.now }
@@ -21,13 +21,13 @@ pub(crate) fn number(word: &str) -> Option<u64>
     }
 }
 
-/// The number that digits of a base write.
+/// The number that digits in this base write.
 fn numeral(digits: &str, base: u32) -> Option<u64>
     requires low { 2 ≤ base }
     requires high { base ≤ 36 }
     ensures { result ≡ numeral base digits.now }
 {
-    // A sign is no digit.
+    // A sign is not a digit.
     if begins_with_plus(digits) {
         return None;
     }
@@ -52,7 +52,7 @@ fn has_leading_zero(word: &str) -> bool
     }
 }
 
-/// The number that a word writes, where it lies between two bounds.
+/// The number that a word writes, if it is from `low` to `high`.
 pub(crate) fn number_within(word: &str, low: u64, high: u64) -> Option<u64>
     ensures value { result ≡ number_within low high word.now }
     ensures low { IfSome result (λ value. low ≤ value) }

@@ -1,4 +1,4 @@
-//! What stands behind the first words of a line: numbers, symbols and the names of objects.
+//! The words after the first ones of a line: numbers, symbols and the names of objects.
 
 ghost use Rattle.std.specs.Prelude.{◌≡◌, IfOk, drop, not};
 ghost use Rattle.std.specs.List.{list_any};
@@ -21,7 +21,7 @@ use std::alloc::{AllocError, Global};
 /// The most bytes that a peek shows.
 const MAX_PEEK: u64 = 4_096;
 
-/// What a line of a thread does, but for its image.
+/// What a line of a thread does, apart from its image.
 pub(crate) fn read_action(alloc: Global, verb: Verb, words: &Words) -> Result<Action, Flaw>
     ensures answer { IsRead (action_fault verb words.now) (action_of verb words.now) result }
     ensures shown { IfOk result IsAction }
@@ -74,7 +74,7 @@ fn read_symbol(alloc: Global, words: &Words) -> Result<Name, Flaw>
     Ok(Name::new(alloc, words.at(3))?)
 }
 
-/// Whether one of the objects has too long a name.
+/// Whether the name of one of the objects is too long.
 pub(crate) fn has_long_object(words: &Words) -> bool
     ensures { result ≡ has_long_object words.now }
 {

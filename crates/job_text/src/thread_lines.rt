@@ -1,4 +1,4 @@
-//! What a thread is told to do.
+//! A line of a thread.
 
 use crate::spelling::Name;
 

@@ -7,7 +7,7 @@ use std::alloc::{AllocError, Global};
 use std::marker::Model;
 use std::str;
 
-/// Whether a line is passed over: it has no word, or is a comment.
+/// Whether a line is skipped: it has no word, or is a comment.
 pub(crate) fn is_skipped(line: &[u8]) -> bool
     ensures { result ≡ is_skipped line.now }
 {
@@ -29,7 +29,7 @@ fn begins_comment(line: &[u8]) -> bool
     }
 }
 
-/// A line as text, where each of its bytes is a printable ASCII character.
+/// A line as text, if each of its bytes is a printable ASCII character.
 pub(crate) fn text_of(line: &[u8]) -> Option<&str>
     ensures found { is_some result ≡ is_text line.now }
     ensures text { IfSome result (λ text. text.now ≡ line.now) }
@@ -89,7 +89,7 @@ impl<'a> Words<'a> {
         }
     }
 
-    /// A word, counted from 0, and the empty one past the last.
+    /// A word, counted from 0; past the last, the empty word.
     pub(crate) fn at(&self, index: usize) -> &'a str
         ensures { result.now ≡ word_at index self.now }
     {

@@ -1,4 +1,4 @@
-//! Tests of what no clause says: whether the definitions say what the standard means. Places are worked out by hand.
+//! Tests of what no clause says: that the definitions agree with the standard. Places are worked out by hand.
 
 use crate::values::same;
 use elf_object::Object;
@@ -32,7 +32,7 @@ exe x:17:16 t:20:8 b:5:16 / x:9:16 t:1:8 = 400000 401000+0 +20 400020 401018+18 
 // objects in their order; data with bytes of all objects before data without
 exe x:1:1 w:3:4 z:5:8 / x:1:16 n:9:8 z:1:1 w:2:1 = 400000 401000 401008 400010 - 40100d 401003 tls 0 1 401000 0 room 402000
 exe t:1:1 b:1:1 / t:1:8 b:3:4 = 400000+0 +9 400008+8 +c tls f 8 400000 9 room 401000
-// sections of no bytes move the end of their class, but for data, which is dropped
+// sections of no bytes move the end of their class, except for data, which is dropped
 exe x:1:1 x:0:4096 r:1:1 r:0:4096 t:1:1 t:0:4096 b:0:4096 w:1:1 w:0:4096 z:0:4096 = 400000 401000 401000 402000 402000+0 403000+1000 +1000 403000 - - tls 1000 1000 402000 1000 room 404000
 exe t:0:4096 b:0:64 = 400000+0 +0 tls 0 1 400000 0 room 400000
 exe b:1:1 b:0:4096 = +0 +1000 tls 1000 1000 400000 0 room 400000
@@ -46,14 +46,14 @@ exe b:1048576:1 / b:1:1 = TlsTooLarge None 0 0
 late z:1048576:1 z:1048576:1 z:1048576:1 z:1048576:1 z:1048576:1 z:1048576:1 z:1048576:1 z:1048576:1 z:1048576:1 z:1048576:1 z:1048576:1 z:1048576:1 z:1048576:1 z:1048576:1 z:1048576:1 z:1044480:1 x:4096:1 = 1000 101000 201000 301000 401000 501000 601000 701000 801000 901000 a01000 b01000 c01000 d01000 e01000 f01000 0 tls 0 1 1000 0 room 1000000
 late z:1048576:1 z:1048576:1 z:1048576:1 z:1048576:1 z:1048576:1 z:1048576:1 z:1048576:1 z:1048576:1 z:1048576:1 z:1048576:1 z:1048576:1 z:1048576:1 z:1048576:1 z:1048576:1 z:1048576:1 z:1044481:1 x:4096:1 = ImageTooLarge None 0 0
 late z:1048576:1 z:1048576:1 z:1048576:1 z:1048576:1 z:1048576:1 z:1048576:1 z:1048576:1 z:1048576:1 z:1048576:1 z:1048576:1 z:1048576:1 z:1048576:1 z:1048576:1 z:1048576:1 z:1048576:1 z:1048576:1 w:1:1 = ImageTooLarge None 0 0
-// the TLS segment is asked first
+// the TLS segment is checked first
 exe z:1048576:1 z:1048576:1 z:1048576:1 z:1048576:1 z:1048576:1 z:1048576:1 z:1048576:1 z:1048576:1 z:1048576:1 z:1048576:1 z:1048576:1 z:1048576:1 z:1048576:1 z:1048576:1 z:1048576:1 z:1048576:1 w:1:1 b:1048576:1 b:1:1 = TlsTooLarge None 0 0
 ";
 
-/// The bytes of each section, of which there are no more, are its first ones.
+/// The bytes of sections: each takes its first bytes from here.
 const CONTENT: &[u8] = &[0; 4096];
 
-/// A section of a letter, with so many bytes.
+/// The section for a letter, with `size` bytes.
 fn section_of(letter: &str, size: usize) -> Result<Section<'static>, Fail> {
     let bytes = CONTENT.get(..size).unwrap_or(CONTENT);
     match letter {
@@ -103,7 +103,7 @@ fn push_place(
     text.push(' ')
 }
 
-/// What placing answers, as a case writes it.
+/// The result of placing, as a case writes it.
 fn answer(alloc: Global, objects: &[Object], kind: ImageKind) -> Result<String, AllocError> {
     let placement = match place(alloc, objects, kind) {
         Ok(placement) => placement,
@@ -133,7 +133,7 @@ fn answer(alloc: Global, objects: &[Object], kind: ImageKind) -> Result<String, 
     Ok(text)
 }
 
-/// The kind of a word, and what follows it.
+/// The kind of image for a line's first word, and the rest of the line.
 fn kind_of(line: &str) -> Result<(ImageKind, &str), Fail> {
     let (word, rest) = line.split_once(' ').ok_or("a case has sections")?;
     match word {
@@ -145,7 +145,7 @@ fn kind_of(line: &str) -> Result<(ImageKind, &str), Fail> {
     }
 }
 
-/// The files of objects, with `/` between them.
+/// The files of objects, which are separated by `/`.
 fn files_of(alloc: Global, objects: &str) -> Result<Vec<Vec<u8>>, Fail> {
     let mut files = Vec::new(alloc);
     for words in objects.split('/') {
@@ -163,14 +163,14 @@ fn objects_of<'a>(alloc: Global, files: &'a [Vec<u8>]) -> Result<Vec<Object<'a>>
     Ok(objects)
 }
 
-/// What placing these sections answers.
+/// The result of placing these sections.
 fn placed(alloc: Global, kind: ImageKind, sections: &str) -> Result<String, Fail> {
     let files = files_of(alloc, sections)?;
     let objects = objects_of(alloc, files.as_slice())?;
     Ok(answer(alloc, objects.as_slice(), kind)?)
 }
 
-/// Compares the answer of one case.
+/// Checks one case.
 fn check(rt: &impl Abort, alloc: Global, line: &str) -> Result<(), Fail> {
     let (kind, rest) = kind_of(line)?;
     let (sections, want) = rest.split_once(" = ").ok_or("a case has places")?;

@@ -1,4 +1,4 @@
-//! The limits of linking, each beside its number.
+//! The limits of linking, each next to its number.
 
 use link_faults::EXE_BASE;
 use tls_layout::PAGE;

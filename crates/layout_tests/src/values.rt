@@ -1,5 +1,5 @@
-//! Every type by its number in the psABI's table, at both ends of its range and one beyond. Values are computed by hand
-//! from that table; the letters that a type does not use are odd numbers, which must not count.
+//! Every type by its number in the psABI's table, at both ends of its range and one past each. Values are computed by
+//! hand from that table; the letters that a type does not use are odd numbers, which must not matter.
 
 use elf_object::RelocationKind;
 use std::alloc::{AllocError, Global};
@@ -7,8 +7,8 @@ use std::process::Abort;
 use std::test::Fail;
 use tls_relocs::{Field, Overflow, value};
 
-/// Each line: types, with commas between them, and the letters S, A, P and G (A in decimal, the others in hexadecimal);
-/// then what is stored.
+/// Each line: types, separated by commas, and the letters S, A, P and G (A in decimal, the others in
+/// hexadecimal); then what is stored.
 const VALUES: &str = "\
 // S + A - P: PC32 and PLT32
 2,4 80000003 -4 0 4d = Some(Ok(Word32(2147483647)))
@@ -44,18 +44,18 @@ const VALUES: &str = "\
 3 4d 77 4d 4d = None
 ";
 
-/// A hexadecimal number, or 0 where a word is none.
+/// A hexadecimal number; 0 if the word is not one.
 fn number(word: Option<&str>) -> u64 {
     u64::from_str_radix(word.unwrap_or(""), 16).unwrap_or(0)
 }
 
-/// What a relocation of a type's number stores, if the number is a type.
+/// What a relocation stores, by the number of its type; `None` if the number is not a type.
 fn numbered(number: u32, s: u64, a: i64, p: u64, g: u64) -> Option<Result<Field, Overflow>> {
     let kind = RelocationKind::numbered(number)?;
     Some(value(kind, s, a, p, g))
 }
 
-/// What a relocation of a type stores of a line's letters.
+/// What a relocation of a type stores, given the letters of a line.
 fn stored(alloc: Global, kind: &str, letters: &str) -> Result<String, AllocError> {
     let mut words = letters.split(' ');
     let s = number(words.next());
@@ -65,12 +65,12 @@ fn stored(alloc: Global, kind: &str, letters: &str) -> Result<String, AllocError
     format!(in alloc; "{stored:?}")
 }
 
-/// Compares what a test finds with what it wants.
+/// Compares the found text with the expected one.
 pub(crate) fn same(rt: &impl Abort, found: &str, want: &str, at: &str) {
     assert!(rt; found == want, "{found}: {at}");
 }
 
-/// Compares what relocations of the types of a line store.
+/// Checks what relocations of the types of a line store.
 fn check(rt: &impl Abort, alloc: Global, line: &str) -> Result<(), Fail> {
     let (row, want) = line.split_once(" = ").ok_or("what is stored")?;
     let (kinds, letters) = row.split_once(' ').ok_or("letters")?;

@@ -1,4 +1,4 @@
--- What an image is linked as (gABI, "Program Loading": a program at a fixed address, or position-independent code).
+-- The kinds of image (gABI, "Program Loading": a program at a fixed address, or position-independent code).
 use Rattle.std.specs.Prelude.{ℕ, Bool, true, false}
 use Rattle.link_faults.specs.declared.image_kind.ImageKind.{ImageKind}
 use Rattle.link_faults.specs.declared.image_kind.ImageKind.TheVariants.{Exe, Pie, Start, Late}
@@ -17,7 +17,7 @@ is_module Pie = false
 is_module Start = true
 is_module Late = true
 
--- whether it may lie at any address, as far up as 2^32 and more
+-- whether it may be loaded at any address, even at 2^32 and above
 abbrev pub is_moved : ImageKind → Bool
 is_moved Exe = false
 is_moved Pie = true

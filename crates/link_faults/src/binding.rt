@@ -1,4 +1,4 @@
-//! What the symbol of a relocation stands for.
+//! What a symbol is bound to.
 
 use crate::symbol_ref::SymbolRef;
 
@@ -7,9 +7,9 @@ use crate::symbol_ref::SymbolRef;
 pub enum Binding {
     /// A symbol of the image itself.
     Here(SymbolRef),
-    /// The symbol of that name that a startup image exports: 1 is the program, 2 and on are the modules that are
-    /// loaded with it.
+    /// The symbol of that name that a startup image exports: 1 is the program, and from 2 on come the modules
+    /// that are loaded with it.
     Startup(u32),
-    /// The function of the run time, `__tls_get_addr`.
+    /// The run time's function, `__tls_get_addr`.
     Runtime,
 }

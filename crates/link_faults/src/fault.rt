@@ -1,4 +1,4 @@
-//! What may be wrong with a link, and where.
+//! The faults of a link: their kinds, and where one stands.
 
 ghost use Rattle.std.specs.Prelude.{◌≡◌, Some, codes};
 ghost use Rattle.link_faults.specs.declared.fault.LinkFault.TheVariants.{OutOfMemory};
@@ -8,31 +8,31 @@ use std::alloc::AllocError;
 use std::fmt;
 use thiserror::Error;
 
-/// What is wrong with a link. `Overflow` is asked last, the others in their order here. Section and entry are those of
-/// the relocation, for `Duplicate` those of the symbol.
+/// What is wrong with a link. `Overflow` is checked last, the others in their order here. Section and entry are those
+/// of the relocation; for `Duplicate`, those of the symbol.
 #[derive(Clone, Copy, PartialEq, Eq, Debug)]
 pub enum LinkFaultKind {
     /// A name that a relocation uses has no binding.
     Undefined,
-    /// A name has a second strong definition, used or not, or an object defines `__tls_get_addr`, GLOBAL or WEAK.
+    /// A name has a second GLOBAL definition, used or not, or an object defines `__tls_get_addr`, GLOBAL or WEAK.
     Duplicate,
-    /// A relocation of thread-local storage names a symbol that is of none, or another relocation names one that is.
-    /// The definition that the name binds to decides.
+    /// A TLS relocation names a symbol that is not thread-local, or another relocation names one that is. The
+    /// definition that the name is bound to decides.
     NotTls,
-    /// A field does not hold its value.
+    /// A value does not fit in its field.
     Overflow,
     /// A module has a TPOFF32: it cannot know its offset from the thread pointer.
     LocalExecInModule,
-    /// A module, or a program that may lie at any address, has an address in 32 bits (R_X86_64_32, R_X86_64_32S).
+    /// A module, or a program that may be loaded anywhere, has an address in 32 bits (R_X86_64_32, R_X86_64_32S).
     NarrowInModule,
-    /// The TLS segment is above 2^20 bytes. It stands at no object, with section and entry 0.
+    /// The TLS segment has more than 2^20 bytes. The fault is at no object, with section and entry 0.
     TlsTooLarge,
     /// The input sections, data that programs write included, span more than 2^24 bytes; or there are more than 2^19
-    /// relocations of sections that linking keeps; or the sum over the names defined or imported of 25 and a name's
-    /// length exceeds 2^22. It stands at no object, with section and entry 0.
+    /// relocations of sections that linking keeps; or the sum over the defined or imported names of 25 and the name's
+    /// length exceeds 2^22. The fault is at no object, with section and entry 0.
     ImageTooLarge,
-    /// An image with no thread-local storage of its own has a TLSLD, or a descriptor bound to itself; or such a module
-    /// has a TLSGD or a GOTTPOFF bound to itself.
+    /// An image with no thread-local storage of its own has a TLSLD, or a descriptor bound to itself; or such a
+    /// module has a TLSGD or a GOTTPOFF bound to itself.
     NoTls,
 }
 
@@ -63,12 +63,12 @@ impl fmt::Display for LinkFaultKind {
     }
 }
 
-/// Why objects do not link: want of memory, or the first fault that stands.
+/// Why objects do not link: memory ran out, or the first fault.
 #[derive(Debug, Drop, Error)]
 pub enum LinkFault {
     #[error("out of memory")]
     OutOfMemory,
-    /// The object is its place in the list of objects, from 0; `None` of a fault of the image as a whole.
+    /// The object is its place in the list of objects, counted from 0; `None` for a fault of the image as a whole.
     #[error("{kind} at object {object:?} section {section} entry {entry}")]
     At {
         kind: LinkFaultKind,

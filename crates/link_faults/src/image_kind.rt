@@ -1,14 +1,14 @@
-//! What an image is linked as.
+//! The kinds of image that a linker makes.
 
 ghost use Rattle.std.specs.Prelude.{◌≡◌, ◌↔◌, IsTrue};
 ghost use Rattle.link_faults.specs.ImageKinds.{IsModule, base_of};
 
-/// What an image is linked as.
+/// The kind of image to link.
 #[derive(Clone, Copy, PartialEq, Eq, Debug)]
 pub enum ImageKind {
     /// The program, at a fixed address.
     Exe,
-    /// The program, at any address.
+    /// The program, loaded at any address.
     Pie,
     /// A module that is loaded with the program.
     Start,
@@ -16,18 +16,18 @@ pub enum ImageKind {
     Late,
 }
 
-/// The address of a program that is linked to lie at a fixed one, as compilers for x86-64 choose it.
+/// The address of a program at a fixed address, as linkers for x86-64 choose it by default.
 pub const EXE_BASE: u64 = 0x40_0000;
 
 impl ImageKind {
-    /// Whether the image is a module, loaded by a program or opened by a thread.
+    /// Whether the image is a module, which is loaded with a program or opened by a thread.
     pub fn is_module(self) -> bool
         ensures { IsTrue result ↔ IsModule self }
     {
         matches!(self, ImageKind::Start | ImageKind::Late)
     }
 
-    /// The address that the image is linked at: the first section's, before the loader moves the image.
+    /// The address of the image before the loader moves it: that of its first section.
     pub fn base(self) -> u64
         ensures { result ≡ base_of self }
     {

@@ -1,9 +1,9 @@
-//! Bytes that lie in an image.
+//! A part of an image.
 
-/// Bytes that lie in an image, one behind another.
+/// A part of an image: bytes at an address.
 #[derive(Debug, Drop)]
 pub struct Part {
-    /// The address of the first.
+    /// The address of the first byte.
     pub address: u64,
     pub bytes: Vec<u8>,
 }

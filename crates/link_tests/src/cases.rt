@@ -1,4 +1,4 @@
-//! Links of objects, and what is told of them.
+//! Links objects, and compares the results.
 
 ghost use Rattle.std.specs.Prelude.{◌≡◌, ◌<◌, ℕ, [], IfOk, OnOk, length, map, slice_index_or};
 ghost use Rattle.object_rules.specs.declared.fault.FaultKind.TheVariants.{Sequence, StrayCall};
@@ -17,10 +17,10 @@ use std::test::Fail;
 use std::thread::Threads;
 use tls_symbols::{Exports, exports};
 
-/// What is loaded with each image: y, w and errno.
+/// The images that are loaded with each: y, w and errno.
 const STARTUP: &str = "y=v0 w=v4 errno=v8 v:000000000000000000000000";
 
-/// Why no link was asked for.
+/// Why no link was tried.
 #[derive(Debug, Drop)]
 pub(crate) enum Unready {
     OutOfMemory,
@@ -43,7 +43,7 @@ impl<T: Drop> From<AllocFailed<T>> for Unready {
     }
 }
 
-/// The kind of image of a word, and whether its sequences may be rewritten.
+/// The kind of image for a word, and whether its sequences may be rewritten.
 fn kind_of(word: &str) -> (ImageKind, bool) {
     let kind = match word.trim_end_matches("-kept") {
         "exe" => ImageKind::Exe,
@@ -54,7 +54,7 @@ fn kind_of(word: &str) -> (ImageKind, bool) {
     (kind, !word.ends_with("-kept"))
 }
 
-/// The objects, with a bar between them.
+/// The objects, which are separated by a bar.
 fn files_of(alloc: Global, objects: &str) -> Result<Vec<Vec<u8>>, Fail> {
     let mut files = Vec::new(alloc);
     for words in objects.split('|') {
@@ -87,7 +87,7 @@ fn all_sites(alloc: Global, objects: &[Object]) -> Result<Vec<Vec<Site>>, Unread
     Ok(all)
 }
 
-/// Links objects beside what is loaded with them.
+/// Links objects; these images are loaded with them.
 pub(crate) fn linked<'a>(
     rt: &(impl Threads + Sync),
     alloc: Global,
@@ -100,7 +100,7 @@ pub(crate) fn linked<'a>(
     Ok(link(rt, alloc, objects, sites.as_slice(), kind, startup, relax))
 }
 
-/// Links the objects of files beside a module of objects.
+/// Links the objects of files; a module of objects is loaded with them.
 fn answer<'a>(
     rt: &(impl Threads + Sync),
     alloc: Global,
@@ -114,7 +114,7 @@ fn answer<'a>(
     Ok(linked(rt, alloc, kind, objects.as_slice(), &startup)?)
 }
 
-/// Adds an image as text, and which sequences stand in the place of those of each object.
+/// Appends an image as text, and the choices for the sequences of each object.
 fn push_image(alloc: Global, text: &mut String, linked: &Linked) -> Result<(), AllocError> {
     let mut shown = Vec::new(alloc);
     push_shown(&linked.image, &mut shown)?;
@@ -131,7 +131,7 @@ fn push_image(alloc: Global, text: &mut String, linked: &Linked) -> Result<(), A
     Ok(())
 }
 
-/// Adds the bytes of each part but the last as digits, with a semicolon behind them.
+/// Appends the bytes of each part but the last as digits, followed by a semicolon.
 fn push_bytes(alloc: Global, text: &mut String, linked: &Linked) -> Result<(), AllocError> {
     text.push_str(" # ")?;
     for next in 1..linked.image.part_count() {
@@ -152,7 +152,7 @@ fn text_of(alloc: Global, linked: &Linked) -> Result<String, AllocError> {
     squeezed(alloc, text.as_str())
 }
 
-/// What is told of a link.
+/// The result of a link as text.
 fn told(
     rt: &(impl Threads + Sync),
     alloc: Global,
@@ -182,14 +182,14 @@ fn squeezed(alloc: Global, text: &str) -> Result<String, AllocError> {
     Ok(squeezed)
 }
 
-/// Whether what is told of a link is a text and, where there are any, these digits.
+/// Whether the result of a link is this text and, if there are any, these digits.
 fn holds(told: &str, text: &str, digits: &str) -> bool {
     let (shown, held) = told.split_once(" # ").unwrap_or((told, ""));
     let links = text == "links" && shown.starts_with("kind");
     (digits.is_empty() || held == digits) && (links || shown == text)
 }
 
-/// Compares what is told in each kind of image. Among bytes a dash stands for eight zeros.
+/// Compares the result for each kind of image. Among bytes a dash stands for eight zeros.
 fn check(rt: &(impl Abort + Threads + Sync), alloc: Global, case: &str) -> Result<(), Fail> {
     let (given, want) = case.split_once(" -> ").ok_or("an answer")?;
     let (kinds, objects) = given.split_once(' ').ok_or("objects")?;
@@ -204,7 +204,7 @@ fn check(rt: &(impl Abort + Threads + Sync), alloc: Global, case: &str) -> Resul
     Ok(())
 }
 
-/// Compares what is told of each case. A star begins a case.
+/// Compares the result of each case. A star begins a case.
 pub(crate) fn check_all(
     rt: &(impl Abort + Threads + Sync),
     alloc: Global,

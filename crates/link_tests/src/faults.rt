@@ -1,9 +1,9 @@
-//! What does not link, and which fault is told.
+//! Objects that do not link, and which fault is reported.
 
 use crate::cases::check_all;
 use std::test::Fail;
 
-/// One fault each, beside what links.
+/// One fault each, together with objects that link.
 const ALONE: &str = "\
 // nothing defines u; what is loaded with the image exports y, but no TPOFF32 may reach it
 * exe gd:u -> Undefined at object Some(0) section 4 entry 0
@@ -11,12 +11,12 @@ const ALONE: &str = "\
 * exe le:y -> Undefined at object Some(0) section 4 entry 0
 * exe gd:y -> links
 * exe d:0000000000000000 q:u,0,0 -> Undefined at object Some(0) section 5 entry 0
-// of two strong definitions the second, by its symbol; the symbol table is section 5 where code has no relocations
+// the second of two GLOBAL definitions, by its symbol; the symbol table is section 5 if code has no relocations
 * exe f=c0 | f=c0 -> Duplicate at object Some(1) section 5 entry 1
 * exe .f=c0 | .f=c0 -> links
 * exe ~__tls_get_addr=c0 -> Duplicate at object Some(0) section 5 entry 1
 * exe .__tls_get_addr=c0 -> links
-// initial executable code that reaches a function, and a call of a variable
+// initial exec code for a function, and a call of a variable
 * exe f=c0 mov:f -> NotTls at object Some(0) section 4 entry 0
 * exe x=v0 v:00 call:x -> NotTls at object Some(0) section 4 entry 0
 // an offset from the thread pointer
@@ -30,7 +30,7 @@ const ALONE: &str = "\
 * exe z:100000 -> links
 // a page of code and 2^24 bytes of zeros
 * exe c:c3 b:100000,10 -> ImageTooLarge at object None section 0 entry 0
-// variables at the end of no storage: local dynamic code and a descriptor want a block of the image in each kind of
+// variables at the end of no storage: local dynamic code and a descriptor need a block of the image in each kind of
 // image, the others in modules
 * exe/exe-kept/start x=v0 ld:x -> NoTls at object Some(0) section 4 entry 0
 * exe/exe-kept/late x=v0 lea:x -> NoTls at object Some(0) section 4 entry 0
@@ -45,7 +45,7 @@ const ALONE: &str = "\
 * exe f=c0 call:f,-7ffffffb -> links
 ";
 
-/// Two faults each: the earlier kind is told, wherever it stands, and of one kind the first object, section and entry.
+/// Two faults each: the earlier kind is reported, wherever it is, and of one kind the first object, section and entry.
 const TWO: &str = "
 * exe f=c0 f=c0 | gd:u -> Undefined at object Some(1) section 4 entry 0
 * start x=v0 v:00 le:x gd:u -> Undefined at object Some(0) section 4 entry 1

@@ -1,5 +1,5 @@
-//! A link is refused for want of memory alone, wherever it asks for some, and made again it gives the same image, byte for
-//! byte. Its objects are lent, so nothing can change them. A test that met this says so in a line.
+//! A link fails only when memory runs out, at any point where it allocates, and a second try gives the same image, byte
+//! for byte. Its objects are borrowed, so nothing can change them. A test that met such a failure says so in a line.
 
 use crate::cases::{Unready, linked};
 use elf_object::{Object, ObjectFault};
@@ -18,7 +18,7 @@ use std::test::Fail;
 use std::thread::Threads;
 use tls_symbols::{Exports, exports};
 
-/// The address of `x` by the general dynamic sequence, the offset of `y` from the table, and the descriptor of `x`.
+/// The address of `x` by the general dynamic sequence, the offset of `y` from the GOT, and the descriptor of `x`.
 const CODE: &[u8] =
     b"\x66\x48\x8d\x3d\0\0\0\0\x66\x66\x48\xe8\0\0\0\0\x48\x8b\x05\0\0\0\0\x48\x8d\x05\0\0\0\0\xc3";
 
@@ -48,7 +48,7 @@ fn asking(alloc: Global) -> Result<Vec<u8>, AllocError> {
     object_of(alloc, &sections, &symbols)
 }
 
-/// An object of the image that is loaded beside it, which has y.
+/// An object of an image that is loaded with it, which has y.
 fn beside(alloc: Global) -> Result<Vec<u8>, AllocError> {
     let sections = [Section::variables(b"\x07\0\0\0")];
     let symbols = [Symbol::global(b"y", STT_TLS, 1, 0, 4)];
@@ -66,7 +66,7 @@ fn read<'a>(rt: &impl Abort, alloc: Global, bytes: &'a [u8]) -> Result<Object<'a
     }
 }
 
-/// The image of objects; none where the link is refused for want of memory.
+/// The image of objects; none if memory ran out.
 fn link_once<'a>(
     rt: &(impl Abort + Threads + Sync),
     alloc: Global,
@@ -87,12 +87,12 @@ fn link_once<'a>(
     }
 }
 
-/// Whether two images are one, and so are the choices for their sequences.
+/// Whether two images are equal, and the choices for their sequences too.
 fn are_alike(one: Linked, other: Linked) -> bool {
     one.choices == other.choices && one.image.into_bytes() == other.image.into_bytes()
 }
 
-/// Links objects, and again where that is refused, beside a link that was made before.
+/// Links objects, and again if the first try fails, and compares the result with an earlier link.
 fn link_twice<'a>(
     rt: &(impl Abort + Print + Threads + Sync),
     alloc: Global,
@@ -113,7 +113,7 @@ fn link_twice<'a>(
     Ok(())
 }
 
-/// Links the object of these bytes as an image of this kind, beside one of those.
+/// Links the object of these bytes as an image of this kind, with one of those images loaded with it.
 fn link_bytes<'a>(
     rt: &(impl Abort + Print + Threads + Sync),
     alloc: Global,

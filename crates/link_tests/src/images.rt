@@ -1,8 +1,8 @@
-//! Images. An image lies at 400000, or at 0 where it may lie anywhere; each class of sections begins a page, and so do
-//! the global offset table, the stub and the dynamic tables behind them. These are an array of 16 for each entry, a
-//! hash table of 12 and 4 for each symbol, up to a multiple of 8, 24 for each symbol and each relocation, and the
-//! names, the empty one of symbol 0 included. Types of relocations: 7 a jump slot, 8 RELATIVE, 16 DTPMOD64, 17
-//! DTPOFF64, 18 TPOFF64, 36 TLSDESC.
+//! Images. An image lies at 400000, or at 0 if it may lie anywhere; each class of sections begins a page, and so do
+//! the global offset table, the stub and then the dynamic tables. These are an array of 16 for each entry, a hash
+//! table of 12 and 4 for each symbol, up to a multiple of 8, 24 for each symbol and each relocation, and the names,
+//! the empty one of symbol 0 included. Types of relocations: 7 a jump slot, 8 RELATIVE, 16 DTPMOD64, 17 DTPOFF64,
+//! 18 TPOFF64, 36 TLSDESC.
 
 use crate::cases::check_all;
 use std::test::Fail;
@@ -48,8 +48,8 @@ import y symbol 000000 0 import __tls_get_addr reloc 002010 16 5 0 reloc 002018 
 # 488b05 59200000 488b05 42200000 488b05 43200000 488d05 14200000 488d05 1d200000 66488d3d e51f0000 666648e8 cd2f0000
 66488d3d e51f0000 666648e8 bd2f0000 488d3d b61f0000 e8 b12f0000; - 2a000000 -; 0100000000000000 - - - 0100000000000000
 0800000000000000 - - - - - f0ffffffffffffff 4300000000000000 -; ff25 62f0ffff;
-// A module knows neither its number nor where its block lies; symbol 0 stands for it. It reads words of offsets, so an
-// entry has DF_STATIC_TLS. Tables: 160 + 40 + 168 + 240 + 30 = 638
+// A module knows neither its number nor where its block lies; symbol 0 stands for the module. It reads words with
+// offsets, so an entry has DF_STATIC_TLS. Tables: 160 + 40 + 168 + 240 + 30 = 638
 * start/late f=c43 x=v8 v:00000000000000002a0000000000000000000000 word:f mov:errno mov:x lea:w lea:x gd:y gd:x ld:x ->
 kind module part x 000000 79 part r 001000 20 part rw 002000 112 part x 003000 6 part r 004000 638 tls 001000 20 20 8
 relro 002000 112 symbol 000043 2 f symbol 000008 6 x symbol 000000 6 import errno symbol 000000 6 import w symbol 000000
@@ -68,13 +68,13 @@ kind exe part x 400000 79 part r 401000 20 part rw 402000 32 part r 403000 415 t
 18 3 0 reloc 402008 18 4 0 reloc 402010 18 5 0 choices / Keep IeLe DescIe DescLe GdIe GdLe LdLe
 # 488b05 11200000 488b05 f21f0000 48c7c0 f0ffffff 488b05 ec1f0000 48c7c0 f0ffffff 64488b0425 00000000 480305 dd1f0000
 64488b0425 00000000 488d80 f0ffffff 66666664488b0425 00000000; - 2a000000 -; - - - 4300400000000000;
-// Calls through the run time's word want no stub: 401000 - 400008 = ff8, 401010 - 400010 = 1000
+// Calls through the run time's word need no stub: 401000 - 400008 = ff8, 401010 - 400010 = 1000
 * exe-kept gdi:y -> links # 66488d3d f80f0000 6648ff15 00100000; - - -;
 ";
 
-/// Several objects: the order of symbols and relocations, and what the code of one changes for another.
+/// Several objects: the order of symbols and relocations, and how the code of one changes another.
 const OBJECTS: &str = "
-// Imports stand by their first sequences, w, y, errno. Tables: 144 + 28 + 4 + 96 + 72 + 11 = 355
+// Imports are in the order of their first sequences, w, y, errno. Tables: 144 + 28 + 4 + 96 + 72 + 11 = 355
 * exe mov:w mov:y | mov:y mov:errno mov:w ->
 kind exe part x 400000 35 part rw 401000 24 part r 402000 355 relro 401000 24 symbol 000000 6 import w symbol 000000 6
 import y symbol 000000 6 import errno reloc 401000 18 1 0 reloc 401008 18 2 0 reloc 401010 18 3 0 choices / Keep Keep /
@@ -85,13 +85,13 @@ Keep Keep Keep
 kind module part x 000000 14 part r 001000 12 part rw 002000 16 part r 003000 249 tls 001000 12 12 8 relro 002000 16
 reloc 002000 18 0 0 reloc 002008 18 0 8 static-tls choices / Keep / Keep
 * start x=v0 v:2a000000 mov:x | x=v0 v:2a000000 mov:x -> Duplicate at object Some(1) section 6 entry 1
-// x is bound to the strong definition, at 8 - 16 = -8, and stands where the weak one comes first. Tables: 96 + 24 + 72
-// + 5
+// x is bound to the GLOBAL definition, at 8 - 16 = -8, and its symbol has the place of the WEAK one, which comes first.
+// Tables: 96 + 24 + 72 + 5
 * exe ~x=v0 f=c0 v:01000000 mov:x | x=v0 v:02000000 ->
 kind exe part x 400000 7 part r 401000 12 part r 402000 197 tls 401000 12 12 8 symbol 000008 6 x symbol 400000 2 f
 choices / IeLe / # 48c7c0 f8ffffff; 01000000 00000000 02000000;
-// Zeros lie behind all initial images, 1 byte at 0 and at 8: x is at 9 and z at d of a block of 24. Tables: 96 + 24 +
-// 72 + 5
+// Zeros lie after all initial images, 1 byte at 0 and at 8: x is at 9 and z at d of a block of 24.
+// Tables: 96 + 24 + 72 + 5
 * exe x=z0 v:01 z:4 le:x | z=z0 v:02 z:4 mov:z d:03 b:10,1 ->
 kind exe part x 400000 16 part r 401000 9 part rw 402000 17 part r 403000 197 tls 401000 9 17 8 symbol 000009 6 x symbol
 00000d 6 z choices / / IeLe # 64488b0425 f1ffffff 48c7c0 f5ffffff; 01 00000000000000 02; 03 - -;
@@ -119,7 +119,7 @@ kind module part x 000000 45 part r 001000 4 part rw 002000 56 part x 003000 6 p
 kind module part x 000000 8 part rw 001000 8 part r 002000 259 relro 001000 8 symbol 000000 6 import y reloc 001000 18 1
 0 static-tls choices / / Keep
 // Offsets in the block with addends: 8 + 7fffffff is above 2^31 - 1, and 8 - 80000000 - 24 below -2^31. Offsets count
-// from the thread pointer, 24 behind the block, where any object has local dynamic code that is rewritten
+// from the thread pointer, 24 past the block, where any object has local dynamic code that is rewritten
 * exe-kept x=v8 v:0000000000000000 v:2a000000 v:0000000000000000 ld:x off:x,7fffffff ->
 Overflow at object Some(0) section 4 entry 2
 * exe x=v8 v:0000000000000000 v:2a000000 v:0000000000000000 ld:x off:x,7fffffff ->

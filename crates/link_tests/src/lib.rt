@@ -1,11 +1,11 @@
 //! Tests of linking: small objects in, the image as text out.
 //!
-//! What a clause says is proved in `link_core`. Here stands whether the definitions say what the standard means: faults
-//! and images that a reader works out by hand, with the arithmetic of each field.
+//! Clauses are proved in `link_core`. These tests check that the definitions agree with the standard: faults and
+//! images that a reader works out by hand, with the arithmetic of each field.
 //!
-//! A case is kinds of image, objects of words (`objects`), and what is told: a fault, or the image as `image_text`
-//! shows it, with six digits of each place and with the choices for each object's sequences; and behind a `#` the bytes
-//! of its parts but for the last, the dynamic tables. For example, a program whose function f reaches its variable x:
+//! A case has kinds of image, objects made of words (`objects`), and the result: a fault, or the image as `image_text`
+//! prints it, with six digits of each place and with the choices for each object's sequences; and after a `#` the bytes
+//! of its parts except the last, the dynamic tables. For example, a program whose function f reads its variable x:
 //!
 //! ```text
 //! * exe f=c0 x=v8 v:0000000000000000 v:2a000000 mov:x c:c3 -> links # 48c7c0 f8ffffff c3; 0000000000000000 2a000000;

@@ -1,12 +1,12 @@
-//! Objects of words.
+//! Objects made from words.
 //!
 //! A symbol is NAME=PLACE, LOCAL with a dot and WEAK with a tilde before its name, at vN in `.tdata`, zN in `.tbss`,
-//! cN in code, or ?, nowhere. Bytes are v: of `.tdata`, aligned to 8 where it has any, c: of code and d: of data; sizes
-//! are z: of `.tbss` and b:SIZE,COUNT of more sections of zeros. PIECE:NAME,ADDEND is code whose field names a symbol,
-//! with so much added to its addend, and q:NAME,ADDEND,PLACE an address in data. Numbers are hexadecimal.
+//! cN in code, or ?, nowhere. Bytes are v: of `.tdata`, aligned to 8 if it has any, c: of code and d: of data; sizes
+//! are z: of `.tbss` and b:SIZE,COUNT of more sections of zeros. PIECE:NAME,ADDEND is code with a field for a symbol,
+//! with ADDEND added to the field's own addend, and q:NAME,ADDEND,PLACE an address in data. Numbers are hexadecimal.
 //!
-//! The sections are `.tdata` (1), `.tbss` (2) and `.text` (3), behind it the relocations of code (4), if there are any,
-//! then `.data` and its relocations, the sections of zeros, and the symbols.
+//! The sections are `.tdata` (1), `.tbss` (2) and `.text` (3), then the relocations of code (4), if there are any, then
+//! `.data` and its relocations, the sections of zeros, and the symbols.
 
 use elf_records::relocation::R_X86_64_64;
 use elf_records::section_header::{SHF_ALLOC, SHF_WRITE};
@@ -16,8 +16,8 @@ use object_builder::{Section, Symbol, object_of, rela};
 use std::alloc::{AllocError, Global};
 use std::test::Fail;
 
-/// Pieces of code: the sequences of the psABI, and other instructions with a field. Each line has the bytes, and of the
-/// field the offset, the type and the addend; a second field is one of a call of `__tls_get_addr`.
+/// Pieces of code: the sequences of the psABI, and other instructions with a field. Each line has the bytes, and the
+/// field's offset, type and addend; a second field belongs to a call of `__tls_get_addr`.
 const PIECES: &str = "
 gd 66488d3d00000000666648e800000000 4:13:-4 c:4:-4
 gdi 66488d3d000000006648ff1500000000 4:13:-4 c:9:-4
@@ -35,7 +35,7 @@ narrow 48c7c000000000 3:b:0
 wide 48b80000000000000000 2:1:0
 ";
 
-/// What the words of an object add up to.
+/// The parts of an object, collected from its words.
 #[derive(Drop)]
 struct Parts<'a> {
     symbols: Vec<Symbol<'a>>,
@@ -49,7 +49,7 @@ struct Parts<'a> {
     zeros: Vec<u64>,
 }
 
-/// A number, or 0 where no digits stand.
+/// A number; 0 if there are no digits.
 fn number(digits: &str) -> u64 {
     u64::from_str_radix(digits, 16).unwrap_or(0)
 }
@@ -84,7 +84,7 @@ fn symbol<'a>(word: &'a str, place: &str) -> Symbol<'a> {
 }
 
 impl<'a> Parts<'a> {
-    /// The number of the symbol of a name, an undefined one where no word told it before.
+    /// The number of the symbol with a name; a name that no word declared gets an undefined symbol.
     fn symbol_number(&mut self, name: &'a str) -> Result<u32, AllocError> {
         let mut number = 1_u32;
         for symbol in &self.symbols {
@@ -97,7 +97,7 @@ impl<'a> Parts<'a> {
         Ok(number)
     }
 
-    /// Adds the relocation of a field of a piece that starts here.
+    /// Adds the relocation for a field of a piece that starts here.
     fn add_field(&mut self, start: u64, field: &str, symbol: u32, more: i64) -> Result<(), Fail> {
         let (at, rest) = field.split_once(':').ok_or("a type")?;
         let (kind, addend) = rest.split_once(':').ok_or("an addend")?;
@@ -108,7 +108,7 @@ impl<'a> Parts<'a> {
         Ok(())
     }
 
-    /// Adds a piece of code whose field names a symbol.
+    /// Adds a piece of code with a field for a symbol.
     fn add_piece(
         &mut self,
         alloc: Global,
@@ -132,7 +132,7 @@ impl<'a> Parts<'a> {
         }
     }
 
-    /// Adds what a word of two parts says.
+    /// Adds what a word of two parts declares.
     fn add(&mut self, alloc: Global, sort: &str, rest: &'a str) -> Result<(), Fail> {
         let (name, more) = rest.split_once(',').unwrap_or((rest, ""));
         let (addend, place) = more.split_once(',').unwrap_or((more, ""));
@@ -173,7 +173,7 @@ impl<'a> Parts<'a> {
     }
 }
 
-/// The bytes of the object of these words.
+/// The bytes of the object made from these words.
 pub(crate) fn object(alloc: Global, words: &str) -> Result<Vec<u8>, Fail> {
     let mut parts = Parts {
         symbols: Vec::new(alloc),

@@ -1,4 +1,4 @@
--- Images of objects that have no section for programs to write: no data in them is shared by threads.
+-- Images of objects without sections for programs to write: threads share no data in them.
 use Rattle.std.specs.Prelude.{◌≡◌, ℕ, Bool, true, false, List, is_some, map, nat_lt}
 use Rattle.std.specs.List.{All, list_any}
 use Rattle.elf_object.specs.Object.{IsWritable}
@@ -8,11 +8,11 @@ use Rattle.module_data.specs.Parts.{data_part}
 use Rattle.object_faults.specs.declared.class.SectionClass.TheVariants.{Writable}
 use Rattle.tls_layout.specs.Laws.{extent_for}
 
--- no section of the object is of the writable class and has bytes, in the file or in memory
+-- no section of the object in the writable class has bytes, in the file or in memory
 abbrev pub IsDataless : List ℕ → Type 0
 IsDataless b = (s : ℕ) → IsWritable b s → ⊥
 
--- nor has any object that an image is linked from
+-- no object that an image is linked from has such bytes
 abbrev pub IsOfDataless : Linking → Type 0
 IsOfDataless l = All IsDataless l.objects
 
@@ -20,12 +20,12 @@ IsOfDataless l = All IsDataless l.objects
 abbrev pub has_writable : Linking → Bool
 has_writable l = let extent = extent_for (Writable true) (layout l) in nat_lt extent.start extent.end
 
--- the images of these links have no data that threads share: the class of what programs write is empty in each, and
--- none has a part that programs write
+-- the images of these links have no data that threads share: in each, the writable class is empty, and no part
+-- is written by programs
 pub record ShareNoData (ls : List Linking) : Type 0 where
   pub classes : All (λ (l : Linking). has_writable l ≡ false) ls
   pub parts : list_any (λ image. is_some (data_part image)) (map image_of ls) ≡ false
 
--- what is linked from such objects shares none
+-- images that are linked from such objects share no data
 abbrev pub DatalessObjectsShareNoData : Type 0
 DatalessObjectsShareNoData = (ls : List Linking) → All IsOfDataless ls → ShareNoData ls

@@ -1,4 +1,4 @@
--- Images that are linked together, and that they are images of a job.
+-- Images that are linked together are images of a job.
 use Rattle.std.specs.Prelude.{◌≡◌, ℕ, List, filter, map, not}
 use Rattle.std.specs.List.{All}
 use Rattle.job_text.specs.Jobs.{JobParts}
@@ -14,13 +14,13 @@ use Rattle.tls_symbols.specs.Bindings.{exported_names}
 abbrev pub exports_among : List Linking → List (List (List ℕ))
 exports_among ls = map (λ l. exported_names l.objects) (filter (λ l. not (is_late l.kind)) ls)
 
--- links of images that are linked together: each links, beside the startup images among them
+-- links of images that are linked together: each links, given the exports of the startup images among them
 pub record AreTogether (ls : List Linking) : Type 0 where
   pub given : All IsGiven ls
   pub links : All Links ls
   pub beside : All (λ l. l.startup ≡ exports_among ls) ls
 
--- the images that they come to are images of a job of the same kinds
+-- the images of these links are images of a job with the same kinds
 abbrev pub LinkedImagesAreModules : Type 0
 LinkedImagesAreModules = (job : JobParts) (ls : List Linking) → AreTogether ls
     → map (λ l. l.kind) ls ≡ map (λ image. image.kind) job.images

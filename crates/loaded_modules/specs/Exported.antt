@@ -1,4 +1,4 @@
--- What the table of shared symbols finds.
+-- The results of the table of shared symbols.
 use Rattle.std.specs.Borrow.{Bor}
 use Rattle.std.specs.HashMap.{HashMap, get_by}
 use Rattle.std.specs.Prelude.{◌&&◌, ℕ, List, Option, Some, None, if◌then◌else◌}
@@ -7,7 +7,7 @@ use Rattle.image_file.specs.declared.symbol.ImageSymbol.{ImageSymbol}
 use Rattle.loaded_modules.specs.declared.exports.Export.{Export}
 use Rattle.loaded_modules.specs.Loader.{is_shared}
 
--- where a symbol of this name is found
+-- the place of the symbol of this name
 abbrev pub found : {S : Type 0} → HashMap (Bor (List ℕ)) Export S → List ℕ → Option Export
 found by_name name = get_by (λ key. bytes_eq name key.now) by_name
 

@@ -1,4 +1,4 @@
--- When images are those of a job: a linker that links the job gives such images, and whoever does.
+-- When images are those of a job; a linker that links the job makes such images.
 use Rattle.std.specs.Prelude.{◌≡◌, ◌≢◌, ℕ, true, false, List, length, map, All, is_some, slice_get, Some}
 use Rattle.image_file.specs.declared.relocation.ImageRelocation.{ImageRelocation}
 use Rattle.image_file.specs.Spelled.{Spelled}
@@ -12,7 +12,7 @@ use Rattle.link_faults.specs.declared.image_kind.ImageKind.TheVariants.{Exe, Pie
 use Rattle.loaded_modules.specs.Images.{JobImages, is_late}
 use Rattle.loaded_modules.specs.Loader.{export_of, name_of}
 
--- what the file of an image of each kind says that it is
+-- the kind that the file of an image has
 abbrev pub file_kind_of : ImageKind → FileKind
 file_kind_of Exe = ExeFile
 file_kind_of Pie = PieFile
@@ -23,12 +23,12 @@ file_kind_of Late = ModuleFile
 abbrev pub of_job : JobParts → List Spelled → JobImages
 of_job job images = record { kinds = map (λ image. image.kind) job.images; images = images }
 
--- a symbol that the relocation names is shared by a startup image; the function that finds thread-local data, which
--- JUMP_SLOT names, is the run time's
+-- a startup image shares the symbol that the relocation names; JUMP_SLOT names the run time's function that
+-- finds thread-local data
 abbrev pub NamesShared : JobImages → Spelled → ImageRelocation → Type 0
 NamesShared m image r = r.symbol ≢ 0 → r.kind ≢ JumpSlot → is_some (export_of m (name_of image r.symbol)) ≡ true
 
--- it does not want a block of its own image at a fixed distance from the thread pointer
+-- it needs no block of its own image at a fixed offset from the thread pointer
 abbrev pub IsDynamic : ImageRelocation → Type 0
 IsDynamic r = r.symbol ≡ 0 → r.kind ≢ ThreadOffset
 

@@ -1,4 +1,4 @@
--- What the code keeps of a job's images beside them.
+-- What the code keeps for a job's images.
 use Rattle.std.specs.Prelude.{◌≡◌, ◌≤◌, ◌∷◌, length, map}
 use Rattle.module_table.specs.Modules.{AreInfos}
 use Rattle.loaded_modules.specs.declared.modules.Modules.TheInside.{Inside}

@@ -1,7 +1,7 @@
--- The images of a job, and what is known of them before anything is loaded: when each is loaded, its TLS segment
--- (gABI, "Program Header": PT_TLS), whether it wants its blocks at a fixed distance from the thread pointer (gABI,
--- "Dynamic Section": DF_STATIC_TLS), and where the blocks of the images that start with the program lie (Drepper,
--- "ELF Handling For Thread-Local Storage", section 3, variant II).
+-- The images of a job, and the facts about them before anything is loaded: when each is loaded, its TLS segment
+-- (gABI, "Program Header": PT_TLS), whether it uses static TLS (gABI, "Dynamic Section": DF_STATIC_TLS), and where
+-- the blocks of the images that start with the program lie (Drepper, "ELF Handling For Thread-Local Storage",
+-- section 3, variant II).
 use Rattle.std.specs.Prelude.{ℕ, zero, suc, List, [], ◌∷◌, take, Option, Some, None, slice_get}
 use Rattle.image_file.specs.declared.part.TlsPart.{TlsPart}
 use Rattle.image_file.specs.Spelled.{Spelled}
@@ -15,7 +15,7 @@ pub record JobImages : Type 0 where
   pub kinds : List ImageKind
   pub images : List Spelled
 
--- how many bytes each thread's block has, and what its address is a multiple of
+-- the size and the alignment of each thread's block
 abbrev pub block_size : Option TlsPart → ℕ
 block_size None = 0
 block_size (Some tls) = tls.size
@@ -44,11 +44,11 @@ infos m = infos_of m.kinds m.images
 unfoldable pub last_offset : JobImages → ℕ
 last_offset m = startup_end (infos m) 0
 
--- how far below it the block of a startup image begins, by the image's number
+-- how far below the thread pointer the block of a startup image begins, by the image's number
 unfoldable pub static_offset : JobImages → ℕ → ℕ
 static_offset m number = startup_end (take number (infos m)) 0
 
--- an image and its kind, by its number from 1
+-- an image, by its number, counted from 1
 unfoldable pub image_at : JobImages → ℕ → Option Spelled
 image_at m zero = None
 image_at m (suc index) = slice_get m.images index

@@ -1,6 +1,6 @@
--- What a loader leaves of an image that it loads: where it lies, the words that its relocations ask for (psABI,
--- "Relocation Types"; Drepper, "ELF Handling For Thread-Local Storage", section 4.4), and the block of thread-local
--- storage that each thread begins with (gABI, "Program Loading").
+-- What a loader makes of an image: where it lies, the words of its relocations (psABI, "Relocation Types";
+-- Drepper, "ELF Handling For Thread-Local Storage", section 4.4), and the TLS block that each thread begins with
+-- (gABI, "Program Loading").
 use Rattle.std.specs.Prelude.{◌+◌, ◌-◌, ◌*◌, ◌%◌, ◌^◌, ◌==◌, ◌&&◌, ℕ, Bool, true, false, suc, List, [], ◌∷◌, ◌++◌}
 use Rattle.std.specs.Prelude.{drop, fold, length, replicate, nat_le, Option, Some, None, slice_get, slice_range}
 use Rattle.std.specs.Prelude.{ℤ, option_map, unwrap_or, if◌then◌else◌}
@@ -31,7 +31,7 @@ use Rattle.loaded_modules.specs.Images.{JobImages, image_at, is_late, static_off
 
 -- ---- where an instance lies
 
--- how far a loader moves an image: a program at fixed addresses not at all, each other instance to a place of its own
+-- how far a loader moves an image: a program at fixed addresses not at all, each other instance to a range of its own
 unfoldable pub bias : FileKind → ℕ → ℕ
 bias Exe instance = 0
 bias Pie instance = 2 ^ 32 + instance * 2 ^ 26
@@ -53,7 +53,7 @@ is_visible Protected = true
 abbrev pub is_shared : ImageSymbol → Bool
 is_shared symbol = symbol.is_defined && (is_tls symbol.kind && is_visible symbol.visibility)
 
--- the offset of the first shared symbol of a name; symbol 0 is reserved
+-- the offset of the first shared symbol with a name; symbol 0 is reserved
 abbrev pub shared_among : List ℕ → List ImageSymbol → List (List ℕ) → Option ℕ
 shared_among name [] names = None
 shared_among name (symbol ∷ symbols) [] = None
@@ -81,7 +81,7 @@ shared_from name number (kind ∷ kinds) (image ∷ images) =
 unfoldable pub export_of : JobImages → List ℕ → Option Export
 export_of m name = shared_from name 1 m.kinds m.images
 
--- ---- what a relocation asks for
+-- ---- the words of relocations
 
 -- a relocation without a symbol means the image itself, and its addend is the offset
 abbrev pub own_target : Instance → ImageRelocation → Target
@@ -100,7 +100,7 @@ name_of image symbol = unwrap_or (slice_get image.names symbol) []
 unfoldable pub target_of : JobImages → Spelled → Instance → ImageRelocation → Target
 target_of m image x r = if r.symbol == 0 then own_target x r else export_target m (export_of m (name_of image r.symbol))
 
--- a difference of two words
+-- the difference of two words
 abbrev pub word_difference : ℕ → ℕ → ℕ
 word_difference a b = (a + (2 ^ 64 - b)) % 2 ^ 64
 
@@ -116,13 +116,13 @@ written_bytes kind x t Descriptor addend = bytes_of 8 TLS_DESCRIPTOR ++ bytes_of
 unfoldable pub relocation_bytes : JobImages → Spelled → Instance → ImageRelocation → List ℕ
 relocation_bytes m image x r = written_bytes image.kind x (target_of m image x r) r.kind r.addend
 
--- ---- parts as the loader leaves them
+-- ---- parts with their relocations done
 
 -- whether all of those bytes lie in a part
 abbrev pub lies_in : Part → ℕ → ℕ → Bool
 lies_in part place count = nat_le part.address place && nat_le (place + count) (part.address + length part.bytes)
 
--- the bytes of a part with others, those of a relocation, in their place, if they lie in it
+-- the bytes of a part, with those of a relocation written at their place, if they lie in the part
 abbrev pub with_written : Part → List ℕ → ℕ → List ℕ → List ℕ
 with_written part bytes place written =
     if lies_in part place (length written) then splice (place - part.address) written bytes else bytes
@@ -130,11 +130,11 @@ with_written part bytes place written =
 abbrev pub with_relocation : JobImages → Spelled → Instance → Part → List ℕ → ImageRelocation → List ℕ
 with_relocation m image x part bytes r = with_written part bytes r.place (relocation_bytes m image x r)
 
--- the bytes of a part as an instance has them
+-- the bytes of a part of an instance
 unfoldable pub part_bytes : JobImages → Spelled → Instance → Part → List ℕ
 part_bytes m image x part = fold (with_relocation m image x part) part.bytes image.relocations
 
--- the same of a part by its number, from 0; none where there is no such part
+-- the bytes of a part by its number, counted from 0; none if there is no such part
 abbrev pub bytes_or_none : JobImages → Spelled → Instance → Option Part → List ℕ
 bytes_or_none m image x None = []
 bytes_or_none m image x (Some part) = part_bytes m image x part
@@ -154,7 +154,7 @@ bias_in x (Some image) = bias image.kind x.number
 unfoldable pub bias_of : JobImages → Instance → ℕ
 bias_of m x = bias_in x (image_at m x.image)
 
--- how many parts its image has
+-- the parts of an instance's image
 abbrev pub parts_in : Option Spelled → List Part
 parts_in None = []
 parts_in (Some image) = image.parts
@@ -168,14 +168,14 @@ parts_of m x = parts_in (image_at m x.image)
 abbrev pub holds : TlsPart → Part → Bool
 holds tls part = lies_in part tls.address tls.initial
 
--- the initial image, as an instance has it
+-- the initial image, in an instance
 abbrev pub initial_bytes : JobImages → Spelled → Instance → TlsPart → Option Part → List ℕ
 initial_bytes m image x tls None = []
 initial_bytes m image x tls (Some part) =
     slice_range (part_bytes m image x part) (tls.address - part.address)
     (tls.address - part.address + tls.initial)
 
--- and then zeros (gABI, "Program Loading": p_filesz and p_memsz)
+-- the initial image, followed by zeros (gABI, "Program Loading": p_filesz and p_memsz)
 abbrev pub filled : ℕ → List ℕ → List ℕ
 filled size initial = initial ++ replicate (size - length initial) 0
 

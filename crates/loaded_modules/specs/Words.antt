@@ -1,4 +1,4 @@
--- What the code makes of a relocation, and a window of a part's bytes.
+-- The words of a relocation in code, and a window of a part's bytes.
 use Rattle.std.specs.Prelude.{◌≡◌, ◌≤◌, ◌<◌, ◌+◌, ℕ, List, [], ◌++◌, length, slice_index_or, Option, Some, None}
 use Rattle.elf_records.specs.Fields.{bytes_of}
 use Rattle.image_file.specs.declared.part.ImagePart.{ImagePart}
@@ -17,16 +17,16 @@ second_bytes (Some word) = bytes_of 8 word
 abbrev pub words_bytes : Words → List ℕ
 words_bytes words = bytes_of 8 words.first ++ second_bytes words.second
 
--- a part without the loan
+-- a part that is borrowed, without the borrow
 abbrev pub lent_part : ImagePart → Part
 lent_part lent = record { class = lent.class; address = lent.address; bytes = lent.bytes.now }
 
--- these bytes stand in the others, from an offset on
+-- the window holds the bytes of the whole from an offset on
 pub record IsWindow (whole : List ℕ) (from : ℕ) (window : List ℕ) : Type 0 where
   pub within : from + length window ≤ length whole
   pub same : (k : ℕ) (d : ℕ) → k < length window → slice_index_or window k d ≡ slice_index_or whole (from + k) d
 
--- the bytes of a part with those of a relocation in their place, if there is one
+-- the bytes of a part, with those of a relocation written at their place, if there is one
 abbrev pub with_numbered : JobImages → Spelled → Instance → Part → List ℕ → Option ImageRelocation → List ℕ
 with_numbered m image x part bytes None = bytes
 with_numbered m image x part bytes (Some r) = with_relocation m image x part bytes r

@@ -1,4 +1,4 @@
-//! The block of thread-local storage that a thread begins with.
+//! The TLS block that a thread begins with.
 
 ghost use Rattle.std.specs.Prelude.{◌≡◌, ◌≤◌, Some, length, replicate};
 ghost use Rattle.std.specs.List.{find};
@@ -14,7 +14,7 @@ use crate::modules::Modules;
 use crate::relocating::lies_in;
 use image_file::{Image, ImagePart, TlsPart};
 
-/// Whether a part holds the initial image of the TLS segment whole.
+/// Whether a part holds the whole initial image of the TLS segment.
 fn holds(tls: TlsPart, part: ImagePart) -> bool
     ensures { result ≡ holds tls (lent_part part.entry) }
 {
@@ -35,7 +35,7 @@ fn initial_part(image: &Image, tls: TlsPart) -> Option<ImagePart<'_>>
     None
 }
 
-/// Makes all bytes zero.
+/// Sets all bytes to zero.
 fn clear(into: &mut [u8])
     ensures { into.new ≡ replicate (length into.old) 0 }
 {
@@ -59,9 +59,9 @@ impl Modules {
         }
     }
 
-    /// Fills a thread's block of an instance with what it holds before any write: the initial image of the TLS segment
-    /// as the loader leaves it, its relocations done, and zeros up to the segment's size (gABI, "Program Loading").
-    /// `into` has as many bytes as the segment; without a segment it is empty.
+    /// Fills a thread's block of an instance with its initial bytes: the initial image of the TLS segment with its
+    /// relocations done, and zeros up to the segment's size (gABI, "Program Loading"). `into` has as many bytes as
+    /// the segment; without a segment it is empty.
     pub fn fill_block(&self, instance: &Instance, into: &mut [u8])
         requires { length into.old ≡ size_at self.now instance.now.image }
         ensures value { into.new ≡ fresh_block self.now instance.now }

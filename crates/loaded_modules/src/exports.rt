@@ -1,4 +1,4 @@
-//! Where the images that start with the program share their thread-local symbols.
+//! The thread-local symbols that startup images share.
 
 ghost use Rattle.std.specs.Prelude.{◌≡◌, ◌≤◌, ◌^◌, ◌<◌, ℕ, List, Some, None, IfOk, OnOk, length, map, option_map};
 ghost use Rattle.std.specs.Prelude.{if◌then◌else◌, slice_get};
@@ -14,10 +14,10 @@ use link_faults::ImageKind;
 use std::alloc::{AllocError, Global};
 use std::collections::HashMap;
 
-/// Where other images find a thread-local symbol.
+/// The place of a shared thread-local symbol.
 #[derive(Clone, Copy, PartialEq, Eq, Debug)]
 pub struct Export {
-    /// The number of the image that has it, from 1.
+    /// The number of the image that has it, counted from 1.
     pub image: u32,
     /// Its offset in the blocks of that image.
     pub offset: u64,
@@ -35,14 +35,14 @@ fn is_shared(symbol: ImageSymbol) -> bool
         )
 }
 
-/// The symbols that startup images share, by their names: of each name the first.
+/// The symbols that startup images share, by their names: for each name the first.
 #[derive(Drop)]
 pub(crate) struct Exports<'a> {
     by_name: HashMap<&'a [u8], Export>,
 }
 
 impl<'a> Exports<'a> {
-    /// None.
+    /// No symbols.
     pub(crate) fn new(alloc: Global) -> Exports<'a>
         ensures { (name : List ℕ) → found result.by_name name ≡ None }
     {
@@ -51,7 +51,7 @@ impl<'a> Exports<'a> {
         }
     }
 
-    /// Where a symbol of that name is found.
+    /// The place of the symbol of that name.
     pub(crate) fn get(&self, name: &[u8]) -> Option<Export>
         ensures { result ≡ found self.now.by_name name.now }
     {
@@ -69,7 +69,7 @@ impl<'a> Exports<'a> {
         Ok(())
     }
 
-    /// Adds a symbol of a startup image, if it shares that.
+    /// Adds a symbol of a startup image, if the image shares it.
     fn add_symbol(&mut self, number: u32, image: &'a Image, symbol: u64) -> Result<(), AllocError>
         ensures { OnOk result ((q : List ℕ) → found self.new.by_name q ≡ option_or (found self.old.by_name q)
             (option_map (export_in number)
@@ -118,7 +118,7 @@ impl<'a> Exports<'a> {
         self.add_image(number, image)
     }
 
-    /// All that the images of a job share.
+    /// All symbols that the images of a job share.
     fn of(
         alloc: Global,
         kinds: &[ImageKind],
@@ -136,7 +136,7 @@ impl<'a> Exports<'a> {
         Ok(exports)
     }
 
-    /// Where each symbol of an image is found, if it is shared, by the symbol's number.
+    /// The place of each symbol of an image, by its number, if its name is shared.
     fn for_image(&self, alloc: Global, image: &Image) -> Result<Vec<Option<Export>>, AllocError>
         ensures { IfOk result (λ row. row.items ≡ map (found self.now.by_name) image.now.names) }
     {
@@ -150,7 +150,7 @@ impl<'a> Exports<'a> {
     }
 }
 
-/// Where each symbol of each image is found, by the numbers of both.
+/// The place of each symbol of each image, by the numbers of both.
 pub(crate) fn imports_of(
     alloc: Global,
     kinds: &[ImageKind],

@@ -1,4 +1,4 @@
-//! What is known of images before anything is loaded, and where the blocks of startup images lie.
+//! Facts about images before anything is loaded, and where the blocks of startup images lie.
 
 ghost use Rattle.std.specs.Prelude.{◌≡◌, ◌≤◌, ◌+◌, ◌^◌, ◌∷◌, All, IfOk, IfSome, length};
 ghost use Rattle.module_table.specs.Modules.{AreInfos, IsInfo};
@@ -10,14 +10,14 @@ use link_faults::ImageKind;
 use module_table::ImageInfo;
 use std::alloc::{AllocError, Global};
 
-/// Whether an image is loaded by an open; else it starts with the program.
+/// Whether an image is late, so that a thread opens it; else it starts with the program.
 pub(crate) fn is_late(kind: ImageKind) -> bool
     ensures { result ≡ is_late kind }
 {
     matches!(kind, ImageKind::Late)
 }
 
-/// The TLS segment of an image, and what each image keeps of it.
+/// The TLS segment of an image, with what every image ensures of it.
 pub(crate) fn tls_of(image: &Image) -> Option<TlsPart>
     ensures value { result ≡ image.now.tls }
     ensures kept { IfSome result IsTls }
@@ -26,7 +26,7 @@ pub(crate) fn tls_of(image: &Image) -> Option<TlsPart>
     image.tls()
 }
 
-/// What is known of one image.
+/// The facts about one image.
 fn info_of(kind: ImageKind, image: &Image) -> ImageInfo
     ensures value { result ≡ info_of kind image.now }
     ensures kept { IsInfo result }
@@ -43,7 +43,7 @@ fn info_of(kind: ImageKind, image: &Image) -> ImageInfo
     }
 }
 
-/// What is known of each image.
+/// The facts about each image.
 pub(crate) fn infos_of(
     alloc: Global,
     kinds: &[ImageKind],
@@ -60,7 +60,7 @@ pub(crate) fn infos_of(
     Ok(infos)
 }
 
-/// Where the block of an image begins, counted from the thread pointer down, behind the blocks before it; that of a
+/// Where the block of an image begins, in bytes below the thread pointer, after the blocks before it; the block of a
 /// late image takes no room there.
 fn end_behind(taken: u64, info: ImageInfo) -> u64
     requires room { taken ≤ 2 ^ 32 }
@@ -74,7 +74,7 @@ fn end_behind(taken: u64, info: ImageInfo) -> u64
     (taken + info.size).next_multiple_of(info.align)
 }
 
-/// Where the block of each startup image begins, by the image's number; at 0 stands 0.
+/// Where the block of each startup image begins, by the image's number; entry 0 is 0.
 pub(crate) fn static_offsets(alloc: Global, infos: &[ImageInfo]) -> Result<Vec<u64>, AllocError>
     requires { AreInfos infos.now }
     ensures { IfOk result (λ offsets. offsets.items ≡ 0 ∷ ends_behind infos.now 0) }

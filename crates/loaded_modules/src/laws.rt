@@ -8,8 +8,8 @@ use crate::instance::Instance;
 use crate::modules::Modules;
 use image_file::{Image, image_is_spelled};
 
-/// The parts of two instances under different numbers share no address, unless both are programs at fixed addresses,
-/// of which a job has one, loaded once. Instance numbers 1 to 4,095 lie below 2^39.
+/// The parts of two instances with different numbers share no address, unless both are programs at fixed addresses; a
+/// job has one program, loaded once. Instances 1 to 4,095 lie below 2^39.
 pub fn instances_lie_apart(first: &Image, second: &Image)
     ensures { InstancesApart first.now second.now }
 {
@@ -17,13 +17,13 @@ pub fn instances_lie_apart(first: &Image, second: &Image)
     image_is_spelled(second);
 }
 
-/// The images of a job that is read from a text are in image order: late ones come last, as `AreModules` asks.
+/// The images of a job that was read are in image order: late ones come last, as `AreModules` requires.
 #[tactic(auto, using(job_text::specs::LateImages::late_last))]
 pub fn late_images_come_last()
     ensures { (text : List ℕ) (job : JobParts) → ReadLateLast text job }
 {}
 
-/// Asks that threads may move a type's values, and share them.
+/// Checks that threads may move and share a type's values.
 fn crosses_threads<T: Send + Sync>() {}
 
 /// Threads may move and share the images of a job, and read any instance of them.

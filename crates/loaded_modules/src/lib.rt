@@ -1,16 +1,16 @@
-//! What a loader leaves of the images of a job.
+//! What a loader makes of the images of a job: where each lies, its words, and the TLS block of each thread.
 //!
-//! A linker can't know where an image will lie, nor under which number its thread-local storage is asked for. It leaves
-//! *relocations*: places in the image at which the loader writes a word once it knows. This crate does the loader's
-//! part for a job whose images are linked. An [`Instance`] is one load of an image: its number, its module id, and how
-//! far below the thread pointer its blocks begin, where that is fixed. [`Modules`] keeps the images, and answers what
-//! each instance looks like: where it lies, the bytes of its parts, and the block that each thread begins with.
+//! A linker cannot know where an image will lie, nor its module id. It leaves *relocations*: places in the image at
+//! which the loader writes a word when it knows. This crate does the loader's part for a job whose images are linked.
+//! An [`Instance`] is one load of an image: its number, its module id, and how far below the thread pointer its
+//! blocks begin, if that is fixed. [`Modules`] keeps the images, and returns what each instance looks like: where it
+//! lies, the bytes of its parts, and the block that each thread begins with.
 //!
-//! The rule that it keeps: **the bytes of an instance are a function of the images and the instance alone**. Nothing
-//! is loaded, kept or copied: the parts stay as the files have them, and the loader's words are put into what is read
-//! of them, found by a binary search among relocations, whose places rise. Taking the images looks up each name once, by
-//! its hash, in time linear in the symbols; no later call takes memory. What a relocation writes is, modulo 2^64 and
-//! the lowest byte first (psABI, "Relocation Types"; Drepper, "ELF Handling For Thread-Local Storage"):
+//! The rule that it keeps: **the bytes of an instance depend only on the images and the instance**. Nothing is
+//! loaded, kept or copied: the parts stay as the files have them, and a read puts the loader's words into the bytes
+//! it returns. It finds them by a binary search among relocations, whose places rise. `Modules::new` looks up each
+//! name once, by its hash, in time linear in the symbols; no later call allocates memory. A relocation writes, modulo
+//! 2^64 and the lowest byte first (psABI, "Relocation Types"; Drepper, "ELF Handling For Thread-Local Storage"):
 //!
 //! ```text
 //! JUMP_SLOT   where the run time's function is called, 0x1000
@@ -21,11 +21,11 @@
 //! TLSDESC     two words: where the descriptor's function is called, 0x1800, and id * 2^32 + offset
 //! ```
 //!
-//! A name is looked up in the images that start with the program, the program first; a hidden symbol is not found, nor
-//! is one of an image that comes late. An image's module id at the start is its number.
+//! A name is looked up in the images that start with the program, the program first; hidden symbols and symbols of late
+//! images are not found. The module id of an image that starts with the program is its number.
 //!
-//! For example, a module's GOT at 0x2000 has four words. It is loaded as instance 5 under the module id 2, so it is
-//! moved by 2^32 + 5 * 2^26 = 0x1_1400_0000; the program shares `total`, 4 bytes into its blocks:
+//! For example, a module's GOT at 0x2000 has four words. It is loaded as instance 5 with module id 2, so it is moved by
+//! 2^32 + 5 * 2^26 = 0x1_1400_0000; the program shares `total`, 4 bytes into its blocks:
 //!
 //! ```text
 //!                        in the file               at 0x1_1400_2000 and up
@@ -35,9 +35,9 @@
 //! DTPOFF64 total         00 00 00 00 00 00 00 00   04 00 00 00 00 00 00 00
 //! ```
 //!
-//! A block is the initial image of the TLS segment with such words in it, and zeros up to the segment's size (gABI,
-//! "Program Loading"). `specs/Images` and `specs/Loader` define all of this; `specs/Given` says which images are those
-//! of a job.
+//! A block is the initial image of the TLS segment with such words in it, and zeros up to the segment's size
+//! (gABI, "Program Loading"). `specs/Images` and `specs/Loader` define all of this; `specs/Given` says when
+//! images are those of a job.
 #![tactic(auto)]
 
 mod blocks;
@@ -54,8 +54,8 @@ pub use exports::Export;
 pub use instance::Instance;
 pub use modules::Modules;
 
-/// Where `__tls_get_addr` is called: what a loader writes for JUMP_SLOT (psABI, "Relocation Types").
+/// The address of `__tls_get_addr`, which the loader writes for JUMP_SLOT (psABI, "Relocation Types").
 pub const TLS_GET_ADDR: u64 = 0x1000;
 
-/// Where the function of a TLS descriptor is called: the first word of a descriptor (psABI, "TLS Descriptors").
+/// The address of the function in a TLS descriptor, its first word (psABI, "TLS Descriptors").
 pub const TLS_DESCRIPTOR: u64 = 0x1800;

@@ -15,15 +15,15 @@ use module_table::ImageInfo;
 use std::alloc::{AllocError, Global};
 use std::marker::Model;
 
-/// The images of a job. Contracts see `JobImages`: each image as it spells itself, with the kind that the job gives it.
+/// The images of a job. Contracts see `JobImages`: what the file of each spells, with the kind that the job gives it.
 #[derive(Drop)]
 pub struct Modules {
     kinds: Vec<ImageKind>,
     images: Vec<Image>,
     infos: Vec<ImageInfo>,
-    /// How far below the thread pointer the block of each startup image begins, by its number; at 0 there is none.
+    /// How far below the thread pointer the block of each startup image begins, by its number; entry 0 is 0.
     static_offsets: Vec<u64>,
-    /// Where each symbol of each image is found among those that startup images share.
+    /// The place of each symbol of each image, among those that startup images share.
     imports: Vec<Vec<Option<Export>>>,
 }
 
@@ -40,7 +40,7 @@ impl Model for Modules {
 }
 
 impl Modules {
-    /// Takes the images of a job, in image order. Each name that a relocation imports is looked up here, once.
+    /// Takes the images of a job, in image order. It looks up each name that a relocation imports, once.
     pub fn new(alloc: Global, job: &Job, images: Vec<Image>) -> Result<Modules, AllocError>
         requires { AreModules job.now images.items }
         ensures { IfOk result (λ modules. modules ≡ of_job job.now images.items) }
@@ -58,7 +58,7 @@ impl Modules {
         })
     }
 
-    /// How many images there are, 1 to 64.
+    /// How many images there are, from 1 to 64.
     pub fn image_count(&self) -> u32
         ensures value { result ≡ length self.now.images }
         ensures kinds { result ≡ length self.now.kinds }
@@ -68,7 +68,7 @@ impl Modules {
         self.images.as_slice().len() as u32
     }
 
-    /// An image by its number, from 1. `None` exactly at 0 and past the last.
+    /// An image by its number, counted from 1. `None` exactly at 0 and past the last.
     pub fn image(&self, number: u32) -> Option<&Image>
         ensures { option_map (λ image. image.now) result ≡ image_at self.now number }
     {
@@ -78,7 +78,7 @@ impl Modules {
         self.images.as_slice().get(number as usize - 1)
     }
 
-    /// Where a symbol of an image is found, if an image that starts with the program shares its name.
+    /// The place of a symbol of an image, if a startup image shares its name.
     pub(crate) fn import(&self, number: u32, image: &Image, symbol: u32) -> Option<Export>
         requires there { image_at self.now number ≡ Some image.now }
         requires symbol { symbol < length image.now.names }
@@ -88,7 +88,7 @@ impl Modules {
         row[symbol as usize]
     }
 
-    /// What is known of each image before anything is loaded, in image order.
+    /// The facts about each image before anything is loaded, in image order.
     pub fn infos(&self) -> &[ImageInfo]
         ensures value { result.now ≡ infos self.now }
         ensures kept { AreInfos result.now }
@@ -96,8 +96,8 @@ impl Modules {
         self.infos.as_slice()
     }
 
-    /// How far below the thread pointer the block of an image that starts with the program begins, in bytes. Where
-    /// the number is a late image's, or none, that of the last startup image.
+    /// How far below the thread pointer the block of a startup image begins, in bytes. For a late image's number, or
+    /// a number without an image, that of the last startup image.
     pub fn static_offset(&self, image: u32) -> u64
         ensures { result ≡ static_offset self.now image }
     {

@@ -1,4 +1,4 @@
-//! The parts of an image as an instance has them.
+//! The parts of an image as an instance of it has them.
 
 ghost use Rattle.std.specs.Prelude.{◌≡◌, ◌<◌, ◌≤◌, ◌+◌, ℕ, List, Some, length, slice_get, slice_range};
 ghost use Rattle.loaded_modules.specs.Images.{image_at};
@@ -12,7 +12,7 @@ use crate::searches::relocations_below;
 use image_file::{Image, ImagePart, ImageRelocation};
 
 impl Modules {
-    /// What a relocation of an image means to an instance of it.
+    /// The target of a relocation in an instance of the image.
     #[tactic(auto, unfolding(crate::specs::Loader::target_of))]
     fn target(&self, image: &Image, instance: &Instance, relocation: ImageRelocation) -> Target
         requires there { image_at self.now instance.now.image ≡ Some image.now }
@@ -36,8 +36,8 @@ impl Modules {
         }
     }
 
-    /// Writes what the relocation of a number asks for, as far as a window of a part shows it. The window begins `from`
-    /// bytes behind the part's start.
+    /// Writes the words of the relocation with this number, as far as they lie in a window of a part. The window
+    /// begins `from` bytes past the part's start.
     fn relocate(
         &self,
         image: &Image,
@@ -62,7 +62,7 @@ impl Modules {
         }
     }
 
-    /// Reads a window of a part as an instance has it.
+    /// Reads a window of a part of an instance.
     pub(crate) fn read_window(
         &self,
         image: &Image,
@@ -88,7 +88,7 @@ impl Modules {
         }
     }
 
-    /// How far the image of an instance is moved: what is added to each address of its file.
+    /// How far the image of an instance is moved: its load bias, which is added to each address of its file.
     #[tactic(auto, unfolding(crate::specs::Loader::bias_of))]
     pub fn bias(&self, instance: &Instance) -> u64
         ensures { result ≡ bias_of self.now instance.now }
@@ -110,7 +110,7 @@ impl Modules {
         }
     }
 
-    /// How many bytes a part of an instance has, by its number from 0; 0 where there is no such part.
+    /// How many bytes a part of an instance has, by its number from 0; 0 if there is no such part.
     pub fn part_size(&self, instance: &Instance, part: u64) -> u64
         ensures { result ≡ length (loaded_part self.now instance.now part) }
     {
@@ -123,8 +123,8 @@ impl Modules {
         }
     }
 
-    /// Copies bytes of a part of an instance as the loader leaves them, from an offset in the part on. They lie in the
-    /// part.
+    /// Copies bytes of a part of an instance, with its relocations done, from an offset in the part on. The
+    /// bytes lie in the part.
     pub fn copy_bytes(&self, instance: &Instance, part: u64, from: u64, into: &mut [u8])
         requires { from + length into.old ≤ length (loaded_part self.now instance.now part) }
         ensures value { into.new ≡ slice_range (loaded_part self.now instance.now part) from (from + length into.old) }

@@ -1,5 +1,5 @@
-//! What a loader writes for a relocation (psABI, "Relocation Types"; Drepper, "ELF Handling For Thread-Local Storage",
-//! section 4.4).
+//! The words that a loader writes for a relocation (psABI, "Relocation Types"; Drepper, "ELF Handling For Thread-Local
+//! Storage", section 4.4).
 
 ghost use Rattle.std.specs.Prelude.{◌≡◌, ◌<◌, ◌≤◌, ◌+◌, ◌^◌, ℕ, List, length};
 ghost use Rattle.elf_records.specs.Fields.{bytes_of, splice};
@@ -17,11 +17,11 @@ pub(crate) struct Target {
     pub(crate) id: u64,
     /// Its offset in that image's blocks.
     pub(crate) offset: u64,
-    /// How far below the thread pointer those begin, if that is fixed; else 0.
+    /// How far below the thread pointer these blocks begin, if that is fixed; else 0.
     pub(crate) distance: u64,
 }
 
-/// The one word or the two that a loader writes.
+/// The one or two words that a loader writes.
 #[derive(Clone, Copy)]
 pub(crate) struct Words {
     pub(crate) first: u64,
@@ -39,7 +39,7 @@ impl Words {
     }
 }
 
-/// How far a loader moves an image of this kind that it loads under this number.
+/// How far a loader moves an image of this kind when it loads it as this instance.
 #[tactic(auto, unfolding(crate::specs::Loader::bias))]
 pub(crate) fn bias(kind: FileKind, number: u32) -> u64
     ensures { result ≡ bias kind number }
@@ -50,7 +50,7 @@ pub(crate) fn bias(kind: FileKind, number: u32) -> u64
     }
 }
 
-/// What a relocation without a symbol means: the image itself, at the addend.
+/// The target of a relocation without a symbol: the image itself, at the addend.
 pub(crate) fn own_target(instance: &Instance, relocation: ImageRelocation) -> Target
     ensures { result ≡ own_target instance.now relocation }
 {
@@ -61,7 +61,7 @@ pub(crate) fn own_target(instance: &Instance, relocation: ImageRelocation) -> Ta
     }
 }
 
-/// What the loader writes for a relocation of this type.
+/// The words for a relocation of this type.
 pub(crate) fn words_of(
     kind: FileKind,
     instance: &Instance,
@@ -97,7 +97,7 @@ fn word_bytes(word: u64) -> [u8; 8]
     word.to_le_bytes()
 }
 
-/// Writes those of the bytes at `place` that lie in a window, which begins at `from`.
+/// Writes the bytes at `place` as far as they lie in a window that begins at `from`.
 fn overlay(window: &mut [u8], from: u64, place: u64, bytes: &[u8])
     requires window { from + length window.old < 2 ^ 64 }
     requires bytes { place + length bytes.now < 2 ^ 64 }
@@ -113,7 +113,7 @@ fn overlay(window: &mut [u8], from: u64, place: u64, bytes: &[u8])
     }
 }
 
-/// Whether so many bytes at `place` lie in a part, whole.
+/// Whether `count` bytes at `place` all lie in a part.
 pub(crate) fn lies_in(part: ImagePart, place: u64, count: u64) -> bool
     ensures { result ≡ lies_in (lent_part part.entry) place count }
 {
@@ -131,8 +131,8 @@ fn count_of(words: Words) -> u64
     }
 }
 
-/// Writes the words at `place` of a part that they lie in, as far as a window shows it, which begins `from` bytes
-/// behind the part's start.
+/// Writes the words at `place` of a part that holds them, as far as they lie in a window that begins `from` bytes
+/// past the part's start.
 fn put_words(window: &mut [u8], from: u64, place: u64, words: Words)
     requires window { from + length window.old < 2 ^ 64 }
     requires words { place + length (words_bytes words) < 2 ^ 64 }
@@ -146,7 +146,7 @@ fn put_words(window: &mut [u8], from: u64, place: u64, words: Words)
     }
 }
 
-/// Writes the words at their place, as far as a window of a part shows it, if they lie in the part.
+/// Writes the words at their place, as far as they lie in a window of a part, if the part holds them.
 pub(crate) fn relocate(window: &mut [u8], from: u64, part: ImagePart, place: u64, words: Words)
     requires { from + length window.old ≤ length part.bytes.now }
     ensures len { length window.new ≡ length window.old }

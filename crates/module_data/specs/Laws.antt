@@ -1,4 +1,4 @@
--- What loads and writes leave.
+-- The data after loads and writes.
 use Rattle.std.specs.Prelude.{◌≡◌, ◌==◌, ℕ, List, fold, reverse, Option, Some, option_map}
 use Rattle.std.specs.Prelude.{option_and_then, unwrap_or, slice_get, slice_set, slice_index}
 use Rattle.std.specs.List.{find}
@@ -18,7 +18,7 @@ unfoldable pub written : ℕ → List Piece → Write → List Piece
 written image d w = let piece = piece_of d image in
     slice_set d image (record { instance = piece.instance; bytes = slice_set piece.bytes w.at w.byte })
 
--- writes by whatever threads, the first first
+-- writes by any threads; the first in the list comes first
 abbrev pub after_writes : ℕ → List Piece → List Write → List Piece
 after_writes image d writes = fold (written image) d writes
 
@@ -30,7 +30,7 @@ last_written at writes = option_map (λ w. w.byte) (find (λ w. w.at == at) (rev
 unfoldable pub byte_read : List Piece → ℕ → ℕ → ℕ → Option ℕ
 byte_read d instance image at = option_and_then (λ bytes. slice_get bytes at) (data_of d instance image)
 
--- after a load and writes, what is read is what was last written there, or the fresh byte
+-- after a load and writes, a read gives what was last written there, or the fresh byte
 pub record ReadsLast (m : JobImages) (x : Instance) (d : List Piece) (writes : List Write) (at : ℕ) : Type 0 where
   pub last : byte_read (after_writes x.image (loaded m x d) writes) x.number x.image at
       ≡ Some (unwrap_or (last_written at writes) (slice_index (fresh_data m x) at))

@@ -1,11 +1,11 @@
--- What is left of data that were lent to be written.
+-- Data after they were lent for writing.
 use Rattle.std.specs.Prelude.{ℕ, List, ◌++◌, take, drop, length, slice_set, slice_index_or}
 use Rattle.std.specs.Borrow.{Lends, MutBor, Fml, Array, u8}
 use Rattle.module_data.specs.Pieces.{Piece, no_piece}
 use Rattle.module_data.specs.contracts.data.Data as whole
 use Rattle.module_data.specs.contracts.piece.ImageData as one
 
--- a slice keeps its length: what is written is cut to it, or filled up from what was there
+-- a slice keeps its length: new bytes are cut to it, or filled up with the old ones
 unfoldable pub refilled : List ℕ → List ℕ → List ℕ
 refilled old new = take (length old) (new ++ drop (length new) old)
 

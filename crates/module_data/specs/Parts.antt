@@ -25,17 +25,17 @@ abbrev pub is_number : Option ℕ → ℕ → Bool
 is_number None number = false
 is_number (Some other) number = other == number
 
--- a part that programs write: it is writable, and not the one that the loader alone writes (GNU_RELRO)
+-- a part that programs write: it is writable, and not the one that only the loader writes (GNU_RELRO)
 unfoldable pub is_data_part : Spelled → ℕ → Bool
 is_data_part image number = has_writable (slice_get image.parts number) && not (is_number image.got number)
 
--- the number of the first of them
+-- the number of the first such part
 unfoldable pub data_part : Spelled → Option ℕ
 data_part image = find (is_data_part image) (range_with_len 0 (length image.parts))
 
 -- ---- its bytes, and where they begin
 
--- that number, for the image that an instance is of
+-- that number for the image of an instance
 abbrev pub data_number : JobImages → Instance → Option ℕ
 data_number m x = option_and_then data_part (image_at m x.image)
 
@@ -43,7 +43,7 @@ abbrev pub bytes_at : JobImages → Instance → Option ℕ → List ℕ
 bytes_at m x None = []
 bytes_at m x (Some part) = loaded_part m x part
 
--- what an instance begins with: the part as the loader leaves it, and no byte where the image has none
+-- the data at an instance's start: the part as the loader leaves it; empty if the image has none
 unfoldable pub fresh_data : JobImages → Instance → List ℕ
 fresh_data m x = bytes_at m x (data_number m x)
 

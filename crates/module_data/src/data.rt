@@ -27,7 +27,7 @@ impl Model for Data {
     ghost view = { λ d. d.pieces.items };
 }
 
-/// Whether an image starts with the program, by its number from 1.
+/// Whether an image starts with the program, by its number, counted from 1.
 fn starts_at(modules: &Modules, number: u32) -> bool
     ensures { result ≡ starts_at modules.now number }
 {
@@ -66,7 +66,7 @@ fn first_piece(alloc: Global, modules: &Modules, number: u32) -> Result<ImageDat
 impl Data {
     ghost use Rattle.module_data.specs.Lending.{LendsData};
 
-    /// The data of no image, which stands where there are none yet, or while another holds them. It takes no memory.
+    /// No data: a value to hold before there are any, or while another holds them. It allocates no memory.
     pub fn none(alloc: Global) -> Data
         ensures { result ≡ [] }
     {
@@ -75,7 +75,7 @@ impl Data {
         }
     }
 
-    /// The data of a program that begins: each image that starts with it has its own, and a late image none.
+    /// The data at a program's start: each image that starts with it has its own, and a late image none.
     pub fn new(alloc: Global, modules: &Modules) -> Result<Data, AllocError>
         ensures { IfOk result (λ d. d ≡ first_data modules.now) }
     {
@@ -86,8 +86,8 @@ impl Data {
         Ok(Data { pieces })
     }
 
-    /// Loads an instance: its image's data become the fresh ones, and those of an older instance are gone. A number that
-    /// no image has changes nothing, and neither does a refusal.
+    /// Loads an instance: its image gets fresh data, and the data of an older instance are gone. A number without an
+    /// image changes nothing, and neither does a refusal.
     #[tactic(auto, unfolding(crate::specs::Pieces::loaded))]
     pub fn load(
         &mut self,
@@ -106,7 +106,7 @@ impl Data {
         Ok(())
     }
 
-    /// The data of an instance. `None` exactly where the image has no data of it.
+    /// The data of an instance. `None` exactly if the image has no data of that instance.
     #[tactic(auto, unfolding(crate::specs::Pieces::data_of))]
     pub fn bytes(&self, image: u32, instance: u32) -> Option<&[u8]>
         ensures { option_map (λ bytes. bytes.now) result ≡ data_of self.now instance image }
@@ -115,7 +115,7 @@ impl Data {
         piece.bytes_of(instance)
     }
 
-    /// The data of an instance, to be written. Their length stays, and so do the data of all other images.
+    /// The data of an instance, for writing. Their length stays, and so do the data of all other images.
     pub fn bytes_mut(&mut self, image: u32, instance: u32) -> &mut [u8]
         requires { is_some (data_of self.old instance image) ≡ true }
         ensures* writes_back { sem 𝓛 (LendsData self.entry image result) }
@@ -124,8 +124,8 @@ impl Data {
         self.pieces[image as usize].bytes_mut()
     }
 
-    /// A byte of an instance's data, by its offset. `None` exactly past their end, and where the image has no data of the
-    /// instance.
+    /// A byte of an instance's data, by its offset. `None` exactly past their end, or if the image has
+    /// no data of the instance.
     #[tactic(auto, unfolding(crate::specs::Laws::byte_read))]
     pub fn byte(&self, image: u32, instance: u32, at: u64) -> Option<u8>
         ensures { result ≡ byte_read self.now instance image at }
@@ -133,7 +133,7 @@ impl Data {
         self.bytes(image, instance)?.get(at as usize).copied()
     }
 
-    /// Writes a byte of an instance's data, at an offset that they have.
+    /// Writes a byte of an instance's data, at an offset inside them.
     pub fn set_byte(&mut self, image: u32, instance: u32, at: u64, byte: u8)
         requires { is_some (byte_read self.old instance image at) ≡ true }
         ensures { self.new ≡ written image self.old (record { at = at; byte = byte }) }
@@ -142,8 +142,8 @@ impl Data {
         bytes[at as usize] = byte;
     }
 
-    /// The address of the first byte of an instance's data: that of the part, as far as the loader moved it. `None`
-    /// exactly where the image has no data part.
+    /// The address of the first byte of an instance's data: that of the part, moved with the image. `None` exactly if
+    /// the image has no data part.
     pub fn start(&self, modules: &Modules, instance: &Instance) -> Option<u64>
         ensures { result ≡ data_start modules.now instance.now }
     {

@@ -1,4 +1,4 @@
-//! The data that an instance begins with.
+//! The data at an instance's start.
 
 ghost use Rattle.std.specs.Prelude.{◌≡◌, IfOk};
 ghost use Rattle.module_data.specs.Parts.{fresh_data};
@@ -7,7 +7,7 @@ use crate::part::data_number;
 use loaded_modules::{Instance, Modules};
 use std::alloc::{AllocError, Global};
 
-/// The data of an instance before any write; none where its image has no data part.
+/// The data of an instance before any write; empty if its image has no data part.
 #[tactic(auto, unfolding(crate::specs::Parts::fresh_data))]
 pub(crate) fn fresh_bytes(
     alloc: Global,

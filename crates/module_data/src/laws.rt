@@ -23,35 +23,35 @@ pub fn late_images_begin_without()
         → data_of (first_data m) instance number ≡ None }
 {}
 
-/// A byte that some thread reads is the one that was last written there, by whatever thread, or else the fresh one.
+/// A byte that a thread reads is the one that was last written there, by any thread, or else the fresh one.
 #[tactic(auto, using(crate::proofs::Written::reads_last))]
 pub fn reads_give_what_was_last_written()
     ensures { (m : JobImages) (x : Instance) (d : List Piece) (writes : List Write) (at : ℕ) → 1 ≤ x.number
         → x.image < length d → at < length (fresh_data m x) → ReadsLast m x d writes at }
 {}
 
-/// A load leaves the data of all other images.
+/// A load changes no data of other images.
 #[tactic(auto, using(crate::proofs::Written::loads_leave_others))]
 pub fn loads_leave_other_images()
     ensures { (m : JobImages) (x : Instance) (d : List Piece) (instance image : ℕ) → (image ≡ x.image → ⊥)
         → data_of (loaded m x d) instance image ≡ data_of d instance image }
 {}
 
-/// After a load an image has no data of any other instance: a write to a closed one can't come back.
+/// After a load an image has no data of any other instance: a write to a closed one cannot come back.
 #[tactic(auto, using(crate::proofs::Written::loads_end_others))]
 pub fn loads_end_other_instances()
     ensures { (m : JobImages) (x : Instance) (d : List Piece) (instance : ℕ) → (instance ≡ x.number → ⊥)
         → x.image < length d → data_of (loaded m x d) instance x.image ≡ None }
 {}
 
-/// Writes leave the data of all other images.
+/// Writes change no data of other images.
 #[tactic(auto, using(crate::proofs::Written::writes_leave_others))]
 pub fn writes_leave_other_images()
     ensures { (d : List Piece) (writes : List Write) (instance image other : ℕ) → (other ≡ image → ⊥)
         → data_of (after_writes image d writes) instance other ≡ data_of d instance other }
 {}
 
-/// Asks that threads may move a type's values, and share them.
+/// Checks that threads may move and share a type's values.
 fn crosses_threads<T: Send + Sync>() {}
 
 /// Threads may move and share the data.

@@ -22,7 +22,7 @@ fn is_number(part: Option<u64>, number: u64) -> bool
     }
 }
 
-/// Whether programs write a part: it is writable, and not the one that the loader alone writes.
+/// Whether programs write a part: it is writable, and not the one that only the loader writes.
 #[tactic(auto, unfolding(crate::specs::Parts::is_data_part))]
 fn is_data_part(image: &Image, number: u64) -> bool
     ensures { result ≡ is_data_part image.now number }
@@ -46,7 +46,7 @@ pub fn data_part(image: &Image) -> Option<u64>
     None
 }
 
-/// The same of the image that an instance is of.
+/// That number for the image of an instance.
 pub(crate) fn data_number(modules: &Modules, instance: &Instance) -> Option<u64>
     ensures { result ≡ data_number modules.now instance.now }
 {

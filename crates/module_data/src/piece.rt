@@ -12,7 +12,7 @@ use std::marker::Model;
 /// The data of one image. Contracts see a `Piece`.
 #[derive(Drop)]
 pub(crate) struct ImageData {
-    /// The number of the instance that they are of, or 0.
+    /// The number of the instance to which they belong, or 0.
     instance: u32,
     bytes: Vec<u8>,
 }
@@ -28,7 +28,7 @@ impl Model for ImageData {
 impl ImageData {
     ghost use Rattle.module_data.specs.Lending.{LendsBytes};
 
-    /// Those of an image that is not loaded.
+    /// The data of an image that is not loaded.
     #[tactic(auto, unfolding(crate::specs::Pieces::no_piece))]
     pub(crate) fn none(alloc: Global) -> ImageData
         ensures { result ≡ no_piece }
@@ -39,7 +39,7 @@ impl ImageData {
         }
     }
 
-    /// Those that an instance begins with.
+    /// The data at an instance's start.
     pub(crate) fn fresh(
         alloc: Global,
         modules: &Modules,
@@ -53,14 +53,14 @@ impl ImageData {
         })
     }
 
-    /// Whether they are an instance's.
+    /// Whether they belong to an instance.
     pub(crate) fn is_of(&self, instance: u32) -> bool
         ensures { result ≡ is_of instance self.now }
     {
         instance > 0 && self.instance == instance
     }
 
-    /// Their bytes, if they are the instance's.
+    /// Their bytes, if they belong to the instance.
     pub(crate) fn bytes_of(&self, instance: u32) -> Option<&[u8]>
         ensures { option_map (λ bytes. bytes.now) result ≡ bytes_of_instance instance self.now }
     {
@@ -71,7 +71,7 @@ impl ImageData {
         }
     }
 
-    /// Their bytes, to be written.
+    /// Their bytes, for writing.
     pub(crate) fn bytes_mut(&mut self) -> &mut [u8]
         ensures* writes_back { sem 𝓛 (LendsBytes self.entry result) }
         ensures value { result.now ≡ self.old.bytes }

@@ -14,24 +14,24 @@ use Rattle.module_table.specs.Past.{Past, module_of, start, past, opened, releas
 use Rattle.module_table.specs.Past.{is_legal}
 
 -- the images, how far below the thread pointer the last startup image's block begins, the events so far, and for how
--- many more events memory is there
+-- many more events there is memory
 pub record History : Type 0 where
   pub infos : List ImageInfo
   pub last_offset : ℕ
   pub events : List Event
   pub spare : ℕ
 
--- what the events so far leave
+-- the state after the events so far
 unfoldable pub left : History → Past
 left h = past h.infos h.last_offset h.events
 
--- a history of images that may stand in a registry: each event is accepted after those before it
+-- a history of images that a registry may have: each event is accepted after those before it
 pub record IsLegal (infos : List ImageInfo) (last_offset : ℕ) (events : List Event) : Type 0 where
   pub images : AreInfos infos
   pub low : last_offset < 2 ^ 27
   pub each : is_legal (start infos last_offset) events ≡ true
 
--- ---- changes; the memory that is there is left out of them
+-- ---- changes; the reserved memory is left out
 
 pub record IsSame (old new : History) : Type 0 where
   pub infos : new.infos ≡ old.infos
@@ -45,17 +45,17 @@ pub record Adds (old : History) (event : Event) (new : History) : Type 0 where
 
 -- ---- answers
 
--- an answer, unless it is refused
+-- an answer, unless there is a refusal
 abbrev pub unless : {A R : Type 0} → Option R → A → Result A R
 unless None answer = Ok answer
 unless (Some refusal) answer = Err refusal
 
--- what an open gives: the image's instance and id after it
+-- the result of an open: the image's instance and id after it
 unfoldable pub opened_of : History → ℕ → Opened
 opened_of h image = let m =
     module_of (opened (left h) image) image in record { instance = m.instance; id = m.id; at = length h.events }
 
--- what a close gives: whether the image is loaded no more after it
+-- the result of a close: whether the image is no longer loaded after it
 unfoldable pub closed_of : History → ℕ → Closed
 closed_of h image = record
     { at = length h.events; gone = not (is_loaded (module_of (released (left h) image) image)) }
@@ -66,7 +66,7 @@ open_answer h image = unless (open_refusal (left h) image) (opened_of h image)
 unfoldable pub close_answer : History → ℕ → Result Closed CloseRefusal
 close_answer h image = unless (close_refusal (left h) image) (closed_of h image)
 
--- a refusal of an open: the defined one, or want of memory for an event that is not refused
+-- a refusal of an open: the defined one, or out of memory if the event is not refused
 abbrev pub OpenRefused : History → ℕ → OpenRefusal → Type 0
 OpenRefused h image NoRoomToOpen = IsOk (open_answer h image) × (h.spare ≡ 0)
 OpenRefused h image refusal = open_answer h image ≡ Err refusal

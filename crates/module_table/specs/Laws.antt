@@ -1,4 +1,4 @@
--- What every history keeps, in words that know nothing of its walk's steps.
+-- What holds of every history, whatever the steps of its walk.
 use Rattle.std.specs.Prelude.{◌≡◌, ◌≢◌, ◌+◌, ◌<◌, ◌≤◌, ◌==◌, ℕ, Bool, true, false, not, ◌&&◌, if◌then◌else◌, List, []}
 use Rattle.std.specs.Prelude.{◌∷◌, ◌++◌, count_by, All, AllPairs, Some, None}
 use Rattle.std.specs.Int.{next_multiple_of}
@@ -18,7 +18,7 @@ opens_of image events = count_by (λ (e : Event). e.opens && (e.image == image))
 abbrev pub closes_of : ℕ → List Event → ℕ
 closes_of image events = count_by (λ (e : Event). not e.opens && (e.image == image)) events
 
--- an image is held open as often as it was opened more than closed; a startup image once more
+-- an image's number of uses is its opens minus its closes, plus one for a startup image
 abbrev pub Balances : List ImageInfo → ℕ → List Event → ℕ → Type 0
 Balances infos last_offset events image =
     (module_of (past infos last_offset events) image).uses + closes_of image events
@@ -39,7 +39,7 @@ abbrev pub CountsInstances : List ImageInfo → ℕ → List Event → Type 0
 CountsInstances infos last_offset events =
     (past infos last_offset events).made ≡ startup_count infos + load_count (start infos last_offset) events
 
--- no two loaded images have one instance, or one module id
+-- no two loaded images have the same instance, or the same module id
 abbrev pub HaveOwnNumbers : Past → Type 0
 HaveOwnNumbers p = (a b : ℕ) → a ≢ b → is_loaded (module_of p a) ≡ true → is_loaded (module_of p b) ≡ true
     → ((module_of p a).instance ≢ (module_of p b).instance) × ((module_of p a).id ≢ (module_of p b).id)
@@ -62,7 +62,7 @@ pub record Block : Type 0 where
   pub offset : ℕ
   pub size : ℕ
 
--- the byte that lies so far below the thread pointer is one of the block
+-- the byte that lies this far below the thread pointer belongs to the block
 abbrev pub Covers : Block → ℕ → Type 0
 Covers b distance = (distance ≤ b.offset) × (b.offset < distance + b.size)
 
@@ -90,7 +90,7 @@ surplus_blocks p (e ∷ es) = let m = module_of p e.image in if loads p e && m.i
     then record { offset = next_offset p m; size = m.info.size } ∷ surplus_blocks (after_one p e) es
     else surplus_blocks (after_one p e) es
 
--- no two blocks of the history overlap, startup blocks among them
+-- no two blocks of the history overlap, startup blocks included
 abbrev pub BlocksAreApart : List ImageInfo → ℕ → List Event → Type 0
 BlocksAreApart infos last_offset events =
     AllPairs AreApart (startup_blocks infos 0 ++ surplus_blocks (start infos last_offset) events)
@@ -99,14 +99,14 @@ BlocksAreApart infos last_offset events =
 abbrev pub block_of : Module → ℕ → Block
 block_of m offset = record { offset = offset; size = m.info.size }
 
--- nor do those that are in use, and each lies past the startup blocks
+-- no two blocks in use overlap, and each lies past the startup blocks
 pub record InstancesAreApart (last_offset : ℕ) (p : Past) : Type 0 where
   pub apart : (a b x y : ℕ) → a ≢ b → (module_of p a).offset ≡ Some x → (module_of p b).offset ≡ Some y
       → AreApart (block_of (module_of p a) x) (block_of (module_of p b) y)
   pub above : (a x : ℕ) → (module_of p a).offset ≡ Some x → last_offset + (module_of p a).info.size ≤ x
   pub below : (a x : ℕ) → (module_of p a).offset ≡ Some x → x ≤ last_offset + SURPLUS
 
--- and the surplus is large enough for them
+-- the surplus is large enough for its blocks
 abbrev pub BlocksFit : List ImageInfo → ℕ → List Event → Type 0
 BlocksFit infos last_offset events =
     All (λ (b : Block). b.offset ≤ last_offset + SURPLUS) (surplus_blocks (start infos last_offset) events)

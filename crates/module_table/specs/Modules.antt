@@ -4,20 +4,20 @@ use Rattle.std.specs.Prelude.{AllPairs}
 use Rattle.module_table.specs.declared.modules.ImageInfo.{ImageInfo}
 use Rattle.module_table.specs.declared.modules.Module.{Module}
 
--- a TLS segment of at most 2^20 bytes, whose alignment is 1 to 4,096
+-- a TLS segment of at most 2^20 bytes, with an alignment from 1 to 4,096
 pub record IsInfo (info : ImageInfo) : Type 0 where
   pub small : info.size ≤ 2 ^ 20
   pub aligned : 0 < info.align
   pub page : info.align ≤ 4096
 
--- 1 to 64 images, late ones last
+-- from 1 to 64 images, late ones last
 pub record AreInfos (infos : List ImageInfo) : Type 0 where
   pub some : 1 ≤ length infos
   pub few : length infos ≤ 64
   pub late_last : AllPairs (λ (a b : ImageInfo). a.late ≡ true → b.late ≡ true) infos
   pub each : All IsInfo infos
 
--- the module of a number that no image has
+-- the module of a number without an image
 abbrev pub no_module : Module
 no_module = record {
   info = record { late = false; statics = false; size = 0; align = 1 };

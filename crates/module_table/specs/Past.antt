@@ -1,8 +1,8 @@
--- What a history of opens and closes leaves: a walk along the list of events, one step an event. Nothing here is a
--- table of the code: no slot by id or by instance, no set of free ids. Module ids and blocks are those of Drepper,
--- "ELF Handling For Thread-Local Storage", section 3: blocks that start with the program lie below the thread pointer
--- (variant II), and a late module may ask for one there by `DF_STATIC_TLS` (gABI, "Dynamic Section"). How many bytes
--- are kept for those, and that none is given twice, is this linker's own rule.
+-- The state after a history of opens and closes: a walk along the list of events, one step for each event. Nothing
+-- here is a table of the code: no slot by id or by instance, no set of free ids. Module ids and blocks are those of
+-- Drepper, "ELF Handling For Thread-Local Storage", section 3: blocks of modules that start with the program lie
+-- below the thread pointer (variant II), and a late module may ask for one there by `DF_STATIC_TLS` (gABI, "Dynamic
+-- Section"). How many bytes are reserved for those, and that none is given twice, is this linker's own rule.
 use Rattle.std.specs.Prelude.{◌≡◌, ◌==◌, ◌+◌, ◌-◌, ◌<◌, ◌≤◌, ℕ, Bool, true, false, not, ◌&&◌, nat_lt, nat_le}
 use Rattle.std.specs.Prelude.{zero, suc, if◌then◌else◌, List, [], ◌∷◌, length, slice_index_or, slice_set, fold}
 use Rattle.std.specs.Prelude.{count_by, position, Option, Some, None, is_some, is_none, option_map, option_and_then}
@@ -20,7 +20,7 @@ use Rattle.module_table.specs.declared.events.CloseRefusal.TheVariants.{Permanen
 use Rattle.module_table.specs.Modules.{no_module, is_loaded, is_permanent}
 
 -- how many events there were, how many instances were made, how far below the thread pointer the static blocks reach
--- and may reach, and each image, numbered from 1 (at 0 there is none)
+-- and may reach, and each image, numbered from 1 (entry 0 is no image)
 pub record Past : Type 0 where
   pub seen : ℕ
   pub made : ℕ
@@ -34,7 +34,7 @@ module_of p image = slice_index_or p.modules image no_module
 
 -- ---- the start
 
--- a startup image is loaded once and for all, and its number is its instance's and its module id
+-- a startup image is always loaded, and its number is its instance's and its module id
 abbrev pub first_module : ImageInfo → ℕ → Module
 first_module info image = if info.late
     then record { info = info; uses = 0; instance = 0; id = 0; offset = None }
@@ -61,11 +61,11 @@ start infos last_offset = record {
 
 -- ---- questions
 
--- it is loaded, as that instance
+-- it is loaded as this instance
 abbrev pub has_instance : ℕ → Module → Bool
 has_instance instance m = is_loaded m && (m.instance == instance)
 
--- it is loaded, under that module id
+-- it is loaded with this module id
 abbrev pub has_id : ℕ → Module → Bool
 has_id id m = is_loaded m && (m.id == id)
 
@@ -77,7 +77,7 @@ image_of p instance = position (has_instance instance) p.modules
 unfoldable pub live : Past → ℕ → Bool
 live p instance = is_some (image_of p instance)
 
--- how far below the thread pointer a live instance's block begins, if it is one of the static surplus
+-- how far below the thread pointer a live instance's block begins, if the block is in the static surplus
 unfoldable pub offset : Past → ℕ → Option ℕ
 offset p instance = option_and_then (λ image. (module_of p image).offset) (image_of p instance)
 
@@ -91,12 +91,12 @@ instance_of p id = option_map (λ image. (module_of p image).instance) (position
 
 -- ---- refusals
 
--- where a block of the image would begin in the static surplus: past what was given, at a multiple of its alignment,
--- as variant II slots a next block: `tlsoffset = round(before + memsz, align)`
+-- where a block of the image would begin in the static surplus: past the bytes given so far, at a multiple of its
+-- alignment, as variant II places the next block: `tlsoffset = round(before + memsz, align)`
 abbrev pub next_offset : Past → Module → ℕ
 next_offset p m = next_multiple_of (p.taken + m.info.size) m.info.align
 
--- why an open is refused; the first in this order
+-- why an open is refused; the first reason in this order
 unfoldable pub open_refusal : Past → ℕ → Option OpenRefusal
 open_refusal p image =
     let m = module_of p image in
@@ -105,7 +105,7 @@ open_refusal p image =
     if nat_le MOST_INSTANCES p.made then Some Full else (
     if m.info.statics && nat_lt p.limit (next_offset p m) then Some StaticFull else None)))
 
--- why a close is refused; the first in this order
+-- why a close is refused; the first reason in this order
 unfoldable pub close_refusal : Past → ℕ → Option CloseRefusal
 close_refusal p image =
     let m = module_of p image in
@@ -113,7 +113,7 @@ close_refusal p image =
 
 -- ---- one event
 
--- the least of so many ids, from one on, that no live instance has; the next id where each of them is taken
+-- the least of these ids, from one on, that no live instance has; the id after them if each is taken
 abbrev pub least_from : List Module → ℕ → ℕ → ℕ
 least_from modules zero id = id
 least_from modules (suc more) id = if list_any (has_id id) modules then least_from modules more (id + 1) else id
@@ -122,7 +122,7 @@ least_from modules (suc more) id = if list_any (has_id id) modules then least_fr
 unfoldable pub least_free : List Module → ℕ
 least_free modules = least_from modules (length modules) 1
 
--- no live instance has the id, and one has each id from 1 on below it
+-- no live instance has the id, and each id from 1 up to it belongs to one
 pub record IsLeastFree (modules : List Module) (id : ℕ) : Type 0 where
   pub low : 1 ≤ id
   pub free : list_any (has_id id) modules ≡ false
@@ -149,7 +149,7 @@ loaded p image = let m = module_of p image in record {
   modules = slice_set p.modules image (new_instance p m);
 }
 
--- the image, held open so often
+-- the image, with this number of uses
 abbrev pub with_uses : Past → ℕ → ℕ → Past
 with_uses p image uses =
     record p { seen = p.seen + 1; modules = slice_set p.modules image (record (module_of p image) { uses = uses }) }
@@ -158,7 +158,7 @@ with_uses p image uses =
 unfoldable pub retained : Past → ℕ → Past
 retained p image = with_uses p image ((module_of p image).uses + 1)
 
--- a close; what the surplus gave is not given back
+-- a close; bytes of the surplus are not given back
 unfoldable pub released : Past → ℕ → Past
 released p image = with_uses p image ((module_of p image).uses - 1)
 
@@ -174,7 +174,7 @@ after_one p e = if e.opens then opened p e.image else released p e.image
 abbrev pub after : Past → List Event → Past
 after p events = fold after_one p events
 
--- what a history leaves
+-- the state after a history
 unfoldable pub past : List ImageInfo → ℕ → List Event → Past
 past infos last_offset events = after (start infos last_offset) events
 

@@ -1,4 +1,4 @@
--- What the tables of the code hold, and how they stand to what a history leaves.
+-- What the tables of the code hold, by the state after a history.
 use Rattle.std.specs.Prelude.{◌≡◌, ◌≤◌, ◌<◌, ◌+◌, ◌^◌, ℕ, count_by, true, false, if◌then◌else◌, List, length}
 use Rattle.std.specs.Prelude.{All, slice_index, slice_index_or, Option, Some, None}
 use Rattle.module_table.specs.declared.TheConstants.{MOST_INSTANCES, MOST_IDS}
@@ -11,12 +11,12 @@ use Rattle.module_table.specs.Past.{Past, module_of, image_of, instance_of, has_
 abbrev pub past_of : Inside → Past
 past_of t = record { seen = t.seen; made = t.made; taken = t.taken; limit = t.limit; modules = t.modules.items }
 
--- what a loaded image's numbers keep: its instance was made, and its id is 1 to 64
+-- a loaded image's numbers: its instance was made, and its id is from 1 to 64
 pub record IsNumbered (made : ℕ) (m : Module) : Type 0 where
   pub instance : is_loaded m ≡ true → m.instance ≤ made
   pub id : HasSmallId m
 
--- what every history leaves keeps
+-- what holds of the state after every history
 pub record IsPast (p : Past) : Type 0 where
   pub few : length p.modules ≤ 65
   pub none : module_of p 0 ≡ no_module
@@ -27,12 +27,12 @@ pub record IsPast (p : Past) : Type 0 where
   pub uses : All (λ (m : Module). m.uses ≤ p.seen + 1) p.modules
   pub numbered : All (IsNumbered p.made) p.modules
 
--- each loaded image stands in the table under its key
+-- the table has each loaded image under its key
 pub record Finds (key : Module → ℕ) (slots : List ℕ) (modules : List Module) : Type 0 where
   pub at : (image : ℕ) → is_loaded (slice_index_or modules image no_module) ≡ true
       → slice_index slots (key (slice_index_or modules image no_module)) ≡ image
 
--- the tables of what a history leaves: images by instance and by id, and the ids in use
+-- the tables for a state: images by instance and by id, and the ids in use
 pub record AreTables (p : Past) (by_instance by_id : List ℕ) (word : ℕ) : Type 0 where
   pub past : IsPast p
   pub instances : length by_instance ≡ MOST_INSTANCES + 1
@@ -44,7 +44,7 @@ pub record AreTables (p : Past) (by_instance by_id : List ℕ) (word : ℕ) : Ty
 abbrev pub HoldsTables : Inside → Type 0
 HoldsTables t = AreTables (past_of t) t.image_by_instance.items t.image_by_id.items t.ids.word
 
--- two slots for images are not loaded: the one of no image, and another
+-- two entries of the images are not loaded: that of no image, and another
 abbrev pub HasFreeId : Past → Type 0
 HasFreeId p = count_by is_loaded p.modules + 2 ≤ length p.modules
 
@@ -61,7 +61,7 @@ IsTheImage p instance None = image_of p instance ≡ None
 IsTheImage p instance (Some image) =
     image_of p instance ≡ (if has_instance instance (module_of p image) then Some image else None)
 
--- no other image is loaded under the id
+-- no other image is loaded with the id
 abbrev pub IsTheImageUnder : Past → ℕ → Option ℕ → Type 0
 IsTheImageUnder p id None = instance_of p id ≡ None
 IsTheImageUnder p id (Some image) =

@@ -14,7 +14,7 @@ and_assoc : (a b c : Bool) → (a && (b && c)) ≡ ((a && b) && c)
 and_assoc true b c = refl
 and_assoc false b c = refl
 
--- one event is one event more
+-- one event raises the count of events by one
 pub seen-after_one : (p : Past) (e : Event) → (after_one p e).seen ≡ p.seen + 1
 unfolding after_one opened loaded retained released
 seen-after_one p e = elim e.opens as

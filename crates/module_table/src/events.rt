@@ -1,13 +1,13 @@
-//! The events of the history, and what an open or a close answers.
+//! The events of the history, and the results of an open and of a close.
 
 use thiserror::Error;
 
 /// A successful open or close of a late image, as the history of modules keeps it.
 #[derive(Clone, Copy, PartialEq, Eq, Debug)]
 pub struct Event {
-    /// The thread, from 1.
+    /// The thread, counted from 1.
     pub thread: u32,
-    /// Which of the thread's lines it was, from 1.
+    /// Which of the thread's lines it was, counted from 1.
     pub line: u32,
     /// Whether it opened the image; else it closed it.
     pub opens: bool,
@@ -15,23 +15,23 @@ pub struct Event {
     pub image: u32,
 }
 
-/// What an open gives: the live instance of the image.
+/// The result of an open: the live instance of the image.
 #[derive(Clone, Copy, PartialEq, Eq, Debug)]
 pub struct Opened {
-    /// The instance, from 1: a new one where the image was not loaded.
+    /// The instance, counted from 1: a new one if the image was not loaded.
     pub instance: u32,
-    /// Its module id, from 1.
+    /// Its module id, from 1 on.
     pub id: u64,
     /// How many events came before this one.
     pub at: u64,
 }
 
-/// What a close gives.
+/// The result of a close.
 #[derive(Clone, Copy, PartialEq, Eq, Debug)]
 pub struct Closed {
     /// How many events came before this one.
     pub at: u64,
-    /// Whether this was the last close, so that the instance is live no more.
+    /// Whether this was the last close, so that the instance is no longer live.
     pub gone: bool,
 }
 
@@ -44,10 +44,10 @@ pub enum OpenRefusal {
     /// The image is not loaded, and 4,095 instances were made.
     #[error("no more instances can be made")]
     Full,
-    /// The image is not loaded, its blocks are static, and what is left of the static surplus has no room for one.
+    /// The image is not loaded, its blocks are static, and the rest of the static surplus is too small for one.
     #[error("the static surplus has no room for the image")]
     StaticFull,
-    /// There was no memory for the event.
+    /// Memory ran out for the event.
     #[error("out of memory")]
     OutOfMemory,
 }
@@ -61,7 +61,7 @@ pub enum CloseRefusal {
     /// The image was closed as often as it was opened, or no image has the number.
     #[error("the image is not open")]
     NotOpen,
-    /// There was no memory for the event.
+    /// Memory ran out for the event.
     #[error("out of memory")]
     OutOfMemory,
 }

@@ -3,7 +3,7 @@
 ghost use Rattle.std.specs.Prelude.{◌≡◌, ◌+◌, ◌-◌, ◌<◌, ◌≤◌, ◌^◌};
 ghost use Rattle.module_table.specs.Marks.{AddsId, RemovesId, IsLeastAbsent, HasRoom};
 
-/// Which of the module ids 1 to 64 are in use: bit `id - 1` is set for each that is.
+/// Which of the module ids 1 to 64 are in use: bit `id - 1` is set if `id` is.
 #[derive(Clone, Copy)]
 pub(crate) struct IdSet {
     pub word: u64,

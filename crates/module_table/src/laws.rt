@@ -12,8 +12,8 @@ use crate::modules::Module;
 use crate::registry::Registry;
 use crate::table::ModuleTable;
 
-/// An image is held open as often as it was opened more than closed; a startup image once more, so it is always
-/// loaded.
+/// The number of uses of an image is its opens minus its closes, plus one for a startup image,
+/// which so is always loaded.
 #[tactic(auto, using(crate::proofs::LawsOfNumbers::balances))]
 pub fn opens_and_closes_balance()
     ensures { (infos : List ImageInfo) (last_offset : ℕ) (events : List Event) (image : ℕ)
@@ -27,14 +27,14 @@ pub fn loads_are_counted()
         → CountsInstances infos last_offset events }
 {}
 
-/// No two loaded images have one instance, or one module id.
+/// No two loaded images have the same instance, or the same module id.
 #[tactic(auto, using(crate::proofs::LawsOfNumbers::own_numbers))]
 pub fn numbers_are_their_own()
     ensures { (infos : List ImageInfo) (last_offset : ℕ) (events : List Event) → IsLegal infos last_offset events
         → HaveOwnNumbers (past infos last_offset events) }
 {}
 
-/// An instance that was closed for the last time is never live again, so what is kept under its number is no other's.
+/// An instance that was closed for the last time is never live again, so data kept under its number belong to no other.
 #[tactic(auto, using(crate::proofs::LawsOfEnds::ends_for_good))]
 pub fn instances_end_for_good()
     ensures { (infos : List ImageInfo) (last_offset : ℕ) (front rest : List Event) (instance : ℕ)
@@ -48,8 +48,7 @@ pub fn loads_take_the_least_id()
         → LoadsTakeLeastId (past infos last_offset events) }
 {}
 
-/// No two static blocks of a history overlap, those of startup images among them: no byte of the surplus is given
-/// twice.
+/// No two static blocks of a history overlap, startup images' blocks included: no byte of the surplus is given twice.
 pub fn static_blocks_are_apart()
     ensures { (infos : List ImageInfo) (last_offset : ℕ) (events : List Event) → startup_end infos 0 ≤ last_offset
         → BlocksAreApart infos last_offset events }
@@ -70,7 +69,7 @@ pub fn instances_have_their_own_bytes()
         → InstancesAreApart last_offset (past infos last_offset events) }
 {}
 
-/// Asks that threads may move a type's values, and share them.
+/// Checks that threads may move and share a type's values.
 fn crosses_threads<T: Send + Sync>() {}
 
 /// Threads may move and share a registry, and all that it is made of.

@@ -1,4 +1,4 @@
-//! The registry of modules: one list of opens and closes, from which everything else follows.
+//! The registry of modules: one list of opens and closes, which decides everything else.
 
 ghost use Rattle.std.specs.Prelude.{◌≡◌, ◌<◌, ◌≤◌, ◌^◌, [], drop, length, true, IfOk, IfErr, OnErr, OnOk, Ok, false};
 ghost use Rattle.module_table.specs.Modules.{AreInfos};
@@ -14,7 +14,7 @@ use std::alloc::{AllocError, Global};
 use std::marker::Model;
 
 /// The history of modules. Contracts see a `History`: its images, the last startup image's offset, its events, and
-/// for how many more events memory is there.
+/// for how many more events it has memory.
 #[derive(Drop)]
 pub struct Registry {
     infos: Vec<ImageInfo>,
@@ -53,7 +53,7 @@ impl Registry {
         })
     }
 
-    /// What the history leaves.
+    /// The state after the history.
     fn table(&self) -> &ModuleTable
         ensures { result.now ≡ left self.now }
     {
@@ -90,8 +90,8 @@ impl Registry {
         self.table().instance_of(id)
     }
 
-    /// How far below the thread pointer the block of a live instance begins; `None` exactly where the instance is not
-    /// live, or has no offset in the static surplus.
+    /// How far below the thread pointer the block of a live instance begins; `None` exactly if the instance is not
+    /// live, or its block is not in the static surplus.
     pub fn offset(&self, instance: u32) -> Option<u64>
         ensures { result ≡ offset (left self.now) instance }
     {
@@ -107,14 +107,14 @@ impl Registry {
         &self.events[at as usize..]
     }
 
-    /// An image as the history leaves it.
+    /// The state of an image after the history.
     fn module(&self, image: u32) -> Module
         ensures { result ≡ module_of (left self.now) image }
     {
         self.table().module(image)
     }
 
-    /// Makes memory for one more event: after it, one open or close cannot answer `OutOfMemory`.
+    /// Reserves memory for one more event: the next open or close then does not return `OutOfMemory`.
     pub fn reserve(&mut self) -> Result<(), AllocError>
         ensures spare { OnOk result (1 ≤ self.new.spare) }
         ensures same { IsSame self.old self.new }
@@ -124,7 +124,7 @@ impl Registry {
         Ok(())
     }
 
-    /// The same history once more.
+    /// A copy of the history.
     pub fn copy(&self) -> Result<Registry, AllocError>
         ensures { IfOk result (λ registry. IsSame self.now registry) }
     {
@@ -136,7 +136,7 @@ impl Registry {
         })
     }
 
-    /// Puts an event at the end of the history: the one call that does.
+    /// Appends an event to the history; no other call does.
     fn add(&mut self, event: Event) -> Result<(), AllocError>
         requires { accepts (left self.old) event ≡ true }
         ensures ok { OnOk result (Adds self.old event self.new) }
@@ -157,7 +157,7 @@ impl Registry {
         self.table().open_refusal(image)
     }
 
-    /// A thread's line opens an image. The refusals, in order: `Unknown`, `Full`, `StaticFull`, `OutOfMemory`.
+    /// Opens an image for a thread's line. The refusals, in order: `Unknown`, `Full`, `StaticFull`, `OutOfMemory`.
     #[tactic(auto, using(crate::proofs::HistoryLemmas::opening))]
     pub fn open(&mut self, thread: u32, line: u32, image: u32) -> Result<Opened, OpenRefusal>
         ensures opened { IfOk result (λ opened. open_answer self.old image ≡ Ok opened) }
@@ -196,7 +196,7 @@ impl Registry {
         self.table().close_refusal(image)
     }
 
-    /// A thread's line closes an image. The refusals, in order: `Permanent`, `NotOpen`, `OutOfMemory`.
+    /// Closes an image for a thread's line. The refusals, in order: `Permanent`, `NotOpen`, `OutOfMemory`.
     #[tactic(auto, using(crate::proofs::HistoryLemmas::closing))]
     pub fn close(&mut self, thread: u32, line: u32, image: u32) -> Result<Closed, CloseRefusal>
         ensures closed { IfOk result (λ closed. close_answer self.old image ≡ Ok closed) }

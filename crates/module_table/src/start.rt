@@ -17,7 +17,7 @@ pub(crate) fn startup_count(infos: &[ImageInfo]) -> u32
     infos.iter().filter(|info| !info.late).count() as u32
 }
 
-/// The images by their numbers, with none at 0.
+/// The images by their numbers; entry 0 is no image.
 pub(crate) fn first_modules(alloc: Global, infos: &[ImageInfo]) -> Result<Vec<Module>, AllocError>
     requires { length infos.now ≤ 64 }
     ensures { IfOk result (λ modules. modules.items ≡ no_module ∷ first_modules infos.now 1) }
@@ -44,8 +44,8 @@ pub(crate) fn ids_of(modules: &[Module]) -> IdSet
     ids
 }
 
-/// A table whose every key names the image of its own number: right for startup images, and read for no other key,
-/// since a key counts only where the image that it names is loaded under it.
+/// A table in which every key names the image of its own number. That is right for startup images, and does not
+/// matter for other keys, since a key counts only if its image is loaded under it.
 pub(crate) fn own_numbers(alloc: Global, count: u32) -> Result<Vec<u32>, AllocError>
     ensures len { IfOk result (λ slots. length slots.items ≡ count) }
     ensures each { IfOk result (λ slots. (k : ℕ) → k < count → slice_index slots.items k ≡ k) }

@@ -14,26 +14,25 @@ use crate::{MOST_IDS, MOST_INSTANCES, SURPLUS};
 use std::alloc::{AllocError, Global};
 use std::marker::Model;
 
-/// What a history leaves. Contracts see a `Past`.
+/// The state after a history. Contracts see a `Past`.
 ///
-/// Two tables lead from a number to an image. They are written at a load and never cleared: an entry counts only
-/// where the image that it names is loaded under the number that was looked up, so a close writes no more than the
-/// image itself.
+/// Two tables lead from a number to an image. A load writes them, and nothing clears them: an entry counts only if its
+/// image is loaded under the number of the entry, so a close changes only the image itself.
 #[derive(Drop)]
 pub struct ModuleTable {
     /// How many events there were.
     seen: u64,
-    /// How many instances were made, startup ones counted.
+    /// How many instances were made, startup ones included.
     made: u32,
     /// How far below the thread pointer the static blocks reach.
     taken: u64,
     /// How far they may reach.
     limit: u64,
-    /// The images by their numbers, with none at 0.
+    /// The images by their numbers; entry 0 is no image.
     modules: Vec<Module>,
     image_by_instance: Vec<u32>,
     image_by_id: Vec<u32>,
-    /// The ids of the live instances, so that the least free one is found at once.
+    /// The ids of the live instances, to find the least free one at once.
     ids: IdSet,
 }
 
@@ -49,7 +48,7 @@ impl Model for ModuleTable {
     ghost invariant = { HoldsTables };
 }
 
-/// The image that a table names under a key; none past the table's end.
+/// The image of a key in a table; `None` past the table's end.
 fn image_in(images: &[u32], key: usize) -> Option<u32>
     ensures { result ≡ slice_get images.now key }
 {
@@ -61,8 +60,8 @@ impl ModuleTable {
     ghost use Rattle.module_table.specs.Past.{new_instance, least_free, IsLeastFree};
     ghost use Rattle.module_table.specs.Tables.{IsTheImage, IsTheImageUnder, CanLoad, HasFreeId};
 
-    /// The tables before any event, of these images, where the last startup image's block begins so far below the
-    /// thread pointer.
+    /// The tables before any event, for these images; the last startup image's block begins `last_offset` bytes
+    /// below the thread pointer.
     pub fn new(
         alloc: Global,
         infos: &[ImageInfo],
@@ -88,7 +87,7 @@ impl ModuleTable {
         })
     }
 
-    /// The same tables once more.
+    /// A copy of the tables.
     pub fn copy(&self) -> Result<ModuleTable, AllocError>
         ensures { IfOk result (λ table. table ≡ self.now) }
     {
@@ -111,7 +110,7 @@ impl ModuleTable {
         self.seen
     }
 
-    /// An image as the history leaves it; none of a number that no image has.
+    /// The state of an image after the history; [`Module::NONE`] for a number without an image.
     pub fn module(&self, image: u32) -> Module
         ensures { result ≡ module_of self.now image }
     {
@@ -121,8 +120,8 @@ impl ModuleTable {
             .unwrap_or(Module::NONE)
     }
 
-    /// Where a block of the image would begin in the static surplus: past what was given, at a multiple of its
-    /// alignment.
+    /// Where a block of the image would begin in the static surplus: past the bytes given so far, at a
+    /// multiple of its alignment.
     fn next_offset(&self, image: u32) -> u64
         ensures value { result ≡ next_offset self.now (module_of self.now image) }
     {
@@ -130,7 +129,7 @@ impl ModuleTable {
         (self.taken + info.size).next_multiple_of(info.align)
     }
 
-    /// Whether what is left of the static surplus has no room for a block of the image.
+    /// Whether the rest of the static surplus is too small for a block of the image.
     fn lacks_room(&self, image: u32) -> bool
         ensures { result ≡ nat_lt self.now.limit (next_offset self.now (module_of self.now image)) }
     {
@@ -196,14 +195,14 @@ impl ModuleTable {
         }
     }
 
-    /// The one image that could be loaded as an instance.
+    /// The one image that may be loaded as an instance.
     fn image_at(&self, instance: u32) -> Option<u32>
         ensures { IsTheImage self.now instance result }
     {
         image_in(&self.image_by_instance, instance as usize)
     }
 
-    /// The one image that could be loaded under a module id.
+    /// The one image that may be loaded with a module id.
     fn image_under(&self, id: u64) -> Option<u32>
         ensures { IsTheImageUnder self.now id result }
     {
@@ -242,8 +241,8 @@ impl ModuleTable {
         self.image_of(instance).is_some()
     }
 
-    /// How far below the thread pointer the block of a live instance begins; `None` where it has no offset in the
-    /// static surplus.
+    /// How far below the thread pointer the block of a live instance begins; `None` if the block is not
+    /// in the static surplus.
     #[tactic(auto, unfolding(crate::specs::Past::offset))]
     pub fn offset(&self, instance: u32) -> Option<u64>
         ensures { result ≡ offset self.now instance }
@@ -275,7 +274,7 @@ impl ModuleTable {
         }
     }
 
-    /// Takes an open of an image that is not loaded.
+    /// Applies an open of an image that is not loaded.
     fn load(&mut self, image: u32)
         requires can { CanLoad self.old image }
         requires room { self.old.seen < 2 ^ 63 }
@@ -291,7 +290,7 @@ impl ModuleTable {
         self.modules[image as usize] = module;
     }
 
-    /// Takes an open of a loaded image, which makes no instance.
+    /// Applies an open of a loaded image, which makes no instance.
     fn retain(&mut self, image: u32)
         requires loaded { is_loaded (module_of self.old image) ≡ true }
         requires room { self.old.seen < 2 ^ 63 }
@@ -303,7 +302,7 @@ impl ModuleTable {
         self.modules[image as usize] = module;
     }
 
-    /// Takes a close of an image that stays loaded.
+    /// Applies a close of an image that stays loaded.
     fn release(&mut self, image: u32)
         requires more { 1 < (module_of self.old image).uses }
         requires room { self.old.seen < 2 ^ 63 }
@@ -315,7 +314,7 @@ impl ModuleTable {
         self.modules[image as usize] = module;
     }
 
-    /// Takes the last close of an image. Its id is free from then on; what the static surplus gave is not given back.
+    /// Applies the last close of an image. Its id becomes free; its bytes of the static surplus are not given back.
     fn unload(&mut self, image: u32)
         requires last { (module_of self.old image).uses ≡ 1 }
         requires room { self.old.seen < 2 ^ 63 }
@@ -328,7 +327,7 @@ impl ModuleTable {
         self.modules[image as usize] = module;
     }
 
-    /// Takes an open.
+    /// Applies an open.
     #[tactic(auto, using(crate::proofs::Refusals::can_load), unfolding(crate::specs::Past::opened))]
     fn open(&mut self, image: u32)
         requires accepted { open_refusal self.old image ≡ None }
@@ -342,7 +341,7 @@ impl ModuleTable {
         }
     }
 
-    /// Takes a close.
+    /// Applies a close.
     #[tactic(auto, using(crate::proofs::Refusals::held))]
     fn close(&mut self, image: u32)
         requires accepted { close_refusal self.old image ≡ None }
@@ -356,7 +355,7 @@ impl ModuleTable {
         }
     }
 
-    /// Takes an event that is accepted. It takes no memory, and its cost does not grow with the history.
+    /// Applies an event that is accepted. It allocates no memory, and its cost does not grow with the history.
     #[tactic(auto, using(crate::proofs::Refusals::accepts_open, crate::proofs::Refusals::accepts_close), unfolding(crate::specs::Past::after_one))]
     pub fn accept(&mut self, event: Event)
         requires accepted { accepts self.old event ≡ true }

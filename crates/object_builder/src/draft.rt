@@ -8,26 +8,26 @@ use elf_records::symbol::STB_LOCAL;
 use elf_records::{Header, Rela, SectionHeader, SymbolEntry};
 use std::alloc::{AllocError, Global};
 
-/// The records of an object, in the order of the file. A field that is changed is written as it is.
+/// The records of an object, in the order of the file. A field that a caller changes is written as changed.
 #[derive(Drop)]
 pub struct Draft {
     pub header: Header,
-    /// The headers of sections, number 0 included. The last three are of the symbols, of their names and of the
-    /// sections' names.
+    /// The headers of sections, number 0 included. The last three are those of the symbols, of the names of symbols
+    /// and of the names of sections.
     pub sections: Vec<SectionHeader>,
-    /// What sections hold, one behind the other.
+    /// The contents of sections, one after another.
     pub contents: Vec<u8>,
-    /// The relocations of all sections, one behind the other.
+    /// The relocations of all sections, one after another.
     pub relocations: Vec<Rela>,
     /// The symbols, number 0 included.
     pub symbols: Vec<SymbolEntry>,
-    /// The names of symbols, each behind a zero byte.
+    /// The names of symbols, each after a zero byte.
     pub names: Vec<u8>,
     /// The names of sections.
     pub section_names: Vec<u8>,
 }
 
-/// The bytes of an object of these sections and symbols.
+/// The bytes of the object with these sections and symbols.
 pub fn object_of(
     alloc: Global,
     sections: &[Section],
@@ -36,7 +36,7 @@ pub fn object_of(
     draft_of(alloc, sections, symbols)?.bytes(alloc)
 }
 
-/// The records of an object of these sections and symbols.
+/// The records of the object with these sections and symbols.
 pub fn draft_of(
     alloc: Global,
     sections: &[Section],
@@ -64,12 +64,12 @@ struct Layout {
     symbols: u64,
 }
 
-/// Where entries of this size end, of which the first one stands at an offset.
+/// Where `entries` entries of `size` bytes end, if the first one is at `offset`.
 fn behind(offset: u64, entries: usize, size: u64) -> u64 {
     offset.saturating_add((entries as u64).saturating_mul(size))
 }
 
-/// Where the parts of an object of these sections and symbols lie.
+/// Where the parts of the object with these sections and symbols lie.
 fn layout_of(sections: &[Section]) -> Layout {
     let mut table = 1_u32;
     let mut bytes = 0_u64;
@@ -101,7 +101,7 @@ fn first_shared(symbols: &[Symbol]) -> u32 {
     number
 }
 
-/// An object of nothing but the reserved section and symbol.
+/// An object with only the reserved section and symbol.
 fn nothing(alloc: Global, layout: &Layout) -> Result<Draft, AllocError> {
     let reserved = SymbolEntry {
         name: 0,
@@ -122,7 +122,7 @@ fn nothing(alloc: Global, layout: &Layout) -> Result<Draft, AllocError> {
     })
 }
 
-/// The header of an object of so many sections, number 0 included.
+/// The file header of an object with `sections` sections, number 0 included.
 fn file_header(sections: u32) -> Header {
     let count = u16::try_from(sections).unwrap_or(u16::MAX);
     Header {
@@ -143,7 +143,7 @@ fn file_header(sections: u32) -> Header {
     }
 }
 
-/// A header of a section of so many bytes from an offset of the file on.
+/// The header of a section of `size` bytes that begins at `offset` in the file.
 fn section_of(name: u32, kind: u32, offset: u64, size: u64) -> SectionHeader {
     SectionHeader {
         name,
@@ -159,7 +159,7 @@ fn section_of(name: u32, kind: u32, offset: u64, size: u64) -> SectionHeader {
     }
 }
 
-/// Adds a name to a string table, and says at which offset it stands.
+/// Adds a name to a string table, and returns its offset.
 fn add_name(table: &mut Vec<u8>, name: &[u8]) -> Result<u32, AllocError> {
     let at = u32::try_from(table.len()).unwrap_or(u32::MAX);
     table.extend_from_slice(name)?;
@@ -168,7 +168,7 @@ fn add_name(table: &mut Vec<u8>, name: &[u8]) -> Result<u32, AllocError> {
 }
 
 impl Draft {
-    /// Adds a section, and behind it the one of its relocations, if it has any.
+    /// Adds a section and then the section of its relocations, if it has any.
     fn add_section(&mut self, section: &Section, layout: &Layout) -> Result<(), AllocError> {
         let number = u32::try_from(self.sections.len()).unwrap_or(u32::MAX);
         let name = add_name(&mut self.section_names, section.name)?;
@@ -184,7 +184,7 @@ impl Draft {
         self.add_relocations(section.relocations, number, layout)
     }
 
-    /// Adds the section of relocations of the section of this number.
+    /// Adds the section with the relocations of the section of this number.
     fn add_relocations(
         &mut self,
         relocations: &[Rela],
@@ -211,7 +211,8 @@ impl Draft {
         Ok(())
     }
 
-    /// Adds the symbol table, whose first symbol that is not LOCAL has this number, and the two string tables.
+    /// Adds the symbol table, whose first symbol that is not LOCAL has number `first_shared`, and
+    /// the two string tables.
     fn add_tables(&mut self, layout: &Layout, first_shared: u32) -> Result<(), AllocError> {
         let name = add_name(&mut self.section_names, b".symtab")?;
         let size = behind(0, self.symbols.len(), SymbolEntry::SIZE);

@@ -1,4 +1,4 @@
-//! What an object is made of: sections, each with its relocations, and symbols.
+//! The parts of an object: sections with their relocations, and symbols.
 
 ghost use Rattle.std.specs.Prelude.{◌<◌};
 
@@ -8,7 +8,7 @@ use elf_records::section_header::{
 use elf_records::symbol::{STB_GLOBAL, STB_LOCAL};
 use elf_records::{Rela, SymbolEntry};
 
-/// A section. Its bytes and relocations are lent.
+/// A section. It borrows its bytes and relocations.
 #[derive(Clone, Copy, Debug)]
 pub struct Section<'a> {
     pub name: &'a [u8],
@@ -18,7 +18,7 @@ pub struct Section<'a> {
     pub alignment: u64,
     /// The bytes in the file.
     pub bytes: &'a [u8],
-    /// How many bytes there are in memory.
+    /// How many bytes it has in memory.
     pub size: u64,
     pub relocations: &'a [Rela],
 }
@@ -109,7 +109,7 @@ fn entry_of(info: u8, section: u16, value: u64, size: u64) -> SymbolEntry {
 }
 
 impl<'a> Symbol<'a> {
-    /// A GLOBAL symbol of a type, as `STT_FUNC`, so far behind the start of the section.
+    /// A GLOBAL symbol of a type such as `STT_FUNC`, `value` bytes past the start of the section.
     pub fn global(name: &'a [u8], kind: u8, section: u16, value: u64, size: u64) -> Symbol<'a>
         requires { kind < 16 }
     {
@@ -130,7 +130,7 @@ impl<'a> Symbol<'a> {
     }
 }
 
-/// A relocation of a type, as `R_X86_64_TPOFF32`, for the field at an offset.
+/// A relocation of a type such as `R_X86_64_TPOFF32`, for the field at an offset.
 pub fn rela(offset: u64, kind: u32, symbol: u32, addend: i64) -> Rela {
     Rela {
         offset,

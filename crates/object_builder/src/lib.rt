@@ -1,6 +1,6 @@
 //! Relocatable objects for tests: sections and symbols in, the bytes of a file out.
 //!
-//! A test that needs an object names what is in it, and never a byte of the file:
+//! A test that needs an object names its sections and symbols, and never a byte of the file:
 //!
 //! ```text
 //! let sections = [
@@ -11,16 +11,15 @@
 //! let bytes = object_of(alloc, &sections, &symbols)?;
 //! ```
 //!
-//! Sections are numbered from 1 in their order, and the relocations of one are a section of their own, right behind
-//! it, as an assembler has it (gABI, "Sections"). Behind these come the symbol table, its names, and the names of
-//! sections. Symbols are numbered from 1 in their order; LOCAL ones come first, as the gABI wants it ("Symbol Table").
+//! Sections are numbered from 1 in their order. The relocations of a section are a section of their own, right after
+//! it, as assemblers write it (gABI, "Sections"). Then come the symbol table, its names, and the names of sections.
+//! Symbols are numbered from 1 in their order; LOCAL ones come first, as the gABI requires ("Symbol Table").
 //!
-//! For an object that is not as it should be, [`draft_of`] gives the same as records: change a field of one, then
-//! write the [`Draft`]. The bytes are written by `elf_records`, so a field stands where the gABI has it. No call
-//! judges what it is given.
+//! To make a malformed object, take its records from [`draft_of`], change a field, and write the [`Draft`].
+//! `elf_records` writes the bytes, so each field stands where the gABI puts it. No call checks its input.
 //!
-//! [`put_header`] and those beside it put records behind the bytes of a file. Each ensures that these bytes are kept, and
-//! that behind them stand those of the records, one after the other.
+//! [`put_header`] and its like for other records append records to the bytes of a file. Each ensures that these bytes
+//! stay as they are, and that the records' bytes follow, one record after another.
 #![tactic(auto)]
 
 mod draft;

@@ -1,4 +1,4 @@
-//! Records at the end of a file's bytes.
+//! Appends records to a file's bytes.
 
 ghost use Rattle.std.specs.Prelude.{◌≡◌, ◌++◌, OnOk};
 ghost use Rattle.std.specs.List.{flat_map};
@@ -17,7 +17,7 @@ const SYMBOL_SIZE: usize = SymbolEntry::SIZE as usize;
 
 const RELA_SIZE: usize = Rela::SIZE as usize;
 
-/// Puts the header of a file behind the bytes.
+/// Appends the header of a file.
 pub fn put_header(bytes: &mut Vec<u8>, header: &Header) -> Result<(), AllocError>
     ensures { OnOk result (bytes.new.items ≡ bytes.old.items ++ header_bytes header.now) }
 {
@@ -26,7 +26,7 @@ pub fn put_header(bytes: &mut Vec<u8>, header: &Header) -> Result<(), AllocError
     bytes.extend_from_slice(&record)
 }
 
-/// Puts the headers of sections behind the bytes, in their order.
+/// Appends the headers of sections, in their order.
 pub fn put_sections(bytes: &mut Vec<u8>, sections: &[SectionHeader]) -> Result<(), AllocError>
     ensures { OnOk result (bytes.new.items ≡ bytes.old.items ++ flat_map section_bytes sections.now) }
 {
@@ -38,7 +38,7 @@ pub fn put_sections(bytes: &mut Vec<u8>, sections: &[SectionHeader]) -> Result<(
     Ok(())
 }
 
-/// Puts symbols behind the bytes, in their order.
+/// Appends symbols, in their order.
 pub fn put_symbols(bytes: &mut Vec<u8>, symbols: &[SymbolEntry]) -> Result<(), AllocError>
     ensures { OnOk result (bytes.new.items ≡ bytes.old.items ++ flat_map symbol_bytes symbols.now) }
 {
@@ -50,7 +50,7 @@ pub fn put_symbols(bytes: &mut Vec<u8>, symbols: &[SymbolEntry]) -> Result<(), A
     Ok(())
 }
 
-/// Puts relocations behind the bytes, in their order.
+/// Appends relocations, in their order.
 pub fn put_relocations(bytes: &mut Vec<u8>, relocations: &[Rela]) -> Result<(), AllocError>
     ensures { OnOk result (bytes.new.items ≡ bytes.old.items ++ flat_map rela_bytes relocations.now) }
 {

@@ -1,4 +1,4 @@
--- What a check keeps of an object.
+-- What the reader keeps of an object after the checks.
 use Rattle.std.specs.Prelude.{◌≡◌, ℕ, List, length}
 use Rattle.object_faults.specs.Parts.{header}
 use Rattle.object_faults.specs.Tables.{AreTargets}

@@ -11,7 +11,7 @@ use Rattle.object_faults.specs.declared.class.TheConstants.{CLASS_FLAGS, SHF_TLS
 use Rattle.elf_records.specs.Alignments as records
 use Rattle.object_faults.specs.Parts.{section, IsSection}
 
--- the class of flags, those that all classes may have left out, and a type
+-- the class of flags, without those that any class may have, and of a type
 abbrev pub class_row : ℕ → ℕ → Option SectionClass
 class_row flags kind =
     if flags == SHF_EXECINSTR then (if kind == SHT_PROGBITS then Some Executable else None) else
@@ -28,7 +28,7 @@ class_row flags kind =
 unfoldable pub class_of : SectionHeader → Option SectionClass
 class_of h = if bit_and h.flags SHF_ALLOC == 0 then None else class_row (bit_and h.flags CLASS_FLAGS) h.kind
 
--- a class, but for a writable section of no bytes
+-- the class, but none for a writable section of no bytes
 abbrev pub kept_of : Option SectionClass → ℕ → Option SectionClass
 kept_of (Some (Writable initial)) size = if size == 0 then None else Some (Writable initial)
 kept_of class size = class
@@ -50,6 +50,6 @@ abbrev pub IsTls : Option SectionClass → Type 0
 IsTls (Some (Tls _)) = Unit {0}
 IsTls _ = ⊥
 
--- an alignment that a section may ask for; 0 asks for as little as 1
+-- an alignment that a section may have; 0 means 1
 abbrev pub IsAlignment : ℕ → Type 0
 IsAlignment n = (n ≡ 0) ⊎ records.IsAlignment n

@@ -66,14 +66,14 @@ HasPartPastEnd b s = IsSection b s × HasBytes (section b s) × (length b < (sec
 abbrev pub PassesEnd : List ℕ → ℕ → Type 0
 PassesEnd b s = ((s ≡ 0) × (length b < (header b).e_shoff + 64 * (header b).e_shnum)) ⊎ HasPartPastEnd b s
 
--- the section's flags and type fit no class, or it is of a type that linking refuses
+-- the section's flags and type fit no class, or linking refuses its type
 abbrev pub IsRefused : SectionHeader → Type 0
 IsRefused h =
     (h.kind ≡ SHT_REL) ⊎ (h.kind ≡ SHT_GROUP) ⊎ (h.kind ≡ SHT_SYMTAB_SHNDX)
     ⊎ ((bit_and h.flags SHF_TLS ≢ 0) × (bit_and h.flags SHF_ALLOC ≡ 0))
     ⊎ ((bit_and h.flags SHF_ALLOC ≢ 0) × IsNone (class_of h))
 
--- a section of symbols that is a second one, or whose entries, names or first global symbol are not as they should be
+-- a section of symbols that is a second one, or whose entry size, size, string table or first global symbol is wrong
 abbrev pub IsBadTable : List ℕ → ℕ → Type 0
 IsBadTable b s =
     (s ≢ symbol_table b) ⊎ ((section b s).entsize ≢ 24) ⊎ ((section b s).size % 24 ≢ 0)
@@ -103,7 +103,7 @@ IsMisnamed b symbol =
 abbrev pub IsDropped : List ℕ → ℕ → Type 0
 IsDropped b s = IsSection b s × (IsKept (section b s) → ⊥)
 
--- a place that no symbol of this binding may be defined in
+-- the symbol's place is not one where a symbol of its binding may be defined
 abbrev pub IsMisdefined : List ℕ → SymbolEntry → Type 0
 IsMisdefined b symbol =
     ((symbol.shndx ≢ SHN_UNDEF) × (symbol.shndx ≢ SHN_ABS) × (IsSection b symbol.shndx → ⊥))
@@ -115,7 +115,7 @@ IsMisdefined b symbol =
 abbrev pub IsTlsSection : List ℕ → ℕ → Type 0
 IsTlsSection b s = IsSection b s × IsTls (kept_class (section b s))
 
--- no type of symbol that linking knows
+-- a type of symbol that linking does not know
 abbrev pub IsUnknown : ℕ → Type 0
 IsUnknown kind = (kind ≡ 5) ⊎ (STT_TLS < kind)
 
@@ -130,7 +130,7 @@ IsMistyped b symbol =
 abbrev pub IsSecond : List ℕ → ℕ → Type 0
 IsSecond b r = (q : ℕ) × (q < r) × IsRela b q × ((section b q).info ≡ (section b r).info)
 
--- a section of relocations whose target is none, or, where linking keeps the target, which is not as it should be
+-- a section of relocations has no target, or linking keeps the target and the section does not fit it
 abbrev pub IsMistargeted : List ℕ → ℕ → Type 0
 IsMistargeted b r =
     (IsSection b (section b r).info → ⊥)
@@ -140,13 +140,13 @@ IsMistargeted b r =
     ⊎ (((section b (section b r).info).kind ≡ SHT_NOBITS) × ((section b r).size ≢ 0))
     ⊎ IsSecond b r))
 
--- the symbol that a relocation names is none, or one that has no place
+-- a relocation names no symbol, or a symbol that has no place
 abbrev pub IsUnplaced : List ℕ → ℕ → Type 0
 IsUnplaced b e =
     (e ≡ 0) ⊎ (symbol_count b ≤ e)
     ⊎ ((e < symbol_count b) × (((symbol b e).shndx ≡ SHN_ABS) ⊎ IsDropped b (symbol b e).shndx))
 
--- the type is not of the list, or it belongs to an instruction and the target is no code
+-- the type is not in the list, or it belongs to an instruction and the target is not code
 abbrev pub IsMiskinded : Option RelocationKind → Option SectionClass → Type 0
 IsMiskinded None class = Unit {0}
 IsMiskinded (Some kind) class = IsOfCode kind × (class ≢ Some Executable)
@@ -193,7 +193,7 @@ Stands WritableData b s e = ⊥
 abbrev pub Nowhere : FaultKind → List ℕ → Type 0
 Nowhere kind b = (s e : ℕ) → Stands kind b s e → ⊥
 
--- the least number at which P holds, or that there is none
+-- the least number at which P holds, or that it holds at none
 abbrev pub IsFirstAt : (ℕ → Type 0) → Option ℕ → Type 0
 IsFirstAt P None = (e : ℕ) → P e → ⊥
 IsFirstAt P (Some e) = P e × ((f : ℕ) → f < e → P f → ⊥)
@@ -216,12 +216,12 @@ pub record IsFirst (b : List ℕ) (s e : ℕ) (kind : FaultKind) : Type 0 where
   pub nowhere_earlier : (t f : ℕ) → Earlier t f s e → Stands kind b t f → ⊥
   pub earlier_kinds : NoneBelow (number kind) b
 
--- what a refusal says of the bytes; of want of memory nothing
+-- what a refusal says of the bytes; nothing when memory runs out
 abbrev pub IsFault : List ℕ → ObjectFault → Type 0
 IsFault b OutOfMemory = Unit {0}
 IsFault b (At s e kind) = IsFirst b s e kind
 
--- what a step says that asked all kinds up to number n
+-- what a step returns that checked all kinds up to number n
 abbrev pub Answers : {X : Type 0} → ℕ → List ℕ → Result X ObjectFault → Type 0
 Answers n b (Ok _) = NoneBelow (n + 1) b
 Answers n b (Err fault) = IsFault b fault

@@ -4,7 +4,7 @@ use Rattle.std.proofs.Common.{add-one, nat_lt, if◌then◌else◌}
 use Rattle.std.proofs.lemmas.Bool.Decides.{nat_tests}
 use Rattle.object_faults.specs.Firsts.{first_below}
 
--- what stays of an earlier find r, or else of a test's answer q at n
+-- the result after n + 1 tests: an earlier find r, or else m where the test q at n passes
 later : (r m n : ℕ) (q : Bool) → 0 < n → r ≡ n → (if nat_lt 0 r then r else (if q then m else 0)) ≡ n
 later r m n q above same = grind (arith, nat_tests)
 

@@ -11,6 +11,6 @@ byte_of b s k = slice_index b ((section b s).offset + k)
 abbrev pub Ends : List ℕ → ℕ → ℕ → Type 0
 Ends b s at = EndsIn b (section b s).offset (section b s).size at
 
--- n is the offset behind the last zero byte of string table s, or 0 where it has none
+-- n is the offset after the last zero byte of string table s, or 0 where it has none
 abbrev pub IsEndOfNames : List ℕ → ℕ → ℕ → Type 0
 IsEndOfNames b s n = IsNamesEnd b (section b s).offset (section b s).size n

@@ -38,7 +38,7 @@ table_is b some =
     let found = first_passes (is_table b) (header b).e_shnum some in
     (found.1, (of_both (symbol_table b) (section b (symbol_table b)).kind 2 found.0).1)
 
--- where a section holds symbols, there is a symbol table, and none comes before it
+-- where a section holds symbols, there is a symbol table, and no section of symbols comes before it
 pub table_least : (b : List ℕ) (s : ℕ) → 0 < s → s < (header b).e_shnum → (section b s).kind ≡ 2
     → (0 < symbol_table b) × (symbol_table b ≤ s)
 unfolding symbol_table

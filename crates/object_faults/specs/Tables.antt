@@ -20,7 +20,7 @@ pub record AreSymbols (b : List ℕ) (symbols : Symbols) : Type 0 where
   pub names_end_is : 0 < symbols.table → IsStrings b (section b symbols.table).link
       → IsEndOfNames b (section b symbols.table).link symbols.names_end
 
--- where the relocations of section r lie, and what of their target the tests ask
+-- where the relocations of section r lie, and what the checks need of their target
 pub record AreRelocs (b : List ℕ) (r : ℕ) (relocs : RelocTable) : Type 0 where
   pub of_kept : IsRela b r × IsKeptSection b (section b r).info
   pub at_is : relocs.at ≡ (section b r).offset
@@ -33,7 +33,7 @@ pub record AreRelocs (b : List ℕ) (r : ℕ) (relocs : RelocTable) : Type 0 whe
 abbrev pub AreTargetsBelow : List ℕ → ℕ → List ℕ → Type 0
 AreTargetsBelow b n found = (t : ℕ) → t < (header b).e_shnum → slice_index found t ≡ first_below (relocates b t) n
 
--- the same of all sections
+-- so for all sections
 abbrev pub AreTargets : List ℕ → List ℕ → Type 0
 AreTargets b found = (t : ℕ) → t < (header b).e_shnum → slice_index found t ≡ relocation_table b t
 

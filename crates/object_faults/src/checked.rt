@@ -1,4 +1,4 @@
-//! All kinds of fault, asked in their order.
+//! All kinds of fault, checked in their order.
 
 ghost use Rattle.std.specs.Prelude.{◌≡◌, IfOk, IfErr};
 ghost use Rattle.object_faults.specs.Faults.{IsFault, NoneBelow, Answers};
@@ -13,7 +13,7 @@ use crate::walk::most_to_mark;
 use object_rules::{ObjectFault, RelocFault, SectionFault, SymbolFault};
 use std::alloc::Global;
 
-/// Asks what is wrong with sections.
+/// Checks all sections.
 fn ask_all_sections(tables: &Tables) -> Result<(), ObjectFault>
     requires { NoneBelow 3 tables.now.bytes.now }
     ensures { Answers 6 tables.now.bytes.now result }
@@ -25,7 +25,7 @@ fn ask_all_sections(tables: &Tables) -> Result<(), ObjectFault>
     Ok(())
 }
 
-/// Asks what is wrong with symbols.
+/// Checks all symbols.
 fn ask_all_symbols(tables: &Tables) -> Result<(), ObjectFault>
     requires { NoneBelow 7 tables.now.bytes.now }
     ensures { Answers 11 tables.now.bytes.now result }
@@ -38,7 +38,7 @@ fn ask_all_symbols(tables: &Tables) -> Result<(), ObjectFault>
     Ok(())
 }
 
-/// Asks what is wrong with relocations by themselves.
+/// Checks each relocation by itself.
 fn ask_each_reloc(tables: &Tables) -> Result<(), ObjectFault>
     requires { NoneBelow 13 tables.now.bytes.now }
     ensures { Answers 15 tables.now.bytes.now result }
@@ -49,7 +49,7 @@ fn ask_each_reloc(tables: &Tables) -> Result<(), ObjectFault>
     Ok(())
 }
 
-/// Asks what is wrong with relocations. Which fault is the first is asked only where one walk found that there is one.
+/// Checks all relocations. It looks for the first fault only if one walk has found that there is a fault.
 fn ask_all_relocs(alloc: Global, tables: &Tables) -> Result<(), ObjectFault>
     requires { NoneBelow 13 tables.now.bytes.now }
     ensures { Answers 16 tables.now.bytes.now result }
@@ -64,11 +64,11 @@ fn ask_all_relocs(alloc: Global, tables: &Tables) -> Result<(), ObjectFault>
 #[derive(Drop)]
 pub struct FaultFree<'a> {
     pub tables: Tables<'a>,
-    /// Of each section, which one holds its relocations; 0 where none does.
+    /// For each section, the section that holds its relocations, or 0.
     pub targets: Vec<u32>,
 }
 
-/// Asks all kinds of fault. Answers the first one that stands, or what is kept of an object in which none does.
+/// Checks for all kinds of fault. Returns the first fault, or what is kept of an object without faults.
 #[tactic(auto, using(crate::proofs::Order::object_of))]
 pub fn fault_free(alloc: Global, bytes: &[u8]) -> Result<FaultFree<'_>, ObjectFault>
     ensures bytes { IfOk result (λ object. object.tables.bytes.now ≡ bytes.now) }

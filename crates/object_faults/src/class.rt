@@ -22,11 +22,11 @@ pub enum SectionClass {
     Writable { initial: bool },
 }
 
-/// Flags that decide a class. SHF_ALLOC, which each class has, and SHF_MERGE and SHF_STRINGS, which each may have, do
-/// not.
+/// The flags that decide a class. SHF_ALLOC, which each class has, and SHF_MERGE and SHF_STRINGS, which each
+/// may have, decide nothing.
 pub const CLASS_FLAGS: u64 = !(SHF_ALLOC | SHF_MERGE | SHF_STRINGS);
 
-/// The flags of thread-local storage, which is written.
+/// The flags of thread-local storage, which programs write.
 pub const SHF_TLS_WRITE: u64 = SHF_TLS | SHF_WRITE;
 
 /// The class of these flags and this type.

@@ -9,7 +9,7 @@ use elf_records::symbol::SHN_LORESERVE;
 use elf_records::{Header, SectionHeader, fits, read_header, section_numbered};
 use object_rules::{FaultKind, ObjectFault, fault_at};
 
-/// The bytes of a relocatable file whose table of section headers lies in it.
+/// The bytes of a relocatable file that holds its whole table of section headers.
 #[derive(Clone, Copy)]
 pub struct Headers<'a> {
     pub bytes: &'a [u8],
@@ -68,7 +68,7 @@ fn file_header(bytes: &[u8]) -> Option<Header>
     read_header(bytes, 0)
 }
 
-/// Reads the file's header, and asks what is wrong with it or with where the table lies.
+/// Reads the file's header, and checks it and where the table lies.
 pub fn headers_of(bytes: &[u8]) -> Result<Headers<'_>, ObjectFault>
     ensures headers { IfOk result (λ headers. headers.bytes.now ≡ bytes.now) }
     ensures fault { IfErr result (IsFault bytes.now) }

@@ -1,5 +1,5 @@
-//! Fields of relocations that share a byte, found in one pass: each byte of a target keeps the mark of the section
-//! whose relocation covered it last.
+//! Finds in one pass relocations whose fields share a byte: each byte of a target keeps the mark of the section whose
+//! relocation covered it last.
 
 ghost use Rattle.std.specs.Prelude.{◌≡◌, ◌≢◌, ◌+◌, ◌<◌, ◌≤◌, ◌↔◌, ◌⊎◌, ℕ, length, slice_index, IsTrue, IfNone};
 ghost use Rattle.std.specs.Prelude.{MatchOption};
@@ -59,8 +59,8 @@ fn mark_field(
     mark(marks, rela.offset as usize, end as usize, section as u32)
 }
 
-/// The first entry of a section whose field shares a byte with that of an earlier one. No byte has the section's mark
-/// before.
+/// The first entry of a section whose field shares a byte with that of an earlier one. No byte has the
+/// section's mark before the call.
 fn overlap_in(tables: &Tables, section: u64, marks: &mut [u32]) -> Option<u64>
     requires section { IsSection tables.now.bytes.now section }
     requires room { HasRoom tables.now.bytes.now section (length marks.old) }
@@ -77,8 +77,8 @@ fn overlap_in(tables: &Tables, section: u64, marks: &mut [u32]) -> Option<u64>
     None
 }
 
-/// The first entry of a section whose field shares a byte with that of an earlier one. Marks are taken only where the
-/// fields do not rise.
+/// The first entry of a section whose field shares a byte with that of an earlier one. It sets marks only if
+/// the fields do not rise.
 fn first_overlap(tables: &Tables, section: u64, marks: &mut [u32]) -> Option<u64>
     requires section { IsSection tables.now.bytes.now section }
     requires earlier { NoneBelow 16 tables.now.bytes.now }
@@ -90,12 +90,12 @@ fn first_overlap(tables: &Tables, section: u64, marks: &mut [u32]) -> Option<u64
     match walk_over(tables, section) {
         Walk::Rising => None,
         Walk::Scattered => overlap_in(tables, section, marks),
-        // Refused before.
+        // Refused earlier.
         Walk::Faulty => unreachable!(),
     }
 }
 
-/// Asks whether fields share a byte, with marks on as many bytes as the largest target has whose fields do not rise.
+/// Checks whether fields share a byte. `marks` has as many entries as the largest target whose fields do not rise.
 fn ask_marked(tables: &Tables, marks: &mut [u32]) -> Result<(), ObjectFault>
     requires earlier { NoneBelow 16 tables.now.bytes.now }
     requires room { (r : ℕ) → HasRoomToMark tables.now.bytes.now r (length marks.old) }
@@ -110,7 +110,8 @@ fn ask_marked(tables: &Tables, marks: &mut [u32]) -> Result<(), ObjectFault>
     Ok(())
 }
 
-/// Asks whether fields of relocations share a byte. `most` bytes are enough to mark what they fill, unless they rise.
+/// Checks whether fields of relocations share a byte. `most` marks are enough for every target
+/// whose fields do not rise.
 pub fn ask_overlaps(alloc: Global, tables: &Tables, most: u64) -> Result<(), ObjectFault>
     requires earlier { NoneBelow 16 tables.now.bytes.now }
     requires room { (r : ℕ) → HasRoomToMark tables.now.bytes.now r most }

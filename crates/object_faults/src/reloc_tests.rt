@@ -62,7 +62,7 @@ pub fn rela_in(tables: &Tables, section: u64, relocs: &RelocTable, entry: u64) -
     rela_numbered(tables.bytes, relocs.at, entry)
 }
 
-/// Whether this is no symbol, or one that has no place in the image.
+/// Whether this is not a symbol, or a symbol that has no place in the image.
 #[inline]
 fn is_unplaced(tables: &Tables, symbol: u64) -> bool
     ensures { IsTrue result ↔ IsUnplaced tables.now.bytes.now symbol }
@@ -76,7 +76,7 @@ fn is_unplaced(tables: &Tables, symbol: u64) -> bool
     }
 }
 
-/// Whether an entry names no symbol, or one that has no place in the image.
+/// Whether an entry names no symbol, or a symbol that has no place in the image.
 #[inline]
 fn names_no_place(tables: &Tables, rela: Rela) -> bool
     ensures { IsTrue result ↔ ((rela_kind rela ≢ R_X86_64_NONE) × IsUnplaced tables.now.bytes.now (rela_symbol rela)) }
@@ -84,7 +84,7 @@ fn names_no_place(tables: &Tables, rela: Rela) -> bool
     rela.kind() != R_X86_64_NONE && is_unplaced(tables, u64::from(rela.symbol()))
 }
 
-/// Whether an entry is of a type that linking does not know, or that the target may not have.
+/// Whether an entry's type is unknown to linking, or not allowed in the target.
 #[inline]
 fn is_miskinded(tables: &Tables, section: u64, relocs: &RelocTable, rela: Rela) -> bool
     requires { AreRelocs tables.now.bytes.now section relocs.now }
@@ -114,7 +114,7 @@ fn field_end(tables: &Tables, section: u64, relocs: &RelocTable, rela: Rela) -> 
     Some(rela.offset + width)
 }
 
-/// The relocation names no symbol, or one that has no place in the image.
+/// The relocation names no symbol, or a symbol that has no place in the image.
 #[tactic(auto, unfolding(crate::specs::Faults::Stands))]
 pub fn reloc_symbol(tables: &Tables, section: u64, relocs: &RelocTable, entry: u64) -> bool
     requires relocs { AreRelocs tables.now.bytes.now section relocs.now }
@@ -124,7 +124,7 @@ pub fn reloc_symbol(tables: &Tables, section: u64, relocs: &RelocTable, entry: u
     names_no_place(tables, rela_in(tables, section, relocs, entry))
 }
 
-/// The relocation is of a type that linking does not know, or that the target may not have.
+/// The relocation's type is unknown to linking, or not allowed in the target.
 #[tactic(auto, unfolding(crate::specs::Faults::Stands))]
 pub fn reloc_kind(tables: &Tables, section: u64, relocs: &RelocTable, entry: u64) -> bool
     requires relocs { AreRelocs tables.now.bytes.now section relocs.now }
@@ -155,7 +155,7 @@ pub fn reloc_range(tables: &Tables, section: u64, relocs: &RelocTable, entry: u6
     .is_none()
 }
 
-/// The bytes of a target that a relocation fills: offsets from `start` up to, but not with, `end`.
+/// The bytes of a target that a relocation fills: offsets from `start` up to `end`, without `end`.
 #[derive(Clone, Copy)]
 pub struct Field {
     pub start: u64,

@@ -1,4 +1,4 @@
-//! Asking one kind of fault at all its places, in order.
+//! Checks one kind of fault at all its places, in order.
 
 ghost use Rattle.std.specs.Prelude.{◌<◌, ◌↔◌, IsTrue};
 ghost use Rattle.object_faults.specs.Parts.{IsSection};
@@ -25,7 +25,7 @@ fn section_stands(fault: SectionFault, tables: &Tables, section: u64) -> bool
     }
 }
 
-/// Asks a kind of fault of sections.
+/// Checks one kind of fault at all sections.
 pub fn ask_sections(fault: SectionFault, tables: &Tables) -> Result<(), ObjectFault>
     requires { NoneBelow (number (of_section fault)) tables.now.bytes.now }
     ensures { Answers (number (of_section fault)) tables.now.bytes.now result }
@@ -64,7 +64,7 @@ fn first_symbol(fault: SymbolFault, tables: &Tables) -> Option<u64>
     None
 }
 
-/// Asks a kind of fault of symbols.
+/// Checks one kind of fault at all symbols.
 pub fn ask_symbols(fault: SymbolFault, tables: &Tables) -> Result<(), ObjectFault>
     requires { NoneBelow (number (of_symbol fault)) tables.now.bytes.now }
     ensures { Answers (number (of_symbol fault)) tables.now.bytes.now result }
@@ -112,7 +112,7 @@ fn first_reloc(fault: RelocFault, tables: &Tables, section: u64) -> Option<u64>
     None
 }
 
-/// Asks a kind of fault of relocations.
+/// Checks one kind of fault at all relocations.
 pub fn ask_relocs(fault: RelocFault, tables: &Tables) -> Result<(), ObjectFault>
     requires { NoneBelow (number (of_reloc fault)) tables.now.bytes.now }
     ensures { Answers (number (of_reloc fault)) tables.now.bytes.now result }

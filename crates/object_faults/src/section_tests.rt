@@ -15,7 +15,7 @@ use elf_records::section_header::{
 };
 use elf_records::{Rela, SectionHeader, SymbolEntry};
 
-/// The most bytes of a section which linking keeps.
+/// The most bytes of a section that linking keeps.
 const SIZE_LIMIT: u64 = 1 << 20;
 
 /// The most entries of a table.
@@ -30,7 +30,7 @@ fn name_ends(tables: &Tables, at: u64) -> bool
     at < tables.names_end
 }
 
-/// The section names are no string table, or the section's name does not end.
+/// The section of names is not a string table, or the section's name does not end.
 #[tactic(auto, unfolding(crate::specs::Faults::Stands))]
 pub fn section_name(tables: &Tables, section: u64) -> bool
     requires { IsSection tables.now.bytes.now section }
@@ -42,7 +42,7 @@ pub fn section_name(tables: &Tables, section: u64) -> bool
     !name_ends(tables, u64::from(tables.section(section).name))
 }
 
-/// Whether the section's flags and type fit no class, or its type is one that linking refuses.
+/// Whether the section's flags and type fit no class, or linking refuses its type.
 fn is_refused(header: &SectionHeader) -> bool
     ensures { IsTrue result ↔ IsRefused header.now }
 {
@@ -65,7 +65,7 @@ pub fn section_kind(tables: &Tables, section: u64) -> bool
     is_refused(&tables.section(section))
 }
 
-/// A kept section asks for an alignment that is none.
+/// A kept section has an alignment that is not allowed.
 #[tactic(auto, unfolding(crate::specs::Faults::Stands))]
 pub fn section_align(tables: &Tables, section: u64) -> bool
     requires { IsSection tables.now.bytes.now section }
@@ -75,7 +75,7 @@ pub fn section_align(tables: &Tables, section: u64) -> bool
     kept_class(&header).is_some() && header.addralign != 0 && !is_alignment(header.addralign)
 }
 
-/// A kept section or a table is larger than linking takes.
+/// A kept section or a table is larger than linking accepts.
 #[tactic(auto, unfolding(crate::specs::Faults::Stands))]
 pub fn too_large(tables: &Tables, section: u64) -> bool
     requires { IsSection tables.now.bytes.now section }

@@ -73,7 +73,7 @@ pub fn is_dropped(tables: &Tables, section: u64) -> bool
     }
 }
 
-/// Whether a symbol is defined where none of its binding may be.
+/// Whether a symbol is defined where no symbol of its binding may be.
 fn is_misdefined(tables: &Tables, symbol: &SymbolEntry) -> bool
     ensures { IsTrue result ↔ IsMisdefined tables.now.bytes.now symbol.now }
 {

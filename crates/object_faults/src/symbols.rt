@@ -11,7 +11,7 @@ use elf_records::SymbolEntry;
 use elf_records::section_header::{SHT_STRTAB, SHT_SYMTAB};
 use object_rules::{FaultKind, ObjectFault, fault_at};
 
-/// The symbol table of an object, if it has one.
+/// The symbol table of an object; without one, the numbers are 0.
 #[derive(Clone, Copy)]
 pub struct Symbols {
     /// The section that holds the table, or 0.
@@ -20,7 +20,7 @@ pub struct Symbols {
     pub at: u64,
     /// How many symbols there are, number 0 included.
     pub count: u64,
-    /// The offset behind the last zero byte of the table's string table, or 0.
+    /// The offset after the last zero byte of the table's string table, or 0.
     pub names_end: u64,
 }
 
@@ -34,8 +34,7 @@ fn is_strings(tables: &Tables, section: u64) -> bool
     }
 }
 
-/// Whether a section of symbols is a second one, or its entries, names or first global symbol are not as they should
-/// be.
+/// Whether a section of symbols is a second one, or its entry size, size, string table or first global symbol is wrong.
 fn is_bad_table(tables: &Tables, section: u64) -> bool
     requires { IsTable tables.now.bytes.now section }
     ensures { IsTrue result ↔ IsBadTable tables.now.bytes.now section }
@@ -48,7 +47,7 @@ fn is_bad_table(tables: &Tables, section: u64) -> bool
         || header.size / SymbolEntry::SIZE < u64::from(header.info)
 }
 
-/// The first section of symbols behind the symbol table.
+/// The first section of symbols after the symbol table.
 fn second_table(tables: &Tables) -> Option<u64>
     ensures { IsFirstAt (λ s. (tables.now.symbols.table < s) × IsTable tables.now.bytes.now s) result }
 {
@@ -60,7 +59,7 @@ fn second_table(tables: &Tables) -> Option<u64>
     None
 }
 
-/// The first symbol, number 0 left out, that stands among those of the other kind: LOCAL ones come first.
+/// The first symbol, number 0 left out, that stands on the wrong side: LOCAL ones come first.
 fn first_misplaced(tables: &Tables) -> Option<u64>
     requires { 0 < tables.now.symbols.table }
     ensures { IsFirstAt (λ e. (0 < e) × Stands SymbolTable tables.now.bytes.now tables.now.symbols.table e) result }
@@ -73,7 +72,7 @@ fn first_misplaced(tables: &Tables) -> Option<u64>
     None
 }
 
-/// Asks what is wrong with the symbol table.
+/// Checks the symbol table as a whole.
 pub fn ask_symbol_table(tables: &Tables) -> Result<(), ObjectFault>
     requires { NoneBelow 7 tables.now.bytes.now }
     ensures { Answers 7 tables.now.bytes.now result }

@@ -27,7 +27,7 @@ pub struct Tables<'a> {
     pub count: u64,
     /// The section that holds the names of sections.
     pub names: u64,
-    /// The offset behind the last zero byte of that section, or 0.
+    /// The offset after the last zero byte of that section, or 0.
     pub names_end: u64,
     /// The symbols.
     pub symbols: Symbols,
@@ -77,7 +77,7 @@ fn symbol_table(headers: &Headers) -> u64
     0
 }
 
-/// The offset behind the last zero byte of a string table, or 0.
+/// The offset after the last zero byte of a string table, or 0.
 fn strings_end(headers: &Headers, section: u64) -> u64
     requires { (s : ℕ) → HasPartPastEnd headers.now.bytes.now s → ⊥ }
     ensures { IsStrings headers.now.bytes.now section → IsEndOfNames headers.now.bytes.now section result }
@@ -166,7 +166,7 @@ impl Tables<'_> {
         }
     }
 
-    /// The class that linking keeps a section in, if there is such a section and it keeps it.
+    /// Whether there is a section of this number, and linking keeps it.
     pub fn is_kept(&self, number: u64) -> bool
         ensures { IsTrue result ↔ IsKeptSection self.now.bytes.now number }
     {

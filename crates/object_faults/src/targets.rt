@@ -1,4 +1,4 @@
-//! Which section holds the relocations of which.
+//! Which section holds the relocations of which section.
 
 ghost use Rattle.std.specs.Prelude.{◌≡◌, ◌+◌, ◌<◌, ◌↔◌, ℕ, length, slice_index, IsTrue, IfOk, IfNone};
 ghost use Rattle.object_rules.specs.declared.fault.FaultKind.TheVariants.{RelocTarget};
@@ -23,7 +23,7 @@ fn is_table(tables: &Tables, section: u64) -> bool
     }
 }
 
-/// Whether an earlier section holds relocations of the same target. `found` says of each target which one does.
+/// Whether an earlier section holds relocations of the same target. `found` has the section found for each target.
 #[tactic(auto, using(crate::specs::Searches::second_found, crate::specs::Searches::second_is))]
 fn is_second(tables: &Tables, section: u64, found: &[u32]) -> bool
     requires section { IsSection tables.now.bytes.now section }
@@ -35,7 +35,7 @@ fn is_second(tables: &Tables, section: u64, found: &[u32]) -> bool
     found[tables.section(section).info as usize] != 0
 }
 
-/// A section of relocations has no target, or linking keeps the target and the section is not as it should be.
+/// A section of relocations has no target, or linking keeps the target and the section does not fit it.
 #[tactic(auto, unfolding(crate::specs::Faults::Stands))]
 fn reloc_target(tables: &Tables, section: u64, found: &[u32]) -> bool
     requires section { IsSection tables.now.bytes.now section }
@@ -79,7 +79,7 @@ fn note_target(tables: &Tables, section: u64, found: &mut [u32])
     }
 }
 
-/// The first section of relocations with a fault of its target. Without one, `found` is filled.
+/// The first section of relocations whose target is at fault. If there is none, `found` is filled.
 fn first_mistargeted(tables: &Tables, found: &mut [u32]) -> Option<u64>
     requires len { length found.old ≡ tables.now.count }
     requires empty { (t : ℕ) → slice_index found.old t ≡ 0 }
@@ -95,7 +95,8 @@ fn first_mistargeted(tables: &Tables, found: &mut [u32]) -> Option<u64>
     None
 }
 
-/// Asks whether relocations have proper targets, and says of each section which one holds its relocations, or 0.
+/// Checks the targets of all sections of relocations, and returns for each section the one that holds
+/// its relocations, or 0.
 pub fn ask_targets(alloc: Global, tables: &Tables) -> Result<Vec<u32>, ObjectFault>
     requires { NoneBelow 12 tables.now.bytes.now }
     ensures answers { Answers 12 tables.now.bytes.now result }

@@ -1,5 +1,5 @@
-//! One walk over the relocations, each read once. Most objects have none at fault, and fields in the order of their
-//! bytes, as compilers write them: then this walk is all that is asked of relocations.
+//! One walk over the relocations, each read once. Most objects have no relocation at fault, and fields that rise, as
+//! compilers write them: then this walk is the only check of relocations.
 
 ghost use Rattle.std.specs.Prelude.{◌≤◌, ℕ};
 ghost use Rattle.object_faults.specs.Parts.{IsSection, section as section_header};
@@ -9,18 +9,18 @@ ghost use Rattle.object_faults.specs.Walks.{Tells, IsMarkedBy, AreMarkedBy};
 use crate::reloc_tests::{faultless_field, reloc_table};
 use crate::tables::Tables;
 
-/// What one walk over the relocations of a section tells.
+/// The result of one walk over the relocations of a section.
 #[derive(Clone, Copy)]
 pub enum Walk {
-    /// One is at fault by itself: for its symbol, its type or the range of its field.
+    /// A relocation is at fault by itself: its symbol, its type or the range of its field.
     Faulty,
-    /// None is, and a field begins before the one before it ended.
+    /// None is at fault, and a field begins before the end of the one before it.
     Scattered,
-    /// None is, and each field begins no earlier than the one before it ended, so no two share a byte.
+    /// None is at fault, and each field begins no earlier than the end of the one before it, so no two share a byte.
     Rising,
 }
 
-/// Walks over the relocations that a section holds. Where it holds none of a section that linking keeps, they rise.
+/// Walks over the relocations that a section holds. If it holds none of a kept section, the result is `Rising`.
 pub fn walk_over(tables: &Tables, section: u64) -> Walk
     requires { IsSection tables.now.bytes.now section }
     ensures { Tells tables.now.bytes.now section result }
@@ -40,7 +40,7 @@ pub fn walk_over(tables: &Tables, section: u64) -> Walk
     if rises { Walk::Rising } else { Walk::Scattered }
 }
 
-/// How many bytes the target of a section of relocations has; 0 where linking keeps none.
+/// How many bytes the target of a section of relocations has; 0 if linking does not keep it.
 fn target_size(tables: &Tables, section: u64) -> u64
     requires { IsSection tables.now.bytes.now section }
     ensures { (e : ℕ) → IsReloc tables.now.bytes.now section e
@@ -52,8 +52,8 @@ fn target_size(tables: &Tables, section: u64) -> u64
     }
 }
 
-/// How many bytes take marks to find fields of a section's relocations that share one; 0 where the fields rise. `None`
-/// where a relocation is at fault by itself.
+/// How many marks it takes to find overlapping fields in a section's target; 0 if the fields rise. `None` if a
+/// relocation is at fault by itself.
 fn bytes_to_mark(tables: &Tables, section: u64) -> Option<u64>
     requires { IsSection tables.now.bytes.now section }
     ensures { IsMarkedBy tables.now.bytes.now section result }
@@ -65,7 +65,7 @@ fn bytes_to_mark(tables: &Tables, section: u64) -> Option<u64>
     }
 }
 
-/// How many bytes take marks to find fields that share one in any section; 0 where they rise in each. `None` where a
+/// How many marks it takes to find overlapping fields in any target; 0 if the fields rise in each. `None` if a
 /// relocation is at fault by itself.
 pub fn most_to_mark(tables: &Tables) -> Option<u64>
     ensures { AreMarkedBy tables.now.bytes.now result }

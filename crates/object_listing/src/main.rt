@@ -1,13 +1,14 @@
-//! Lists objects: `object_listing FILE..` prints each file's sections, relocations and symbols as linking sees them,
-//! or what is wrong with it. Its data are objects that an assembler and a compiler wrote; data/commands has the
-//! commands.
+//! Lists objects: `object_listing FILE..` prints each file's sections, relocations and symbols, or its fault.
+//!
+//! Sections are listed as linking sees them. The data are objects that an assembler and a compiler wrote;
+//! data/commands has the commands.
 #![tactic(auto)]
 
 use anyhow::Result;
 use elf_object::{Object, Relocation, SectionPart, SymbolPart};
 use std::{env, fs, io, str};
 
-/// A name as text; names that are none are shown as a question mark.
+/// A name as text; a question mark for a name that is not UTF-8.
 fn text(name: &[u8]) -> &str {
     str::from_utf8(name).unwrap_or("?")
 }

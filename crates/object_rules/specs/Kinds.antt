@@ -1,4 +1,4 @@
--- The kinds of fault that are asked alike, by what they stand at.
+-- The kinds of fault of one section, of one symbol and of one relocation, among all kinds.
 use Rattle.object_rules.specs.declared.fault.FaultKind.{FaultKind}
 use Rattle.object_rules.specs.declared.fault.FaultKind.TheVariants.{SectionName, SectionKind, SectionAlign, TooLarge}
 use Rattle.object_rules.specs.declared.fault.FaultKind.TheVariants.{SymbolName, SymbolSection, SymbolRange}

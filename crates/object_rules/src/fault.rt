@@ -1,4 +1,4 @@
-//! What may be wrong with an object, and where.
+//! The faults of an object: their kinds, and where one stands.
 
 ghost use Rattle.std.specs.Prelude.{◌≡◌, Some, codes};
 ghost use Rattle.object_rules.specs.declared.fault.ObjectFault.TheVariants.{OutOfMemory, At};
@@ -8,25 +8,27 @@ use std::alloc::AllocError;
 use std::fmt;
 use thiserror::Error;
 
-/// What is wrong with an object, in the order in which it is asked. "Section" names the section of the fault, "entry"
-/// 0, or the symbol or relocation of the fault.
+/// What is wrong with an object, in the order of the checks. "Section" names the section of the fault; "entry" is the
+/// symbol or relocation of the fault, else 0.
 #[derive(Clone, Copy, PartialEq, Eq, Debug)]
 pub enum FaultKind {
     /// The file is shorter than its header, or the table of section headers or a section's bytes pass its end.
     Truncated,
-    /// The file is not one of ELF with 64 bits and little-endian data.
+    /// The file is not ELF with 64 bits and little-endian data.
     NotElf,
-    /// The file is no object for x86-64, or it has no sections, more than fit a number, or none for their names.
+    /// The file is not an object for x86-64, its section headers do not have 64 bytes each, or it has no sections,
+    /// 0xff00 or more, or no section of their names.
     NotRelocatable,
-    /// The section names are no string table, or a section's name does not end in it.
+    /// The section of names is not a string table, or a section's name does not end in it.
     SectionName,
-    /// A section's type is one that linking refuses, or its flags and type fit no class.
+    /// Linking refuses the section's type, or the section's flags and type fit no class.
     SectionKind,
-    /// A section that linking keeps asks for an alignment that is no power of two up to 4,096.
+    /// A section that linking keeps has an alignment that is not a power of two up to 4,096.
     SectionAlign,
     /// A section that linking keeps has more than 2^20 bytes, or a table more than 2^20 entries.
     TooLarge,
-    /// There is a second symbol table, or its entries, names or order are not as they should be.
+    /// There is a second symbol table, or the symbol table's entry size, size, string table, first symbol that is not
+    /// LOCAL, or order is wrong.
     SymbolTable,
     /// A symbol's name does not end, or it is empty and the symbol is not LOCAL.
     SymbolName,
@@ -36,9 +38,9 @@ pub enum FaultKind {
     SymbolRange,
     /// A symbol's binding or type is unknown, or its type does not fit its section.
     SymbolKind,
-    /// A section of relocations has no target, or the two do not fit.
+    /// A section of relocations has no target, or does not fit its target.
     RelocTarget,
-    /// A relocation names no symbol, or one that has no place in the image.
+    /// A relocation names no symbol, or a symbol that has no place in the image.
     RelocSymbol,
     /// A relocation's type is unknown, or its section may not have it.
     RelocKind,
@@ -46,11 +48,12 @@ pub enum FaultKind {
     RelocRange,
     /// A relocation's field shares a byte with that of an earlier one.
     RelocOverlap,
-    /// A relocation of thread-local storage stands in no instruction sequence of the psABI. Reading does not ask it.
+    /// A TLS relocation stands in no code sequence of the psABI. Reading an object does not check this.
     Sequence,
-    /// A call of `__tls_get_addr` stands in no such sequence. Reading does not ask it.
+    /// A call of `__tls_get_addr` stands in no such sequence. Reading an object does not check this.
     StrayCall,
-    /// The object has data that programs write. Reading does not ask it: `elf_object` lends an object with such data.
+    /// The object has data that programs write. Reading does not check this: `elf_object` lends an
+    /// object with such data.
     WritableData,
 }
 
@@ -92,7 +95,7 @@ impl fmt::Display for FaultKind {
     }
 }
 
-/// Why an object is refused: want of memory, or the first fault that stands.
+/// Why an object is refused: memory ran out, or the first fault.
 #[derive(Debug, Drop, Error)]
 pub enum ObjectFault {
     #[error("out of memory")]

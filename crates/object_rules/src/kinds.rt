@@ -1,4 +1,4 @@
-//! The kinds of fault that are asked alike, by what they stand at.
+//! The kinds of fault of one section, of one symbol and of one relocation.
 
 ghost use Rattle.std.specs.Prelude.{◌≡◌};
 ghost use Rattle.object_rules.specs.Kinds.{of_section, of_symbol, of_reloc};
@@ -14,7 +14,7 @@ pub enum SectionFault {
     Large,
 }
 
-/// What may be wrong with one symbol, once it stands at its place in the order of the table.
+/// What may be wrong with one symbol, apart from its position in the table.
 #[derive(Clone, Copy)]
 pub enum SymbolFault {
     Name,
@@ -23,7 +23,7 @@ pub enum SymbolFault {
     Kind,
 }
 
-/// What may be wrong with one relocation, but for a byte that it shares with another.
+/// What may be wrong with one relocation, apart from an overlap with another.
 #[derive(Clone, Copy)]
 pub enum RelocFault {
     Symbol,
@@ -32,7 +32,7 @@ pub enum RelocFault {
 }
 
 impl SectionFault {
-    /// Its kind among all.
+    /// The kind among all kinds of fault.
     pub fn kind(self) -> FaultKind
         ensures { result ≡ of_section self }
     {
@@ -46,7 +46,7 @@ impl SectionFault {
 }
 
 impl SymbolFault {
-    /// Its kind among all.
+    /// The kind among all kinds of fault.
     pub fn kind(self) -> FaultKind
         ensures { result ≡ of_symbol self }
     {
@@ -60,7 +60,7 @@ impl SymbolFault {
 }
 
 impl RelocFault {
-    /// Its kind among all.
+    /// The kind among all kinds of fault.
     pub fn kind(self) -> FaultKind
         ensures { result ≡ of_reloc self }
     {

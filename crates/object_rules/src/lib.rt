@@ -1,15 +1,15 @@
-//! The words for what may be wrong with a relocatable object: the kinds of fault in their order, and where one stands.
+//! The faults of a relocatable object: their kinds, in the order of the checks, and the place of a fault.
 //!
-//! A kind is asked of the file as a whole, or of each of its sections, symbols or relocations. The kinds of one of
-//! these are asked alike, by one search over an enum of them ([`SectionFault`], [`SymbolFault`], [`RelocFault`]); each
-//! says which kind it is among all (`specs/Kinds`). When a kind stands is `object_faults`' own.
+//! A kind concerns the file as a whole, or each of its sections, symbols or relocations. The kinds of one of these are
+//! checked by one search over an enum ([`SectionFault`], [`SymbolFault`], [`RelocFault`]); `specs/Kinds` gives each its
+//! place among all kinds. `object_faults` defines when an object has a fault of each kind.
 //!
-//! The rule that it keeps: **a fault is told by its kind, its section and its entry there, and by no more.** For
-//! example `section 2 entry 0 RelocRange` says that the field of the first relocation in section 2 passes the end of
-//! the section that it is for.
+//! The rule that it keeps: **a fault is its kind, its section and its entry there, and nothing more.** For example
+//! `section 2 entry 0 RelocRange` says that the field of the first relocation in section 2 passes the end of the
+//! section that it applies to.
 //!
-//! The parts of an object that faults speak of are those of the System V ABI (gABI, "Object Files"). This crate stands
-//! on no other of the repository.
+//! The parts of an object that faults name are those of the System V ABI (gABI, "Object Files"). This crate uses no
+//! other crate of the repository.
 #![tactic(auto)]
 
 mod fault;

@@ -29,7 +29,7 @@ PutCounts before now (Ok x) = now ≡ before
 PutCounts before now (Err put.Failed) = Counted before now
 PutCounts before now (Err put.OutOfMemory) = now ≡ before
 
--- the count of answers for want of memory over a put: it rises with such an answer, and only there
+-- how often the sink ran out of memory, before and after a put: the count rises with such a result, and only there
 abbrev pub MemoryCounts : {T : Type 0} → ℕ → ℕ → Result T PutFault → Type 0
 MemoryCounts before now (Ok x) = now ≡ before
 MemoryCounts before now (Err put.Failed) = now ≡ before

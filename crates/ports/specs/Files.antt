@@ -1,4 +1,4 @@
--- What a store holds and was asked for, and what a call makes of it.
+-- What a store holds, which names it was asked for, and how a call changes both.
 use Rattle.std.specs.Prelude.{◌≡◌, ℕ, List, [], ◌∷◌, ◌++◌, Option, None, Some, IfSome, Result, Ok, Err, IfOk, take, Vec}
 use Rattle.std.specs.Borrow.{Bor}
 use Rattle.std.specs.Option.{option_map}
@@ -11,7 +11,7 @@ use Rattle.ports.specs.declared.faults.FetchFault.{FetchFault}
 abbrev pub Files : Type 0
 Files = map.FinMap (slice_cmp nat_cmp) (List ℕ)
 
--- a store that does not tell its files
+-- a store that does not show its files
 abbrev pub untold_files : Option Files
 untold_files = None
 
@@ -19,11 +19,11 @@ untold_files = None
 abbrev pub file_at : Files → List ℕ → Option (List ℕ)
 file_at files name = map.get files name
 
--- the content of the file of that name, where a store tells its files
+-- the content of the file of that name, if a store shows its files
 abbrev pub IsFile : Option Files → List ℕ → List ℕ → Type 0
 IsFile told name bytes = IfSome told (λ files. file_at files name ≡ Some bytes)
 
--- a name, and what came of reading the file of that name
+-- a name, and the result of reading the file of that name
 abbrev pub IsReading : {A : Type 0} → Option Files → Bor (List ℕ) → Bor (List ℕ) × Result (Vec ℕ A) FetchFault → Type 0
 IsReading told name came = (came.0.now ≡ name.now) × IfOk came.1 (λ file. IsFile told name.now file.items)
 
@@ -31,7 +31,7 @@ IsReading told name came = (came.0.now ≡ name.now) × IfOk came.1 (λ file. Is
 abbrev pub with_file : List ℕ → List ℕ → Option Files → Option Files
 with_file name bytes = option_map (λ files. map.insert files name bytes)
 
--- a store that does not tell the names
+-- a store that does not show the names
 abbrev pub untold_names : Option (List (List ℕ))
 untold_names = None
 
@@ -43,7 +43,7 @@ with_name name = option_map (λ names. names ++ name ∷ [])
 abbrev pub with_names : List (List ℕ) → Option (List (List ℕ)) → Option (List (List ℕ))
 with_names names = option_map (λ before. before ++ names)
 
--- all of these names where they were fetched, else a front of them
+-- all of these names if they were fetched, else a prefix of them
 abbrev pub Fetches : {T : Type 0} → List (List ℕ) → Option (List (List ℕ)) → Option (List (List ℕ))
     → Result T FetchFault → Type 0
 Fetches names old new (Ok x) = new ≡ with_names names old

@@ -9,7 +9,7 @@ use Rattle.ports.specs.Files.{Files}
 use Rattle.ports.specs.Pieces.{untold_bytes, untold_pieces}
 use Rattle.ports.specs.Sinks.{SinkView}
 
--- the files, how often the store has failed, and which call fails next, counted from 1, 0 being none
+-- the files, how often the store has failed, and which call fails next, counted from 1; 0 means none
 pub record StoreState : Type 0 where
   pub files : Files
   pub faults : ℕ
@@ -18,14 +18,14 @@ pub record StoreState : Type 0 where
 abbrev files_code : Coded Files
 files_code = map.code (coded_list coded_ℕ) (coded_list coded_ℕ)
 
--- a store's state is coded as the tuple of its fields
+-- a store's state is encoded as the tuple of its fields
 abbrev pub store_code : Coded StoreState
 store_code =
     code_by (Files × (ℕ × ℕ)) (coded× files_code (coded× coded_ℕ coded_ℕ)) (λ s. (s.files, (s.faults, s.fails_in)))
     (λ p. record { files = p.0; faults = p.1.0; fails_in = p.1.1 }) (λ _. refl)
 
--- the bytes, how often the sink has failed, how often it had no memory, which call fails next,
--- counted from 1, 0 being none, and how many bytes of its piece that call still appends
+-- the bytes, how often the sink has failed, how often it ran out of memory, which call fails next, counted from 1 (0
+-- means none), and how many bytes of its piece that call still appends
 pub record SinkState : Type 0 where
   pub bytes : List ℕ
   pub faults : ℕ
@@ -33,7 +33,7 @@ pub record SinkState : Type 0 where
   pub fails_in : ℕ
   pub part : ℕ
 
--- a sink in memory tells its bytes
+-- a sink in memory shows its bytes
 abbrev pub memory_view : SinkState → SinkView
 memory_view sink = record {
   bytes = Some sink.bytes;
@@ -46,7 +46,7 @@ memory_view sink = record {
 abbrev pub appended : SinkState → List ℕ → List ℕ
 appended sink piece = if sink.fails_in == 1 then take sink.part piece else piece
 
--- the sink after a put: a call that fails has appended its part, and one without memory nothing
+-- the sink after a put: a call that fails has appended its part, and one that ran out of memory nothing
 abbrev pub sink_after_put : {T : Type 0} → SinkState → List ℕ → Result T PutFault → SinkState
 sink_after_put sink piece (Ok x) = record sink { bytes = sink.bytes ++ piece; fails_in = sink.fails_in - 1 }
 sink_after_put sink piece (Err put.Failed) = record sink {
@@ -56,13 +56,13 @@ sink_after_put sink piece (Err put.Failed) = record sink {
 }
 sink_after_put sink piece (Err put.OutOfMemory) = record sink { shortages = counted sink.shortages; fails_in = sink.fails_in - 1 }
 
--- what the sink's writer holds, where that is known, how often the sink has failed, and how often it had no memory
+-- what the sink's writer holds, if that is known, how often the sink has failed, and how often it ran out of memory
 pub record HostSinkState : Type 0 where
   pub written : Option (List ℕ)
   pub faults : ℕ
   pub shortages : ℕ
 
--- a sink of the host tells its counts alone
+-- a sink of the host shows only its counts
 abbrev pub host_view : HostSinkState → SinkView
 host_view sink = record {
   bytes = untold_bytes;

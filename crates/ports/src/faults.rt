@@ -1,4 +1,4 @@
-//! What a call to the outside answers in place of its work.
+//! The errors of calls to the outside.
 ghost use Rattle.std.specs.Prelude.{◌≡◌};
 ghost use Rattle.std.specs.IoError.{error_kind};
 ghost use Rattle.ports.specs.declared.faults.FetchFault.TheVariants as fetch;
@@ -12,10 +12,10 @@ use thiserror::Error;
 /// Why a store did not give a file.
 #[derive(Clone, Copy, Debug, PartialEq, Eq, Error)]
 pub enum FetchFault {
-    /// The store failed, and counted that. A name that is not there is such a fault.
+    /// The store failed, and counted the failure. A name without a file is such a failure.
     #[error("store fault")]
     Failed,
-    /// There was no memory for the file's bytes.
+    /// There was not enough memory for the file's bytes.
     #[error("out of memory")]
     OutOfMemory,
 }
@@ -23,10 +23,10 @@ pub enum FetchFault {
 /// Why a store or a sink did not take the bytes that it was given.
 #[derive(Clone, Copy, Debug, PartialEq, Eq, Error)]
 pub enum PutFault {
-    /// The store or the sink failed, and counted that.
+    /// The store or the sink failed, and counted the failure.
     #[error("store or sink fault")]
     Failed,
-    /// There was no memory for the bytes.
+    /// There was not enough memory for the bytes.
     #[error("out of memory")]
     OutOfMemory,
 }

@@ -1,4 +1,4 @@
-//! Several files, side by side.
+//! Fetches several files, side by side.
 ghost use Rattle.std.specs.Prelude.{◌≡◌, IfOk, map};
 ghost use Rattle.std.specs.List.{AllZip};
 ghost use Rattle.ports.specs.Counts.{FetchCounts};
@@ -9,10 +9,10 @@ use rayon::prelude::*;
 use std::alloc::{AllocError, Global};
 use std::thread::Threads;
 
-/// Fewer files than these are read by one thread.
+/// With fewer files than this, one thread reads them all.
 const FEW: usize = 4;
 
-/// What comes of reading each file, by as many threads as pay; where one can't be started, its starter reads.
+/// Reads each file, by as many threads as are worth starting. If a thread cannot be started, its starter reads instead.
 fn read_each<'n, S: Store, R: Threads + Sync>(
     rt: &R,
     alloc: Global,
@@ -33,8 +33,8 @@ fn read_each<'n, S: Store, R: Threads + Sync>(
         .collect(rt, alloc)
 }
 
-/// Fetches the files of these names in their order, up to the first refusal, which is answered. Threads read the
-/// files side by side, and then the caller counts each in its turn; what was read behind a refusal is not counted.
+/// Fetches the files of these names in their order, up to the first refusal, which it returns. Threads read the files
+/// side by side; then the caller counts each in order. A file that was read after a refusal is not counted.
 pub fn fetch_each<S: Store, R: Threads + Sync>(
     rt: &R,
     alloc: Global,

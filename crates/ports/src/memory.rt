@@ -1,4 +1,4 @@
-//! A store and a sink in memory, which fail where they are told to.
+//! A store and a sink in memory, which fail at chosen calls.
 mod plan;
 mod sink;
 mod store;

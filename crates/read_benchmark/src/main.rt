@@ -1,7 +1,9 @@
-//! How long an object takes to read and to lend: `read_benchmark TEXTS [time]` makes an object of TEXTS sections of
-//! code, 1 to 8, each with 200,000 relocations, and of 50,000 symbols. All its sections and symbols have one name, of a
-//! million bytes: none of the loops below may look at it. With `time` it prints how long reading and lending took, and
-//! how long one pass takes that adds the file's bytes.
+//! Measures how long it takes to read an object and to walk over its parts.
+//!
+//! `read_benchmark TEXTS [time]` makes an object of TEXTS sections of code, from 1 to 8, each with 200,000
+//! relocations, and of 50,000 symbols. All its sections and symbols have one name of a million bytes: none of the
+//! loops below may read it. With `time` it prints how long reading and walking took, and how long one pass takes that
+//! adds the file's bytes.
 #![tactic(auto)]
 
 use anyhow::{Context, Result, ensure};
@@ -14,7 +16,7 @@ use std::alloc::{AllocError, Global};
 use std::env;
 use std::time::Instant;
 
-/// Bytes of a section of code; it may have 2^20.
+/// Bytes of a section of code; at most 2^20 are allowed.
 const TEXT_SIZE: usize = 800_000;
 
 /// Relocations of a section of code, each of the next four bytes.
@@ -25,7 +27,7 @@ const SYMBOLS: u32 = 50_000;
 /// Bytes of the name that all sections and symbols have.
 const NAME_SIZE: usize = 1_000_000;
 
-/// Relocations of a section of code, of one symbol after the other.
+/// Relocations of a section of code, for one symbol after another.
 fn relocations(alloc: Global) -> Result<Vec<Rela>, AllocError> {
     let mut relocations = Vec::new(alloc);
     for number in 0..RELOCATIONS {
@@ -35,7 +37,7 @@ fn relocations(alloc: Global) -> Result<Vec<Rela>, AllocError> {
     Ok(relocations)
 }
 
-/// Gives all sections the name of the last one before the tables, and all symbols that of the first.
+/// Gives all sections the name of the last one before the tables, and all symbols the name of the first.
 fn share_names(draft: &mut Draft, section_name: u32, symbol_name: u32) {
     for section in draft.sections.as_mut_slice() {
         section.name = section_name;
@@ -63,12 +65,12 @@ fn example(alloc: Global, texts: usize) -> Result<Vec<u8>, AllocError> {
         symbols.push(Symbol::global(b"", STT_FUNC, 2, 0, 1))?;
     }
     let mut draft = draft_of(alloc, sections.as_slice(), symbols.as_slice())?;
-    // The first name of each string table stands behind its zero byte.
+    // The first name of each string table comes after its zero byte.
     share_names(&mut draft, 1, 1);
     draft.bytes(alloc)
 }
 
-/// Takes what an object lends: each section, and for each relocation its symbol. The sum says how much there was.
+/// Walks over what an object lends: each section, and for each relocation its symbol. The sum says how much there was.
 fn lend_all(object: &Object) -> u64 {
     let mut sum = 0_u64;
     for number in 0..object.section_count() {

@@ -10,9 +10,9 @@ use Rattle.sequence_forms.specs.declared.forms.Form.TheVariants.{Gd, Ld, IeMov, 
 use Rattle.relax_sites.specs.declared.choices.Choice.{Choice}
 use Rattle.relax_sites.specs.declared.choices.Choice.TheVariants.{Keep, GdLe, GdIe, LdLe, IeLe, DescLe, DescIe}
 
--- What a program takes. Its own variables lie at distances from the thread pointer that are known when it is linked
--- (LE); for those of a module that is loaded with it the loader stores the distance in a word of the GOT (IE); and the
--- module of local dynamic code is the program itself, whatever the site's symbol. Initial executable code of another
+-- The choices of a program. The offsets of its own variables from the thread pointer are known when it is linked
+-- (LE); for those of a module that is loaded with it, the loader stores the offset in a word of the GOT (IE); and the
+-- module of local dynamic code is the program itself, whatever the site's symbol. Initial exec code for another
 -- module's variable reads such a word already.
 abbrev pub program_choice : Form → Binding → Choice
 program_choice Gd (Here variable) = GdLe
@@ -29,8 +29,8 @@ program_choice DescCall (Here variable) = DescLe
 program_choice DescCall (Startup image) = DescIe
 program_choice form binding = Keep
 
--- The whole table. A module keeps its sites: it does not know its distance from the thread pointer, and a thread may
--- open it late. So does every image that is linked without rewriting.
+-- The whole table. A module keeps its sites: it does not know the offset of its block from the thread pointer, and a
+-- thread may open it late. So does every image that is linked without rewriting.
 abbrev pub choice_of : Form → Binding → ImageKind → Bool → Choice
 choice_of form binding kind false = Keep
 choice_of form binding Exe true = program_choice form binding

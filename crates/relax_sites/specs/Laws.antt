@@ -1,4 +1,4 @@
--- What is so of the two tables, and of what rewriting leaves.
+-- Laws of the two tables, and of rewriting.
 use Rattle.std.specs.Prelude.{◌≡◌, ◌≢◌, ◌≤◌, ◌+◌, ◌++◌, ℕ, Bool, List, length, take, drop, Some}
 use Rattle.elf_records.specs.Fields.{part_at, splice}
 use Rattle.link_faults.specs.declared.image_kind.ImageKind.{ImageKind}
@@ -12,7 +12,7 @@ use Rattle.relax_sites.specs.Choices.{choice_of, IsChoiceOf}
 use Rattle.relax_sites.specs.Rows.{field_of_zeros, form_length, new_bytes, new_field}
 use Rattle.relax_sites.specs.Rewriting.{rewritten}
 
--- what is chosen for a form is one of its choices
+-- the choice for a form is one of that form's choices
 abbrev pub ChoicesAreOfTheirForms : Type 0
 ChoicesAreOfTheirForms = (form : Form) (binding : Binding) (kind : ImageKind) (relax : Bool)
     → IsChoiceOf form (choice_of form binding kind relax)
@@ -31,14 +31,14 @@ abbrev pub RowsEndInTheirFields : Type 0
 RowsEndInTheirFields = (form : Form) (choice : Choice) (reg : ℕ) (field : NewField)
     → new_field form choice ≡ Some field → EndsInItsField form choice reg field
 
--- a site that lies in the bytes, whole, and one of its form's choices other than to keep it
+-- a site that lies whole in the bytes, with one of its form's choices other than Keep
 pub record IsRewrittenIn (bytes : List ℕ) (site : Site) (choice : Choice) : Type 0 where
   pub inside : site.start + site.len ≤ length bytes
   pub whole : site.len ≡ form_length site.form
   pub own : IsChoiceOf site.form choice
   pub changes : choice ≢ Keep
 
--- the row stands in the site's place, and what stands before and behind it stays
+-- the row stands in the site's place, and all bytes before and after it stay
 pub record StaysInItsSite (bytes : List ℕ) (site : Site) (choice : Choice) : Type 0 where
   pub length-is : length (rewritten site choice bytes) ≡ length bytes
   pub before : take site.start (rewritten site choice bytes) ≡ take site.start bytes
@@ -49,7 +49,7 @@ abbrev pub RewritingStaysInTheSite : Type 0
 RewritingStaysInTheSite = (bytes : List ℕ) (site : Site) (choice : Choice) → IsRewrittenIn bytes site choice
     → StaysInItsSite bytes site choice
 
--- four bytes that are written in a row's field, after its site was rewritten, stand in the row
+-- four bytes that are written to a row's field, after its site was rewritten, stand in the row
 abbrev pub FieldsStandInTheirRows : Type 0
 FieldsStandInTheirRows = (bytes four : List ℕ) (site : Site) (choice : Choice) (field : NewField)
     → IsRewrittenIn bytes site choice → new_field site.form choice ≡ Some field → length four ≡ 4

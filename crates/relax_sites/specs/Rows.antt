@@ -1,5 +1,5 @@
--- The bytes that stand in a site's place, a row a form and choice ("ELF Handling For Thread-Local Storage", section 5;
--- psABI, "Thread-Local Storage"), and the field that they leave to be written.
+-- The bytes that replace a site, a row for each form and choice ("ELF Handling For Thread-Local Storage", section 5;
+-- psABI, "Thread-Local Storage"), and the field in them.
 use Rattle.std.specs.Prelude.{ℕ, pos, negsuc, ◌+◌, ◌*◌, ◌%◌, ◌==◌, List, [], ◌∷◌, length, Option, Some, None, nat_lt}
 use Rattle.std.specs.Prelude.{if◌then◌else◌}
 use Rattle.elf_records.specs.declared.relocation.RelocationKind.TheVariants.{GotTpOff, TpOff32}
@@ -10,7 +10,7 @@ use Rattle.relax_sites.specs.declared.choices.Choice.{Choice}
 use Rattle.relax_sites.specs.declared.choices.Choice.TheVariants.{GdLe, GdIe, LdLe, IeLe, DescLe, DescIe}
 use Rattle.relax_sites.specs.declared.rows.NewField.{NewField}
 
--- how many bytes a sequence of a form has, and so those in its place
+-- how many bytes a sequence of a form has; its replacement has as many
 abbrev pub form_length : Form → ℕ
 form_length form = length ((row form).cells)
 
@@ -22,7 +22,7 @@ field_of_zeros = 0 ∷ 0 ∷ 0 ∷ 0 ∷ []
 abbrev pub thread_pointer : List ℕ → List ℕ
 thread_pointer rest = 0x64 ∷ 0x48 ∷ 0x8b ∷ 0x04 ∷ 0x25 ∷ 0 ∷ 0 ∷ 0 ∷ 0 ∷ rest
 
--- REX.W with the fourth bit of a register that ModRM's rm names, and of one that both rm and reg name
+-- REX.W with the high bit of a register in ModRM's rm, or in both rm and reg
 abbrev pub rex_rm : ℕ → ℕ
 rex_rm reg = if nat_lt reg 8 then 0x48 else 0x49
 
@@ -33,7 +33,7 @@ rex_both reg = if nat_lt reg 8 then 0x48 else 0x4d
 abbrev pub mov_bytes : ℕ → List ℕ
 mov_bytes reg = rex_rm reg ∷ 0xc7 ∷ (0xc0 + reg % 8) ∷ field_of_zeros
 
--- lea x@tpoff(%r), %r; with %rsp or %r12 as its base lea would need a byte more, so of these add $x@tpoff, %r
+-- lea x@tpoff(%r), %r; with %rsp or %r12 as its base lea would need one byte more, so for these add $x@tpoff, %r
 abbrev pub add_bytes : ℕ → List ℕ
 add_bytes reg =
     if reg % 8 == 4
@@ -62,14 +62,14 @@ new_bytes DescLea DescIe reg = 0x48 ∷ 0x8b ∷ 0x05 ∷ field_of_zeros
 -- call *x@tlscall(%rax) becomes xchg %ax, %ax, a nop of two bytes
 new_bytes DescCall DescLe reg = 0x66 ∷ 0x90 ∷ []
 new_bytes DescCall DescIe reg = 0x66 ∷ 0x90 ∷ []
--- where a site is kept there are none
+-- a kept site has no new bytes
 new_bytes form choice reg = []
 
--- TPOFF32 of the site's symbol at that offset: its distance from the thread pointer
+-- TPOFF32 of the site's symbol at that offset: its offset from the thread pointer
 abbrev pub tpoff : ℕ → Option NewField
 tpoff at = Some (record { at = at; kind = TpOff32; addend = pos 0 })
 
--- GOTTPOFF of it: how far behind the field's end the GOT's word for it lies
+-- GOTTPOFF of the symbol: the distance from the field's end to the GOT's word for it
 abbrev pub gottpoff : ℕ → Option NewField
 gottpoff at = Some (record { at = at; kind = GotTpOff; addend = negsuc 3 })
 

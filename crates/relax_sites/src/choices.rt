@@ -1,8 +1,8 @@
-//! What a linker may put in a site's place.
+//! The choices of a linker at a site.
 
-/// Which sequence stands in the place of a site. The first part of a name is the model of the code as it was compiled,
-/// the second one that of the code in its place: LE knows a variable's distance from the thread pointer, IE reads it
-/// from a word of the GOT.
+/// Which sequence stands in the place of a site. The first part of a name is the access model of the compiled code, the
+/// second that of the code in its place: local exec (LE) has a variable's offset from the thread pointer in the code,
+/// initial exec (IE) reads it from a word of the GOT.
 #[derive(Clone, Copy, PartialEq, Eq, Debug)]
 pub enum Choice {
     /// The site's own bytes.

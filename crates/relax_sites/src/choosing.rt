@@ -7,8 +7,8 @@ use crate::choices::Choice;
 use link_faults::{Binding, ImageKind};
 use sequence_forms::Form;
 
-/// What stands in the place of a site of this form, whose symbol is bound so, in an image of this kind. `relax` is
-/// false where the user asks for no rewriting.
+/// The sequence in the place of a site of this form, whose symbol has this binding, in an image of this kind. `relax`
+/// is false if the user asks for no rewriting.
 pub fn choice(form: Form, binding: Binding, kind: ImageKind, relax: bool) -> Choice
     ensures table { result ≡ choice_of form binding kind relax }
     ensures own { IsChoiceOf form result }
@@ -19,7 +19,7 @@ pub fn choice(form: Form, binding: Binding, kind: ImageKind, relax: bool) -> Cho
     }
 }
 
-/// The table of a program that is linked with rewriting.
+/// The choices of a program that is linked with rewriting.
 fn program_choice(form: Form, binding: Binding) -> Choice
     ensures table { result ≡ program_choice form binding }
     ensures own { IsChoiceOf form result }

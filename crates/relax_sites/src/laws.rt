@@ -3,27 +3,27 @@
 ghost use Rattle.relax_sites.specs.Laws.{ChoicesAreOfTheirForms, RowsHaveTheirFormsLength, RowsEndInTheirFields};
 ghost use Rattle.relax_sites.specs.Laws.{RewritingStaysInTheSite, FieldsStandInTheirRows};
 
-/// What is chosen for a form is one of its choices.
+/// The choice for a form is one of that form's choices.
 pub fn choices_are_of_their_forms()
     ensures { ChoicesAreOfTheirForms }
 {}
 
-/// New bytes are as many as those of the sequence that they replace.
+/// The new bytes are as many as those of the sequence that they replace.
 pub fn rows_have_their_forms_length()
     ensures { RowsHaveTheirFormsLength }
 {}
 
-/// The field of new bytes is the last four of them, and zero.
+/// The field of the new bytes is their last four, which are zero.
 pub fn rows_end_in_their_fields()
     ensures { RowsEndInTheirFields }
 {}
 
-/// Where a site is rewritten, the new bytes stand in its place, and what stands before and behind it stays.
+/// A rewritten site has the new bytes in its place, and all bytes before and after it stay.
 pub fn rewriting_stays_in_the_site()
     ensures { RewritingStaysInTheSite }
 {}
 
-/// What is written in the field of new bytes, once they stand in a site's place, stands in them.
+/// Bytes that are written to the field of new bytes, after a site was rewritten, stand in these new bytes.
 pub fn fields_stand_in_their_rows()
     ensures { FieldsStandInTheirRows }
 {}

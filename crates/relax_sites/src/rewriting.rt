@@ -10,8 +10,7 @@ use crate::choices::Choice;
 use crate::rows::{add_bytes, mov_bytes};
 use sequence_forms::{Form, Site};
 
-/// Writes the bytes of the choice over the site in a section's bytes: none where the site is kept. The field in them
-/// is left zero.
+/// Writes the bytes for the choice over the site in a section's bytes; a kept site stays. The field is left zero.
 #[rattlefmt::skip]
 #[tactic(auto, unfolding(sequence_forms::specs::Forms::row))]
 pub fn rewrite(bytes: &mut [u8], site: &Site, choice: Choice)
@@ -49,7 +48,7 @@ pub fn rewrite(bytes: &mut [u8], site: &Site, choice: Choice)
     }
 }
 
-/// Writes bytes over those that stand at that offset.
+/// Overwrites the bytes at an offset.
 fn put(bytes: &mut [u8], at: usize, new: &[u8])
     requires { at + length new.now ≤ length bytes.old }
     ensures { bytes.new ≡ splice at new.now bytes.old }

@@ -1,4 +1,4 @@
-//! The table of new bytes: which bytes stand in a site's place, and which field they have.
+//! The table of new bytes: which bytes replace a site, and which field they have.
 
 ghost use Rattle.std.specs.Prelude.{◌≡◌, ◌+◌, ◌≤◌};
 ghost use Rattle.relax_sites.specs.Rows.{new_field, tpoff, gottpoff, mov_bytes, add_bytes, rex_rm, rex_both};
@@ -7,18 +7,18 @@ use crate::choices::Choice;
 use elf_records::RelocationKind;
 use sequence_forms::Form;
 
-/// The field of new bytes, zero until it is written. It has four bytes and is about the site's symbol.
+/// The field of new bytes, zero until it is written. It has four bytes and refers to the site's symbol.
 #[derive(Clone, Copy, PartialEq, Eq, Debug)]
 pub struct NewField {
     /// Its offset in the site.
     pub at: u64,
-    /// What it is to hold: `TpOff32` or `GotTpOff`.
+    /// The type of its value: `TpOff32` or `GotTpOff`.
     pub kind: RelocationKind,
-    /// The addend of its value.
+    /// The addend.
     pub addend: i64,
 }
 
-/// The field of the bytes that stand in the place of a site of this form, `None` where they have none.
+/// The field of the bytes that replace a site of this form; `None` if they have none.
 pub fn new_field(form: Form, choice: Choice) -> Option<NewField>
     ensures { result ≡ new_field form choice }
 {
@@ -32,7 +32,7 @@ pub fn new_field(form: Form, choice: Choice) -> Option<NewField>
     }
 }
 
-/// The distance from the thread pointer.
+/// A field with the symbol's offset from the thread pointer.
 fn tpoff(at: u64) -> NewField
     ensures { Some result ≡ tpoff at }
 {
@@ -43,7 +43,7 @@ fn tpoff(at: u64) -> NewField
     }
 }
 
-/// How far behind the field's end the GOT's word lies.
+/// A field with the distance from its end to the GOT's word.
 fn gottpoff(at: u64) -> NewField
     ensures { Some result ≡ gottpoff at }
 {
@@ -62,7 +62,7 @@ pub(crate) fn mov_bytes(reg: u8) -> [u8; 7]
     [rex_rm(reg), 0xc7, 0xc0 + reg % 8, 0, 0, 0, 0]
 }
 
-/// lea x@tpoff(%r), %r; with %rsp or %r12 as its base lea would need a byte more, so of these add $x@tpoff, %r
+/// lea x@tpoff(%r), %r; with %rsp or %r12 as its base lea would need one byte more, so for these add $x@tpoff, %r
 pub(crate) fn add_bytes(reg: u8) -> [u8; 7]
     requires { reg ≤ 15 }
     ensures { result ≡ add_bytes reg }
@@ -74,14 +74,14 @@ pub(crate) fn add_bytes(reg: u8) -> [u8; 7]
     }
 }
 
-/// REX of a register that ModRM's rm names.
+/// REX for a register in ModRM's rm.
 fn rex_rm(reg: u8) -> u8
     ensures { result ≡ rex_rm reg }
 {
     if reg < 8 { 0x48 } else { 0x49 }
 }
 
-/// REX of a register that both of ModRM's fields name.
+/// REX for a register in both of ModRM's fields.
 fn rex_both(reg: u8) -> u8
     ensures { result ≡ rex_both reg }
 {

@@ -14,7 +14,7 @@ use Rattle.transcript_text.specs.declared.outcomes.Outcome.TheVariants.{Returned
 
 -- ** sites: each has its choice
 
--- another sequence stands in its place
+-- another sequence stands in the site's place
 abbrev pub is_rewritten : Choice → Bool
 is_rewritten Keep = false
 is_rewritten choice = true
@@ -22,7 +22,7 @@ is_rewritten choice = true
 abbrev pub plus : SiteCounts → SiteCounts → SiteCounts
 plus a b = record { sites = a.sites + b.sites; rewritten = a.rewritten + b.rewritten }
 
--- those of an object, of an image, of all images
+-- the counts of an object, of an image, of all images
 abbrev pub choice_counts : List Choice → SiteCounts
 choice_counts choices = record { sites = length choices; rewritten = length (filter is_rewritten choices) }
 

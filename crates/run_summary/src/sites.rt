@@ -1,4 +1,4 @@
-//! How many sites images have.
+//! Counts the sites of images.
 
 ghost use Rattle.std.specs.Prelude.{◌≡◌, ◌+◌, IfOk, filter, length};
 ghost use Rattle.run_summary.specs.Summaries.{choice_counts, counts_of, image_counts, is_rewritten, plus};
@@ -7,14 +7,14 @@ use link_core::Linked;
 use relax_sites::Choice;
 use std::alloc::AllocError;
 
-/// How many sites there are, and in place of how many another sequence stands.
+/// How many sites there are, and how many of them were rewritten.
 #[derive(Clone, Copy, PartialEq, Eq, Debug)]
 pub struct SiteCounts {
     pub sites: u64,
     pub rewritten: u64,
 }
 
-/// Whether another sequence stands in the site's place.
+/// Whether the site was rewritten.
 fn is_rewritten(choice: Choice) -> bool
     ensures { result ≡ is_rewritten choice }
 {
@@ -24,7 +24,7 @@ fn is_rewritten(choice: Choice) -> bool
     }
 }
 
-/// In place of how many sites, which have these choices, another sequence stands.
+/// How many of the sites with these choices were rewritten.
 fn rewritten_count(choices: &[Choice]) -> usize
     ensures count { result ≡ length (filter is_rewritten choices.now) }
 {
@@ -37,7 +37,7 @@ fn rewritten_count(choices: &[Choice]) -> usize
     count
 }
 
-/// A count and some more; so many that their number needs more than 64 bits no memory holds.
+/// The sum of two counts. Counts whose sum needs more than 64 bits fit in no memory.
 pub(crate) fn plus(count: u64, more: u64) -> Result<u64, AllocError>
     ensures { IfOk result (λ sum. sum ≡ count + more) }
 {
@@ -48,7 +48,7 @@ pub(crate) fn plus(count: u64, more: u64) -> Result<u64, AllocError>
 }
 
 impl SiteCounts {
-    /// Those of all these images. The only error is want of memory.
+    /// The counts of all these images. The only error is `AllocError`.
     #[tactic(auto, unfolding(crate::specs::Summaries::counts_of))]
     pub fn of(images: &[Linked]) -> Result<SiteCounts, AllocError>
         ensures { IfOk result (λ counts. counts ≡ counts_of images.now) }
@@ -63,7 +63,7 @@ impl SiteCounts {
         Ok(counts)
     }
 
-    /// With those of an image.
+    /// These counts, plus those of an image.
     fn with_image(self, image: &Linked) -> Result<SiteCounts, AllocError>
         ensures { IfOk result (λ counts. counts ≡ plus self (image_counts image.now)) }
     {
@@ -74,7 +74,7 @@ impl SiteCounts {
         Ok(counts)
     }
 
-    /// With those of an object, whose sites have these choices.
+    /// These counts, plus those of an object, whose sites have these choices.
     fn with_object(self, choices: &[Choice]) -> Result<SiteCounts, AllocError>
         ensures { IfOk result (λ counts. counts ≡ plus self (choice_counts choices.now)) }
     {

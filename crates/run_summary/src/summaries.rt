@@ -1,4 +1,4 @@
-//! The line.
+//! The line of a run.
 
 ghost use Rattle.std.specs.Prelude.{◌≡◌, ◌+◌, ◌%◌, ◌^◌, ◌++◌, IfOk, OnOk};
 ghost use Rattle.run_summary.specs.Summaries.{images_text, line_count, lines_sum, lines_text, returned};
@@ -21,7 +21,7 @@ fn line_count(transcript: &Transcript) -> Result<u64, AllocError>
     Ok(count)
 }
 
-/// What a call returned; 0 of any other line.
+/// What a call returned; 0 for any other line.
 fn returned(line: &Line) -> u64
     ensures { result ≡ returned line.now.outcome }
 {
@@ -31,7 +31,7 @@ fn returned(line: &Line) -> u64
     }
 }
 
-/// What calls returned, added up modulo 2^64 to a sum.
+/// A sum plus what calls returned, modulo 2^64.
 fn with_lines(sum: u64, lines: &[Line]) -> u64
     ensures { result ≡ (sum + lines_sum lines.now) % 2 ^ 64 }
 {
@@ -42,7 +42,7 @@ fn with_lines(sum: u64, lines: &[Line]) -> u64
     sum
 }
 
-/// What all calls returned, added up modulo 2^64.
+/// The sum of what all calls returned, modulo 2^64.
 #[tactic(auto, unfolding(crate::specs::Summaries::returned_sum))]
 fn returned_sum(transcript: &Transcript) -> u64
     ensures { result ≡ returned_sum transcript.now.threads }
@@ -78,7 +78,7 @@ fn shown(alloc: Global, transcript: &Transcript) -> Result<Vec<u8>, AllocError>
     Ok(bytes)
 }
 
-/// Appends what the line says of the images of the job of `gen count`.
+/// Appends the part of the line about the images of the job of `gen count`.
 #[tactic(auto, unfolding(crate::specs::Summaries::images_text))]
 fn push_images(text: &mut String, count: u32, counts: SiteCounts) -> Result<(), AllocError>
     ensures { OnOk result (string_bytes text.new ≡ string_bytes text.old ++ images_text count counts) }
@@ -87,7 +87,7 @@ fn push_images(text: &mut String, count: u32, counts: SiteCounts) -> Result<(), 
     write!(text, "gen {count} sites {sites} rewritten {rewritten}")
 }
 
-/// Appends what it says of lines and events, and of what calls returned in all.
+/// Appends the part about lines and events, and the sum of what calls returned.
 #[tactic(auto, unfolding(crate::specs::Summaries::lines_text))]
 fn push_lines(text: &mut String, lines: u64, events: usize, sum: u64) -> Result<(), AllocError>
     ensures { OnOk result (string_bytes text.new ≡ string_bytes text.old ++ lines_text lines events sum) }
@@ -95,8 +95,8 @@ fn push_lines(text: &mut String, lines: u64, events: usize, sum: u64) -> Result<
     write!(text, " lines {lines} events {events} sum {sum:016x}")
 }
 
-/// The line about a run of the job of `gen count`, whose images have so many sites: `gen N sites S rewritten R lines L
-/// events E sum H peek B`. The only error is want of memory.
+/// The line about a run of the job of `gen count`, with these counts of sites: `gen N sites S rewritten R lines L
+/// events E sum H peek B`. The only error is `AllocError`.
 #[tactic(auto, unfolding(crate::specs::Summaries::summary_text))]
 pub fn summary(
     alloc: Global,

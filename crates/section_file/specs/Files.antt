@@ -13,31 +13,31 @@ use Rattle.tls_layout.specs.Places.{address_of}
 use Rattle.tls_layout.specs.Sections.{Layout, is_class}
 use Rattle.tls_relocs.specs.Laid.{Placed, laid, zeros}
 
--- where the byte of an address stands in the file: the first page is that of the headers
+-- the offset in the file of an address: the first page is that of the headers
 abbrev pub offset_of : Layout → ℕ → ℕ
 offset_of p address = address + 4096 - base_of p.kind
 
--- what a section has in memory: its bytes in the file, and zeros where it has none there (NOBITS)
+-- a section's bytes in memory: those in the file, or zeros if it has none there (NOBITS)
 abbrev pub memory_bytes : List ℕ → ℕ → List ℕ
 memory_bytes b s = section_bytes b s ++ zeros (section_size b s - length (section_bytes b s))
 
--- section s of object o, where it is of the class and has bytes
+-- section s of object o, if it is of the class and has bytes
 abbrev pub placed_section : Layout → SectionClass → ℕ → List ℕ → ℕ → List Placed
 placed_section p class o b s =
     if is_class class (section_class b s) && nat_lt 0 (section_size b s)
     then record { place = offset_of p (unwrap_or (address_of p o s) 0); bytes = memory_bytes b s } ∷ []
     else []
 
--- those of object o
+-- the sections of object o
 unfoldable pub placed_object : Layout → SectionClass → ℕ → List ℕ → List Placed
 placed_object p class o b = flat_map (placed_section p class o b) (range_with_len 0 (section_count b))
 
--- those of all objects, from number o on
+-- the sections of all objects, from number o on
 abbrev pub placed_from : Layout → SectionClass → ℕ → List (List ℕ) → List Placed
 placed_from p class o [] = []
 placed_from p class o (b ∷ more) = placed_object p class o b ++ placed_from p class (o + 1) more
 
--- no bytes, where a class ends that has some: its last section may be empty, and its alignment moves the end. A
+-- no bytes, at the end of a class that has some: its last section may be empty, and its alignment moves the end; a
 -- section that programs write is never empty
 abbrev pub end_mark : Layout → SectionClass → List Placed
 end_mark p (Writable initial) = []
@@ -48,7 +48,7 @@ end_mark p class =
 abbrev pub placed_class : Layout → List (List ℕ) → SectionClass → List Placed
 placed_class p objects class = placed_from p class 0 objects ++ end_mark p class
 
--- the classes that have addresses, in the order of these
+-- the classes that have addresses, in address order
 abbrev pub classes : List SectionClass
 classes = Executable ∷ ReadOnly ∷ Tls true ∷ Writable true ∷ Writable false ∷ []
 

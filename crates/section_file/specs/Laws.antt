@@ -1,4 +1,4 @@
--- What the file of sections holds, offset by offset, in words that know nothing of how it is laid.
+-- What the file of sections holds, offset by offset, whatever lays it out.
 use Rattle.std.specs.Prelude.{◌≡◌, ◌+◌, ◌<◌, ◌≤◌, ◌⊎◌, ℕ, true, List, [], Some, length, slice_get, slice_index_or}
 use Rattle.std.specs.Prelude.{nat_lt, if◌then◌else◌}
 use Rattle.std.specs.List.{All}
@@ -13,11 +13,11 @@ use Rattle.tls_layout.specs.Places.{address_of, IsLawful}
 use Rattle.tls_layout.specs.Sections.{Layout, layout_of}
 use Rattle.section_file.specs.Files.{offset_of, sections_file}
 
--- the end of an extent that has bytes, else another
+-- the end of an extent that has bytes, else the other number
 abbrev pub end_or : Extent → ℕ → ℕ
 end_or extent rest = if nat_lt extent.start extent.end then extent.end else rest
 
--- where the last class ends that has bytes; the base where none has
+-- where the last class with bytes ends; the base if no class has any
 unfoldable pub sections_end : Layout → ℕ
 sections_end p =
     end_or (extent_for (Writable true) p)
@@ -29,7 +29,7 @@ pub record AreLaid (kind : ImageKind) (objects : List (List ℕ)) : Type 0 where
   pub lawful : IsLawful (layout_of kind objects)
   pub are_objects : All IsObject objects
 
--- the file ends where they do
+-- the file ends where the sections end
 abbrev pub FilesEnd : Type 0
 FilesEnd = (kind : ImageKind) (objects : List (List ℕ)) → AreLaid kind objects
     → length (sections_file (layout_of kind objects) objects)
@@ -40,7 +40,7 @@ abbrev pub StandsAt : ImageKind → List (List ℕ) → ℕ → ℕ → ℕ → 
 StandsAt kind objects o s address =
     (o < length objects) × (address_of (layout_of kind objects) o s ≡ Some address)
 
--- byte k of a section stands at its place; it is zero where the section has none in its object's file
+-- byte k of a section is at its place; it is zero if the section has no bytes in its object's file
 abbrev pub SectionsStand : Type 0
 SectionsStand = (kind : ImageKind) (objects : List (List ℕ)) (o s address k : ℕ) → AreLaid kind objects
     → StandsAt kind objects o s address → k < section_size (slice_index_or objects o []) s
@@ -54,7 +54,7 @@ SectionsFit = (kind : ImageKind) (objects : List (List ℕ)) (o s address : ℕ)
     → offset_of (layout_of kind objects) address + section_size (slice_index_or objects o []) s
     ≤ length (sections_file (layout_of kind objects) objects)
 
--- the offset k is not one of a section's
+-- the offset k belongs to no section
 abbrev pub IsOutside : ImageKind → List (List ℕ) → ℕ → Type 0
 IsOutside kind objects k = (o s address : ℕ) → StandsAt kind objects o s address
     → (k < offset_of (layout_of kind objects) address)

@@ -2,12 +2,12 @@
 
 ghost use Rattle.section_file.specs.Laws.{FilesEnd, SectionsStand, SectionsFit, GapsAreZero};
 
-/// The file ends where the last class ends that has bytes.
+/// The file ends where the last class with bytes ends.
 pub fn files_end()
     ensures { FilesEnd }
 {}
 
-/// Each byte of a section stands at its place; it is zero where the section has none in its object's file.
+/// Each byte of a section is at its place; it is zero if the section has no bytes in its object's file.
 pub fn sections_stand()
     ensures { SectionsStand }
 {}

@@ -1,4 +1,4 @@
-//! Laying sections down, class by class.
+//! Lays sections down, class by class.
 
 ghost use Rattle.std.specs.Prelude.{◌≡◌, ◌+◌, ◌-◌, ◌<◌, ◌≤◌, ◌^◌, ◌++◌, OnOk, IfOk, length, unwrap_or};
 ghost use Rattle.elf_object.specs.Object.{section_count};
@@ -16,7 +16,7 @@ use link_faults::ImageKind;
 use std::alloc::{AllocError, Global};
 use tls_layout::{Extent, PAGE, Placement};
 
-/// The classes that have addresses, in the order of these.
+/// The classes that have addresses, in address order.
 const CODE: SectionClass = SectionClass::Executable;
 
 const CONSTANTS: SectionClass = SectionClass::ReadOnly;
@@ -27,7 +27,7 @@ const INITIAL_DATA: SectionClass = SectionClass::Writable { initial: true };
 
 const ZERO_DATA: SectionClass = SectionClass::Writable { initial: false };
 
-/// Where the byte of an address stands in the file, whose first page is that of the headers.
+/// The offset in the file of an address; the first page is that of the headers.
 pub fn offset_of(kind: ImageKind, address: u64) -> u64
     requires from_base { base_of kind ≤ address + 4096 }
     requires fits { address + 4096 < 2 ^ 64 }
@@ -36,7 +36,7 @@ pub fn offset_of(kind: ImageKind, address: u64) -> u64
     address + PAGE - kind.base()
 }
 
-/// Lays bytes down at an offset, behind zeros from where the file ends, and zeros behind them.
+/// Appends zeros up to `offset`, then the bytes, and then `zeros` zeros.
 fn push(file: &mut Vec<u8>, offset: u64, bytes: &[u8], zeros: usize) -> Result<(), AllocError>
     requires near { offset ≤ 2 ^ 26 }
     requires few { zeros ≤ 2 ^ 20 }
@@ -50,7 +50,7 @@ fn push(file: &mut Vec<u8>, offset: u64, bytes: &[u8], zeros: usize) -> Result<(
     file.resize(file.len() + zeros, 0)
 }
 
-/// Whether a section is of a class.
+/// Whether a section has this class.
 fn is_of(class: SectionClass, kept: Option<SectionClass>) -> bool
     ensures { result ≡ is_class class kept }
 {
@@ -65,7 +65,8 @@ fn is_of(class: SectionClass, kept: Option<SectionClass>) -> bool
     }
 }
 
-/// Where a section stands in the file. One without an address is never asked for: its answer is that of address 0.
+/// The offset of a section in the file. Callers ask only for sections with an address; for others
+/// it is that of address 0.
 #[tactic(auto, using(tls_layout::proofs::Bounds::address_bounds))]
 fn section_offset(placement: &Placement, kind: ImageKind, number: usize, section: u32) -> u64
     requires kind { placement.now.kind ≡ kind }
@@ -108,7 +109,7 @@ fn push_section(
     )
 }
 
-/// Lays down the sections of an object that are of the class.
+/// Lays down the sections of one object that are of the class.
 #[tactic(auto, using(crate::proofs::Laid::one_by_one), unfolding(crate::specs::Files::placed_object))]
 fn push_object(
     placement: &Placement,
@@ -159,8 +160,8 @@ fn extent_of(placement: &Placement, class: SectionClass) -> Extent
     }
 }
 
-/// Fills the file up to where a class ends. Its last section may have no bytes, and its alignment moves the end; but
-/// a section that programs write always has some.
+/// Fills the file up to where a class ends. Its last section may have no bytes, and its alignment moves the end; only a
+/// section that programs write always has bytes.
 fn push_end(
     placement: &Placement,
     kind: ImageKind,
@@ -195,7 +196,7 @@ fn push_class(
     push_end(placement, kind, class, file)
 }
 
-/// The first page, where headers will stand, with memory for the whole file.
+/// The first page, where headers will stand; memory for the whole file is reserved.
 #[tactic(auto, using(tls_layout::proofs::Bounds::room_above))]
 fn first_page(alloc: Global, placement: &Placement, kind: ImageKind) -> Result<Vec<u8>, AllocError>
     requires kind { placement.now.kind ≡ kind }

@@ -1,16 +1,16 @@
-//! The bytes of sections in an image's file.
+//! The file of an image's sections: each section at its place, and zeros between them.
 //!
-//! A linker puts the sections of many objects into one file, and a loader maps that file into memory a page of 4,096
-//! bytes at a time. A page of memory is a page of the file, so a byte stands as far behind its page's begin in the
-//! one as in the other: the offset and the address of a segment are congruent (gABI, "Program Header",
-//! `p_align`). Where each section goes in memory is known before a byte is written, by `tls_layout`. What is left is
-//! a file that has the same order and the same gaps.
+//! A linker puts the sections of many objects into one file, and a loader maps that file into memory a page of
+//! 4,096 bytes at a time. A page of memory is a page of the file, so a byte has the same offset in its page in
+//! both: the offset and the address of a segment are congruent (gABI, "Program Header", `p_align`). `tls_layout`
+//! finds the address of each section before a byte is written. What is left is to make a file with the same
+//! order and the same gaps.
 //!
-//! The rule that the crate keeps: **each byte of a section stands at its place, and all others are zero.** The first
-//! page is that of the headers, which another hand writes, so the byte of address `a` stands at offset
-//! `a` + 4,096 - the base of the image ([`offset_of`]): 0x400000 in a program at fixed addresses, else 0. Sections
-//! that have no bytes in their objects (`SHT_NOBITS`: `.bss`) are zeros here, so the file holds all that a loader
-//! maps. Thread-local ones of this type have no address, and nothing stands here for them.
+//! The rule that the crate keeps: **each byte of a section is at its place, and all others are zero.** The first page
+//! is that of the headers, which another crate writes, so the byte of address `a` is at offset `a` + 4,096 - the base
+//! of the image ([`offset_of`]): 0x400000 in a program at fixed addresses, else 0. Sections that have no bytes in
+//! their objects (`SHT_NOBITS`: `.bss`) are zeros here, so the file holds everything that a loader maps. Thread-local
+//! ones of this type have no address, and take no bytes here.
 //!
 //! An example: a program of two objects, with sections written as type, size and alignment.
 //!
@@ -26,14 +26,14 @@
 //! end of the file         0x402010   0x3010
 //! ```
 //!
-//! A class of sections may end behind the last byte of its sections: one of no bytes moves the end up to a multiple of
-//! its alignment. The file then has zeros up to there, so that a segment's bytes are all in the file.
+//! A class may end after the last byte of its sections: a section of no bytes moves the end up to a multiple of its
+//! alignment. The file then has zeros up to there, so that a segment's bytes are all in the file.
 //!
-//! [`lay_sections`] makes the file. It takes memory for all of it at once, copies each section once, and goes over the
-//! sections five times: for code, constants, the initial image of thread-local storage, and data with bytes and
-//! without. [`laws`] states what the file holds, offset by offset: where it ends, that each section lies in it with
-//! its own bytes, and that zeros stand between them. `specs/Files` has the bytes, `specs/Laying` what stands after
-//! each section that is laid down, and `specs/Laws` the laws.
+//! [`lay_sections`] makes the file. It allocates memory for all of it at once, copies each section once, and goes
+//! over the sections five times: for code, constants, the initial image of thread-local storage, and data with bytes
+//! and without. [`laws`] states what the file holds, offset by offset: where it ends, that each section lies in it
+//! with its own bytes, and that zeros stand between them. `specs/Files` has the bytes, `specs/Laying` the file after
+//! each section, and `specs/Laws` the laws.
 #![tactic(auto)]
 
 pub mod laws;

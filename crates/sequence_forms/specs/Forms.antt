@@ -1,5 +1,5 @@
--- The sequences by which code reaches thread-local storage ("ELF Handling For Thread-Local Storage"; psABI,
--- "Thread-Local Storage"): the bytes of each form, and the relocations that stand in them.
+-- The code sequences that reach thread-local storage ("ELF Handling For Thread-Local Storage"; psABI, "Thread-Local
+-- Storage"): the bytes of each form, and their relocations.
 use Rattle.std.specs.Prelude.{◌≡◌, ◌+◌, ◌/◌, ◌%◌, ◌==◌, ◌||◌, ◌&&◌, ℕ, ℤ, negsuc, Bool, true, List, [], ◌∷◌}
 use Rattle.std.specs.Prelude.{Option, Some, None, nat_lt, slice_index, if◌then◌else◌}
 use Rattle.elf_records.specs.declared.relocation.RelocationKind.{RelocationKind}
@@ -19,7 +19,7 @@ use Rattle.sequence_forms.specs.declared.forms.Call.TheVariants.{Direct, Indirec
 use Rattle.sequence_forms.specs.declared.forms.Second.{Second}
 use Rattle.sequence_forms.specs.declared.forms.Row.{Row}
 
--- whether a byte may stand in a cell: REX is 48 or 4c, ModRM has mod 00 and rm 101, so it is 5 + 8 * register
+-- whether a byte is allowed in a cell: REX is 48 or 4c; ModRM has mod 00 and rm 101, so it is 5 + 8 * register
 abbrev pub fits : Cell → ℕ → Bool
 fits (Is literal) byte = byte == literal
 fits Rex byte = (byte == 0x48) || (byte == 0x4c)
@@ -83,13 +83,13 @@ row DescCall = row_of (Is 0xff ∷ Is 0x10 ∷ []) TlsDescCall 0 None None
 abbrev pub register_of : ℕ → ℕ → ℕ
 register_of rex modrm = modrm / 8 + (if rex == 0x4c then 8 else 0)
 
--- the register of a sequence that starts there in the code; 0 of a form that names none
+-- the register of a sequence that starts there in the code; 0 for a form that names none
 unfoldable pub register : Form → List ℕ → ℕ → ℕ
 register IeMov code start = register_of (slice_index code start) (slice_index code (start + 2))
 register IeAdd code start = register_of (slice_index code start) (slice_index code (start + 2))
 register _ code start = 0
 
--- the types of the second relocation: its field holds the distance of the function, or of the word with its address
+-- the types of the second relocation: its field holds the distance to the function, or to the word with its address
 abbrev pub IsDistance : FieldValue → Type 0
 IsDistance Distance = Unit {0}
 IsDistance _ = ⊥
@@ -102,7 +102,7 @@ abbrev pub IsCallKind : Call → RelocationKind → Type 0
 IsCallKind Direct kind = IsDistance (kind_row kind).value
 IsCallKind Indirect kind = IsAddressWord (kind_row kind).entry
 
--- a row of the code says what the definition does
+-- a row of the code equals the definition
 pub record IsRow (sequence : Sequence) (given : Row) : Type 0 where
   pub cells_are : given.cells.now ≡ sequence.cells
   pub first_is : given.first ≡ sequence.first

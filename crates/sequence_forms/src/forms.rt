@@ -1,4 +1,4 @@
-//! The table of forms: the bytes of each, and the relocations that stand in them.
+//! The table of forms: the bytes of each, and their relocations.
 
 ghost use Rattle.std.specs.Prelude.{◌≡◌, Some, None};
 ghost use Rattle.sequence_forms.specs.Forms.{IsRow, fits, row, row_of, to_end};
@@ -10,24 +10,24 @@ use elf_records::RelocationKind;
 /// The addend of a field of four bytes at the end of its instruction.
 pub const TO_END: i64 = -4;
 
-/// A form of sequence, by the model of thread-local storage that it belongs to.
+/// A form of TLS code sequence, by its access model.
 #[derive(Clone, Copy, PartialEq, Eq, Debug)]
 pub enum Form {
     /// General dynamic: the address of a variable, by a call.
     Gd,
     /// Local dynamic: the start of the module's own block, by a call.
     Ld,
-    /// Initial executable: a variable's offset from the thread pointer is loaded.
+    /// Initial exec: loads a variable's offset from the thread pointer.
     IeMov,
-    /// The same, added to a register.
+    /// Initial exec: adds that offset to a register.
     IeAdd,
-    /// General dynamic, the call through the address that the linker stores.
+    /// General dynamic, with an indirect call through a word of the GOT.
     GdInd,
-    /// Local dynamic, likewise.
+    /// Local dynamic, with an indirect call through a word of the GOT.
     LdInd,
-    /// A TLS descriptor: its address.
+    /// A TLS descriptor: loads its address.
     DescLea,
-    /// A TLS descriptor: the call of its function.
+    /// A TLS descriptor: calls its function.
     DescCall,
 }
 
@@ -36,20 +36,20 @@ pub enum Form {
 pub enum Cell {
     /// This byte.
     Is(u8),
-    /// REX, 48 or 4c. Its bit R, 4, adds 8 to the number of the register that ModRM names.
+    /// REX, 48 or 4c. Its bit R, 4, adds 8 to the register number in ModRM.
     Rex,
-    /// ModRM of a place relative to the instruction's end: mod 00, rm 101, and a register between them.
+    /// ModRM with a displacement from the instruction's end: mod 00, rm 101, and a register between them.
     ModRm,
-    /// A byte of a relocation's field: any.
+    /// A byte of a relocation's field: any byte.
     Field,
 }
 
 /// How a sequence calls `__tls_get_addr`.
 #[derive(Clone, Copy, PartialEq, Eq, Debug)]
 pub enum Call {
-    /// At the distance in the field: R_X86_64_PLT32 or R_X86_64_PC32.
+    /// With the distance in the field: R_X86_64_PLT32 or R_X86_64_PC32.
     Direct,
-    /// By the address in memory at that distance: R_X86_64_GOTPCREL, R_X86_64_GOTPCRELX or R_X86_64_REX_GOTPCRELX.
+    /// Through the word at that distance: R_X86_64_GOTPCREL, R_X86_64_GOTPCRELX or R_X86_64_REX_GOTPCRELX.
     Indirect,
 }
 
@@ -65,20 +65,20 @@ pub struct Second {
 /// A row of the table.
 #[derive(Clone, Copy, Debug)]
 pub struct Row {
-    /// The bytes, as many as the form has.
+    /// The bytes, one cell for each.
     pub cells: &'static [Cell],
     /// The type of the first relocation.
     pub first: RelocationKind,
     /// Its offset in the sequence.
     pub first_at: u64,
-    /// Its addend; `None` where any will do.
+    /// Its addend; `None` if any is allowed.
     pub addend: Option<i64>,
-    /// The second relocation, where the form has two.
+    /// The second relocation, if the form has two.
     pub second: Option<Second>,
 }
 
 impl Cell {
-    /// Whether a byte may stand here.
+    /// Whether a byte is allowed here.
     pub fn fits(self, byte: u8) -> bool
         ensures { result ≡ fits self byte }
     {
@@ -141,7 +141,7 @@ fn alone(cells: &'static [Cell], first: RelocationKind) -> Row
 }
 
 impl Form {
-    /// The form's row: what an assembler writes for the instructions beside it.
+    /// The form's row: what an assembler makes of the instructions next to it.
     #[tactic(auto, unfolding(crate::specs::Forms::row))]
     pub fn row(self) -> Row
         ensures { IsRow (row self) result }

@@ -1,4 +1,4 @@
-//! Where a sequence stands in an object.
+//! The place of a sequence in an object.
 
 use crate::forms::Form;
 
@@ -13,9 +13,9 @@ pub struct Site {
     pub len: u64,
     /// Its row in the table.
     pub form: Form,
-    /// The symbol that its first relocation names: the variable, or of a form of the module the symbol that the
-    /// assembler put there.
+    /// The symbol that its first relocation names: the variable, or for local dynamic forms the symbol that
+    /// the assembler put there.
     pub symbol: u32,
-    /// The register that it writes, 0 to 15, of the two forms that have one; else 0.
+    /// The register that it writes, from 0 to 15, for the two forms that name one; else 0.
     pub reg: u8,
 }

@@ -1,5 +1,5 @@
--- What matching keeps of the code of one section: its relocations by their places, and which symbols are
--- `__tls_get_addr`.
+-- What matching uses of the code of one section: its relocations by their places, and which
+-- symbols are `__tls_get_addr`.
 use Rattle.std.specs.Prelude.{◌≡◌, ◌+◌, ◌*◌, ◌<◌, ◌≤◌, ◌^◌, ℕ, Bool, false, List, length, Option, Some, None}
 use Rattle.std.specs.Prelude.{IsTrue, IfSome, slice_index, slice_index_or}
 use Rattle.std.specs.List.{All, AllPairs, AllWithin, Contains, slice_get}
@@ -25,8 +25,8 @@ use Rattle.sequence_forms.specs.declared.places.Site.{Site}
 use Rattle.sequence_forms.specs.Forms.{Sequence, fits, row}
 use Rattle.sequence_match.specs.Sites.{Covers, HasSecond, IsBare, IsEntry, IsSecond, IsSiteOf, IsSpelled}
 
--- how many bytes a relocation of this type reaches: those of its field, or the place of a descriptor's call, which is
--- of a sequence and has no field
+-- how many bytes a relocation of this type reaches: those of its field, or the byte of a descriptor's call, which
+-- belongs to a sequence and has no field
 abbrev pub call_byte : SequencePart → FieldForm → ℕ
 call_byte First NoField = 1
 call_byte _ _ = 0
@@ -46,11 +46,11 @@ Reaches reach x k = (x.offset ≤ k) × (k < x.offset + reach_width reach x.kind
 abbrev pub ReachesAt : Reach → List Relocation → ℕ → ℕ → Type 0
 ReachesAt reach xs k e = (x : Relocation) × IsEntry xs e x × Reaches reach x k
 
--- what x, relocation number e, reaches
+-- the span of relocation number e, which is x
 abbrev pub span_of : Reach → ℕ → Relocation → Span
 span_of reach e x = record { offset = x.offset; width = reach_width reach x.kind; entry = e }
 
--- what one of the first n relocations reaches, one byte at least
+-- the span of one of the first n relocations, which reaches at least one byte
 abbrev pub IsSpanOf : Reach → List Relocation → ℕ → Span → Type 0
 IsSpanOf reach xs n span =
     (span.entry < n) × (0 < span.width)
@@ -62,7 +62,7 @@ pub record AreSpans (reach : Reach) (xs : List Relocation) (n : ℕ) (spans : Li
   pub every : (e : ℕ) (x : Relocation) → e < n → IsEntry xs e x → 0 < reach_width reach x.kind
       → Contains spans (span_of reach e x)
 
--- a number by which spans rise by offset, and those at one offset by entry, which is below 2 ^ 20
+-- a number that orders spans by offset, and those at one offset by entry, which is below 2 ^ 20
 abbrev pub order_of : Span → ℕ
 order_of span = span.offset * 2 ^ 20 + span.entry
 
@@ -70,25 +70,25 @@ pub record IsRising (spans : List Span) : Type 0 where
   pub by_offset : IsNonDecreasingBy (λ span. span.offset) spans
   pub by_order : IsNonDecreasingBy order_of spans
 
--- the spans of the relocations that reach a byte, rising
+-- the spans of the relocations that reach a byte, sorted
 pub record IsIndex (reach : Reach) (xs : List Relocation) (spans : List Span) : Type 0 where
   pub are : AreSpans reach xs (length xs) spans
   pub rising : IsRising spans
 
--- just the first n spans begin below the limit
+-- exactly the first n spans begin below the limit
 pub record IsSplit (spans : List Span) (limit n : ℕ) : Type 0 where
   pub few : n ≤ length spans
   pub below : AllWithin (λ span. span.offset < limit) spans 0 n
   pub above : AllWithin (λ span. limit ≤ span.offset) spans n (length spans)
 
--- the last span that begins below the limit, or there is none
+-- the last span that begins below the limit, or that there is none
 abbrev pub IsLastBelow : List Span → ℕ → Option Span → Type 0
 IsLastBelow spans limit None = All (λ span. limit ≤ span.offset) spans
 IsLastBelow spans limit (Some last) =
     Contains spans last × (last.offset < limit)
     × All (λ span. span.offset < limit → order_of span ≤ order_of last) spans
 
--- the first span that begins at the limit or above, or there is none
+-- the first span that begins at or above the limit, or that there is none
 abbrev pub IsFirstFrom : List Span → ℕ → Option Span → Type 0
 IsFirstFrom spans limit None = All (λ span. span.offset < limit) spans
 IsFirstFrom spans limit (Some first) =
@@ -109,7 +109,7 @@ abbrev pub AreOrdered : List Relocation → Option Indexes → Type 0
 AreOrdered xs None = Rise xs
 AreOrdered xs (Some indexes) = IsIndex OfField xs indexes.fields.now × IsIndex OfCall xs indexes.calls.now
 
--- symbol n is told to be `__tls_get_addr`
+-- symbol n is marked as `__tls_get_addr`
 abbrev pub Names : List Bool → ℕ → Type 0
 Names getters n = IsTrue (slice_index_or getters n false)
 
@@ -127,12 +127,12 @@ AreBare xs from to = (k : ℕ) → from ≤ k → k < to → IsBare xs k
 abbrev pub CoversIn : Relocation → ℕ → ℕ → Type 0
 CoversIn x from to = (k : ℕ) × (from ≤ k) × (k < to) × Covers x k
 
--- the bytes from start on are such as the cells allow
+-- the bytes from start on fit the cells
 abbrev pub AreBytes : List ℕ → List Cell → ℕ → Type 0
 AreBytes code cells start =
     (k : ℕ) (cell : Cell) → slice_get cells k ≡ Some cell → IsTrue (fits cell (slice_index code (start + k)))
 
--- the bytes that a row spells behind its first field: up to its second one, if it has one
+-- the bytes that a row spells after its first field: up to its second one, if it has one
 abbrev pub behind_at : Sequence → ℕ
 behind_at sequence = sequence.first_at + field_width sequence.first
 
@@ -148,23 +148,23 @@ abbrev pub IsEarliest : List Relocation → ℕ → Relocation → Type 0
 IsEarliest xs e x =
     (f : ℕ) (y : Relocation) → f < e → IsEntry xs f y → y.kind ≡ x.kind → y.offset ≡ x.offset → ⊥
 
--- the sequence that relocation number e is the first of
+-- the sequence whose first relocation is number e
 abbrev pub IsSiteIn : Code → ℕ → Site → Type 0
 IsSiteIn code e site = IsSiteOf code.bytes.now code.relocations.now (Names code.getters.now) e site
 
--- it is of this form, and says where it is
+-- it is of this form, and has its place
 abbrev pub IsFound : Code → Form → ℕ → Site → Type 0
 IsFound code form e site = (site.form ≡ form) × (site.section ≡ code.section) × IsSiteIn code e site
 
--- a relocation opens a sequence, which says where it is
+-- a relocation opens a sequence, which has its place
 abbrev pub IsOpening : Code → Opening → Type 0
 IsOpening code opening = IsFound code opening.site.form opening.entry opening.site
 
--- relocation number e is the first of no sequence of this form
+-- relocation number e is not the first of a sequence of this form
 abbrev pub HasNoSiteOf : Code → Form → ℕ → Type 0
 HasNoSiteOf code form e = (site : Site) → site.form ≡ form → IsSiteIn code e site → ⊥
 
--- it is the first of none
+-- it is not the first of any sequence
 abbrev pub IsNoFirst : Code → ℕ → Type 0
 IsNoFirst code e = (site : Site) → IsSiteIn code e site → ⊥
 

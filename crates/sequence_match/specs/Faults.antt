@@ -1,4 +1,4 @@
--- The sites of an object, and what is wrong with one whose thread-local accesses are no sites.
+-- The sites of an object, and what is wrong with one that has a thread-local access that is not a site.
 use Rattle.std.specs.Prelude.{◌≡◌, ◌≢◌, ◌<◌, ℕ, List, [], Option, Some, codes}
 use Rattle.std.specs.List.{All, AllPairs, Contains}
 use Rattle.object_faults.specs.declared.class.SectionClass.{SectionClass}
@@ -22,12 +22,12 @@ use Rattle.sequence_forms.specs.declared.places.Site.{Site}
 use Rattle.sequence_forms.specs.Forms.{row}
 use Rattle.sequence_match.specs.Sites.{IsEntry, IsSecond, IsSiteOf}
 
--- the bytes of a section of this class, where it is executable
+-- the bytes of a section of this class, if it is executable
 abbrev pub bytes_of_code : Option SectionClass → List ℕ → List ℕ
 bytes_of_code (Some Executable) bytes = bytes
 bytes_of_code _ bytes = []
 
--- the code of section s: its bytes, where it is executable
+-- the code of section s: its bytes, if it is executable
 unfoldable pub code_of : List ℕ → ℕ → List ℕ
 code_of b s = bytes_of_code (section_class b s) (section_bytes b s)
 
@@ -49,12 +49,12 @@ IsFirstPart _ = ⊥
 abbrev pub IsOfSequence : RelocationKind → Type 0
 IsOfSequence kind = IsFirstPart (kind_row kind).part
 
--- relocation number e is of such a type, and it is the first one of no sequence
+-- relocation number e is of such a type, and is not the first one of a sequence
 abbrev pub IsLoose : List ℕ → List Relocation → (ℕ → Type 0) → ℕ → Type 0
 IsLoose code xs getter e =
     (x : Relocation) × IsEntry xs e x × IsOfSequence x.kind × ((site : Site) → IsSiteOf code xs getter e site → ⊥)
 
--- relocation number f names `__tls_get_addr`, and it is the second one of no sequence
+-- relocation number f names `__tls_get_addr`, and is not the second one of a sequence
 abbrev pub IsStray : List ℕ → List Relocation → (ℕ → Type 0) → ℕ → Type 0
 IsStray code xs getter f =
     (x : Relocation) × IsEntry xs f x × (x.kind ≢ Nothing) × getter x.symbol
@@ -85,7 +85,7 @@ pub record IsFirst (b : List ℕ) (r e : ℕ) (kind : FaultKind) : Type 0 where
   pub nowhere_earlier : (t f : ℕ) → Earlier t f r e → Stands kind b t f → ⊥
   pub earlier_kinds : (earlier : FaultKind) → number earlier < number kind → Nowhere earlier b
 
--- what a refusal says of the object; of want of memory nothing
+-- what a refusal says of the object; nothing when memory runs out
 abbrev pub IsFault : List ℕ → ObjectFault → Type 0
 IsFault b OutOfMemory = Unit {0}
 IsFault b (At r e kind) = IsFirst b r e kind

@@ -1,4 +1,4 @@
--- What the search through an object keeps: the symbols that are `__tls_get_addr`, and what it has found.
+-- What the search through an object keeps: which symbols are `__tls_get_addr`, and what it has found.
 use Rattle.std.specs.Prelude.{◌≡◌, ◌≢◌, ◌↔◌, ◌+◌, ◌<◌, ◌≤◌, ◌⊎◌, ◌||◌, ℕ, Bool, false, List, Option, Some}
 use Rattle.std.specs.Prelude.{None, IfSome, slice_index_or}
 use Rattle.std.specs.List.{All, AllPairs, Contains}
@@ -19,7 +19,7 @@ use Rattle.sequence_forms.specs.declared.places.Site.{Site}
 use Rattle.sequence_match.specs.Code.{IsSiteIn, Names}
 use Rattle.sequence_match.specs.Faults.{AreSites, Before, IsGetter, IsLoose, IsSite, IsStray, Nowhere, Stands, StandsOf}
 
--- the kind of fault that is asked
+-- the kind of fault
 abbrev pub kind_of : Asked → FaultKind
 kind_of Loose = Sequence
 kind_of Stray = StrayCall
@@ -36,7 +36,7 @@ is_use getters x = is_of_sequence x.kind || slice_index_or getters x.symbol fals
 abbrev pub IsOf : Code → Site → Type 0
 IsOf code site = (site.section ≡ code.section) × ((e : ℕ) × IsSiteIn code e site)
 
--- relocation number e of the code belongs to a sequence and opens none
+-- relocation number e of the code belongs in a sequence and opens none
 abbrev pub IsLooseIn : Code → ℕ → Type 0
 IsLooseIn code e = IsLoose code.bytes.now code.relocations.now (Names code.getters.now) e
 
@@ -44,7 +44,7 @@ IsLooseIn code e = IsLoose code.bytes.now code.relocations.now (Names code.gette
 abbrev pub IsStrayIn : Code → ℕ → Type 0
 IsStrayIn code e = IsStray code.bytes.now code.relocations.now (Names code.getters.now) e
 
--- the least number at which P holds, where n is above one, or that there is none below n
+-- the least number at which P holds; None only if P holds at none below n
 abbrev pub IsLeastBelow : (ℕ → Type 0) → ℕ → Option ℕ → Type 0
 IsLeastBelow P n None = (e : ℕ) → e < n → P e → ⊥
 IsLeastBelow P n (Some e) = P e × ((f : ℕ) → f < e → P f → ⊥)
@@ -61,20 +61,20 @@ pub record AreSitesFrom (b : List ℕ) (from to : ℕ) (sites : List Site) : Typ
   pub every : (site : Site) → IsSite b site → from ≤ site.section → site.section < to → Contains sites site
   pub rising : AllPairs Before sites
 
--- what is found in code
+-- the findings in code
 pub record AreFindingsIn (code : Code) (found : Findings) : Type 0 where
   pub sites : (unsorted : List Site) × AreSitesIn code unsorted × IsPermutation unsorted found.sites.items
   pub rising : IsNonDecreasingBy (λ site. site.start) found.sites.items
   pub loose : IsFirstAt (IsLoose code.bytes.now code.relocations.now (Names code.getters.now)) found.loose
   pub stray : IsFirstAt (IsStray code.bytes.now code.relocations.now (Names code.getters.now)) found.stray
 
--- what is found in section s
+-- the findings in section s
 pub record AreFindings (b : List ℕ) (s : ℕ) (found : Findings) : Type 0 where
   pub sites : AreSitesFrom b s (s + 1) found.sites.items
   pub loose : IsFirstAt (StandsOf Sequence b s) found.loose
   pub stray : IsFirstAt (StandsOf StrayCall b s) found.stray
 
--- an entry that lies before no other of the two, and is one of them
+-- the lower of two entries
 pub record IsLower (first : Option Spot) (second lower : Spot) : Type 0 where
   pub one : (first ≡ Some lower) ⊎ (second ≡ lower)
   pub not_after_second : Earlier second.table second.entry lower.table lower.entry → ⊥
@@ -84,7 +84,7 @@ pub record IsLower (first : Option Spot) (second lower : Spot) : Type 0 where
 abbrev pub StandsBelow : FaultKind → List ℕ → ℕ → ℕ → ℕ → Type 0
 StandsBelow kind b n s e = (s < n) × (0 < kept_relocation_table b s) × StandsOf kind b s e
 
--- the first entry of the tables of the sections below n at which the kind stands
+-- the first entry, in the tables of the sections below n, at which the kind stands
 abbrev pub IsFirstBelow : FaultKind → List ℕ → ℕ → Option Spot → Type 0
 IsFirstBelow kind b n None = (s e : ℕ) → StandsBelow kind b n s e → ⊥
 IsFirstBelow kind b n (Some spot) =
@@ -98,7 +98,7 @@ IsFirstOf kind b (Some spot) =
     Stands kind b spot.table spot.entry
     × ((t f : ℕ) → Earlier t f spot.table spot.entry → Stands kind b t f → ⊥)
 
--- what is found in an object
+-- the findings in an object
 pub record IsSurvey (b : List ℕ) (found : Survey) : Type 0 where
   pub sites : AreSites b found.sites.items
   pub loose : IsFirstOf Sequence b found.loose

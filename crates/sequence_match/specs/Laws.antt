@@ -3,7 +3,7 @@ use Rattle.std.specs.Prelude.{◌≡◌, ◌+◌, ◌<◌, ◌≤◌, ℕ, List}
 use Rattle.sequence_forms.specs.declared.places.Site.{Site}
 use Rattle.sequence_match.specs.Faults.{IsSite}
 
--- sites that share a byte are one
+-- sites that share a byte are the same
 abbrev pub SitesAreApart : Type 0
 SitesAreApart =
     (b : List ℕ) (p q : Site) (k : ℕ) → IsSite b p → IsSite b q → p.section ≡ q.section

@@ -1,5 +1,5 @@
-//! Finding the sites of an object, or its first fault, in one walk over its sections. One whose relocations have nothing
-//! to do with sequences is passed over.
+//! Finds the sites of an object, or its first fault, in one walk over its sections. Sections whose relocations have
+//! nothing to do with sequences are skipped.
 
 ghost use Rattle.std.specs.Prelude.{◌≡◌, ◌↔◌, ◌+◌, ◌++◌, ◌<◌, ◌≤◌, ◌^◌, ℕ, IsTrue, IfOk, IfErr, IfSome, OnOk, length};
 ghost use Rattle.std.specs.List.{list_any};
@@ -23,13 +23,13 @@ use elf_object::{FaultKind, Object, ObjectFault, Relocation, SectionClass, Symbo
 use sequence_forms::Site;
 use std::alloc::{AllocError, Global};
 
-/// The function that the run time offers for thread-local addresses.
+/// The run time's function for thread-local addresses.
 const GETTER: &[u8; 14] = b"__tls_get_addr";
 
-/// A kind of fault that is asked here.
+/// A kind of fault that this module checks.
 #[derive(Clone, Copy)]
 enum Asked {
-    /// A relocation of sequences that opens none.
+    /// A relocation that belongs in a sequence and opens none.
     Loose,
     /// A use of the undefined `__tls_get_addr` outside a sequence.
     Stray,
@@ -42,25 +42,25 @@ struct Spot {
     entry: u32,
 }
 
-/// What is found in a section.
+/// The findings in a section.
 #[derive(Drop)]
 struct Findings {
     /// Its sequences, rising.
     sites: Vec<Site>,
-    /// The first of its relocations at which there is a `Loose`.
+    /// The first of its relocations that is a `Loose`.
     loose: Option<u32>,
-    /// The first at which there is a `Stray`.
+    /// The first of its relocations that is a `Stray`.
     stray: Option<u32>,
 }
 
-/// What is found in an object.
+/// The findings in an object.
 #[derive(Drop)]
 struct Survey {
     /// Its sequences, rising.
     sites: Vec<Site>,
-    /// The first entry at which there is a `Loose`.
+    /// The first entry that is a `Loose`.
     loose: Option<Spot>,
-    /// The first at which there is a `Stray`.
+    /// The first entry that is a `Stray`.
     stray: Option<Spot>,
 }
 
@@ -80,7 +80,7 @@ fn is_getter(object: &Object, number: u32) -> bool
     }
 }
 
-/// Of each symbol whether it is `__tls_get_addr`, and the object does not define it.
+/// For each symbol, whether it is `__tls_get_addr` and the object does not define it.
 fn find_getters(alloc: Global, object: &Object) -> Result<Vec<bool>, AllocError>
     ensures { IfOk result (λ getters. AreGetters object.now getters.items) }
 {
@@ -91,7 +91,7 @@ fn find_getters(alloc: Global, object: &Object) -> Result<Vec<bool>, AllocError>
     Ok(getters)
 }
 
-/// The bytes of a section, where it is executable.
+/// The bytes of a section, if it is executable.
 #[tactic(auto, using(crate::proofs::Sections::code_past), unfolding(crate::specs::Faults::code_of))]
 fn code_of<'a>(object: &Object<'a>, section: u32) -> &'a [u8]
     ensures bytes { result.now ≡ bytes_of object.now section }
@@ -106,7 +106,7 @@ fn code_of<'a>(object: &Object<'a>, section: u32) -> &'a [u8]
     }
 }
 
-/// Whether a relocation can be part of a sequence, or a fault.
+/// Whether a relocation can be part of a sequence, or a fault of this module.
 fn is_use(getters: &[bool], relocation: &Relocation) -> bool
     ensures { result ≡ is_use getters.now relocation.now }
 {
@@ -152,7 +152,7 @@ impl Asked {
     }
 }
 
-/// The first relocation up to this one at which there is a `Loose`. `loose` is that of the relocations before it.
+/// The first relocation up to this one that is a `Loose`. `loose` is the first one before it.
 fn loose_up_to(code: &Code, entry: u32, loose: Option<u32>) -> Option<u32>
     requires ready { IsReady code.now }
     requires entry { entry < length code.now.relocations.now }
@@ -166,8 +166,8 @@ fn loose_up_to(code: &Code, entry: u32, loose: Option<u32>) -> Option<u32>
     }
 }
 
-/// The first relocation up to this one at which there is a `Stray`. `stray` is that of the relocations before it, and
-/// `known` the last of them that opens a sequence.
+/// The first relocation up to this one that is a `Stray`. `stray` is the first one before it, and `known` the last
+/// sequence that was opened before it.
 fn stray_up_to(code: &Code, entry: u32, known: Option<Opening>, stray: Option<u32>) -> Option<u32>
     requires ready { IsReady code.now }
     requires entry { entry < length code.now.relocations.now }
@@ -182,8 +182,8 @@ fn stray_up_to(code: &Code, entry: u32, known: Option<Opening>, stray: Option<u3
     }
 }
 
-/// What is found in code, its sequences in the order of their first relocations. Each relocation is matched once: none
-/// that opens a sequence is loose, and the second one of a sequence mostly stands next to the first.
+/// The findings in code, with sequences in the order of their first relocations. Each relocation is matched once: one
+/// that opens a sequence is not loose, and the second one of a sequence usually stands next to the first.
 fn openings_in(alloc: Global, code: &Code) -> Result<Findings, AllocError>
     requires { IsReady code.now }
     ensures sites { IfOk result (λ openings. AreSitesIn code.now openings.sites.items) }
@@ -223,7 +223,7 @@ fn are_rising(sites: &[Site]) -> bool
     true
 }
 
-/// Sites, rising by their starts. Those of a compiler's relocations do already.
+/// Sites, sorted by their starts. Those of a compiler's relocations are sorted already.
 fn rising(mut sites: Vec<Site>) -> Result<Vec<Site>, AllocError>
     ensures permutation { IfOk result (λ sorted. IsPermutation sites.items sorted.items) }
     ensures rising { IfOk result (λ sorted. IsNonDecreasingBy (λ site. site.start) sorted.items) }
@@ -235,7 +235,7 @@ fn rising(mut sites: Vec<Site>) -> Result<Vec<Site>, AllocError>
     Ok(sites)
 }
 
-/// What is found in code.
+/// The findings in code.
 fn find_in_code(alloc: Global, code: &Code) -> Result<Findings, AllocError>
     requires { IsReady code.now }
     ensures { IfOk result (AreFindingsIn code.now) }
@@ -253,7 +253,7 @@ fn find_in_code(alloc: Global, code: &Code) -> Result<Findings, AllocError>
     })
 }
 
-/// What is found in a section, by all of its relocations, which rise as they stand or have indexes.
+/// The findings in a section, from all of its relocations, which rise as they stand or have indexes.
 fn search_with(
     alloc: Global,
     object: &Object,
@@ -279,7 +279,7 @@ fn search_with(
     Ok(findings)
 }
 
-/// What is found in a section, by all of its relocations. They are put in order only where they do not rise as they stand.
+/// The findings in a section, from all of its relocations. They get indexes only if they do not rise as they stand.
 fn search_section(
     alloc: Global,
     object: &Object,
@@ -303,7 +303,7 @@ fn search_section(
     search_with(alloc, object, getters, section, relocations, Some(indexes))
 }
 
-/// What is found in a section. Only one with a use is searched.
+/// The findings in a section. Only a section with a use is searched.
 fn find_in_section(
     alloc: Global,
     object: &Object,
@@ -324,14 +324,14 @@ fn find_in_section(
 }
 
 impl Spot {
-    /// Whether it lies in a lower section than the other, or at a lower entry of the same.
+    /// Whether the entry lies in a lower section than the other, or lower in the same section.
     fn is_before(self, other: Spot) -> bool
         ensures { IsTrue result ↔ Earlier self.table self.entry other.table other.entry }
     {
         self.table < other.table || (self.table == other.table && self.entry < other.entry)
     }
 
-    /// The fault at it.
+    /// The fault at the entry.
     fn fault(self, kind: FaultKind) -> ObjectFault
         ensures { result ≡ At self.table self.entry kind }
     {
@@ -353,8 +353,8 @@ fn lower(first: Option<Spot>, second: Spot) -> Spot
     }
 }
 
-/// The first entry of the tables of the sections up to this one at which the kind stands. `first` is that of the
-/// sections before it, and `entry` the first of this one's relocations.
+/// The first entry, in the tables of the sections up to this one, at which the kind stands. `first` is that of the
+/// sections before it, and `entry` the first of this section's relocations.
 fn first_with(
     object: &Object,
     section: u32,
@@ -375,7 +375,7 @@ fn first_with(
     }
 }
 
-/// Sites, and others behind them.
+/// The sites of both lists, one list after the other.
 fn joined(mut sites: Vec<Site>, others: Vec<Site>) -> Result<Vec<Site>, AllocError>
     ensures { IfOk result (λ all. all.items ≡ sites.items ++ others.items) }
 {
@@ -386,7 +386,7 @@ fn joined(mut sites: Vec<Site>, others: Vec<Site>) -> Result<Vec<Site>, AllocErr
     Ok(sites)
 }
 
-/// Goes through the sections.
+/// Goes through all sections.
 fn find_all(alloc: Global, object: &Object, getters: &[bool]) -> Result<Survey, AllocError>
     requires { AreGetters object.now getters.now }
     ensures { IfOk result (IsSurvey object.now) }
@@ -407,9 +407,9 @@ fn find_all(alloc: Global, object: &Object, getters: &[bool]) -> Result<Survey, 
     })
 }
 
-/// The sequences of an object, rising by section and start, or the first fault of those that no reading of the object
-/// asks: first a relocation that belongs to a sequence and opens none, in the lowest section of relocations that has
-/// one and there the lowest entry; then a use of the undefined `__tls_get_addr` outside a sequence, likewise.
+/// The sequences of an object, rising by section and start, or the first of two kinds of fault that reading an object
+/// does not check: first a relocation that belongs in a sequence and opens none, at the lowest section of relocations
+/// and, there, the lowest entry; then a use of the undefined `__tls_get_addr` outside a sequence, likewise.
 pub fn sites(alloc: Global, object: &Object) -> Result<Vec<Site>, ObjectFault>
     ensures sites { IfOk result (λ sites. AreSites object.now sites.items) }
     ensures no_loose { OnOk result (Nowhere Sequence object.now) }

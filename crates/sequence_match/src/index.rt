@@ -1,5 +1,5 @@
 //! The relocations of a section by their places, to find the one whose field covers a byte, or the first call through
-//! a descriptor that stands at one.
+//! a descriptor at a byte.
 
 ghost use Rattle.std.specs.Prelude.{◌≡◌, ◌↔◌, ◌+◌, ◌<◌, ◌≤◌, ◌^◌, IfOk, IsTrue, length};
 ghost use Rattle.std.specs.List.{AllWithin};
@@ -13,23 +13,23 @@ use std::alloc::{AllocError, Global};
 /// One more than the greatest number of a relocation.
 const ENTRY_LIMIT: u128 = 1 << 20;
 
-/// The bytes that a relocation reaches, one at least.
+/// The bytes that a relocation reaches, at least one.
 #[derive(Clone, Copy)]
 pub struct Span {
     /// The first of them.
     pub offset: u64,
-    /// How many they are.
+    /// How many bytes it reaches.
     pub width: u32,
     /// The relocation's number.
     pub entry: u32,
 }
 
-/// What a relocation reaches.
+/// Which bytes a relocation reaches.
 #[derive(Clone, Copy)]
 pub enum Reach {
     /// The bytes of its field.
     OfField,
-    /// Of a call through a descriptor, which has no field, the byte that it stands at.
+    /// For a call through a descriptor, which has no field, the byte at which it stands.
     OfCall,
 }
 
@@ -53,7 +53,7 @@ impl Reach {
 }
 
 impl Span {
-    /// A number by which spans rise by offset, and those at one offset by entry.
+    /// A number that orders spans by offset, and those at one offset by entry.
     fn order(&self) -> u128
         ensures { result ≡ order_of self.now }
     {
@@ -96,7 +96,7 @@ fn are_rising(spans: &[Span]) -> bool
     true
 }
 
-/// Spans, rising. Those of a compiler's relocations do already.
+/// Spans, sorted. Those of a compiler's relocations are sorted already.
 fn rising(mut spans: Vec<Span>) -> Result<Vec<Span>, AllocError>
     ensures permutation { IfOk result (λ sorted. IsPermutation spans.items sorted.items) }
     ensures rising { IfOk result (λ sorted. IsNonDecreasingBy order_of sorted.items) }
@@ -108,7 +108,7 @@ fn rising(mut spans: Vec<Span>) -> Result<Vec<Span>, AllocError>
     Ok(spans)
 }
 
-/// The spans of the relocations that reach a byte, rising.
+/// The spans of the relocations that reach a byte, sorted.
 pub fn index(
     alloc: Global,
     reach: Reach,
@@ -140,7 +140,7 @@ fn are_above(spans: &[Span], limit: u64, count: usize) -> bool
     count == spans.len() || limit <= spans[count].offset
 }
 
-/// Whether just the first `count` spans begin below a limit.
+/// Whether exactly the first `count` spans begin below a limit.
 fn is_split(spans: &[Span], limit: u64, count: usize) -> bool
     requires rising { IsRising spans.now }
     ensures { IsTrue result ↔ IsSplit spans.now limit count }
@@ -148,7 +148,7 @@ fn is_split(spans: &[Span], limit: u64, count: usize) -> bool
     count <= spans.len() && are_below(spans, limit, count) && are_above(spans, limit, count)
 }
 
-/// How many spans begin below a limit. A guess and the next number are tried before they are searched.
+/// How many spans begin below a limit. It tries `guess` and the next number before it searches.
 pub fn count_below(spans: &[Span], limit: u64, guess: usize) -> usize
     requires rising { IsRising spans.now }
     ensures { IsSplit spans.now limit result }
@@ -163,7 +163,7 @@ pub fn count_below(spans: &[Span], limit: u64, guess: usize) -> usize
     spans.partition_point(|span| span.offset < limit)
 }
 
-/// The last span that begins below a limit. `guess` is a guess of how many do.
+/// The last span that begins below a limit. `guess` is a guess of how many spans do.
 pub fn last_below(spans: &[Span], limit: u64, guess: usize) -> Option<Span>
     requires rising { IsRising spans.now }
     ensures { IsLastBelow spans.now limit result }
@@ -175,7 +175,7 @@ pub fn last_below(spans: &[Span], limit: u64, guess: usize) -> Option<Span>
     Some(spans[count - 1])
 }
 
-/// The first span that begins at a limit or above.
+/// The first span that begins at or above a limit.
 pub fn first_from(spans: &[Span], limit: u64) -> Option<Span>
     requires rising { IsRising spans.now }
     ensures { IsFirstFrom spans.now limit result }

@@ -1,4 +1,4 @@
-//! Matching one relocation, and the bytes around it, with the table.
+//! Matches one relocation, and the bytes around it, with the table.
 
 ghost use Rattle.std.specs.Prelude.{◌≡◌, ◌↔◌, ◌+◌, ◌<◌, ◌≤◌, ◌^◌, ℕ, IsTrue, IfSome, MatchOption, length, Some};
 ghost use Rattle.sequence_match.specs.Code.{AreBare, AreBytes, HasNoSiteOf, IsAt, IsEarliest, IsFound, IsIndex, IsNoFirst};
@@ -16,12 +16,12 @@ use elf_object::{Relocation, RelocationKind};
 use elf_records::relocation_row::{FieldValue, SequencePart, TableEntry};
 use sequence_forms::{Call, Cell, Form, Row, Second, Site, TO_END};
 
-/// The relocations of a section by their places, where the file has them in another order.
+/// The relocations of a section by their places, for a section whose file has them in another order.
 #[derive(Clone, Copy)]
 pub struct Indexes<'a> {
-    /// Their fields, rising.
+    /// Their fields, sorted.
     pub fields: &'a [Span],
-    /// The calls through descriptors, likewise.
+    /// The calls through descriptors, sorted.
     pub calls: &'a [Span],
 }
 
@@ -29,12 +29,12 @@ pub struct Indexes<'a> {
 #[derive(Clone, Copy)]
 pub struct Code<'a> {
     pub section: u32,
-    /// The bytes; none of a section that is no code.
+    /// The bytes; empty for a section that is not code.
     pub bytes: &'a [u8],
     pub relocations: &'a [Relocation],
-    /// Of each symbol whether it is the undefined `__tls_get_addr`.
+    /// For each symbol, whether it is the undefined `__tls_get_addr`.
     pub getters: &'a [bool],
-    /// None where the relocations rise by offset as they stand, so that neighbours tell what an index would.
+    /// `None` if the relocations rise by offset as they stand, so that neighbours serve as an index.
     pub indexes: Option<Indexes<'a>>,
 }
 
@@ -46,8 +46,8 @@ pub struct Opening {
 }
 
 impl Code<'_> {
-    /// The relocation whose field covers a byte, by the index of fields. `guess` is a guess of how many fields begin at
-    /// the byte or before.
+    /// The relocation whose field covers a byte, from the index of fields. `guess` is a guess of how many fields
+    /// begin at or before the byte.
     fn field_indexed(&self, fields: &[Span], place: u64, guess: u32) -> Option<u32>
         requires ready { IsReady self.now }
         requires index { IsIndex OfField self.now.relocations.now fields.now }
@@ -65,7 +65,7 @@ impl Code<'_> {
         }
     }
 
-    /// The relocation whose field covers a byte. It is looked for near relocation number `near`.
+    /// The relocation whose field covers a byte. The search begins near relocation number `near`.
     fn field_over(&self, place: u64, near: u32) -> Option<u32>
         requires ready { IsReady self.now }
         requires inside { place < length self.now.bytes.now }
@@ -77,7 +77,7 @@ impl Code<'_> {
         }
     }
 
-    /// The first call through a descriptor that stands at a place, by the index of calls.
+    /// The first call through a descriptor at a place, from the index of calls.
     fn call_at(&self, calls: &[Span], place: u64) -> Option<u32>
         requires ready { IsReady self.now }
         requires index { IsIndex OfCall self.now.relocations.now calls.now }
@@ -102,8 +102,8 @@ fn is_byte_bare(code: &Code, place: u64, near: u32) -> bool
     }
 }
 
-/// Whether no field covers a byte from one place to another, a few bytes on, by an index. A field has four bytes or more, so
-/// the last byte and the first one tell.
+/// Whether no field covers a byte from `from` up to `to`, a few bytes on, by an index. A field has at least four
+/// bytes, so it is enough to check the first and the last byte.
 fn are_ends_bare(code: &Code, from: u64, to: u64, near: u32) -> bool
     requires ready { IsReady code.now }
     requires inside { to ≤ length code.now.bytes.now }
@@ -114,7 +114,7 @@ fn are_ends_bare(code: &Code, from: u64, to: u64, near: u32) -> bool
     is_byte_bare(code, to - 1, near) && is_byte_bare(code, from, near)
 }
 
-/// Whether no field covers a byte from one place to another, a few bytes on. `near` is as for `field_over`.
+/// Whether no field covers a byte from `from` up to `to`, a few bytes on. `near` is as for `field_over`.
 fn is_bare(code: &Code, from: u64, to: u64, near: u32) -> bool
     requires ready { IsReady code.now }
     requires inside { to ≤ length code.now.bytes.now }
@@ -130,7 +130,7 @@ fn is_bare(code: &Code, from: u64, to: u64, near: u32) -> bool
     }
 }
 
-/// Whether the bytes from `start` on are such as cells allow.
+/// Whether the bytes from `start` on fit the cells.
 fn are_bytes(bytes: &[u8], cells: &[Cell], start: usize) -> bool
     requires inside { start + length cells.now ≤ length bytes.now }
     ensures { IsTrue result ↔ AreBytes bytes.now cells.now start }
@@ -143,7 +143,7 @@ fn are_bytes(bytes: &[u8], cells: &[Cell], start: usize) -> bool
     true
 }
 
-/// Where the bytes behind the first field of a row end: at its second field, if it has one.
+/// Where the bytes after the first field of a row end: at its second field, if it has one.
 fn end_behind(form: Form, spelling: &Row) -> u64
     requires { IsRow (row form) spelling.now }
     ensures { result ≡ behind_end (row form) }
@@ -154,7 +154,7 @@ fn end_behind(form: Form, spelling: &Row) -> u64
     }
 }
 
-/// Whether no field covers a byte that a row spells before its first field, nor one behind it.
+/// Whether no field covers a byte that a row spells before or after its first field.
 #[tactic(auto, using(crate::proofs::Literals::ranges_short))]
 fn is_uncovered(code: &Code, form: Form, spelling: &Row, start: u64, near: u32) -> bool
     requires ready { IsReady code.now }
@@ -190,7 +190,7 @@ pub fn names_getter(getters: &[bool], symbol: u32) -> bool
     symbol < getters.len() && getters[symbol]
 }
 
-/// Whether a type is one of a call's.
+/// Whether a type is allowed for a call.
 fn is_call_kind(call: Call, kind: RelocationKind) -> bool
     ensures { IsTrue result ↔ IsCallKind call kind }
 {
@@ -201,7 +201,7 @@ fn is_call_kind(call: Call, kind: RelocationKind) -> bool
     }
 }
 
-/// Whether a relocation is as the second one of a sequence is to be.
+/// Whether a relocation fits as the second one of a sequence.
 fn calls(second: Second, getters: &[bool], start: u64, relocation: &Relocation) -> bool
     requires { start + second.at < 2 ^ 64 }
     ensures { IsTrue result ↔ Calls second (Names getters.now) start relocation.now }
@@ -212,7 +212,7 @@ fn calls(second: Second, getters: &[bool], start: u64, relocation: &Relocation) 
         && names_getter(getters, relocation.symbol)
 }
 
-/// Whether a relocation stands at the place of a second one, and is as it is to be. `near` is as for `field_over`.
+/// Whether a relocation at the place of a second one fits as such. `near` is as for `field_over`.
 fn has_call(code: &Code, second: Second, start: u64, near: u32) -> bool
     requires ready { IsReady code.now }
     requires inside { start + second.at < length code.now.bytes.now }
@@ -225,8 +225,7 @@ fn has_call(code: &Code, second: Second, start: u64, near: u32) -> bool
     }
 }
 
-/// Whether the second relocation of a sequence stands at its place, where the sequence has two. `near` is as for
-/// `field_over`.
+/// Whether the second relocation of a sequence is at its place, if the sequence has two. `near` is as for `field_over`.
 fn has_second(code: &Code, second: Option<Second>, start: u64, near: u32) -> bool
     requires ready { IsReady code.now }
     requires inside { IfSome second (λ second. start + second.at < length code.now.bytes.now) }
@@ -238,7 +237,7 @@ fn has_second(code: &Code, second: Option<Second>, start: u64, near: u32) -> boo
     }
 }
 
-/// Whether no earlier relocation of its type stands at its place, at which there is a byte.
+/// Whether no earlier relocation of its type is at its place, where the code has a byte.
 fn is_earliest(code: &Code, entry: u32, relocation: &Relocation) -> bool
     requires ready { IsReady code.now }
     requires entry { IsEntry code.now.relocations.now entry relocation.now }
@@ -260,7 +259,7 @@ fn is_earliest(code: &Code, entry: u32, relocation: &Relocation) -> bool
     }
 }
 
-/// The number of the register that a sequence names: bits 3 to 5 of ModRM, and 8 by bit R of REX.
+/// The register number of a sequence: bits 3 to 5 of ModRM, plus 8 if REX has bit R.
 #[tactic(auto, unfolding(sequence_forms::specs::Forms::row, sequence_forms::specs::Forms::register))]
 fn register(form: Form, bytes: &[u8], start: usize) -> u8
     requires { start + length (row form).cells ≤ length bytes.now }
@@ -275,7 +274,7 @@ fn register(form: Form, bytes: &[u8], start: usize) -> u8
     }
 }
 
-/// Whether a relocation may have an addend.
+/// Whether an addend is allowed.
 fn takes(wanted: Option<i64>, addend: i64) -> bool
     ensures { IsTrue result ↔ IfSome wanted (λ wanted. addend ≡ wanted) }
 {
@@ -285,8 +284,8 @@ fn takes(wanted: Option<i64>, addend: i64) -> bool
     }
 }
 
-/// Whether a sequence of this form starts here, with relocation number `entry`, which stands at the place and has the
-/// form's type, as its first.
+/// Whether a sequence of this form starts here. Relocation number `entry`, which has the place and the type of its
+/// first relocation, is its first.
 fn is_site_at(code: &Code, form: Form, entry: u32, first: &Relocation, start: u64) -> bool
     requires ready { IsReady code.now }
     requires entry { IsEntry code.now.relocations.now entry first.now }
@@ -391,7 +390,7 @@ pub fn is_of_sequence(kind: RelocationKind) -> bool
     matches!(kind.row().part, SequencePart::First)
 }
 
-/// Whether a relocation is of such a type, and the first one of no sequence.
+/// Whether a relocation is of such a type, and is not the first one of a sequence.
 pub fn is_loose(code: &Code, entry: u32) -> bool
     requires ready { IsReady code.now }
     requires entry { entry < length code.now.relocations.now }
@@ -408,8 +407,8 @@ pub fn is_loose(code: &Code, entry: u32) -> bool
     }
 }
 
-/// Whether relocation number `entry`, which is as the second one of this form's sequence at `start` is to be, is that:
-/// the first one stands at `place`.
+/// Whether relocation number `entry` is the second one of this form's sequence at `start`, as which it fits: the
+/// first one is at `place`.
 fn is_second_at(code: &Code, form: Form, entry: u32, start: u64, place: u64) -> bool
     requires ready { IsReady code.now }
     requires second { IsSecond (row form).second (Names code.now.getters.now) code.now.relocations.now start entry }
@@ -426,7 +425,7 @@ fn is_second_at(code: &Code, form: Form, entry: u32, start: u64, place: u64) -> 
     }
 }
 
-/// Whether a site is of this form and starts here.
+/// Whether a site has this form and starts here.
 fn is_at(site: &Site, form: Form, start: u64) -> bool
     ensures { IsTrue result ↔ (site.now.form ≡ form) × (site.now.start ≡ start) }
 {
@@ -476,7 +475,7 @@ fn is_second(code: &Code, entry: u32) -> bool
     is_second_of_form(code, Form::LdInd, entry)
 }
 
-/// Whether a relocation is the second one of a sequence that is known.
+/// Whether a relocation is the second one of a given sequence.
 fn is_second_of(code: &Code, entry: u32, opening: &Opening) -> bool
     requires ready { IsReady code.now }
     requires entry { entry < length code.now.relocations.now }
@@ -497,7 +496,7 @@ fn is_second_of(code: &Code, entry: u32, opening: &Opening) -> bool
     )
 }
 
-/// Whether a relocation is the second one of a sequence. `known` is a sequence, which is asked first.
+/// Whether a relocation is the second one of a sequence. `known` is a sequence to try first.
 fn is_second_by(code: &Code, entry: u32, known: Option<Opening>) -> bool
     requires ready { IsReady code.now }
     requires entry { entry < length code.now.relocations.now }
@@ -510,8 +509,8 @@ fn is_second_by(code: &Code, entry: u32, known: Option<Opening>) -> bool
     }
 }
 
-/// Whether a relocation names the undefined `__tls_get_addr`, and is the second one of no sequence. `known` is a sequence
-/// that was found already, best the one that opens before it.
+/// Whether a relocation names the undefined `__tls_get_addr` and is not the second one of a sequence. `known` is a
+/// sequence that was found already, best the one that opens before it.
 pub fn is_stray(code: &Code, entry: u32, known: Option<Opening>) -> bool
     requires ready { IsReady code.now }
     requires known { IfSome known (IsOpening code.now) }

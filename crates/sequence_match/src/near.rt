@@ -1,5 +1,5 @@
-//! Relocations that rise by offset, as compilers write them: the one whose field covers a byte is a neighbour of those
-//! that stand near it.
+//! Relocations that rise by offset, as compilers write them: the one whose field covers a byte is next
+//! to those near the byte.
 
 ghost use Rattle.std.specs.Prelude.{◌↔◌, ◌+◌, ◌<◌, ◌≤◌, ◌^◌, IsTrue, length};
 ghost use Rattle.std.specs.List.{AllWithin};
@@ -10,7 +10,7 @@ ghost use Rattle.sequence_match.specs.declared.index.Reach.TheVariants.{OfField}
 
 use elf_object::Relocation;
 
-/// Bytes of the widest field.
+/// The width of the widest field, in bytes.
 const WIDEST: u64 = 8;
 
 /// Whether each relocation stands above the one before it.
@@ -25,7 +25,7 @@ pub fn rise(relocations: &[Relocation]) -> bool
     true
 }
 
-/// A number from which on all relocations stand above a place: the first such from `near` on.
+/// A number from which on all relocations stand above a place: the first such number from `near` on.
 fn first_above(relocations: &[Relocation], place: u64, near: u32) -> u32
     requires rise { Rise relocations.now }
     requires few { length relocations.now ≤ 2 ^ 20 }
@@ -48,15 +48,15 @@ fn covers(relocation: &Relocation, place: u64) -> bool
     relocation.offset <= place && place - relocation.offset < relocation.kind.width()
 }
 
-/// Whether a relocation stands so far below a place that no field from there on reaches it.
+/// Whether a relocation stands so far below a place that no field from there reaches it.
 fn is_far(relocation: &Relocation, place: u64) -> bool
     ensures { IsTrue result ↔ (relocation.now.offset + 8 ≤ place) }
 {
     WIDEST <= place.saturating_sub(relocation.offset)
 }
 
-/// The relocation whose field covers a place. All from number `end` on stand above it. No more are looked at than stand
-/// above the place, or as many bytes before it as the widest field has.
+/// The relocation whose field covers a place. All from number `end` on stand above it. It reads only relocations from
+/// `end` down to the first that is at least [`WIDEST`] bytes below the place.
 fn field_below(relocations: &[Relocation], place: u64, end: u32) -> Option<u32>
     requires rise { Rise relocations.now }
     requires apart { AreApart relocations.now }
@@ -77,7 +77,7 @@ fn field_below(relocations: &[Relocation], place: u64, end: u32) -> Option<u32>
     None
 }
 
-/// The relocation whose field covers a place. It is looked for near number `near`.
+/// The relocation whose field covers a place. The search begins near number `near`.
 pub fn field_near(relocations: &[Relocation], place: u64, near: u32) -> Option<u32>
     requires rise { Rise relocations.now }
     requires apart { AreApart relocations.now }
@@ -87,7 +87,7 @@ pub fn field_near(relocations: &[Relocation], place: u64, near: u32) -> Option<u
     field_below(relocations, place, first_above(relocations, place, near))
 }
 
-/// Whether the field of a relocation covers a byte from one place to another.
+/// Whether the field of a relocation covers a byte from `from` up to `to`.
 fn covers_any(relocation: &Relocation, from: u64, to: u64) -> bool
     requires { from < to }
     ensures { IsTrue result ↔ CoversIn relocation.now from to }
@@ -98,7 +98,7 @@ fn covers_any(relocation: &Relocation, from: u64, to: u64) -> bool
     relocation.offset < to && covers(relocation, relocation.offset)
 }
 
-/// Whether no field covers a byte from one place to another. All relocations from number `end` on stand at `to` or above.
+/// Whether no field covers a byte from `from` up to `to`. All relocations from number `end` on are at `to` or above.
 fn is_bare_below(relocations: &[Relocation], from: u64, to: u64, end: u32) -> bool
     requires rise { Rise relocations.now }
     requires some { from < to }
@@ -118,7 +118,7 @@ fn is_bare_below(relocations: &[Relocation], from: u64, to: u64, end: u32) -> bo
     true
 }
 
-/// Whether no field covers a byte from one place to another. Those that may are looked for near number `near`.
+/// Whether no field covers a byte from `from` up to `to`. The search begins near number `near`.
 pub fn is_bare_near(relocations: &[Relocation], from: u64, to: u64, near: u32) -> bool
     requires rise { Rise relocations.now }
     requires few { length relocations.now ≤ 2 ^ 20 }

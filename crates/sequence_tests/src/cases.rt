@@ -1,9 +1,9 @@
-//! The cases, one a line: what is found, then `=`, the bytes of the code in hex, `/`, and its relocations.
+//! The cases, one on a line: the findings, then `=`, the bytes of the code in hex, `/`, and its relocations.
 
-/// What is found is `nothing`, sites as FORM@START+LENGTH:SYMBOL:REGISTER, or a fault as SECTION ENTRY KIND. A
+/// The findings are `nothing`, sites as FORM@START+LENGTH:SYMBOL:REGISTER, or a fault as SECTION ENTRY KIND. A
 /// relocation is OFFSET:TYPE:SYMBOL:ADDEND. Symbol 1 is a `__tls_get_addr` that the object defines, 2 and 4 are
-/// variables, 3 is the undefined `__tls_get_addr`. The bytes of the last cases are those that gcc 12.2 writes with the
-/// options shown, and their relocations those that readelf shows.
+/// variables, 3 is the undefined `__tls_get_addr`. The bytes of the last cases are those that gcc 12.2 writes with
+/// the options shown, and their relocations those that readelf shows.
 pub const CASES: &str = "\
 // each form
 Gd@0+16:2:0 = 66488d3d00000000666648e800000000 / 4:TLSGD:2:-4 12:PLT32:3:-4
@@ -59,7 +59,7 @@ DescCall@0+2:4:0 = ff10 / 0:TLSDESC_CALL:4:77
 Gd@0+16:4:0 = 66488d3d00000000666648e800000000 / 4:TLSGD:4:-4 12:PLT32:3:-4
 // the bytes of the fields are free
 Gd@0+16:2:0 = 66488d3d01020304666648e805060708 / 4:TLSGD:2:-4 12:PLT32:3:-4
-// a literal byte that is another one
+// a wrong literal byte
 2 0 Sequence = 26488d3d00000000666648e800000000 / 4:TLSGD:2:-4 12:PLT32:3:-4
 2 0 Sequence = 66088d3d00000000666648e800000000 / 4:TLSGD:2:-4 12:PLT32:3:-4
 2 0 Sequence = 6648cd3d00000000666648e800000000 / 4:TLSGD:2:-4 12:PLT32:3:-4
@@ -103,7 +103,7 @@ Gd@0+16:2:0 = 66488d3d01020304666648e805060708 / 4:TLSGD:2:-4 12:PLT32:3:-4
 // a missing prefix
 2 0 Sequence = 488d3d00000000666648e800000000 / 3:TLSGD:2:-4 11:PLT32:3:-4
 2 0 Sequence = 66488d3d000000006648e800000000 / 4:TLSGD:2:-4 11:PLT32:3:-4
-// another addend
+// a wrong addend
 2 0 Sequence = 66488d3d00000000666648e800000000 / 4:TLSGD:2:0 12:PLT32:3:-4
 2 0 Sequence = 66488d3d00000000666648e800000000 / 4:TLSGD:2:-4 12:PLT32:3:0
 2 0 Sequence = 488d3d00000000e800000000 / 3:TLSLD:2:0 8:PLT32:3:-4
@@ -121,7 +121,7 @@ Gd@0+16:2:0 = 66488d3d01020304666648e805060708 / 4:TLSGD:2:-4 12:PLT32:3:-4
 2 0 Sequence = 66488d3d000000006648ff1500000000 / 4:TLSGD:2:-4 12:PLT32:3:-4
 2 0 Sequence = 488d3d00000000ff1500000000 / 3:TLSLD:2:-4 9:PC32:3:-4
 2 0 Sequence = 66488d3d00000000666648e800000000 / 4:TLSGD:2:-4 12:32:3:-4
-// none, or one at another place
+// no second relocation, or one at another place
 2 0 Sequence = 66488d3d00000000666648e800000000 / 4:TLSGD:2:-4
 2 0 Sequence = 66488d3d00000000666648e80000000000 / 4:TLSGD:2:-4 13:PLT32:3:-4
 2 0 Sequence = 488d3d00000000ff1500000000 / 3:TLSLD:2:-4 8:GOTPCREL:3:-4
@@ -145,7 +145,7 @@ LT32:3:-4 4:TLSGD:2:-4 12:PLT32:3:-4
 Ld@0+12:2:0 IeMov@12+7:2:0 = 488d3d00000000e800000000488b0500000000 / 15:GOTTPOFF:2:-4 3:TLSLD:2:-4 8:PLT32:3:-4
 Gd@0+16:2:0 Ld@16+12:2:0 = 66488d3d00000000666648e800000000488d3d00000000e800000000 / 24:PLT32:3:-4 12:PLT32:3:-\
 4 19:TLSLD:2:-4 4:TLSGD:2:-4
-// behind other code, at the end, and cut by it
+// after other code, at the end, and cut by it
 IeMov@3+7:2:0 = 909090488b0500000000 / 6:GOTTPOFF:2:-4
 2 0 Sequence = 0500000000 / 1:GOTTPOFF:2:-4
 2 0 Sequence = 66488d3d00000000666648e8 / 4:TLSGD:2:-4
@@ -165,11 +165,11 @@ DescCall@0+2:2:0 DescLea@2+7:2:0 = ff10488d0500000000 / 5:TLSDESC:2:-4 0:TLSDESC
 Gd@0+16:2:0 = 66488d3d00000000666648e8000000009090 / 4:TLSGD:2:-4 12:PLT32:3:-4 17:NONE:3:-4
 nothing = e800000000 / 1:PLT32:1:-4
 nothing = 8b8000000000 / 2:DTPOFF32:2:0
-// a Sequence anywhere goes before a StrayCall
+// a Sequence anywhere comes before a StrayCall
 2 1 Sequence = e80000000090909090 / 1:PLT32:3:-4 5:GOTTPOFF:2:-4
 2 1 Sequence = 90909090e800000000 / 5:PLT32:3:-4 0:TLSGD:2:-4
 2 0 Sequence = 488b0500000000488b0500000000 / 3:GOTTPOFF:2:0 10:GOTTPOFF:2:0
-// a general dynamic call whose second relocation names the undefined function from a sequence that is none
+// a general dynamic call with a wrong byte: its second relocation then names the undefined function outside a sequence
 2 0 Sequence = 66488d3d00000000666648e900000000 / 4:TLSGD:2:-4 12:PLT32:3:-4
 // gcc -O2 -fPIC
 Gd@4+16:2:0 Ld@36+12:4:0 Gd@97+16:2:0 Ld@116+12:4:0 = 4883ec0866488d3d00000000666648e8000000004883c408c30f1f8000\

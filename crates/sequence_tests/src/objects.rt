@@ -1,4 +1,4 @@
-//! Objects made from a line of text, and what is found in one, as text.
+//! Makes objects from a line of text, and writes the findings in one as text.
 
 use crate::cases::CASES;
 use elf_object::{Object, ObjectFault};
@@ -25,7 +25,7 @@ fn symbols() -> [Symbol<'static>; 4] {
     ]
 }
 
-/// The type of relocation of a name, without its R_X86_64.
+/// The relocation type with a name, without its R_X86_64.
 fn kind_of(name: &str) -> Result<u32, Fail> {
     let kind = match name {
         "NONE" => R_X86_64_NONE,
@@ -69,7 +69,7 @@ fn digit(byte: u8) -> Result<u8, Fail> {
     }
 }
 
-/// The bytes of two digits each.
+/// The bytes of a text with two digits for each.
 fn bytes_of(alloc: Global, text: &str) -> Result<Vec<u8>, Fail> {
     let mut bytes = Vec::new(alloc);
     for pair in text.as_bytes().chunks_exact(2) {
@@ -81,7 +81,7 @@ fn bytes_of(alloc: Global, text: &str) -> Result<Vec<u8>, Fail> {
     Ok(bytes)
 }
 
-/// What is found in an object, as a case writes it.
+/// The findings in an object, as a case writes them.
 fn answer(alloc: Global, bytes: &[u8]) -> Result<String, Fail> {
     let object = Object::read(alloc, bytes)?;
     match sites(alloc, &object) {
@@ -133,7 +133,7 @@ fn object_in(alloc: Global, text: &str) -> Result<Vec<u8>, Fail> {
     Ok(object_of(alloc, &sections, &symbols())?)
 }
 
-/// Compares what is found in one case.
+/// Checks the findings of one case.
 fn check(rt: &(impl Abort + AllocGlobal), line: &str) -> Result<(), Fail> {
     let (want, text) = line.split_once('=').ok_or("what is found")?;
     let bytes = object_in(rt.alloc(), text)?;

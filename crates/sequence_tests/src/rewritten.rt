@@ -1,9 +1,9 @@
 //! Each row of the table of new bytes, in each register.
 //!
-//! A line has a register's number, the address of the site, that of the variable's word in the GOT (0 where none is
-//! read), the site's bytes as GNU as 2.40 makes them of the psABI's text, and the bytes that GNU ld 2.40 leaves there:
-//! of the program's own variable at offset 8 of a block of 20 bytes aligned to 8, so that it lies at 8 - 24 = -16 from
-//! the thread pointer, in digits f0 ff ff ff; or of a variable of a module.
+//! A line has a register's number, the address of the site, that of the variable's word in the GOT (0 if none is
+//! read), the site's bytes as GNU as 2.40 makes them from the psABI's text, and the bytes that GNU ld 2.40 leaves
+//! there: for the program's own variable at offset 8 of a block of 20 bytes aligned to 8, so that it is at offset 8 -
+//! 24 = -16 from the thread pointer, in digits f0 ff ff ff; or for a variable of a module.
 
 use crate::sites::{Case, HERE, STARTUP, bytes, relink};
 use link_faults::Binding;
@@ -21,10 +21,10 @@ fn number(digits: Option<&str>) -> Result<u64, Fail> {
     Ok(u64::from_str_radix(digits, 16).ok().ok_or("its digits")?)
 }
 
-/// A form, what its symbol is bound to, what is chosen, and lines of bytes.
+/// A form, its symbol's binding, the choice, and lines of bytes.
 type Row = (Form, Binding, Choice, &'static str);
 
-/// What a line has: the register, where the sequence and the entry of its variable lie, and its bytes before and after.
+/// A parsed line: the register, where the sequence and the entry of its variable lie, and its bytes before and after.
 #[derive(Drop)]
 struct Linked {
     reg: u64,
@@ -34,7 +34,7 @@ struct Linked {
     after: Vec<u8>,
 }
 
-/// What a line has.
+/// Parses a line.
 fn linked_of(alloc: Global, line: &str) -> Result<Linked, Fail> {
     let mut columns = line.split_whitespace();
     let reg = number(columns.next())?;
@@ -51,7 +51,7 @@ fn linked_of(alloc: Global, line: &str) -> Result<Linked, Fail> {
     })
 }
 
-/// The bytes with others around them.
+/// The bytes with other bytes around them.
 fn framed(alloc: Global, bytes: &[u8]) -> Result<Vec<u8>, AllocError> {
     let mut framed = AROUND.to_vec(alloc)?;
     framed.extend_from_slice(bytes)?;
@@ -59,7 +59,7 @@ fn framed(alloc: Global, bytes: &[u8]) -> Result<Vec<u8>, AllocError> {
     Ok(framed)
 }
 
-/// Compares what becomes of the sequence of a line.
+/// Checks what the sequence of a line becomes.
 fn line_becomes(rt: &impl Abort, alloc: Global, row: &Row, line: &str) -> Result<(), Fail> {
     let (form, binding, chosen, _) = *row;
     let linked = linked_of(alloc, line)?;
@@ -109,7 +109,7 @@ e 4010b2 0 4c8b3500000000 49c7c6f0ffffff
 f 4010b9 0 4c8b3d00000000 49c7c7f0ffffff
 ";
 
-/// Those of add x@gottpoff(%rip), %r, which becomes lea x@tpoff(%r), %r, or of %rsp and %r12 add $x@tpoff, %r.
+/// The registers of add x@gottpoff(%rip), %r, which becomes lea x@tpoff(%r), %r, or for %rsp and %r12 add $x@tpoff, %r.
 const ADDED: &str = "
 0 4010c0 0 48030500000000 488d80f0ffffff
 1 4010c7 0 48030d00000000 488d89f0ffffff

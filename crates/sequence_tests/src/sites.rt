@@ -23,23 +23,23 @@ const OFFSET: u64 = 8;
 /// How far below the thread pointer that block begins: its 20 bytes, rounded up to its alignment, 8.
 const BLOCK: u64 = 24;
 
-/// A site of code, and what is known where its field is written.
+/// A site of code, and what is needed to write its field.
 #[derive(Clone, Copy)]
 pub(super) struct Case {
     pub form: Form,
     /// What its symbol is bound to.
     pub binding: Binding,
-    /// Its register, of a form that has one.
+    /// Its register, if its form names one.
     pub reg: u8,
     /// Its offset in the code.
     pub start: u64,
     /// The address at which the code stands.
     pub address: u64,
-    /// The address of the word in the GOT that holds the variable's distance from the thread pointer.
+    /// The address of the word in the GOT that holds the variable's offset from the thread pointer.
     pub got: u64,
 }
 
-/// Bytes by their hexadecimal digits, in groups.
+/// Bytes from their hexadecimal digits, in groups.
 pub(super) fn bytes(alloc: Global, groups: &str) -> Result<Vec<u8>, Fail> {
     let mut bytes = Vec::new(alloc);
     for group in groups.split_whitespace() {
@@ -49,7 +49,7 @@ pub(super) fn bytes(alloc: Global, groups: &str) -> Result<Vec<u8>, Fail> {
     Ok(bytes)
 }
 
-/// Rewrites a site of a program's code as it is chosen, and writes the field that is in its new bytes.
+/// Rewrites a site of a program's code as chosen, and writes the field in its new bytes.
 pub(super) fn relink(rt: &impl Abort, code: &mut [u8], case: Case) -> Choice {
     let chosen = choice(case.form, case.binding, ImageKind::Exe, true);
     let len = case.form.row().cells.len() as u64;
@@ -67,9 +67,9 @@ pub(super) fn relink(rt: &impl Abort, code: &mut [u8], case: Case) -> Choice {
     if let Some(field) = new_field(case.form, chosen) {
         let at = case.start.wrapping_add(field.at);
         let value = match field.kind {
-            // the variable's offset, less the block's distance
+            // the variable's offset, minus the block's distance
             RelocationKind::TpOff32 => OFFSET.wrapping_sub(BLOCK),
-            // the word's address, less the field's
+            // the word's address, minus the field's
             _ => case.got.wrapping_sub(case.address.wrapping_add(at)),
         };
         let value = value.wrapping_add_signed(field.addend);

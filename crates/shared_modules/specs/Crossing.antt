@@ -1,5 +1,5 @@
--- That threads may share a pass. A `&` to a seat holds a part of the seat, which may itself go to another thread, so
--- the `&` may too.
+-- Threads may share a pass. A `&` to a seat holds a part of the seat, which may itself go to another
+-- thread, so the `&` may too.
 use denote.RattleType.{RattleType}
 use denote.Param.Send.{IsSend, IsSync, part_keyless, sendable}
 use Rattle.atomic_table.specs.contracts.shared.Seat as seat

@@ -1,4 +1,4 @@
--- What a thread did, in words that know nothing of passes.
+-- The events of one thread, whatever passes there are.
 use Rattle.std.specs.Prelude.{◌==◌, ◌+◌, ℕ, if◌then◌else◌, List, [], ◌∷◌}
 use Rattle.module_table.specs.declared.events.Event.{Event}
 
@@ -7,7 +7,7 @@ pub record Placed : Type 0 where
   pub at : ℕ
   pub event : Event
 
--- a thread's events of a list that begins at a place
+-- a thread's events in a list that begins at a place
 abbrev pub own_from : ℕ → ℕ → List Event → List Placed
 own_from thread at [] = []
 own_from thread at (e ∷ es) = if e.thread == thread

@@ -1,4 +1,4 @@
--- What contracts see of a shared history and of its passes, and what each call makes of them.
+-- What contracts see of a shared history and of its passes, and how each call changes them.
 use Rattle.std.specs.Prelude.{◌≡◌, ◌+◌, ◌<◌, ℕ, nat_lt, List, [], ◌∷◌, ◌++◌, length, drop, MatchBool}
 use Rattle.std.specs.Prelude.{Ok, Err}
 use Rattle.atomic_table.specs.Seated.{TableId}
@@ -16,14 +16,14 @@ use Rattle.shared_modules.specs.declared.board.View.{View}
 use Rattle.shared_modules.specs.Plays.{Sat}
 use Rattle.shared_modules.specs.Views.{all_threads, first_half, second_half, Knows, StartsWith, longer, history_at}
 
--- which shared history it is, and what its registry never changes
+-- the identity of a shared history, and what its registry never changes
 pub record SharedView : Type 0 where
   pub table : TableId
   pub images : Images
 
--- whose pass it is; the beginning of the history that it has; the history at its last load of the length, of which the
--- code keeps nothing: its length is the number that was told; how often it loaded and took its turn; the threads that
--- it speaks for
+-- the shared history of a pass; the part of it that the pass has seen; the history at its last load of the length, of
+-- which the code keeps nothing: its length is the number that was loaded; how often it loaded and took its turn; the
+-- threads that it speaks for
 pub record PassView : Type 0 where
   pub shared : SharedView
   pub seen : List Event
@@ -55,7 +55,7 @@ abbrev pub first_pass : SharedView → List Event → PassView
 first_pass shared events =
     record { shared = shared; seen = events; told = events; loads = 0; turns = 0; threads = all_threads }
 
--- ---- passes cut in two, and joined
+-- ---- passes that are split, and joined
 
 abbrev pub left_pass : PassView → PassView
 left_pass p = record p { threads = first_half p.threads }
@@ -72,14 +72,14 @@ joined p q = record p {
   threads = p.threads ++ q.threads;
 }
 
--- the shorter seen list begins the longer, and what the longer has more names no thread of the shorter one's pass
+-- the shorter seen list is a prefix of the longer, and the rest of the longer names no thread of the shorter one's pass
 abbrev pub Agree : PassView → PassView → Type 0
 Agree p q = MatchBool (nat_lt (length p.seen) (length q.seen))
     (Knows q.seen p.threads p.seen) (Knows p.seen q.threads q.seen)
 
 -- ---- one load
 
--- the history that was told goes on from what was seen, by others than the pass's threads
+-- the loaded history continues what was seen, with events of other threads than the pass's
 pub record IsLoaded (p q : PassView) : Type 0 where
   pub rest : q ≡ record p { told = q.told; loads = p.loads + 1 }
   pub seen : Knows q.told p.threads p.seen
@@ -87,33 +87,33 @@ pub record IsLoaded (p q : PassView) : Type 0 where
 
 -- ---- one turn
 
--- the pass is of the same shared history, and speaks for the same threads
+-- the pass belongs to the same shared history, and speaks for the same threads
 pub record IsSamePass (p q : PassView) : Type 0 where
   pub shared : q.shared ≡ p.shared
   pub threads : q.threads ≡ p.threads
 
--- a turn that came to nothing
+-- a turn without a result
 abbrev pub tried : PassView → PassView
 tried p = record p { turns = p.turns + 1 }
 
--- for want of memory nothing changed but the count of turns
+-- memory ran out: nothing changed except the count of turns
 pub record IsTried (p q : PassView) (before after : List Event) : Type 0 where
   pub pass : q ≡ tried p
   pub into : after ≡ before
 
--- the history was found, which goes on from what was seen by others than the pass's threads; all that the pass has
--- then is told, and legal
+-- the history that was found continues what was seen, with events of other threads than the pass's; it is legal, and
+-- the pass has then seen all of it
 pub record IsCaught (p : PassView) (history : List Event) (q : PassView) : Type 0 where
   pub rest : q ≡ record p { seen = q.seen; told = q.seen; loads = p.loads + 1; turns = p.turns + 1 }
   pub seen : Knows history p.threads p.seen
   pub told : StartsWith history p.told
   pub legal : IsLegal p.shared.images.infos p.shared.images.last_offset q.seen
 
--- the list has what the pass lacked of the history, behind what stood in it
+-- the list has what it had, and then the events of the history that the pass had not seen
 abbrev pub IsTold : PassView → List Event → List Event → List Event → Type 0
 IsTold p history before after = after ≡ before ++ drop (length p.seen) history
 
--- the event was accepted at the history that was found, and is the last that the pass has
+-- the history that was found accepts the event, which is the last that the pass has seen
 pub record IsAccepted (p : PassView) (event : Event) (answers : History → Type 0) (q : PassView)
     (before after : List Event) : Type 0 where
   pub history : List Event
@@ -122,7 +122,7 @@ pub record IsAccepted (p : PassView) (event : Event) (answers : History → Type
   pub answer : answers (history_at p.shared.images history)
   pub lacked : IsTold p history before after
 
--- it was refused at the history that was found, which is all that the pass has
+-- the history that was found refuses it, and the pass has seen all of that history
 pub record IsRefused (p : PassView) (answers : History → Type 0) (q : PassView) (before after : List Event)
     : Type 0 where
   pub caught : IsCaught p q.seen q
@@ -133,7 +133,7 @@ abbrev pub IsOpened : PassView → Event → Opened → PassView → List Event 
 IsOpened p event opened q before after =
     IsAccepted p event (λ h. open_answer h event.image ≡ Ok opened) q before after
 
--- want of memory comes first; else the refusal is the one of the history
+-- out of memory comes first; else the refusal is that of the history
 abbrev pub IsOpenRefused : PassView → ℕ → PassView → List Event → List Event → OpenRefusal → Type 0
 IsOpenRefused p image q before after NoRoomToOpen = IsTried p q before after
 IsOpenRefused p image q before after refusal =

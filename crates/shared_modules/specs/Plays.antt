@@ -19,15 +19,15 @@ Sat = Me (Option History) View
 abbrev pub IsSized : TableId → Type 0
 IsSized table = (table.words ≡ 3) × (table.slots ≡ 1)
 
--- the seat's table is this one
+-- the seat belongs to this table
 abbrev pub IsAt : TableId → TableId → Type 0
 IsAt seat table = (seat ≡ table) × IsSized table
 
--- a ticket was drawn, which the word has modulo 2^64
+-- a ticket was drawn; the word has it modulo 2^64
 abbrev pub Draws : Sat → ℕ → Sat → Type 0
 Draws me found after = (t : ℕ) × (found ≡ t % 2 ^ 64) × (after ≡ (drew t me.0, me.1))
 
--- the ticket is being served: the seat has the registry, whose history goes on from what the seat had
+-- the ticket is being served: the seat has the registry, whose history continues what the seat has seen
 pub record Takes (ticket : ℕ) (v : View) (after : Sat) : Type 0 where
   pub registry : History
   pub seen : Knows registry.events v.threads v.seen
@@ -40,7 +40,7 @@ abbrev pub Sees : Sat → ℕ → Sat → Type 0
 Sees me found after =
     (t : ℕ) → me.0.turn ≡ Waits t → MatchBool (found == (t % 2 ^ 64)) (Takes t me.0 after) (after ≡ me)
 
--- with the registry in hand, the number is the length of what was noted
+-- with the registry in hand, the number is the length of the noted history
 abbrev pub Catches : Sat → ℕ → Sat → Type 0
 Catches me found after = (t : ℕ) (note : List Event) → me.0.turn ≡ Holds t note
     → (found ≡ length note) × (after ≡ (caught note me.0, me.1))
@@ -57,11 +57,11 @@ pub record Loads (me : Sat) (found : ℕ) (after : Sat) : Type 0 where
 abbrev pub Publishes : Sat → ℕ → Sat → Type 0
 Publishes me found after = (h : History) → me.1 ≡ (0, Some h) ∷ [] → after ≡ (published h.events me.0, me.1)
 
--- the next ticket is served, and the registry left behind
+-- the next ticket is served, and the registry is put back
 abbrev pub Leaves : Sat → ℕ → Sat → Type 0
 Leaves me found after = after ≡ (away me.0, [])
 
--- what was learnt at a join is told
+-- what was learned at a join is told
 abbrev pub Learns : Sat → ℕ → Sat → Type 0
 Learns me found after = (after ≡ me) × IsLearnt me.0.lesson
 
@@ -71,9 +71,9 @@ pub record Awaits (ticket : ℕ) (v : View) (me : Sat) : Type 0 where
   pub drawn : ticket ≡ turn % 2 ^ 64
   pub me_is : me ≡ (drew turn v, [])
 
--- ---- what the code between two steps starts from, and what it leaves
+-- ---- the state between two steps of the code
 
--- the seat has the registry: what it had seen is the beginning of the registry's history
+-- the seat has the registry: what it has seen is a prefix of the registry's history
 pub record Begun (v : View) (registry : History) (after : Sat) : Type 0 where
   pub ticket : ℕ
   pub seen : Knows registry.events v.threads v.seen
@@ -81,7 +81,7 @@ pub record Begun (v : View) (registry : History) (after : Sat) : Type 0 where
   pub images : images_of registry ≡ v.images
   pub after_is : after ≡ (holding ticket registry.events (drew ticket v), (0, None) ∷ [])
 
--- the same, and all of the history is seen; there is memory for one event more
+-- the same, and all of the history is seen; there is memory for one more event
 pub record Entered (v : View) (registry : History) (after : Sat) : Type 0 where
   pub ticket : ℕ
   pub seen : Knows registry.events v.threads v.seen
@@ -91,11 +91,11 @@ pub record Entered (v : View) (registry : History) (after : Sat) : Type 0 where
   pub spare : 1 ≤ registry.spare
   pub after_is : after ≡ (caught registry.events (holding ticket registry.events (drew ticket v)), (0, None) ∷ [])
 
--- the turn is over, with nothing done
+-- the turn is over, without a result
 abbrev pub turned : View → View
 turned v = record v { turn = Away; turns = v.turns + 1 }
 
--- it has the registry still, with the history that it noted
+-- the seat still has the registry, with the history that it noted
 pub record Ending (registry : History) (me : Sat) : Type 0 where
   pub ticket : ℕ
   pub turn : me.0.turn ≡ Holds ticket registry.events
@@ -103,7 +103,7 @@ pub record Ending (registry : History) (me : Sat) : Type 0 where
   pub images : images_of registry ≡ me.0.images
   pub speaks : 0 < length me.0.threads
 
--- the registry has one event more than was noted, of a thread that the seat speaks for
+-- the registry has one event more than was noted, by a thread that the seat speaks for
 pub record Adding (registry : History) (event : Event) (me : Sat) : Type 0 where
   pub ticket : ℕ
   pub note : List Event

@@ -1,5 +1,5 @@
--- The rule of the table: one history, which every list of every seat begins, and a lock by tickets. Tickets, loads and
--- turns are unbounded here; only the words of the table are taken modulo 2^64.
+-- The rule of the table: one history, of which every list of every seat is a prefix, and a ticket lock. Tickets,
+-- loads and turns are unbounded here; only the words of the table are taken modulo 2^64.
 use Rattle.std.specs.Prelude.{◌≡◌, ◌⊎◌, ◌≤◌, ◌<◌, ◌==◌, ◌+◌, ◌%◌, ◌^◌, ℕ, List, [], ◌∷◌, length, Option, Some}
 use mathlib.Core.Option.{none, some}
 use mathlib.Core.Option as maybe
@@ -14,11 +14,11 @@ use Rattle.shared_modules.specs.declared.board.Lesson.{Lesson}
 use Rattle.shared_modules.specs.declared.board.View.{View}
 use Rattle.shared_modules.specs.Views.{flag, times, all_threads, Knows, StartsWith, images_of}
 
--- which slots of the table are at home, and with what
+-- which slots of the table are filled, and with what
 abbrev pub Homes : Type 0
 Homes = List (maybe.Option (Option History))
 
--- the one slot is with a seat
+-- a seat holds the one slot
 abbrev pub out : Homes
 out = none ∷ []
 
@@ -45,7 +45,7 @@ waiting views = total (λ (v : View). waits v.turn) views
 
 -- ---- one seat
 
--- tickets drawn and not served lie from `serving` to below `drawn`; the seat whose ticket is being served has the
+-- tickets drawn and not served are from `serving` to below `drawn`; the seat whose ticket is being served has the
 -- registry's slot, and its note is the history
 abbrev pub TurnFits : List Event → ℕ → ℕ → Homes → Turn → Type 0
 TurnFits history serving drawn homes Away = Unit {0}
@@ -65,14 +65,14 @@ pub record Fits (images : Images) (history : List Event) (serving drawn : ℕ) (
 
 -- ---- the registry
 
--- it is at home, with the history
+-- the registry is in its slot, with the history
 pub record AtHome (images : Images) (history : List Event) (homes : Homes) : Type 0 where
   pub registry : History
   pub there : homes ≡ some (Some registry) ∷ []
   pub images_are : images_of registry ≡ images
   pub events_are : registry.events ≡ history
 
--- or a seat has it, whose ticket is being served
+-- or a seat whose ticket is being served has it
 pub record IsOut (homes : Homes) (views : List View) : Type 0 where
   pub gone : homes ≡ out
   pub seat : ℕ

@@ -1,5 +1,5 @@
--- What holds of a seen list, and stays when another thread adds an event, holds of the history: laws for this crate and
--- those above it.
+-- Facts that hold of a seen list, and that events of other threads keep, hold of the history: laws for this
+-- crate and those above it.
 use Rattle.std.specs.Prelude.{◌≡◌, ◌≢◌, ◌==◌, ◌+◌, ◌≤◌, ℕ, false, if◌then◌else◌, List, [], ◌∷◌, ◌++◌, length, take}
 use Rattle.std.proofs.Common.{sym, refl, ap, ◌∙◌, subst, append_assoc, append-nil, ne_eqb, arith}
 use Rattle.std.proofs.lemmas.List.{take-append-le}
@@ -7,7 +7,7 @@ use Rattle.module_table.specs.declared.events.Event.{Event}
 use Rattle.shared_modules.specs.Views.{times, ByOthers, Knows}
 use Rattle.shared_modules.specs.Laws.{own_from, own_events}
 
--- a fact of lists of events that stays when a thread that is none of these adds one
+-- a fact about lists of events that stays true when a thread outside this list adds one
 abbrev pub IsStable : List ℕ → (List Event → Type 0) → Type 0
 IsStable threads fact = (front : List Event) (e : Event) → times e.thread threads ≡ 0 → fact front
     → fact (front ++ e ∷ [])
@@ -33,7 +33,7 @@ other_last thread at (x ∷ xs) e other = ap
     (λ rest. if x.thread == thread then record { at = at; event = x } ∷ rest else rest)
     (other_last thread (at + 1) xs e other)
 
--- who is not in the list is no thread that is
+-- a thread outside the list differs from each thread in it
 not_one : (threads : List ℕ) (x thread : ℕ) → times x threads ≡ 0 → 1 ≤ times thread threads → x ≢ thread
 not_one threads x thread none one same = let e : times x threads ≡ times thread threads =
     ap (λ (t : ℕ). times t threads) same in omega arith

@@ -1,4 +1,4 @@
--- Laws of threads in rising order, for whoever cuts a pass in two and gives each half to a thread.
+-- Laws of threads in rising order, for callers that split a pass and give each half to a thread.
 use Rattle.std.specs.Prelude.{◌≡◌, ◌==◌, ◌+◌, ◌-◌, ◌/◌, ◌≤◌, ℕ, zero, suc, List, ◌∷◌, ◌++◌, length, take, drop}
 use Rattle.std.proofs.Common.{refl, ap, ◌∙◌, eq-eqb, arith}
 use Rattle.shared_modules.specs.Views.{flag, times, rising, all_threads, half_of, first_half, second_half}

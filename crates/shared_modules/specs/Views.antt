@@ -1,4 +1,4 @@
--- What a seat of the table knows, how each step changes it, and what one list of events says of another.
+-- What a seat of the table knows, how each step changes it, and how one list of events relates to another.
 use Rattle.std.specs.Prelude.{◌≡◌, ◌≤◌, ◌==◌, ◌+◌, ◌/◌, ℕ, zero, suc, Bool, true, false, if◌then◌else◌, nat_lt}
 use Rattle.std.specs.Prelude.{List, [], ◌∷◌, ◌++◌, length, take, drop}
 use Rattle.module_table.specs.declared.events.Event.{Event}
@@ -15,12 +15,12 @@ abbrev pub flag : Bool → ℕ
 flag true = 1
 flag false = 0
 
--- how often a thread stands in a list
+-- how often a thread is in a list
 abbrev pub times : ℕ → List ℕ → ℕ
 times x [] = 0
 times x (t ∷ ts) = flag (t == x) + times x ts
 
--- so many threads, from a number on
+-- `count` threads, from number `first` on
 abbrev pub rising : ℕ → ℕ → List ℕ
 rising first zero = []
 rising first (suc more) = first ∷ rising (first + 1) more
@@ -41,12 +41,12 @@ second_half threads = drop (half_of threads) threads
 
 -- ---- lists of events
 
--- events of threads of the program, none of them one of these threads
+-- events of threads of the program, none of them in this list of threads
 abbrev pub ByOthers : List ℕ → List Event → Type 0
 ByOthers threads [] = Unit {0}
 ByOthers threads (e ∷ es) = ((times e.thread threads ≡ 0) × (1 ≤ e.thread) × (e.thread ≤ 64)) × ByOthers threads es
 
--- after what was seen the history goes on by others than these threads
+-- after what was seen, the history continues with events of other threads than these
 pub record Knows (history : List Event) (threads : List ℕ) (seen : List Event) : Type 0 where
   pub rest : List Event
   pub whole : history ≡ seen ++ rest
@@ -56,7 +56,7 @@ pub record StartsWith (history front : List Event) : Type 0 where
   pub rest : List Event
   pub whole : history ≡ front ++ rest
 
--- the longer of two lists; the first where they are of one length
+-- the longer of two lists; the first if they have the same length
 abbrev pub longer : List Event → List Event → List Event
 longer xs ys = if nat_lt (length xs) (length ys) then ys else xs
 
@@ -94,7 +94,7 @@ first_view images events = record {
 abbrev pub drew : ℕ → View → View
 drew ticket v = record v { turn = Waits ticket; turns = v.turns + 1 }
 
--- the ticket is being served, and the registry's history noted
+-- the ticket is being served, and the registry's history is noted
 abbrev pub holding : ℕ → List Event → View → View
 holding ticket note v = record v { turn = Holds ticket note }
 
@@ -102,7 +102,7 @@ holding ticket note v = record v { turn = Holds ticket note }
 abbrev pub loaded : List Event → View → View
 loaded told v = record v { told = told; loads = v.loads + 1 }
 
--- the same, with the registry in hand: what was noted is seen
+-- the same, with the registry in hand: the noted history is seen
 abbrev pub caught : List Event → View → View
 caught note v = record v { seen = note; told = note; loads = v.loads + 1 }
 
@@ -111,7 +111,7 @@ with_note note Away = Away
 with_note note (Waits ticket) = Waits ticket
 with_note note (Holds ticket old) = Holds ticket note
 
--- the history was made longer by the seat itself
+-- the seat itself made the history longer
 abbrev pub published : List Event → View → View
 published events v = record v { seen = events; told = events; turn = with_note events v.turn }
 
@@ -126,7 +126,7 @@ left_of v = record v { threads = first_half v.threads }
 abbrev pub right_of : View → View
 right_of v = record v { loads = 0; turns = 0; threads = second_half v.threads; turn = Away; lesson = no_lesson }
 
--- what is learnt of two seats' lists
+-- what is learned from two seats' lists
 abbrev pub lesson_of : View → View → Lesson
 lesson_of v w = if nat_lt (length v.seen) (length w.seen)
     then record { less = v.seen; more = w.seen; threads = v.threads }

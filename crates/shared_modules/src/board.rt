@@ -1,5 +1,5 @@
-//! The table that threads share, what each of its seats knows, and the rule that ties them. No value of these types
-//! but a table, a seat and a key is ever made: they are for the proof alone.
+//! The table that threads share, what each of its seats knows, and the rule that ties them. Of these types, only a
+//! table, a seat and a key have values at run time: the others are for the proof alone.
 
 use atomic_table::{Seat, Shared, Table, TableRule};
 use module_table::{Event, ImageInfo, Registry};
@@ -14,15 +14,15 @@ pub struct Images {
     pub last_offset: u64,
 }
 
-/// Where a seat is at the lock: it has no ticket, or waits with one, or its ticket is being served and it noted the
-/// history.
+/// The state of a seat at the lock: it has no ticket, or waits with one, or its ticket is being served
+/// and it noted the history.
 pub enum Turn {
     Away,
     Waits(u64),
     Holds(u64, LinkedList<Event>),
 }
 
-/// What a seat learnt where two were joined: what `more` has beyond `less` names none of the threads.
+/// What a seat learned when two were joined: the events of `more` beyond `less` name none of the threads.
 pub struct Lesson {
     pub less: LinkedList<Event>,
     pub more: LinkedList<Event>,
@@ -32,7 +32,7 @@ pub struct Lesson {
 /// What a seat knows.
 pub struct View {
     pub images: Images,
-    /// The beginning of the history that its holder has.
+    /// The part of the history, from its start, that its holder has.
     pub seen: LinkedList<Event>,
     /// The history at the last load of its length.
     pub told: LinkedList<Event>,
@@ -58,8 +58,8 @@ impl TableRule<Option<Registry>, View, Snapshot<Registry>> for OneHistory {
     ghost first = { λ key. first_view (images_of key.value) key.value.events };
 }
 
-/// Word 0 is the next ticket, word 1 the ticket being served, word 2 the length of the history; slot 0 has the
-/// registry.
+/// Word 0 is the next ticket, word 1 the ticket being served, word 2 the length of the history;
+/// slot 0 holds the registry.
 pub type Board = Table<Option<Registry>, View, Snapshot<Registry>, OneHistory, Global>;
 
 pub(crate) type Steps = Shared<Option<Registry>, View, Snapshot<Registry>, OneHistory>;

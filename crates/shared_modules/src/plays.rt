@@ -1,4 +1,4 @@
-//! What each step on the table tells, how a view is cut in two, and how two are made one.
+//! What each step on the table tells its caller, and how a view is split and two are joined.
 ghost use Rattle.shared_modules.specs.Plays.{Draws, Sees, Catches, Loads, Publishes, Leaves, Learns};
 ghost use Rattle.shared_modules.specs.Views.{left_of, right_of, both, spent};
 
@@ -13,7 +13,7 @@ impl Play<Option<Registry>, View> for Draw {
     ghost then = { λ _. Draws };
 }
 
-/// Sees which ticket is being served, and takes the registry where it is the seat's.
+/// Sees which ticket is being served, and takes the registry if it is the seat's.
 pub(crate) struct See;
 
 impl Play<Option<Registry>, View> for See {
@@ -34,21 +34,21 @@ impl Play<Option<Registry>, View> for Load {
     ghost then = { λ _. Loads };
 }
 
-/// Makes the history longer by an event, which the registry in hand has.
+/// Makes the history longer by an event that the registry in hand has.
 pub(crate) struct Publish;
 
 impl Play<Option<Registry>, View> for Publish {
     ghost then = { λ _. Publishes };
 }
 
-/// Leaves the registry behind, and serves the next ticket.
+/// Puts the registry back, and serves the next ticket.
 pub(crate) struct Leave;
 
 impl Play<Option<Registry>, View> for Leave {
     ghost then = { λ _. Leaves };
 }
 
-/// Tells what was learnt where two seats were joined.
+/// Tells what was learned when two seats were joined.
 pub(crate) struct Learn;
 
 impl Play<Option<Registry>, View> for Learn {
@@ -64,7 +64,7 @@ impl Split<View> for Halves {
     ghost right = { right_of };
 }
 
-/// Puts two seats together.
+/// Joins two seats.
 pub(crate) struct Both;
 
 impl Join<View> for Both {

@@ -15,7 +15,7 @@ use std::marker::Model;
 use std::snapshot::Snapshot;
 use std::sync::Wait;
 
-/// One history of modules, shared by threads. Contracts see which one it is, and what its registry never changes.
+/// One history of modules, shared by threads. Contracts see its identity, and what its registry never changes.
 #[derive(Drop)]
 pub struct Shared {
     board: Board,
@@ -34,10 +34,10 @@ impl Model for Shared {
     ghost invariant = { λ s. IsSized s.board.shared.table_id };
 }
 
-/// What some of the threads have seen of a shared history. Contracts see a `PassView`.
+/// The part of a shared history that some threads have seen. Contracts see a `PassView`.
 #[derive(Drop)]
 pub struct Pass {
-    /// How many events it has.
+    /// How many events it has seen.
     seen: u64,
     seat: Place,
 }
@@ -53,8 +53,8 @@ impl Model for Pass {
 }
 
 impl Shared {
-    /// Shares a registry. The pass has its history, and speaks for the threads 1 to 64. For want of memory the
-    /// registry is dropped.
+    /// Shares a registry. The pass has seen its history, and speaks for the threads 1 to 64. If memory runs out,
+    /// the registry is dropped.
     pub fn start(alloc: Global, registry: Registry) -> Result<(Shared, Pass), AllocError>
         ensures images { IfOk result (λ started. started.0.images ≡ images_of registry) }
         ensures pass { IfOk result (λ started. started.1 ≡ first_pass started.0 registry.events) }
@@ -69,8 +69,8 @@ impl Shared {
         Ok((Shared { board }, Pass { seen, seat }))
     }
 
-    /// Cuts a pass in two. The first speaks for the first half of the threads, rounded up, the second for the rest,
-    /// and counts from 0.
+    /// Splits a pass in two. The first speaks for the first half of the threads, rounded up, the second for the
+    /// rest, with its counts at 0.
     pub fn split(&self, pass: Pass) -> (Pass, Pass)
         requires of { pass.shared ≡ self.now }
         requires two { 2 ≤ length pass.threads }
@@ -81,7 +81,7 @@ impl Shared {
         (Pass { seen, seat }, Pass { seen, seat: other })
     }
 
-    /// Makes two passes one, which has the longer list.
+    /// Joins two passes into one, which has the longer list.
     pub fn join(&self, first: Pass, second: Pass) -> Pass
         requires first { first.shared ≡ self.now }
         requires second { second.shared ≡ self.now }
@@ -101,7 +101,7 @@ impl Shared {
         }
     }
 
-    /// Whether there are events that the pass lacks: one load, and no lock.
+    /// Whether there are events that the pass has not seen: one load, and no lock.
     pub fn newer(&self, pass: &mut Pass) -> bool
         requires of { pass.old.shared ≡ self.now }
         ensures loaded { IsLoaded pass.old pass.new }
@@ -112,7 +112,7 @@ impl Shared {
         told > pass.seen
     }
 
-    /// Adds to the list what the pass lacks of the history, in order.
+    /// Appends to the list the events that the pass has not seen, in order.
     pub fn catch_up<R: Wait>(
         &self,
         rt: &R,
@@ -136,8 +136,8 @@ impl Shared {
         Ok(())
     }
 
-    /// A thread's line opens an image. What the pass lacked is added to the list first, without the event of this
-    /// call. The refusals, in order: `OutOfMemory`, then those of `Registry::open`.
+    /// Opens an image for a thread's line. First the list gets the events that the pass has not seen, without the
+    /// event of this call. The refusals, in order: `OutOfMemory`, then those of `Registry::open`.
     pub fn open<R: Wait>(
         &self,
         rt: &R,
@@ -173,8 +173,8 @@ impl Shared {
         }
     }
 
-    /// A thread's line closes an image. What the pass lacked is added to the list first, without the event of this
-    /// call. The refusals, in order: `OutOfMemory`, then those of `Registry::close`.
+    /// Closes an image for a thread's line. First the list gets the events that the pass has not seen, without the
+    /// event of this call. The refusals, in order: `OutOfMemory`, then those of `Registry::close`.
     pub fn close<R: Wait>(
         &self,
         rt: &R,
@@ -210,7 +210,7 @@ impl Shared {
         }
     }
 
-    /// The registry of the whole history, which is what the pass of all threads has seen.
+    /// The registry with the whole history, all of which the pass of all threads has seen.
     pub fn finish(self, pass: Pass) -> Registry
         requires of { pass.shared ≡ self }
         requires all { length pass.threads ≡ 64 }
@@ -230,7 +230,7 @@ impl Shared {
 }
 
 impl Pass {
-    /// How many events of the history it has.
+    /// How many events of the history it has seen.
     pub fn seen(&self) -> u64
         ensures value { result ≡ length self.now.seen }
         ensures legal { IsLegal self.now.shared.images.infos self.now.shared.images.last_offset self.now.seen }

@@ -1,4 +1,4 @@
-//! The lock, and the steps on the table, one function each.
+//! The lock, and the steps on the table, one function for each.
 ghost use Rattle.std.specs.Prelude.{◌≡◌, ◌<◌, ◌++◌, ℕ, List, [], ◌∷◌, length, drop, Some, None, IfOk, OnErr};
 ghost use Rattle.module_table.specs.declared.events.Event.{Event};
 ghost use Rattle.module_table.specs.History.{History};
@@ -93,7 +93,7 @@ pub(crate) fn read_generation(steps: &Steps, seat: &mut Place) -> u64
     steps.load::<Catch>(seat, GENERATION)
 }
 
-/// Makes the history longer by one event, which the registry in the slot in hand has.
+/// Makes the history longer by one event, which the registry in the slot has.
 fn publish(steps: &Steps, seat: &mut Place)
     requires fits { IsAt seat.old.table_id steps.now.table_id }
     requires adds { (h : History) × (event : Event)
@@ -105,7 +105,7 @@ fn publish(steps: &Steps, seat: &mut Place)
     steps.fetch_add::<Publish>(seat, GENERATION, 1);
 }
 
-/// Leaves the registry behind, and serves the next ticket. Whoever has one may be asleep.
+/// Puts the registry back, and serves the next ticket. Its holder may be asleep.
 fn leave(steps: &Steps, seat: &mut Place)
     requires fits { IsAt seat.old.table_id steps.now.table_id }
     requires ends { (h : History) × (seat.old.me.1 ≡ (0, Some h) ∷ []) × Ending h (seat.old.me.0, (0, None) ∷ []) }
@@ -118,7 +118,8 @@ fn leave(steps: &Steps, seat: &mut Place)
     }
 }
 
-/// Tells what two seats learnt of each other where they were joined: one more step, since a join itself tells nothing.
+/// Tells what two seats learned of each other when they were joined: a step of its own, since a
+/// join itself tells nothing.
 pub(crate) fn learn(steps: &Steps, seat: &mut Place)
     requires fits { IsAt seat.old.table_id steps.now.table_id }
     ensures table { seat.new.table_id ≡ seat.old.table_id }
@@ -152,7 +153,7 @@ pub(crate) fn end(steps: &Steps, seat: &mut Place, registry: Registry)
     leave(steps, seat);
 }
 
-/// Ends the turn, with one event more, which is published while the registry is in hand still.
+/// Ends the turn with one more event, which is published while the registry is still in hand.
 pub(crate) fn end_with(steps: &Steps, seat: &mut Place, registry: Registry)
     requires fits { IsAt seat.old.table_id steps.now.table_id }
     requires adds { (event : Event) × Adding registry event seat.old.me }
@@ -164,8 +165,8 @@ pub(crate) fn end_with(steps: &Steps, seat: &mut Place, registry: Registry)
     leave(steps, seat);
 }
 
-/// Takes a turn that may add an event: there is memory for it, the list has what the seat lacked, and the seat has
-/// all of the history. For want of memory the turn is over.
+/// Takes a turn that may add an event: afterwards there is memory for it, the list has the events that the seat had not
+/// seen, and the seat has seen the whole history. If memory runs out, the turn is over.
 pub(crate) fn enter<R: Wait>(
     rt: &R,
     steps: &Steps,

@@ -1,14 +1,14 @@
-//! A thread that looks while another has its turn at the history.
+//! A thread that looks while another has the lock.
 //!
-//! No public call keeps the lock for longer than its own work takes. So here this work is long: one thread has added a
-//! million events, and another, which has seen none of them, takes them all, and has the lock while it copies them.
+//! No public call holds the lock longer than its own work takes. So here this work is long: one thread has added a
+//! million events, and another, which has seen none of them, takes them all, and holds the lock while it copies them.
 //! Until it is done, the first one looks again and again. There is nothing new for it, so each of its looks is one
 //! load, which waits for nobody.
 //!
-//! What is shown is that a thousand looks, each of which found nothing new, came to their end after the other thread
-//! had begun, and before it was done. Looks that took the lock would come behind the other's ticket, all but the few
-//! that draw one before it. A machine may let one of the two threads rest as long as the other works, so it is tried
-//! up to 16 times. That a look returns at all needs no test: `newer` has no leave to wait.
+//! The test shows that a thousand looks that found nothing new ended after the other thread had begun, and before it
+//! was done. Looks that took the lock would come after the other's ticket, all but the few that draw one before it. A
+//! machine may let one of the two threads rest as long as the other works, so it tries up to 16 times. That a look
+//! returns at all needs no test: `newer` may not wait.
 
 ghost use Rattle.shared_tests.specs.Races.{IsReady};
 
@@ -27,7 +27,7 @@ const BEFORE: u64 = 0;
 /// The other thread takes its turn.
 const BESIDE: u64 = 1;
 
-/// Thread 33 opens image 2 a million times. Its pass has seen all of this.
+/// Thread 33 opens image 2 a million times. Its pass has seen all of these events.
 fn add_events<R: Wait>(rt: &R, alloc: Global, shared: &Shared, mut pass: Pass) -> Pass
     requires { IsReady 33 32 shared.now pass }
     ensures { IsReady 33 32 shared.now result }
@@ -39,7 +39,7 @@ fn add_events<R: Wait>(rt: &R, alloc: Global, shared: &Shared, mut pass: Pass) -
     pass
 }
 
-/// Takes all events, and tells when it begins and when it is done.
+/// Takes all events, and marks when it begins and when it is done.
 fn take_events<R: Wait>(
     rt: &R,
     alloc: Global,
@@ -57,7 +57,7 @@ fn take_events<R: Wait>(
     pass
 }
 
-/// Looks until the other thread is done, and says how many of these looks found nothing new.
+/// Looks until the other thread is done, and returns how many of these looks found nothing new.
 fn look_beside(shared: &Shared, mut pass: Pass, turn: &AtomicU64) -> (Pass, u64)
     requires { IsReady 33 32 shared.now pass }
     ensures { IsReady 33 32 shared.now result.0 }
@@ -73,7 +73,7 @@ fn look_beside(shared: &Shared, mut pass: Pass, turn: &AtomicU64) -> (Pass, u64)
     (pass, looks)
 }
 
-/// One thread takes all events while another looks. Says how many of those looks found nothing new.
+/// One thread takes all events while another looks. Returns how many of those looks found nothing new.
 fn turn_and_looks<R: Threads + Wait + Sync>(
     rt: &R,
     alloc: Global,
@@ -99,7 +99,7 @@ fn turn_and_looks<R: Threads + Wait + Sync>(
     looks
 }
 
-/// How many looks that found nothing new came to their end beside another thread's turn.
+/// How many looks that found nothing new ended during another thread's turn.
 fn looks_beside<R: Threads + Wait + Sync>(rt: &R, alloc: Global) -> Result<u64, AllocError> {
     let (shared, pass) = started(alloc)?;
     let (left, right) = halve(&shared, pass, 1, 64);

@@ -1,4 +1,4 @@
-//! Calls of two passes in turn, with the answers that they must give.
+//! Calls of two passes in turn, with the expected answers.
 
 ghost use Rattle.shared_tests.specs.Races.{IsReady};
 
@@ -10,7 +10,8 @@ use std::process::Abort;
 use std::sync::Wait;
 use std::test::Fail;
 
-/// A pass's first thread opens or closes an image. The text has the answer, and then how many events the pass lacked.
+/// A pass's first thread opens or closes an image. The text has the answer, and then how many events
+/// the pass had not seen.
 fn call<R: Wait>(
     rt: &R,
     alloc: Global,
@@ -34,7 +35,7 @@ fn call<R: Wait>(
     format!(in alloc; "{answer:?} {}", events.len())
 }
 
-/// A pass's first thread, of 32, opens or closes an image, and is answered so.
+/// A pass's first of 32 threads opens or closes an image; checks the answer.
 fn ask<R: Wait + Abort>(
     rt: &R,
     alloc: Global,
@@ -55,7 +56,8 @@ fn ask<R: Wait + Abort>(
     Ok(())
 }
 
-// Image 1 is the program, image 2 a late one, and there is no image 9. A refused call tells what the pass lacked too.
+// Image 1 is the program, image 2 a late one, and there is no image 9. A refused call also gives
+// the events not seen yet.
 #[test]
 fn a_pass_finds_what_the_other_did(rt: HostRuntime) -> Result<(), Fail> {
     let opened = "Ok(Opened { instance: 2, id: 2, at: 0 }) 0";

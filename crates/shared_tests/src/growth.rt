@@ -1,6 +1,6 @@
-//! An open of a shared history, and a pass that takes what it lacks, are refused for want of memory alone, wherever they
-//! ask for some: pass, list and history stay as they were, and the call made again is answered as it is where nothing
-//! is refused. A test that met this says so in a line.
+//! An open of a shared history, and a pass that catches up, fail only when memory runs out, at any point where they
+//! allocate: pass, list and history stay as they were, and a second try gives the result that the first would have
+//! given. A test that met such a failure says so in a line.
 
 ghost use Rattle.std.specs.Prelude.{IfOk};
 ghost use Rattle.shared_tests.specs.Races.{IsReady};
@@ -15,7 +15,7 @@ use std::process::Abort;
 use std::sync::Wait;
 use std::test::Fail;
 
-/// An event of thread 33, of image 2.
+/// An event of thread 33 for image 2.
 fn event(line: u32, opens: bool) -> Event {
     Event {
         thread: 33,
@@ -25,7 +25,7 @@ fn event(line: u32, opens: bool) -> Event {
     }
 }
 
-/// Whether a list has what the second pass did: image 2 was opened and closed again, twice.
+/// Whether a list has what the second pass did: it opened and closed image 2, twice.
 fn is_lacked(events: &[Event]) -> bool {
     let lacked = [
         event(1, true),
@@ -36,8 +36,8 @@ fn is_lacked(events: &[Event]) -> bool {
     events == lacked.as_slice()
 }
 
-/// A shared history, and its pass in halves. The second pass added four events, which the first lacks; the registry has
-/// room for no fifth.
+/// A shared history, and its pass in halves. The second pass added four events, which the first has not seen; the
+/// registry has no room for a fifth.
 fn begun<R: Wait>(rt: &R, alloc: Global) -> Result<(Shared, Pass, Pass), AllocError>
     ensures left { IfOk result (λ begun. IsReady 1 32 begun.0 begun.1) }
     ensures right { IfOk result (λ begun. IsReady 33 32 begun.0 begun.2) }
@@ -65,7 +65,7 @@ fn open_once<R: Wait>(
     shared.open(rt, pass, 1, 1, 2, told)
 }
 
-/// The first pass has nothing of the history, nor has its list, and nothing was added that the second lacks.
+/// The first pass and its list have nothing of the history, and nothing was added that the second has not seen.
 fn expect_as_before(
     rt: &impl Abort,
     shared: &Shared,
@@ -82,7 +82,7 @@ fn expect_as_before(
     assert!(rt; shared.newer(left) && !shared.newer(right), "the history");
 }
 
-/// Opens image 2, and again where that is refused.
+/// Opens image 2, and again if the first try fails.
 fn open_twice(rt: &(impl Wait + Abort + Print), alloc: Global) -> Result<(), AllocError> {
     let (shared, mut left, mut right) = begun(rt, alloc)?;
     let mut told = Vec::new(alloc);
@@ -108,7 +108,7 @@ fn open_twice(rt: &(impl Wait + Abort + Print), alloc: Global) -> Result<(), All
     Ok(())
 }
 
-/// Takes what the first pass lacks, and again where that is refused.
+/// Takes the events that the first pass has not seen, and again if the first try fails.
 fn catch_up_twice(rt: &(impl Wait + Abort + Print), alloc: Global) -> Result<(), AllocError> {
     let (shared, mut left, mut right) = begun(rt, alloc)?;
     let mut told = Vec::new(alloc);

@@ -1,7 +1,8 @@
-//! Tests of `shared_modules` by threads that run at once.
+//! Tests of `shared_modules` with threads that run at once.
 //!
-//! Its clauses say what each call gives. Here stands what no clause says: that calls return while others go on, that a
-//! look finds what another thread did, that want of memory stops no one, and that a call it refuses can be made again.
+//! Its clauses say what each call gives. These tests check what no clause says: that calls return while others go
+//! on, that a look finds what another thread did, that a thread without memory stops no other, and that a refused
+//! call can be made again.
 #![tactic(auto)]
 
 #[cfg(test)]

@@ -13,7 +13,7 @@ use std::test::Fail;
 use std::thread;
 use std::thread::{Threads, join};
 
-/// A pass's first thread opens image 2 and closes it again; the number says how many of both were accepted.
+/// A pass's first thread opens image 2 and closes it again; returns how many of the two were accepted.
 pub(crate) fn open_and_close<R: Wait>(
     rt: &R,
     alloc: Global,
@@ -36,7 +36,7 @@ pub(crate) fn open_and_close<R: Wait>(
     (pass, u32::from(opened) + u32::from(closed))
 }
 
-/// Each of so many threads opens and closes, at once.
+/// Each of `count` threads opens and closes, at once.
 #[cycle(race)]
 fn race<R: Threads + Wait + Sync>(
     rt: &R,
@@ -97,7 +97,7 @@ fn look<R: Wait>(
     (pass, events)
 }
 
-/// A pass's first thread opens image 2, again where it wanted memory.
+/// A pass's first thread opens image 2, again and again until it has memory.
 fn open_at_last<R: Wait>(
     rt: &R,
     alloc: Global,
@@ -121,7 +121,7 @@ fn open_at_last<R: Wait>(
     pass
 }
 
-/// A thread looks in a loop while another opens. What the first found is returned.
+/// A thread looks in a loop while another opens. Returns what the first one found.
 fn watch<R: Threads + Wait + Sync>(
     rt: &R,
     alloc: Global,
@@ -154,7 +154,7 @@ fn read_at_once<R: Threads>(rt: &R, pass: &Pass) -> (u64, u64)
     join(rt, || pass.seen(), || pass.seen())
 }
 
-// Each open is accepted, and so is the close of a thread that opened; then all is as at the start.
+// Each open is accepted, and so is the close of a thread that opened; after that everything is as at the start.
 #[test]
 fn threads_open_and_close_at_once(rt: HostRuntime) -> Result<(), Fail> {
     let (shared, pass) = started(rt.alloc())?;
@@ -167,7 +167,7 @@ fn threads_open_and_close_at_once(rt: HostRuntime) -> Result<(), Fail> {
     Ok(())
 }
 
-// The event that the look found is the open; what both passes have is all there is.
+// The event that the look found is the open; both passes have seen everything.
 #[test]
 fn a_look_finds_what_another_thread_did(rt: HostRuntime) -> Result<(), Fail> {
     let (shared, pass) = started(rt.alloc())?;
@@ -183,7 +183,7 @@ fn a_look_finds_what_another_thread_did(rt: HostRuntime) -> Result<(), Fail> {
     Ok(())
 }
 
-// Whatever allocation fails, no thread waits for ever, and the history has just the calls that were accepted.
+// Whichever allocation fails, no thread waits for ever, and the history has exactly the calls that were accepted.
 #[test]
 fn want_of_memory_stops_no_one(rt: HostRuntime) -> Result<(), Fail> {
     let Ok((shared, pass)) = started(rt.alloc()) else {

@@ -1,4 +1,4 @@
-//! A shared history to begin with, and its pass in halves.
+//! A new shared history, and its pass in halves.
 
 ghost use Rattle.std.specs.Prelude.{◌≡◌, ◌≤◌, ◌+◌, ◌-◌, ◌/◌, IfOk};
 ghost use Rattle.shared_tests.specs.Races.{IsReady};

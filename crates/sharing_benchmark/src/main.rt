@@ -1,7 +1,8 @@
-//! How long looks and opens take while other threads do the same: `sharing_benchmark HALVINGS LOOKS OPENS [time]` has 2
-//! threads for one halving, 4 for two, and so on up to 64. Each looks LOOKS times while nothing is new, and loads a word
-//! as often, which is the least that a look can cost. Then each opens a module that is loaded, and closes it again, OPENS
-//! times. With `time` it prints how long that took.
+//! Measures how long looks and opens take while other threads do the same.
+//!
+//! `sharing_benchmark HALVINGS LOOKS OPENS [time]` has 2 threads for one halving, 4 for two, and so on up to 64. Each
+//! looks LOOKS times while nothing is new, and loads a word as often, which is the least that a look can cost. Then
+//! each opens a module that is loaded, and closes it again, OPENS times. With `time` it prints how long that took.
 #![tactic(auto)]
 
 ghost use Rattle.std.specs.Prelude.{◌≡◌, ◌≤◌, IfOk};
@@ -27,7 +28,7 @@ enum Work {
     Open(u32),
 }
 
-/// Looks so often, and counts the looks that found something.
+/// Looks `times` times, and counts the looks that found something.
 fn look(shared: &Shared, pass: &mut Pass, first: u32, count: u32, times: u32) -> u64
     requires { IsReady first count shared.now pass.old }
     ensures { IsReady first count shared.now pass.new }
@@ -41,7 +42,7 @@ fn look(shared: &Shared, pass: &mut Pass, first: u32, count: u32, times: u32) ->
     found
 }
 
-/// Loads a word so often, and counts the loads that found something.
+/// Loads a word `times` times, and counts the loads that found something.
 fn load(word: &AtomicU64, times: u32) -> u64 {
     let mut found = 0_u64;
     for _ in 0..times {
@@ -52,7 +53,7 @@ fn load(word: &AtomicU64, times: u32) -> u64 {
     found
 }
 
-/// Opens and closes image 2 so often, and counts the events that were other threads'.
+/// Opens and closes image 2 repeatedly, and counts the events of other threads.
 fn open<R: Wait>(
     rt: &R,
     alloc: Global,
@@ -76,7 +77,7 @@ fn open<R: Wait>(
     others
 }
 
-/// Thread 1 opens image 2, which is loaded from then on.
+/// Thread 1 opens image 2, which stays loaded.
 fn keep_loaded<R: Wait>(rt: &R, alloc: Global, shared: &Shared, pass: &mut Pass)
     requires { IsReady 1 64 shared.now pass.old }
     ensures { IsReady 1 64 shared.now pass.new }
@@ -110,7 +111,7 @@ fn carry_out<R: Wait>(
     }
 }
 
-/// Halves the pass so often, and lets a thread work with each part.
+/// Halves the pass repeatedly, and lets a thread work with each part.
 #[cycle(parts)]
 fn parts<R: Threads + Wait + Sync>(
     rt: &R,
@@ -150,7 +151,7 @@ fn parts<R: Threads + Wait + Sync>(
     (shared.join(left, right), a.wrapping_add(b))
 }
 
-/// Lets each thread do its work, and says how long that took.
+/// Lets each thread do its work, and returns how long that took.
 fn timed<R: Threads + Wait + Clock + Sync>(
     rt: &R,
     alloc: Global,

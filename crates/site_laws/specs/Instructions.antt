@@ -1,5 +1,5 @@
--- The instructions of each sequence, a row a form and choice ("ELF Handling For Thread-Local Storage", sections 4.1 and
--- 5; psABI, "Thread-Local Storage"): of those that a compiler wrote, and of those that stand in their place.
+-- The instructions of each sequence ("ELF Handling For Thread-Local Storage", sections 4.1 and 5; psABI, "Thread-Local
+-- Storage"): those that a compiler wrote, by form, and those that replace them, by form and choice.
 use Rattle.std.specs.Prelude.{ℕ, ◌%◌, ◌==◌, true, false, List, [], ◌∷◌, Some, None, if◌then◌else◌}
 use Rattle.amd64_words.specs.declared.register.Register.{Register}
 use Rattle.amd64_words.specs.declared.register.Register.TheVariants.{Rax, Rdi}
@@ -33,9 +33,9 @@ of_next = record { from_thread_pointer = false; base = base.NextInstruction; ind
 abbrev pub of_register : Register → Memory
 of_register r = record { from_thread_pointer = false; base = base.Register r; index = None }
 
--- ** instructions of so many bytes
+-- ** instructions with a number of bytes
 
--- one with neither a displacement nor an immediate
+-- an instruction with neither a displacement nor an immediate
 abbrev pub plain : ℕ → Operation → Decoded
 plain len operation = record {
   instr = record { operation = operation; displacement = 0; immediate = 0 };
@@ -44,7 +44,7 @@ plain len operation = record {
   imm = None;
 }
 
--- one with this displacement in the field there
+-- an instruction with a displacement in a field
 abbrev pub displaced : ℕ → ℕ → Operation → ℕ → Decoded
 displaced len at operation number = record {
   instr = record { operation = operation; displacement = number; immediate = 0 };
@@ -53,7 +53,7 @@ displaced len at operation number = record {
   imm = None;
 }
 
--- one with this immediate in the field there
+-- an instruction with an immediate in a field
 abbrev pub immediate : ℕ → ℕ → Operation → ℕ → Decoded
 immediate len at operation number = record {
   instr = record { operation = operation; displacement = 0; immediate = number };
@@ -84,7 +84,7 @@ call_through from = Call (Indirect (operand.InMemory from))
 
 -- ** the sequences
 
--- those of a form, with its register and the numbers in its fields
+-- the instructions of a form, with its register and the numbers in its fields
 abbrev pub kept_instructions : Form → ℕ → ℕ → ℕ → List Decoded
 -- lea first(%rip), %rdi; call second
 kept_instructions Gd reg first second =
@@ -105,14 +105,14 @@ kept_instructions DescLea reg first second = displaced 7 3 (LoadAddress Quad Rax
 -- call *(%rax)
 kept_instructions DescCall reg first second = plain 2 (call_through (of_register Rax)) ∷ []
 
--- lea x(%r), %r, or of %rsp and %r12 add $x, %r
+-- lea x(%r), %r, or for %rsp and %r12 add $x, %r
 abbrev pub added : ℕ → ℕ → Decoded
 added reg x =
     if reg % 8 == 4
     then immediate 7 3 (add_number (register_of reg)) x
     else displaced 7 3 (LoadAddress Quad (register_of reg) (of_register (register_of reg))) x
 
--- those in the place of a form by a choice, with its register and the number in their field
+-- the instructions that replace a form by a choice, with its register and the number in their field
 abbrev pub new_instructions : Form → Choice → ℕ → ℕ → List Decoded
 -- mov %fs:0, %rax; lea x(%rax), %rax
 new_instructions Gd GdLe reg x =

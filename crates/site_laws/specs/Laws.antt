@@ -1,4 +1,4 @@
--- What is read where a sequence stands, kept or rewritten, whatever its fields hold.
+-- Which instructions are read at a sequence, kept or rewritten, whatever its fields hold.
 use Rattle.std.specs.Prelude.{◌≡◌, ◌≢◌, ◌≤◌, ◌+◌, ℕ, List, [], ◌∷◌, Option, Some, None, IsTrue, length, drop, slice_get}
 use Rattle.std.specs.Prelude.{slice_index, sum_by}
 use Rattle.elf_records.specs.Fields.{part_at, splice}
@@ -16,14 +16,14 @@ use Rattle.relax_sites.specs.Choices.{IsChoiceOf}
 use Rattle.relax_sites.specs.Rows.{form_length, new_bytes, new_field}
 use Rattle.site_laws.specs.Instructions.{kept_instructions, new_instructions}
 
--- the bytes are read as these instructions, each behind the one before, and then comes the rest
+-- the bytes are read as these instructions, one after another, and then comes the rest
 abbrev pub AreRead : List Decoded → List ℕ → List ℕ → Type 0
 AreRead [] rest bytes = bytes ≡ rest
 AreRead (d ∷ more) rest bytes = (decoded bytes ≡ Some d) × AreRead more rest (drop d.len bytes)
 
 -- ** a rewritten site
 
--- a row's bytes with these four in its field, where it has one
+-- a row's bytes with these four in its field, if it has one
 abbrev pub filled : Option NewField → List ℕ → List ℕ → List ℕ
 filled None four bytes = bytes
 filled (Some field) four bytes = splice field.at four bytes
@@ -41,7 +41,7 @@ RewrittenSitesAreRead = (form : Form) (choice : Choice) (reg : ℕ) (four code :
 abbrev pub number_in : List ℕ → ℕ → ℕ → ℕ
 number_in code start at = field_of (part_at 4 (start + at) code)
 
--- that of the second relocation's field, where there is one
+-- the number in the second relocation's field, if there is one
 abbrev pub second_in : List ℕ → ℕ → Option Second → ℕ
 second_in code start None = 0
 second_in code start (Some second) = number_in code start second.at

@@ -3,12 +3,12 @@
 ghost use Rattle.site_laws.specs.Laws.{RewrittenSitesAreRead, KeptSitesAreRead};
 ghost use Rattle.site_laws.specs.Laws.{KeptSitesAreWhole, RewrittenSitesAreWhole};
 
-/// Where a row's bytes stand, with any four in their field, the instructions of the row are read.
+/// At a row's bytes, with any four in their field, a processor reads the instructions of the row.
 pub fn rewritten_sites_are_read()
     ensures { RewrittenSitesAreRead }
 {}
 
-/// Where a form's bytes stand, with any in their fields, the instructions of the form are read.
+/// At a form's bytes, with any in their fields, a processor reads the instructions of the form.
 pub fn kept_sites_are_read()
     ensures { KeptSitesAreRead }
 {}
@@ -18,7 +18,7 @@ pub fn kept_sites_are_whole()
     ensures { KeptSitesAreWhole }
 {}
 
-/// So have those of a row.
+/// The instructions of a row have as many bytes as the row.
 pub fn rewritten_sites_are_whole()
     ensures { RewrittenSitesAreWhole }
 {}

@@ -1,8 +1,8 @@
-//! What a processor reads where a sequence of thread-local storage stands: laws, and no code.
+//! Which instructions a processor reads at a TLS code sequence, kept or rewritten: laws, and no code.
 //!
 //! A linker knows a sequence by its bytes (`sequence_match`) and writes bytes in its place (`relax_sites`); a
-//! processor knows instructions (`amd64_subset`). This crate says that the two agree. Of a site that is kept, the bytes
-//! are read as the one or two instructions that the compiler wrote there; of one that is rewritten, as those that its
+//! processor knows instructions (`amd64_subset`). This crate says that the two agree. The bytes of a kept site are
+//! read as the one or two instructions that the compiler wrote there; those of a rewritten site as the ones that its
 //! row names. They fill the site, and whatever a linker writes into their fields changes one number each:
 //!
 //! ```text
@@ -13,11 +13,11 @@
 //! is read as the two instructions of general dynamic code that became local exec, with 7 bytes and a displacement at 3
 //! for the second, and with f0 ff ff ff, -16, as that displacement.
 //!
-//! The rule of the crate: **a row's assembly text is what its bytes are**, in each register and with any number in each
+//! The rule of the crate: **a row's assembly text is what its bytes mean**, for each register and any number in each
 //! field. So a reader of the tables need not decode a byte, and a wrong digit in a row breaks a law. The instructions
 //! are those of "ELF Handling For Thread-Local Storage" (Drepper) and of the psABI ("Thread-Local Storage"), encoded
-//! as in Intel's manual, volume 2. `specs/Instructions` has them, a row a form and choice, and `specs/Laws` what is
-//! proved of them.
+//! as in Intel's manual, volume 2. `specs/Instructions` has them, a row for each form and choice, and `specs/Laws`
+//! has what is proved of them.
 #![tactic(auto)]
 
 mod laws;

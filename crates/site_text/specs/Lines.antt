@@ -11,20 +11,21 @@ use Rattle.site_text.specs.Names.{choice_name, form_name}
 abbrev pub hex16 : ℕ → List ℕ
 hex16 n = padded_integral (format_spec 32 0 4 16 (2 ^ 64 - 1)) false [] (digits 16 false n)
 
--- a name as it is shown: `-` for an empty one
+-- a name as it is printed: `-` for an empty one
 abbrev pub shown_name : List ℕ → List ℕ
 shown_name [] = codes "-"
 shown_name (c ∷ cs) = c ∷ cs
 
--- where a site lies in its object: the section, the offset there
+-- the section of a site, and its offset there
 unfoldable pub site_place : Site → List ℕ
 site_place site = codes " " ++ decimal site.section ++ codes " " ++ hex16 site.start
 
--- what a site is, and what stands in its place
+-- the form of a site, and its choice
 unfoldable pub site_choice : Site → Choice → List ℕ
 site_choice site choice = codes " " ++ form_name site.form ++ codes " " ++ choice_name choice ++ codes " "
 
--- the line of a site in an object of this name and these bytes: the name, where the site lies, what it is, its symbol
+-- the line of a site in an object with this name and these bytes: the name, the site's place, form
+-- and choice, its symbol
 unfoldable pub site_line : List ℕ → List ℕ → Site → Choice → List ℕ
 site_line name object site choice =
     name ++ site_place site ++ site_choice site choice ++ shown_name (symbol_name object site.symbol) ++ codes "\n"

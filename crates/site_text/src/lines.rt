@@ -11,7 +11,7 @@ use relax_sites::Choice;
 use sequence_match::Site;
 use std::alloc::{AllocError, Global};
 
-/// A symbol's name as it is shown.
+/// A symbol's name as it is printed.
 fn shown_name(name: &[u8]) -> &[u8]
     ensures { result.now ≡ shown_name name.now }
 {
@@ -29,7 +29,7 @@ fn place_of(alloc: Global, site: &Site) -> Result<String, AllocError>
     Ok(place)
 }
 
-/// What a site is, and what stands in its place.
+/// The form of a site, and its choice.
 #[tactic(auto, unfolding(crate::specs::Lines::site_choice))]
 fn choice_of(alloc: Global, site: &Site, choice: Choice) -> Result<String, AllocError>
     ensures { IfOk result (λ words. string_bytes words ≡ site_choice site.now choice) }
@@ -62,8 +62,8 @@ fn line_of(
     Ok(line)
 }
 
-/// Appends the line of a site: its object, its section, its offset there, its form, what stands in its place, and its
-/// symbol. Where there is no memory, nothing is appended.
+/// Appends the line of a site: its object, its section, its offset there, its form, its choice, and its symbol. If
+/// memory runs out, nothing is appended.
 pub fn push_site(
     alloc: Global,
     name: &str,
@@ -98,7 +98,7 @@ fn lines_of(
     Ok(lines)
 }
 
-/// Appends the lines of an object's sites, each with its choice. Where there is no memory, nothing is appended.
+/// Appends the lines of an object's sites, each with its choice. If memory runs out, nothing is appended.
 pub fn push_sites(
     alloc: Global,
     name: &str,

@@ -33,17 +33,17 @@ abbrev pub byte_of : ℕ → Option Part → Option ℕ
 byte_of address None = None
 byte_of address (Some part) = slice_get part.bytes (address - part.address)
 
--- the byte at an address of an image: that of the part which holds the address, and none where no part does (gABI,
--- "Program Loading")
+-- the byte at an address of an image: that of the part that holds the address; none if no part does
+-- (gABI, "Program Loading")
 unfoldable pub byte_at : Spelled → ℕ → Option ℕ
 byte_at image address = byte_of address (find (holds address) image.parts)
 
--- these bytes stand in the image from the address on, one behind the other
+-- these bytes stand in the image from the address on, one after another
 abbrev pub Stand : Spelled → ℕ → List ℕ → Type 0
 Stand image address bytes = (k : ℕ) → k < length bytes → byte_at image (address + k) ≡ slice_get bytes k
 
--- objects that link, whose accesses of thread-local storage are all sequences: of them `link` makes `image_of`, which
--- `run` loads
+-- objects that link, whose thread-local accesses are all sequences: `link` makes `image_of` from
+-- them, and `run` loads it
 pub record IsLinked (l : Linking) : Type 0 where
   pub given : IsGiven l
   pub links : Links l
@@ -56,7 +56,7 @@ pub record IsSectionAt (l : Linking) (o t address : ℕ) : Type 0 where
 
 -- ** bytes of a section
 
--- byte k of a section as its object has it; zero where the object has room for it, and no byte
+-- byte k of a section in its object; zero if the section has no bytes in the file
 abbrev pub own_byte : Linking → ℕ → ℕ → ℕ → Option ℕ
 own_byte l o t k = slice_get (memory_bytes (object l o) t) k
 
@@ -64,7 +64,7 @@ own_byte l o t k = slice_get (memory_bytes (object l o) t) k
 abbrev pub IsPlain : Linking → ℕ → ℕ → ℕ → Type 0
 IsPlain l o t k = IsBare (relocations (object l o) t) k
 
--- no sequence has the byte that the table gives another form
+-- no sequence with another form in the table has the byte
 abbrev pub IsKept : Linking → ℕ → ℕ → ℕ → Type 0
 IsKept l o t k =
     (site : Site) (choice : Choice) → IsSequence l o t site → Matches l o site choice → site.start ≤ k
@@ -72,7 +72,7 @@ IsKept l o t k =
 
 -- ** what stands in a sequence's place
 
--- a row without a field stands as it is, and in one with a field stands the value that the psABI gives the field's
+-- a row without a field stands as it is; in a row with a field stands the value that the psABI gives the field's
 -- relocation, which fits
 abbrev pub IsFilled : Linking → ℕ → Site → List ℕ → Option NewField → List ℕ → Type 0
 IsFilled l o site row None bytes = bytes ≡ row
@@ -80,7 +80,7 @@ IsFilled l o site row (Some new) bytes =
     (value : Field) × (field l o site.section (new_relocation site new) ≡ Some value)
     × (bytes ≡ splice new.at (field_bytes value) row)
 
--- these are the bytes of a rewritten form, in the place of the sequence
+-- these are the bytes of a rewritten form in the place of the sequence
 abbrev pub AreOfForm : Linking → ℕ → Site → Choice → List ℕ → Type 0
 AreOfForm l o site choice bytes =
     IsFilled l o site (new_bytes site.form choice site.reg) (new_field site.form choice) bytes
@@ -90,13 +90,13 @@ abbrev pub IsOutside : Option NewField → ℕ → Type 0
 IsOutside None k = Unit {0}
 IsOutside (Some new) k = (k < new.at) ⊎ (new.at + 4 ≤ k)
 
--- what stands at the address looks like a rewritten form: all bytes of its row, but the field's
+-- the bytes at the address look like a rewritten form: they are those of its row, except in its field
 abbrev pub HasForm : Spelled → ℕ → Site → Choice → Type 0
 HasForm image address site choice =
     (k byte : ℕ) → slice_get (new_bytes site.form choice site.reg) k ≡ Some byte
     → IsOutside (new_field site.form choice) k → byte_at image (address + k) ≡ Some byte
 
--- what stands there looks like the sequence itself: all bytes of the object's own, but those of its fields
+-- the bytes there look like the sequence itself: they are the object's own, except in its fields
 abbrev pub HasOwnForm : Linking → ℕ → ℕ → Site → Type 0
 HasOwnForm l o address site =
     (k : ℕ) → k < site.len → IsPlain l o site.section (site.start + k)

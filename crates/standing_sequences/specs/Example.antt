@@ -8,8 +8,8 @@
 --      mov y@gottpoff(%rip), %rax
 --      ret
 --
--- x is the program's own and lies 4 below the thread pointer, so code of it finds the distance itself. y is not, so its
--- distance stands in a word of the table, which the last sequence reads already.
+-- x is the program's own and lies at offset -4 from the thread pointer, so the program's code can hold the offset. y is
+-- not, so its offset stands in a word of the GOT, which the last sequence reads already.
 use Rattle.std.specs.Prelude.{◌≡◌, ◌+◌, ◌*◌, ◌-◌, ℕ, Bool, true, false, List, [], ◌∷◌, Some, codes, length}
 use Rattle.std.specs.Prelude.{map, nat_lt, if◌then◌else◌}
 use Rattle.std.specs.List.{flat_map, range_with_len}
@@ -97,13 +97,13 @@ kept_code =
     -- mov 0x402020(%rip), %rax; ret
     ∷ 0x48 ∷ 0x8b ∷ 0x05 ∷ 0xf9 ∷ 0x1f ∷ 0x00 ∷ 0x00 ∷ 0xc3 ∷ []
 
--- that of an image is these bytes, from 0x400000 on
+-- the code of an image is these bytes, from 0x400000 on
 abbrev pub HasCode : Linking → List ℕ → Type 0
 HasCode l bytes =
     map (λ k. byte_at (image_of l) (0x400000 + k)) (range_with_len 0 (length bytes)) ≡ map Some bytes
 
--- linked with rewriting, two of the sequences match the table, and the third does not; without, none does. The code is
--- as the table says
+-- linked with rewriting, two of the sequences match the table, and the third does not; without, none does; the
+-- code is as the table says
 pub record ExampleStands : Type 0 where
   pub own : Matches (program true) 0 asks_for_x GdLe
   pub theirs : Matches (program true) 0 asks_for_y GdIe

@@ -22,7 +22,7 @@ use Rattle.standing_sequences.specs.Table.{IsDue, IsSequence, Matches, MayReplac
 
 -- ** byte by byte
 
--- where the table gives a sequence another form, that form stands, whole, in the sequence's place
+-- if the table gives a sequence another form, that form stands, whole, in the sequence's place
 abbrev pub RewrittenFormsStand : Type 0
 RewrittenFormsStand = (l : Linking) (o t address : ℕ) (site : Site) (choice : Choice) → IsLinked l
     → IsSectionAt l o t address → IsSequence l o t site → Matches l o site choice
@@ -35,7 +35,7 @@ OwnBytesStand = (l : Linking) (o t address k : ℕ) → IsLinked l → IsSection
     → k < section_size (object l o) t → IsKept l o t k → IsPlain l o t k
     → byte_at (image_of l) (address + k) ≡ own_byte l o t k
 
--- fields aside, which hold the values of their relocations, and these fit
+-- except in fields, which hold the values of their relocations, and these fit
 abbrev pub FieldsStand : Type 0
 FieldsStand = (l : Linking) (o t address k : ℕ) (r : Relocation) → IsLinked l → IsSectionAt l o t address
     → Contains (relocations (object l o) t) r → Covers r k → IsKept l o t k
@@ -44,7 +44,8 @@ FieldsStand = (l : Linking) (o t address k : ℕ) (r : Relocation) → IsLinked 
 
 -- ** sequence by sequence
 
--- a byte of a rewritten form, not of its field, that no sequence of the form has there, and not as one of its fields
+-- a byte of a rewritten form, outside its field, that no sequence of the form has there, and that
+-- is in none of its fields
 pub record Differs (form : Form) (choice : Choice) (reg : ℕ) : Type 0 where
   pub at : ℕ
   pub cell : Cell
@@ -55,17 +56,17 @@ pub record Differs (form : Form) (choice : Choice) (reg : ℕ) : Type 0 where
   pub outside : IsOutside (new_field form choice) at
   pub other : fits cell byte ≡ false
 
--- so nobody takes a rewritten form for the sequence that it replaces, whatever stands in the fields
+-- so a rewritten form cannot be mistaken for the sequence that it replaces, whatever their fields hold
 abbrev pub RowsDiffer : Type 0
 RowsDiffer = (form : Form) (choice : Choice) (reg : ℕ) → MayReplace form choice → Differs form choice reg
 
 -- at the place of a sequence
 pub record StandsByTheTable (l : Linking) (o address : ℕ) (site : Site) : Type 0 where
-  -- stands a rewritten form where the table gives it, and only there
+  -- there is a rewritten form if the table gives it, and only then
   pub given : (choice : Choice) → Matches l o site choice → HasForm (image_of l) address site choice
   pub only_given : (choice : Choice) → MayReplace site.form choice → HasForm (image_of l) address site choice
       → IsDue l o site choice
-  -- and the sequence itself where the table gives none, and only there
+  -- and there is the sequence itself if the table gives none, and only then
   pub kept : ((choice : Choice) → Matches l o site choice → ⊥) → HasOwnForm l o address site
   pub only_kept : HasOwnForm l o address site → (choice : Choice) → Matches l o site choice → ⊥
 
@@ -75,7 +76,7 @@ SequencesStandByTheTable = (l : Linking) (o t address : ℕ) (site : Site) → I
 
 -- ** the linker's choice
 
--- what the linker chooses for a sequence, but to keep it, is what the table gives
+-- the linker's choice for a sequence, other than to keep it, is that of the table
 abbrev pub ChoicesAreTheTables : Type 0
 ChoicesAreTheTables = (l : Linking) (o : ℕ) (site : Site) (chosen : Choice) → chosen ≢ Keep
     → (choice l o site ≡ chosen → Matches l o site chosen) × (Matches l o site chosen → choice l o site ≡ chosen)

@@ -4,7 +4,7 @@ ghost use Rattle.standing_sequences.specs.Example.{ExampleStands};
 ghost use Rattle.standing_sequences.specs.Laws.{ChoicesAreTheTables, FieldsStand, OwnBytesStand};
 ghost use Rattle.standing_sequences.specs.Laws.{RewrittenFormsStand, RowsDiffer, SequencesStandByTheTable};
 
-/// Where the table gives a sequence another form, that form stands in its place, whole, and its field holds its value.
+/// If the table gives a sequence another form, that form stands in its place, whole, and its field holds its value.
 pub fn rewritten_forms_stand()
     ensures { RewrittenFormsStand }
 {}
@@ -14,27 +14,27 @@ pub fn own_bytes_stand()
     ensures { OwnBytesStand }
 {}
 
-/// fields aside, which hold the values of their relocations.
+/// except in fields, which hold the values of their relocations.
 pub fn fields_stand()
     ensures { FieldsStand }
 {}
 
-/// No form that the table gives can be taken for the one that it replaces, whatever stands in their fields.
+/// No form in the table can be mistaken for the one that it replaces, whatever their fields hold.
 pub fn rows_differ()
     ensures { RowsDiffer }
 {}
 
-/// So at the place of each sequence stands a rewritten form exactly where the table gives it, and else the sequence.
+/// So at the place of each sequence there is a rewritten form exactly if the table gives one, and else the sequence.
 pub fn sequences_stand_by_the_table()
     ensures { SequencesStandByTheTable }
 {}
 
-/// What the linker chooses for a sequence is what the table gives.
+/// The linker's choice for a sequence is that of the table.
 pub fn choices_are_the_tables()
     ensures { ChoicesAreTheTables }
 {}
 
-/// So it is, for example, in a program with three sequences, linked with rewriting and without.
+/// This holds, for example, in a program with three sequences, linked with rewriting and without.
 pub fn example_stands()
     ensures { ExampleStands }
 {}

@@ -1,15 +1,15 @@
 //! Where rewritten forms of sequences stand in a linked image, and what stands everywhere else: laws, and no code.
 //!
-//! A compiler that does not know where a thread-local variable will lie writes the longest sequence that finds it, and
-//! marks it by relocations. A linker that knows more may put a shorter form in its place ("ELF Handling For
-//! Thread-Local Storage", section 5; psABI, "Thread-Local Storage"). Who reads the image wants to know two things: that
-//! it was done wherever it may be done, and that nothing else was. `link_core` tells the image as a linker makes it;
-//! this crate tells what stands in it, by the objects and the table alone.
+//! A compiler that does not know where a thread-local variable will lie writes the longest sequence that finds it,
+//! and marks it by relocations. A linker that knows more may write a cheaper form in its place ("ELF Handling For
+//! Thread-Local Storage", section 5; psABI, "Thread-Local Storage"). A reader of the image wants to know two things:
+//! that the linker did so wherever it may, and that it changed nothing else. `link_core` describes the image as a
+//! linker makes it; this crate says what stands in it, by the objects and the table alone.
 //!
-//! The rule of the crate: **a sequence's rewritten form stands exactly where its bytes, its relocations, its symbol's
-//! binding, the image's kind and the setting match the table; everywhere else the object's own bytes stand, fields
-//! aside.** The first two make it a sequence (`IsSequence`), and of the other three the table has these lines
-//! (`specs/Table`):
+//! The rule of the crate: **a sequence's rewritten form stands exactly where its bytes, its relocations, its
+//! symbol's binding, the image's kind and the setting match the table; everywhere else the object's own bytes stand,
+//! except in fields.** The first two make it a sequence (`IsSequence`); for the other three the table has these
+//! lines (`specs/Table`):
 //!
 //! ```text
 //! rewriting, in a program    the program's own variable    one of a module that starts with it
@@ -23,14 +23,14 @@
 //! no rewriting, or a module: all are kept
 //! ```
 //!
-//! Byte by byte: where the table gives a form, it stands whole, and its field holds the value of its relocation, which
-//! fits ([`rewritten_forms_stand`]). At all other bytes of sections the object's own stand ([`own_bytes_stand`]), but
+//! Byte by byte: a form that the table gives stands whole, and its field holds the value of its relocation, which
+//! fits ([`rewritten_forms_stand`]). All other bytes of sections are the object's own ([`own_bytes_stand`]), except
 //! in the fields of relocations, which hold their values ([`fields_stand`]). And sequence by sequence: outside of
-//! fields no rewritten form has the bytes of the sequence that it replaces ([`rows_differ`]), so what is seen in an
-//! image tells what the table said, and the other way round ([`sequences_stand_by_the_table`]). What the linker chose,
-//! which `tlsld sites` prints, is what the table gives ([`choices_are_the_tables`]).
+//! fields no rewritten form has the bytes of the sequence that it replaces ([`rows_differ`]), so the bytes of an
+//! image show what the table said, and the table says what they are ([`sequences_stand_by_the_table`]). The linker's
+//! choice, which `tlsld sites` prints, is that of the table ([`choices_are_the_tables`]).
 //!
-//! For example, a program has `x`, 4 below the thread pointer, and a module that starts with it has `y`
+//! For example, a program has `x` at offset -4 from the thread pointer, and a module that starts with it has `y`
 //! ([`example_stands`] computes it from the bytes of the object):
 //!
 //! ```text
@@ -43,13 +43,13 @@
 //! c3                ret                             c3                          ret
 //! ```
 //!
-//! The image is `image_of` (`link_core`), of which `link` writes the bytes and which `run` reads back from them. What a
-//! loader makes of it `loaded_bytes` says, and `tied_sites` that each form does what its sequence means. What is asked
-//! of the objects a reader of them has seen to: they link, and each of their accesses of thread-local storage is a
-//! sequence (`IsLinked`).
+//! The image is `image_of` (`link_core`); `link` writes its bytes, and `run` reads it back from them.
+//! `loaded_bytes` says what a loader makes of it, and `tied_sites` that each form does what its sequence means. The
+//! laws ask of the objects only what reading them has checked: they link, and each of their thread-local accesses
+//! is a sequence (`IsLinked`).
 //!
-//! The proof is short. `link_core` says of each byte what it is meant to be, in words of the linker's choice; the
-//! table gives that choice, sequences share no byte, and a relocation's field goes with its sequence.
+//! The proof is short. `link_core` says what each byte is, by the linker's choice; the table gives that choice,
+//! sequences share no byte, and a relocation's field goes with its sequence.
 #![tactic(auto)]
 
 mod laws;

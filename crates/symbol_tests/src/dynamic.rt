@@ -1,11 +1,11 @@
-//! Which symbols images have, and in which order.
+//! The dynamic symbols of images, and their order.
 
 use crate::dynamic_images::{local, object, said, undefined, variable, weak};
 use elf_records::relocation::{R_X86_64_GOTTPOFF, R_X86_64_TLSDESC_CALL};
 use object_builder::rela;
 use std::test::Fail;
 
-/// What is loaded with the image exports y, v, errno and w.
+/// The images loaded with it export y, v, errno and w.
 #[test]
 fn small_images(rt: HostRuntime) -> Result<(), Fail> {
     let alloc = rt.alloc();
@@ -16,8 +16,8 @@ fn small_images(rt: HostRuntime) -> Result<(), Fail> {
         variable(b"w"),
     ];
     let startup = vec![in alloc; vec![in alloc; object(alloc, &module, b"", &[])?]?]?;
-    // A weak and a strong definition: the order of the weak one, the symbol of the strong one. LOCAL and undefined
-    // symbols aren't there. Of two weak ones the first.
+    // A WEAK and a GLOBAL definition: the place of the WEAK one, the symbol of the GLOBAL one. LOCAL and undefined
+    // symbols are not there. Of two WEAK ones the first.
     let first = [
         local(b"l"),
         weak(variable(b"w")),
@@ -30,7 +30,7 @@ fn small_images(rt: HostRuntime) -> Result<(), Fail> {
         object(alloc, &second, b"", &[])?,
     ]?;
     assert_eq!(rt; said(alloc, &files, &startup)?.as_str(), "1.3 0.3 1.1 / 78");
-    // The relocations stand in another order than the sites: y, w, v by a descriptor's call alone, errno. The second
+    // The relocations are in another order than the sites: y, w, v only by a descriptor's call, errno. The second
     // object uses errno and y again. w is defined here.
     let uses = [
         undefined(b"errno"),

@@ -1,4 +1,4 @@
-//! Images of drafted objects, and their dynamic symbols, as text.
+//! Makes images from drafted objects, and writes their dynamic symbols as text.
 
 ghost use Rattle.std.specs.Prelude.{◌≡◌, ◌<◌, ℕ, [], All, IfOk, length, map, slice_index_or};
 ghost use Rattle.tls_symbols.specs.Bindings.{object_at};
@@ -17,7 +17,7 @@ use std::alloc::{AllocError, Global};
 use std::test::Fail;
 use tls_symbols::{Bindings, resolve};
 
-/// The section of variables of each object; that of its code is the second.
+/// The section of each object's variables; the second one has its code.
 const VARIABLES: u16 = 1;
 
 /// A GLOBAL variable.
@@ -35,14 +35,14 @@ pub(crate) fn local(name: &'static [u8]) -> Symbol<'static> {
     Symbol::local(name, STT_TLS, VARIABLES, 4, 4)
 }
 
-/// The symbol, but WEAK.
+/// The symbol as a WEAK one.
 pub(crate) fn weak(symbol: Symbol<'static>) -> Symbol<'static> {
     let mut symbol = symbol;
     symbol.entry.info = SymbolEntry::info_of(STB_WEAK, symbol.entry.info % 16);
     symbol
 }
 
-/// An object of these symbols, this code and its relocations.
+/// An object with these symbols, this code and its relocations.
 pub(crate) fn object(
     alloc: Global,
     symbols: &[Symbol],
@@ -77,8 +77,8 @@ fn all_sites(alloc: Global, objects: &[Object]) -> Result<Vec<Vec<Site>>, Fail>
     Ok(all)
 }
 
-/// The dynamic symbols of an image: each defined one as OBJECT.SYMBOL, then the names of imports, and the room of all
-/// names; or the fault.
+/// The dynamic symbols of an image: each defined one as OBJECT.SYMBOL, then the names of imports, and how many bytes
+/// all names take; or the fault.
 pub(crate) fn said(
     alloc: Global,
     files: &[Vec<u8>],
@@ -104,7 +104,7 @@ fn push_symbols(alloc: Global, text: &mut String, symbols: &[SymbolRef]) -> Resu
     Ok(())
 }
 
-/// Adds names, with a space behind each.
+/// Appends names, each followed by a space.
 fn push_names(text: &mut String, names: &[&[u8]]) -> Result<(), AllocError> {
     for name in names {
         for byte in *name {
@@ -115,7 +115,7 @@ fn push_names(text: &mut String, names: &[&[u8]]) -> Result<(), AllocError> {
     Ok(())
 }
 
-/// The symbols and the names of imports as text, and the room of all names.
+/// The symbols and the names of imports as text, and how many bytes all names take.
 fn told(
     alloc: Global,
     objects: &[Object],
@@ -133,7 +133,7 @@ fn told(
     Ok(text)
 }
 
-/// What is said of bindings.
+/// The dynamic symbols for some bindings, as text.
 fn all_said(alloc: Global, bindings: &Bindings, objects: &[Object]) -> Result<String, Fail>
     requires { objects.now ≡ bindings.now.objects }
 {

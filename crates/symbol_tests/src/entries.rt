@@ -29,7 +29,7 @@ pie start late addr:108b = 108b Relative image 108b;
 exe pie start late runtime = 0 JumpSlot runtime 0;
 ";
 
-/// The entry of a need in an image of a kind.
+/// The entry for a need in an image of a kind.
 fn said(alloc: Global, kind: ImageKind, need: &str) -> Result<String, AllocError> {
     let entry = entry_of(kind, BLOCK, &need_of(need));
     let mut text = String::new(alloc);
@@ -37,7 +37,7 @@ fn said(alloc: Global, kind: ImageKind, need: &str) -> Result<String, AllocError
     Ok(text)
 }
 
-/// Compares the entry of a row in each of its kinds of image.
+/// Checks the entry of a row in each of its kinds of image.
 fn check(rt: &impl Abort, alloc: Global, line: &str) -> Result<(), Fail> {
     let (row, want) = line.split_once(" = ").ok_or("an entry")?;
     let (kinds, need) = row.rsplit_once(' ').ok_or("a need")?;
@@ -47,13 +47,13 @@ fn check(rt: &impl Abort, alloc: Global, line: &str) -> Result<(), Fail> {
     Ok(())
 }
 
-/// The needs of a program that may lie anywhere. What stands behind a `?` is asked for, but not needed.
+/// The needs of a program that may be loaded anywhere. Those after a `?` are looked up, but not needed.
 const NEEDS: &str = "runtime addr:400020 word:4 pair:4 desc:x pair:x module addr:400010 pair:4 \
     addr:400020 desc:x runtime ?pair:y ?word:x";
 
-/// Where the entry of each begins, the size of the table, and its entries: the groups in their order, in each the first
-/// need first, and equal needs share an entry. Three entries of 16 bytes begin at 0, 0x10, 0x20 and the descriptor at
-/// 0x30; words of 8 bytes at 0x40, 0x48, 0x50 and 0x58. 4 - 0x18 = -0x14.
+/// Where each entry begins, the size of the table, and its entries: the groups in their order, in each group by first
+/// need, and equal needs share an entry. Three entries of 16 bytes begin at 0, 0x10, 0x20 and the descriptor at 0x30;
+/// words of 8 bytes at 0x40, 0x48, 0x50 and 0x58. 4 - 0x18 = -0x14.
 const TABLE: &str = "58 48 40 10 30 20 0 50 10 48 30 58 - - of 60: 1, 0; 1, 4; \
     0 DtpMod64 x 0, 0 DtpOff64 x 0; 0 TlsDesc x 0, 0; ffffffffffffffec; 400020 Relative image 400020; \
     400010 Relative image 400010; 0 JumpSlot runtime 0;";

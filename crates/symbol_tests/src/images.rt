@@ -1,4 +1,4 @@
-//! Images of drafted objects, and what is said of their names, as text.
+//! Makes images from drafted objects, and writes the bindings of their names as text.
 
 ghost use Rattle.std.specs.Prelude.{◌≡◌, ◌<◌, length};
 ghost use Rattle.tls_symbols.specs.Bindings.{object_at};
@@ -12,13 +12,13 @@ use std::alloc::{AllocError, Global};
 use std::test::Fail;
 use tls_symbols::{Bindings, Exports, exports, resolve};
 
-/// The section of each object's code. Section 1 holds its variables, section 3 the code's relocations, where there are
-/// any, and the symbols come behind that.
+/// The section of each object's code. Section 1 holds its variables, section 3 the code's relocations, if there are
+/// any, and then come the symbols.
 const CODE: u32 = 2;
 
 /// The kinds of symbols: st_info, st_shndx, st_other, st_value and st_size of each. `v` is a GLOBAL variable, `f` a
-/// GLOBAL function, `u` a GLOBAL name that the object does not define, and with `w` in front the same, but WEAK; `l` and
-/// `k` are a LOCAL variable and function; `vi`, `vh` and `vp` are internal, hidden and protected.
+/// GLOBAL function, `u` a GLOBAL name that the object does not define; with a `w` before it the symbol is WEAK; `l`
+/// and `k` are a LOCAL variable and function; `vi`, `vh` and `vp` are internal, hidden and protected.
 const KINDS: &str = "\
 v 22 1 0 0 4
 f 18 2 0 0 1
@@ -44,7 +44,7 @@ fn numbers_of(kind: &str) -> Option<&'static str> {
     None
 }
 
-/// The numbers of a row; fewer are followed by zeros.
+/// The numbers of a row; missing ones are zero.
 fn row_of(numbers: &str) -> [u64; 5] {
     let mut row = [0; 5];
     for (index, word) in numbers.split(' ').enumerate() {
@@ -82,7 +82,7 @@ fn symbols_of(alloc: Global, words: &str) -> Result<Vec<Symbol<'_>>, Fail> {
     Ok(symbols)
 }
 
-/// The relocations of an object's words TYPE@SYMBOL, one behind the other.
+/// The relocations from an object's words TYPE@SYMBOL, one after another.
 fn relocations_of(alloc: Global, words: &str) -> Result<Vec<Rela>, Fail> {
     let mut relocations = Vec::new(alloc);
     let mut offset = 0_u64;
@@ -95,7 +95,7 @@ fn relocations_of(alloc: Global, words: &str) -> Result<Vec<Rela>, Fail> {
     Ok(relocations)
 }
 
-/// The object of these words.
+/// The object made from these words.
 fn object(alloc: Global, words: &str) -> Result<Vec<u8>, Fail> {
     let symbols = symbols_of(alloc, words)?;
     let relocations = relocations_of(alloc, words)?;
@@ -104,7 +104,7 @@ fn object(alloc: Global, words: &str) -> Result<Vec<u8>, Fail> {
     Ok(object_of(alloc, &[variables, code], symbols.as_slice())?)
 }
 
-/// The objects of an image, with `/` between them.
+/// The objects of an image, separated by `/`.
 pub(crate) fn files_of(alloc: Global, objects: &str) -> Result<Vec<Vec<u8>>, Fail> {
     let mut files = Vec::new(alloc);
     for words in objects.split('/') {
@@ -113,7 +113,7 @@ pub(crate) fn files_of(alloc: Global, objects: &str) -> Result<Vec<Vec<u8>>, Fai
     Ok(files)
 }
 
-/// Images, each behind a `|`.
+/// Images, each after a `|`.
 pub(crate) fn images_of(alloc: Global, text: &str) -> Result<Vec<Vec<Vec<u8>>>, Fail> {
     let mut images = Vec::new(alloc);
     for objects in text.split('|').skip(1) {
@@ -131,7 +131,7 @@ pub(crate) fn read<'a>(alloc: Global, files: &'a [Vec<u8>]) -> Result<Vec<Object
     Ok(objects)
 }
 
-/// What images of these objects export, one after the other.
+/// The exports of images of these objects, one after another.
 pub(crate) fn exports_of<'a>(
     alloc: Global,
     images: &'a [Vec<Vec<u8>>],
@@ -144,7 +144,7 @@ pub(crate) fn exports_of<'a>(
     Ok(startup)
 }
 
-/// Adds the names that an image exports, one behind the other.
+/// Appends the names that an image exports, one after another.
 fn push_names(exports: &Exports, text: &mut Vec<u8>) -> Result<(), AllocError> {
     for name in exports.names() {
         text.extend_from_slice(name)?;
@@ -154,7 +154,7 @@ fn push_names(exports: &Exports, text: &mut Vec<u8>) -> Result<(), AllocError> {
     Ok(())
 }
 
-/// The names that images export, with a `/` behind each image's.
+/// The names that images export, with a `/` after each image's.
 pub(crate) fn exported(alloc: Global, images: &[Vec<Vec<u8>>]) -> Result<Vec<u8>, Fail> {
     let startup = exports_of(alloc, images)?;
     let mut text = Vec::new(alloc);
@@ -164,8 +164,8 @@ pub(crate) fn exported(alloc: Global, images: &[Vec<Vec<u8>>]) -> Result<Vec<u8>
     Ok(text)
 }
 
-/// What each relocation of the code of each object is bound to, or the fault: `here OBJECT SYMBOL`, `startup IMAGE`,
-/// `run-time` or `none`.
+/// The binding of each relocation of each object's code, or the fault: `here OBJECT SYMBOL`, `startup
+/// IMAGE`, `run-time` or `none`.
 pub(crate) fn said(
     alloc: Global,
     files: &[Vec<u8>],
@@ -183,7 +183,7 @@ pub(crate) fn said(
     }
 }
 
-/// What a binding is, as text.
+/// A binding, as text.
 fn one_said(alloc: Global, binding: Option<Binding>) -> Result<String, AllocError> {
     match binding {
         Some(Binding::Here(found)) => {
@@ -195,7 +195,7 @@ fn one_said(alloc: Global, binding: Option<Binding>) -> Result<String, AllocErro
     }
 }
 
-/// Adds what each relocation of an object's code is bound to.
+/// Appends the binding of each relocation of an object's code.
 fn push_said(
     alloc: Global,
     bindings: &Bindings,
@@ -215,7 +215,7 @@ fn push_said(
     Ok(())
 }
 
-/// What each relocation is bound to, one behind the other.
+/// The binding of each relocation, one after another.
 fn all_said(alloc: Global, bindings: &Bindings, objects: &[Object]) -> Result<String, AllocError>
     requires { bindings.now.objects ≡ objects.now }
 {

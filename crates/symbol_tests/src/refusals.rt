@@ -1,4 +1,4 @@
-//! What is refused of an image of one object, by the image's kind and the size of its thread-local storage.
+//! Refusals of an image of one object, by the image's kind and the size of its TLS segment.
 
 ghost use Rattle.std.specs.Prelude.{◌≡◌};
 
@@ -11,22 +11,22 @@ use std::alloc::Global;
 use std::test::Fail;
 use tls_symbols::{Bindings, Exports, resolve};
 
-/// Each line: the kind of the image, the size of its storage, what is said, and the object, whose symbols are a
+/// Each line: the kind of the image, the size of its TLS segment, the result, and the object, whose symbols are a
 /// variable, a function and a variable of the program. Its relocations are in section 3: 0 is NONE, 10 is 32, 11 is
 /// 32S, 19 is TLSGD, 20 is TLSLD, 22 is GOTTPOFF, 23 is TPOFF32, and 34 is GOTPC32_TLSDESC.
 const CASES: &str = "\
-// an offset from the thread pointer, and addresses in 32 bits; the former is told, though it stands behind
+// an offset from the thread pointer, and addresses in 32 bits; the former is reported, though it comes later
 late|8|LocalExecInModule at object Some(0) section 3 entry 2|v:x f:f u:y 0@0 11@2 23@1 10@2
 pie|8|NarrowInModule at object Some(0) section 3 entry 1|v:x f:f u:y 0@0 11@2 23@1 10@2
 exe|8|4 fit|v:x f:f u:y 0@0 11@2 23@1 10@2
-// storage of the image's own, where it has none; what the program exports needs none
+// an image that needs a TLS segment of its own and has none; what the program exports needs none
 start|0|NoTls at object Some(0) section 3 entry 3|v:x f:f u:y 19@3 22@3 34@3 22@1 34@1 20@1
 exe|0|NoTls at object Some(0) section 3 entry 4|v:x f:f u:y 19@3 22@3 34@3 22@1 34@1 20@1
 start|1|6 fit|v:x f:f u:y 19@3 22@3 34@3 22@1 34@1 20@1
 pie|0|NoTls at object Some(0) section 3 entry 0|v:x f:f u:y 20@1
 ";
 
-/// The kind of a word.
+/// The kind of image for a word.
 fn kind_of(word: &str) -> ImageKind {
     match word {
         "exe" => Exe,
@@ -36,7 +36,7 @@ fn kind_of(word: &str) -> ImageKind {
     }
 }
 
-/// Asks both.
+/// Makes both checks.
 fn asked(
     objects: &[Object],
     bindings: &Bindings,
@@ -49,7 +49,7 @@ fn asked(
     ask_tls(objects, bindings, kind, size)
 }
 
-/// What is said of an image of these objects and bindings, of this kind and with so much storage.
+/// The result for an image of these objects and bindings, with this kind and this size of its TLS segment.
 fn told(
     alloc: Global,
     objects: &[Object],
@@ -65,7 +65,7 @@ fn told(
     }
 }
 
-/// What is said of an image of these objects beside what is loaded with them.
+/// The result for an image of these objects, with these startup images.
 fn said_beside(
     alloc: Global,
     objects: &[Object],
@@ -80,7 +80,7 @@ fn said_beside(
     told(alloc, objects, &bindings, kind, size)
 }
 
-/// What is said of an image of this object, of this kind and with so much storage.
+/// The result for an image of this object, with this kind and this size of its TLS segment.
 fn said(alloc: Global, words: &str, kind: ImageKind, size: u64) -> Result<String, Fail> {
     let files = files_of(alloc, words)?;
     let program = images_of(alloc, "|v:y")?;
@@ -89,7 +89,7 @@ fn said(alloc: Global, words: &str, kind: ImageKind, size: u64) -> Result<String
     said_beside(alloc, objects.as_slice(), startup.as_slice(), kind, size)
 }
 
-/// Whether what is said of a case is what its line wants.
+/// Whether the result of a case is that of its line.
 fn holds(alloc: Global, line: &str) -> Result<bool, Fail> {
     let (kind, rest) = line.split_once('|').ok_or("a kind")?;
     let (size, rest) = rest.split_once('|').ok_or("a size")?;

@@ -7,17 +7,17 @@ use std::process::Abort;
 use std::str;
 use std::test::Fail;
 
-/// Compares what a test finds with what it wants.
+/// Compares the found text with the expected one.
 pub(crate) fn same(rt: &impl Abort, found: &str, want: &str, at: &str) {
     assert!(rt; found.trim_end() == want, "{found}: {at}");
 }
 
-/// A hexadecimal number, or 0 where a word is none.
+/// A hexadecimal number; 0 if the word is not one.
 pub(crate) fn number(word: &str) -> u64 {
     u64::from_str_radix(word, 16).unwrap_or(0)
 }
 
-/// The kind of image of a word.
+/// The kind of image for a word.
 pub(crate) fn kind_of(word: &str) -> ImageKind {
     match word {
         "exe" => ImageKind::Exe,
@@ -35,7 +35,7 @@ fn symbol(number: u32) -> SymbolRef {
     }
 }
 
-/// A variable of the image itself, symbol 2, by its offset, or one of another image, by its name.
+/// A variable of the image itself, symbol 2, by its offset, or a variable of another image, by its name.
 fn target_of(word: &str) -> Target<'_> {
     match u64::from_str_radix(word, 16) {
         Ok(offset) => Target::Here {
@@ -46,7 +46,7 @@ fn target_of(word: &str) -> Target<'_> {
     }
 }
 
-/// The need of a word: `module`, `pair:`, `desc:` or `word:` and a variable, `addr:` and the address of a function,
+/// The need for a word: `module`, `pair:`, `desc:` or `word:` and a variable, `addr:` and the address of a function,
 /// symbol 1, or `runtime`.
 pub(crate) fn need_of(word: &str) -> Need<'_> {
     let (kind, of) = word.split_once(':').unwrap_or((word, ""));
@@ -72,7 +72,7 @@ fn name_of<'a>(symbol: &DynamicSymbol<'a>) -> &'a str {
     }
 }
 
-/// Adds a word: its number, and what a loader writes over it, if it does.
+/// Appends a word: its number, and what a loader writes over it, if it does.
 fn push_word(text: &mut String, word: &Word) -> Result<(), AllocError> {
     let number = word.number;
     write!(text, "{number:x}")?;
@@ -97,7 +97,7 @@ pub(crate) fn push_entry(text: &mut String, entry: &Entry) -> Result<(), AllocEr
     text.push_str("; ")
 }
 
-/// The needs of words, but for those that are only asked for, behind a `?`.
+/// The needs for words, without those after a `?`, which are only looked up.
 fn needs_of(alloc: Global, words: &str) -> Result<Vec<Need<'_>>, AllocError> {
     let mut needs = Vec::new(alloc);
     for word in words.split(' ') {
@@ -108,7 +108,7 @@ fn needs_of(alloc: Global, words: &str) -> Result<Vec<Need<'_>>, AllocError> {
     Ok(needs)
 }
 
-/// Adds where the entry of each need begins.
+/// Appends where the entry for each need begins.
 fn push_starts<'a>(
     text: &mut String,
     table: &GotPlan<'a>,
@@ -135,7 +135,7 @@ fn push_table(text: &mut String, table: &GotPlan) -> Result<(), AllocError> {
     Ok(())
 }
 
-/// The table of these needs: where the entry of each begins, the size, and the entries.
+/// The table for these needs: where the entry for each begins, the size, and the entries.
 pub(crate) fn planned(
     alloc: Global,
     kind: ImageKind,

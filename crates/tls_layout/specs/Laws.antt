@@ -1,4 +1,4 @@
--- What every layout keeps, in words that know nothing of how it is found.
+-- What holds of every layout, whatever finds it.
 use Rattle.std.specs.Prelude.{◌≡◌, ◌≢◌, ◌+◌, ◌<◌, ◌≤◌, ◌⊎◌, ℕ, Bool, false, List, [], length, slice_index_or, Some}
 use Rattle.std.specs.Prelude.{IsSome}
 use Rattle.object_faults.specs.declared.class.SectionClass.{SectionClass}
@@ -17,7 +17,7 @@ use Rattle.tls_layout.specs.Statics.{tls_of, tls_offset}
 
 -- ---- what a layout knows of objects
 
--- a section is what the object says of it; of one that linking drops only that it does
+-- a section is what the object says of it; of a dropped section only that it is dropped
 pub record IsSectionOf (b : List ℕ) (s : ℕ) (section : Section) : Type 0 where
   pub class_is : section.class ≡ section_class b s
   pub size_is : IsSome (section_class b s) → section.size ≡ section_size b s
@@ -50,12 +50,12 @@ LieInTheirClasses p =
     (o s address : ℕ) (class : SectionClass) → class_of p o s ≡ Some class → address_of p o s ≡ Some address
     → LiesAt p class (section_named p o s) address
 
--- every section that linking keeps has an address, but for thread-local storage that is zero
+-- every section that linking keeps has an address, except thread-local sections without bytes in the file
 abbrev pub HaveAddresses : Layout → Type 0
 HaveAddresses p = (o s : ℕ) (class : SectionClass) → class_of p o s ≡ Some class → class ≢ Tls false
     → IsSome (address_of p o s)
 
--- of two sections one ends where the other begins, or before; else they are the same
+-- of two sections, one ends at or before the start of the other; else they are the same
 abbrev pub AddressesAreApart : Layout → Type 0
 AddressesAreApart p =
     (o s address o' s' address' : ℕ) → address_of p o s ≡ Some address → address_of p o' s' ≡ Some address'
@@ -93,14 +93,13 @@ OffsetsAreApart p =
     → ((o ≡ o') × (s ≡ s'))
     ⊎ ((offset + (section_named p o s).size ≤ offset') ⊎ (offset' + (section_named p o' s').size ≤ offset))
 
--- the segment's alignment suits each of its sections: where it lies at such a multiple, so does each section at one
--- of its own
+-- if the segment lies at a multiple of its alignment, each of its sections lies at a multiple of its own
 abbrev pub AlignmentSuits : Layout → Type 0
 AlignmentSuits p =
     (o s : ℕ) (initial : Bool) → 0 < tls_size p.sections → class_of p o s ≡ Some (Tls initial)
     → IsMultiple (tls_alignment p.sections) (section_named p o s).alignment
 
--- the initial image is the segment's front: its bytes lie in the image as they lie in a block
+-- the initial image is the start of the segment: it has the same layout in the image as in a block
 pub record IsFrontOfSegment (p : Layout) : Type 0 where
   pub places : (o s address offset : ℕ) → address_of p o s ≡ Some address → tls_offset_of p o s ≡ Some offset
       → address ≡ (tls_image p.kind p.sections).start + offset
@@ -109,7 +108,8 @@ pub record IsFrontOfSegment (p : Layout) : Type 0 where
 
 -- ---- blocks below a thread pointer
 
--- module m's block holds the byte that lies d bytes below the thread pointer: it begins `tlsoffset` bytes below
+-- module m's block, which begins `tlsoffset` bytes below the thread pointer, has the byte d bytes
+-- below the thread pointer
 abbrev pub Holds : List TlsSize → ℕ → ℕ → Type 0
 Holds sizes m d = (m < length sizes) × (d ≤ tls_offset sizes (m + 1))
     × (tls_offset sizes (m + 1) < d + (tls_of sizes m).size)

@@ -1,4 +1,4 @@
--- What is kept of sections and places, and what it stands for.
+-- The tables of sections and places, and what they must hold.
 use Rattle.std.specs.Prelude.{◌≡◌, ◌+◌, ◌≤◌, ◌^◌, ℕ, List, length, sum, All, Option}
 use Rattle.elf_object.specs.Lawful.{IsPower}
 use Rattle.link_faults.specs.declared.image_kind.ImageKind.{ImageKind}
@@ -35,7 +35,7 @@ pub record AreExtents (kind : ImageKind) (sections : List Section) (extents : Im
   pub writable_is : extents.writable ≡ writable kind sections
   pub small : extents.writable.end ≤ base_of kind + 2 ^ 24
 
--- what a placement keeps is what it stands for
+-- a placement's tables hold the layout's places
 pub record IsPlacement (kind : ImageKind) (list : SectionList) (addresses : List (Option ℕ)) (extents : ImageExtents)
     (tls : TlsPlaces) : Type 0 where
   pub lawful : IsLawful (record { kind = kind; counts = list.counts.items; sections = list.sections.items })

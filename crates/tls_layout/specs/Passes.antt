@@ -1,4 +1,4 @@
--- What one pass over the sections does, and what the passes leave together.
+-- What one pass over the sections does, and what all passes together leave.
 use Rattle.std.specs.Prelude.{◌≡◌, ◌<◌, ◌≤◌, ℕ, List, length, take, sum, Option, None, Some, slice_index}
 use Rattle.std.specs.Prelude.{slice_index_or, if◌then◌else◌}
 use Rattle.object_faults.specs.declared.class.SectionClass.{SectionClass}
@@ -7,7 +7,7 @@ use Rattle.tls_layout.specs.declared.sections.Section.{Section}
 use Rattle.tls_layout.specs.Sections.{section_at, is_in}
 use Rattle.tls_layout.specs.Places.{place_in, address_at, offset_at}
 
--- a pass gives each section of a class its place, and leaves the others
+-- a pass gives each section of a class its place, and leaves the others as they are
 abbrev pub GivesPlaces : SectionClass → ℕ → List Section → List (Option ℕ) → List (Option ℕ) → Type 0
 GivesPlaces class from sections old new =
     (k : ℕ) → k < length sections
@@ -15,7 +15,7 @@ GivesPlaces class from sections old new =
     ≡ (if is_in class (section_at sections k) then Some (place_in class from sections k)
     else slice_index_or old k None)
 
--- the same, of a pass that came to section i
+-- the same for a pass that has reached section i
 abbrev pub GivesPlacesBelow : ℕ → SectionClass → ℕ → List Section → List (Option ℕ) → List (Option ℕ) → Type 0
 GivesPlacesBelow i class from sections old new =
     (k : ℕ) → k < i
@@ -30,7 +30,7 @@ KeepsFrom i old new = (k : ℕ) → i ≤ k → slice_index_or new k None ≡ sl
 abbrev pub HaveNone : List (Option ℕ) → Type 0
 HaveNone places = (k : ℕ) → slice_index_or places k None ≡ None
 
--- each section has its address, each its offset
+-- each section has its address, or each its offset
 abbrev pub AreAddresses : ImageKind → List Section → List (Option ℕ) → Type 0
 AreAddresses kind sections addresses = (k : ℕ) → slice_index_or addresses k None ≡ address_at kind sections k
 

@@ -13,20 +13,20 @@ use Rattle.tls_layout.specs.Sections.{Layout, dropped, position, section_at, is_
 
 -- ---- the sections of one class, one after another
 
--- where a section ends that follows what ends at a place
+-- where a section ends that follows one ending at a place
 abbrev pub end_after : ℕ → Section → ℕ
 end_after end section = round_up end section.alignment + section.size
 
--- where the sections so far end, once one more was looked at
+-- where the sections so far end, after one more section
 abbrev pub next_end : SectionClass → ℕ → Section → ℕ
 next_end class end section = if is_in class section then end_after end section else end
 
--- where the sections of a class end that begin at a place
+-- where the sections of a class end, if they begin at a place
 unfoldable pub end_of : SectionClass → ℕ → List Section → ℕ
 end_of class from sections = fold (next_end class) from sections
 
--- where the k-th section goes, one of the class: at the least multiple of its alignment at or after the end of those
--- before it
+-- the place of the k-th section, if it is of the class: the least multiple of its alignment at or after the
+-- end of those before it
 unfoldable pub place_in : SectionClass → ℕ → List Section → ℕ → ℕ
 place_in class from sections k = round_up (end_of class from (take k sections)) (section_at sections k).alignment
 
@@ -50,14 +50,14 @@ tls_image kind sections = extent_of (Tls true) (page_up (read_only kind sections
 unfoldable pub initial_data : ImageKind → List Section → Extent
 initial_data kind sections = extent_of (Writable true) (page_up (tls_image kind sections).end) sections
 
--- the part that has none
+-- the part that has no bytes in the file
 unfoldable pub zero_data : ImageKind → List Section → Extent
 zero_data kind sections = extent_of (Writable false) (initial_data kind sections).end sections
 
 abbrev pub writable : ImageKind → List Section → Extent
 writable kind sections = record { start = (initial_data kind sections).start; end = (zero_data kind sections).end }
 
--- where the room begins, which no section of an object lies in
+-- where the room begins, in which no section of an object lies
 unfoldable pub room : ImageKind → List Section → ℕ
 room kind sections = page_up (zero_data kind sections).end
 
@@ -65,7 +65,7 @@ room kind sections = page_up (zero_data kind sections).end
 abbrev pub span : ImageKind → List Section → ℕ
 span kind sections = (zero_data kind sections).end - base_of kind
 
--- the address of the k-th section; thread-local storage that is zero has none
+-- the address of the k-th section; a thread-local section without bytes in the file has none
 abbrev pub address_by : Option SectionClass → ImageKind → List Section → ℕ → Option ℕ
 address_by (Some Executable) kind sections k = Some (place_in Executable (executable kind sections).start sections k)
 address_by (Some ReadOnly) kind sections k = Some (place_in ReadOnly (read_only kind sections).start sections k)
@@ -91,14 +91,14 @@ zero_tls sections = extent_of (Tls false) (initial_tls sections).end sections
 abbrev pub tls_size : List Section → ℕ
 tls_size sections = (zero_tls sections).end
 
--- the greater alignment, where the section is of thread-local storage
+-- the greater alignment, if the section is thread-local
 abbrev pub next_alignment : ℕ → Section → ℕ
 next_alignment greatest section = if is_tls_class section.class then max greatest section.alignment else greatest
 
 unfoldable pub greatest_alignment : List Section → ℕ
 greatest_alignment sections = fold next_alignment 1 sections
 
--- what the segment's address is to be a multiple of
+-- the alignment of the segment
 unfoldable pub tls_alignment : List Section → ℕ
 tls_alignment sections = if tls_size sections == 0 then 1 else greatest_alignment sections
 
@@ -116,7 +116,7 @@ offset_at sections k = offset_by (section_at sections k).class sections k
 
 -- ---- by object and section
 
--- section s of object o; where there is none, a section that takes no room
+-- section s of object o; if there is none, a section that takes no room
 abbrev pub section_found : Option ℕ → List Section → Section
 section_found None sections = dropped
 section_found (Some k) sections = section_at sections k

@@ -1,4 +1,4 @@
--- Rounding up, as alignments ask for it (gABI, "Sections": `sh_addralign`; Drepper, section 3: `round`).
+-- Rounding up to an alignment (gABI, "Sections": `sh_addralign`; Drepper, section 3: `round`).
 use Rattle.std.specs.Prelude.{◌≡◌, ◌*◌, ◌≤◌, ℕ}
 use Rattle.std.specs.Int.{next_multiple_of}
 
@@ -16,6 +16,6 @@ pub record IsLeastMultiple (n alignment r : ℕ) : Type 0 where
   pub above : n ≤ r
   pub least : (m : ℕ) → IsMultiple m alignment → n ≤ m → r ≤ m
 
--- where pages begin
+-- the first page that begins at or after n
 unfoldable pub page_up : ℕ → ℕ
 page_up n = round_up n 4096

@@ -1,4 +1,4 @@
--- The sections of objects in their order, as a layout sees them (gABI, "Sections").
+-- The sections of objects in their order, as a layout uses them (gABI, "Sections").
 use Rattle.std.specs.Prelude.{◌+◌, ◌≤◌, ◌^◌, ℕ, Bool, true, false, List, map, take, sum, Option, None, Some}
 use Rattle.std.specs.Prelude.{slice_index, slice_index_or, nat_lt, if◌then◌else◌}
 use Rattle.std.specs.List.{range_with_len, flat_map}
@@ -34,18 +34,18 @@ all_sections objects = flat_map sections_of objects
 unfoldable pub section_counts : List (List ℕ) → List ℕ
 section_counts objects = map section_count objects
 
--- all that decides where sections go: what the image is, how many sections each object has, and all sections in their
--- order
+-- all that decides where sections go: the kind of the image, how many sections each object has, and all
+-- sections in their order
 pub record Layout : Type 0 where
   pub kind : ImageKind
   pub counts : List ℕ
   pub sections : List Section
 
--- that of objects
+-- the layout of objects
 abbrev pub layout_of : ImageKind → List (List ℕ) → Layout
 layout_of kind objects = record { kind = kind; counts = section_counts objects; sections = all_sections objects }
 
--- the place of section s of object o in the order of all; None where there is no such section
+-- the place of section s of object o in the order of all; None if there is no such section
 unfoldable pub position : List ℕ → ℕ → ℕ → Option ℕ
 position counts o s = if nat_lt s (slice_index counts o) then Some (sum (take o counts) + s) else None
 
@@ -67,7 +67,7 @@ abbrev pub is_class : SectionClass → Option SectionClass → Bool
 is_class class None = false
 is_class class (Some other) = same_class class other
 
--- whether a section is of a class
+-- whether a section has this class
 abbrev pub is_in : SectionClass → Section → Bool
 is_in class section = is_class class section.class
 
@@ -75,6 +75,6 @@ abbrev pub is_tls_class : Option SectionClass → Bool
 is_tls_class (Some (Tls initial)) = true
 is_tls_class _ = false
 
--- a section that linking keeps is small, and asks for a power of two up to 4,096
+-- a section that linking keeps has at most 2^20 bytes, and its alignment is a power of two up to 4,096
 abbrev pub IsOrdinary : Section → Type 0
 IsOrdinary section = (section.size ≤ 2 ^ 20) × IsPower section.alignment

@@ -4,11 +4,11 @@ use Rattle.elf_object.specs.Lawful.{IsPower}
 use Rattle.tls_layout.specs.declared.statics.TlsSize.{TlsSize}
 use Rattle.tls_layout.specs.Rounding.{round_up}
 
--- no module
+-- a module that does not exist
 abbrev pub no_tls : TlsSize
 no_tls = record { size = 0; alignment = 1 }
 
--- the m-th module's, from 0
+-- the TLS segment of the m-th module, counted from 0
 abbrev pub tls_of : List TlsSize → ℕ → TlsSize
 tls_of sizes m = slice_index_or sizes m no_tls
 

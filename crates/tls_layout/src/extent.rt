@@ -3,7 +3,7 @@
 ghost use Rattle.std.specs.Prelude.{◌≡◌, ◌+◌, ◌<◌, ◌≤◌, ◌^◌};
 ghost use Rattle.tls_layout.specs.Rounding.{round_up as rounded_up, page_up as page_after};
 
-/// Addresses from `start` up to `end`, which is not one of them.
+/// Addresses from `start` up to `end`, without `end`.
 #[derive(Clone, Copy, PartialEq, Eq, Debug)]
 pub struct Extent {
     pub start: u64,

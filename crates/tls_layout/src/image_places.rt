@@ -1,4 +1,4 @@
-//! The classes of an image: where its sections lie.
+//! Where the classes of sections lie in an image.
 
 ghost use Rattle.std.specs.Prelude.{◌≡◌, ◌+◌, ◌<◌, ◌≤◌, ◌^◌, All, IfOk, IfErr, OnOk, length};
 ghost use Rattle.link_faults.specs.declared.fault.LinkFaultKind.TheVariants.{ImageTooLarge};
@@ -14,7 +14,7 @@ use crate::sections::{INITIAL_DATA, INITIAL_TLS, Section, ZERO_DATA};
 use elf_object::SectionClass::{Executable, ReadOnly};
 use link_faults::{ImageKind, LinkFault, LinkFaultKind};
 
-/// How many bytes the sections of an image may span.
+/// The most bytes that the sections of an image may span.
 pub const LARGEST_SPAN: u64 = 1 << 24;
 
 /// Where each class lies. Each begins on a page of its own.
@@ -27,7 +27,7 @@ pub struct ImageExtents {
     pub writable: Extent,
 }
 
-/// Gives sections their addresses, a class after another.
+/// Gives sections their addresses, one class after another.
 pub fn lay_out_image(
     kind: ImageKind,
     sections: &[Section],

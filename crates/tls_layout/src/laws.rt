@@ -11,7 +11,7 @@ ghost use Rattle.tls_layout.specs.Laws.{ClassesFollow, LieInTheSegment, HaveOffs
 ghost use Rattle.tls_layout.specs.Laws.{IsFrontOfSegment, BlocksAreApart, IsBelowThreadPointer};
 ghost use Rattle.tls_layout.specs.Statics.{IsTlsSize};
 
-/// What a layout holds of a section is what its object says of it.
+/// A layout holds of each section what its object says.
 #[tactic(auto, using(crate::proofs::LawsOfSections::finds_sections))]
 pub fn sections_are_found()
     ensures { (kind : ImageKind) (objects : List (List ℕ)) → FindsSections kind objects }
@@ -28,7 +28,7 @@ pub fn sections_lie_in_their_classes()
     ensures { (p : Layout) → IsLawful p → LieInTheirClasses p }
 {}
 
-/// Every section that linking keeps has an address, but for thread-local storage that is zero.
+/// Every section that linking keeps has an address, except thread-local sections without bytes in the file.
 #[tactic(auto, using(crate::proofs::LawsOfPlaces::have_addresses))]
 pub fn sections_have_addresses()
     ensures { (p : Layout) → HaveAddresses p }
@@ -40,7 +40,7 @@ pub fn addresses_are_apart()
     ensures { (p : Layout) → AddressesAreApart p }
 {}
 
-/// Each class begins on a page, at or after the end of the one before it, and so does the room.
+/// Each class begins on a page, at or after the end of the class before it, and so does the room.
 pub fn classes_follow_each_other()
     ensures { (p : Layout) → ClassesFollow p }
 {}
@@ -63,22 +63,22 @@ pub fn offsets_are_apart()
     ensures { (p : Layout) → OffsetsAreApart p }
 {}
 
-/// The TLS segment's alignment suits each of its sections.
+/// If a TLS segment keeps its alignment, so does each of its sections.
 pub fn alignment_suits_all_sections()
     ensures { (p : Layout) → IsLawful p → AlignmentSuits p }
 {}
 
-/// The initial image lies in the image as its copy lies in a block.
+/// The initial image has in the image the same layout as its copy in a block.
 pub fn initial_image_is_the_front_of_the_segment()
     ensures { (p : Layout) → IsLawful p → IsFrontOfSegment p }
 {}
 
-/// No byte below a thread pointer is in the blocks of two modules.
+/// No byte below a thread pointer belongs to the blocks of two modules.
 pub fn blocks_are_apart()
     ensures { (sizes : List TlsSize) → BlocksAreApart sizes }
 {}
 
-/// A module's block ends at or below the thread pointer, and begins at a multiple of its alignment below it.
+/// A module's block ends at or below the thread pointer, and begins a multiple of its alignment below it.
 #[tactic(auto, using(crate::proofs::LawsOfBlocks::below_thread_pointer))]
 pub fn blocks_lie_below_the_thread_pointer()
     ensures { (sizes : List TlsSize) (m : ℕ) → All IsTlsSize sizes → m < length sizes → IsBelowThreadPointer sizes m }

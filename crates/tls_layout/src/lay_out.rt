@@ -13,7 +13,7 @@ use crate::sections::Section;
 use elf_object::SectionClass;
 use link_faults::{LinkFault, LinkFaultKind};
 
-/// The last place where sections may end, and the fault where they end past it.
+/// The last place where sections may end, and the fault if they end after it.
 #[derive(Clone, Copy)]
 pub struct Limit {
     pub end: u64,
@@ -21,7 +21,7 @@ pub struct Limit {
 }
 
 impl Limit {
-    /// The fault of what ends past the limit. It stands at no object.
+    /// The fault for exceeding the limit. It is at no object.
     fn fault(self) -> LinkFault
         ensures { IsWhole self.kind result }
     {

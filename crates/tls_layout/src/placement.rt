@@ -41,8 +41,8 @@ impl Model for Placement {
     ghost invariant = { λ p. IsPlacement p.kind p.list p.addresses.items p.extents p.tls };
 }
 
-/// Places the sections of an image. Answers `TlsTooLarge` where the TLS segment has more than 2^20 bytes, and else
-/// `ImageTooLarge` where the sections span more than 2^24. Both stand at no object, with section and entry 0.
+/// Places the sections of an image. Returns `TlsTooLarge` if the TLS segment has more than 2^20 bytes, else
+/// `ImageTooLarge` if the sections span more than 2^24. Both faults are at no object, with section and entry 0.
 pub fn place(alloc: Global, objects: &[Object], kind: ImageKind) -> Result<Placement, LinkFault>
     ensures places { IfOk result (λ p. p ≡ layout_of kind objects.now) }
     ensures lawful { IfOk result IsLawful }
@@ -61,7 +61,7 @@ pub fn place(alloc: Global, objects: &[Object], kind: ImageKind) -> Result<Place
     })
 }
 
-/// What a table has at an index; nothing past its end.
+/// The entry of a table at an index; `None` past its end.
 fn entry(table: &[Option<u64>], index: usize) -> Option<u64>
     ensures { result ≡ slice_index_or table.now index None }
 {
@@ -72,7 +72,8 @@ fn entry(table: &[Option<u64>], index: usize) -> Option<u64>
 }
 
 impl Placement {
-    /// The class of a section of an object, by their numbers; `None` where linking drops it, or where there is none.
+    /// The class of a section of an object, by their numbers; `None` if linking drops it, or if
+    /// there is no such section.
     #[tactic(auto, unfolding(crate::specs::Places::section_named))]
     pub fn class(&self, object: usize, section: u32) -> Option<SectionClass>
         ensures class { result ≡ class_of self.now object section }
@@ -82,7 +83,7 @@ impl Placement {
         self.list.class_at(index)
     }
 
-    /// The address of a section before the loader moves the image; `None` where it has none.
+    /// The address of a section before the loader moves the image; `None` if it has none.
     #[tactic(auto, unfolding(crate::specs::Places::address_of))]
     pub fn address(&self, object: usize, section: u32) -> Option<u64>
         ensures address { result ≡ address_of self.now object section }
@@ -92,7 +93,7 @@ impl Placement {
         entry(&self.addresses, index)
     }
 
-    /// The offset of a section in the TLS segment; `None` where it is not thread-local.
+    /// The offset of a section in the TLS segment; `None` if it is not thread-local.
     #[tactic(auto, unfolding(crate::specs::Places::tls_offset_of))]
     pub fn tls_offset(&self, object: usize, section: u32) -> Option<u64>
         ensures offset { result ≡ tls_offset_of self.now object section }
@@ -126,7 +127,7 @@ impl Placement {
         self.extents.tls
     }
 
-    /// Where data lies that programs write.
+    /// Where data that programs write lies.
     pub fn writable(&self) -> Extent
         ensures extent { result ≡ writable_of self.now.kind self.now.sections }
         ensures lawful { IsLawful self.now }
@@ -134,7 +135,7 @@ impl Placement {
         self.extents.writable
     }
 
-    /// Where the room begins that no section of an object lies in: on the first page after all of them.
+    /// Where the room begins, in which no section of an object lies: on the first page after all of them.
     #[tactic(auto, unfolding(crate::specs::Places::room), using(crate::proofs::Together::page_limit))]
     pub fn room(&self) -> u64
         ensures room { result ≡ room_of self.now.kind self.now.sections }
@@ -144,7 +145,7 @@ impl Placement {
         page_up(self.extents.writable.end)
     }
 
-    /// How many bytes the TLS segment has, those that are zero included.
+    /// How many bytes the TLS segment has, zeros included.
     pub fn tls_size(&self) -> u64
         ensures size { result ≡ size_of_tls self.now.sections }
         ensures small { result ≤ 2 ^ 20 }
@@ -153,7 +154,7 @@ impl Placement {
         self.tls.size
     }
 
-    /// How many bytes its initial image has. The others are zero.
+    /// How many bytes its initial image has. The rest is zero.
     #[tactic(auto, using(crate::proofs::LawsOfTls::front_len))]
     pub fn initial_size(&self) -> u64
         ensures size { result ≡ (initial_tls self.now.sections).end }
@@ -162,7 +163,7 @@ impl Placement {
         self.extents.tls.end - self.extents.tls.start
     }
 
-    /// What the address of the TLS segment is to be a multiple of: a power of two up to 4,096.
+    /// The alignment of the TLS segment: a power of two up to 4,096.
     pub fn tls_alignment(&self) -> u64
         ensures alignment { result ≡ alignment_of_tls self.now.sections }
         ensures power { IsPower result }

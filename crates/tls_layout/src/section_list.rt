@@ -16,7 +16,7 @@ pub struct SectionList {
     pub sections: Vec<Section>,
     /// How many sections each object has.
     pub counts: Vec<u32>,
-    /// Where those of each object begin.
+    /// The index at which the sections of each object begin.
     pub firsts: Vec<usize>,
 }
 
@@ -35,7 +35,7 @@ impl SectionList {
         Some(self.firsts[object] + section as usize)
     }
 
-    /// The class of the section at an index; none past the last one.
+    /// The class of the section at an index; `None` past the last one.
     pub fn class_at(&self, index: usize) -> Option<SectionClass>
         ensures { result ≡ (section_at self.now.sections.items index).class }
     {

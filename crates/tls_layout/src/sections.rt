@@ -1,27 +1,27 @@
-//! A section, as a layout sees it.
+//! A section, as a layout uses it.
 
 ghost use Rattle.std.specs.Prelude.{◌≡◌};
 ghost use Rattle.tls_layout.specs.Sections.{seen_as, is_in, is_tls_class};
 
 use elf_object::{SectionClass, SectionPart};
 
-/// Thread-local sections of the initial image, and those of zeros.
+/// Thread-local sections with bytes in the file, and those without.
 pub const INITIAL_TLS: SectionClass = SectionClass::Tls { initial: true };
 
 pub const ZERO_TLS: SectionClass = SectionClass::Tls { initial: false };
 
-/// Data that has bytes in the file, and data that has none.
+/// Data with bytes in the file, and data without.
 pub const INITIAL_DATA: SectionClass = SectionClass::Writable { initial: true };
 
 pub const ZERO_DATA: SectionClass = SectionClass::Writable { initial: false };
 
-/// A section as a layout sees it. One that linking drops has no class, and takes no room.
+/// A section as a layout uses it. A section that linking drops has no class, and takes no room.
 #[derive(Clone, Copy)]
 pub struct Section {
     pub class: Option<SectionClass>,
     /// How many bytes it has in memory.
     pub size: u64,
-    /// What its place is to be a multiple of.
+    /// Its place is a multiple of this.
     pub alignment: u64,
 }
 
@@ -32,7 +32,7 @@ impl Section {
         alignment: 1,
     };
 
-    /// What a layout sees of a section that an object lends.
+    /// The section for one that an object lends.
     pub fn seen(part: &SectionPart) -> Section
         ensures { result ≡ seen_as part.now.class part.now.size part.now.alignment }
     {
@@ -46,7 +46,7 @@ impl Section {
         }
     }
 
-    /// Whether the section is of a class.
+    /// Whether the section has this class.
     pub fn is_in(&self, class: SectionClass) -> bool
         ensures { result ≡ is_in class self.now }
     {
@@ -61,7 +61,7 @@ impl Section {
         }
     }
 
-    /// Whether the section is of thread-local storage.
+    /// Whether the section is thread-local.
     pub fn is_tls(&self) -> bool
         ensures { result ≡ is_tls_class self.now.class }
     {

@@ -9,14 +9,13 @@ use std::alloc::{AllocError, Global};
 /// The TLS segment of a module.
 #[derive(Clone, Copy, PartialEq, Eq, Debug)]
 pub struct TlsSize {
-    /// How many bytes it has, those that are zero included.
+    /// How many bytes it has, zeros included.
     pub size: u64,
-    /// What its address is to be a multiple of.
+    /// Its address is a multiple of this.
     pub alignment: u64,
 }
 
-/// How far below the thread pointer each startup module's block begins, in the order in which they are loaded. The
-/// first is the program's.
+/// How far below the thread pointer each startup module's block begins, in load order. The first is the program's.
 pub fn static_offsets(alloc: Global, sizes: &[TlsSize]) -> Result<Vec<u64>, AllocError>
     requires few { length sizes.now ≤ 64 }
     requires ordinary { All IsTlsSize sizes.now }

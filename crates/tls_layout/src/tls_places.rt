@@ -14,7 +14,7 @@ use crate::sections::{INITIAL_TLS, Section, ZERO_TLS};
 use link_faults::{LinkFault, LinkFaultKind};
 use std::alloc::{AllocError, Global};
 
-/// How many bytes a TLS segment may have.
+/// The most bytes of a TLS segment.
 pub const LARGEST_TLS: u64 = 1 << 20;
 
 /// The TLS segment, and the offset of each section in it.
@@ -25,7 +25,7 @@ pub struct TlsPlaces {
     pub alignment: u64,
 }
 
-/// No section has a place yet.
+/// `len` places, none given yet.
 pub fn no_places(alloc: Global, len: usize) -> Result<Vec<Option<u64>>, AllocError>
     ensures len { IfOk result (λ places. length places.items ≡ len) }
     ensures none { IfOk result (λ places. HaveNone places.items) }
@@ -33,8 +33,8 @@ pub fn no_places(alloc: Global, len: usize) -> Result<Vec<Option<u64>>, AllocErr
     vec![in alloc; None; len]
 }
 
-/// Gives thread-local sections their offsets: those of the initial image, and then those that are zero. Returns the
-/// segment's size.
+/// Gives thread-local sections their offsets: first those with bytes in the file, then those without.
+/// Returns the segment's size.
 fn lay_out_tls(sections: &[Section], offsets: &mut [Option<u64>]) -> Result<u64, LinkFault>
     requires ordinary { All IsOrdinary sections.now }
     requires len { length offsets.old ≡ length sections.now }
@@ -52,7 +52,7 @@ fn lay_out_tls(sections: &[Section], offsets: &mut [Option<u64>]) -> Result<u64,
     Ok(zero.end)
 }
 
-/// The greater alignment, where the section is thread-local.
+/// The greater of two alignments, if the section is thread-local; else `greatest`.
 fn greater_alignment(section: &Section, greatest: u64) -> u64
     ensures { result ≡ next_alignment greatest section.now }
 {
@@ -63,7 +63,7 @@ fn greater_alignment(section: &Section, greatest: u64) -> u64
     }
 }
 
-/// The greatest alignment that a thread-local section asks for.
+/// The greatest alignment of a thread-local section.
 #[tactic(auto, unfolding(crate::specs::Places::greatest_alignment))]
 fn greatest_alignment(sections: &[Section]) -> u64
     requires { All IsOrdinary sections.now }

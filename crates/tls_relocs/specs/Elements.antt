@@ -39,7 +39,7 @@ slice_get-replicate zero k x below = absurd (omega arith)
 slice_get-replicate (suc n) zero x below = refl
 slice_get-replicate (suc n) (suc k) x below = slice_get-replicate n k x (omega arith)
 
--- in front of what was written
+-- before what was written
 pub slice_get-splice_before : (at k : ℕ) (new old : List ℕ) → at + length new ≤ length old → k < at
     → slice_get (splice at new old) k ≡ slice_get old k
 unfolding splice
@@ -48,7 +48,7 @@ slice_get-splice_before at k new old inside before =
     let there : k < length (take at old) = omega arith in
     slice_get-append (take at old) (new ++ drop (at + length new) old) k there ∙ slice_get-take at k old before
 
--- in what was written
+-- inside what was written
 pub slice_get-splice_within : (at k : ℕ) (new old : List ℕ) → at + length new ≤ length old → at ≤ k
     → k < at + length new → slice_get (splice at new old) k ≡ slice_get new (k - at)
 unfolding splice
@@ -60,7 +60,7 @@ slice_get-splice_within at k new old inside above below =
     ∙ ap (λ n. slice_get (new ++ drop (at + length new) old) (k - n)) front
     ∙ slice_get-append new (drop (at + length new) old) (k - at) there
 
--- behind what was written
+-- after what was written
 pub slice_get-splice_after : (at k : ℕ) (new old : List ℕ) → at + length new ≤ length old → at + length new ≤ k
     → slice_get (splice at new old) k ≡ slice_get old k
 unfolding splice

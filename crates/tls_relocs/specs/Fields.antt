@@ -11,7 +11,7 @@ width_of Empty = 0
 width_of (Word32 w) = 4
 width_of (Word64 w) = 8
 
--- the number in them, 0 where there is none
+-- the number in them; 0 if there is none
 abbrev pub word_of : Field → ℕ
 word_of Empty = 0
 word_of (Word32 w) = w

@@ -7,7 +7,7 @@ use Rattle.std.proofs.lemmas.List.{append-nil, length-replicate}
 use Rattle.tls_relocs.specs.Elements.{slice_get-append, slice_get-append_behind, slice_get-replicate}
 use Rattle.tls_relocs.specs.Laid.{Placed, zeros, laid, unit_at, Rising, end_of}
 
--- one part, over what is known of those behind it
+-- one part, given the law for those after it
 laid_by_place : (at : ℕ) (s : Placed) (more : List Placed) (p : ℕ) → at ≤ s.place → at ≤ p
     → (s.place + length s.bytes ≤ p
     → slice_get (laid (s.place + length s.bytes) more) (p - (s.place + length s.bytes)) ≡ unit_at more p)
@@ -42,7 +42,7 @@ laid_by_place at s more p rises from later (inr above) (inr after) =
     ∙ ap (slice_get (laid (s.place + length s.bytes) more)) rest
     ∙ later after)
 
--- the byte of place p, which stands p - at behind the list's begin
+-- the byte at place p, which is p - at bytes past the start of the list
 pub laid_bytes : (at : ℕ) (ss : List Placed) (p : ℕ) → Rising at ss → at ≤ p
     → slice_get (laid at ss) (p - at) ≡ unit_at ss p
 laid_bytes at [] p rising from = refl
@@ -64,7 +64,7 @@ length-laid at (s ∷ more) rising =
     ≡ s.place + length s.bytes + length (laid (s.place + length s.bytes) more) = omega arith in
     whole ∙ rest
 
--- one more part behind the others, as a writer lays it down
+-- one more part after the others, as a writer appends it
 pub laid-push : (at : ℕ) (ss : List Placed) (s : Placed)
     → laid at (ss ++ s ∷ []) ≡ laid at ss ++ (zeros (s.place - end_of at ss) ++ s.bytes)
 laid-push at [] s = ap (λ bs. zeros (s.place - at) ++ bs) (append-nil s.bytes)

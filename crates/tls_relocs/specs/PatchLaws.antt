@@ -1,5 +1,5 @@
--- The laws of `Patches`: writers and readers agree, the whole keeps its length, and a patch changes nothing outside
--- itself.
+-- The laws of `Patches`: writers and readers agree, the length does not change, and a patch changes
+-- nothing outside itself.
 use Rattle.std.proofs.Common.{◌≡◌, ◌+◌, ◌-◌, ◌<◌, ◌≤◌, ◌⊎◌, inl, inr, ℕ, false, List, [], ◌∷◌, ◌++◌, length, refl, ap}
 use Rattle.std.proofs.Common.{◌∙◌, arith}
 use Rattle.std.specs.Prelude.{slice_get, if◌then◌else◌}
@@ -9,7 +9,7 @@ use Rattle.elf_records.specs.Laws.{length-splice}
 use Rattle.tls_relocs.specs.Elements.{slice_get-splice_before, slice_get-splice_within, slice_get-splice_after}
 use Rattle.tls_relocs.specs.Patches.{Patch, patched, covers, in_any, byte_of, FitIn}
 
--- all patches leave as many bytes as there were
+-- patches do not change the number of bytes
 pub patched_keeps : (ps : List Patch) (bs : List ℕ) → FitIn ps (length bs)
     → length (patched ps bs) ≡ length bs
 patched_keeps [] bs fit = refl
@@ -18,7 +18,7 @@ patched_keeps (p ∷ ps) bs fit =
     let inside : p.at + length p.bytes ≤ length (patched ps bs) = omega arith in
     length-splice p.at p.bytes (patched ps bs) inside ∙ rest
 
--- patches written after others
+-- patches that are written after others
 pub patched-append : (ps qs : List Patch) (bs : List ℕ) → patched (ps ++ qs) bs ≡ patched ps (patched qs bs)
 patched-append [] qs bs = refl
 patched-append (p ∷ ps) qs bs = ap (splice p.at p.bytes) (patched-append ps qs bs)
@@ -57,7 +57,7 @@ patched_bytes (p ∷ ps) bs k fit =
     let inside : p.at + length p.bytes ≤ length (patched ps bs) = omega arith in
     rw (← patched_bytes ps bs k fit.1) (slice_get-splice p k (patched ps bs) inside)
 
--- where no patch of the front writes, two lists of patches that agree still agree
+-- two lists of patches that agree at a place still agree after patches in front that do not write there
 pub same_outside : (odd ps qs : List Patch) (bs : List ℕ) (k : ℕ) → in_any odd k ≡ false
     → byte_of qs bs k ≡ byte_of ps bs k → byte_of (odd ++ qs) bs k ≡ byte_of ps bs k
 same_outside [] ps qs bs k outside same = same

@@ -8,16 +8,16 @@ pub record Patch : Type 0 where
   pub at : ℕ
   pub bytes : List ℕ
 
--- the bytes after all patches, the last of the list written first
+-- the bytes after all patches; the last of the list is written first
 abbrev pub patched : List Patch → List ℕ → List ℕ
 patched [] bs = bs
 patched (p ∷ ps) bs = splice p.at p.bytes (patched ps bs)
 
--- place k is one that the patch writes
+-- the patch writes place k
 abbrev pub covers : Patch → ℕ → Bool
 covers p k = nat_le p.at k && nat_lt k (p.at + length p.bytes)
 
--- place k is one that a patch of the list writes
+-- a patch of the list writes place k
 abbrev pub in_any : List Patch → ℕ → Bool
 in_any [] k = false
 in_any (p ∷ ps) k = covers p k || in_any ps k

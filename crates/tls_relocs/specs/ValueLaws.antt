@@ -1,4 +1,4 @@
--- The laws of `Values`: a field of the table's width, which reads as the value.
+-- The laws of `Values`: a field has the table's width, and reads as the value.
 use Rattle.std.proofs.Common.{◌≡◌, ◌^◌, ◌<◌, ◌≤◌, ◌%◌, ◌-◌, ◌⊎◌, inl, inr, ℕ, ℤ, pos, negsuc, Some, arith, FitsSigned}
 use Rattle.std.proofs.Common.{IsSome, ◌↔◌, refl}
 use Rattle.std.specs.Int.{w32, cast_signed, cast_unsigned, FitsUnsignedBits}
@@ -8,7 +8,7 @@ use Rattle.std.proofs.lemmas.Bool.{cases_lt, lt-ltb, le-ltb}
 use Rattle.tls_relocs.specs.declared.fields.Field.TheVariants.{Word32}
 use Rattle.tls_relocs.specs.Values.{signed_field, unsigned_field}
 
--- read in two's complement, a signed field is the value
+-- a signed field, read in two's complement, is the value
 pub signed_again : (z : ℤ) (w : ℕ) → signed_field z ≡ Some (Word32 w) → cast_signed w32 w ≡ z
 signed_again (pos n) w same = positive (cases_lt n (2 ^ 31))
   where
@@ -47,7 +47,7 @@ unsigned_again (pos n) w same = positive (cases_lt n (2 ^ 32))
     positive (inr large) = let no = le-ltb n (2 ^ 32) large in let field = rw no at same in cc
 unsigned_again (negsuc n) w same = cc
 
--- a signed field takes exactly the numbers from -2^31 to 2^31 - 1
+-- a signed field holds exactly the numbers from -2^31 to 2^31 - 1
 pub signed_fits : (z : ℤ) → IsSome (signed_field z) ↔ FitsSigned w32 z
 signed_fits (pos n) = within (cases_lt n (2 ^ 31))
   where
@@ -62,7 +62,7 @@ signed_fits (negsuc n) = within (cases_lt n (2 ^ 31))
     within (inr large) =
         let no = le-ltb n (2 ^ 31) large in rw no (λ some. cc, λ fits. absurd (omega (arith, fits.sfits)))
 
--- an unsigned field takes exactly the numbers from 0 to 2^32 - 1
+-- an unsigned field holds exactly the numbers from 0 to 2^32 - 1
 pub unsigned_fits : (z : ℤ) → IsSome (unsigned_field z) ↔ FitsUnsignedBits 32 z
 unsigned_fits (pos n) = within (cases_lt n (2 ^ 32))
   where

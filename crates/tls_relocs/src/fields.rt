@@ -1,4 +1,4 @@
-//! A relocated field: what is to stand in a few bytes of a section.
+//! A relocated field: the bytes that a relocation stores.
 
 ghost use Rattle.std.specs.Prelude.{◌≡◌, ◌+◌, ◌≤◌, [], ◌∷◌, length};
 ghost use Rattle.tls_relocs.specs.Fields.{width_of, word_of, field_patch};
@@ -11,9 +11,9 @@ use byteorder::{ByteOrder, LittleEndian};
 pub enum Field {
     /// No bytes: the relocation only marks an instruction.
     Empty,
-    /// A number of 4 bytes. A negative one stands in two's complement.
+    /// A number of 4 bytes; a negative one in two's complement.
     Word32(u32),
-    /// A number of 8 bytes. A negative one stands in two's complement.
+    /// A number of 8 bytes; a negative one in two's complement.
     Word64(u64),
 }
 
@@ -29,7 +29,7 @@ impl Field {
         }
     }
 
-    /// The number in its bytes, 0 where it has none.
+    /// The number in its bytes; 0 if it has none.
     pub fn word(self) -> u64
         ensures { result ≡ word_of self }
     {

@@ -12,17 +12,17 @@ use elf_object::RelocationKind;
 use elf_records::relocation_row::{FieldForm, FieldValue};
 use thiserror::Error;
 
-/// The value of a relocation does not fit its field.
+/// The value of a relocation does not fit in its field.
 #[derive(Clone, Copy, PartialEq, Eq, Debug, Error)]
 #[error("the value does not fit its field")]
 pub struct Overflow;
 
-/// What a relocation stores: a field as wide as its type says, or `Overflow` exactly where the value does not fit it.
+/// What a relocation stores: a field as wide as its type says, or `Overflow` exactly where the value does not fit.
 ///
-/// By the psABI's letters `s` is S, the symbol's place; `a` is A, the addend; `p` is P, the place of the field; and
-/// `g` is G, the place of the entry in the GOT that the type speaks of. For the two offsets in a TLS segment,
-/// `DtpOff32` and `TpOff32`, `s` is the symbol's offset in its segment, and `g` the number that is subtracted: 0, or
-/// how far the segment's block begins below the thread pointer. A letter that a type does not use changes nothing.
+/// In the psABI's letters `s` is S, the symbol's address; `a` is A, the addend; `p` is P, the address of the field;
+/// and `g` is G, the address of the GOT entry that the type uses. For the two offsets in a TLS segment, `DtpOff32`
+/// and `TpOff32`, `s` is the symbol's offset in its segment, and `g` the number that is subtracted: 0, or how far the
+/// segment's block begins below the thread pointer. A letter that a type does not use changes nothing.
 #[inline(always)]
 pub fn value(kind: RelocationKind, s: u64, a: i64, p: u64, g: u64) -> Result<Field, Overflow>
     ensures stored { result_ok result ≡ stored_field kind s a p g }

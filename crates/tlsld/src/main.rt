@@ -1,7 +1,8 @@
-//! The program `tlsld`: the words of its command line, the host's files and its standard output, handed to
-//! [`commands::tlsld`], whose contract says what comes of them.
+//! The program `tlsld`: runs the command that its words name, over the host's files and standard output.
 //!
-//! On a terminal a long fetch of files tells how far it is, on standard error (`ports::ProgressStore`).
+//! It passes all three to [`commands::tlsld`], whose contract says what happens.
+//!
+//! On a terminal, a long fetch of files shows its progress on standard error (`ports::ProgressStore`).
 #![tactic(auto)]
 
 use command_replies::say_no_memory;
@@ -13,16 +14,16 @@ use std::process::ExitCode;
 use std::rt::Env;
 use std::{env, io};
 
-/// How many bytes a request may have and be served from memory that is kept.
+/// The largest request for memory that freed memory may serve, in bytes.
 const LARGEST_KEPT: usize = 1 << 21;
 
-/// Has the C library keep freed memory for later requests, where they are not larger: it counts as large no more than
-/// what was asked for and given back. Otherwise each table of an object is taken from the host anew.
+/// Makes the C library keep freed memory for later requests up to this size: it raises its limit to the largest block
+/// that was allocated and freed. Otherwise it would request each table of an object from the host anew.
 fn keep_freed(alloc: Global) {
     let _given_back = Vec::<u8>::with_capacity(alloc, LARGEST_KEPT);
 }
 
-/// The words behind the program's name. Each must be UTF-8.
+/// The words after the program's name. Each must be UTF-8.
 fn words_of(rt: &(impl Env + AllocGlobal)) -> io::Result<Vec<String>> {
     let mut words = Vec::new(rt.alloc());
     for word in env::args(rt)?.skip(1) {
@@ -39,7 +40,7 @@ fn main(rt: HostRuntime) -> ExitCode {
         Err(error) if error.kind() == ErrorKind::OutOfMemory => {
             return ExitCode::from(say_no_memory(&mut out));
         }
-        // A word that is no UTF-8 belongs to no command, and neither do no words at all.
+        // If a word is not UTF-8, no command fits, just as without words.
         Err(_) => Vec::new(rt.alloc()),
     };
     let files = HostStore::new(&rt, rt.alloc());

@@ -21,12 +21,12 @@ pub record Shown : Type 0 where
 abbrev pub hex16 : ℕ → List ℕ
 hex16 n = padded_integral (format_spec 32 0 4 16 (2 ^ 64 - 1)) false [] (digits 16 false n)
 
--- the bytes of a peek, each as two hexadecimal digits; no space where there is none
+-- the bytes of a peek, each as two hexadecimal digits; without bytes there is no space
 unfoldable pub bytes_text : List ℕ → List ℕ
 bytes_text [] = codes "bytes"
 bytes_text (b ∷ bs) = codes "bytes " ++ encode_lower (b ∷ bs)
 
--- what came of a line
+-- the outcome of a line
 unfoldable pub outcome_text : Outcome → List ℕ
 outcome_text (Returned value) = codes "= " ++ hex16 value
 outcome_text (Opened instance) = codes "opened " ++ decimal instance
@@ -35,12 +35,12 @@ outcome_text (Bytes bytes) = bytes_text bytes
 outcome_text (Refused refusal) = codes "refused " ++ refusal_text refusal
 outcome_text (Fault fault) = codes "fault " ++ fault_text fault
 
--- points, with commas between
+-- points, separated by commas
 unfoldable pub points_text : List ℕ → List ℕ
 points_text [] = []
 points_text (p ∷ ps) = decimal p ++ flat_map (λ q. codes "," ++ decimal q) ps
 
--- the line of a thread's line k
+-- the text of line k of a thread
 unfoldable pub line_text : ℕ → ℕ → Line → List ℕ
 line_text thread k line =
     codes "t" ++ decimal thread ++ codes " l" ++ decimal k ++ codes " g" ++ points_text line.points ++ codes " "

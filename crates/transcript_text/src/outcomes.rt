@@ -1,4 +1,4 @@
-//! What came of a thread's line.
+//! The outcome of a thread's line.
 
 ghost use Rattle.std.specs.Prelude.{◌≡◌, Some};
 ghost use Rattle.transcript_text.specs.OutcomeWords.{refusal_text, fault_text};
@@ -11,9 +11,9 @@ use std::marker::Model;
 pub enum LineRefusal {
     /// No late image has the number.
     Unknown,
-    /// 4,095 instances were made, and another is needed.
+    /// 4,095 instances were made, and the line needs one more.
     Full,
-    /// The static surplus has no room for the image.
+    /// The static surplus is too small for the image.
     StaticFull,
     /// The image cannot be closed: it started with the program.
     Permanent,
@@ -44,13 +44,13 @@ impl fmt::Display for LineRefusal {
 /// Why a call ended early.
 #[derive(Clone, Copy, PartialEq, Eq, Debug)]
 pub enum LineFault {
-    /// An access to memory that the thread may not access so.
+    /// An access to memory that the thread has no right to.
     Address,
-    /// An instruction that the machine does not know, or memory that holds no code.
+    /// An instruction that the machine does not know, or memory without code.
     Code,
     /// The module that asked for its block was unloaded.
     Unloaded,
-    /// The call took too many steps.
+    /// The call took more steps than allowed.
     Steps,
 }
 
@@ -67,7 +67,7 @@ impl fmt::Display for LineFault {
     }
 }
 
-/// Bytes that a line shows. Contracts see their list.
+/// The bytes that a peek shows. Contracts see their list.
 #[derive(Debug, Drop)]
 pub struct Bytes {
     items: Vec<u8>,
@@ -97,7 +97,7 @@ impl Bytes {
     }
 }
 
-/// The looks of a line: for each, the number of events that it saw. Contracts see their list.
+/// The points of a line: for each look, the number of events that it saw. Contracts see their list.
 #[derive(Debug, Drop)]
 pub struct Points {
     items: Vec<u64>,
@@ -127,7 +127,7 @@ impl Points {
     }
 }
 
-/// What came of a line.
+/// The outcome of a line.
 #[derive(Debug, Drop)]
 pub enum Outcome {
     /// A call returned this number.
@@ -144,7 +144,7 @@ pub enum Outcome {
     Fault(LineFault),
 }
 
-/// A line of a thread that was run: its looks, and what came of it.
+/// A line of a thread that ran: its points, and its outcome.
 #[derive(Debug, Drop)]
 pub struct Line {
     pub points: Points,

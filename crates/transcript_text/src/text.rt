@@ -11,7 +11,7 @@ use job_text::Image;
 use module_table::Event;
 use std::alloc::AllocError;
 
-/// Appends the line of a thread's line.
+/// Appends the text of a thread's line.
 #[tactic(auto, unfolding(crate::specs::Texts::line_text))]
 pub(crate) fn push_line(
     text: &mut String,
@@ -29,7 +29,7 @@ pub(crate) fn push_line(
     Ok(())
 }
 
-/// Appends points, with commas between.
+/// Appends points, separated by commas.
 #[tactic(auto, unfolding(crate::specs::Texts::points_text))]
 fn push_points(text: &mut String, points: &[u64]) -> Result<(), AllocError>
     ensures { OnOk result (string_bytes text.new ≡ string_bytes text.old ++ points_text points.now) }
@@ -44,7 +44,7 @@ fn push_points(text: &mut String, points: &[u64]) -> Result<(), AllocError>
     Ok(())
 }
 
-/// Appends what came of a line.
+/// Appends the outcome of a line.
 #[tactic(auto, unfolding(crate::specs::Texts::outcome_text))]
 fn push_outcome(text: &mut String, outcome: &Outcome) -> Result<(), AllocError>
     ensures { OnOk result (string_bytes text.new ≡ string_bytes text.old ++ outcome_text outcome.now) }
@@ -137,7 +137,7 @@ fn event_word(opens: bool) -> &'static str
     if opens { "open" } else { "close" }
 }
 
-/// The name of an image.
+/// The name of an image, by its number.
 fn name_at(images: &[Image], number: u32) -> &str
     requires { IsImageNumber images.now number }
     ensures { result.now ≡ image_name images.now number }

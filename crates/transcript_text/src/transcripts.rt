@@ -34,7 +34,7 @@ impl Transcript {
     ghost use Rattle.transcript_text.specs.Texts.{IsImageNumber, transcript_text};
     ghost use Rattle.job_text.specs.Threads.{of_thread};
 
-    /// The transcript of no thread and no event.
+    /// A transcript without threads and events.
     pub fn new(alloc: Global) -> Transcript
         ensures threads { result.threads ≡ [] }
         ensures events { result.events ≡ [] }
@@ -66,7 +66,7 @@ impl Transcript {
         Ok(())
     }
 
-    /// The lines of a thread, from 1, and none of a thread that there is not.
+    /// The lines of a thread, counted from 1; none if there is no such thread.
     pub fn lines(&self, thread: u32) -> &[Line]
         ensures { result.now ≡ of_thread self.now.threads thread }
     {
@@ -93,8 +93,8 @@ impl Transcript {
         self.events.as_slice()
     }
 
-    /// Appends the transcript's text: a line for each line of each thread, and then one for each
-    /// event. Where there is no memory, nothing is appended.
+    /// Appends the transcript's text: a line for each line of each thread, and then one for each event. If memory
+    /// runs out, nothing is appended.
     #[tactic(auto, unfolding(crate::specs::Texts::transcript_text))]
     pub fn text(&self, job: &Job, into: &mut Vec<u8>) -> Result<(), AllocError>
         requires { All (λ event. IsImageNumber job.now.images event.image) self.now.events }
@@ -109,7 +109,7 @@ impl Transcript {
     }
 }
 
-/// Asks that threads may move a type's values, and share them.
+/// Checks that threads may move and share a type's values.
 fn crosses_threads<T: Send + Sync>() {}
 
 /// Threads may move and share a transcript, and all that it is made of.

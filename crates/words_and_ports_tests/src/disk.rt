@@ -1,18 +1,18 @@
-//! The host's disk, but that it fails where a test says: files of any length, and writes and renames that fail.
+//! The host's disk with faults where a test says so: files of any length, and writes and renames that fail.
 use std::alloc::Allocator;
 use std::fs::{Metadata, OpenFile, OpenOptions};
 use std::io;
 use std::io::{Error, ErrorKind, Read, Seek, SeekFrom, Write};
 use std::rt::Files;
 
-/// What a disk does in place of its work. Each read and write is interrupted by a signal once before it is done.
+/// A fault of a disk. Each read and write is interrupted by a signal once before it is done.
 #[derive(Clone, Copy)]
 pub enum Fault {
-    /// A file has this length, whatever its bytes are, and then ends: with this error, if there is one.
+    /// A file has this length, whatever its bytes are, and then ends: with this error, if one is given.
     Length(usize, Option<ErrorKind>),
     /// A write fails.
     Write,
-    /// No file gets another name.
+    /// Renaming fails.
     Rename,
 }
 

@@ -1,4 +1,4 @@
-//! The host's files: what is kept, the largest file, and what stands after a put that failed.
+//! The host's files: what a store keeps, the largest file, and what is left after a put that failed.
 use crate::disk::{Fault, FaultyDisk};
 use ports::{FetchFault, HostStore, PutFault, Store};
 use std::alloc::{AllocError, Global};
@@ -9,7 +9,7 @@ use std::rt::Files;
 use std::test::Fail;
 use std::{env, fs, io, process};
 
-/// What the file of that name holds, behind a mark, through the trait.
+/// The content of the file of that name after a mark, fetched through the trait.
 pub(crate) fn fetched<S: Store>(
     alloc: Global,
     store: &mut S,
@@ -33,7 +33,7 @@ fn new_folder<R: Files>(
     Ok(folder)
 }
 
-/// What a file holds, behind a mark.
+/// The content of a file after a mark.
 fn read_back(rt: &HostRuntime, alloc: Global, name: &str) -> io::Result<Vec<u8>> {
     match fetched(alloc, &mut HostStore::new(rt, alloc), name) {
         Ok(text) => Ok(text),
@@ -46,7 +46,7 @@ fn path(alloc: Global, folder: &str, name: &str) -> Result<String, AllocError> {
     format!(in alloc; "{folder}/{name}")
 }
 
-/// Lays a file that a put has left over, and a link to a file.
+/// Makes a file that a failed put left, and a link to a file.
 fn lay<R: Files>(rt: &R, alloc: Global, folder: &str, file: &str) -> io::Result<()> {
     fs::write(rt, path(alloc, folder, "file.part0")?.as_str(), "left over")?;
     symlink(rt, file, path(alloc, folder, "link")?.as_str())
@@ -63,7 +63,7 @@ fn put_all<S: Store>(store: &mut S, alloc: Global, folder: &str, file: &str) -> 
     Ok(())
 }
 
-/// What a file then holds, and how many faults there were.
+/// The content of a file after that, and how many faults there were.
 fn keeps_files(rt: &HostRuntime, alloc: Global, folder: &str) -> io::Result<(Vec<u8>, u64)> {
     let file = path(alloc, folder, "file")?;
     lay(rt, alloc, folder, file.as_str())?;
@@ -84,7 +84,7 @@ fn a_host_store_keeps_files(rt: HostRuntime) -> Result<(), Fail> {
     Ok(())
 }
 
-/// The length of what a fetch gives of a file on a disk with this fault.
+/// The length of a file that is fetched from a disk with this fault.
 fn fetched_length(
     rt: &HostRuntime,
     alloc: Global,
@@ -114,7 +114,7 @@ fn a_host_store_fetches_up_to_2_to_28_bytes(rt: HostRuntime) {
     }
 }
 
-/// What a fetch gives of a file that tells one length and has another.
+/// Fetches a file whose length differs from the one that the disk gives.
 fn fetched_from(
     rt: &HostRuntime,
     alloc: Global,
@@ -126,7 +126,7 @@ fn fetched_from(
     Ok(fetched_length(rt, alloc, file, Fault::Length(length, None)))
 }
 
-/// What fetches give of a file that is shorter than it tells, is as long, is longer, and tells too much.
+/// Fetches files that are shorter than the disk says, as long, longer, and too long.
 fn told_lengths(
     rt: &HostRuntime,
     alloc: Global,
@@ -153,15 +153,15 @@ fn a_told_length_is_a_hint_but_for_its_limit(rt: HostRuntime) -> Result<(), Fail
     Ok(())
 }
 
-/// Puts over an old file, on a disk that fails in one way, and says whether the put failed.
+/// Puts over an old file, on a disk that fails in one way, and returns whether the put failed.
 fn put_fails(rt: &HostRuntime, alloc: Global, file: &str, fault: Fault) -> bool {
     let disk = FaultyDisk { disk: rt, fault };
     let mut store = HostStore::new(&disk, alloc);
     store.put(file, b"a text") == Err(PutFault::Failed) && store.faults() == 1
 }
 
-/// Puts over an old file, on disks that fail in each way, and says what then stands there, if each put failed. The
-/// folder can only be removed where no other file is left.
+/// Puts over an old file, on disks that fail in each way, and returns what the file then holds, if each put failed. The
+/// folder can be removed only if no other file is left.
 fn survives_failing_puts(rt: &HostRuntime, alloc: Global, folder: &str) -> io::Result<Vec<u8>> {
     let file = path(alloc, folder, "file")?;
     fs::write(rt, file.as_str(), "old")?;

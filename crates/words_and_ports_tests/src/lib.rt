@@ -1,10 +1,10 @@
-//! Tests of the program's outside by public calls alone: the words of `command_line`, and files, output and progress of
-//! `ports`.
+//! Tests of the program's outside, through public calls only: `command_line`'s words; `ports`'
+//! files, output and progress.
 //!
-//! No clause says what a disk, a writer or `clap` holds. So a store is tried over the host's files, and over a disk
-//! that fails or stops where a test says; a sink over a writer of that kind; what is said of progress over a clock and a
-//! standard error of that kind; and the words over those that users write. The store and the sink in memory have clauses
-//! for all that they do.
+//! No clause says what a disk, a writer or `clap` holds. So the tests run a store over the host's files, and
+//! over a disk that fails or stops where a test says so; a sink over such a writer; progress over such a
+//! clock and standard error; and the words over those that users write. The store and the sink in memory have
+//! clauses for all that they do.
 #![tactic(auto)]
 
 #[cfg(test)]

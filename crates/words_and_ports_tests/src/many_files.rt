@@ -1,4 +1,4 @@
-//! Files that are fetched side by side: their order, and the first that is refused.
+//! Files that are fetched side by side: their order, and the first refusal.
 use crate::disk::{Fault, FaultyDisk};
 use ports::{FetchFault, HostStore, MemoryStore, Store, fetch_each};
 use std::alloc::{AllocError, Global};
@@ -7,7 +7,7 @@ use std::test::Fail;
 use std::thread::Threads;
 use std::{env, fs, io, process};
 
-/// A store of files `a` to `f`, each of its own name, twice.
+/// A store with files `a` to `f`; each holds its own name, twice.
 fn letters(alloc: Global) -> Result<MemoryStore, AllocError> {
     let mut store = MemoryStore::new(alloc);
     for name in ["a", "b", "c", "d", "e", "f"] {
@@ -16,7 +16,7 @@ fn letters(alloc: Global) -> Result<MemoryStore, AllocError> {
     Ok(store)
 }
 
-/// The files of these names, one behind another.
+/// The files of these names, one after another.
 fn joined<S: Store, R: Threads + Sync>(
     rt: &R,
     alloc: Global,
@@ -52,7 +52,7 @@ fn files_come_in_the_order_of_their_names(rt: HostRuntime) -> Result<(), Fail> {
 
 #[test]
 fn the_first_refusal_is_the_last_call(rt: HostRuntime) -> Result<(), Fail> {
-    // The call that fails; the third of the names is none, so that one of the first three always is.
+    // The call that fails; the third name has no file, so one of the first three always fails.
     for fails_at in [0, 1, 2, 3] {
         let mut store = letters(rt.alloc())?;
         store.fail_at(fails_at);
@@ -60,7 +60,7 @@ fn the_first_refusal_is_the_last_call(rt: HostRuntime) -> Result<(), Fail> {
         assert!(rt; joined(&rt, rt.alloc(), &mut store, &names) == Err(FetchFault::Failed));
         assert!(rt; store.faults() == 1, "failing at {fails_at}");
     }
-    // Calls behind the one that was refused are not counted: the fourth is the next.
+    // Calls after the refused one are not counted: the fourth is the next.
     let mut store = letters(rt.alloc())?;
     store.fail_at(4);
     let names = ["a", "b", "none", "c", "d"];
@@ -70,8 +70,8 @@ fn the_first_refusal_is_the_last_call(rt: HostRuntime) -> Result<(), Fail> {
     Ok(())
 }
 
-/// The names of nine files in a folder. The first `there` of them are laid, each a thousand bytes longer than the one
-/// before.
+/// The names of nine files in a folder. The first `there` of them exist, each a thousand bytes
+/// longer than the one before.
 fn lay_files<R: Files>(
     rt: &R,
     alloc: Global,
@@ -90,7 +90,7 @@ fn lay_files<R: Files>(
     Ok(names)
 }
 
-/// How long each file is that a store fetches side by side.
+/// The length of each file that a store fetches side by side.
 fn lengths<S: Store, R: Threads + Sync>(
     rt: &R,
     alloc: Global,
@@ -110,7 +110,7 @@ fn lengths<S: Store, R: Threads + Sync>(
     Ok(lengths)
 }
 
-/// What is fetched of nine files, of eight that are there and one that is not, and over a disk that tells a wrong length.
+/// Fetches nine files, then eight that exist and one that does not, and then over a disk that gives a wrong length.
 fn fetches_of_host<R: Threads + Sync>(
     rt: &HostRuntime,
     threads: &R,

@@ -1,4 +1,4 @@
-//! What a store says of its progress, at a clock that the test sets.
+//! The progress that a store shows, with a clock that the test sets.
 use crate::files::fetched;
 use ports::{MemoryStore, ProgressStore, Store};
 use std::alloc::Global;
@@ -11,10 +11,10 @@ use std::sync::atomic::{AtomicU64, Ordering};
 use std::test::Fail;
 use std::time::Duration;
 
-/// The seconds of a clock that fails.
+/// The seconds at which the clock fails.
 const NO_TIME: u64 = u64::MAX;
 
-/// A clock, which fails where it has no time, and a standard error, which keeps each line and then fails.
+/// A clock that fails where it has no time, and a standard error that keeps each line and then fails.
 #[derive(Drop)]
 struct Terminal {
     alloc: Global,
@@ -33,7 +33,7 @@ impl Terminal {
         }
     }
 
-    /// Whether these lines were written, and no others.
+    /// Whether exactly these lines were written.
     fn has_shown(&self, lines: &str) -> bool {
         match self.lines.try_lock() {
             Some(shown) => shown.as_str() == lines,
@@ -70,7 +70,7 @@ impl Eprint for Terminal {
     }
 }
 
-/// Fetches a file at each of five times and puts one at two, and says whether all was done.
+/// Fetches a file at each of five times and puts one at two, and returns whether every call succeeded.
 fn works<S: Store>(store: &mut S, alloc: Global, seconds: &AtomicU64) -> bool {
     let mut is_done = true;
     for now in [10, 11, 11, NO_TIME, 13] {

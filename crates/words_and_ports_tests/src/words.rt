@@ -1,10 +1,10 @@
-//! The words of each kind that users write, and what they ask for.
+//! Words of each kind that users write, and the commands that they give.
 use command_line::{Command, Rewriting, Task, WordsFault, read_words};
 use std::alloc::{AllocError, Global};
 use std::process::Abort;
 use std::test::Fail;
 
-/// Each line: what is asked for, and each word behind a `|`.
+/// Each line: the expected command, and each word after a `|`.
 const CASES: &str = "\
 run job allowed|run|job
 run job off|run|job|--no-relax
@@ -115,7 +115,7 @@ usage|gen|--no-relax|5
 usage|ge|5
 ";
 
-/// How a case writes whether sequences may be rewritten.
+/// Whether sequences may be rewritten, as a case writes it.
 fn shown(rewriting: Rewriting) -> &'static str {
     match rewriting {
         Rewriting::Allowed => "allowed",
@@ -156,7 +156,7 @@ fn task_told(alloc: Global, task: Task) -> Result<String, AllocError> {
     }
 }
 
-/// What is asked for, as a case writes it.
+/// The command, as a case writes it.
 fn told(alloc: Global, command: Result<Command, WordsFault>) -> Result<String, AllocError> {
     match command {
         Ok(Command::Plain(task)) => task_told(alloc, task),
@@ -178,7 +178,7 @@ fn words_of(alloc: Global, line: &str) -> Result<Vec<String>, AllocError> {
     Ok(words)
 }
 
-/// Compares what one line asks for.
+/// Checks the command of one line.
 fn check(rt: &impl Abort, alloc: Global, line: &str) -> Result<(), AllocError> {
     let words = words_of(alloc, line)?;
     let found = told(alloc, read_words(alloc, words.as_slice()))?;

@@ -4,7 +4,7 @@ use std::io;
 use std::io::{Error, ErrorKind, Write};
 
 /// A writer that is interrupted before each write, takes two bytes at a time, and stops after some. What it has taken
-/// gets through only where it can be flushed.
+/// gets through only if it can be flushed.
 #[derive(Drop)]
 struct SlowWriter {
     room: usize,

@@ -1,4 +1,4 @@
-//! What a long command tells the person who waits for it.
+//! Shows the progress of a long command to the person who waits for it.
 ghost use Rattle.std.specs.Prelude.{◌≡◌};
 
 use crate::{FetchFault, PutFault, Store};
@@ -12,9 +12,9 @@ use std::time::Instant;
 /// The seconds between two lines, and before the first.
 const INTERVAL: u64 = 1;
 
-/// Lines on standard error that say how far a command is: none in its first second, and then at most one a second,
-/// whichever threads are at work. Where none are wanted no clock is asked. A clock or a standard error that fails costs
-/// lines and nothing else.
+/// Writes lines to standard error that say how far a command is: none in its first second, and then at most one a
+/// second, whichever threads are at work. If no lines are wanted, it reads no clock. If the clock or standard error
+/// fails, lines are lost and nothing else.
 #[derive(Drop)]
 struct Progress<'a, R: Clock + Eprint> {
     rt: &'a R,
@@ -36,7 +36,7 @@ impl<'a, R: Clock + Eprint> Progress<'a, R> {
         }
     }
 
-    /// One file more was fetched.
+    /// Counts a fetched file.
     fn count_file(&self) {
         let before = self.fetched.fetch_add(1, Ordering::SeqCst);
         if self.is_due() {
@@ -45,14 +45,15 @@ impl<'a, R: Clock + Eprint> Progress<'a, R> {
         }
     }
 
-    /// The output is about to be written.
+    /// Notes that the output is about to be written.
     fn begin_output(&self) {
         if self.is_due() {
             let _ = eprintln!(self.rt; "tlsld: writing out");
         }
     }
 
-    /// Whether it is time for a line. The next one is due a second later. A thread that finds another here says none.
+    /// Whether it is time for a line. The next one is due a second later. A thread that finds another
+    /// one here gets `false`.
     fn is_due(&self) -> bool {
         let Some(since) = &self.since else {
             return false;
@@ -68,8 +69,8 @@ impl<'a, R: Clock + Eprint> Progress<'a, R> {
     }
 }
 
-/// A store that says on standard error how far it is, where that takes long: how many files it has fetched or read, and
-/// that a file is about to be written. A contract sees it as the store within.
+/// A store that shows its progress on standard error when a command takes long: how many files it has fetched or read,
+/// and that it is about to write a file. A contract sees only the store within.
 #[derive(Drop)]
 pub struct ProgressStore<'a, S: Store + Drop, R: Clock + Eprint + Sync> {
     store: S,
@@ -83,8 +84,8 @@ impl<'a, S: Store + Drop, R: Clock + Eprint + Sync> Model for ProgressStore<'a, 
 }
 
 impl<'a, S: Store + Drop, R: Clock + Eprint + Sync> ProgressStore<'a, S, R> {
-    /// The store, whose progress is shown on `rt`'s standard error where the caller says so, as it does if that is a
-    /// terminal: no bound on a runtime tells.
+    /// Wraps a store. It shows progress on `rt`'s standard error if `is_shown`; the caller sets that when it is a
+    /// terminal, since no trait of a runtime can tell.
     pub fn new(store: S, rt: &'a R, is_shown: bool) -> Self
         ensures { result ≡ store }
     {

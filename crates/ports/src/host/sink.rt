@@ -9,13 +9,12 @@ use crate::{PutFault, Sink};
 use std::io::Write;
 use std::marker::Model;
 
-/// A writer, such as `io::writer(&rt)` for standard output. A caller that knows only [`Sink`] learns no
-/// bytes of it, only its counts.
+/// A writer, such as `io::writer(&rt)` for standard output. A caller that knows only [`Sink`] learns its counts,
+/// and none of its bytes.
 ///
-/// A put is done when the writer has taken and flushed the whole piece. It is a fault where the writer
-/// fails, takes nothing of what is left, or is interrupted by a signal a thousand times in a row; a front
-/// of the piece has then been written. A closed pipe is such a fault in a process that lives on then,
-/// which is one that ignores SIGPIPE.
+/// A put succeeds when the writer has taken and flushed the whole piece. It fails if the writer fails, takes no byte
+/// of the rest, or is interrupted by a signal a thousand times in a row; then a prefix of the piece has been written.
+/// A closed pipe is such a failure if the process lives on, that is, if it ignores SIGPIPE.
 #[derive(Drop)]
 pub struct HostSink<W: Write + Drop> {
     to: W,
@@ -50,7 +49,7 @@ impl<W: Write + Drop> HostSink<W> {
         self.faults
     }
 
-    /// How often the sink has answered that there was no memory.
+    /// How often the sink has run out of memory.
     pub fn shortages(&self) -> u64
         ensures { result ≡ self.now.shortages }
     {

@@ -13,26 +13,25 @@ use std::marker::Model;
 use std::rt::Files;
 use std::{fs, io};
 
-/// The most bytes that a file may have to be fetched: 256 MiB.
+/// The largest file that can be fetched: 256 MiB.
 pub const LARGEST_FILE: usize = 1 << 28;
 
-/// How many names are tried for the new file that a put writes first.
+/// How many names a put tries for its new file.
 const NAMES: u32 = 100;
 
-/// The files of the host, by path. A clause learns neither files nor names of it, only the count of its
-/// faults, as which a contract sees the whole store.
+/// The files of the host, by path. Clauses say nothing of its files and names; a contract sees the store as
+/// the count of its faults.
 ///
-/// A fetch reads the file to its end, in one read where it has the length that the host tells of it. A path
-/// that cannot be opened or read is a fault, and so is a file of more than [`LARGEST_FILE`] bytes, for which no
-/// memory is taken where the host tells its length. A read or write that a signal interrupts is asked again, up
-/// to a thousand times in a row, and then is a fault too. Where the host itself lacks memory, the answer is
-/// `OutOfMemory` and no fault.
+/// A fetch reads the file to its end, in one read if the file has the length that the host gives. It fails if the path
+/// cannot be opened or read, or if the file has more than [`LARGEST_FILE`] bytes; no memory is allocated if the host
+/// gives such a length. If a signal interrupts a read or write, it is tried again, up to a thousand times in a row;
+/// then the call fails. If the host itself runs out of memory, the result is `OutOfMemory`, which is not a fault.
 ///
-/// A put writes a new file `PATH.partN` beside the old one, and gives it the path once all of it is written. So
-/// a reader sees the old file or the whole new one, and after a refused put the old file stands as it was and
-/// the new one is gone. It does not wait for the disk: what stands there after a loss of power is not said. Only
-/// where something stands there that is no plain file, such as a device, a pipe or a link, are the bytes
-/// written to it in place; a refused put may then leave a part.
+/// A put writes a new file `PATH.partN` next to the old one, and renames it to the path once all of it is
+/// written. So a reader sees the old file or the whole new one. After a refused put the old file is as it was,
+/// and the new one is removed. A put does not wait for the disk: it promises nothing for a loss of power. Only if
+/// the path is not a plain file but, say, a device, a pipe or a link, are the bytes written to it in place; a
+/// refused put may then leave a part.
 #[derive(Drop)]
 pub struct HostStore<'a, R: Files + Sync> {
     rt: &'a R,
@@ -49,7 +48,7 @@ impl<'a, R: Files + Sync> Model for HostStore<'a, R> {
 }
 
 impl<'a, R: Files + Sync> HostStore<'a, R> {
-    /// The files that `rt` reaches. `alloc` serves the names of new files.
+    /// The files that `rt` reaches. Names of new files are allocated from `alloc`.
     pub fn new(rt: &'a R, alloc: Global) -> Self
         ensures { result ≡ 0 }
     {
@@ -142,7 +141,7 @@ impl<'a, R: Files + Sync> Store for HostStore<'a, R> {
     }
 }
 
-/// Appends the file's bytes, and leaves `into` as it was on a refusal.
+/// Appends the file's bytes. On a refusal `into` is as before.
 fn read_file<R: Files>(rt: &R, name: &str, into: &mut Vec<u8>) -> Result<(), FetchFault>
     ensures fits { OnOk result (length into.new.items ≤ length into.old.items + LARGEST_FILE) }
     ensures begins { take (length into.old.items) into.new.items ≡ into.old.items }
@@ -153,7 +152,7 @@ fn read_file<R: Files>(rt: &R, name: &str, into: &mut Vec<u8>) -> Result<(), Fet
     read_all(&mut file, into, expected, LARGEST_FILE)
 }
 
-/// Makes the bytes the content of the file.
+/// Replaces the content of the file by the bytes.
 fn write_file<R: Files>(rt: &R, alloc: Global, name: &str, bytes: &[u8]) -> Result<(), PutFault> {
     if is_special(rt, name)? {
         write_all(&mut fs::create(rt, name)?, bytes)
@@ -162,7 +161,7 @@ fn write_file<R: Files>(rt: &R, alloc: Global, name: &str, bytes: &[u8]) -> Resu
     }
 }
 
-/// Whether something stands under the name that is no plain file, as a device, a pipe or a link.
+/// Whether the name belongs to something that is not a plain file, such as a device, a pipe or a link.
 fn is_special<R: Files>(rt: &R, name: &str) -> io::Result<bool> {
     match fs::symlink_metadata(rt, name) {
         Ok(found) => Ok(!found.is_file()),
@@ -171,7 +170,7 @@ fn is_special<R: Files>(rt: &R, name: &str) -> io::Result<bool> {
     }
 }
 
-/// Writes a new file beside `name`, and then gives it that name.
+/// Writes a new file next to `name`, and then renames it to `name`.
 fn replace_file<R: Files>(rt: &R, alloc: Global, name: &str, bytes: &[u8]) -> Result<(), PutFault> {
     for number in 0..NAMES {
         let part = format!(in alloc; "{name}.part{number}")?;
@@ -184,7 +183,7 @@ fn replace_file<R: Files>(rt: &R, alloc: Global, name: &str, bytes: &[u8]) -> Re
     Err(PutFault::Failed)
 }
 
-/// Fills the new file `part` and gives it its name, or takes it away.
+/// Fills the new file `part` and renames it, or removes it.
 fn finish_file<R: Files>(
     rt: &R,
     file: R::File,

@@ -8,13 +8,13 @@ use crate::{FetchFault, PutFault};
 use std::io;
 use std::io::{ErrorKind, Read, Write};
 
-/// How often in a row a call is asked again that a signal interrupted.
+/// How often in a row a call is tried again after a signal interrupted it.
 const RETRIES: u32 = 1000;
 
 /// How many bytes are read at a time.
 const CHUNK: usize = 4096;
 
-/// One read. Where a signal interrupts it, which is before it has moved a byte, it is asked again.
+/// One read. It is tried again if a signal interrupts it, which is before it has moved a byte.
 fn read_some<R: Read>(from: &mut R, buffer: &mut [u8]) -> io::Result<usize>
     ensures bound { ReadsAtMost result buffer.new }
     ensures bytes { ReadConsumes (R.remaining from.old) (R.remaining from.new) result buffer.new }
@@ -29,7 +29,7 @@ fn read_some<R: Read>(from: &mut R, buffer: &mut [u8]) -> io::Result<usize>
     from.read(buffer)
 }
 
-/// One write. Where a signal interrupts it, which is before it has moved a byte, it is asked again.
+/// One write. It is tried again if a signal interrupts it, which is before it has moved a byte.
 fn write_some<W: Write>(to: &mut W, bytes: &[u8]) -> io::Result<usize>
     ensures bound { WritesAtMost result bytes.now }
     ensures bytes { WriteAppends (W.contents to.old) (W.contents to.new) result bytes.now }
@@ -44,7 +44,7 @@ fn write_some<W: Write>(to: &mut W, bytes: &[u8]) -> io::Result<usize>
     to.write(bytes)
 }
 
-/// Appends what the reader has left, chunk by chunk. After a refusal some of it has been appended.
+/// Appends the rest of the reader, chunk by chunk. On a refusal some of it has been appended.
 fn read_rest<R: Read>(from: &mut R, into: &mut Vec<u8>, mut room: usize) -> Result<(), FetchFault>
     ensures bytes { OnOk result (IfSome (R.remaining from.old)
         (λ bytes. into.new.items ≡ into.old.items ++ bytes)) }
@@ -65,7 +65,7 @@ fn read_rest<R: Read>(from: &mut R, into: &mut Vec<u8>, mut room: usize) -> Resu
     }
 }
 
-/// Appends the bytes. The only fault is want of memory.
+/// Appends the bytes. The only fault is `OutOfMemory`.
 fn append(into: &mut Vec<u8>, bytes: &[u8]) -> Result<(), FetchFault>
     ensures ok { OnOk result (into.new.items ≡ into.old.items ++ bytes.now) }
     ensures err { OnErr result (into.new.items ≡ into.old.items) }
@@ -74,7 +74,7 @@ fn append(into: &mut Vec<u8>, bytes: &[u8]) -> Result<(), FetchFault>
     Ok(into.extend_from_slice(bytes)?)
 }
 
-/// Reads until the buffer is full or the reader is at its end, and answers how many bytes were read.
+/// Reads until the buffer is full or the reader is at its end, and returns how many bytes it has read.
 fn fill<R: Read>(from: &mut R, buffer: &mut [u8]) -> io::Result<usize>
     ensures bound { ReadsAtMost result buffer.new }
     ensures bytes { IfOk result (λ count.
@@ -91,9 +91,9 @@ fn fill<R: Read>(from: &mut R, buffer: &mut [u8]) -> io::Result<usize>
     Ok(filled)
 }
 
-/// Appends the next `expected` bytes of the reader, or all that it has left where those are fewer, and answers
-/// how many it was. They are read straight into the room made for them. After a refusal some of that room may
-/// stand behind what was there.
+/// Appends the next `expected` bytes of the reader, or its rest if that is shorter, and returns how many
+/// bytes that was. They are read straight into the room made for them. On a refusal some of that room may be
+/// left at the end of `into`.
 fn read_front<R: Read>(
     from: &mut R,
     into: &mut Vec<u8>,
@@ -106,15 +106,15 @@ fn read_front<R: Read>(
     ensures begins { take (length into.old.items) into.new.items ≡ into.old.items }
 {
     let begin = into.len();
-    // A sum past the last number is more than any vector holds, and is refused as such.
+    // A sum that saturates is more than any vector holds, so `resize` refuses it.
     into.resize(begin.saturating_add(expected), 0)?;
     let count = fill(from, &mut into[begin..])?;
     into.truncate(begin + count);
     Ok(count)
 }
 
-/// Appends what the reader has left: up to `expected` bytes at once, and then chunk by chunk, where it has
-/// more. More than `room` bytes, expected or read, are a fault. After a refusal `into` may have grown.
+/// Appends the rest of the reader: up to `expected` bytes at once, and then chunk by chunk. It fails if more than
+/// `room` bytes are expected or read. On a refusal `into` may have grown.
 fn read_sized<R: Read>(
     from: &mut R,
     into: &mut Vec<u8>,
@@ -133,8 +133,8 @@ fn read_sized<R: Read>(
     read_rest(from, into, room - count)
 }
 
-/// Appends what the reader has left, which is likely to be `expected` bytes. It leaves `into` as it was where a
-/// read fails, and where more than `room` bytes are expected or left, which is a fault.
+/// Appends the rest of the reader, which probably has `expected` bytes. It fails if a read fails, or if more than
+/// `room` bytes are expected or left; then `into` is as before.
 pub(super) fn read_all<R: Read>(
     from: &mut R,
     into: &mut Vec<u8>,
@@ -155,7 +155,7 @@ pub(super) fn read_all<R: Read>(
     answer
 }
 
-/// Writes all the bytes, piece by piece. A writer that takes nothing of them has failed.
+/// Writes all the bytes, piece by piece. A writer that takes no byte has failed.
 pub(super) fn write_all<W: Write>(to: &mut W, bytes: &[u8]) -> Result<(), PutFault>
     ensures ok { OnOk result (Appends (W.contents to.old) (W.contents to.new) bytes.now) }
     ensures err { OnErr result (AppendsFront (W.contents to.old) (W.contents to.new) bytes.now) }

@@ -2,11 +2,11 @@
 ghost use Rattle.std.specs.Prelude.{◌≡◌, ◌-◌, ◌↔◌, IsTrue};
 ghost use Rattle.ports.specs.Counts.{counted, Counted};
 
-/// How often an object has failed, and which of its calls is to fail.
+/// How often a store or sink has failed, and which of its calls will fail.
 #[derive(Clone, Copy)]
 pub(super) struct FaultPlan {
     pub(super) faults: u64,
-    /// The call that fails, counted from the next one, which is 1; 0 is none.
+    /// The call that fails, counted from the next one, which is 1; 0 means none.
     pub(super) fails_in: u64,
 }
 
@@ -30,7 +30,7 @@ impl FaultPlan {
         fails_now
     }
 
-    /// Counts a fault, up to the last value of the count.
+    /// Counts a fault, up to the greatest value of the count.
     pub(super) fn counts_fault(&mut self)
         ensures after { self.new ≡ record self.old { faults = counted self.old.faults } }
         ensures rose { Counted self.old.faults self.new.faults }

@@ -9,9 +9,9 @@ use crate::{PutFault, Sink};
 use std::alloc::{AllocError, Global};
 use std::marker::Model;
 
-/// A stream of bytes in memory, for tests: it tells them all, and fails at the call that
-/// [`fail_at`](Self::fail_at) or [`fail_part`](Self::fail_part) names and at no other. A contract sees it as
-/// its bytes, its two counts, the number of the call that fails next, and what that call still appends.
+/// A stream of bytes in memory, for tests: it shows them all, and fails at the call that [`fail_at`](Self::fail_at)
+/// or [`fail_part`](Self::fail_part) names and at no other. A contract sees its bytes, its two counts, the number of
+/// the call that fails next, and how many bytes that call still appends.
 #[derive(Drop)]
 pub struct MemorySink {
     bytes: Vec<u8>,
@@ -61,23 +61,23 @@ impl MemorySink {
         self.plan.faults
     }
 
-    /// How often the sink has answered that there was no memory.
+    /// How often the sink has run out of memory.
     pub fn shortages(&self) -> u64
         ensures { result ≡ self.now.shortages }
     {
         self.shortages
     }
 
-    /// Makes the n-th call from now on fail and append nothing, where 1 is the next one and 0 is none.
+    /// Makes the n-th call from now on fail and append nothing; 1 is the next call, 0 means none.
     pub fn fail_at(&mut self, n: u64)
         ensures { self.new ≡ record self.old { fails_in = n; part = 0 } }
     {
         self.fail_part(n, 0);
     }
 
-    /// Makes the n-th call from now on append the first `k` bytes of its piece, or all where it has fewer,
-    /// and then fail. Only the number that was given last, here or to `fail_at`, stands. The call that fails
-    /// answers `OutOfMemory` where there is no memory for those `k` bytes.
+    /// Makes the n-th call from now on append the first `k` bytes of its piece, or all if it has fewer, and then
+    /// fail. The last call of this function or of `fail_at` decides. The failing call returns `OutOfMemory` if there
+    /// is no memory for those `k` bytes.
     pub fn fail_part(&mut self, n: u64, k: u64)
         ensures { self.new ≡ record self.old { fails_in = n; part = k } }
     {
@@ -85,7 +85,7 @@ impl MemorySink {
         self.part = k;
     }
 
-    /// Appends the bytes, and counts a want of memory.
+    /// Appends the bytes. If memory runs out, it counts that.
     fn append(&mut self, bytes: &[u8]) -> Result<(), PutFault>
         ensures ok { OnOk result (self.new ≡ record self.old { bytes = self.old.bytes ++ bytes.now }) }
         ensures err { OnErr result (self.new ≡ record self.old { shortages = counted self.old.shortages }) }
@@ -128,7 +128,7 @@ impl Sink for MemorySink {
     }
 }
 
-/// The first `count` bytes, or all where there are fewer.
+/// The first `count` bytes, or all if there are fewer.
 fn front(bytes: &[u8], count: u64) -> &[u8]
     ensures { result.now ≡ take count bytes.now }
 {

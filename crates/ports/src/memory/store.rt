@@ -12,9 +12,9 @@ use std::alloc::{AllocError, Global};
 use std::collections::BTreeMap;
 use std::marker::Model;
 
-/// Files in memory, for tests: it tells them all, and fails at the call that [`fail_at`](Self::fail_at)
-/// names, at each fetch of a name that is not there, and at no other call. A contract sees it as its files,
-/// the count of its faults, and the number of the call that fails next.
+/// Files in memory, for tests: it shows them all, and fails at the call that [`fail_at`](Self::fail_at) names, at each
+/// fetch of a name without a file, and at no other call. A contract sees its files, the count of its faults, and the
+/// number of the call that fails next.
 #[derive(Drop)]
 pub struct MemoryStore {
     alloc: Global,
@@ -38,7 +38,7 @@ impl Model for MemoryStore {
 }
 
 impl MemoryStore {
-    /// A store without files, which fails at no call.
+    /// A store without files, in which no call is set to fail.
     pub fn new(alloc: Global) -> Self
         ensures { result ≡ record { files = map.empty; faults = 0; fails_in = 0 } }
     {
@@ -49,7 +49,7 @@ impl MemoryStore {
         }
     }
 
-    /// Makes these bytes the file of that name. It is not counted among the calls, and cannot fail but for memory.
+    /// Makes these bytes the file of that name. This call is not counted, and fails only when memory runs out.
     pub fn add(&mut self, name: &str, bytes: &[u8]) -> Result<(), AllocError>
         ensures ok { OnOk result (self.new
             ≡ record self.old { files = map.insert self.old.files name.now bytes.now }) }
@@ -78,8 +78,8 @@ impl MemoryStore {
         self.plan.faults
     }
 
-    /// Makes the n-th call from now on fail, where 1 is the next one and 0 is none. Fetches and puts count
-    /// together, and only the number that was given last stands.
+    /// Makes the n-th call from now on fail; 1 is the next call, 0 means none. Fetches and puts count together, and
+    /// only the last number that was set counts.
     pub fn fail_at(&mut self, n: u64)
         ensures { self.new ≡ record self.old { fails_in = n } }
     {
