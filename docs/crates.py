@@ -1,0 +1,40 @@
+#!/usr/bin/env python3
+"""crates.py: prints the table of crates: each with the first sentence of its root file, src/lib.rt or src/main.rt."""
+import os
+import re
+
+TOP = os.path.dirname(os.path.dirname(os.path.abspath(__file__)))
+
+
+def names():
+    """The crates, as crates.txt has them."""
+    with open(f"{TOP}/crates.txt", encoding="utf-8") as file:
+        return sorted(line.split(":")[0].split()[0] for line in file if ":" in line.split("#")[0])
+
+
+def essay(name):
+    """The first paragraph of a crate's essay."""
+    at = f"{TOP}/crates/{name}/src"
+    with open(f"{at}/lib.rt" if os.path.exists(f"{at}/lib.rt") else f"{at}/main.rt", encoding="utf-8") as file:
+        words = []
+        for line in file:
+            if not line.startswith("//!") or not line[3:].strip():
+                break
+            words += line[3:].split()
+    return " ".join(words)
+
+
+def sentence(text):
+    """Its first sentence, without the brackets of a link."""
+    first = re.split(r"(?<=[a-z`)\]])\. |\.$", text)[0]
+    return re.sub(r"\[(`[^`]+`)\]", r"\1", first).replace("|", "\\|")
+
+
+def main():
+    print("\n| crate | what it is |\n|---|---|")
+    for name in names():
+        print(f"| `{name}` | {sentence(essay(name))} |")
+    print()
+
+
+main()
