@@ -1,5 +1,5 @@
 #!/usr/bin/env python3
-"""crates.py: prints the table of crates: each with the first sentence of its root file, src/lib.rt or src/main.rt."""
+"""crates.py: prints the table of crates, each with the first sentence of its root file (src/lib.rt or src/main.rt), up to a colon."""
 import os
 import re
 
@@ -25,8 +25,8 @@ def essay(name):
 
 
 def sentence(text):
-    """Its first sentence, without the brackets of a link."""
-    first = re.split(r"(?<=[a-z`)\]])\. |\.$", text)[0]
+    """Its first sentence, up to a colon, without the brackets of a link."""
+    first = re.split(r"(?<=[a-z0-9`)\]])(?:\. |\.$|: )", text)[0]
     return re.sub(r"\[(`[^`]+`)\]", r"\1", first).replace("|", "\\|")
 
 
