@@ -8,7 +8,7 @@ In a document three things are run, by sh, with the program TLSLD as `tlsld`:
   behind it are what it prints, errors too. A line `...` stands for any lines. What stands behind two spaces and `# ` is a remark.
 - A block that begins with the line ```sh FOLDER, pasted whole into one shell. The next block has what it prints, errors not.
 - What stands between the lines `<!-- made by COMMAND -->` and `<!-- end -->`: what the command prints at the top of the repository.
-  With --write what it prints is put there.
+  With --write what it prints is put there. A command that ends with status 77 lacks what it needs, and is left out.
 
 Blocks of other kinds are not run. Without names it takes README.md, the documents beside it, and those of the examples.
 """
@@ -22,6 +22,7 @@ import tempfile
 
 TOP = os.path.dirname(os.path.dirname(os.path.abspath(__file__)))
 REMARK = re.compile(r" {2,}# .*$")
+LACKS = 77
 
 
 class Case:
@@ -75,11 +76,11 @@ def matches(shown, printed):
 
 
 def run(command, room, tools):
-    """What a command prints, line by line."""
+    """What a command prints, line by line; nothing is known where it lacks what it needs."""
     paths = {**os.environ, "PATH": f"{tools}:{os.environ['PATH']}", "LC_ALL": "C"}
     ran = subprocess.run(["sh", "-c", command], cwd=room, env=paths, stdout=subprocess.PIPE, stderr=subprocess.STDOUT,
-        timeout=120)
-    return ran.stdout.decode(errors="replace").splitlines()
+        timeout=300)
+    return None if ran.returncode == LACKS else ran.stdout.decode(errors="replace").splitlines()
 
 
 def room_for(folder, above):
@@ -98,7 +99,7 @@ def wrong_in(block, tools):
         room = room_for(block[0].folder, above)
         for case in block:
             printed = run(case.command, room, tools)
-            if not matches(case.shown, printed):
+            if printed is not None and not matches(case.shown, printed):
                 yield case, printed
 
 
@@ -119,7 +120,9 @@ def stale_parts(path, lines, tools, write):
     parts, stale = list(made_parts(lines)), []
     for start, end, command in reversed(parts):
         printed = run(command, TOP, tools)
-        if lines[start:end] != printed:
+        if printed is None:
+            print(f"{os.path.relpath(path, TOP)}:{start}: left out, since something is not here that it needs: {command}")
+        elif lines[start:end] != printed:
             stale.append((Case(start, "top", command, lines[start:end]), printed))
             lines[start:end] = printed
     if stale and write:
