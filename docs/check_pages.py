@@ -55,7 +55,7 @@ def bad_links(path, text):
 
 
 def bad_names(path, text, words):
-    if not any(it in os.path.basename(path) for it in NAMED):
+    if path not in PAGES or not any(it in os.path.basename(path) for it in NAMED):
         return
     for name in sorted(set(re.findall(r"`([A-Za-z_][\w:./]*\w)`", FENCE.sub("", text)))):
         for word in WORD.findall(name):

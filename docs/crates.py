@@ -27,14 +27,15 @@ def essay(name):
 def sentence(text):
     """Its first sentence, up to a colon, without the brackets of a link."""
     first = re.split(r"(?<=[a-z0-9`)\]])(?:\. |\.$|: )", text)[0]
-    return re.sub(r"\[(`[^`]+`)\]", r"\1", first).replace("|", "\\|")
+    return re.sub(r"\[(`[^`]+`)\]", r"\1", first)
 
 
 def main():
-    print("\n| crate | what it is |\n|---|---|")
+    wide = max(map(len, names())) + 2
+    print("```text")
     for name in names():
-        print(f"| `{name}` | {sentence(essay(name))} |")
-    print()
+        print(f"{name:{wide}}{sentence(essay(name))}")
+    print("```")
 
 
 main()
