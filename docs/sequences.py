@@ -188,14 +188,22 @@ def forms(_):
     print()
 
 
+def chosen(room, name):
+    """The choice that `sites` prints for a form of the program that was linked last."""
+    return next(it.split()[4] for it in room.run("tlsld", "sites", "job", "app")[1].splitlines() if it.split()[3] == name)
+
+
 def places(room):
-    head("form", "its variable", "choice", "bytes", "instructions")
+    head("form", "its variable", "in its place", "bytes", "instructions")
     for name in FORMS:
+        room.program(BEFORE.get(name, []), FORMS[name], [], True)
+        written = room.written()
+        row(code(name), "", "as it is written", code(written.bytes), code(written.text))
         for own, words in bindings(name):
             room.program(BEFORE.get(name, []), FORMS[name], [], own)
             made = room.by_tlsld(own)
-            choice = next(it.split()[4] for it in room.run("tlsld", "sites", "job", "app")[1].splitlines() if it.split()[3] == name)
-            row(code(name), words, code(choice), code(made.bytes), code(made.text))
+            choice = chosen(room, name)
+            row("", words, code(choice), *(("", "") if choice == "keep" else (code(made.bytes), code(made.text))))
     print()
 
 
