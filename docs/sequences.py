@@ -101,7 +101,7 @@ class Room:
 
     def read(self, name, start, count, *words):
         """The code of a file from a place on."""
-        told = self.run("objdump", "-D", "-w", *words, f"--start-address={start:#x}", f"--stop-address={start + count:#x}", name)[1]
+        told = self.run("objdump", "-D", "-w", "-z", *words, f"--start-address={start:#x}", f"--stop-address={start + count:#x}", name)[1]
         return Code(re.findall(r"^ *[0-9a-f]+:\t((?:[0-9a-f]{2} )+) *\t?(.*)$", told, re.M))
 
     def written(self):
@@ -114,7 +114,7 @@ class Room:
         self.assemble("lib", DATA)
         status, said = self.run("tlsld", "link", "job", "app", "out", *words)
         if status:
-            return said.split()[5 if status == 6 else 2]
+            return said.split()[-1 if status == 6 else 2]
         begins = next(int(it.split()[1], 16) for it in self.run("tlsld", "show", "out")[1].splitlines() if it.endswith(" here"))
         with open(f"{self.at}/out", "rb") as file:
             file.seek(4096 + begins - 0x400000)
@@ -131,6 +131,17 @@ class Room:
         if status:
             return "crashes" if re.search("internal error|PLEASE submit", said) else "refuses"
         return self.read("made", *self.place("made"))
+
+    def code_of(self, name):
+        """The bytes of a file's code."""
+        self.run("objcopy", "-O", "binary", "-j", ".text", name, "code")
+        with open(f"{self.at}/code", "rb") as file:
+            return file.read()
+
+    def changes_others(self):
+        """Whether a linked program's code is another one outside the sequence."""
+        ours, theirs, (start, count) = self.code_of("main.o"), self.code_of("made"), self.place("main.o")
+        return any(old != new for at, (old, new) in enumerate(zip(ours, theirs)) if not start <= at < start + count)
 
     def verdict(self, before, sequence, after):
         """The last word of what `check` says of code that runs a sequence."""
@@ -244,28 +255,37 @@ def headed(room):
 
 def linkers(room):
     head("form", "its variable", "tlsld", *headed(room))
+    same = []
     for name in FORMS:
         for own, words in bindings(name):
             room.program(BEFORE.get(name, []), FORMS[name], [], own)
             ours = room.by_tlsld(own).text
-            row(code(name), words, code(ours), *[made_as(room.by_linker(it, own), ours, "the same") for it in LINKERS])
-    print()
+            cells = [made_as(room.by_linker(it, own), ours, "the same") for it in LINKERS]
+            if all(it == "the same" for it in cells):
+                same.append(f"{code(name)} of {words} variable")
+            else:
+                row(code(name), words, code(ours), *cells)
+    print(f"\nAll write the same for {', '.join(same)}.\n")
 
 
-def odd_row(room, name):
+def odd_row(room, name, own):
     written = room.written().text
-    made = room.by_tlsld(True)
-    row(name, code(written), code(made if isinstance(made, str) else made.text),
-        *[made_as(room.by_linker(it, True), written, "keeps it") for it in LINKERS])
+    made = room.by_tlsld(own)
+    cells = []
+    for linker in LINKERS:
+        theirs = room.by_linker(linker, own)
+        breaks = not isinstance(theirs, str) and room.changes_others()
+        cells.append(made_as(theirs, written, "keeps it") + (", and changes bytes outside" if breaks else ""))
+    row(name, code(written), code(made if isinstance(made, str) else made.text), *cells)
 
 
 def odd(room):
     head("what stands there", "instructions", "tlsld", *headed(room))
     for name, sequence in ODD.items():
         room.program([], sequence, [], True)
-        odd_row(room, name)
+        odd_row(room, name, True)
     room.program([], FORMS["ld"], [], False)
-    odd_row(room, "`ld`, and the program has no variable")
+    odd_row(room, "`ld` in a program without variables", False)
     print()
 
 
