@@ -192,11 +192,11 @@ def forms(_):
     kinds = {"TlsGd": "TLSGD", "TlsLd": "TLSLD", "GotTpOff": "GOTTPOFF", "GotPc32TlsDesc": "GOTPC32_TLSDESC",
         "TlsDescCall": "TLSDESC_CALL"}
     calls = {"Direct": "PLT32 or PC32", "Indirect": "GOTPCREL, GOTPCRELX or REX_GOTPCRELX"}
-    head("form", "bytes", "relocations", "in assembler")
+    print("\n```text")
     for name, cells, kind, offsets, call in source_rows():
         second = f"; {calls[call]} at {offsets[1]}" if call else ""
-        row(code(name), code(cells), f"{kinds[kind]} at {offsets[0]}{second}", code("; ".join(FORMS[name])))
-    print()
+        print(f"{name:11}{cells:41}{kinds[kind]} at {offsets[0]}{second}")
+    print("```\n")
 
 
 def chosen(room, name):
@@ -205,11 +205,10 @@ def chosen(room, name):
 
 
 def places(room):
-    head("form", "its variable", "in its place", "bytes", "instructions")
+    head("form", "its variable", "in its place", "bytes", "in assembler")
     for name in FORMS:
         room.program(BEFORE.get(name, []), FORMS[name], [], True)
-        written = room.written()
-        row(code(name), "", "as it is written", code(written.bytes), code(written.text))
+        row(code(name), "", "as written", code(room.written().bytes), code("; ".join(FORMS[name])))
         for own, words in bindings(name):
             room.program(BEFORE.get(name, []), FORMS[name], [], own)
             made = room.by_tlsld(own)
@@ -229,18 +228,26 @@ def registers(room):
     print("```\n")
 
 
+def unknown_after(room, name):
+    """What is unknown after a form: the cells of its row."""
+    known = [f"movq $1, %{it}" for it in REGISTERS if it != "rsp"] + ["movq %rsp, -8(%rsp)"]
+    before = [*known, *BEFORE.get(name, []), "testq %rsp, %rsp"]
+    lost = [f"%{it}" for it in REGISTERS if it not in ("rax", "rsp")
+        and room.verdict(before, FORMS[name], [f"cmpq $1, %{it}"]) == "undefined"]
+    flags = [it for it, jump in FLAGS.items() if room.verdict(before, FORMS[name], [f"{jump} 1f", "1:"]) == "flags"]
+    answer = room.verdict(before, FORMS[name], ["cmpq $1, %rax"])
+    stack = room.verdict(before, FORMS[name], ["movq -8(%rsp), %rdx", "cmpq $1, %rdx"])
+    return ("a number" if answer == "clean" else f"`{answer}`", ", ".join(lost) or "none", ", ".join(flags) or "none",
+        "below %rsp" if stack == "undefined" else "none")
+
+
 def left(room):
     head("form", "%rax", "registers", "flags", "stack")
-    known = [f"movq $1, %{it}" for it in REGISTERS if it != "rsp"] + ["movq %rsp, -8(%rsp)"]
-    for name, sequence in FORMS.items():
-        before = [*known, *BEFORE.get(name, []), "testq %rsp, %rsp"]
-        lost = [f"%{it}" for it in REGISTERS if it not in ("rax", "rsp")
-            and room.verdict(before, sequence, [f"cmpq $1, %{it}"]) == "undefined"]
-        flags = [it for it, jump in FLAGS.items() if room.verdict(before, sequence, [f"{jump} 1f", "1:"]) == "flags"]
-        answer = room.verdict(before, sequence, ["cmpq $1, %rax"])
-        stack = room.verdict(before, sequence, ["movq -8(%rsp), %rdx", "cmpq $1, %rdx"])
-        row(code(name), "a number" if answer == "clean" else f"`{answer}`", ", ".join(lost) or "none", ", ".join(flags) or "none",
-            "below %rsp" if stack == "undefined" else "none")
+    rows = {}
+    for name in FORMS:
+        rows.setdefault(unknown_after(room, name), []).append(code(name))
+    for cells, names in rows.items():
+        row(", ".join(names), *cells)
     print()
 
 
