@@ -6,6 +6,7 @@ In a document three things are run, by sh, with the program TLSLD as `tlsld`:
 - A block that begins with the line ```console FOLDER, command by command, in a copy of that folder of the repository (`.` is an
   empty one, and `top` the repository itself, for commands that only read). A line that begins with `$ ` is a command, and the lines
   behind it are what it prints, errors too. A line `...` stands for any lines. What stands behind two spaces and `# ` is a remark.
+  A line `$ cd FOLDER` tells a reader of the folder; it is not run.
 - A block that begins with the line ```sh FOLDER, pasted whole into one shell. The next block has what it prints, errors not.
 - What stands between the lines `<!-- made by COMMAND -->` and `<!-- end -->`: what the command prints at the top of the repository.
   With --write what it prints is put there. A command that ends with status 77 lacks what it needs, and is left out.
@@ -49,6 +50,8 @@ def console(number, folder, inside):
     """The commands of a block that is run command by command."""
     found = []
     for at, line in enumerate(inside, number + 1):
+        if line == f"$ cd {folder}":
+            continue
         if line.startswith("$ "):
             found.append(Case(at, folder, line[2:], []))
         elif found:
