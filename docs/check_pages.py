@@ -1,9 +1,9 @@
 #!/usr/bin/env python3
-"""check_pages.py: says what is wrong with the documents' text: links that lead nowhere, names of code that are not there, long lines.
+"""check_pages.py: says what is wrong with the documents' text: links that lead nowhere, names that are not there, long lines.
 
-A name is what stands between backticks and is one word, or words joined by `::`, `.` or `/`: each word must stand in the sources, the
-scripts or the examples of the repository, or be a path there. Lines have at most 100 columns but rows of tables, lines with a link, and
-parts that are made. README has at most 180 lines, and the pages in docs/ have at most 25,000 words in all.
+A name is what stands between backticks and is one word, or words joined by `::`, `.` or `/`: each word must stand in the sources,
+the scripts or the examples of the repository, or be a path there. Lines have at most 100 columns but rows of tables, lines with a
+link, and parts that are made. README names each crate in at most 180 lines; the pages in docs/ have at most 25,000 words in all.
 """
 import glob
 import os
@@ -72,13 +72,19 @@ def long_lines(text):
             yield f"line {number} has {len(line)} columns"
 
 
+def unnamed_crates(text):
+    """The crates that README does not name."""
+    names = re.findall(r"^(\w+)[^#\n]*:", read(f"{TOP}/crates.txt"), re.M)
+    return [f"{it} is not named" for it in names if f"`{it}`" not in text]
+
+
 def main():
     words, wrong, count = known_words(), 0, 0
     for path in [*PAGES, *EXAMPLES]:
         text = read(path)
         told = [*bad_links(path, text), *bad_names(path, text, words), *(long_lines(text) if path in PAGES else [])]
-        if path == PAGES[0] and len(text.splitlines()) > 180:
-            told.append(f"{len(text.splitlines())} lines")
+        if path == PAGES[0]:
+            told += unnamed_crates(text) + ([f"{len(text.splitlines())} lines"] if len(text.splitlines()) > 180 else [])
         count += len(text.split()) if path in PAGES[1:] else 0
         wrong += len(told)
         for it in told:

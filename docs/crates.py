@@ -1,5 +1,5 @@
 #!/usr/bin/env python3
-"""crates.py: prints the table of crates, each with the first sentence of its root file (src/lib.rt or src/main.rt), up to a colon."""
+"""crates.py: prints the table of crates, each with the first sentence of its root file up to a colon (src/lib.rt, src/main.rt)."""
 import os
 import re
 

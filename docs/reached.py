@@ -1,9 +1,9 @@
 #!/usr/bin/env python3
 """reached.py [FILE]: which files of definitions the clauses of a source file reach, by what these files use of one another.
 
-Prints them by kind and crate, each with its lines; then how many files and lines there are of each kind. Without FILE it takes the
-top calls, crates/commands/src/top.rt. A file counts whole, also where one of its definitions is reached. Which kind a file is of,
-docs/DEFINITIONS.md says: tables and faults are those that it lists under these headings.
+Prints them by kind and crate, each with its lines; then how many files and lines there are of each kind. Without FILE it takes
+the top calls, crates/commands/src/top.rt. A file counts whole, also where one of its definitions is reached. Which kind a file is
+of, docs/DEFINITIONS.md says: tables and faults are those that it lists under these headings.
 """
 import os
 import re
@@ -68,7 +68,8 @@ def main():
     for kind, crates in groups.items():
         files = [it for files in crates.values() for it in files]
         print(f"{kind}: {len(files)} files, {sum(lines for _, lines in files):,} lines")
-    print(f"{len(found)} files of {len({it for crates in groups.values() for it in crates})} crates, {sum(found.values()):,} lines")
+    crates = {it for group in groups.values() for it in group}
+    print(f"{len(found)} files of {len(crates)} crates, {sum(found.values()):,} lines")
 
 
 main()

@@ -4,12 +4,13 @@
 In a document three things are run, by sh, with the program TLSLD as `tlsld`:
 
 - A block that begins with the line ```console FOLDER, command by command, in a copy of that folder of the repository (`.` is an
-  empty one, and `top` the repository itself, for commands that only read). A line that begins with `$ ` is a command, and the lines
-  behind it are what it prints, errors too. A line `...` stands for any lines. What stands behind two spaces and `# ` is a remark.
+  empty one, and `top` the repository itself, for commands that only read). A line that begins with `$ ` is a command, and the
+  next lines are what it prints, errors too. A line `...` stands for any lines. Two spaces and `# ` begin a remark.
   A line `$ cd FOLDER` tells a reader of the folder; it is not run.
 - A block that begins with the line ```sh FOLDER, pasted whole into one shell. The next block has what it prints, errors not.
-- What stands between the lines `<!-- made by COMMAND -->` and `<!-- end -->`: what the command prints at the top of the repository.
-  With --write what it prints is put there. A command that ends with status 77 lacks what it needs, and is left out.
+  It is left out where the program is not built, since it would build it.
+- What stands between the lines `<!-- made by COMMAND -->` and `<!-- end -->`: what the command prints at the top of the
+  repository. With --write that is put there. A command that ends with status 77 lacks what it needs, and is left out.
 
 Blocks of other kinds are not run. Without names it takes README.md, the documents beside it, and those of the examples.
 """
@@ -22,6 +23,7 @@ import sys
 import tempfile
 
 TOP = os.path.dirname(os.path.dirname(os.path.abspath(__file__)))
+BUILT = f"{TOP}/crates/tlsld/out/tlsld"
 REMARK = re.compile(r" {2,}# .*$")
 LACKS = 77
 
@@ -65,7 +67,7 @@ def blocks(lines):
     for at, (number, words, inside) in enumerate(all_of):
         if re.match(r"console \S+$", words):
             yield console(number, words.split()[1], inside)
-        elif re.match(r"sh \S+$", words):
+        elif re.match(r"sh \S+$", words) and os.path.exists(BUILT):
             yield [Case(number, words.split()[1], "exec 2>/dev/null\n" + "\n".join(inside), all_of[at + 1][2])]
 
 
@@ -147,7 +149,7 @@ def documents():
 
 def main():
     words = [it for it in sys.argv[1:] if it != "--write"]
-    built = os.path.abspath(words[0] if words else f"{TOP}/crates/tlsld/out/tlsld")
+    built = os.path.abspath(words[0] if words else BUILT)
     ran = failed = 0
     with tempfile.TemporaryDirectory() as tools:
         os.symlink(built, f"{tools}/tlsld")

@@ -101,7 +101,8 @@ class Room:
 
     def read(self, name, start, count, *words):
         """The code of a file from a place on."""
-        told = self.run("objdump", "-D", "-w", "-z", *words, f"--start-address={start:#x}", f"--stop-address={start + count:#x}", name)[1]
+        bounds = [f"--start-address={start:#x}", f"--stop-address={start + count:#x}"]
+        told = self.run("objdump", "-D", "-w", "-z", *words, *bounds, name)[1]
         return Code(re.findall(r"^ *[0-9a-f]+:\t((?:[0-9a-f]{2} )+) *\t?(.*)$", told, re.M))
 
     def written(self):
