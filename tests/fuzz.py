@@ -56,7 +56,7 @@ class Sum:
 def run_slice(program, kind, count, seed):
     """Runs one slice; returns how it ended, its seconds and the greatest memory of its process in KiB."""
     begun = time.time()
-    process = subprocess.Popen([program, kind, str(count), str(seed)], cwd=f"{CRATE}/data", stdout=subprocess.PIPE, stderr=subprocess.PIPE, text=True)
+    process = subprocess.Popen([program, str(count), str(seed), kind], cwd=f"{CRATE}/data", stdout=subprocess.PIPE, stderr=subprocess.PIPE, text=True)
     out, err = process.stdout.read(), process.stderr.read()
     _, status, usage = os.wait4(process.pid, 0)
     process.returncode = os.waitstatus_to_exitcode(status)

@@ -1,6 +1,6 @@
-//! Changes jobs, objects and images, and runs every command over them in memory: `command_fuzz KIND COUNT SEED`, where
-//! KIND is `jobs`, `objects` or `images`. Each input is a sample among the crate's data with one to three changes
-//! (`input_changes`), drawn from the seed, so that each run with these words is the same.
+//! Changes jobs, objects and images, and runs every command over them in memory: `command_fuzz COUNT SEED KIND..`, where
+//! KIND is `jobs`, `objects` or `images`, makes COUNT inputs of each kind. Each is a sample among the crate's data with
+//! one to three changes (`input_changes`), drawn from the seed, so that each run with these words is the same.
 //!
 //! That no input crashes a command is proved, and so is most of what is tested here. This program tries what the proofs
 //! stand on: the definitions, which might say of an input what nobody meant; the two compilers, whose code it is that
@@ -48,20 +48,27 @@ use std::sync::Wait;
 use std::thread::Threads;
 use tally::Tally;
 
-/// Tries so many changed inputs of a kind.
+/// How many inputs are tried, and from which seed.
+#[derive(Clone, Copy)]
+struct Plan {
+    count: u64,
+    seed: u64,
+}
+
+/// Tries changed inputs of a kind.
 fn try_inputs<R: Threads + Wait + Sync>(
     rt: &R,
     bench: &mut Bench,
     samples: &Samples,
     kind: Kind,
-    count: u64,
-    seed: u64,
+    plan: Plan,
 ) -> Result<()> {
+    let seed = plan.seed;
     let mut generator = Generator::new(seed);
     let images = linked_images(rt, bench, samples)?;
     bench.tally = Tally::new(bench.alloc)?;
     bench.files.add("job", IMAGE_JOB)?;
-    for number in 0..count {
+    for number in 0..plan.count {
         let tried = match kind {
             Kind::Jobs => try_changed_job(rt, bench, &mut generator, samples),
             Kind::Objects => try_changed_object(rt, bench, &mut generator, samples),
@@ -75,8 +82,6 @@ fn try_inputs<R: Threads + Wait + Sync>(
 fn main(rt: HostRuntime) -> Result<()> {
     let alloc = rt.alloc();
     let mut words = env::args(&rt)?.skip(1);
-    let name = words.next().context("which kind")?;
-    let kind = kind_of(name.as_str()).context("no such kind")?;
     let count: u64 = words.next().context("how many inputs")?.parse()?;
     let seed: u64 = words.next().context("which seed")?.parse()?;
     let mut store = HostStore::new(&rt, alloc);
@@ -84,7 +89,10 @@ fn main(rt: HostRuntime) -> Result<()> {
     let mut bench = Bench::new(alloc)?;
     lay_objects(&mut bench, &samples)?;
     println!(rt; "seed {seed}")?;
-    try_inputs(&rt, &mut bench, &samples, kind, count, seed)?;
-    bench.tally.print(&rt, name.as_str())?;
+    for name in words {
+        let kind = kind_of(name.as_str()).context("no such kind")?;
+        try_inputs(&rt, &mut bench, &samples, kind, Plan { count, seed })?;
+        bench.tally.print(&rt, name.as_str())?;
+    }
     Ok(())
 }

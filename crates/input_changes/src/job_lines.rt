@@ -195,9 +195,9 @@ impl JobLines {
         let mut is_said = false;
         for number in 0..self.lines.len() {
             let line = self.copy(number)?;
-            if line.starts_with("fuel ") {
+            if let Some(word) = fuel_of(line.as_str()) {
                 is_said = true;
-                if asks_for_more(line.as_str(), most) {
+                if asks_for_more(word, most) {
                     self.set(number, limit.clone()?);
                 }
             }
@@ -212,13 +212,19 @@ impl JobLines {
 /// How often lines are repeated at most: more often than a job may load modules.
 const MOST_TIMES: u64 = 4_100;
 
-/// Whether a line of fuel asks for more than this, or may.
-fn asks_for_more(line: &str, most: u64) -> bool {
-    match line.split(' ').nth(1) {
-        None => false,
-        Some(word) => match word.parse::<u64>() {
-            Ok(number) => number > most,
-            Err(_) => word.starts_with("0x") && word.len() > 4,
-        },
+/// The number in a line of fuel.
+fn fuel_of(line: &str) -> Option<&str> {
+    let mut words = line.split(' ').filter(|word| !word.is_empty());
+    if words.next() != Some("fuel") {
+        return None;
+    }
+    words.next()
+}
+
+/// Whether a number is greater than this, or may be.
+fn asks_for_more(word: &str, most: u64) -> bool {
+    match word.parse::<u64>() {
+        Ok(number) => number > most,
+        Err(_) => word.starts_with("0x") && word.len() > 4,
     }
 }
