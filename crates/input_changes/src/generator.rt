@@ -1,0 +1,42 @@
+//! A fixed sequence of numbers that look random: a linear congruential generator (Knuth, "The Art of Computer
+//! Programming", 3.3.4, that of MMIX).
+
+ghost use Rattle.std.specs.Prelude.{◌<◌};
+
+const FACTOR: u64 = 6_364_136_223_846_793_005;
+
+const SUMMAND: u64 = 1_442_695_040_888_963_407;
+
+/// Where in the sequence it is.
+#[derive(Drop)]
+pub struct Generator {
+    state: u64,
+}
+
+impl Generator {
+    /// The sequence that belongs to a seed. Neighbouring seeds begin far apart.
+    pub fn new(seed: u64) -> Generator {
+        Generator {
+            state: seed.wrapping_mul(FACTOR).wrapping_add(SUMMAND),
+        }
+    }
+
+    /// The next number below an end; 0 where there is none. The low bits of the state repeat soon, so the high ones are
+    /// taken.
+    pub fn below(&mut self, end: u64) -> u64
+        ensures { 0 < end → result < end }
+    {
+        self.state = self.state.wrapping_mul(FACTOR).wrapping_add(SUMMAND);
+        if end == 0 { 0 } else { (self.state >> 32) % end }
+    }
+
+    /// Whether something happens that happens once in so many times.
+    pub fn is_one_in(&mut self, times: u64) -> bool {
+        self.below(times) == 0
+    }
+
+    /// One of these, if there is any.
+    pub fn pick<T: Copy>(&mut self, items: &[T]) -> Option<T> {
+        items.get(self.below(items.len() as u64) as usize).copied()
+    }
+}

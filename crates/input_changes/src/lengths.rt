@@ -1,0 +1,50 @@
+//! Changes that any file may have: of its length, or of any byte.
+
+use crate::fields::set_byte;
+use crate::generator::Generator;
+use crate::numbers::other_byte;
+use std::alloc::AllocError;
+
+/// Changes the byte at a place, if the file goes so far.
+pub(crate) fn change_byte(generator: &mut Generator, bytes: &mut [u8], place: u64) -> Option<()> {
+    let old = *bytes.get(place as usize)?;
+    set_byte(bytes, place, other_byte(generator, old));
+    Some(())
+}
+
+/// Changes any byte.
+pub(crate) fn change_any_byte(generator: &mut Generator, bytes: &mut [u8]) -> Option<()> {
+    let place = generator.below(bytes.len() as u64);
+    change_byte(generator, bytes, place)
+}
+
+/// Cuts a file somewhere, or its last bytes.
+fn cut(generator: &mut Generator, bytes: &mut Vec<u8>) {
+    let length = bytes.len() as u64;
+    let dropped = if generator.is_one_in(2) {
+        generator.below(length)
+    } else {
+        generator.below(32)
+    };
+    bytes.truncate(length.saturating_sub(dropped) as usize);
+}
+
+/// Adds bytes behind a file.
+fn extend(generator: &mut Generator, bytes: &mut Vec<u8>) -> Result<(), AllocError> {
+    for _ in 0..generator.below(64) {
+        bytes.push(generator.below(2) as u8)?;
+    }
+    Ok(())
+}
+
+/// Makes a file shorter or longer.
+pub(crate) fn change_length(
+    generator: &mut Generator,
+    bytes: &mut Vec<u8>,
+) -> Result<(), AllocError> {
+    if generator.is_one_in(3) {
+        return extend(generator, bytes);
+    }
+    cut(generator, bytes);
+    Ok(())
+}

@@ -1,0 +1,246 @@
+//! Changes of objects: ELF files of 64 bits, little-endian, with sections.
+
+use crate::fields::Field;
+use crate::generator::Generator;
+use crate::lengths::{change_any_byte, change_byte, change_length};
+use crate::tables::Table;
+use std::alloc::AllocError;
+
+/// The fields of the file's header that say what the file is.
+const IDENTITY: [Field; 12] = [
+    Field(0, 1),
+    Field(4, 1),
+    Field(5, 1),
+    Field(6, 1),
+    Field(7, 1),
+    Field(16, 2),
+    Field(18, 2),
+    Field(20, 4),
+    Field(24, 8),
+    Field(48, 4),
+    Field(52, 2),
+    Field(54, 2),
+];
+
+/// The fields of the file's header that say where its tables are.
+const PLACES: [Field; 6] = [
+    Field(32, 8),
+    SECTION_TABLE,
+    Field(56, 2),
+    Field(58, 2),
+    SECTION_COUNT,
+    Field(62, 2),
+];
+
+const SECTION_TABLE: Field = Field(40, 8);
+
+const SECTION_COUNT: Field = Field(60, 2);
+
+/// The fields of a section's header.
+const SECTION: [Field; 10] = [
+    Field(0, 4),
+    TYPE,
+    Field(8, 8),
+    Field(16, 8),
+    OFFSET,
+    SIZE,
+    Field(40, 4),
+    INFO,
+    Field(48, 8),
+    Field(56, 8),
+];
+
+const TYPE: Field = Field(4, 4);
+
+const OFFSET: Field = Field(24, 8);
+
+const SIZE: Field = Field(32, 8);
+
+const INFO: Field = Field(44, 4);
+
+/// The fields of a symbol.
+const SYMBOL: [Field; 6] = [
+    Field(0, 4),
+    Field(4, 1),
+    Field(5, 1),
+    Field(6, 2),
+    Field(8, 8),
+    Field(16, 8),
+];
+
+/// The fields of a relocation: its place, type, symbol and addend.
+const RELOCATION: [Field; 4] = [PLACE, Field(8, 4), Field(12, 4), Field(16, 8)];
+
+const PLACE: Field = Field(0, 8);
+
+/// Types of sections: of symbols, of names, and of relocations.
+const SYMBOLS: u64 = 2;
+
+const NAMES: u64 = 3;
+
+const RELOCATIONS: u64 = 4;
+
+/// The size of a symbol, and of a relocation.
+const ENTRY: u64 = 24;
+
+/// How many bytes of a table are copied at most.
+const LARGEST_COPY: u64 = 1 << 16;
+
+/// The headers of sections.
+fn sections(bytes: &[u8]) -> Table {
+    Table {
+        at: SECTION_TABLE.value(bytes),
+        count: SECTION_COUNT.value(bytes),
+        size: 64,
+    }
+}
+
+/// The header of the file, as a table of one entry.
+fn header() -> Table {
+    Table {
+        at: 0,
+        count: 1,
+        size: 64,
+    }
+}
+
+/// The table that a section of this type has.
+fn table_of(generator: &mut Generator, bytes: &[u8], kind: u64) -> Option<Table> {
+    let number = sections(bytes).any_with(generator, bytes, TYPE, kind)?;
+    Some(table_in(bytes, number))
+}
+
+/// The table that a section has.
+fn table_in(bytes: &[u8], section: u64) -> Table {
+    Table {
+        at: sections(bytes).value(bytes, section, OFFSET),
+        count: sections(bytes).value(bytes, section, SIZE) / ENTRY,
+        size: ENTRY,
+    }
+}
+
+/// Gives a field of a section's header another number, or moves the whole.
+fn change_section(generator: &mut Generator, bytes: &mut [u8]) -> Option<()> {
+    let table = sections(bytes);
+    if generator.is_one_in(12) {
+        return table.move_entry(generator, bytes);
+    }
+    table.change_field(generator, bytes, &SECTION)
+}
+
+/// Gives a field of a symbol another number, or moves the whole.
+fn change_symbol(generator: &mut Generator, bytes: &mut [u8]) -> Option<()> {
+    let table = table_of(generator, bytes, SYMBOLS)?;
+    if generator.is_one_in(8) {
+        return table.move_entry(generator, bytes);
+    }
+    table.change_field(generator, bytes, &SYMBOL)
+}
+
+/// Gives a field of a relocation another number, or moves the whole.
+fn change_relocation(generator: &mut Generator, bytes: &mut [u8]) -> Option<()> {
+    let table = table_of(generator, bytes, RELOCATIONS)?;
+    if generator.is_one_in(4) {
+        return table.move_entry(generator, bytes);
+    }
+    table.change_field(generator, bytes, &RELOCATION)
+}
+
+/// Changes a byte of code next to where a relocation stands.
+fn change_site(generator: &mut Generator, bytes: &mut [u8]) -> Option<()> {
+    let sections = sections(bytes);
+    let section = sections.any_with(generator, bytes, TYPE, RELOCATIONS)?;
+    let table = table_in(bytes, section);
+    let relocation = table.any(generator)?;
+    let target = sections.value(bytes, section, INFO);
+    let code = sections.value(bytes, target, OFFSET);
+    let place = code.saturating_add(table.value(bytes, relocation, PLACE));
+    let near = place.saturating_add(generator.below(16)).saturating_sub(4);
+    change_byte(generator, bytes, near)
+}
+
+/// Changes a byte of a name.
+fn change_name(generator: &mut Generator, bytes: &mut [u8]) -> Option<()> {
+    let sections = sections(bytes);
+    let section = sections.any_with(generator, bytes, TYPE, NAMES)?;
+    let start = sections.value(bytes, section, OFFSET);
+    let length = sections.value(bytes, section, SIZE);
+    let place = start.saturating_add(generator.below(length));
+    change_byte(generator, bytes, place)
+}
+
+/// Copies bytes of a file behind its end.
+fn append_copy(bytes: &mut Vec<u8>, from: u64, length: u64) -> Result<(), AllocError> {
+    for step in 0..length.min(LARGEST_COPY) {
+        let Some(byte) = bytes.get(from.saturating_add(step) as usize).copied() else {
+            return Ok(());
+        };
+        bytes.push(byte)?;
+    }
+    Ok(())
+}
+
+/// Moves a section's table behind the file, with one of its entries doubled at the end.
+fn double_entry(
+    generator: &mut Generator,
+    bytes: &mut Vec<u8>,
+    section: u64,
+) -> Result<(), AllocError> {
+    let table = table_in(bytes, section);
+    let Some(doubled) = table.any(generator) else {
+        return Ok(());
+    };
+    let start = bytes.len() as u64;
+    let size = table.count.saturating_mul(ENTRY);
+    append_copy(bytes, table.at, size)?;
+    append_copy(bytes, table.place(doubled), ENTRY)?;
+    let sections = sections(bytes);
+    sections.field(section, OFFSET).set(bytes, start);
+    let longer = size.saturating_add(ENTRY);
+    sections.field(section, SIZE).set(bytes, longer);
+    Ok(())
+}
+
+/// Drops the last entry of a section's table.
+fn drop_entry(bytes: &mut [u8], section: u64) {
+    let size = sections(bytes).field(section, SIZE);
+    let shorter = size.value(bytes).saturating_sub(ENTRY);
+    size.set(bytes, shorter);
+}
+
+/// Gives a table of relocations or symbols one entry more or one less.
+fn resize_table(generator: &mut Generator, bytes: &mut Vec<u8>) -> Result<(), AllocError> {
+    let kind = if generator.is_one_in(3) {
+        SYMBOLS
+    } else {
+        RELOCATIONS
+    };
+    let Some(section) = sections(bytes).any_with(generator, bytes, TYPE, kind) else {
+        return Ok(());
+    };
+    if generator.is_one_in(2) {
+        drop_entry(bytes, section);
+        return Ok(());
+    }
+    double_entry(generator, bytes, section)
+}
+
+/// Changes an object in one way that is drawn by chance. Where it has not what that way changes, it stays.
+pub fn change_object(
+    generator: &mut Generator,
+    bytes: &mut Vec<u8>,
+) -> Result<(), AllocError> {
+    let _is_changed = match generator.below(24) {
+        0 => header().change_field(generator, bytes, &IDENTITY),
+        1 => header().change_field(generator, bytes, &PLACES),
+        2..=6 => change_section(generator, bytes),
+        7..=10 => change_symbol(generator, bytes),
+        11..=15 => change_relocation(generator, bytes),
+        16..=18 => change_site(generator, bytes),
+        19 => change_name(generator, bytes),
+        20 => change_any_byte(generator, bytes),
+        21 => return change_length(generator, bytes),
+        _ => return resize_table(generator, bytes),
+    };
+    Ok(())
+}

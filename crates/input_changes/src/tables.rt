@@ -1,0 +1,89 @@
+//! Tables of entries of one size, somewhere in a file.
+
+use crate::fields::Field;
+use crate::generator::Generator;
+use crate::numbers::other_number;
+
+/// A table: where it begins, how many entries it has, and how many bytes each.
+#[derive(Clone, Copy)]
+pub(crate) struct Table {
+    pub(crate) at: u64,
+    pub(crate) count: u64,
+    pub(crate) size: u64,
+}
+
+impl Table {
+    /// Where an entry begins.
+    pub(crate) fn place(self, number: u64) -> u64 {
+        self.at.saturating_add(number.saturating_mul(self.size))
+    }
+
+    /// A field of an entry.
+    pub(crate) fn field(self, number: u64, field: Field) -> Field {
+        field.behind(self.place(number))
+    }
+
+    /// What an entry has in a field.
+    pub(crate) fn value(self, bytes: &[u8], number: u64, field: Field) -> u64 {
+        self.field(number, field).value(bytes)
+    }
+
+    /// An entry by chance, if there is one.
+    pub(crate) fn any(self, generator: &mut Generator) -> Option<u64> {
+        if self.count == 0 {
+            return None;
+        }
+        Some(generator.below(self.count))
+    }
+
+    /// The first entry that has this number in a field, from one on that is found by chance.
+    pub(crate) fn any_with(
+        self,
+        generator: &mut Generator,
+        bytes: &[u8],
+        field: Field,
+        wanted: u64,
+    ) -> Option<u64> {
+        let first = self.any(generator)?;
+        for step in 0..self.count.min(256) {
+            let number = first.wrapping_add(step).checked_rem(self.count)?;
+            if self.value(bytes, number, field) == wanted {
+                return Some(number);
+            }
+        }
+        None
+    }
+
+    /// Gives one of these fields of an entry another number.
+    pub(crate) fn change_field(
+        self,
+        generator: &mut Generator,
+        bytes: &mut [u8],
+        fields: &[Field],
+    ) -> Option<()> {
+        let number = self.any(generator)?;
+        let field = generator.pick(fields)?;
+        let neighbour = self.any(generator)?;
+        let old = self.value(bytes, number, field);
+        let new = other_number(generator, old, self.value(bytes, neighbour, field));
+        self.field(number, field).set(bytes, new);
+        Some(())
+    }
+
+    /// Gives an entry the bytes of another one, and that one its bytes, or not.
+    pub(crate) fn move_entry(self, generator: &mut Generator, bytes: &mut [u8]) -> Option<()> {
+        let one = self.any(generator)?;
+        let other = self.any(generator)?;
+        let is_exchanged = generator.is_one_in(2);
+        for at in 0..self.size.min(64) {
+            let byte = Field(at, 1);
+            let first = self.value(bytes, one, byte);
+            let second = self.value(bytes, other, byte);
+            self.field(one, byte).set(bytes, second);
+            if is_exchanged {
+                self.field(other, byte).set(bytes, first);
+            }
+        }
+        Some(())
+    }
+}
