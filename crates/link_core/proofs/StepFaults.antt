@@ -6,7 +6,7 @@ use Rattle.link_faults.specs.declared.fault.LinkFault.{LinkFault}
 use Rattle.link_faults.specs.declared.image_kind.ImageKind.{ImageKind}
 use Rattle.link_faults.specs.declared.fault.LinkFault.TheVariants.{OutOfMemory, At}
 use Rattle.link_faults.specs.declared.fault.LinkFaultKind.TheVariants as fault
-use Rattle.link_refusals.specs.Faults.{FitsKind, IsStorageFault}
+use Rattle.link_needs.specs.Refusals.{FitsKind, IsStorageFault}
 use Rattle.tls_layout.specs.Places.{tls_size}
 use Rattle.tls_symbols.specs.Faults.{AreResolved}
 use Rattle.link_needs.specs.Linking.{Linking, layout}

@@ -1,23 +1,20 @@
 -- When objects do not link, and what is told.
-use Rattle.std.specs.Prelude.{◌≡◌, ◌<◌, ◌≤◌, ◌^◌, ◌⊎◌, ℕ, List, Option, Some, None, IsNone, IsSomeAnd, false}
-use Rattle.std.specs.Prelude.{length, slice_get}
+use Rattle.std.specs.Prelude.{◌≡◌, ◌<◌, ◌≤◌, ◌^◌, ◌⊎◌, ℕ, List, Option, Some, None, IsNone, false}
 use Rattle.std.specs.List.{All}
 use Rattle.elf_object.specs.declared.relocation.Relocation.{Relocation}
-use Rattle.elf_object.specs.Lent.{relocation_target}
-use Rattle.elf_object.specs.Object.{section_count}
 use Rattle.dynamic_symbols.specs.Names.{name_size}
 use Rattle.link_faults.specs.declared.fault.LinkFault.{LinkFault}
 use Rattle.link_faults.specs.declared.fault.LinkFault.TheVariants.{OutOfMemory, At}
 use Rattle.link_faults.specs.declared.fault.LinkFaultKind.TheVariants as fault
-use Rattle.link_refusals.specs.Counts.{relocation_count}
-use Rattle.link_refusals.specs.Faults.{FitsKind, FitsStorage, IsKindFault, IsStorageFault}
+use Rattle.link_needs.specs.Refusals.{relocation_count, FitsKind, FitsStorage, IsKindFault, IsStorageFault}
 use Rattle.tls_layout.specs.Places.{span, tls_size, IsLawful}
 use Rattle.link_faults.specs.declared.image_kind.ImageKind.{ImageKind}
 use Rattle.link_faults.specs.declared.symbol_ref.SymbolRef.{SymbolRef}
 use Rattle.tls_symbols.specs.Definitions.{IsWithin}
-use Rattle.tls_symbols.specs.Faults.{held_in, AreResolved, Earlier, IsFirst}
+use Rattle.tls_symbols.specs.Faults.{AreResolved, Earlier, IsFirst}
+use Rattle.tls_symbols.specs.Walks.{IsUsedAt}
 use Rattle.link_needs.specs.Given.{IsGiven}
-use Rattle.link_needs.specs.Linking.{Linking, layout, object}
+use Rattle.link_needs.specs.Linking.{Linking, layout}
 use Rattle.link_needs.specs.Values.{field, is_replaced}
 use Rattle.link_tables.specs.Dynamic.{imports, own_symbols}
 
@@ -38,12 +35,27 @@ pub record FitsLimits (l : Linking) : Type 0 where
 
 -- ** fields
 
--- entry e of section s of object o is a relocation whose value its field does not hold
+-- a relocation of section t of object o has a field that does not hold its value; or it has none such
+abbrev pub IsOverflow : Linking → ℕ → ℕ → Relocation → Type 0
+IsOverflow l o t r = (is_replaced l o r ≡ false) × IsNone (field l o t r)
+
+abbrev pub IsFilled : Linking → ℕ → ℕ → Relocation → Type 0
+IsFilled l o t r = IsOverflow l o t r → ⊥
+
+-- entry e of section s of object o is such a relocation
 abbrev pub Overflows : Linking → ℕ → ℕ → ℕ → Type 0
-Overflows l o s e =
-    (o < length l.objects) × (0 < s) × (s < section_count (object l o))
-    × IsSomeAnd (slice_get (held_in (object l o) s) e)
-    (λ (r : Relocation). (is_replaced l o r ≡ false) × IsNone (field l o (relocation_target (object l o) s) r))
+Overflows l o s e = IsUsedAt (λ u. IsOverflow l u.place.object u.section u.relocation) l.objects o s e
+
+-- it is the first
+abbrev pub IsFirstOverflow : Linking → LinkFault → Type 0
+IsFirstOverflow l (At fault.Overflow (Some o) s e) =
+    Overflows l o s e × ((p t f : ℕ) → Earlier p t f o s e → Overflows l p t f → ⊥)
+IsFirstOverflow l told = ⊥
+
+-- what is told of all fields: nothing where each holds its value, else the first that does not
+abbrev pub IsToldOverflow : Linking → Option LinkFault → Type 0
+IsToldOverflow l None = (o s e : ℕ) → Overflows l o s e → ⊥
+IsToldOverflow l (Some told) = IsFirstOverflow l told
 
 -- ** storage
 
@@ -84,8 +96,7 @@ IsLaterFault l (At fault.ImageTooLarge object s e) =
 IsLaterFault l (At fault.NoTls object s e) =
     FitsKind l.objects l.kind × FitsLimits l
     × IsStorageFault l.objects l.startup l.kind (tls_size (layout l).sections) (At fault.NoTls object s e)
-IsLaterFault l (At fault.Overflow (Some o) s e) =
-    IsSound l × Overflows l o s e × ((p t f : ℕ) → Earlier p t f o s e → Overflows l p t f → ⊥)
+IsLaterFault l (At fault.Overflow (Some o) s e) = IsSound l × IsFirstOverflow l (At fault.Overflow (Some o) s e)
 IsLaterFault l told = ⊥
 
 -- what a refusal says of the objects: the first fault, in the order of the kinds, Overflow last; of want of memory
