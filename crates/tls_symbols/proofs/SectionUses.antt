@@ -83,18 +83,18 @@ module _ {X : Type 0} (f : ℕ → ℕ → Relocation → List X) where
   module _ (of_object : ℕ → List ℕ → List X) (all : ℕ → List (List ℕ) → List X)
       (object_is : (o : ℕ) (b : List ℕ) → of_object o b ≡ flat_map (λ t. flat_map (f o t) (relocations b t)) (range_with_len 0 (section_count b)))
       (none : (o : ℕ) → all o [] ≡ []) (next : (o : ℕ) (b : List ℕ) (more : List (List ℕ)) → all o (b ∷ more) ≡ of_object o b ++ all (o + 1) more)
-      where
-    made_from : (o : ℕ) (bs : List (List ℕ)) → flat_map made (uses_from Targets o 1 bs) ≡ all o bs
-    made_from o [] = sym (none o)
-    made_from o (b ∷ more) =
-        let held = flat_map (uses_held Targets o b) (range_with_len 1 (section_count b - 1)) in
-        flat_map-append made held (uses_from Targets (o + 1) 1 more)
-        ∙ ap (λ xs. flat_map made held ++ xs) (made_from (o + 1) more)
-        ∙ ap (λ xs. xs ++ all (o + 1) more) (made_of_sections o b (range_with_len 1 (section_count b - 1))
-        ∙ sym (but_first (λ t. flat_map (f o t) (relocations b t)) (section_count b) (ap (flat_map (f o 0)) (none_in_zero b)))
-        ∙ sym (object_is o b))
-        ∙ sym (next o b more)
+    where
+      made_from : (o : ℕ) (bs : List (List ℕ)) → flat_map made (uses_from Targets o 1 bs) ≡ all o bs
+      made_from o [] = sym (none o)
+      made_from o (b ∷ more) =
+          let held = flat_map (uses_held Targets o b) (range_with_len 1 (section_count b - 1)) in
+          flat_map-append made held (uses_from Targets (o + 1) 1 more)
+          ∙ ap (λ xs. flat_map made held ++ xs) (made_from (o + 1) more)
+          ∙ ap (λ xs. xs ++ all (o + 1) more) (made_of_sections o b (range_with_len 1 (section_count b - 1))
+          ∙ sym (but_first (λ t. flat_map (f o t) (relocations b t)) (section_count b) (ap (flat_map (f o 0)) (none_in_zero b)))
+          ∙ sym (object_is o b))
+          ∙ sym (next o b more)
 
-    pub made_of_all : (objects : List (List ℕ)) → flat_map made (section_uses objects) ≡ all 0 objects
-    unfolding section_uses
-    made_of_all objects = made_from 0 objects
+      pub made_of_all : (objects : List (List ℕ)) → flat_map made (section_uses objects) ≡ all 0 objects
+      unfolding section_uses
+      made_of_all objects = made_from 0 objects

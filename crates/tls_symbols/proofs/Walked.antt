@@ -28,22 +28,24 @@ unfolding held_in
 held_none b s e = ap (held_for b) e
 
 -- what is walked by the number of a section
-pub held_here : (b : List ℕ) (s t : ℕ) → nonzero (relocation_target b s) ≡ Some t → (o : ℕ)
+pub held_here : (b : List ℕ) (s t : ℕ) → Some t ≡ nonzero (relocation_target b s) → (o : ℕ)
     → uses_held Holders o b s ≡ entries_from o s t 0 (relocations b t)
-held_here b s t e o = let held = held_is b s t e in rw (held.0, held.1) refl
+held_here b s t e o = let held = held_is b s t (sym e) in rw (held.0, held.1) refl
 
-pub held_nowhere : (b : List ℕ) (s : ℕ) → nonzero (relocation_target b s) ≡ None → (o : ℕ) → uses_held Holders o b s ≡ []
-held_nowhere b s e o = ap (entries_from o s (relocation_target b s) 0) (held_none b s e)
+pub held_nowhere : (b : List ℕ) (s : ℕ) → None ≡ nonzero (relocation_target b s) → (o : ℕ) → uses_held Holders o b s ≡ []
+held_nowhere b s e o = ap (entries_from o s (relocation_target b s) 0) (held_none b s (sym e))
 
-pub own_here : (b : List ℕ) (t s : ℕ) → nonzero (kept_relocation_table b t) ≡ Some s → (o : ℕ)
+pub own_here : (b : List ℕ) (t s : ℕ) → Some s ≡ nonzero (kept_relocation_table b t) → (o : ℕ)
     → uses_held Targets o b t ≡ entries_from o s t 0 (relocations b t)
-own_here b t s e o = ap (λ s. entries_from o s t 0 (relocations b t)) (nonzero_is (kept_relocation_table b t) s e)
+own_here b t s e o =
+    ap (λ s. entries_from o s t 0 (relocations b t)) (nonzero_is (kept_relocation_table b t) s (sym e))
 
-pub own_nowhere : (b : List ℕ) (t : ℕ) → nonzero (kept_relocation_table b t) ≡ None → (o : ℕ) → uses_held Targets o b t ≡ []
-unfolding relocations_in
-own_nowhere b t e o =
-    let none : kept_relocation_table b t ≡ 0 = grind (arith, nat_tests) in
-    ap (λ s. entries_from o s t 0 (relocations_in b s)) none
+pub own_nowhere : (b : List ℕ) (t : ℕ) → None ≡ nonzero (kept_relocation_table b t) → (o : ℕ) → uses_held Targets o b t ≡ []
+own_nowhere b t e o = ap (entries_from o (kept_relocation_table b t) t 0) (none_held (kept_relocation_table b t) e)
+  where
+    none_held : (s : ℕ) → None ≡ nonzero s → relocations_in b s ≡ []
+    unfolding relocations_in
+    none_held s e = let none : s ≡ 0 = grind (arith, nat_tests) in rw none refl
 
 module _ (order : Order) (objects : List (List ℕ)) (o s : ℕ) (b : List ℕ) (within : o < length objects) (here : b ≡ object_at objects o) where
   first : drop o objects ≡ b ∷ drop (o + 1) objects

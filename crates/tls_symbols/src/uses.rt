@@ -65,6 +65,7 @@ struct Held {
 }
 
 /// The two of which one has this number, as the order says.
+#[tactic(auto, using(crate::proofs::Walked::held_here, crate::proofs::Walked::held_nowhere, crate::proofs::Walked::own_here, crate::proofs::Walked::own_nowhere))]
 fn held_by(object: &Object, order: Order, number: u32) -> Option<Held>
     ensures { MatchOption result ((o : ℕ) → uses_held order o object.now number ≡ [])
         (λ held. (o : ℕ) → uses_held order o object.now number
