@@ -1,8 +1,8 @@
 -- Which symbols the dynamic symbol table of an image has, and in which order (gABI, "Symbol Table" and "Dynamic
 -- Section"; the order is this project's own).
-use Rattle.std.specs.Prelude.{◌+◌, ◌-◌, ◌&&◌, ◌++◌, ℕ, Bool, true, false, not, List, [], ◌∷◌, Option, Some, filter}
-use Rattle.std.specs.Prelude.{length, sum_by, if◌then◌else◌}
-use Rattle.std.specs.List.{filter_map, flat_map, range_with_len, list_any}
+use Rattle.std.specs.Prelude.{◌+◌, ◌-◌, ◌&&◌, ◌++◌, ℕ, Bool, true, false, not, List, [], ◌∷◌, Option, Some}
+use Rattle.std.specs.Prelude.{filter, length, sum_by, if◌then◌else◌}
+use Rattle.std.specs.List.{filter_map, flat_map, range_with_len}
 use Rattle.std.specs.Str.{bytes_eq}
 use Rattle.elf_object.specs.declared.symbol.SymbolBinding.TheVariants.{Local}
 use Rattle.elf_object.specs.Lent.{symbol_binding, symbol_name, symbol_place}
@@ -84,14 +84,3 @@ size_of name = 25 + length name
 -- all that are defined and imported
 unfoldable pub name_size : List (List ℕ) → List SymbolRef → List (List ℕ) → ℕ
 name_size objects symbols imported = sum_by (λ found. size_of (name_of objects found)) symbols + sum_by size_of imported
-
--- ** how the lists of names grow, a name at a time
-
--- these names, and one more where it is none of them
-abbrev pub with_name : List (List ℕ) → List ℕ → List (List ℕ)
-with_name names name = if list_any (bytes_eq name) names then names else names ++ name ∷ []
-
--- these names, and others in their order
-abbrev pub with_names : List (List ℕ) → List (List ℕ) → List (List ℕ)
-with_names names [] = names
-with_names names (name ∷ more) = with_names (with_name names name) more

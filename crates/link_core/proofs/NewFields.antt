@@ -24,7 +24,8 @@ use Rattle.link_faults.specs.declared.symbol_ref.SymbolRef.{SymbolRef}
 use Rattle.link_needs.proofs.InputsLemmas.{address_small}
 use Rattle.link_needs.proofs.PlanLemmas.{table_small}
 use Rattle.link_needs.proofs.UsableSites.{usable}
-use Rattle.link_needs.specs.Given.{FitsTable, IsGiven, IsUsable}
+use Rattle.link_needs.specs.Given.{FitsTable, IsGiven}
+use Rattle.link_needs.specs.Plans.{IsUsable}
 use Rattle.link_needs.specs.Linking.{Linking, binding, block_offset, choice, chosen, layout, object, offset, place}
 use Rattle.link_needs.specs.Linking.{sites_at}
 use Rattle.link_needs.specs.Needs.{entries, entry_by, got_start, need_address, new_relocation, relocation_need}

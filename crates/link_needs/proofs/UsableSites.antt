@@ -17,7 +17,8 @@ use Rattle.sequence_forms.specs.Forms.{register, register_of, row}
 use Rattle.sequence_match.specs.Sites.{IsSpelled}
 use Rattle.sequence_match.proofs.SitesSymbols.{sites_symbols}
 use Rattle.link_needs.specs.Linking.{Linking, object, sites_at}
-use Rattle.link_needs.specs.Given.{IsGiven, IsUsable}
+use Rattle.link_needs.specs.Given.{IsGiven}
+use Rattle.link_needs.specs.Plans.{IsUsable}
 
 -- the code of a section is no longer than the section, and small
 code_fits : (b : List ℕ) → IsObject b → (s : ℕ)

@@ -18,8 +18,7 @@ use Rattle.elf_object.specs.declared.relocation.Relocation.{Relocation}
 use Rattle.link_faults.specs.declared.fault.LinkFault.{LinkFault}
 use Rattle.link_faults.specs.declared.fault.LinkFault.TheVariants.{At}
 use Rattle.tls_symbols.specs.Bindings.{binding_of, object_at}
-use Rattle.tls_symbols.specs.Faults.{Test, IsFirstCharged, NoneCharged}
-use Rattle.tls_symbols.specs.Walks.{NamesWithin}
+use Rattle.tls_symbols.specs.Faults.{Test, IsFirstCharged, NoneCharged, NamesWithin}
 use Rattle.link_needs.specs.declared.charge.Charge.{Charge}
 use Rattle.link_needs.specs.declared.charge.Charge.TheVariants.{ByType, ByKind, ByStorage}
 use Rattle.std.specs.List.{range_with_len}

@@ -1,7 +1,7 @@
 -- What the field of each relocation holds (psABI, "Relocation Types"): the numbers that the table of relocations is
 -- asked with.
-use Rattle.std.specs.Prelude.{◌&&◌, ℕ, Bool, true, false, Option, Some, if◌then◌else◌, List, length, map}
-use Rattle.std.specs.List.{list_any, range_with_len}
+use Rattle.std.specs.Prelude.{◌&&◌, ℕ, Bool, true, false, Option, Some, if◌then◌else◌}
+use Rattle.std.specs.List.{list_any}
 use Rattle.elf_records.specs.declared.relocation.RelocationKind.{RelocationKind}
 use Rattle.elf_records.specs.declared.relocation_row.FieldValue.{FieldValue}
 use Rattle.elf_records.specs.declared.relocation_row.FieldValue.TheVariants.{SegmentOffset, ThreadOffset}
@@ -17,14 +17,9 @@ use Rattle.sequence_forms.specs.declared.places.Site.{Site}
 use Rattle.tls_relocs.specs.declared.fields.Field.{Field}
 use Rattle.tls_relocs.specs.Values.{stored_field}
 use Rattle.link_faults.specs.declared.binding.Binding.{Binding}
-use Rattle.link_faults.specs.declared.binding.Binding.TheVariants as bound
-use Rattle.link_needs.specs.Linking.{Linking, address, binding, block_offset, offset, place, object}
+use Rattle.link_faults.specs.declared.binding.Binding.TheVariants.{Here, Runtime}
+use Rattle.link_needs.specs.Linking.{Linking, address, binding, block_offset, offset, place}
 use Rattle.link_needs.specs.Needs.{need_address, relocation_need, stub_start}
-pub use Rattle.elf_records.specs.RelocationRows.{reaches_entry}
-use Rattle.elf_object.specs.Parts.{symbol_count}
-use Rattle.tls_symbols.specs.Bindings.{bound_to}
-use Rattle.link_needs.specs.declared.symbol_values.SymbolValue.{SymbolValue}
-use Rattle.link_needs.specs.declared.symbol_values.SymbolValue.TheVariants.{Here, Runtime, Elsewhere}
 
 -- ** rewriting
 
@@ -33,8 +28,8 @@ abbrev pub is_rewriting : Linking → Bool
 is_rewriting l = if is_module l.kind then false else l.relax
 
 abbrev pub is_runtime : Option Binding → Bool
-is_runtime (Some bound.Runtime) = true
-is_runtime other = false
+is_runtime (Some Runtime) = true
+is_runtime bound = false
 
 -- whether a field goes with its sequence, where its symbol is one of the image itself, or the run time's function
 abbrev pub goes_where : Bool → Bool → Replaced → Bool
@@ -46,7 +41,7 @@ goes_where own runtime WhereRuntime = runtime
 -- whether a type of relocation goes with the sequence that it belongs to, where programs are rewritten and its symbol
 -- is bound so
 abbrev pub goes : Option Binding → RelocationKind → Bool
-goes found kind = goes_where (is_here found) (is_runtime found) (row kind).replaced
+goes bound kind = goes_where (is_here bound) (is_runtime bound) (row kind).replaced
 
 -- whether a relocation has no field, since its sequence is rewritten
 unfoldable pub is_replaced : Linking → ℕ → Relocation → Bool
@@ -67,9 +62,9 @@ counts_from_thread_pointer l =
 
 -- S, the symbol's place, or O, its offset in the TLS segment
 abbrev pub own_number : Linking → RelocationKind → Option Binding → ℕ
-own_number l kind (Some (bound.Here found)) = if is_offset kind then offset l found else address l found
-own_number l kind (Some bound.Runtime) = stub_start l
-own_number l kind other = 0
+own_number l kind (Some (Here found)) = if is_offset kind then offset l found else address l found
+own_number l kind (Some Runtime) = stub_start l
+own_number l kind bound = 0
 
 -- G, the place of the entry in the GOT, or what is subtracted from an offset
 abbrev pub number_beside : Linking → ℕ → Relocation → FieldValue → ℕ
@@ -84,41 +79,3 @@ other_number l o r kind = number_beside l o r (row kind).value
 unfoldable pub field : Linking → ℕ → ℕ → Relocation → Option Field
 field l o t r =
     stored_field r.kind (own_number l r.kind (binding l o r)) r.addend (place l o t r.offset) (other_number l o r r.kind)
-
--- ** what a symbol stands for
-
-abbrev pub value_by : Linking → Option Binding → SymbolValue
-value_by l (Some (bound.Here found)) = Here (address l found) (offset l found)
-value_by l (Some bound.Runtime) = Runtime
-value_by l other = Elsewhere
-
--- symbol e of object o, which may not be another image's
-unfoldable pub value_of : Linking → ℕ → ℕ → SymbolValue
-value_of l o e = value_by l (bound_to l.objects l.startup o e false)
-
--- the symbols of object o, and those of all objects
-abbrev pub values_of : Linking → ℕ → List SymbolValue
-values_of l o = map (value_of l o) (range_with_len 0 (symbol_count (object l o)))
-
-abbrev pub all_values : Linking → List (List SymbolValue)
-all_values l = map (values_of l) (range_with_len 0 (length l.objects))
-
--- ** what a field takes from it
-
--- S, its place, or O, its offset in the TLS segment
-abbrev pub number_by : Linking → RelocationKind → SymbolValue → ℕ
-number_by l kind (Here place within) = if is_offset kind then within else place
-number_by l kind Runtime = stub_start l
-number_by l kind Elsewhere = 0
-
-abbrev pub is_own : SymbolValue → Bool
-is_own (Here place within) = true
-is_own value = false
-
-abbrev pub is_run_time : SymbolValue → Bool
-is_run_time Runtime = true
-is_run_time value = false
-
--- whether a type of relocation goes with its sequence, where its symbol stands for this
-abbrev pub goes_by : SymbolValue → RelocationKind → Bool
-goes_by value kind = goes_where (is_own value) (is_run_time value) (row kind).replaced

@@ -12,7 +12,7 @@ ghost use Rattle.link_needs.specs.Needs.{address_fields, address_need, address_n
 ghost use Rattle.link_needs.specs.Needs.{is_address_kind, own_word, reaching, relocation_need};
 ghost use Rattle.link_needs.specs.Needs.{is_kept, need_by, needs, new_relocation, object_needs, object_needs_from};
 ghost use Rattle.link_needs.specs.Needs.{section_needs, site_needs, site_needs_from, target_by};
-ghost use Rattle.link_needs.specs.Given.{IsUsable};
+ghost use Rattle.link_needs.specs.Plans.{IsUsable};
 
 use crate::inputs::Inputs;
 use elf_object::{Object, Relocation, RelocationKind};

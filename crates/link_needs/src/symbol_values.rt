@@ -3,7 +3,7 @@
 ghost use Rattle.std.specs.Prelude.{◌≡◌, ◌<◌, IfOk, IfSome, length, map};
 ghost use Rattle.elf_object.specs.Parts.{symbol_count};
 ghost use Rattle.tls_symbols.specs.Bindings.{IsBindingWithin, object_at};
-ghost use Rattle.link_needs.specs.Values.{all_values, value_by, value_of, values_of};
+ghost use Rattle.link_needs.specs.Plans.{all_values, value_by, value_of, values_of};
 
 use crate::inputs::Inputs;
 use link_faults::Binding;

@@ -1,7 +1,7 @@
 -- The symbols and the relocations by which a loader ties an image to others (gABI, "Symbol Table", "Relocation";
 -- psABI, "Relocation Types").
-use Rattle.std.specs.Prelude.{◌+◌, ◌^◌, ◌&&◌, ◌++◌, ℕ, ℤ, pos, ◌+ℤ◌, Bool, true, false, List, [], ◌∷◌, length, Option}
-use Rattle.std.specs.Prelude.{Some, None, map, unwrap_or, if◌then◌else◌}
+use Rattle.std.specs.Prelude.{◌+◌, ◌^◌, ◌&&◌, ◌++◌, ℕ, ℤ, pos, ◌+ℤ◌, Bool, true, false, List, [], ◌∷◌, length}
+use Rattle.std.specs.Prelude.{Option, Some, None, map, unwrap_or, if◌then◌else◌}
 use Rattle.std.specs.Int.{w64, cast_signed}
 use Rattle.std.specs.List.{flat_map, list_any, position_from, range_with_len}
 use Rattle.std.specs.Str.{bytes_eq}
@@ -44,9 +44,8 @@ use Rattle.tls_relocs.specs.Values.{modulo}
 use Rattle.link_faults.specs.declared.symbol_ref.SymbolRef.{SymbolRef}
 use Rattle.tls_symbols.specs.Bindings.{get_address, is_tls_symbol}
 use Rattle.link_needs.specs.Linking.{Linking, address, binding, block_offset, object, offset, place}
-use Rattle.link_needs.specs.Needs.{entries, got_start, uses_runtime, sorted_by}
+use Rattle.link_needs.specs.Needs.{entries, got_start, sorted_by, uses_runtime}
 use Rattle.link_needs.specs.Values.{own_number}
-use Rattle.image_writer.specs.declared.draft.NamedSymbol.{NamedSymbol}
 
 -- ** symbols
 
@@ -197,12 +196,3 @@ is_initial form = false
 
 unfoldable pub is_flagged : Linking → Bool
 is_flagged l = is_module l.kind && list_any (λ own. list_any (λ (site : Site). is_initial site.form) own) l.sites
-
--- ** symbols with their names, as code holds them
-
--- the symbols, and their names
-abbrev pub symbols_in : List NamedSymbol → List ImageSymbol
-symbols_in all = map (λ (s : NamedSymbol). s.symbol) all
-
-abbrev pub names_in : List NamedSymbol → List (List ℕ)
-names_in all = map (λ (s : NamedSymbol). s.name.now) all

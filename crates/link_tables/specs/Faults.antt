@@ -1,7 +1,10 @@
 -- When objects do not link, and what is told.
-use Rattle.std.specs.Prelude.{◌≡◌, ◌<◌, ◌≤◌, ◌^◌, ◌⊎◌, ℕ, List, Option, Some, None, IsNone, false}
+use Rattle.std.specs.Prelude.{◌≡◌, ◌<◌, ◌≤◌, ◌^◌, ◌⊎◌, ℕ, List, Option, Some, None, IsNone, IsSomeAnd, false, length}
+use Rattle.std.specs.Prelude.{map, slice_get}
 use Rattle.std.specs.List.{All}
 use Rattle.elf_object.specs.declared.relocation.Relocation.{Relocation}
+use Rattle.elf_object.specs.Lent.{relocation_target}
+use Rattle.elf_object.specs.Object.{section_count}
 use Rattle.dynamic_symbols.specs.Names.{name_size}
 use Rattle.link_faults.specs.declared.fault.LinkFault.{LinkFault}
 use Rattle.link_faults.specs.declared.fault.LinkFault.TheVariants.{OutOfMemory, At}
@@ -11,12 +14,13 @@ use Rattle.tls_layout.specs.Places.{span, tls_size, IsLawful}
 use Rattle.link_faults.specs.declared.image_kind.ImageKind.{ImageKind}
 use Rattle.link_faults.specs.declared.symbol_ref.SymbolRef.{SymbolRef}
 use Rattle.tls_symbols.specs.Definitions.{IsWithin}
-use Rattle.tls_symbols.specs.Faults.{AreResolved, Earlier, IsFirst}
-use Rattle.tls_symbols.specs.Walks.{IsUsedAt}
+use Rattle.tls_symbols.specs.Faults.{held_in, AreResolved, Earlier, IsFirst}
 use Rattle.link_needs.specs.Given.{IsGiven}
-use Rattle.link_needs.specs.Linking.{Linking, layout}
+use Rattle.link_needs.specs.Linking.{Linking, layout, object}
 use Rattle.link_needs.specs.Values.{field, is_replaced}
 use Rattle.link_tables.specs.Dynamic.{imports, own_symbols}
+use Rattle.image_file.specs.declared.symbol.ImageSymbol.{ImageSymbol}
+use Rattle.image_writer.specs.declared.draft.NamedSymbol.{NamedSymbol}
 
 -- ** limits
 
@@ -44,7 +48,9 @@ IsFilled l o t r = IsOverflow l o t r → ⊥
 
 -- entry e of section s of object o is such a relocation
 abbrev pub Overflows : Linking → ℕ → ℕ → ℕ → Type 0
-Overflows l o s e = IsUsedAt (λ u. IsOverflow l u.place.object u.section u.relocation) l.objects o s e
+Overflows l o s e =
+    (o < length l.objects) × (0 < s) × (s < section_count (object l o))
+    × IsSomeAnd (slice_get (held_in (object l o) s) e) (IsOverflow l o (relocation_target (object l o) s))
 
 -- it is the first
 abbrev pub IsFirstOverflow : Linking → LinkFault → Type 0
@@ -117,3 +123,10 @@ pub record ArePrepared (l : Linking) (own : List SymbolRef) (names : List (List 
   pub own_are : own ≡ own_symbols l
   pub within : All (IsWithin l.objects) own
   pub imports_are : names ≡ imports l
+
+-- symbols with their names, as code holds them
+abbrev pub symbols_in : List NamedSymbol → List ImageSymbol
+symbols_in all = map (λ (s : NamedSymbol). s.symbol) all
+
+abbrev pub names_in : List NamedSymbol → List (List ℕ)
+names_in all = map (λ (s : NamedSymbol). s.name.now) all

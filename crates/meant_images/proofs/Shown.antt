@@ -7,7 +7,8 @@ use Rattle.std.proofs.lemmas.Option.{get_or_from_slice_get, slice_get_within}
 use Rattle.elf_object.specs.declared.relocation.Relocation.{Relocation}
 use Rattle.elf_object.specs.Lent.{relocations, section_class}
 use Rattle.elf_object.specs.Object.{section_count}
-use Rattle.link_needs.specs.Given.{IsGiven, IsUsable}
+use Rattle.link_needs.specs.Given.{IsGiven}
+use Rattle.link_needs.specs.Plans.{IsUsable}
 use Rattle.link_needs.specs.Linking.{Linking, object, sites_at}
 use Rattle.link_needs.proofs.UsableSites.{usable}
 use Rattle.meant_images.specs.declared.entries.Entry.{Entry}

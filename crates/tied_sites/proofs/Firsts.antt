@@ -26,10 +26,11 @@ use Rattle.link_faults.specs.declared.binding.Binding.TheVariants.{Runtime}
 use Rattle.link_faults.specs.ImageKinds.{is_moved}
 use Rattle.link_needs.proofs.InputsLemmas.{address_small}
 use Rattle.link_needs.specs.Laws.{HasEntry}
-use Rattle.link_needs.specs.Given.{FitsTable, IsUsable}
+use Rattle.link_needs.specs.Given.{FitsTable}
+use Rattle.link_needs.specs.Plans.{IsUsable, reaches_entry}
 use Rattle.link_needs.specs.Linking.{Linking, binding, choice, layout, object}
 use Rattle.link_needs.specs.Needs.{got_start, is_kept, need_by, relocation_need, stub_start}
-use Rattle.link_needs.specs.Values.{reaches_entry, field}
+use Rattle.link_needs.specs.Values.{field}
 use Rattle.loaded_bytes.specs.Laws.{IsInstanceOf}
 use Rattle.loaded_modules.specs.declared.instance.Instance.{Instance}
 use Rattle.relax_sites.specs.Rows.{form_length}

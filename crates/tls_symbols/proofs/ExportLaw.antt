@@ -15,7 +15,7 @@ use Rattle.elf_object.specs.Parts.{symbol_count}
 use Rattle.link_faults.specs.declared.symbol_ref.SymbolRef.{SymbolRef}
 use Rattle.tls_symbols.specs.Bindings.{exported_at, exported_from, exported_in, exported_names, is_exported, is_symbol, is_tls_symbol, is_visible, object_at}
 use Rattle.tls_symbols.specs.Definitions.{defines, definition_of, first_from, first_in, found_or, is_defined, or_weak, same_binding}
-use Rattle.tls_symbols.specs.Bindings.{is_exported_by, ExportsAreByName}
+use Rattle.tls_symbols.specs.Laws.{is_exported_by, ExportsAreByName}
 use Rattle.tls_symbols.proofs.Within.{Dropped, dropped_is, find_found}
 
 -- ** tests

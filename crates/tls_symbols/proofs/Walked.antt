@@ -41,10 +41,10 @@ own_here b t s e o =
     ap (λ s. entries_from o s t 0 (relocations b t)) (nonzero_is (kept_relocation_table b t) s (sym e))
 
 pub own_nowhere : (b : List ℕ) (t : ℕ) → None ≡ nonzero (kept_relocation_table b t) → (o : ℕ) → uses_held Targets o b t ≡ []
+unfolding relocations_in
 own_nowhere b t e o = ap (entries_from o (kept_relocation_table b t) t 0) (none_held (kept_relocation_table b t) e)
   where
     none_held : (s : ℕ) → None ≡ nonzero s → relocations_in b s ≡ []
-    unfolding relocations_in
     none_held s e = let none : s ≡ 0 = grind (arith, nat_tests) in rw none refl
 
 module _ (order : Order) (objects : List (List ℕ)) (o s : ℕ) (b : List ℕ) (within : o < length objects) (here : b ≡ object_at objects o) where

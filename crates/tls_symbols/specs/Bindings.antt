@@ -1,7 +1,7 @@
 -- What a symbol is bound to (gABI, "Symbol Table"; Drepper, "ELF Handling For Thread-Local Storage",
 -- section 4: which ways to reach a variable leave room for another module's).
-use Rattle.std.specs.Prelude.{◌+◌, ◌-◌, ◌&&◌, ◌++◌, ℕ, Bool, true, false, not, List, [], ◌∷◌, Option, Some, None, codes}
-use Rattle.std.specs.Prelude.{slice_index_or, nat_eq, if◌then◌else◌, ◌≡◌}
+use Rattle.std.specs.Prelude.{◌+◌, ◌-◌, ◌&&◌, ◌++◌, ℕ, Bool, true, false, not, List, [], ◌∷◌, Option, Some, None}
+use Rattle.std.specs.Prelude.{codes, slice_index_or, nat_eq, if◌then◌else◌}
 use Rattle.std.specs.List.{flat_map, list_any, range_with_len}
 use Rattle.std.specs.Str.{bytes_eq}
 use Rattle.object_faults.specs.declared.class.SectionClass.{SectionClass}
@@ -86,18 +86,6 @@ exported_from objects o (b ∷ more) = exported_in objects o b ++ exported_from 
 -- the names that an image of these objects exports, in the order of their definitions
 unfoldable pub exported_names : List (List ℕ) → List (List ℕ)
 exported_names objects = exported_from objects 0 objects
-
--- whether a name of this definition is exported: it is thread-local, and other images see it
-abbrev pub is_exported_by : List (List ℕ) → Option SymbolRef → Bool
-is_exported_by objects (Some found) =
-    let b = object_at objects found.object in
-    is_tls_symbol b found.symbol && is_visible (symbol_visibility b found.symbol)
-is_exported_by objects None = false
-
--- an image exports exactly the names whose definition in it is thread-local and seen by other images
-abbrev pub ExportsAreByName : Type 0
-ExportsAreByName = (objects : List (List ℕ)) (name : List ℕ)
-    → list_any (bytes_eq name) (exported_names objects) ≡ is_exported_by objects (definition_of objects name)
 
 -- ** what a symbol is bound to
 

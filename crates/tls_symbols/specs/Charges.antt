@@ -10,8 +10,7 @@ use Rattle.tls_symbols.specs.declared.charges.Charge.TheVariants.{Unbound, Unsui
 use Rattle.tls_symbols.specs.declared.charges.NameQuestion.{NameQuestion}
 use Rattle.tls_symbols.specs.declared.standings.Bound.{Bound}
 use Rattle.tls_symbols.specs.Bindings.{object_at, bound_to, is_tls_binding}
-use Rattle.tls_symbols.specs.Faults.{is_faulty, is_unfit, Test, differ, is_tls_kind}
-use Rattle.tls_symbols.specs.Walks.{NamesWithin}
+use Rattle.tls_symbols.specs.Faults.{is_faulty, is_unfit, Test, differ, is_tls_kind, NamesWithin}
 use Rattle.elf_object.specs.Parts.{symbol_count}
 use Rattle.link_faults.specs.declared.binding.Binding.{Binding}
 use Rattle.tls_symbols.specs.declared.standings.Bound.TheVariants.{Nothing, ThreadLocal, Ordinary}

@@ -52,10 +52,3 @@ definition_of objects name = or_weak (first_from Global name 0 objects) (first_f
 pub record IsWithin (objects : List (List ℕ)) (found : SymbolRef) : Type 0 where
   pub object : found.object < length objects
   pub symbol : found.symbol < symbol_count (slice_index_or objects found.object [])
-
--- what contracts see of bindings: what decides them
-pub record Resolved : Type 0 where
-  -- the image's objects
-  pub objects : List (List ℕ)
-  -- the names that each startup image exports, in image order
-  pub startup : List (List (List ℕ))

@@ -1,6 +1,6 @@
 -- The uses of relocations that a walk over objects meets, and the first that has a property.
 use Rattle.std.specs.Prelude.{◌≡◌, ◌<◌, ◌≤◌, ◌+◌, ◌-◌, ◌^◌, ◌++◌, ℕ, suc, List, [], ◌∷◌, drop, length, slice_get}
-use Rattle.std.specs.Prelude.{IsSomeAnd, ◌≢◌}
+use Rattle.std.specs.Prelude.{IsSomeAnd}
 use Rattle.std.specs.List.{flat_map, range_with_len, Contains}
 use Rattle.elf_object.specs.declared.relocation.Relocation.{Relocation}
 use Rattle.elf_object.specs.Lawful.{IsLawful}
@@ -12,8 +12,6 @@ use Rattle.tls_symbols.specs.declared.uses.Use.{Use}
 use Rattle.tls_symbols.specs.declared.uses.Uses.{Uses}
 use Rattle.tls_symbols.specs.Bindings.{object_at}
 use Rattle.tls_symbols.specs.Faults.{held_in, Earlier}
-use Rattle.elf_object.specs.Parts.{symbol_count}
-use Rattle.elf_records.specs.declared.relocation.RelocationKind.TheVariants.{Nothing}
 
 -- ** the uses
 
@@ -94,17 +92,3 @@ Decides P objects [] = (o s e : ℕ) → IsUsedAt P objects o s e → ⊥
 Decides P objects (u ∷ more) =
     IsUse objects u × (P u → IsFirstUsed P objects u.place.object u.place.section u.place.entry)
     × ((P u → ⊥) → Decides P objects more)
-
--- ** what may be asked of them
-
--- a relocation names a symbol of its object, or none
-abbrev pub NamesWithin : List ℕ → Relocation → Type 0
-NamesWithin b r = r.kind ≢ Nothing → r.symbol < symbol_count b
-
--- what may be asked of a relocation may be asked of each of object o, and b is that object
-abbrev pub MayAskIn : (ℕ → Relocation → Type 0) → ℕ → List ℕ → Type 0
-MayAskIn may_ask o b = (r : Relocation) → NamesWithin b r → may_ask o r
-
--- of each of the objects
-abbrev pub MayAsk : (ℕ → Relocation → Type 0) → List (List ℕ) → Type 0
-MayAsk may_ask objects = (o : ℕ) → o < length objects → MayAskIn may_ask o (object_at objects o)

@@ -30,8 +30,7 @@ pub struct Bindings<'l, 's, 'a> {
 }
 
 impl<'l, 's, 'a> Model for Bindings<'l, 's, 'a> {
-    ghost use Rattle.tls_symbols.specs.Definitions.{Resolved};
-    ghost use Rattle.tls_symbols.specs.Known.{IsKnown};
+    ghost use Rattle.tls_symbols.specs.Known.{Resolved, IsKnown};
     ghost use Rattle.tls_symbols.specs.Faults.{AreResolved};
 
     ghost Value = { Resolved };

@@ -7,9 +7,9 @@ ghost use Rattle.std.specs.List.{All};
 ghost use Rattle.elf_object.specs.Faults.{IsObject};
 ghost use Rattle.elf_object.specs.Lent.{relocations};
 ghost use Rattle.elf_object.specs.declared.relocation.Relocation.{Relocation};
-ghost use Rattle.tls_symbols.specs.Faults.{IsFirstCharged, NoneCharged, Test};
+ghost use Rattle.tls_symbols.specs.Faults.{IsFirstCharged, NoneCharged, Test, MayAsk};
 ghost use Rattle.tls_symbols.specs.Walks.{entries_from, section_uses, uses, uses_from, uses_held, uses_left};
-ghost use Rattle.tls_symbols.specs.Walks.{GoesOn, IsCounted, IsUse, MayAsk};
+ghost use Rattle.tls_symbols.specs.Walks.{GoesOn, IsCounted, IsUse};
 
 use crate::place::Place;
 use elf_object::{Object, Relocation, Relocs};
@@ -65,7 +65,6 @@ struct Held {
 }
 
 /// The two of which one has this number, as the order says.
-#[tactic(auto, using(crate::proofs::Walked::held_here, crate::proofs::Walked::held_nowhere, crate::proofs::Walked::own_here, crate::proofs::Walked::own_nowhere))]
 fn held_by(object: &Object, order: Order, number: u32) -> Option<Held>
     ensures { MatchOption result ((o : ℕ) → uses_held order o object.now number ≡ [])
         (λ held. (o : ℕ) → uses_held order o object.now number

@@ -2,7 +2,8 @@ use Rattle.std.proofs.Common.{◌≡◌, ◌∙◌, ap, sym, subst, unwrap_or, a
 use Rattle.tls_layout.specs.Places.{address_of}
 use Rattle.link_needs.specs.Linking.{binding, layout}
 use Rattle.link_needs.specs.Given.{IsGiven}
-use Rattle.link_needs.specs.Values.{number_by, own_number}
+use Rattle.link_needs.specs.Plans.{number_by}
+use Rattle.link_needs.specs.Values.{own_number}
 use Rattle.link_tables.proofs.ListedFields.{near_of}
 use Rattle.link_needs.proofs.ValueLemmas.{takes_number}
 use Rattle.link_tables.proofs.relocation_list.push_field.Goals as goal

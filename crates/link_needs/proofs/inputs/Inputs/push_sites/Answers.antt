@@ -1,7 +1,8 @@
 use Rattle.std.proofs.Common.{◌∙◌, ◌+◌, ◌++◌, drop, sym, ap, subst}
 use Rattle.std.specs.List.{All, flat_map}
 use Rattle.tls_symbols.specs.Bindings.{object_at}
-use Rattle.link_needs.specs.Given.{IsGiven, IsUsable}
+use Rattle.link_needs.specs.Given.{IsGiven}
+use Rattle.link_needs.specs.Plans.{IsUsable}
 use Rattle.link_needs.specs.Linking.{choices_in}
 use Rattle.link_needs.specs.Needs.{site_needs, site_needs_from}
 use Rattle.link_needs.proofs.ChoiceLemmas.{choices_end, choices_next}
