@@ -10,12 +10,12 @@ use Rattle.link_needs.specs.Refusals.{FitsKind, IsStorageFault}
 use Rattle.tls_layout.specs.Places.{tls_size}
 use Rattle.tls_symbols.specs.Faults.{AreResolved}
 use Rattle.link_needs.specs.Linking.{Linking, layout}
-use Rattle.link_tables.specs.Faults.{FitsLimits, IsCrowded, IsLinkFault, IsWordy, LacksStorage}
+use Rattle.link_tables.specs.Faults.{FitsLimits, IsCrowded, IsLinkFault, LacksStorage}
 
 module _ (l : Linking) (resolved : AreResolved l.objects l.startup) where
   module _ (fits : FitsKind l.objects l.kind) where
     -- that of too many relocations or names
-    pub limit_fault : tls_size (layout l).sections ≤ 2 ^ 20 → IsCrowded l ⊎ IsWordy l
+    pub limit_fault : tls_size (layout l).sections ≤ 2 ^ 20 → IsCrowded l
         → IsLinkFault l (At fault.ImageTooLarge None 0 0)
     limit_fault small large = (resolved, ((refl, refl, refl), fits, small, inr large))
 

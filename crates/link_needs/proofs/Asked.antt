@@ -1,7 +1,7 @@
 -- What may be asked of an image's relocations.
 use Rattle.std.proofs.Common.{◌≡◌, ◌<◌, ℕ, List, length, sym, subst}
 use Rattle.tls_symbols.specs.Bindings.{object_at}
-use Rattle.tls_symbols.specs.Faults.{MayAsk, MayAskIn, NamesWithin}
+use Rattle.tls_symbols.specs.Faults.{MayAsk, NamesWithin}
 use Rattle.link_needs.specs.declared.charge.Charge.{Charge}
 use Rattle.link_needs.specs.declared.charge.Charge.TheVariants.{ByType, ByKind, ByStorage}
 use Rattle.link_needs.specs.Refusals.{IsAskedOf, IsAskedWithin}

@@ -51,10 +51,6 @@ entry_asks_storage image entry bound = false
 abbrev pub asks_storage : ImageKind → RelocationKind → Option Binding → Bool
 asks_storage image type bound = entry_asks_storage image (row type).entry bound
 
--- whether it is refused for want of storage: the segment of thread-local storage has no bytes
-abbrev pub is_without_storage : ImageKind → ℕ → RelocationKind → Option Binding → Bool
-is_without_storage image size type bound = (size == 0) && asks_storage image type bound
-
 -- ** which one is told
 
 -- the relocations that the image's kind refuses
@@ -67,7 +63,7 @@ by_kind image o r = is_refused_at_all image r.kind
 
 -- those that want storage of an image that has none; startup is what the startup images export
 abbrev pub by_storage : List (List ℕ) → List (List (List ℕ)) → ImageKind → ℕ → Test
-by_storage objects startup image size o r = is_without_storage image size r.kind (binding_of objects startup o r)
+by_storage objects startup image size o r = (size == 0) && asks_storage image r.kind (binding_of objects startup o r)
 
 -- ** the kind of the image
 

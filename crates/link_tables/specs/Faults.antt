@@ -24,13 +24,9 @@ use Rattle.image_writer.specs.declared.draft.NamedSymbol.{NamedSymbol}
 
 -- ** limits
 
--- an image has at most 2^19 relocations
+-- an image has at most 2^19 relocations, and its names take at most 2^22 bytes
 abbrev pub IsCrowded : Linking → Type 0
-IsCrowded l = 2 ^ 19 < relocation_count l.objects
-
--- and its names take at most 2^22 bytes
-abbrev pub IsWordy : Linking → Type 0
-IsWordy l = 2 ^ 22 < name_size l.objects (own_symbols l) (imports l)
+IsCrowded l = (2 ^ 19 < relocation_count l.objects) ⊎ (2 ^ 22 < name_size l.objects (own_symbols l) (imports l))
 
 pub record FitsLimits (l : Linking) : Type 0 where
   pub lawful : IsLawful (layout l)
@@ -98,7 +94,7 @@ IsLaterFault l (At fault.TlsTooLarge object s e) =
     IsOfWhole object s e × FitsKind l.objects l.kind × (2 ^ 20 < tls_size (layout l).sections)
 IsLaterFault l (At fault.ImageTooLarge object s e) =
     IsOfWhole object s e × FitsKind l.objects l.kind × (tls_size (layout l).sections ≤ 2 ^ 20)
-    × ((2 ^ 24 < span l.kind (layout l).sections) ⊎ (IsCrowded l ⊎ IsWordy l))
+    × ((2 ^ 24 < span l.kind (layout l).sections) ⊎ IsCrowded l)
 IsLaterFault l (At fault.NoTls object s e) =
     FitsKind l.objects l.kind × FitsLimits l
     × IsStorageFault l.objects l.startup l.kind (tls_size (layout l).sections) (At fault.NoTls object s e)
