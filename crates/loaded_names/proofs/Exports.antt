@@ -29,8 +29,8 @@ use Rattle.link_needs.specs.Linking.{Linking, object, offset}
 use Rattle.loaded_modules.specs.Loader.{is_shared, is_tls, is_visible as is_seen, shared_among, shared_offset}
 use Rattle.tls_symbols.proofs.ExportLaw.{exports_by_name}
 use Rattle.tls_symbols.specs.Bindings.{exported_names, is_tls_symbol, is_visible}
-use Rattle.tls_symbols.specs.Laws.{is_exported_by}
 use Rattle.tls_symbols.specs.Definitions.{definition_of}
+use Rattle.tls_symbols.specs.Laws.{is_exported_by}
 use Rattle.loaded_names.proofs.Defined.{IsOwn, definition_listed, definition_shared, symbols_own}
 use Rattle.loaded_names.proofs.Named.{IsForeign, other_names, other_symbols, others_foreign}
 use Rattle.loaded_names.proofs.Symbols.{placed_in}

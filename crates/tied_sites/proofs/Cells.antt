@@ -1,6 +1,7 @@
 -- The bytes in the place of a site that is kept: the instructions that its compiler wrote, with a linker's numbers in
 -- their fields.
-use Rattle.std.proofs.Common.{◌≡◌, ◌∙◌, ◌+◌, ◌-◌, ◌<◌, ◌≤◌, ℕ, Bool, true, false, List, Some, drop, length, map}
+use Rattle.std.proofs.Common.{◌≡◌, ◌∙◌, ◌+◌, ◌-◌, ◌<◌, ◌≤◌, ℕ, Bool, true, false, List, Some, drop}
+use Rattle.std.proofs.Common.{length, map}
 use Rattle.std.proofs.Common.{slice_index, take, refl, sym, ap, subst, arith}
 use Rattle.std.specs.Prelude.{slice_get, slice_index_or, unwrap_or, IsTrue}
 use Rattle.std.specs.List.{Contains, range_with_len}
@@ -18,7 +19,7 @@ use Rattle.link_core.proofs.Together.{together}
 use Rattle.link_core.specs.Dynamic.{is_absolute}
 use Rattle.link_needs.specs.Linking.{Linking, choice, object, sites_at}
 use Rattle.link_needs.specs.Needs.{is_kept}
-use Rattle.link_needs.specs.Plans.{IsUsable}
+use Rattle.link_needs.specs.Usable.{IsUsable}
 use Rattle.link_needs.specs.Values.{field, is_replaced}
 use Rattle.loaded_bytes.proofs.FieldBytes.{loaded_is}
 use Rattle.loaded_bytes.specs.Bytes.{loaded_byte, loaded_field}

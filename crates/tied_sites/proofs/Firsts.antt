@@ -1,7 +1,8 @@
 -- Where the fields of a kept site lead: the first to its variable's entry, and the second to the stub or to the run
 -- time's word.
 use Rattle.std.proofs.Common.{◌≡◌, ◌≢◌, ◌∙◌, ◌+◌, ◌*◌, ◌<◌, ◌≤◌, ◌^◌, ℕ, negsuc, Bool, true, false, List}
-use Rattle.std.proofs.Common.{Option, Some, None, refl, sym, ap, subst, arith, if◌then◌else◌}
+use Rattle.std.proofs.Common.{Option, Some, None}
+use Rattle.std.proofs.Common.{refl, sym, ap, subst, arith, if◌then◌else◌}
 use Rattle.std.specs.Prelude.{IfSome, slice_get, unwrap_or}
 use Rattle.std.specs.List.{Contains}
 use Rattle.std.proofs.lemmas.List.Elements.{All-contains}
@@ -27,9 +28,10 @@ use Rattle.link_faults.specs.ImageKinds.{is_moved}
 use Rattle.link_needs.proofs.InputsLemmas.{address_small}
 use Rattle.link_needs.specs.Laws.{HasEntry}
 use Rattle.link_needs.specs.Given.{FitsTable}
-use Rattle.link_needs.specs.Plans.{IsUsable, reaches_entry}
 use Rattle.link_needs.specs.Linking.{Linking, binding, choice, layout, object}
 use Rattle.link_needs.specs.Needs.{got_start, is_kept, need_by, relocation_need, stub_start}
+use Rattle.link_needs.specs.SymbolNumbers.{reaches_entry}
+use Rattle.link_needs.specs.Usable.{IsUsable}
 use Rattle.link_needs.specs.Values.{field}
 use Rattle.loaded_bytes.specs.Laws.{IsInstanceOf}
 use Rattle.loaded_modules.specs.declared.instance.Instance.{Instance}

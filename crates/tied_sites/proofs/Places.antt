@@ -1,6 +1,7 @@
 -- The site that a sequence of an instance is, and where its bytes stand.
 use Rattle.std.proofs.Common.{◌≡◌, ◌≢◌, ◌∙◌, ◌+◌, ◌-◌, ◌<◌, ◌≤◌, ◌&&◌, ◌==◌, ℕ, Bool, true, false, List, Option, Some}
-use Rattle.std.proofs.Common.{None, IsSome, length, refl, sym, ap, subst, arith, if◌then◌else◌}
+use Rattle.std.proofs.Common.{None}
+use Rattle.std.proofs.Common.{IsSome, length, refl, sym, ap, subst, arith, if◌then◌else◌}
 use Rattle.std.specs.Prelude.{nat_lt, option_and_then, option_map, unwrap_or}
 use Rattle.std.specs.List.{Contains, find}
 use Rattle.std.proofs.lemmas.Bool.Decides.{nat_tests}
@@ -11,7 +12,7 @@ use Rattle.guest_machine.specs.Ranges.{byte_in}
 use Rattle.guest_operands.specs.declared.space.Access.TheVariants.{Run}
 use Rattle.link_needs.proofs.UsableSites.{usable}
 use Rattle.link_needs.specs.Linking.{Linking, layout, object, sites_at}
-use Rattle.link_needs.specs.Plans.{IsUsable}
+use Rattle.link_needs.specs.Usable.{IsUsable}
 use Rattle.loaded_bytes.proofs.Still.{code_loaded}
 use Rattle.loaded_bytes.proofs.Finds.{found_is}
 use Rattle.loaded_bytes.proofs.Sections.{sections_stand}

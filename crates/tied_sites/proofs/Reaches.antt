@@ -1,6 +1,7 @@
 -- What the fields of sites hold: how far an entry of the table, or the stub, is from the field's end, and a variable
 -- from the thread pointer.
-use Rattle.std.proofs.Common.{◌≡◌, ◌∙◌, ◌+◌, ◌-◌, ◌%◌, ◌^◌, ◌<◌, ◌≤◌, ℕ, ℤ, pos, negsuc, true, Option, Some}
+use Rattle.std.proofs.Common.{◌≡◌, ◌∙◌, ◌+◌, ◌-◌, ◌%◌, ◌^◌, ◌<◌, ◌≤◌, ℕ, ℤ, pos, negsuc, true, Option}
+use Rattle.std.proofs.Common.{Some}
 use Rattle.std.proofs.Common.{refl, sym, ap, subst, arith}
 use Rattle.std.specs.Prelude.{◌+ℤ◌, ◌-ℤ◌, unwrap_or}
 use Rattle.std.proofs.lemmas.Int.{ints}
@@ -19,9 +20,9 @@ use Rattle.link_faults.specs.declared.symbol_ref.SymbolRef.{SymbolRef}
 use Rattle.link_needs.proofs.PlanLemmas.{table_small}
 use Rattle.link_needs.specs.Laws.{HasEntry}
 use Rattle.link_needs.specs.Given.{FitsTable, IsGiven}
-use Rattle.link_needs.specs.Plans.{reaches_entry}
 use Rattle.link_needs.specs.Linking.{Linking, binding, block_offset, layout, offset, place}
 use Rattle.link_needs.specs.Needs.{entries, entry_by, got_size, got_start, need_address, relocation_need, stub_start}
+use Rattle.link_needs.specs.SymbolNumbers.{reaches_entry}
 use Rattle.link_needs.specs.Values.{field, other_number, own_number}
 use Rattle.sequence_forms.specs.declared.forms.Call.TheVariants.{Direct}
 use Rattle.sequence_forms.specs.Forms.{IsCallKind}

@@ -1,5 +1,6 @@
 -- What is bound to a startup image lies in that image's TLS segment, near its start.
-use Rattle.std.proofs.Common.{◌≡◌, ◌∙◌, ◌+◌, ◌≤◌, ◌^◌, ℕ, suc, Bool, true, false, List, [], ◌∷◌, Option, Some, None}
+use Rattle.std.proofs.Common.{◌≡◌, ◌∙◌, ◌+◌, ◌≤◌, ◌^◌, ℕ, suc, Bool, true, false, List, [], ◌∷◌}
+use Rattle.std.proofs.Common.{Option, Some, None}
 use Rattle.std.proofs.Common.{map, refl, sym, ap, subst, arith, if◌then◌else◌}
 use Rattle.std.specs.Prelude.{option_map, slice_get}
 use Rattle.std.specs.List.{All}
@@ -28,8 +29,8 @@ use Rattle.module_table.specs.declared.events.Event.{Event}
 use Rattle.thread_blocks.specs.Turns.{at_number}
 use Rattle.tls_symbols.proofs.Within.{definition_within}
 use Rattle.tls_symbols.specs.Bindings.{is_tls_symbol, is_visible}
-use Rattle.tls_symbols.specs.Laws.{is_exported_by}
 use Rattle.tls_symbols.specs.Definitions.{IsWithin, definition_of}
+use Rattle.tls_symbols.specs.Laws.{is_exported_by}
 use Rattle.tied_sites.proofs.Counted.{early_image, starts}
 use Rattle.tied_sites.specs.Instances.{IsShared}
 
