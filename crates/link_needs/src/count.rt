@@ -12,7 +12,7 @@ use elf_object::Object;
 pub const MAX_RELOCATIONS: u128 = 1 << 19;
 
 /// How many the sections of an object have.
-#[tactic(auto, unfolding(crate::specs::Counts::own_count))]
+#[tactic(auto, unfolding(crate::specs::Refusals::own_count))]
 fn own_count(object: &Object) -> u64
     ensures count { result ≡ own_count object.now }
     ensures few { result ≤ 2 ^ 36 }

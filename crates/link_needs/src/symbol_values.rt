@@ -38,7 +38,7 @@ impl<'l, 's, 'a> Inputs<'l, 's, 'a> {
     }
 
     /// What a symbol of an object stands for, which may not be another image's.
-    #[tactic(auto, unfolding(crate::specs::SymbolNumbers::value_of))]
+    #[tactic(auto, unfolding(crate::specs::Plans::value_of))]
     fn value_of(&self, object: usize, symbol: u32) -> SymbolValue
         requires object { object < length self.now.objects }
         requires symbol { symbol < symbol_count (object_at self.now.objects object) }
