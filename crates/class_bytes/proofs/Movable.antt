@@ -21,8 +21,7 @@ use Rattle.link_faults.specs.declared.fault.LinkFaultKind.TheVariants.{NarrowInM
 use Rattle.link_faults.specs.ImageKinds.{is_moved}
 use Rattle.link_needs.specs.Given.{IsGiven}
 use Rattle.link_needs.specs.Linking.{Linking, binding, object}
-use Rattle.link_refusals.specs.Faults.{FitsKind, by_type}
-use Rattle.link_refusals.specs.Refused.{is_refused, is_refused_by}
+use Rattle.link_needs.specs.Refusals.{FitsKind, by_type, is_refused, is_refused_by}
 use Rattle.sequence_forms.specs.declared.forms.Second.{Second}
 use Rattle.sequence_forms.specs.Forms.{row}
 use Rattle.sequence_match.proofs.Entries.{same_entry}

@@ -6,7 +6,7 @@ ghost use Rattle.link_core.specs.Laws.{HasNoStray};
 ghost use Rattle.link_faults.specs.ImageKinds.{is_moved};
 ghost use Rattle.link_needs.specs.Given.{IsGiven};
 ghost use Rattle.link_needs.specs.Linking.{Linking};
-ghost use Rattle.link_refusals.specs.Faults.{FitsKind};
+ghost use Rattle.link_needs.specs.Refusals.{FitsKind};
 ghost use Rattle.tls_symbols.specs.Faults.{AreResolved};
 ghost use Rattle.class_bytes.specs.Tables.{IsMovable, Keeps};
 ghost use Rattle.whole_meaning.specs.Spots.{bias_of};

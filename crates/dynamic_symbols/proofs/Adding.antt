@@ -20,7 +20,7 @@ use Rattle.tls_symbols.specs.Bindings.{object_at}
 use Rattle.tls_symbols.specs.Definitions.{definition_of}
 use Rattle.tls_symbols.proofs.Search.{range_first}
 use Rattle.dynamic_symbols.specs.Names.{defined_at, distinct, imported_at, imported_from, imported_in, is_definition, is_import}
-use Rattle.dynamic_symbols.specs.Walks.{with_name, with_names}
+use Rattle.dynamic_symbols.specs.Found.{with_name, with_names}
 
 -- ** what a set of names that are lent keeps
 

@@ -1,8 +1,18 @@
 -- What a walk over the symbols of objects has found so far.
-use Rattle.std.specs.Prelude.{◌≡◌, ℕ, List, map}
-use Rattle.std.specs.List.{filter_map}
+use Rattle.std.specs.Prelude.{◌≡◌, ℕ, List, map, ◌++◌, [], ◌∷◌, if◌then◌else◌}
+use Rattle.std.specs.List.{filter_map, list_any}
 use Rattle.tls_symbols.specs.Definitions.{definition_of}
 use Rattle.dynamic_symbols.specs.declared.defining.Found.{Found}
+use Rattle.std.specs.Str.{bytes_eq}
+
+-- these names, and one more where it is none of them
+abbrev pub with_name : List (List ℕ) → List ℕ → List (List ℕ)
+with_name names name = if list_any (bytes_eq name) names then names else names ++ name ∷ []
+
+-- these names, and others in their order
+abbrev pub with_names : List (List ℕ) → List (List ℕ) → List (List ℕ)
+with_names names [] = names
+with_names names (name ∷ more) = with_names (with_name names name) more
 
 -- the names
 abbrev pub names_of : Found → List (List ℕ)

@@ -7,9 +7,8 @@ ghost use Rattle.elf_object.specs.declared.symbol.SymbolBinding.TheVariants.{Loc
 ghost use Rattle.elf_object.specs.Parts.{symbol_count};
 ghost use Rattle.tls_symbols.specs.Bindings.{object_at};
 ghost use Rattle.tls_symbols.specs.Definitions.{same_binding, IsWithin};
-ghost use Rattle.dynamic_symbols.specs.Found.{names_of, IsBound};
+ghost use Rattle.dynamic_symbols.specs.Found.{names_of, IsBound, with_name, with_names};
 ghost use Rattle.dynamic_symbols.specs.Names.{defined_in, defined_symbols, is_definition};
-ghost use Rattle.dynamic_symbols.specs.Walks.{with_name, with_names};
 
 use elf_object::{Object, SymbolBinding, SymbolPlace};
 use indexmap::IndexSet;

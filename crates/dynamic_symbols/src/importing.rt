@@ -5,8 +5,8 @@ ghost use Rattle.std.specs.List.{All};
 ghost use Rattle.elf_object.specs.Parts.{symbol_count};
 ghost use Rattle.tls_symbols.specs.Bindings.{object_at};
 ghost use Rattle.dynamic_symbols.specs.Names.{imported_in, imports, is_import};
+ghost use Rattle.dynamic_symbols.specs.Found.{with_names};
 ghost use Rattle.sequence_match.specs.Sites.{HaveSymbols};
-ghost use Rattle.dynamic_symbols.specs.Walks.{with_names};
 
 use elf_object::Object;
 use indexmap::IndexSet;

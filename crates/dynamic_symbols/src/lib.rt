@@ -34,7 +34,7 @@
 //! Names are kept apart by hash: the time is that of reading each symbol and each site once. `specs/Names` has the two
 //! lists, a line for each step, and `specs/Laws` what is proved of every such list: the symbols are there, the names
 //! are distinct, and no import is defined here or is `__tls_get_addr`.
-//! The other files of specs/ speak of what the walks keep: names (`Walks`), and the symbols beside them (`Found`).
+//! `specs/Found` speaks of what the walks keep: names, and the symbols beside them.
 #![tactic(auto)]
 
 mod defining;

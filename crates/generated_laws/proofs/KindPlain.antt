@@ -7,7 +7,7 @@ use Rattle.elf_object.specs.declared.relocation.Relocation.{Relocation}
 use Rattle.object_faults.specs.Firsts.{nonzero}
 use Rattle.link_faults.specs.declared.image_kind.ImageKind.{ImageKind}
 use Rattle.link_faults.specs.declared.fault.LinkFaultKind.TheVariants.{LocalExecInModule, NarrowInModule}
-use Rattle.link_refusals.specs.Refused.{is_refused}
+use Rattle.link_needs.specs.Refusals.{is_refused}
 use Rattle.tls_symbols.specs.Bindings.{object_at}
 use Rattle.tls_symbols.specs.Faults.{held_for, held_in, is_tls_kind, NoneCharged, Test}
 use Rattle.tls_symbols.proofs.FirstFaults.{ChargedAt, impossible}

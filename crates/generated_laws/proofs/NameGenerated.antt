@@ -3,13 +3,12 @@ use Rattle.std.proofs.Common.{◌≡◌, ◌+◌, ◌^◌, ◌<◌, ◌≤◌, �
 use Rattle.std.specs.Prelude.{slice_index_or}
 use Rattle.std.proofs.lemmas.List.FromFn.{get_or-map-range_with_len, length-map-range_with_len}
 use Rattle.link_faults.specs.declared.image_kind.ImageKind.{ImageKind}
-use Rattle.link_refusals.specs.Counts.{relocation_count}
-use Rattle.link_refusals.specs.Faults.{FitsKind, FitsStorage}
+use Rattle.link_needs.specs.Refusals.{relocation_count, FitsKind, FitsStorage}
 use Rattle.sequence_forms.specs.declared.places.Site.{Site}
 use Rattle.sequence_match.specs.Faults.{AreSites}
 use Rattle.tls_layout.specs.Places.{tls_size}
 use Rattle.tls_layout.specs.Sections.{all_sections}
-use Rattle.tls_symbols.specs.Bindings.{object_at}
+use Rattle.tls_symbols.specs.Bindings.{object_at, binding_of}
 use Rattle.tls_symbols.specs.Faults.{AreResolved}
 use Rattle.dynamic_symbols.specs.Names.{defined_symbols, imports, name_size}
 use Rattle.generated_job.specs.Generated.{module_shape, shape_of}
@@ -24,7 +23,6 @@ use Rattle.generated_laws.proofs.NameDefinitions.{AreApart, variable_bound}
 use Rattle.std.proofs.Common.{Some}
 use Rattle.elf_object.specs.declared.relocation.Relocation.{Relocation}
 use Rattle.link_faults.specs.declared.binding.Binding.TheVariants.{Here}
-use Rattle.tls_symbols.specs.Bindings.{binding_of}
 use Rattle.generated_laws.proofs.NameFaults.{resolved}
 use Rattle.generated_laws.proofs.NameSizes.{names_fit, no_imports}
 

@@ -21,8 +21,8 @@ no_link_fault l fault.NotTls None section entry links (resolved, never) = never
 no_link_fault l fault.LocalExecInModule (Some o) section entry links (resolved, first) =
     links.sound.kind.no_local_exec.nowhere o section entry first.here
 no_link_fault l fault.LocalExecInModule None section entry links (resolved, never) = never
-no_link_fault l fault.NarrowInModule (Some o) section entry links (resolved, narrow) =
-    links.sound.kind.no_narrow.nowhere o section entry narrow.first.here
+no_link_fault l fault.NarrowInModule (Some o) section entry links (resolved, (without, first)) =
+    links.sound.kind.no_narrow.nowhere o section entry first.here
 no_link_fault l fault.NarrowInModule None section entry links (resolved, never) = never
 no_link_fault l fault.TlsTooLarge object section entry links (resolved, (whole, kind, large)) =
     omega (arith, large, links.sound.limits.lawful.small_tls)

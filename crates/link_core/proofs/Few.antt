@@ -13,18 +13,17 @@ use Rattle.got_pairs.specs.declared.need.Need.TheVariants.{RuntimeWord}
 use Rattle.got_pairs.specs.Entries.{entry_of}
 use Rattle.got_pairs.specs.Plans.{starts_from}
 use Rattle.got_pairs.specs.Needs.{size_of}
-use Rattle.link_refusals.specs.Counts.{own_count, relocation_count}
+use Rattle.link_needs.specs.Refusals.{own_count, relocation_count}
 use Rattle.link_faults.specs.ImageKinds.{is_moved}
 use Rattle.sequence_forms.specs.declared.places.Site.{Site}
 use Rattle.sequence_match.specs.Faults.{AreSites}
 use Rattle.link_needs.specs.Linking.{Linking, block_offset, choice}
 use Rattle.link_needs.specs.Needs.{as_list, calls, entries, got_size, got_start, is_kept, needs, object_needs}
-use Rattle.link_needs.specs.Needs.{object_needs_from, reaching, relocation_need, site_needs, site_needs_from}
+use Rattle.link_needs.specs.Needs.{object_needs_from, reaching, relocation_need, site_needs, site_needs_from, sorted_by}
 use Rattle.link_tables.specs.Dynamic.{entry_relocations, got_relocations, image_relocations, need_relocations}
 use Rattle.link_tables.specs.Dynamic.{object_relocations, object_relocations_from, relatives, word_relocations}
 use Rattle.link_tables.specs.Faults.{FitsLimits}
 use Rattle.link_needs.specs.Given.{FitsTable, IsGiven}
-use Rattle.link_needs.specs.Sorting.{sorted_by}
 use Rattle.link_core.proofs.FewEntries.{length-entries, others, others-append, others-le, total_size-le}
 use Rattle.link_core.proofs.FewLists.{length-each, length-sorted_by}
 use Rattle.link_core.proofs.FewSites.{of_object}

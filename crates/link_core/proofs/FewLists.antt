@@ -6,7 +6,7 @@ use Rattle.std.specs.List.{All, AllPairs, Contains, flat_map}
 use Rattle.std.proofs.lemmas.List.Elements.{Contains-append_cases, Contains-append_left, Contains-append_right}
 use Rattle.std.proofs.lemmas.List.Sorted.{Contains-permutation, IsPermutation-remove, length_permutation}
 use Rattle.std.proofs.lemmas.List.{length-append}
-use Rattle.link_needs.specs.Sorting.{inserted, sorted_by}
+use Rattle.link_needs.specs.Needs.{inserted, sorted_by}
 
 -- ** sorting keeps the length
 

@@ -14,9 +14,9 @@ use Rattle.elf_records.specs.declared.relocation.RelocationKind.{RelocationKind}
 use Rattle.elf_records.specs.declared.relocation.RelocationKind.TheVariants.{Nothing}
 use Rattle.elf_records.specs.RelocationRows.{is_of_sequence}
 use Rattle.elf_object.specs.declared.relocation.Relocation.{Relocation}
-use Rattle.elf_object.specs.Lent.{kept_relocation_table, relocations, relocations_in, section_class}
+use Rattle.elf_object.specs.Lent.{relocations}
 use Rattle.elf_object.specs.Object.{section_count}
-use Rattle.link_refusals.specs.Counts.{own_count}
+use Rattle.link_needs.specs.Refusals.{own_count}
 use Rattle.sequence_forms.specs.declared.forms.Form.{Form}
 use Rattle.sequence_forms.specs.declared.forms.Form.TheVariants.{Gd}
 use Rattle.sequence_forms.specs.declared.places.Site.{Site}
@@ -28,6 +28,7 @@ use Rattle.sequence_match.proofs.Rows.{first_inside}
 use Rattle.sequence_match.proofs.Sections.{code_past, code_zero}
 use Rattle.link_faults.specs.declared.binding.Binding.{Binding}
 use Rattle.link_faults.specs.declared.binding.Binding.TheVariants.{Here}
+use Rattle.tls_symbols.proofs.SectionUses.{but_first, none_in_zero}
 use Rattle.link_needs.specs.Linking.{Linking, binding}
 use Rattle.link_needs.specs.Needs.{address_fields, address_needs, is_address_kind, object_needs, own_word, section_needs}
 use Rattle.link_tables.specs.Dynamic.{field_relocations, is_absolute, object_relocations, section_relocations}
@@ -215,16 +216,6 @@ module _ (l : Linking) (o : ℕ) where
   )
 
 -- ** an object
-
-none_in_zero : (b : List ℕ) → relocations b 0 ≡ []
-unfolding section_class kept_relocation_table relocations_in
-none_in_zero b = refl
-
--- section 0 has none
-but_first : {X : Type 0} (f : ℕ → List X) (n : ℕ) → f 0 ≡ []
-    → flat_map f (range_with_len 0 n) ≡ flat_map f (range_with_len 1 (n - 1))
-but_first f zero none = refl
-but_first f (suc n) none = let same : suc n - 1 ≡ n = omega arith in rw (none, same) refl
 
 needs_but_first : (l : Linking) (o : ℕ) (b : List ℕ)
     → object_needs l o b ≡ flat_map (section_needs l o b) (range_with_len 1 (section_count b - 1))

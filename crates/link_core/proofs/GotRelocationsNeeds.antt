@@ -36,7 +36,7 @@ use Rattle.got_pairs.specs.declared.need.Target.{Target}
 use Rattle.got_pairs.specs.declared.need.Target.TheVariants as target
 use Rattle.got_pairs.specs.Needs.{by_group, distinct, entries as entries_of, group_of, groups, of_group, same_group}
 use Rattle.got_pairs.specs.Needs.{same_need, size_of, start_from}
-use Rattle.link_refusals.specs.Refused.{asks_storage}
+use Rattle.link_needs.specs.Refusals.{asks_storage}
 use Rattle.link_faults.specs.ImageKinds.{is_module}
 use Rattle.relax_sites.specs.declared.choices.Choice.{Choice}
 use Rattle.relax_sites.specs.declared.choices.Choice.TheVariants.{Keep, GdLe, GdIe, IeLe, DescLe, DescIe}

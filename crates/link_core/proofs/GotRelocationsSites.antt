@@ -38,8 +38,7 @@ use Rattle.dynamic_symbols.specs.Names.{distinct, imported_at, imported_from, im
 use Rattle.sequence_match.specs.Sites.{first_of}
 use Rattle.dynamic_symbols.specs.Names.{is_import}
 use Rattle.dynamic_symbols.proofs.Foreign.{bindings_by_use}
-use Rattle.link_refusals.specs.Faults.{by_storage}
-use Rattle.link_refusals.specs.Refused.{asks_storage}
+use Rattle.link_needs.specs.Refusals.{by_storage, asks_storage}
 use Rattle.link_needs.specs.Linking.{Linking, binding, layout, object, offset, offset_in, sites_at}
 use Rattle.link_tables.specs.Dynamic.{imports}
 use Rattle.link_tables.specs.Faults.{IsSound}

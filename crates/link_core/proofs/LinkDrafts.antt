@@ -13,10 +13,9 @@ use Rattle.image_writer.specs.Page.{file_offset}
 use Rattle.link_needs.specs.Linking.{Linking, layout}
 use Rattle.link_core.specs.Bytes.{file}
 use Rattle.link_tables.specs.Dynamic.{image_relocations, is_flagged, names, symbols}
-use Rattle.link_tables.specs.Faults.{IsSound}
+use Rattle.link_tables.specs.Faults.{names_in, symbols_in, IsSound}
 use Rattle.link_needs.specs.Given.{IsGiven}
 use Rattle.link_core.specs.Images.{contents, file_kind, got_number, places, tls_part}
-use Rattle.link_tables.specs.Named.{names_in, symbols_in}
 use Rattle.link_core.proofs.Lengths.{file_ends, places_inside}
 use Rattle.link_core.proofs.Linkable.{linkable}
 use Rattle.link_core.proofs.Few.{table_fits}

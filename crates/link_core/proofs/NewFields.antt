@@ -25,10 +25,10 @@ use Rattle.link_needs.proofs.InputsLemmas.{address_small}
 use Rattle.link_needs.proofs.PlanLemmas.{table_small}
 use Rattle.link_needs.proofs.UsableSites.{usable}
 use Rattle.link_needs.specs.Given.{FitsTable, IsGiven}
+use Rattle.link_needs.specs.Plans.{IsUsable}
 use Rattle.link_needs.specs.Linking.{Linking, binding, block_offset, choice, chosen, layout, object, offset, place}
 use Rattle.link_needs.specs.Linking.{sites_at}
 use Rattle.link_needs.specs.Needs.{entries, entry_by, got_start, need_address, new_relocation, relocation_need}
-use Rattle.link_needs.specs.Usable.{IsUsable}
 use Rattle.link_needs.specs.Values.{field, other_number, own_number}
 use Rattle.link_tables.specs.Faults.{Links}
 use Rattle.relax_sites.proofs.Tables.{field_end}

@@ -10,11 +10,10 @@ use Rattle.tls_layout.specs.Laws.{LiesAt, extent_for}
 use Rattle.tls_layout.specs.Places.{section_named}
 use Rattle.tls_layout.proofs.LawsOfPlaces.{lie_in_classes}
 use Rattle.link_needs.specs.Linking.{Linking, layout}
-use Rattle.link_needs.specs.Needs.{got_start}
+use Rattle.link_needs.specs.Needs.{got_start, sorted_by}
 use Rattle.link_tables.specs.Dynamic.{image_relocations, got_relocations, object_relocations_from, relatives}
 use Rattle.link_needs.specs.Given.{FitsTable, IsGiven}
 use Rattle.link_core.specs.Images.{contents}
-use Rattle.link_needs.specs.Sorting.{sorted_by}
 use Rattle.link_core.proofs.GotRelocations.{got_above}
 use Rattle.link_core.proofs.GotRelocationsRows.{got_rises}
 use Rattle.link_core.proofs.RelativesApart.{IsRelative, all_sorted, rising_append, rising_from, sorted_rise, width_of}

@@ -9,7 +9,7 @@ use Rattle.dynamic_symbols.proofs.Lists.{all_flat_range}
 use Rattle.image_faults.specs.declared.loader_kind.LoaderKind.TheVariants.{Relative}
 use Rattle.image_file.specs.declared.relocation.ImageRelocation.{ImageRelocation}
 use Rattle.image_writer.specs.Linkable.{AreRising, width}
-use Rattle.link_needs.specs.Sorting.{inserted, sorted_by}
+use Rattle.link_needs.specs.Needs.{inserted, sorted_by}
 
 -- one writes before the other
 abbrev pub IsApart : ImageRelocation → ImageRelocation → Type 0

@@ -1,21 +1,21 @@
 -- What each step of linking tells is a fault of the link.
-use Rattle.std.proofs.Common.{◌≡◌, ◌<◌, ◌≤◌, ◌^◌, ◌⊎◌, ◌↔◌, ℕ, Bool, true, false, IsTrue, None, List, inl, inr, refl}
+use Rattle.std.proofs.Common.{◌≡◌, ◌<◌, ◌≤◌, ◌^◌, ◌↔◌, ℕ, Bool, true, false, IsTrue, None, List, inl, inr, refl}
 use Rattle.std.proofs.Common.{subst}
 use Rattle.std.proofs.lemmas.Bool.{cases_lt}
 use Rattle.link_faults.specs.declared.fault.LinkFault.{LinkFault}
 use Rattle.link_faults.specs.declared.image_kind.ImageKind.{ImageKind}
 use Rattle.link_faults.specs.declared.fault.LinkFault.TheVariants.{OutOfMemory, At}
 use Rattle.link_faults.specs.declared.fault.LinkFaultKind.TheVariants as fault
-use Rattle.link_refusals.specs.Faults.{FitsKind, IsStorageFault}
+use Rattle.link_needs.specs.Refusals.{FitsKind, IsStorageFault}
 use Rattle.tls_layout.specs.Places.{tls_size}
 use Rattle.tls_symbols.specs.Faults.{AreResolved}
 use Rattle.link_needs.specs.Linking.{Linking, layout}
-use Rattle.link_tables.specs.Faults.{FitsLimits, IsCrowded, IsLinkFault, IsWordy, LacksStorage}
+use Rattle.link_tables.specs.Faults.{FitsLimits, IsCrowded, IsLinkFault, LacksStorage}
 
 module _ (l : Linking) (resolved : AreResolved l.objects l.startup) where
   module _ (fits : FitsKind l.objects l.kind) where
     -- that of too many relocations or names
-    pub limit_fault : tls_size (layout l).sections ≤ 2 ^ 20 → IsCrowded l ⊎ IsWordy l
+    pub limit_fault : tls_size (layout l).sections ≤ 2 ^ 20 → IsCrowded l
         → IsLinkFault l (At fault.ImageTooLarge None 0 0)
     limit_fault small large = (resolved, ((refl, refl, refl), fits, small, inr large))
 

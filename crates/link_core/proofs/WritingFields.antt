@@ -20,8 +20,8 @@ use Rattle.link_needs.specs.declared.symbol_values.SymbolValue.{SymbolValue}
 use Rattle.link_needs.specs.Linking.{Linking, binding, layout, object, place}
 use Rattle.link_core.specs.Parts.{part_with_field}
 use Rattle.link_needs.specs.Given.{IsGiven}
-use Rattle.link_core.specs.Overflows.{IsFilled, IsOverflow}
-use Rattle.link_needs.specs.SymbolNumbers.{goes_by, value_of}
+use Rattle.link_needs.specs.Plans.{goes_by, value_of}
+use Rattle.link_tables.specs.Faults.{IsFilled, IsOverflow}
 use Rattle.link_needs.specs.Values.{field, is_replaced, is_rewriting, other_number, own_number}
 use Rattle.link_core.proofs.LengthsInside.{is_object}
 use Rattle.link_needs.proofs.ValueLemmas.{takes_part}

@@ -40,11 +40,10 @@ use Rattle.tls_layout.proofs.LawsOfSections.{finds_sections}
 use Rattle.link_needs.specs.Linking.{Linking, layout, object, place, sites_at}
 use Rattle.link_core.specs.Bytes.{raw_file}
 use Rattle.link_needs.specs.Given.{FitsTable, IsGiven}
-use Rattle.link_core.specs.Room.{HasRoom}
-use Rattle.link_needs.specs.Usable.{IsUsable}
+use Rattle.link_needs.specs.Plans.{IsUsable}
+use Rattle.link_core.specs.Parts.{HasRoom, IsInside}
 use Rattle.link_core.proofs.Lengths.{field_inside, site_inside}
 use Rattle.link_core.proofs.LengthsInside.{form_some, is_code, is_object, is_relocated}
-use Rattle.link_core.specs.Parts.{IsInside}
 use Rattle.link_core.proofs.StandingPlaces.{field_in}
 use Rattle.std.proofs.lemmas.Option.{same_Some}
 use Rattle.link_needs.proofs.UsableSites.{usable}

@@ -1,11 +1,8 @@
 -- what the crate below it says of tables and faults, so that whoever cites this crate finds all of a link here
 pub use Rattle.link_tables.specs.Dynamic
 pub use Rattle.link_tables.specs.Faults
-pub use Rattle.link_tables.specs.Named
 pub mod Bytes
 pub mod Images
 pub mod Laws
 pub mod Meant
-pub mod Overflows
 pub mod Parts
-pub mod Room

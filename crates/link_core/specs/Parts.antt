@@ -1,7 +1,7 @@
 -- Fields that are written in a part of the file alone. They are those of the sections that begin in the part, and a
 -- place counts from where the part begins.
 use Rattle.std.specs.Prelude.{◌≡◌, ◌+◌, ◌-◌, ◌<◌, ◌≤◌, ◌⊎◌, ◌&&◌, ◌∷◌, ℕ, Bool, true, List, [], Option, Some, None}
-use Rattle.std.specs.Prelude.{fold, length, nat_le, nat_lt, unwrap_or, if◌then◌else◌}
+use Rattle.std.specs.Prelude.{fold, length, nat_le, nat_lt, unwrap_or, if◌then◌else◌, ◌^◌}
 use Rattle.std.specs.List.{range_with_len}
 use Rattle.elf_object.specs.declared.relocation.Relocation.{Relocation}
 use Rattle.elf_object.specs.Lent.{relocation_target, section_size}
@@ -15,6 +15,7 @@ use Rattle.tls_relocs.specs.Patches.{patched}
 use Rattle.tls_symbols.specs.Faults.{held_in}
 use Rattle.link_needs.specs.Linking.{Linking, layout, object, place}
 use Rattle.link_needs.specs.Values.{field, is_replaced}
+use Rattle.link_faults.specs.ImageKinds.{base_of}
 
 -- ** where a section begins
 
@@ -89,3 +90,11 @@ part_with_fields_from l from to o (b ∷ more) part =
 pub record IsWritten (l : Linking) (from : ℕ) (to : Option ℕ) (before after : List ℕ) : Type 0 where
   pub written : after ≡ part_with_fields_from l from to 0 l.objects before
   pub filled : length after ≡ length before
+
+-- ** what a field asks of the place that it is written at
+
+-- a field of so many bytes, where it has some, lies at its address in a file of n bytes
+pub record HasRoom (l : Linking) (place width n : ℕ) : Type 0 where
+  pub near : place + 4096 < 2 ^ 64
+  pub above : 0 < width → base_of l.kind ≤ place + 4096
+  pub inside : 0 < width → offset_of (layout l) place + width ≤ n

@@ -7,7 +7,7 @@
 //!
 //! ```text
 //! names      what each relocation's symbol is bound to                       tls_symbols
-//! refusals   what the image's kind and its storage refuse                    link_refusals
+//! refusals   what the image's kind and its storage refuse                    link_needs
 //! places     where each section goes, in memory and in the TLS segment       tls_layout
 //! plan       the global offset table, and the value of each field            link_needs
 //!

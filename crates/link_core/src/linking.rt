@@ -9,11 +9,10 @@ ghost use Rattle.section_file.specs.Files.{sections_file};
 ghost use Rattle.link_needs.specs.Linking.{layout, link_of};
 ghost use Rattle.link_core.specs.Bytes.{file as file_of_link};
 ghost use Rattle.link_tables.specs.Dynamic.{image_relocations, names, symbols as symbols_of_link};
-ghost use Rattle.link_tables.specs.Faults.{IsLinkFault, IsSound, Links};
+ghost use Rattle.link_tables.specs.Faults.{names_in, symbols_in, IsLinkFault, IsSound, Links};
 ghost use Rattle.link_core.specs.Images.{contents, file_kind as file_kind_of, got_number};
 ghost use Rattle.link_core.specs.Images.{image_of as image_of_link, linked_of, places};
 ghost use Rattle.link_core.specs.Laws.{HasNoStray};
-ghost use Rattle.link_tables.specs.Named.{names_in, symbols_in};
 
 use crate::draft::{file_kind, is_flagged, push_made, section_places, tls_part};
 use crate::file::file_of;

@@ -2,7 +2,7 @@
 
 ghost use Rattle.std.specs.Prelude.{OnErr, OnOk};
 ghost use Rattle.tls_symbols.specs.Walks.{IsUse};
-ghost use Rattle.link_core.specs.Overflows.{IsFilled, IsOverflow, IsToldOverflow};
+ghost use Rattle.link_tables.specs.Faults.{IsFilled, IsOverflow, IsToldOverflow};
 
 use crate::ready::ReadyLink;
 use elf_object::RelocationKind;

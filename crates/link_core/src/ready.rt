@@ -3,7 +3,7 @@
 
 ghost use Rattle.std.specs.Prelude.{◌≡◌, ◌-◌, ◌<◌, ◌^◌, ℕ, [], None, IfErr, IfOk, OnOk, length, map, slice_index_or};
 ghost use Rattle.sequence_match.specs.Faults.{AreSites};
-ghost use Rattle.link_refusals.specs.Faults.{FitsKind, FitsStorage};
+ghost use Rattle.link_needs.specs.Refusals.{FitsKind, FitsStorage};
 ghost use Rattle.tls_layout.specs.Places.{tls_alignment, tls_size, IsLawful};
 ghost use Rattle.tls_layout.specs.Rounding.{round_up};
 ghost use Rattle.tls_layout.specs.Sections.{layout_of};
@@ -16,8 +16,7 @@ use dynamic_symbols::{defined_symbols, imports, names_fit};
 use elf_object::Object;
 use indexmap::IndexSet;
 use link_faults::{ImageKind, LinkFault, LinkFaultKind, SymbolRef};
-use link_needs::{Inputs, Plan, plan_of};
-use link_refusals::{ask_kind, ask_tls, has_few_relocations};
+use link_needs::{Inputs, Plan, ask_kind, ask_tls, has_few_relocations, plan_of};
 use link_tables::Tables;
 use relax_sites::Choice;
 use sequence_match::Site;

@@ -13,9 +13,8 @@ ghost use Rattle.tls_relocs.specs.Patches.{patched};
 ghost use Rattle.tls_symbols.specs.Bindings.{object_at};
 ghost use Rattle.link_core.specs.Bytes.{raw_file, with_new_field, with_site, with_sites_from};
 ghost use Rattle.link_needs.specs.Linking.{choice, layout, sites_at};
-ghost use Rattle.link_core.specs.Parts.{part_with_field, part_with_fields, part_with_table, start_in};
+ghost use Rattle.link_core.specs.Parts.{part_with_field, part_with_fields, part_with_table, start_in, HasRoom};
 ghost use Rattle.link_core.specs.Parts.{is_before, IsInside, IsPart, IsWritten};
-ghost use Rattle.link_core.specs.Room.{HasRoom};
 ghost use Rattle.relax_sites.specs.Rows.{new_field as new_field_of};
 
 use elf_object::{Relocation, RelocationKind};

@@ -1,8 +1,11 @@
+pub mod Asked
 pub mod ChoiceLemmas
 pub mod InputsLemmas
+pub mod Named
 pub mod NeedsLemmas
 pub mod PlanLemmas
 pub mod Reached
 pub mod SortingLaws
+pub mod Sums
 pub mod UsableSites
 pub mod ValueLemmas

@@ -19,7 +19,7 @@ use Rattle.tls_layout.proofs.Together.{page_limit}
 use Rattle.sequence_match.proofs.OwnSites.{own_sites, drop_at}
 use Rattle.link_needs.specs.Linking.{Linking, block_offset, layout, object, sites_at}
 use Rattle.link_needs.specs.Given.{FitsTable, IsGiven}
-use Rattle.link_needs.specs.Usable.{IsUsable}
+use Rattle.link_needs.specs.Plans.{IsUsable}
 use Rattle.link_needs.specs.Values.{counts_from_thread_pointer, is_local, is_rewriting, number_beside}
 use Rattle.link_needs.specs.Needs.{entries, got_size, got_start, needs, need_address, relocation_need, table}
 use Rattle.link_needs.proofs.UsableSites.{usable}

@@ -35,8 +35,7 @@ use Rattle.link_needs.specs.Linking.{Linking, address, binding, choice, object, 
 use Rattle.link_needs.specs.Needs.{address_needs, any_stub_call, as_list, calls, calls_stub, entries, got_size, has_stub}
 use Rattle.link_needs.specs.Needs.{is_address_kind, is_kept, is_stub_call, needs, new_relocation, object_needs}
 use Rattle.link_needs.specs.Needs.{object_needs_from, own_word, reaching, relocation_need, section_needs, site_needs}
-use Rattle.link_needs.specs.Needs.{site_needs_from}
-use Rattle.link_needs.specs.Sorting.{inserted, sorted_by}
+use Rattle.link_needs.specs.Needs.{site_needs_from, inserted, sorted_by}
 
 -- ** lists
 

@@ -9,7 +9,7 @@ use Rattle.std.specs.Ordering.{is_lt, nat_cmp}
 use Rattle.std.proofs.lemmas.Bool.Decides.{nat_tests}
 use Rattle.std.proofs.lemmas.Fn.{always_returns_same}
 use Rattle.std.proofs.lemmas.List.Sorted.{IsNonDecreasingBy-from_sort}
-use Rattle.link_needs.specs.Sorting.{inserted, sorted_by}
+use Rattle.link_needs.specs.Needs.{inserted, sorted_by}
 use denote.Param.Members.{Mut}
 use denote.Ref.{Bor}
 

@@ -18,7 +18,7 @@ use Rattle.sequence_match.specs.Sites.{IsSpelled}
 use Rattle.sequence_match.proofs.SitesSymbols.{sites_symbols}
 use Rattle.link_needs.specs.Linking.{Linking, object, sites_at}
 use Rattle.link_needs.specs.Given.{IsGiven}
-use Rattle.link_needs.specs.Usable.{IsUsable}
+use Rattle.link_needs.specs.Plans.{IsUsable}
 
 -- the code of a section is no longer than the section, and small
 code_fits : (b : List ℕ) → IsObject b → (s : ℕ)

@@ -25,9 +25,9 @@ use Rattle.tls_symbols.specs.Definitions.{definition_of, same_binding}
 use Rattle.link_needs.specs.Linking.{Linking, binding, object}
 use Rattle.link_needs.specs.Needs.{entry_need, need_address, relocation_need}
 use Rattle.link_needs.specs.declared.symbol_values.SymbolValue.{SymbolValue}
-use Rattle.link_needs.specs.SymbolNumbers.{all_values, goes_by, is_own, is_run_time, number_by, reaches_entry}
-use Rattle.link_needs.specs.SymbolNumbers.{value_by, value_of, values_of}
+use Rattle.link_needs.specs.Plans.{all_values, goes_by, is_own, is_run_time, number_by, reaches_entry}
 use Rattle.link_needs.specs.Values.{goes, is_runtime, own_number}
+use Rattle.link_needs.specs.Plans.{value_by, value_of, values_of}
 
 -- ** the tables
 

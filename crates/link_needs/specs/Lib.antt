@@ -3,7 +3,5 @@ pub mod Laws
 pub mod Linking
 pub mod Needs
 pub mod Plans
-pub mod Sorting
-pub mod SymbolNumbers
-pub mod Usable
+pub mod Refusals
 pub mod Values

@@ -1,7 +1,7 @@
 -- What code needs of the global offset table, and where the table, the stub and each entry lie (Drepper, "ELF Handling
 -- For Thread-Local Storage", section 4; psABI, "Thread-Local Storage").
 use Rattle.std.specs.Prelude.{◌+◌, ◌&&◌, ◌++◌, ℕ, Bool, true, false, List, [], ◌∷◌, Option, Some, None, filter}
-use Rattle.std.specs.Prelude.{option_and_then, option_map, is_some, if◌then◌else◌}
+use Rattle.std.specs.Prelude.{option_and_then, option_map, is_some, if◌then◌else◌, nat_le}
 use Rattle.std.specs.List.{flat_map, list_any, range_with_len}
 use Rattle.elf_records.specs.declared.relocation.RelocationKind.{RelocationKind}
 use Rattle.elf_records.specs.declared.relocation_row.TableEntry.{TableEntry}
@@ -13,8 +13,8 @@ use Rattle.elf_object.specs.Lent.{relocations, symbol_name}
 use Rattle.elf_object.specs.Object.{section_count}
 use Rattle.sequence_match.specs.Sites.{first_of}
 use Rattle.got_pairs.specs.declared.need.Need.{Need}
-use Rattle.got_pairs.specs.declared.need.Need.TheVariants.{ModulePair, SymbolPair, Descriptor, SymbolWord}
-use Rattle.got_pairs.specs.declared.need.Need.TheVariants.{AddressWord, RuntimeWord}
+use Rattle.got_pairs.specs.declared.need.Need.TheVariants.{ModulePair, SymbolPair, Descriptor, SymbolWord, AddressWord}
+use Rattle.got_pairs.specs.declared.need.Need.TheVariants.{RuntimeWord}
 use Rattle.got_pairs.specs.declared.need.Target.{Target}
 use Rattle.got_pairs.specs.declared.need.Target.TheVariants as target
 use Rattle.got_pairs.specs.Needs.{entries as entries_of, start_of, total_size}
@@ -31,7 +31,6 @@ use Rattle.tls_layout.specs.Rounding.{page_up}
 use Rattle.link_faults.specs.declared.binding.Binding.{Binding}
 use Rattle.link_faults.specs.declared.binding.Binding.TheVariants.{Here, Startup, Runtime}
 use Rattle.link_needs.specs.Linking.{Linking, address, binding, choice, layout, block_offset, object, offset}
-use Rattle.link_needs.specs.Sorting.{sorted_by}
 
 -- ** what a relocation reaches
 
@@ -116,6 +115,17 @@ own_word l bound = []
 
 abbrev pub address_needs : Linking → ℕ → Relocation → List Need
 address_needs l o r = own_word l (binding l o r)
+
+-- x before the first element whose number is at least its own
+abbrev pub inserted : {X : Type 0} → (X → ℕ) → X → List X → List X
+inserted number x [] = x ∷ []
+inserted number x (y ∷ more) =
+    if nat_le (number x) (number y) then x ∷ (y ∷ more) else y ∷ inserted number x more
+
+-- the elements by rising number; those of one number in the order that they have
+abbrev pub sorted_by : {X : Type 0} → (X → ℕ) → List X → List X
+sorted_by number [] = []
+sorted_by number (x ∷ more) = inserted number x (sorted_by number more)
 
 -- the address fields of section t, by their places
 abbrev pub address_fields : List ℕ → ℕ → List Relocation

@@ -1,13 +1,74 @@
--- What a link keeps of its table.
-use Rattle.std.specs.Prelude.{◌≡◌, ℕ, Bool, List}
+-- What a link keeps of its table, what each symbol that relocations name stands for, what a relocation's field takes
+-- from it, and what is asked of one site.
+use Rattle.std.specs.Prelude.{◌≡◌, ℕ, Bool, List, true, false, Option, Some, length, map, if◌then◌else◌, ◌+◌, ◌<◌, ◌≤◌}
+use Rattle.std.specs.Prelude.{◌^◌}
 use Rattle.got_pairs.specs.Plans.{Table}
 use Rattle.relax_sites.specs.declared.choices.Choice.{Choice}
 use Rattle.link_needs.specs.Given.{FitsTable, IsGiven}
-use Rattle.link_needs.specs.Linking.{Linking, choices_from}
+use Rattle.link_needs.specs.Linking.{Linking, choices_from, address, object, offset}
 use Rattle.link_needs.specs.Needs.{got_start, has_stub, stub_start, table}
 use Rattle.link_needs.specs.declared.symbol_values.SymbolValue.{SymbolValue}
-use Rattle.link_needs.specs.SymbolNumbers.{all_values}
-use Rattle.link_needs.specs.Values.{counts_from_thread_pointer, is_rewriting}
+use Rattle.link_needs.specs.Values.{counts_from_thread_pointer, is_rewriting, goes_where}
+use Rattle.std.specs.List.{range_with_len}
+use Rattle.elf_records.specs.declared.relocation.RelocationKind.{RelocationKind}
+use Rattle.elf_records.specs.RelocationRows.{row, is_offset}
+pub use Rattle.elf_records.specs.RelocationRows.{reaches_entry}
+use Rattle.elf_object.specs.Parts.{symbol_count}
+use Rattle.link_faults.specs.declared.binding.Binding.{Binding}
+use Rattle.link_faults.specs.declared.binding.Binding.TheVariants as bound
+use Rattle.tls_symbols.specs.Bindings.{bound_to}
+use Rattle.link_needs.specs.declared.symbol_values.SymbolValue.TheVariants.{Here, Runtime, Elsewhere}
+use Rattle.elf_object.specs.Lent.{section_size}
+use Rattle.relax_sites.specs.Rows.{form_length}
+use Rattle.sequence_forms.specs.declared.places.Site.{Site}
+
+-- a site lies in its section, names a symbol of its object, and has the bytes and a register of its form
+pub record IsUsable (b : List ℕ) (site : Site) : Type 0 where
+  pub symbol : site.symbol < symbol_count b
+  pub inside : site.start + site.len ≤ section_size b site.section
+  pub small : site.start + site.len ≤ 2 ^ 20
+  pub whole : site.len ≡ form_length site.form
+  pub register : site.reg ≤ 15
+
+-- ** what a symbol stands for
+
+abbrev pub value_by : Linking → Option Binding → SymbolValue
+value_by l (Some (bound.Here found)) = Here (address l found) (offset l found)
+value_by l (Some bound.Runtime) = Runtime
+value_by l other = Elsewhere
+
+-- symbol e of object o, which may not be another image's
+unfoldable pub value_of : Linking → ℕ → ℕ → SymbolValue
+value_of l o e = value_by l (bound_to l.objects l.startup o e false)
+
+-- the symbols of object o, and those of all objects
+abbrev pub values_of : Linking → ℕ → List SymbolValue
+values_of l o = map (value_of l o) (range_with_len 0 (symbol_count (object l o)))
+
+abbrev pub all_values : Linking → List (List SymbolValue)
+all_values l = map (values_of l) (range_with_len 0 (length l.objects))
+
+-- ** what a field takes from it
+
+-- S, its place, or O, its offset in the TLS segment
+abbrev pub number_by : Linking → RelocationKind → SymbolValue → ℕ
+number_by l kind (Here place within) = if is_offset kind then within else place
+number_by l kind Runtime = stub_start l
+number_by l kind Elsewhere = 0
+
+abbrev pub is_own : SymbolValue → Bool
+is_own (Here place within) = true
+is_own value = false
+
+abbrev pub is_run_time : SymbolValue → Bool
+is_run_time Runtime = true
+is_run_time value = false
+
+-- whether a type of relocation goes with its sequence, where its symbol stands for this
+abbrev pub goes_by : SymbolValue → RelocationKind → Bool
+goes_by value kind = goes_where (is_own value) (is_run_time value) (row kind).replaced
+
+-- ** what is kept
 
 -- these belong to the link: what its symbols stand for, which sequences stand in the place of its sites, its table, where
 -- it and the stub begin, whether there is a stub, whether sequences are rewritten, and whether offsets count from the

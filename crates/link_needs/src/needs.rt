@@ -9,11 +9,10 @@ ghost use Rattle.elf_object.specs.Parts.{symbol_count};
 ghost use Rattle.tls_symbols.specs.Bindings.{IsBindingWithin, object_at};
 ghost use Rattle.link_needs.specs.Linking.{choice, choices_from, choices_in};
 ghost use Rattle.link_needs.specs.Needs.{address_fields, address_need, address_needs, as_list, calls, calls_stub};
-ghost use Rattle.link_needs.specs.Needs.{is_address_kind};
+ghost use Rattle.link_needs.specs.Needs.{is_address_kind, own_word, reaching, relocation_need};
 ghost use Rattle.link_needs.specs.Needs.{is_kept, need_by, needs, new_relocation, object_needs, object_needs_from};
-ghost use Rattle.link_needs.specs.Needs.{own_word, reaching, relocation_need};
 ghost use Rattle.link_needs.specs.Needs.{section_needs, site_needs, site_needs_from, target_by};
-ghost use Rattle.link_needs.specs.Usable.{IsUsable};
+ghost use Rattle.link_needs.specs.Plans.{IsUsable};
 
 use crate::inputs::Inputs;
 use elf_object::{Object, Relocation, RelocationKind};

@@ -10,11 +10,10 @@ ghost use Rattle.sequence_forms.specs.declared.places.Site.{Site};
 ghost use Rattle.tls_relocs.specs.Fields.{width_of};
 ghost use Rattle.tls_symbols.specs.Bindings.{object_at};
 ghost use Rattle.link_needs.specs.Given.{FitsTable};
+ghost use Rattle.link_needs.specs.Plans.{goes_by, number_by, value_of};
 ghost use Rattle.link_needs.specs.Linking.{choice, choices_from, choices_in, place as place_of, sites_at};
 ghost use Rattle.link_needs.specs.Needs.{calls_stub, has_stub, is_kept, is_stub_call, need_address, relocation_need};
-ghost use Rattle.link_needs.specs.SymbolNumbers.{goes_by, number_by, value_of};
-ghost use Rattle.link_needs.specs.Values.{counts_from_thread_pointer, field, is_local, is_rewriting};
-ghost use Rattle.link_needs.specs.Values.{other_number};
+ghost use Rattle.link_needs.specs.Values.{other_number, counts_from_thread_pointer, field, is_local, is_rewriting};
 
 use crate::inputs::Inputs;
 use crate::needs::{Wanted, calls_stub, is_kept};

@@ -3,7 +3,7 @@
 ghost use Rattle.std.specs.Prelude.{◌≡◌, ◌<◌, IfOk, IfSome, length, map};
 ghost use Rattle.elf_object.specs.Parts.{symbol_count};
 ghost use Rattle.tls_symbols.specs.Bindings.{IsBindingWithin, object_at};
-ghost use Rattle.link_needs.specs.SymbolNumbers.{all_values, value_by, value_of, values_of};
+ghost use Rattle.link_needs.specs.Plans.{all_values, value_by, value_of, values_of};
 
 use crate::inputs::Inputs;
 use link_faults::Binding;
@@ -38,7 +38,7 @@ impl<'l, 's, 'a> Inputs<'l, 's, 'a> {
     }
 
     /// What a symbol of an object stands for, which may not be another image's.
-    #[tactic(auto, unfolding(crate::specs::SymbolNumbers::value_of))]
+    #[tactic(auto, unfolding(crate::specs::Plans::value_of))]
     fn value_of(&self, object: usize, symbol: u32) -> SymbolValue
         requires object { object < length self.now.objects }
         requires symbol { symbol < symbol_count (object_at self.now.objects object) }

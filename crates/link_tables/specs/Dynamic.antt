@@ -44,8 +44,7 @@ use Rattle.tls_relocs.specs.Values.{modulo}
 use Rattle.link_faults.specs.declared.symbol_ref.SymbolRef.{SymbolRef}
 use Rattle.tls_symbols.specs.Bindings.{get_address, is_tls_symbol}
 use Rattle.link_needs.specs.Linking.{Linking, address, binding, block_offset, object, offset, place}
-use Rattle.link_needs.specs.Needs.{entries, got_start, uses_runtime}
-use Rattle.link_needs.specs.Sorting.{sorted_by}
+use Rattle.link_needs.specs.Needs.{entries, got_start, sorted_by, uses_runtime}
 use Rattle.link_needs.specs.Values.{own_number}
 
 -- ** symbols

@@ -1,6 +1,6 @@
 -- When objects do not link, and what is told.
-use Rattle.std.specs.Prelude.{◌≡◌, ◌<◌, ◌≤◌, ◌^◌, ◌⊎◌, ℕ, List, Option, Some, None, IsNone, IsSomeAnd, false}
-use Rattle.std.specs.Prelude.{length, slice_get}
+use Rattle.std.specs.Prelude.{◌≡◌, ◌<◌, ◌≤◌, ◌^◌, ◌⊎◌, ℕ, List, Option, Some, None, IsNone, IsSomeAnd, false, length}
+use Rattle.std.specs.Prelude.{map, slice_get}
 use Rattle.std.specs.List.{All}
 use Rattle.elf_object.specs.declared.relocation.Relocation.{Relocation}
 use Rattle.elf_object.specs.Lent.{relocation_target}
@@ -9,8 +9,7 @@ use Rattle.dynamic_symbols.specs.Names.{name_size}
 use Rattle.link_faults.specs.declared.fault.LinkFault.{LinkFault}
 use Rattle.link_faults.specs.declared.fault.LinkFault.TheVariants.{OutOfMemory, At}
 use Rattle.link_faults.specs.declared.fault.LinkFaultKind.TheVariants as fault
-use Rattle.link_refusals.specs.Counts.{relocation_count}
-use Rattle.link_refusals.specs.Faults.{FitsKind, FitsStorage, IsKindFault, IsStorageFault}
+use Rattle.link_needs.specs.Refusals.{relocation_count, FitsKind, FitsStorage, IsKindFault, IsStorageFault}
 use Rattle.tls_layout.specs.Places.{span, tls_size, IsLawful}
 use Rattle.link_faults.specs.declared.image_kind.ImageKind.{ImageKind}
 use Rattle.link_faults.specs.declared.symbol_ref.SymbolRef.{SymbolRef}
@@ -20,16 +19,14 @@ use Rattle.link_needs.specs.Given.{IsGiven}
 use Rattle.link_needs.specs.Linking.{Linking, layout, object}
 use Rattle.link_needs.specs.Values.{field, is_replaced}
 use Rattle.link_tables.specs.Dynamic.{imports, own_symbols}
+use Rattle.image_file.specs.declared.symbol.ImageSymbol.{ImageSymbol}
+use Rattle.image_writer.specs.declared.draft.NamedSymbol.{NamedSymbol}
 
 -- ** limits
 
--- an image has at most 2^19 relocations
+-- an image has at most 2^19 relocations, and its names take at most 2^22 bytes
 abbrev pub IsCrowded : Linking → Type 0
-IsCrowded l = 2 ^ 19 < relocation_count l.objects
-
--- and its names take at most 2^22 bytes
-abbrev pub IsWordy : Linking → Type 0
-IsWordy l = 2 ^ 22 < name_size l.objects (own_symbols l) (imports l)
+IsCrowded l = (2 ^ 19 < relocation_count l.objects) ⊎ (2 ^ 22 < name_size l.objects (own_symbols l) (imports l))
 
 pub record FitsLimits (l : Linking) : Type 0 where
   pub lawful : IsLawful (layout l)
@@ -38,12 +35,29 @@ pub record FitsLimits (l : Linking) : Type 0 where
 
 -- ** fields
 
--- entry e of section s of object o is a relocation whose value its field does not hold
+-- a relocation of section t of object o has a field that does not hold its value; or it has none such
+abbrev pub IsOverflow : Linking → ℕ → ℕ → Relocation → Type 0
+IsOverflow l o t r = (is_replaced l o r ≡ false) × IsNone (field l o t r)
+
+abbrev pub IsFilled : Linking → ℕ → ℕ → Relocation → Type 0
+IsFilled l o t r = IsOverflow l o t r → ⊥
+
+-- entry e of section s of object o is such a relocation
 abbrev pub Overflows : Linking → ℕ → ℕ → ℕ → Type 0
 Overflows l o s e =
     (o < length l.objects) × (0 < s) × (s < section_count (object l o))
-    × IsSomeAnd (slice_get (held_in (object l o) s) e)
-    (λ (r : Relocation). (is_replaced l o r ≡ false) × IsNone (field l o (relocation_target (object l o) s) r))
+    × IsSomeAnd (slice_get (held_in (object l o) s) e) (IsOverflow l o (relocation_target (object l o) s))
+
+-- it is the first
+abbrev pub IsFirstOverflow : Linking → LinkFault → Type 0
+IsFirstOverflow l (At fault.Overflow (Some o) s e) =
+    Overflows l o s e × ((p t f : ℕ) → Earlier p t f o s e → Overflows l p t f → ⊥)
+IsFirstOverflow l told = ⊥
+
+-- what is told of all fields: nothing where each holds its value, else the first that does not
+abbrev pub IsToldOverflow : Linking → Option LinkFault → Type 0
+IsToldOverflow l None = (o s e : ℕ) → Overflows l o s e → ⊥
+IsToldOverflow l (Some told) = IsFirstOverflow l told
 
 -- ** storage
 
@@ -80,12 +94,11 @@ IsLaterFault l (At fault.TlsTooLarge object s e) =
     IsOfWhole object s e × FitsKind l.objects l.kind × (2 ^ 20 < tls_size (layout l).sections)
 IsLaterFault l (At fault.ImageTooLarge object s e) =
     IsOfWhole object s e × FitsKind l.objects l.kind × (tls_size (layout l).sections ≤ 2 ^ 20)
-    × ((2 ^ 24 < span l.kind (layout l).sections) ⊎ (IsCrowded l ⊎ IsWordy l))
+    × ((2 ^ 24 < span l.kind (layout l).sections) ⊎ IsCrowded l)
 IsLaterFault l (At fault.NoTls object s e) =
     FitsKind l.objects l.kind × FitsLimits l
     × IsStorageFault l.objects l.startup l.kind (tls_size (layout l).sections) (At fault.NoTls object s e)
-IsLaterFault l (At fault.Overflow (Some o) s e) =
-    IsSound l × Overflows l o s e × ((p t f : ℕ) → Earlier p t f o s e → Overflows l p t f → ⊥)
+IsLaterFault l (At fault.Overflow (Some o) s e) = IsSound l × IsFirstOverflow l (At fault.Overflow (Some o) s e)
 IsLaterFault l told = ⊥
 
 -- what a refusal says of the objects: the first fault, in the order of the kinds, Overflow last; of want of memory
@@ -106,3 +119,10 @@ pub record ArePrepared (l : Linking) (own : List SymbolRef) (names : List (List 
   pub own_are : own ≡ own_symbols l
   pub within : All (IsWithin l.objects) own
   pub imports_are : names ≡ imports l
+
+-- symbols with their names, as code holds them
+abbrev pub symbols_in : List NamedSymbol → List ImageSymbol
+symbols_in all = map (λ (s : NamedSymbol). s.symbol) all
+
+abbrev pub names_in : List NamedSymbol → List (List ℕ)
+names_in all = map (λ (s : NamedSymbol). s.name.now) all

@@ -1,3 +1,2 @@
 pub mod Dynamic
 pub mod Faults
-pub mod Named

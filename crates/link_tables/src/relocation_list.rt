@@ -2,28 +2,25 @@
 
 ghost use Rattle.std.specs.Prelude.{◌≡◌, ◌+◌, ◌*◌, ◌<◌, ◌≤◌, ◌^◌, ◌++◌, IfOk, OnOk, length, option_map, slice_get};
 ghost use Rattle.std.specs.Prelude.{unwrap_or};
-ghost use Rattle.std.specs.List.{Contains, position_from};
+ghost use Rattle.std.specs.List.{position_from};
 ghost use Rattle.std.specs.Str.{bytes_eq};
-ghost use Rattle.elf_object.specs.Lent.{relocations};
 ghost use Rattle.got_pairs.specs.Entries.{entry_of, words};
 ghost use Rattle.link_faults.specs.ImageKinds.{is_moved};
-ghost use Rattle.tls_layout.specs.Places.{address_of};
-ghost use Rattle.tls_symbols.specs.Bindings.{object_at};
+ghost use Rattle.tls_symbols.specs.Walks.{IsUse};
 ghost use Rattle.link_tables.specs.Dynamic.{entry_relocations, field_relocations, got_relocations, image_relocations};
 ghost use Rattle.link_tables.specs.Dynamic.{imports, loader_kind};
 ghost use Rattle.link_tables.specs.Dynamic.{number_of, own_symbols};
-ghost use Rattle.link_tables.specs.Dynamic.{object_relocations, object_relocations_from, relatives, relocation_of};
-ghost use Rattle.link_tables.specs.Dynamic.{section_relocations, word_relocations};
-ghost use Rattle.link_needs.specs.Linking.{block_offset, layout};
+ghost use Rattle.link_tables.specs.Dynamic.{object_relocations_from, relatives, relocation_of, word_relocations};
+ghost use Rattle.link_needs.specs.Linking.{block_offset};
 ghost use Rattle.link_needs.specs.Needs.{entries, got_size, got_start};
 
 use crate::tables::Tables;
-use elf_object::Relocation;
 use got_pairs::{DynamicKind, DynamicRelocation, DynamicSymbol, Entry, Word};
 use image_file::{ImageRelocation, LoaderKind};
 use link_faults::ImageKind;
 use link_needs::Plan;
 use std::alloc::{AllocError, Global};
+use tls_symbols::{Use, Uses};
 
 /// What a loader writes for a word of the table.
 fn loader_kind(kind: DynamicKind) -> LoaderKind
@@ -176,27 +173,19 @@ fn push_got(tables: &Tables, all: &mut Vec<ImageRelocation>) -> Result<(), Alloc
     Ok(())
 }
 
-/// Adds that of a field of 8 bytes with an address, of a section that begins at this address.
-fn push_field(
-    plan: &Plan,
-    object: usize,
-    section: u32,
-    address: u64,
-    relocation: &Relocation,
-    all: &mut Vec<ImageRelocation>,
-) -> Result<(), AllocError>
-    requires object { object < length plan.now.objects }
-    requires own { Contains (relocations (object_at plan.now.objects object) section) relocation.now }
-    requires address { address ≡ unwrap_or (address_of (layout plan.now) object section) 0 }
-    requires small { address ≤ 2 ^ 25 }
-    ensures { OnOk result
-        (all.new.items ≡ all.old.items ++ field_relocations plan.now object section relocation.now) }
+/// Adds that of a field of 8 bytes with an address.
+fn push_field(plan: &Plan, found: &Use, all: &mut Vec<ImageRelocation>) -> Result<(), AllocError>
+    requires { IsUse plan.now.objects found.now }
+    ensures { OnOk result (all.new.items ≡ all.old.items
+        ++ field_relocations plan.now found.now.place.object found.now.section found.now.relocation) }
 {
+    let relocation = found.relocation;
     if !relocation.kind.is_absolute() {
         return Ok(());
     }
-    // What is known of a plan is known where a part of it is read.
-    let _inputs = &plan.inputs;
+    let inputs = &plan.inputs;
+    let object = found.place.object as usize;
+    let address = inputs.section_address(object, found.section);
     let symbol = plan.symbol_value(object, relocation.symbol);
     let place = plan.own_number(relocation.kind, symbol);
     all.push(ImageRelocation {
@@ -208,44 +197,14 @@ fn push_field(
     Ok(())
 }
 
-/// Adds those of a section's fields.
-fn push_section(
-    plan: &Plan,
-    object: usize,
-    section: u32,
-    all: &mut Vec<ImageRelocation>,
-) -> Result<(), AllocError>
-    requires { object < length plan.now.objects }
-    ensures { OnOk result (all.new.items
-        ≡ all.old.items ++ section_relocations plan.now object (object_at plan.now.objects object) section) }
-{
-    let address = plan.inputs.section_address(object, section);
-    for relocation in plan.inputs.object(object).relocs(section) {
-        push_field(plan, object, section, address, &relocation, all)?;
-    }
-    Ok(())
-}
-
-/// Adds those of an object's fields.
-fn push_object(plan: &Plan, object: usize, all: &mut Vec<ImageRelocation>) -> Result<(), AllocError>
-    requires { object < length plan.now.objects }
-    ensures { OnOk result (all.new.items
-        ≡ all.old.items ++ object_relocations plan.now object (object_at plan.now.objects object)) }
-{
-    for section in 0..plan.inputs.object(object).section_count() {
-        push_section(plan, object, section, all)?;
-    }
-    Ok(())
-}
-
-/// Those of all fields, in the order of the file.
+/// Those of all fields, section by section.
 fn found_fields(alloc: Global, plan: &Plan) -> Result<Vec<ImageRelocation>, AllocError>
     ensures { IfOk result (λ all. all.items ≡ object_relocations_from plan.now 0 plan.now.objects) }
 {
     let mut all = Vec::new(alloc);
     let inputs = &plan.inputs;
-    for object in 0..inputs.objects.len() {
-        push_object(plan, object, &mut all)?;
+    for found in Uses::by_section(inputs.objects) {
+        push_field(plan, &found, &mut all)?;
     }
     Ok(all)
 }

@@ -8,8 +8,8 @@ ghost use Rattle.dynamic_symbols.specs.Names.{name_of};
 ghost use Rattle.image_file.specs.declared.symbol.SymbolType.TheVariants as type_in_image;
 ghost use Rattle.link_tables.specs.Dynamic.{binding_shown, defined, foreign, names, runtime_names, runtime_symbols};
 ghost use Rattle.link_tables.specs.Dynamic.{symbols, type_shown, visibility_shown};
+ghost use Rattle.link_tables.specs.Faults.{names_in, symbols_in};
 ghost use Rattle.link_needs.specs.Linking.{address, offset};
-ghost use Rattle.link_tables.specs.Named.{names_in, symbols_in};
 
 use crate::tables::Tables;
 use elf_object::{Object, SectionClass, SymbolPlace};

@@ -33,8 +33,7 @@ use Rattle.dynamic_symbols.proofs.Lists.{all_flat}
 use Rattle.link_needs.specs.Linking.{Linking, address, binding, block_offset, choice, chosen, place}
 use Rattle.link_needs.specs.Needs.{address_fields, address_needs, as_list, calls, entries, got_start, is_kept, need_by}
 use Rattle.link_needs.specs.Needs.{needs, object_needs, object_needs_from, own_word, reaching, relocation_need}
-use Rattle.link_needs.specs.Needs.{section_needs, site_needs, site_needs_from, target_by}
-use Rattle.link_needs.specs.Sorting.{sorted_by}
+use Rattle.link_needs.specs.Needs.{section_needs, site_needs, site_needs_from, target_by, sorted_by}
 use Rattle.link_core.specs.Dynamic.{entry_relocations, field_relocations, got_relocations, image_relocations}
 use Rattle.link_core.specs.Dynamic.{is_absolute, is_flagged, is_initial, need_relocations, object_relocations}
 use Rattle.link_core.specs.Dynamic.{object_relocations_from, relative, relatives, section_relocations, sum_of}

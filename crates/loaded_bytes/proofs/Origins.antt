@@ -3,8 +3,7 @@ use Rattle.std.proofs.Common.{◌≡◌, ◌+◌, ◌-◌, ◌<◌, ◌≤◌, �
 use Rattle.std.proofs.Common.{refl, sym, ap, subst, arith, if◌then◌else◌}
 use Rattle.std.specs.Prelude.{nat_le, slice_index_or}
 use Rattle.std.specs.List.{All, Contains, flat_map, range_with_len}
-use Rattle.std.proofs.lemmas.List.Elements.{All-append, All-cons, All-nil}
-use Rattle.std.proofs.lemmas.List.Elements.{Contains-append_left, Contains-append_right}
+use Rattle.std.proofs.lemmas.List.Elements.{All-append, All-cons, All-nil, Contains-append_left, Contains-append_right}
 use Rattle.std.proofs.lemmas.List.FromFn.{get_or-range_with_len, length-range_with_len}
 use Rattle.dynamic_symbols.proofs.Lists.{all_flat_range}
 use Rattle.elf_object.specs.declared.relocation.Relocation.{Relocation}
@@ -17,7 +16,7 @@ use Rattle.link_core.specs.Dynamic.{relatives, section_relocations, sum_of}
 use Rattle.link_faults.specs.ImageKinds.{is_moved}
 use Rattle.link_needs.proofs.Reached.{contains_flat, contains_sorted}
 use Rattle.link_needs.specs.Linking.{Linking, object, place}
-use Rattle.link_needs.specs.Sorting.{inserted, sorted_by}
+use Rattle.link_needs.specs.Needs.{inserted, sorted_by}
 
 -- ** where each is from
 

@@ -30,8 +30,7 @@ use Rattle.link_faults.specs.ImageKinds.{is_moved}
 use Rattle.link_needs.specs.Given.{IsGiven}
 use Rattle.link_needs.specs.Linking.{Linking, address, binding, block_offset, object, offset, place}
 use Rattle.link_needs.specs.Values.{field, goes, is_replaced, is_rewriting, other_number, own_number}
-use Rattle.link_refusals.specs.Faults.{by_type}
-use Rattle.link_refusals.specs.Refused.{is_refused}
+use Rattle.link_needs.specs.Refusals.{by_type, is_refused}
 use Rattle.object_faults.specs.declared.class.SectionClass.TheVariants.{Executable}
 use Rattle.sequence_forms.specs.declared.places.Site.{Site}
 use Rattle.sequence_forms.specs.Forms.{row}

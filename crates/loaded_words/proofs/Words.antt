@@ -1,7 +1,6 @@
 -- Each word of the table, as an instance has it.
 use Rattle.std.proofs.Common.{◌≡◌, ◌∙◌, ◌+◌, ◌-◌, ◌*◌, ◌<◌, ◌≤◌, ℕ, zero, suc, Bool, true, false, List, [], ◌∷◌, ◌++◌}
-use Rattle.std.proofs.Common.{Some, None}
-use Rattle.std.proofs.Common.{length, refl, sym, ap, arith, if◌then◌else◌}
+use Rattle.std.proofs.Common.{Some, None, length, refl, sym, ap, arith, if◌then◌else◌}
 use Rattle.std.specs.Prelude.{slice_get}
 use Rattle.std.specs.List.{All, find, flat_map}
 use Rattle.std.specs.Option.{option_or}
@@ -30,8 +29,7 @@ use Rattle.link_core.specs.Images.{contents, image_of}
 use Rattle.link_faults.specs.ImageKinds.{is_moved}
 use Rattle.link_needs.specs.Given.{FitsTable, IsGiven}
 use Rattle.link_needs.specs.Linking.{Linking, block_offset}
-use Rattle.link_needs.specs.Needs.{entries, got_start}
-use Rattle.link_needs.specs.Sorting.{sorted_by}
+use Rattle.link_needs.specs.Needs.{entries, got_start, sorted_by}
 use Rattle.loaded_modules.specs.declared.instance.Instance.{Instance}
 use Rattle.loaded_modules.specs.Images.{JobImages}
 use Rattle.relocated_parts.proofs.Words.{digits}

@@ -9,7 +9,7 @@ use Rattle.std.proofs.lemmas.List.FromFn.{get_or-map-range_with_len, length-map-
 use Rattle.std.proofs.lemmas.Option.{same_Some, slice_get-get_or}
 use Rattle.elf_object.specs.Lent.{relocations, section_size}
 use Rattle.link_needs.specs.Linking.{Linking, object, sites_at}
-use Rattle.link_needs.specs.Usable.{IsUsable}
+use Rattle.link_needs.specs.Plans.{IsUsable}
 use Rattle.meant_images.specs.declared.entries.Entry.{Entry}
 use Rattle.meant_images.specs.declared.kept.KeptObject.{KeptObject}
 use Rattle.meant_images.specs.declared.painting.Cell.{Cell}

@@ -8,8 +8,8 @@ use Rattle.elf_object.specs.declared.relocation.Relocation.{Relocation}
 use Rattle.elf_object.specs.Lent.{relocations, section_class}
 use Rattle.elf_object.specs.Object.{section_count}
 use Rattle.link_needs.specs.Given.{IsGiven}
+use Rattle.link_needs.specs.Plans.{IsUsable}
 use Rattle.link_needs.specs.Linking.{Linking, object, sites_at}
-use Rattle.link_needs.specs.Usable.{IsUsable}
 use Rattle.link_needs.proofs.UsableSites.{usable}
 use Rattle.meant_images.specs.declared.entries.Entry.{Entry}
 use Rattle.meant_images.specs.declared.entries.Entry.TheVariants.{Usual}

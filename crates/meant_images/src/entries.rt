@@ -4,7 +4,7 @@ ghost use Rattle.std.specs.Prelude.{◌≡◌, ◌≢◌, ◌+◌, ◌+ℤ◌, �
 ghost use Rattle.std.specs.List.{All};
 ghost use Rattle.elf_object.specs.Parts.{symbol_count};
 ghost use Rattle.elf_records.specs.declared.relocation.RelocationKind.TheVariants.{Nothing};
-ghost use Rattle.link_needs.specs.Usable.{IsUsable};
+ghost use Rattle.link_needs.specs.Plans.{IsUsable};
 ghost use Rattle.meant_images.specs.Entries.{IsFieldEntry, IsNumberedEntry, IsSiteEntry, address_entry, begun};
 ghost use Rattle.meant_images.specs.Entries.{mark_by, sequence_by};
 ghost use Rattle.meant_images.specs.Targets.{HasFewObjects, IsNumbered};

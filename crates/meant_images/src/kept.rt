@@ -6,7 +6,7 @@ ghost use Rattle.elf_object.specs.Lawful.{IsLawful};
 ghost use Rattle.elf_object.specs.Lent.{relocations as relocations_in_file, section_class};
 ghost use Rattle.elf_object.specs.Object.{section_count};
 ghost use Rattle.link_needs.specs.Linking.{object, sites_at};
-ghost use Rattle.link_needs.specs.Usable.{IsUsable};
+ghost use Rattle.link_needs.specs.Plans.{IsUsable};
 ghost use Rattle.meant_images.specs.Kept.{AreEntries, AreFields, AreSequences, Grows, KeepAll, Keeps, KeepsFields};
 ghost use Rattle.object_faults.specs.declared.class.SectionClass.TheVariants.{Executable};
 ghost use Rattle.sequence_match.specs.Faults.{AreSites};

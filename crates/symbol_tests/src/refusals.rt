@@ -6,7 +6,7 @@ use crate::images::{exports_of, files_of, images_of, read};
 use elf_object::Object;
 use link_faults::ImageKind::{Exe, Late, Pie, Start};
 use link_faults::{ImageKind, LinkFault};
-use link_refusals::{ask_kind, ask_tls, has_few_relocations, relocation_count};
+use link_needs::{ask_kind, ask_tls, has_few_relocations, relocation_count};
 use std::alloc::Global;
 use std::test::Fail;
 use tls_symbols::{Bindings, Exports, resolve};

@@ -19,7 +19,7 @@ use Rattle.link_core.proofs.Together.{together}
 use Rattle.link_core.specs.Dynamic.{is_absolute}
 use Rattle.link_needs.specs.Linking.{Linking, choice, object, sites_at}
 use Rattle.link_needs.specs.Needs.{is_kept}
-use Rattle.link_needs.specs.Usable.{IsUsable}
+use Rattle.link_needs.specs.Plans.{IsUsable}
 use Rattle.link_needs.specs.Values.{field, is_replaced}
 use Rattle.loaded_bytes.proofs.FieldBytes.{loaded_is}
 use Rattle.loaded_bytes.specs.Bytes.{loaded_byte, loaded_field}

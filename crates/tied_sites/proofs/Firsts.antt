@@ -30,8 +30,7 @@ use Rattle.link_needs.specs.Laws.{HasEntry}
 use Rattle.link_needs.specs.Given.{FitsTable}
 use Rattle.link_needs.specs.Linking.{Linking, binding, choice, layout, object}
 use Rattle.link_needs.specs.Needs.{got_start, is_kept, need_by, relocation_need, stub_start}
-use Rattle.link_needs.specs.SymbolNumbers.{reaches_entry}
-use Rattle.link_needs.specs.Usable.{IsUsable}
+use Rattle.link_needs.specs.Plans.{reaches_entry, IsUsable}
 use Rattle.link_needs.specs.Values.{field}
 use Rattle.loaded_bytes.specs.Laws.{IsInstanceOf}
 use Rattle.loaded_modules.specs.declared.instance.Instance.{Instance}

@@ -12,7 +12,7 @@ use Rattle.guest_machine.specs.Ranges.{byte_in}
 use Rattle.guest_operands.specs.declared.space.Access.TheVariants.{Run}
 use Rattle.link_needs.proofs.UsableSites.{usable}
 use Rattle.link_needs.specs.Linking.{Linking, layout, object, sites_at}
-use Rattle.link_needs.specs.Usable.{IsUsable}
+use Rattle.link_needs.specs.Plans.{IsUsable}
 use Rattle.loaded_bytes.proofs.Still.{code_loaded}
 use Rattle.loaded_bytes.proofs.Finds.{found_is}
 use Rattle.loaded_bytes.proofs.Sections.{sections_stand}

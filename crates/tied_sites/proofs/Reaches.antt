@@ -22,7 +22,7 @@ use Rattle.link_needs.specs.Laws.{HasEntry}
 use Rattle.link_needs.specs.Given.{FitsTable, IsGiven}
 use Rattle.link_needs.specs.Linking.{Linking, binding, block_offset, layout, offset, place}
 use Rattle.link_needs.specs.Needs.{entries, entry_by, got_size, got_start, need_address, relocation_need, stub_start}
-use Rattle.link_needs.specs.SymbolNumbers.{reaches_entry}
+use Rattle.link_needs.specs.Plans.{reaches_entry}
 use Rattle.link_needs.specs.Values.{field, other_number, own_number}
 use Rattle.sequence_forms.specs.declared.forms.Call.TheVariants.{Direct}
 use Rattle.sequence_forms.specs.Forms.{IsCallKind}

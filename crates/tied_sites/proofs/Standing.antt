@@ -14,7 +14,7 @@ use Rattle.link_faults.specs.declared.binding.Binding.TheVariants.{Here, Startup
 use Rattle.link_faults.specs.declared.symbol_ref.SymbolRef.{SymbolRef}
 use Rattle.link_needs.specs.Linking.{Linking, binding, block_offset, choice, object, offset}
 use Rattle.link_needs.specs.Needs.{has_stub, is_kept}
-use Rattle.link_needs.specs.Usable.{IsUsable}
+use Rattle.link_needs.specs.Plans.{IsUsable}
 use Rattle.loaded_bytes.specs.Laws.{IsInstanceOf, images_of}
 use Rattle.loaded_modules.specs.declared.instance.Instance.{Instance}
 use Rattle.module_table.specs.Past.{startup_count}

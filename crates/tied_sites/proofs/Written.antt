@@ -16,8 +16,7 @@ use Rattle.link_needs.specs.Laws.{HasEntry}
 use Rattle.link_needs.specs.Given.{FitsTable}
 use Rattle.link_needs.specs.Linking.{Linking, binding, block_offset, choice, layout, object, offset}
 use Rattle.link_needs.specs.Needs.{got_start, is_kept, new_relocation, relocation_need, target_by}
-use Rattle.link_needs.specs.SymbolNumbers.{reaches_entry}
-use Rattle.link_needs.specs.Usable.{IsUsable}
+use Rattle.link_needs.specs.Plans.{reaches_entry, IsUsable}
 use Rattle.link_needs.specs.Values.{field}
 use Rattle.loaded_bytes.specs.Laws.{IsInstanceOf, images_of}
 use Rattle.loaded_modules.specs.declared.instance.Instance.{Instance}

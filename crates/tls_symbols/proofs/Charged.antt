@@ -10,9 +10,8 @@ use Rattle.tls_symbols.specs.declared.charges.Charge.TheVariants.{Unbound, Unsui
 use Rattle.tls_symbols.specs.declared.standings.Bound.{Bound}
 use Rattle.tls_symbols.specs.declared.standings.Bound.TheVariants.{ThreadLocal, Ordinary}
 use Rattle.tls_symbols.specs.Bindings.{binding_of, is_tls_binding}
-use Rattle.tls_symbols.specs.Charges.{is_charged, test_of}
+use Rattle.tls_symbols.specs.Charges.{is_charged, test_of, bound_as, is_unbound, is_unsuited}
 use Rattle.tls_symbols.specs.Faults.{differ, is_faulty, is_mismatched, is_tls_kind, names_symbol}
-use Rattle.tls_symbols.specs.Standings.{bound_as, is_unbound, is_unsuited}
 
 module _ (objects : List (List ℕ)) where
   unbound_is : (found : Option Binding) → is_unbound (bound_as objects found) ≡ is_none found

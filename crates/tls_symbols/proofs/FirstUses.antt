@@ -12,6 +12,7 @@ use Rattle.elf_object.specs.Lawful.{IsLawful}
 use Rattle.elf_object.specs.LawsOfRelocations.{lawful}
 use Rattle.elf_object.specs.Lent.{relocation_target, relocations}
 use Rattle.elf_object.specs.Object.{section_count}
+use Rattle.tls_symbols.specs.declared.uses.Order.TheVariants.{Holders}
 use Rattle.tls_symbols.specs.declared.uses.Use.{Use}
 use Rattle.tls_symbols.specs.Bindings.{object_at}
 use Rattle.tls_symbols.specs.Faults.{held_in, Earlier}
@@ -115,22 +116,22 @@ module _ (P : Use → Type 0) (objects : List (List ℕ)) (each : All IsObject o
 
   -- the sections of an object that are left, and what is behind them
   in_object : (o s n : ℕ) (more : List Use) → o < length objects → 0 < s → n ≡ section_count (object_at objects o) - s → Before o s 0
-      → (Before (o + 1) 1 0 → Decides P objects more) → Decides P objects (flat_map (uses_held o (object_at objects o)) (range_with_len s n) ++ more)
+      → (Before (o + 1) 1 0 → Decides P objects more) → Decides P objects (flat_map (uses_held Holders o (object_at objects o)) (range_with_len s n) ++ more)
   in_object o s zero more there some left before rest = rest (after_object o s before (omega (arith, left)))
   in_object o s (suc n) more there some left before rest =
       let b = object_at objects o in
-      let behind = flat_map (uses_held o b) (range_with_len (s + 1) n) in
+      let behind = flat_map (uses_held Holders o b) (range_with_len (s + 1) n) in
       let below : s < section_count b = omega (arith, left) in
-      subst (Decides P objects) (sym (append_assoc (uses_held o b s) behind more))
+      subst (Decides P objects) (sym (append_assoc (uses_held Holders o b s) behind more))
       (in_section o s there some below 0 (held_in b s) (behind ++ more) before (λ k. let same : 0 + k ≡ k = omega arith in ap (slice_get (held_in b s)) same)
       (λ next. in_object o (s + 1) n more there (omega arith) (omega (arith, left)) next rest))
 
   -- the objects that are left
-  in_objects : (o : ℕ) (left : List (List ℕ)) → drop o objects ≡ left → Before o 1 0 → Decides P objects (uses_from o 1 left)
+  in_objects : (o : ℕ) (left : List (List ℕ)) → drop o objects ≡ left → Before o 1 0 → Decides P objects (uses_from Holders o 1 left)
   in_objects o [] e before = λ p t f at. let past : length (drop o objects) ≡ 0 = ap length e in before p t f (inl (omega (arith, at.0, past, length-drop o objects))) at
   in_objects o (b ∷ more) e before = subst
-      (λ b. Decides P objects (flat_map (uses_held o b) (range_with_len 1 (section_count b - 1)) ++ uses_from (o + 1) 1 more)) first.here
-      (in_object o 1 (section_count (object_at objects o) - 1) (uses_from (o + 1) 1 more) first.within (omega arith) refl before (in_objects (o + 1) more first.rest))
+      (λ b. Decides P objects (flat_map (uses_held Holders o b) (range_with_len 1 (section_count b - 1)) ++ uses_from Holders (o + 1) 1 more)) first.here
+      (in_object o 1 (section_count (object_at objects o) - 1) (uses_from Holders (o + 1) 1 more) first.within (omega arith) refl before (in_objects (o + 1) more first.rest))
     where
       first : Dropped objects o [] b more
       first = dropped_is objects o [] b more e

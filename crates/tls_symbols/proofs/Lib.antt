@@ -8,6 +8,7 @@ pub mod KnownNames
 pub mod Numbered
 pub mod Resolves
 pub mod Search
+pub mod SectionUses
 pub mod Sections
 pub mod Told
 pub mod Unfit

@@ -14,7 +14,7 @@ use Rattle.elf_object.specs.Lent.{symbol_binding, symbol_name, symbol_place}
 use Rattle.elf_object.specs.Parts.{symbol_count}
 use Rattle.link_faults.specs.declared.symbol_ref.SymbolRef.{SymbolRef}
 use Rattle.tls_symbols.specs.Definitions.{defines, found_or, is_defined, same_binding}
-use Rattle.tls_symbols.specs.Firsts.{export_in}
+use Rattle.tls_symbols.specs.Numbers.{export_in}
 use Rattle.tls_symbols.specs.Numbers.{Names, number_of, IsNamed, IsNumberOf, at_number, or_else, own_numbers, with_first, told}
 use Rattle.tls_symbols.proofs.Search.{find_here, find_later}
 

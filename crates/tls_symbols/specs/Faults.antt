@@ -1,8 +1,9 @@
 -- When the names of an image are at fault: what each kind means, and which fault is the first.
-use Rattle.std.specs.Prelude.{◌≡◌, ◌<◌, ◌⊎◌, ◌&&◌, ◌||◌, ℕ, Bool, true, false, not, List, [], Option, Some, None}
+use Rattle.std.specs.Prelude.{◌≡◌, ◌≢◌, ◌<◌, ◌⊎◌, ◌&&◌, ◌||◌, ℕ, Bool, true, false, not, List, [], Option, Some, None}
 use Rattle.std.specs.Prelude.{is_none, length, slice_get, IsSomeAnd}
 use Rattle.std.specs.Str.{bytes_eq}
 use Rattle.elf_records.specs.declared.relocation.RelocationKind.{RelocationKind}
+use Rattle.elf_records.specs.declared.relocation.RelocationKind.TheVariants.{Nothing}
 pub use Rattle.elf_records.specs.RelocationRows.{is_tls_kind, names_symbol}
 use Rattle.elf_object.specs.declared.relocation.Relocation.{Relocation}
 use Rattle.elf_object.specs.declared.symbol.SymbolBinding.TheVariants.{Local, Global}
@@ -70,6 +71,14 @@ held_in b s = held_for b (nonzero (relocation_target b s))
 -- which relocations are charged, by the number of their object
 abbrev pub Test : Type 0
 Test = ℕ → Relocation → Bool
+
+-- a relocation names a symbol of its object, or none
+abbrev pub NamesWithin : List ℕ → Relocation → Type 0
+NamesWithin b r = r.kind ≢ Nothing → r.symbol < symbol_count b
+
+-- what may be asked of a relocation may be asked of each of the objects
+abbrev pub MayAsk : (ℕ → Relocation → Type 0) → List (List ℕ) → Type 0
+MayAsk may_ask objects = (o : ℕ) → o < length objects → (r : Relocation) → NamesWithin (object_at objects o) r → may_ask o r
 
 -- entry e of section s of object o is a relocation that is charged
 abbrev pub IsChargedAt : Test → List (List ℕ) → ℕ → ℕ → ℕ → Type 0

@@ -1,5 +1,5 @@
 -- What is known of the names of an image, and what it tells by their numbers.
-use Rattle.std.specs.Prelude.{◌==◌, ℕ, Bool, Option, Some, None, map, if◌then◌else◌}
+use Rattle.std.specs.Prelude.{◌==◌, ℕ, Bool, List, Option, Some, None, map, if◌then◌else◌}
 use Rattle.link_faults.specs.declared.binding.Binding.{Binding}
 use Rattle.link_faults.specs.declared.binding.Binding.TheVariants.{Runtime}
 use Rattle.tls_symbols.specs.declared.image_names.ImageNames.{ImageNames}
@@ -23,3 +23,10 @@ abbrev pub binding_at : ImageNames → ℕ → Bool → Option Binding
 binding_at n number imports =
     if number == 0 then Some Runtime else
     here_or (definition_at n number) (if imports then imported_at n number else None)
+
+-- what contracts see of bindings: what decides them
+pub record Resolved : Type 0 where
+  -- the image's objects
+  pub objects : List (List ℕ)
+  -- the names that each startup image exports, in image order
+  pub startup : List (List (List ℕ))

@@ -2,11 +2,7 @@ pub mod Bindings
 pub mod Charges
 pub mod Definitions
 pub mod Faults
-pub mod Firsts
 pub mod Known
 pub mod Laws
 pub mod Numbers
-pub mod Resolved
-pub mod Searches
-pub mod Standings
 pub mod Walks

@@ -1,9 +1,9 @@
 -- Names and their numbers, and what a table over these numbers tells of each name.
 use Rattle.std.specs.Prelude.{◌≡◌, ◌<◌, ℕ, true, false, List, [], Option, Some, None, length, map, slice_index}
-use Rattle.std.specs.Prelude.{slice_index_or, slice_set, MatchOption}
+use Rattle.std.specs.Prelude.{slice_index_or, slice_set, MatchOption, if◌then◌else◌}
 use Rattle.std.specs.Borrow.{Bor}
 use Rattle.std.specs.Global.{Vec}
-use Rattle.std.specs.List.{position_or_len}
+use Rattle.std.specs.List.{position_or_len, list_any}
 use Rattle.std.specs.Str.{bytes_eq}
 use Rattle.elf_object.specs.declared.symbol.SymbolBinding.{SymbolBinding}
 use Rattle.elf_object.specs.declared.symbol.SymbolBinding.TheVariants.{Local, Global, Weak}
@@ -11,7 +11,7 @@ use Rattle.elf_object.specs.Lent.{symbol_binding, symbol_name}
 use Rattle.elf_object.specs.Parts.{symbol_count}
 use Rattle.tls_symbols.specs.declared.numbers.KnownSymbol.{KnownSymbol}
 use Rattle.link_faults.specs.declared.symbol_ref.SymbolRef.{SymbolRef}
-use Rattle.tls_symbols.specs.Definitions.{first_from, same_binding}
+use Rattle.tls_symbols.specs.Definitions.{first_from, same_binding, first_in, found_or}
 use Rattle.tls_symbols.specs.Bindings.{first_export, get_address, is_tls_symbol, object_at}
 
 -- names, each of which is lent
@@ -102,3 +102,19 @@ pub record KnowsNames (objects : List (List ℕ)) (startup : List (List (List �
 -- what a list of lists has at an index
 abbrev pub own_numbers : {X : Type 0} → List (Vec X) → ℕ → List X
 own_numbers numbers index = slice_index_or (map (λ own. own.items) numbers) index []
+
+-- ** what a table notes, step by step
+
+-- image k, if the name is among those
+abbrev pub export_in : ℕ → List ℕ → List (List ℕ) → Option ℕ
+export_in k name names = if list_any (bytes_eq name) names then Some k else None
+
+-- the first definitions that object o has were noted, where there were none
+pub record NotesDefinitions (names : Names) (binding : SymbolBinding) (o : ℕ) (b : List ℕ)
+    (old new : List (Option SymbolRef)) : Type 0 where
+  pub notes : (name : List ℕ)
+      → told names new name ≡ or_else (told names old name) (found_or o (first_in binding name b) None)
+
+-- so was what image k exports
+pub record NotesExports (names : Names) (k : ℕ) (exported : List (List ℕ)) (old new : List (Option ℕ)) : Type 0 where
+  pub notes : (name : List ℕ) → told names new name ≡ or_else (told names old name) (export_in k name exported)

@@ -1,10 +1,13 @@
 -- The uses of relocations that a walk over objects meets, and the first that has a property.
-use Rattle.std.specs.Prelude.{◌≡◌, ◌<◌, ◌≤◌, ◌+◌, ◌-◌, ◌^◌, ◌++◌, ℕ, suc, List, [], ◌∷◌, drop, length, slice_get, IsSomeAnd}
+use Rattle.std.specs.Prelude.{◌≡◌, ◌<◌, ◌≤◌, ◌+◌, ◌-◌, ◌^◌, ◌++◌, ℕ, suc, List, [], ◌∷◌, drop, length, slice_get}
+use Rattle.std.specs.Prelude.{IsSomeAnd}
 use Rattle.std.specs.List.{flat_map, range_with_len, Contains}
 use Rattle.elf_object.specs.declared.relocation.Relocation.{Relocation}
 use Rattle.elf_object.specs.Lawful.{IsLawful}
-use Rattle.elf_object.specs.Lent.{relocation_target, relocations}
+use Rattle.elf_object.specs.Lent.{kept_relocation_table, relocation_target, relocations}
 use Rattle.elf_object.specs.Object.{section_count}
+use Rattle.tls_symbols.specs.declared.uses.Order.{Order}
+use Rattle.tls_symbols.specs.declared.uses.Order.TheVariants.{Holders, Targets}
 use Rattle.tls_symbols.specs.declared.uses.Use.{Use}
 use Rattle.tls_symbols.specs.declared.uses.Uses.{Uses}
 use Rattle.tls_symbols.specs.Bindings.{object_at}
@@ -21,26 +24,30 @@ abbrev pub entries_from : ℕ → ℕ → ℕ → ℕ → List Relocation → Li
 entries_from o s t e [] = []
 entries_from o s t e (r ∷ more) = use_at o s t e r ∷ entries_from o s t (e + 1) more
 
--- those that section s of an object holds
-abbrev pub uses_held : ℕ → List ℕ → ℕ → List Use
-uses_held o b s = entries_from o s (relocation_target b s) 0 (held_in b s)
+-- those that section s of an object holds, or those that are for it
+abbrev pub uses_held : Order → ℕ → List ℕ → ℕ → List Use
+uses_held Holders o b s = entries_from o s (relocation_target b s) 0 (held_in b s)
+uses_held Targets o b s = entries_from o (kept_relocation_table b s) s 0 (relocations b s)
 
 -- those of the objects from number o on, and of the first of these from section s on
-abbrev pub uses_from : ℕ → ℕ → List (List ℕ) → List Use
-uses_from o s [] = []
-uses_from o s (b ∷ more) =
-    flat_map (uses_held o b) (range_with_len s (section_count b - s)) ++ uses_from (o + 1) 1 more
+abbrev pub uses_from : Order → ℕ → ℕ → List (List ℕ) → List Use
+uses_from order o s [] = []
+uses_from order o s (b ∷ more) =
+    flat_map (uses_held order o b) (range_with_len s (section_count b - s)) ++ uses_from order (o + 1) 1 more
 
--- all of the objects
+-- all of the objects, by the sections that hold them, and by those that they are for
 unfoldable pub uses : List (List ℕ) → List Use
-uses objects = uses_from 0 1 objects
+uses objects = uses_from Holders 0 1 objects
+
+unfoldable pub section_uses : List (List ℕ) → List Use
+section_uses objects = uses_from Targets 0 1 objects
 
 -- ** what of them is left
 
 unfoldable pub uses_left : Uses → List Use
 uses_left w =
     entries_from w.place.object w.place.section w.section w.place.entry w.relocs
-    ++ uses_from w.object w.table (drop w.object w.objects.now)
+    ++ uses_from w.order w.object w.number (drop w.object w.objects.now)
 
 -- entries are counted
 abbrev pub IsCounted : Uses → Type 0
@@ -52,7 +59,7 @@ steps_from s [] = 0
 steps_from s (b ∷ more) = suc (section_count b - s) + steps_from 1 more
 
 unfoldable pub steps_left : Uses → ℕ
-steps_left w = steps_from w.table (drop w.object w.objects.now)
+steps_left w = steps_from w.number (drop w.object w.objects.now)
 
 -- a walk goes on: what is left stays
 pub record GoesOn (old new : Uses) : Type 0 where

@@ -6,10 +6,9 @@ ghost use Rattle.elf_object.specs.declared.symbol.SymbolBinding.TheVariants.{Loc
 ghost use Rattle.elf_object.specs.Parts.{symbol_count};
 ghost use Rattle.tls_symbols.specs.Bindings.{binding_of, bound_to, may, object_at, IsBindingWithin};
 ghost use Rattle.tls_symbols.specs.Definitions.{definition_of, same_binding, IsWithin};
-ghost use Rattle.tls_symbols.specs.Charges.{test_of};
+ghost use Rattle.tls_symbols.specs.Charges.{test_of, AllStandings};
 ghost use Rattle.tls_symbols.specs.Faults.{AreResolved, IsFault, IsFirstCharged, NoneCharged};
 ghost use Rattle.tls_symbols.specs.Known.{IsKnown};
-ghost use Rattle.tls_symbols.specs.Standings.{AllStandings};
 
 use crate::charges::{Charge, NameQuestion};
 use crate::duplicates::first_duplicate;
@@ -31,8 +30,7 @@ pub struct Bindings<'l, 's, 'a> {
 }
 
 impl<'l, 's, 'a> Model for Bindings<'l, 's, 'a> {
-    ghost use Rattle.tls_symbols.specs.Resolved.{Resolved};
-    ghost use Rattle.tls_symbols.specs.Known.{IsKnown};
+    ghost use Rattle.tls_symbols.specs.Known.{Resolved, IsKnown};
     ghost use Rattle.tls_symbols.specs.Faults.{AreResolved};
 
     ghost Value = { Resolved };

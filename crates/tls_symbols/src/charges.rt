@@ -4,7 +4,7 @@ ghost use Rattle.std.specs.Prelude.{◌≡◌, ◌<◌, length, map};
 ghost use Rattle.elf_object.specs.Parts.{symbol_count};
 ghost use Rattle.tls_symbols.specs.Bindings.{object_at};
 ghost use Rattle.tls_symbols.specs.Charges.{asked_by, is_charged, IsAsked};
-ghost use Rattle.tls_symbols.specs.Standings.{is_unbound, is_unsuited, AllStandings, IsStanding};
+ghost use Rattle.tls_symbols.specs.Charges.{is_unbound, is_unsuited, AllStandings, IsStanding};
 
 use crate::image_names::ImageNames;
 use crate::imports::imports_of;

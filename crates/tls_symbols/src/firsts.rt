@@ -5,9 +5,8 @@ ghost use Rattle.elf_object.specs.Lent.{symbol_binding, symbol_place};
 ghost use Rattle.elf_object.specs.Parts.{symbol_count};
 ghost use Rattle.elf_object.specs.declared.symbol.SymbolBinding.TheVariants.{Local};
 ghost use Rattle.tls_symbols.specs.Definitions.{is_defined, same_binding};
-ghost use Rattle.tls_symbols.specs.Firsts.{NotesDefinitions, NotesExports};
+ghost use Rattle.tls_symbols.specs.Numbers.{NotesDefinitions, NotesExports, TellsExports, own_numbers, with_first};
 ghost use Rattle.tls_symbols.specs.Numbers.{AllListed, AllNumbered, AreListed, AreNumbered, TellsDefinitions};
-ghost use Rattle.tls_symbols.specs.Numbers.{TellsExports, own_numbers, with_first};
 
 use crate::export_list::Exports;
 use crate::numbers::Numbers;

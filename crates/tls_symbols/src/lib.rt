@@ -31,8 +31,8 @@
 //! what a symbol is bound to, and of a name or a symbol the definition in the image. What a symbol is bound to depends
 //! on whether it may be another image's variable ([`Imports`]), and on nothing else of a relocation that names it.
 //!
-//! [`Uses`] is the one walk over the relocations of objects, by object, section and entry, and [`first_use`] finds the
-//! first that a [`Question`] is about.
+//! [`Uses`] is the one walk over the relocations of objects, by object, section and entry: by the sections that hold
+//! them, as faults are told, or by those that they are for. [`first_use`] finds the first that a [`Question`] is about.
 //!
 //! The rule of cost: **a name is read and hashed once, and is a number from then on.** Names are numbered in the order
 //! in which they are met, each symbol keeps the number of its name and whether it is thread-local, and tables over
@@ -43,8 +43,8 @@
 //!
 //! `specs/Definitions` says which definition a name has, `specs/Bindings` what a symbol is bound to and what an image
 //! exports, and `specs/Faults` what each kind of fault means and which is the first. The other files of specs/ speak of
-//! what the code keeps: numbers (`Numbers`), tables (`Firsts`, `Known`), what each symbol stands for (`Standings`), what
-//! a question about names asks (`Charges`), what may be asked (`Searches`), and the walk (`Walks`).
+//! what the code keeps: numbers and tables (`Numbers`, `Known`), what each symbol stands for and what a question about
+//! names asks (`Charges`), and the walk (`Walks`).
 #![tactic(auto)]
 
 mod bindings;
@@ -59,7 +59,6 @@ pub mod laws;
 mod numbers;
 mod place;
 mod standings;
-mod symbols;
 mod tls_place;
 mod uses;
 
@@ -69,5 +68,4 @@ pub use exporting::exports;
 pub use imports::{Imports, imports_of};
 pub use numbers::symbol_total;
 pub use place::Place;
-pub use symbols::definition;
 pub use uses::{Question, Use, Uses, first_use};

@@ -4,7 +4,7 @@ ghost use Rattle.std.specs.Prelude.{◌≡◌, ◌<◌, IfOk, IfSome, length, ma
 ghost use Rattle.elf_object.specs.Parts.{symbol_count};
 ghost use Rattle.tls_symbols.specs.Bindings.{bound_to, is_tls_binding, may, object_at, IsBindingWithin};
 ghost use Rattle.tls_symbols.specs.Known.{IsKnown};
-ghost use Rattle.tls_symbols.specs.Standings.{bound_as, bound_in, AllStandings, AreStandings, IsStanding};
+ghost use Rattle.tls_symbols.specs.Charges.{bound_as, bound_in, AllStandings, AreStandings, IsStanding};
 
 use crate::image_names::{ImageNames, binding, is_tls};
 use crate::imports::Imports;

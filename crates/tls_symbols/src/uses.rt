@@ -1,14 +1,15 @@
 //! The relocations of objects, one after another, and the first that a question is about. No other function loops over
-//! those of all objects to look for one.
+//! those of all objects.
 
 ghost use Rattle.std.specs.Prelude.{◌≡◌, ℕ, MatchBool, MatchOption, []};
 ghost use Rattle.std.specs.Iterator.{YieldsFirst, item_count};
 ghost use Rattle.std.specs.List.{All};
 ghost use Rattle.elf_object.specs.Faults.{IsObject};
+ghost use Rattle.elf_object.specs.Lent.{relocations};
 ghost use Rattle.elf_object.specs.declared.relocation.Relocation.{Relocation};
-ghost use Rattle.tls_symbols.specs.Faults.{IsFirstCharged, NoneCharged, Test};
-ghost use Rattle.tls_symbols.specs.Searches.{MayAsk};
-ghost use Rattle.tls_symbols.specs.Walks.{uses, uses_left, GoesOn, IsCounted};
+ghost use Rattle.tls_symbols.specs.Faults.{IsFirstCharged, NoneCharged, Test, MayAsk};
+ghost use Rattle.tls_symbols.specs.Walks.{entries_from, section_uses, uses, uses_from, uses_held, uses_left};
+ghost use Rattle.tls_symbols.specs.Walks.{GoesOn, IsCounted, IsUse};
 
 use crate::place::Place;
 use elf_object::{Object, Relocation, Relocs};
@@ -23,14 +24,24 @@ pub struct Use {
     pub relocation: Relocation,
 }
 
-/// The relocations of objects that are left, in the order of objects, of the sections that hold them and of entries.
-/// Only those are met whose sections linking keeps.
+/// By which sections the relocations of an object are walked.
+#[derive(Clone, Copy)]
+pub enum Order {
+    /// By those that hold them.
+    Holders,
+    /// By those that they are for.
+    Targets,
+}
+
+/// The relocations of objects that are left, in the order of objects, of sections and of entries. Only those are met
+/// whose sections linking keeps.
 #[derive(Drop)]
 pub struct Uses<'o, 'a> {
     objects: &'o [Object<'a>],
+    order: Order,
     // the object and the section that come next
     object: usize,
-    table: u32,
+    number: u32,
     // what is left of the section before: where its first entry stands, and the section that the entries are for
     place: Place,
     section: u32,
@@ -46,19 +57,51 @@ fn are_objects(objects: &[Object])
     }
 }
 
+/// A section that holds relocations, and the one that they are for.
+#[derive(Clone, Copy)]
+struct Held {
+    table: u32,
+    section: u32,
+}
+
+/// The two of which one has this number, as the order says.
+fn held_by(object: &Object, order: Order, number: u32) -> Option<Held>
+    ensures { MatchOption result ((o : ℕ) → uses_held order o object.now number ≡ [])
+        (λ held. (o : ℕ) → uses_held order o object.now number
+        ≡ entries_from o held.table held.section 0 (relocations object.now held.section)) }
+{
+    match order {
+        Order::Holders => match object.relocation_target(number) {
+            Some(section) => Some(Held {
+                table: number,
+                section,
+            }),
+            None => None,
+        },
+        Order::Targets => match object.relocation_table(number) {
+            Some(table) => Some(Held {
+                table,
+                section: number,
+            }),
+            None => None,
+        },
+    }
+}
+
 impl<'o, 'a> Uses<'o, 'a> {
-    /// All relocations of these objects.
-    #[tactic(auto, unfolding(elf_object::specs::Lent::relocations_from, crate::specs::Walks::uses, crate::specs::Walks::uses_left))]
-    pub fn of(objects: &'o [Object<'a>]) -> Uses<'o, 'a>
-        ensures uses { uses_left result ≡ uses objects.now }
+    /// All relocations of these objects, in an order of their sections.
+    #[tactic(auto, unfolding(elf_object::specs::Lent::relocations_from, crate::specs::Walks::uses_left))]
+    fn start(objects: &'o [Object<'a>], order: Order) -> Uses<'o, 'a>
+        ensures uses { uses_left result ≡ uses_from order 0 1 objects.now }
         ensures counted { IsCounted result }
         ensures objects { All IsObject objects.now }
     {
         are_objects(objects);
         Uses {
             objects,
+            order,
             object: 0,
-            table: 1,
+            number: 1,
             place: Place {
                 object: 0,
                 section: 0,
@@ -67,6 +110,26 @@ impl<'o, 'a> Uses<'o, 'a> {
             section: 0,
             relocs: Relocs::of(&[], 0, 0),
         }
+    }
+
+    /// All relocations of these objects, by the sections that hold them, as faults are told.
+    #[tactic(auto, unfolding(crate::specs::Walks::uses))]
+    pub fn of(objects: &'o [Object<'a>]) -> Uses<'o, 'a>
+        ensures uses { uses_left result ≡ uses objects.now }
+        ensures counted { IsCounted result }
+        ensures objects { All IsObject objects.now }
+    {
+        Uses::start(objects, Order::Holders)
+    }
+
+    /// All relocations of these objects, by the sections that they are for.
+    #[tactic(auto, unfolding(crate::specs::Walks::section_uses))]
+    pub fn by_section(objects: &'o [Object<'a>]) -> Uses<'o, 'a>
+        ensures uses { uses_left result ≡ section_uses objects.now }
+        ensures counted { IsCounted result }
+        ensures own { All (IsUse objects.now) (section_uses objects.now) }
+    {
+        Uses::start(objects, Order::Targets)
     }
 
     /// Goes on to the next section, of this object or of the one behind it. `false` behind the last object.
@@ -79,21 +142,21 @@ impl<'o, 'a> Uses<'o, 'a> {
         let Some(object) = self.objects.get(self.object) else {
             return false;
         };
-        let table = self.table;
-        if object.section_count() <= table {
+        let number = self.number;
+        if object.section_count() <= number {
             self.object += 1;
-            self.table = 1;
+            self.number = 1;
             return true;
         }
-        self.table += 1;
-        if let Some(section) = object.relocation_target(table) {
+        self.number += 1;
+        if let Some(held) = held_by(object, self.order, number) {
             self.place = Place {
                 object: self.object as u64,
-                section: u64::from(table),
+                section: u64::from(held.table),
                 entry: 0,
             };
-            self.section = section;
-            self.relocs = object.relocs(section);
+            self.section = held.section;
+            self.relocs = object.relocs(held.section);
         }
         true
     }

@@ -1,9 +1,8 @@
 use Rattle.std.proofs.Common.{◌∙◌, ◌+◌, ◌-◌, ◌<◌, refl, sym, ap, subst, arith}
 use Rattle.std.specs.List.{flat_map, range_with_len}
 use Rattle.elf_object.specs.Parts.{symbol_count}
-use Rattle.dynamic_symbols.specs.Found.{names_of, IsBound}
+use Rattle.dynamic_symbols.specs.Found.{names_of, IsBound, with_names}
 use Rattle.dynamic_symbols.specs.Names.{defined_at, defined_in}
-use Rattle.dynamic_symbols.specs.Walks.{with_names}
 use Rattle.dynamic_symbols.proofs.Adding.{define_here, define_later}
 use Rattle.dynamic_symbols.proofs.defining.add_defined.Goals as goal
 use Rattle.dynamic_symbols.proofs.defining.add_defined.Goals.{then-is_definition+in_ok-add_name, else-is_definition}

@@ -1,9 +1,8 @@
 use Rattle.std.proofs.Common.{◌≡◌, ◌∙◌, ◌+◌, drop, sym, ap, subst}
 use Rattle.std.specs.List.{All, filter_map, flat_map}
 use Rattle.tls_symbols.specs.Definitions.{definition_of, IsWithin}
-use Rattle.dynamic_symbols.specs.Found.{names_of}
+use Rattle.dynamic_symbols.specs.Found.{names_of, with_names}
 use Rattle.dynamic_symbols.specs.Names.{defined_in, defined_names, defined_symbols}
-use Rattle.dynamic_symbols.specs.Walks.{with_names}
 use Rattle.dynamic_symbols.proofs.Adding.{added, ended, walk}
 use Rattle.dynamic_symbols.proofs.Named.{symbols_shared}
 use Rattle.sequence_match.proofs.OwnSites.{drop_here}

@@ -1,8 +1,7 @@
 use Rattle.std.proofs.Common.{◌≡◌, [], drop}
 use Rattle.std.specs.List.{flat_map}
-use Rattle.dynamic_symbols.specs.Found.{names_of, IsBound}
+use Rattle.dynamic_symbols.specs.Found.{names_of, IsBound, with_names}
 use Rattle.dynamic_symbols.specs.Names.{defined_in}
-use Rattle.dynamic_symbols.specs.Walks.{with_names}
 use Rattle.dynamic_symbols.proofs.defining.defined_symbols.Given as goal
 
 -- with those of the objects that are left, the names are those that are wanted; each has what it binds to

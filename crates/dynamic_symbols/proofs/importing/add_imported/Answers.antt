@@ -6,7 +6,7 @@ use Rattle.sequence_forms.specs.declared.forms.Form.TheVariants.{Gd}
 use Rattle.sequence_forms.specs.declared.places.Site.{Site}
 use Rattle.tls_symbols.specs.Bindings.{object_at}
 use Rattle.dynamic_symbols.specs.Names.{imported_at, imported_in}
-use Rattle.dynamic_symbols.specs.Walks.{with_name, with_names}
+use Rattle.dynamic_symbols.specs.Found.{with_name, with_names}
 use Rattle.dynamic_symbols.proofs.Adding.{imports_none, imports_one, inserted, walk_none, walk_one}
 use Rattle.sequence_match.proofs.OwnSites.{drop_at}
 use Rattle.dynamic_symbols.proofs.importing.add_imported.Goals as goal

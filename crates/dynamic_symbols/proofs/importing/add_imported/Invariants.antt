@@ -1,7 +1,7 @@
 use Rattle.std.proofs.Common.{◌≡◌, drop, map}
 use Rattle.std.specs.List.{flat_map}
 use Rattle.dynamic_symbols.specs.Names.{imported_at, imported_in}
-use Rattle.dynamic_symbols.specs.Walks.{with_names}
+use Rattle.dynamic_symbols.specs.Found.{with_names}
 use Rattle.dynamic_symbols.proofs.importing.add_imported.Given as goal
 
 -- with those of the sites that are left, the names are those that are wanted

@@ -1,7 +1,7 @@
 use Rattle.std.proofs.Common.{◌<◌, ◌∙◌, ◌+◌, drop, length, map, sym, ap, subst, arith}
 use Rattle.tls_symbols.specs.Bindings.{object_at}
 use Rattle.dynamic_symbols.specs.Names.{distinct, imported_from, imported_in, imports}
-use Rattle.dynamic_symbols.specs.Walks.{with_names}
+use Rattle.dynamic_symbols.specs.Found.{with_names}
 use Rattle.sequence_match.specs.Sites.{HaveSymbols}
 use Rattle.dynamic_symbols.proofs.Adding.{added, ended_from, object_is, walk_from}
 use Rattle.sequence_match.proofs.OwnSites.{own_sites, drop_here}

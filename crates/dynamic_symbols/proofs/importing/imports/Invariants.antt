@@ -1,6 +1,6 @@
 use Rattle.std.proofs.Common.{◌≡◌, [], drop, map}
 use Rattle.dynamic_symbols.specs.Names.{imported_from}
-use Rattle.dynamic_symbols.specs.Walks.{with_names}
+use Rattle.dynamic_symbols.specs.Found.{with_names}
 use Rattle.dynamic_symbols.proofs.importing.imports.Given as goal
 
 -- with those of the objects that are left, the names are those that are wanted

@@ -3,7 +3,7 @@ use Rattle.link_needs.specs.Linking.{Linking}
 use Rattle.tls_symbols.specs.declared.uses.Use.{Use}
 use Rattle.tls_symbols.specs.Walks.{uses_left, Decides}
 use Rattle.tls_symbols.proofs.FirstUses.{decides}
-use Rattle.link_core.specs.Overflows.{IsOverflow}
+use Rattle.link_tables.specs.Faults.{IsOverflow}
 use Rattle.link_core.proofs.overflow.first_overflow.Goals as goal
 
 pub loop-found-init : goal.loop-found-init

@@ -1,5 +1,5 @@
 use Rattle.tls_symbols.specs.Walks.{uses_left, Decides}
-use Rattle.link_core.specs.Overflows.{IsOverflow}
+use Rattle.link_tables.specs.Faults.{IsOverflow}
 use Rattle.link_core.proofs.overflow.first_overflow.Given as goal
 
 -- the uses that are left decide

@@ -1,11 +1,11 @@
-use Rattle.std.proofs.Common.{◌∙◌, ◌<◌, ◌≤◌, ◌^◌, ◌⊎◌, map, inl, inr, sym, refl, subst}
+use Rattle.std.proofs.Common.{◌∙◌, ◌<◌, ◌≤◌, ◌^◌, map, inl, inr, sym, refl, subst}
 use Rattle.std.proofs.lemmas.List.{length-map}
 use Rattle.std.specs.Global.{Vec}
 use Rattle.sequence_match.proofs.SitesSymbols.{sites_symbols}
-use Rattle.link_refusals.specs.Counts.{relocation_count}
+use Rattle.link_needs.specs.Refusals.{relocation_count}
 use Rattle.sequence_forms.specs.declared.places.Site.{Site}
 use Rattle.link_needs.specs.Linking.{link_of}
-use Rattle.link_tables.specs.Faults.{IsCrowded, IsLinkFault, IsWordy}
+use Rattle.link_tables.specs.Faults.{IsCrowded, IsLinkFault}
 use Rattle.link_core.proofs.StepFaults.{exceeds, limit_fault}
 use Rattle.link_core.proofs.NamesHeld.{names_are, size_is}
 use Rattle.link_core.proofs.ready.named.Goals as goal
@@ -19,7 +19,7 @@ imports-requires-clause-symbols c = λ o there.
 pub returns-then-not-few-clause-fault : goal.returns-then-not-few-clause-fault
 returns-then-not-few-clause-fault c =
     let l = link_of c.args.objects.now c.args.sites.now c.args.kind c.args.bindings.now.startup c.args.relax in
-    let large : IsCrowded l ⊎ IsWordy l =
+    let large : IsCrowded l =
     elim c.then-not-few.branch [
       | then-not-few-via-then-not-few w ↦
           inl (exceeds (relocation_count l.objects) (2 ^ 19) c.has_few_relocations-few.result w.if-not-few.true

@@ -1,6 +1,6 @@
 use Rattle.std.proofs.Common.{◌∙◌, refl, ap, subst}
 use Rattle.std.proofs.lemmas.Result.{err_from_is_err_and}
-use Rattle.link_refusals.specs.Faults.{FitsStorage}
+use Rattle.link_needs.specs.Refusals.{FitsStorage}
 use Rattle.tls_layout.specs.Places.{tls_alignment, tls_size, IsLawful}
 use Rattle.tls_layout.specs.Rounding.{round_up}
 use Rattle.tls_layout.specs.Sections.{Layout}

@@ -4,7 +4,7 @@ use Rattle.std.proofs.lemmas.List.Sorted.{All-permutation}
 use Rattle.elf_object.specs.declared.relocation.Relocation.{Relocation}
 use Rattle.elf_object.specs.Lent.{relocations}
 use Rattle.elf_object.specs.Parts.{symbol_count}
-use Rattle.link_needs.specs.Sorting.{sorted_by}
+use Rattle.link_needs.specs.Needs.{sorted_by}
 use Rattle.link_needs.proofs.NeedsLemmas.{fields_symbols}
 use Rattle.link_needs.proofs.SortingLaws.{sorted_by_key}
 use Rattle.link_needs.proofs.needs.address_fields.Goals as goal

@@ -2,7 +2,7 @@ use Rattle.std.proofs.Common.{◌≡◌, ◌∙◌, true, false, sym, ap, rules}
 use Rattle.image_file.specs.declared.relocation.ImageRelocation.{ImageRelocation}
 use Rattle.link_faults.specs.ImageKinds.{is_moved}
 use Rattle.link_tables.specs.Dynamic.{relatives}
-use Rattle.link_needs.specs.Sorting.{sorted_by}
+use Rattle.link_needs.specs.Needs.{sorted_by}
 use Rattle.link_needs.proofs.SortingLaws.{sorted_by_key}
 use Rattle.link_tables.proofs.relocation_list.relatives.Goals as goal
 

@@ -2,8 +2,8 @@ use Rattle.std.proofs.Common.{ap, arith, length, subst, sym}
 use Rattle.std.proofs.lemmas.List.{length-map}
 use Rattle.std.specs.List.{All}
 use Rattle.link_needs.specs.Given.{IsGiven}
+use Rattle.link_needs.specs.Plans.{IsUsable}
 use Rattle.link_needs.specs.Linking.{Linking, object}
-use Rattle.link_needs.specs.Usable.{IsUsable}
 use Rattle.link_needs.proofs.PlanLemmas.{own_usable}
 use Rattle.meant_images.proofs.kept.own_sites.Goals as goal
 

@@ -1,8 +1,7 @@
 use Rattle.std.proofs.Common.{◌≡◌, ◌∙◌, ◌+◌, ◌<◌, suc, [], ◌∷◌, length, drop, sym, ap, subst, arith}
 use Rattle.std.specs.Prelude.{slice_index, slice_index_or}
 use Rattle.std.proofs.Math.Seq.{drop-cons}
-use Rattle.tls_symbols.specs.Firsts.{export_in}
-use Rattle.tls_symbols.specs.Numbers.{or_else, own_numbers, told, IsNumberOf}
+use Rattle.tls_symbols.specs.Numbers.{export_in, or_else, own_numbers, told, IsNumberOf}
 use Rattle.tls_symbols.proofs.Told.{export_step, own_is}
 use Rattle.tls_symbols.proofs.firsts.note_exports.Goals as goal
 

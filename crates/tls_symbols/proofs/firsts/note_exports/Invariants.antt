@@ -1,6 +1,5 @@
 use Rattle.std.proofs.Common.{◌≡◌, ℕ, List, drop}
-use Rattle.tls_symbols.specs.Firsts.{export_in}
-use Rattle.tls_symbols.specs.Numbers.{or_else, told}
+use Rattle.tls_symbols.specs.Numbers.{export_in, or_else, told}
 use Rattle.tls_symbols.proofs.firsts.note_exports.Given as goal
 
 -- with the names that are left, the table tells what it is to tell

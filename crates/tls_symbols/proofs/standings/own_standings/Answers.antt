@@ -1,7 +1,7 @@
 use Rattle.std.proofs.Common.{◌≡◌, ◌+◌, ◌<◌, ◌++◌, ℕ, List, [], ◌∷◌, sym, subst, arith}
 use Rattle.std.specs.Prelude.{slice_index_or}
 use Rattle.tls_symbols.specs.declared.standings.Standing.{Standing}
-use Rattle.tls_symbols.specs.Standings.{IsStanding}
+use Rattle.tls_symbols.specs.Charges.{IsStanding}
 use Rattle.tls_symbols.proofs.Numbered.{each_push}
 use Rattle.tls_symbols.proofs.standings.own_standings.Goals as goal
 

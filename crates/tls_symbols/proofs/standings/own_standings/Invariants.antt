@@ -1,6 +1,6 @@
 use Rattle.std.proofs.Common.{◌≡◌, ◌<◌, ℕ, length, slice_index_or}
 use Rattle.tls_symbols.specs.declared.standings.Standing.{Standing}
-use Rattle.tls_symbols.specs.Standings.{IsStanding}
+use Rattle.tls_symbols.specs.Charges.{IsStanding}
 use Rattle.tls_symbols.proofs.standings.own_standings.Given as goal
 
 -- the symbols so far stand as it is noted

@@ -2,7 +2,7 @@ use Rattle.std.proofs.Common.{◌≡◌, [], length, refl, subst, arith}
 use Rattle.std.proofs.lemmas.List.{get_or_read_under}
 use Rattle.elf_object.specs.Parts.{symbol_count}
 use Rattle.tls_symbols.specs.Bindings.{object_at}
-use Rattle.tls_symbols.specs.Standings.{AreStandings}
+use Rattle.tls_symbols.specs.Charges.{AreStandings}
 use Rattle.tls_symbols.proofs.Numbered.{vecs_push}
 use Rattle.tls_symbols.proofs.standings.standings.Goals as goal
 

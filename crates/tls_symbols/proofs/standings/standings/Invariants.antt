@@ -1,7 +1,7 @@
 use Rattle.std.proofs.Common.{◌≡◌, ◌<◌, ℕ, [], length, map, slice_index_or}
 use Rattle.elf_object.specs.Parts.{symbol_count}
 use Rattle.tls_symbols.specs.Bindings.{object_at}
-use Rattle.tls_symbols.specs.Standings.{AreStandings}
+use Rattle.tls_symbols.specs.Charges.{AreStandings}
 use Rattle.tls_symbols.proofs.standings.standings.Given as goal
 
 -- the symbols of the objects so far stand as it is noted

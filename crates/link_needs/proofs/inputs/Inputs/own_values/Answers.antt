@@ -1,7 +1,7 @@
 use Rattle.std.proofs.Common.{◌++◌, [], ◌∷◌, ◌∙◌, map, sym, ap, arith}
 use Rattle.std.specs.List.{range_with_len}
 use Rattle.std.proofs.lemmas.List.FromFn.{map-range_with_len_more}
-use Rattle.link_needs.specs.SymbolNumbers.{value_of}
+use Rattle.link_needs.specs.Plans.{value_of}
 use Rattle.link_needs.proofs.inputs.Inputs.own_values.Goals as goal
 
 pub loop-symbol-preserved : goal.loop-symbol-preserved

@@ -1,6 +1,6 @@
 use Rattle.std.proofs.Common.{◌≡◌, map}
 use Rattle.std.specs.List.{range_with_len}
-use Rattle.link_needs.specs.SymbolNumbers.{value_of}
+use Rattle.link_needs.specs.Plans.{value_of}
 use Rattle.link_needs.proofs.inputs.Inputs.own_values.Given as goal
 
 -- those of the symbols so far

@@ -2,9 +2,9 @@ use Rattle.std.proofs.Common.{◌∙◌, ◌+◌, ◌++◌, drop, sym, ap, subst
 use Rattle.std.specs.List.{All, flat_map}
 use Rattle.tls_symbols.specs.Bindings.{object_at}
 use Rattle.link_needs.specs.Given.{IsGiven}
+use Rattle.link_needs.specs.Plans.{IsUsable}
 use Rattle.link_needs.specs.Linking.{choices_in}
 use Rattle.link_needs.specs.Needs.{site_needs, site_needs_from}
-use Rattle.link_needs.specs.Usable.{IsUsable}
 use Rattle.link_needs.proofs.ChoiceLemmas.{choices_end, choices_next}
 use Rattle.link_needs.proofs.NeedsLemmas.{sites_walked, sites_walked_all}
 use Rattle.link_needs.proofs.PlanLemmas.{none_left, own_are, own_left, own_usable, sites_there}

@@ -4,7 +4,7 @@ use Rattle.std.proofs.lemmas.List.{map-append}
 use Rattle.std.proofs.lemmas.List.FromFn.{map-range_with_len_more}
 use Rattle.std.specs.Global.{Vec}
 use Rattle.link_needs.specs.declared.symbol_values.SymbolValue.{SymbolValue}
-use Rattle.link_needs.specs.SymbolNumbers.{values_of}
+use Rattle.link_needs.specs.Plans.{values_of}
 use Rattle.link_needs.proofs.inputs.Inputs.symbol_values.Goals as goal
 
 pub loop-object-preserved : goal.loop-object-preserved

@@ -1,6 +1,6 @@
 use Rattle.std.proofs.Common.{◌≡◌, map}
 use Rattle.std.specs.List.{range_with_len}
-use Rattle.link_needs.specs.SymbolNumbers.{values_of}
+use Rattle.link_needs.specs.Plans.{values_of}
 use Rattle.link_needs.proofs.inputs.Inputs.symbol_values.Given as goal
 
 -- those of the objects so far

@@ -2,8 +2,8 @@ use Rattle.std.proofs.Common.{◌∙◌, ap, rules, w64, FitsSigned}
 use Rattle.std.proofs.Math.Facts.{to_z-of_z}
 use Rattle.tls_relocs.specs.Values.{stored_field}
 use Rattle.link_needs.specs.Linking.{binding, place as place_of}
-use Rattle.link_needs.specs.SymbolNumbers.{number_by}
 use Rattle.link_needs.specs.Values.{field, own_number}
+use Rattle.link_needs.specs.Plans.{number_by}
 use Rattle.link_needs.proofs.ValueLemmas.{takes_number}
 use Rattle.link_needs.proofs.plan.Plan.field.Goals as goal
 

@@ -1,6 +1,6 @@
 use Rattle.std.proofs.Common.{◌≡◌, ◌∙◌, ap, length, map, arith}
 use Rattle.std.specs.Vec.{vec_len}
-use Rattle.link_needs.specs.SymbolNumbers.{all_values}
+use Rattle.link_needs.specs.Plans.{all_values}
 use Rattle.link_needs.proofs.ValueLemmas.{value_at, value_there, values_there}
 use Rattle.link_needs.proofs.plan.Plan.symbol_value.Goals as goal
 

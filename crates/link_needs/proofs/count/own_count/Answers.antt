@@ -1,0 +1,15 @@
+use Rattle.std.proofs.Common.{◌<◌, length, arith}
+use Rattle.elf_object.specs.Lent.{relocations}
+use Rattle.elf_object.specs.Object.{section_count}
+use Rattle.link_needs.specs.Refusals.{own_count}
+use Rattle.link_needs.proofs.Sums.{sum_kept}
+use Rattle.link_needs.proofs.count.own_count.Goals as goal
+
+pub loop-section-preserved : goal.loop-section-preserved
+loop-section-preserved c =
+    let b = c.args.object.now in
+    let kept = c.loop-section.invariant in
+    let more : c.loop-section.section < section_count b = omega (arith, c.loop-section-test.true, c.section_count-section-end.ensures.count) in (
+      sum_kept (λ t. length (relocations b t)) c.loop-section.section (section_count b) c.loop-section.count c.relocation_count-count.result (own_count b) more c.relocation_count-count.ensures.count kept.0,
+      omega (arith, kept.1, c.relocation_count-count.ensures.few),
+    )

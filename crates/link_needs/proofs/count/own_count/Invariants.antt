@@ -1,0 +1,13 @@
+use Rattle.std.proofs.Common.{◌≡◌, ◌+◌, ◌-◌, ◌*◌, ◌≤◌, ◌^◌, length}
+use Rattle.std.specs.Prelude.{sum_by}
+use Rattle.std.specs.List.{range_with_len}
+use Rattle.elf_object.specs.Lent.{relocations}
+use Rattle.elf_object.specs.Object.{section_count}
+use Rattle.link_needs.specs.Refusals.{own_count}
+use Rattle.link_needs.proofs.count.own_count.Given as goal
+
+-- what is counted and what the sections that are left have is all
+abbrev pub invariant-loop-section : goal.invariant-loop-section
+invariant-loop-section l =
+    (l.count + sum_by (λ t. length (relocations l.object t)) (range_with_len l.section (section_count l.object - l.section)) ≡ own_count l.object) ×
+    (l.count ≤ 2 ^ 20 * l.section)

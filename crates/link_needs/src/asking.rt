@@ -1,0 +1,80 @@
+//! What is refused of the relocations of an image.
+
+ghost use Rattle.std.specs.Prelude.{◌≡◌, MatchOption, MatchResult};
+ghost use Rattle.link_needs.specs.Refusals.{by_kind, test_of, FitsKind, FitsStorage, IsAskedOf, IsKindFault, IsStorageFault};
+ghost use Rattle.tls_symbols.specs.Faults.{IsFirstCharged, NoneCharged};
+
+use crate::charge::Charge;
+use elf_object::Object;
+use link_faults::{ImageKind, LinkFault, LinkFaultKind};
+use tls_symbols::{Bindings, Place, first_use};
+
+/// The first relocation of the objects that is charged, if one is.
+fn first_place(charge: &Charge, objects: &[Object]) -> Option<Place>
+    requires { IsAskedOf objects.now charge.now }
+    ensures { MatchOption result (NoneCharged (test_of charge.now) objects.now)
+        (λ place. IsFirstCharged (test_of charge.now) objects.now place.object place.section place.entry) }
+{
+    first_use(charge, objects)
+}
+
+/// The first relocation that an image of this kind refuses, if there is one. A program at a fixed address refuses none.
+fn first_refused(objects: &[Object], kind: ImageKind) -> Option<Place>
+    ensures { MatchOption result (FitsKind objects.now kind)
+        (λ place. IsFirstCharged (by_kind kind) objects.now place.object place.section place.entry) }
+{
+    match kind {
+        ImageKind::Exe => None,
+        _ => first_place(&Charge::ByKind(kind), objects),
+    }
+}
+
+/// Asks of one fault after another whether an image of this kind refuses a relocation with it.
+fn ask_faults(objects: &[Object], kind: ImageKind) -> Result<(), LinkFault>
+    ensures { MatchResult result (λ _. FitsKind objects.now kind) (IsKindFault objects.now kind) }
+{
+    let local_exec = Charge::ByType(LinkFaultKind::LocalExecInModule, kind);
+    if let Some(place) = first_place(&local_exec, objects) {
+        return Err(place.fault(LinkFaultKind::LocalExecInModule));
+    }
+    let narrow = Charge::ByType(LinkFaultKind::NarrowInModule, kind);
+    match first_place(&narrow, objects) {
+        Some(place) => Err(place.fault(LinkFaultKind::NarrowInModule)),
+        None => Ok(()),
+    }
+}
+
+/// Asks whether an image of these objects may be of this kind: a module has no offset from the thread pointer in its
+/// code, and an image that may lie at any address no address in 32 bits. Answers the first fault: `LocalExecInModule`,
+/// else `NarrowInModule`, at the first object, section and entry.
+pub fn ask_kind(objects: &[Object], kind: ImageKind) -> Result<(), LinkFault>
+    ensures { MatchResult result (λ _. FitsKind objects.now kind) (IsKindFault objects.now kind) }
+{
+    match first_refused(objects, kind) {
+        Some(_) => ask_faults(objects, kind),
+        None => Ok(()),
+    }
+}
+
+/// Asks whether an image of these objects asks for storage that it does not have. `tls_size` is the size of its segment
+/// of thread-local storage; `bindings` are those of the objects. Answers the fault `NoTls` at the first object, section
+/// and entry.
+pub fn ask_tls(
+    objects: &[Object],
+    bindings: &Bindings,
+    kind: ImageKind,
+    tls_size: u64,
+) -> Result<(), LinkFault>
+    requires own { bindings.now.objects ≡ objects.now }
+    ensures { MatchResult result
+        (λ _. FitsStorage bindings.now.objects bindings.now.startup kind tls_size)
+        (IsStorageFault bindings.now.objects bindings.now.startup kind tls_size) }
+{
+    if tls_size != 0 {
+        return Ok(());
+    }
+    match first_place(&Charge::ByStorage(kind, bindings), objects) {
+        Some(place) => Err(place.fault(LinkFaultKind::NoTls)),
+        None => Ok(()),
+    }
+}

@@ -1,0 +1,101 @@
+//! What a relocation may be refused for.
+
+ghost use Rattle.std.specs.Prelude.{◌≡◌, ◌≢◌, ◌<◌, length};
+ghost use Rattle.elf_object.specs.Parts.{symbol_count};
+ghost use Rattle.tls_symbols.specs.Bindings.{binding_of, object_at};
+ghost use Rattle.link_needs.specs.Refusals.{test_of, IsAskedWithin, asks_storage, is_refused, is_refused_at_all};
+ghost use Rattle.link_faults.specs.Bindings.{is_here};
+ghost use Rattle.link_faults.specs.ImageKinds.{is_moved};
+
+use elf_object::{Relocation, RelocationKind};
+use elf_records::relocation_row::{Refused, TableEntry};
+use link_faults::{Binding, ImageKind, LinkFaultKind};
+use tls_symbols::{Bindings, Question};
+
+/// A question about the relocations of an image.
+#[derive(Clone, Copy)]
+pub enum Charge<'b, 'l, 's, 'a> {
+    /// Does the kind of the image refuse its type, with this fault?
+    ByType(LinkFaultKind, ImageKind),
+    /// Does the kind of the image refuse its type, with any fault?
+    ByKind(ImageKind),
+    /// Does it want storage that the image, which has none, would have itself?
+    ByStorage(ImageKind, &'b Bindings<'l, 's, 'a>),
+}
+
+/// Whether an image of this kind may lie at any address.
+fn is_moved(image: ImageKind) -> bool
+    ensures { result ≡ is_moved image }
+{
+    !matches!(image, ImageKind::Exe)
+}
+
+/// Whether an image of this kind refuses relocations of a type with this fault.
+fn is_refused(fault: LinkFaultKind, image: ImageKind, kind: RelocationKind) -> bool
+    ensures { result ≡ is_refused fault image kind }
+{
+    match (fault, kind.row().refused) {
+        (LinkFaultKind::LocalExecInModule, Refused::InModule) => image.is_module(),
+        (LinkFaultKind::NarrowInModule, Refused::WhereMoved) => is_moved(image),
+        _ => false,
+    }
+}
+
+/// Whether an image of this kind refuses relocations of a type at all.
+fn is_refused_at_all(image: ImageKind, kind: RelocationKind) -> bool
+    ensures { result ≡ is_refused_at_all image kind }
+{
+    is_refused(LinkFaultKind::LocalExecInModule, image, kind)
+        || is_refused(LinkFaultKind::NarrowInModule, image, kind)
+}
+
+/// Whether what a relocation names is a symbol of the image itself.
+fn is_here(bindings: &Bindings, index: usize, relocation: &Relocation) -> bool
+    requires object { index < length bindings.now.objects }
+    requires symbol { relocation.now.symbol < symbol_count (object_at bindings.now.objects index) }
+    ensures { result ≡ is_here (binding_of bindings.now.objects bindings.now.startup index relocation.now) }
+{
+    matches!(
+        bindings.binding_of(index, relocation),
+        Some(Binding::Here(_))
+    )
+}
+
+/// Whether a relocation asks for storage that the image itself has.
+fn asks_storage(
+    bindings: &Bindings,
+    image: ImageKind,
+    index: usize,
+    relocation: &Relocation,
+) -> bool
+    requires object { index < length bindings.now.objects }
+    requires symbol { relocation.now.kind ≢ RelocationKind.Nothing
+        → relocation.now.symbol < symbol_count (object_at bindings.now.objects index) }
+    ensures { result ≡ asks_storage image relocation.now.kind
+        (binding_of bindings.now.objects bindings.now.startup index relocation.now) }
+{
+    match relocation.kind.row().entry {
+        TableEntry::ModulePair => true,
+        TableEntry::SymbolPair | TableEntry::SymbolWord => {
+            image.is_module() && is_here(bindings, index, relocation)
+        }
+        TableEntry::Descriptor => is_here(bindings, index, relocation),
+        TableEntry::NoEntry | TableEntry::AddressWord => false,
+    }
+}
+
+impl Question for Charge<'_, '_, '_, '_> {
+    ghost test = { test_of };
+
+    ghost may_ask = { IsAskedWithin };
+
+    fn is_about(&self, object: usize, relocation: &Relocation) -> bool {
+        match self {
+            Charge::ByType(fault, image) => is_refused(*fault, *image, relocation.kind),
+            Charge::ByKind(image) => is_refused_at_all(*image, relocation.kind),
+            Charge::ByStorage(image, bindings) => {
+                asks_storage(bindings, *image, object, relocation)
+            }
+        }
+    }
+}

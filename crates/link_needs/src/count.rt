@@ -1,0 +1,46 @@
+//! How many relocations an image has.
+
+ghost use Rattle.std.specs.Prelude.{◌≡◌, ◌+◌, ◌*◌, ◌<◌, ◌≤◌, ◌^◌, ◌↔◌, IsTrue, length};
+ghost use Rattle.std.specs.List.{All};
+ghost use Rattle.elf_object.specs.Faults.{IsObject};
+ghost use Rattle.elf_object.specs.Lent.{relocations};
+ghost use Rattle.link_needs.specs.Refusals.{own_count, relocation_count};
+
+use elf_object::Object;
+
+/// How many relocations an image may have.
+pub const MAX_RELOCATIONS: u128 = 1 << 19;
+
+/// How many the sections of an object have.
+#[tactic(auto, unfolding(crate::specs::Refusals::own_count))]
+fn own_count(object: &Object) -> u64
+    ensures count { result ≡ own_count object.now }
+    ensures few { result ≤ 2 ^ 36 }
+    ensures object { IsObject object.now }
+{
+    let mut count = 0;
+    for section in 1..object.section_count() {
+        count += object.relocation_count(section);
+    }
+    count
+}
+
+/// How many relocations the objects have, of sections that linking keeps.
+pub fn relocation_count(objects: &[Object]) -> u128
+    ensures count { result ≡ relocation_count objects.now }
+    ensures objects { All IsObject objects.now }
+{
+    let mut count = 0;
+    for object in objects {
+        count += u128::from(own_count(object));
+    }
+    count
+}
+
+/// Whether they are no more than an image may have.
+pub fn has_few_relocations(objects: &[Object]) -> bool
+    ensures few { IsTrue result ↔ (relocation_count objects.now ≤ MAX_RELOCATIONS) }
+    ensures objects { All IsObject objects.now }
+{
+    relocation_count(objects) <= MAX_RELOCATIONS
+}
