@@ -19,7 +19,7 @@ from itertools import cycle, islice
 
 HERE = os.path.dirname(os.path.abspath(__file__))
 sys.path.insert(0, HERE)
-from object_writer import ABSOLUTE_64, CODE, FUNCTION, NOTYPE, READ, THREAD_LOCAL, VARIABLE, WRITE, Object, general_dynamic
+from object_writer import ABSOLUTE_64, CODE, DTPOFF32, FUNCTION, NOTYPE, READ, THREAD_LOCAL, VARIABLE, WRITE, Object, general_dynamic, local_dynamic
 
 SECONDS, MIB = 60, 1024
 PATIENCE, ROOM = 240, 8 << 30
@@ -207,6 +207,19 @@ def thread_local(job):
     job.threads(f"{thread} peek app v 8" for thread in range(1, THREADS + 1))
 
 
+def tokens(job):
+    """A program with 2^20 bytes of thread-local data, where 64 threads keep the base of their block, which is no number."""
+    made = Object()
+    text, data = made.section(".text", CODE), made.section(".tdata", THREAD_LOCAL, b"\5" * BLOCK)
+    variable = made.symbol("v", VARIABLE, data, BLOCK - 8, 8)
+    made.symbol("f", FUNCTION, text)
+    get_address = made.symbol("__tls_get_addr", NOTYPE)
+    text.emit(["57", *local_dynamic(variable, get_address), "488db8", (DTPOFF32, variable, 0), "4889075f31c0c3"])
+    job.image("app", "exe", made)
+    job.say(f"threads {THREADS}")
+    job.threads(f"{thread} call app f 0 0 0" for thread in range(1, THREADS + 1))
+
+
 def relocated_words(job):
     """A program and a module with 2^19 relocations each, of words that hold addresses; the module is opened twice."""
     for name, kind in (("app", "pie"), ("plug", "late")):
@@ -324,6 +337,7 @@ WITHIN = {
     fuel: (RUN, KEPT, RACE, CHECK, APP),
     fuel_beside_images: (RUN, KEPT, RACE, CHECK, APP),
     code: ALL, constants: ALL, data: (RUN, KEPT, CHECK, APP), thread_local: (RUN, RACE, CHECK, APP),
+    tokens: (RUN, KEPT, RACE, CHECK, APP),
     relocated_words: ALL, relocated_code: (*ALL, SITES),
     instances: ALL, opens: ALL,
     named_lines: (RUN, RACE, CHECK, APP), named_symbols: (RUN, KEPT, RACE, CHECK, APP), named_globals: (RUN, KEPT, RACE, CHECK, APP),

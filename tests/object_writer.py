@@ -120,3 +120,8 @@ def pad(file, alignment):
 def general_dynamic(variable, get_address):
     """The sequence that puts the address of the calling thread's copy of a variable into %rax."""
     return ["66488d3d", (TLSGD, variable, -4), "666648e8", (PLT32, get_address, -4)]
+
+
+def local_dynamic(variable, get_address):
+    """The sequence that puts the base of the calling thread's block into %rax."""
+    return ["488d3d", (TLSLD, variable, -4), "e8", (PLT32, get_address, -4)]
