@@ -1,15 +1,22 @@
 #!/usr/bin/env python3
-"""crates.py: prints the table of crates, each with the first sentence of its root file up to a colon (src/lib.rt, src/main.rt)."""
+"""crates.py: prints the table of crates, each with the first sentence of its root file up to a colon (src/lib.rt, src/main.rt), but
+those of README's rows Tests and Benchmarks."""
 import os
 import re
 
 TOP = os.path.dirname(os.path.dirname(os.path.abspath(__file__)))
 
 
+def tests():
+    """The crates of README's rows Tests and Benchmarks."""
+    with open(f"{TOP}/README.md", encoding="utf-8") as file:
+        return {it for line in file if line.startswith(("| **Tests**", "| **Benchmarks**")) for it in re.findall(r"`(\w+)`", line)}
+
+
 def names():
-    """The crates, as crates.txt has them."""
+    """The other crates, as crates.txt has them."""
     with open(f"{TOP}/crates.txt", encoding="utf-8") as file:
-        return sorted(line.split(":")[0].split()[0] for line in file if ":" in line.split("#")[0])
+        return sorted({line.split(":")[0].split()[0] for line in file if ":" in line.split("#")[0]} - tests())
 
 
 def essay(name):

@@ -52,7 +52,7 @@ RUN_TIME = [".text", ".globl __tls_get_addr", ".type __tls_get_addr, @function",
 
 
 def tidy(text):
-    """An instruction as objdump prints it, with .. in the place of numbers that hang on addresses."""
+    """An instruction as objdump prints it, with .. in the place of numbers that depend on addresses."""
     text = re.sub(r"\s*(#.*|<[^>]*>)\s*$", "", text.strip())
     text = re.sub(r"-?0x[0-9a-f]+\(%", "..(%", text)
     text = re.sub(r"\$0x[0-9a-f]+", "$..", text)
