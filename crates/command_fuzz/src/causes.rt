@@ -26,14 +26,17 @@ pub(crate) const STATUSES: u8 = 11;
 /// How many causes a status has at most.
 pub(crate) const MOST: usize = 32;
 
-const OBJECT_CAUSES: &str = "Truncated NotElf NotRelocatable SectionName SectionKind SectionAlign TooLarge SymbolTable \
+const OBJECT_CAUSES: &str =
+    "Truncated NotElf NotRelocatable SectionName SectionKind SectionAlign TooLarge SymbolTable \
 SymbolName SymbolSection SymbolRange SymbolKind RelocTarget RelocSymbol RelocKind RelocRange RelocOverlap WritableData \
 Sequence StrayCall";
 
-const LINK_CAUSES: &str = "Undefined Duplicate NotTls LocalExecInModule NarrowInModule TlsTooLarge ImageTooLarge NoTls \
+const LINK_CAUSES: &str =
+    "Undefined Duplicate NotTls LocalExecInModule NarrowInModule TlsTooLarge ImageTooLarge NoTls \
 Overflow";
 
-const LINE_CAUSES: &str = "= opened closed bytes unknown full static-full permanent not-open symbol length address code \
+const LINE_CAUSES: &str =
+    "= opened closed bytes unknown full static-full permanent not-open symbol length address code \
 unloaded steps";
 
 /// The causes under a status, with spaces between. Those of status 0 are the commands.
@@ -55,7 +58,9 @@ pub(crate) fn causes_of(status: u8) -> &'static str {
 
 /// The number of a cause under its status, if it is one.
 pub(crate) fn number_of(status: u8, cause: &str) -> Option<usize> {
-    causes_of(status).split(' ').position(|known| known == cause)
+    causes_of(status)
+        .split(' ')
+        .position(|known| known == cause)
 }
 
 /// A word of a line that has so many words, of which this one is the first.

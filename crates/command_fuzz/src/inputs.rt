@@ -171,7 +171,10 @@ pub(crate) fn try_changed_image<R: Threads + Wait + Sync>(
     ensure!(job.status == JOB, "an image is a job");
     let run = bench.ask(rt, "run job")?;
     let check = bench.ask(rt, "check job")?;
-    ensure!(run.is_done() || check.is_same(&run), "check refuses otherwise than run");
+    ensure!(
+        run.is_done() || check.is_same(&run),
+        "check refuses otherwise than run"
+    );
     Ok(())
 }
 

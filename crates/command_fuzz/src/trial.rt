@@ -81,7 +81,10 @@ fn test_link<R: Threads + Wait + Sync>(
         return Ok(());
     }
     let wanted = format!(in alloc; "linked {image} {length}\n")?;
-    ensure!(answer.text()? == wanted.as_str(), "{words}: it says another length");
+    ensure!(
+        answer.text()? == wanted.as_str(),
+        "{words}: it says another length"
+    );
     let shown = bench.ask(rt, "show out")?;
     ensure!(shown.is_done(), "{words}: it is no image");
     Ok(())

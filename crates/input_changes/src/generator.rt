@@ -27,7 +27,11 @@ impl Generator {
         ensures { 0 < end → result < end }
     {
         self.state = self.state.wrapping_mul(FACTOR).wrapping_add(SUMMAND);
-        if end == 0 { 0 } else { (self.state >> 32) % end }
+        if end == 0 {
+            0
+        } else {
+            (self.state >> 32) % end
+        }
     }
 
     /// Whether something happens that happens once in so many times.

@@ -152,7 +152,12 @@ fn relocations(generator: &mut Generator, bytes: &[u8]) -> Option<Table> {
 }
 
 /// Gives a field of an entry another number, or once in eight times moves the whole.
-fn change_table(generator: &mut Generator, bytes: &mut [u8], table: Table, fields: &[Field]) -> Option<()> {
+fn change_table(
+    generator: &mut Generator,
+    bytes: &mut [u8],
+    table: Table,
+    fields: &[Field],
+) -> Option<()> {
     if generator.is_one_in(8) {
         return table.move_entry(generator, bytes);
     }

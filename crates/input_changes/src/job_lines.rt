@@ -124,7 +124,11 @@ impl JobLines {
     }
 
     /// Adds a line.
-    fn add_line(&mut self, generator: &mut Generator, files: &[&'static str]) -> Result<(), AllocError> {
+    fn add_line(
+        &mut self,
+        generator: &mut Generator,
+        files: &[&'static str],
+    ) -> Result<(), AllocError> {
         let line = any_line(self.alloc, generator, files)?;
         let place = self.any(generator).saturating_add(1);
         self.insert(place, line)
@@ -170,7 +174,11 @@ impl JobLines {
     }
 
     /// Changes the job in one way that is drawn by chance. There are files of these names.
-    pub fn change(&mut self, generator: &mut Generator, files: &[&'static str]) -> Result<(), AllocError> {
+    pub fn change(
+        &mut self,
+        generator: &mut Generator,
+        files: &[&'static str],
+    ) -> Result<(), AllocError> {
         match generator.below(24) {
             0 | 1 => {
                 let number = self.any(generator);

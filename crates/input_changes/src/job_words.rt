@@ -69,7 +69,9 @@ const LINES: [&str; 14] = [
 const LONG: [u64; 6] = [63, 64, 65, 254, 255, 256];
 
 /// Characters that no text has, or that part its lines and words otherwise.
-const ODD: [char; 10] = ['\t', '\r', '\n', ' ', '#', '\u{7f}', '\u{e9}', '\u{0}', '0', 'x'];
+const ODD: [char; 10] = [
+    '\t', '\r', '\n', ' ', '#', '\u{7f}', '\u{e9}', '\u{0}', '0', 'x',
+];
 
 /// A name that is nearly too long, or is.
 fn long_word(alloc: Global, generator: &mut Generator) -> Result<String, AllocError> {
@@ -150,7 +152,11 @@ pub(crate) fn with_words(
     let mut made = String::new(alloc);
     let mut at = 0u64;
     for old in line.split(' ') {
-        let (new, times) = if at == number { (word, count) } else { (old, 1) };
+        let (new, times) = if at == number {
+            (word, count)
+        } else {
+            (old, 1)
+        };
         for _ in 0..times {
             if !made.is_empty() {
                 made.push(' ')?;

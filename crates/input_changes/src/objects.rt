@@ -226,10 +226,7 @@ fn resize_table(generator: &mut Generator, bytes: &mut Vec<u8>) -> Result<(), Al
 }
 
 /// Changes an object in one way that is drawn by chance. Where it has not what that way changes, it stays.
-pub fn change_object(
-    generator: &mut Generator,
-    bytes: &mut Vec<u8>,
-) -> Result<(), AllocError> {
+pub fn change_object(generator: &mut Generator, bytes: &mut Vec<u8>) -> Result<(), AllocError> {
     let _is_changed = match generator.below(24) {
         0 => header().change_field(generator, bytes, &IDENTITY),
         1 => header().change_field(generator, bytes, &PLACES),
