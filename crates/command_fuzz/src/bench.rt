@@ -33,16 +33,20 @@ impl Answer {
         self.status == other.status && self.out.bytes() == other.out.bytes()
     }
 
+    /// Whether what it printed begins so. An image's names are bytes, so the output of `show` and `sites` may be no text.
+    pub(crate) fn begins_with(&self, start: &[u8]) -> bool {
+        self.out.bytes().get(..start.len()) == Some(start)
+    }
+
     /// The number of the cause that it names, where these are the words that it answers.
     fn cause(&self, words: &str) -> Result<usize> {
-        let text = self.text()?;
-        let found = match self.status {
+        let status = self.status;
+        let found = match status {
             DONE => number_of(DONE, words.split(' ').next().unwrap_or("")),
             SINK => Some(0),
-            status => refusal_of(status, text),
+            _ => refusal_of(status, self.text()?),
         };
-        let status = self.status;
-        found.context(format_args!("status {status} with the text {text:?}"))
+        found.context(format_args!("status {status} and no line of it"))
     }
 }
 

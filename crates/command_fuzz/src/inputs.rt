@@ -165,7 +165,7 @@ pub(crate) fn try_changed_image<R: Threads + Wait + Sync>(
     bench.tally.note_size(bytes.len());
     bench.files.add("image", bytes.as_slice())?;
     let shown = bench.ask_first(rt, "show image")?;
-    let is_listing = shown.text()?.starts_with("kind ");
+    let is_listing = shown.begins_with(b"kind ");
     ensure!(shown.is_done() == is_listing, "show lists no image");
     let job = bench.ask(rt, "run image")?;
     ensure!(job.status == JOB, "an image is a job");
