@@ -165,7 +165,8 @@ impl ClassBytes {
     #[tactic(auto, using(crate::proofs::Ranging::all_values, crate::proofs::Ranging::more_values))]
     pub fn values(&self, alloc: Global, bias: u64) -> Result<Vec<u8>, AllocError>
         requires { bias < 2 ^ 60 }
-        ensures { IfOk result (λ bytes. bytes.items ≡ bytes_at self.now bias) }
+        ensures values { IfOk result (λ bytes. bytes.items ≡ bytes_at self.now bias) }
+        ensures few { IfOk result (λ bytes. length bytes.items ≤ 2 ^ 25) }
     {
         let count = self.bytes().len();
         let mut bytes = Vec::with_capacity(alloc, count)?;

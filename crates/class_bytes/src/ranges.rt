@@ -1,6 +1,6 @@
 //! The ranges of an instance, as a job loads them.
 
-ghost use Rattle.std.specs.Prelude.{◌≡◌, ◌++◌, ◌-◌, ◌<◌, ◌^◌, true, IfOk, OnOk, length, map};
+ghost use Rattle.std.specs.Prelude.{◌≡◌, ◌++◌, ◌-◌, ◌<◌, ◌≤◌, ◌^◌, true, IfOk, OnOk, length, map};
 ghost use Rattle.std.specs.Prelude.{option_map, replicate};
 ghost use Rattle.guest_operands.specs.Ranges.{byte_in};
 ghost use Rattle.link_needs.specs.Linking.{Linking, layout};
@@ -92,17 +92,19 @@ fn pad_block(block: &mut Vec<u8>, len: usize) -> Result<(), AllocError>
     Ok(())
 }
 
-/// The values of a thread's block before any write, of an instance that is moved by `bias`: the initial image, and zeros
-/// up to the size of the segment.
+/// The values of a thread's block before any write, of an instance that is moved by `bias`: the initial image, and
+/// zeros up to the size of the segment.
 fn block_values(
     alloc: Global,
     initial: &ClassBytes,
     size: u64,
     bias: u64,
 ) -> Result<Vec<u8>, AllocError>
-    requires { bias < 2 ^ 60 }
-    ensures { IfOk result (λ block. (l : Linking) → IsClass l (Tls true) initial.now → Keeps l bias
+    requires bias { bias < 2 ^ 60 }
+    requires small { size ≤ 2 ^ 20 }
+    ensures values { IfOk result (λ block. (l : Linking) → IsClass l (Tls true) initial.now → Keeps l bias
         → size ≡ tls_size (layout l).sections → block.items ≡ block_bytes l bias) }
+    ensures few { IfOk result (λ block. length block.items ≤ 2 ^ 26) }
 {
     let mut block = initial.values(alloc, bias)?;
     pad_block(&mut block, size as usize)?;
@@ -116,7 +118,8 @@ pub fn block_of(
     size: u64,
     bias: u64,
 ) -> Result<MarkedBytes, AllocError>
-    requires { bias < 2 ^ 60 }
+    requires bias { bias < 2 ^ 60 }
+    requires small { size ≤ 2 ^ 20 }
     ensures { IfOk result (λ block. (l : Linking) → IsClass l (Tls true) initial.now → Keeps l bias
         → size ≡ tls_size (layout l).sections → block ≡ map Byte.Value (block_bytes l bias)) }
 {

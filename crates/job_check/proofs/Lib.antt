@@ -10,7 +10,6 @@ mod OneTurn
 mod OpensBegun
 mod Orders
 mod OwnedApart
-mod Parts
 mod PartsTaken
 mod PlainSteps
 mod Resuming

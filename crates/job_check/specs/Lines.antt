@@ -1,5 +1,5 @@
 -- What the first look of a thread's line comes to in the code.
-use Rattle.std.specs.Prelude.{◌≡◌, ◌+◌, ℕ, Bool, true, false, List, [], Option, Some, None, length, nat_le, option_to_list, slice_range, if◌then◌else◌}
+use Rattle.std.specs.Prelude.{◌≡◌, ◌+◌, ℕ, Bool, true, false, List, [], Option, Some, None, option_and_then, option_to_list, if◌then◌else◌}
 use Rattle.guest_arithmetic.specs.declared.cause.Cause.{Cause}
 use Rattle.guest_operands.specs.declared.state.State.{State}
 use Rattle.guest_operands.specs.declared.stop.Stop.{Stop}
@@ -23,6 +23,7 @@ use Rattle.job_check.specs.declared.lines.Started.TheVariants.{Says, Calls}
 use Rattle.meant_space.specs.declared.space.Wanted.TheVariants.{DataOf, Fixed}
 use Rattle.job_check.specs.Histories.{IsLeftBy, infos_of}
 use Rattle.meant_space.specs.Kept.{HasSeen, Kept, held_at}
+use Rattle.meant_space.specs.Owners.{part_in}
 use Rattle.meant_space.specs.Spaces.{with_held}
 
 -- these events leave this history
@@ -139,8 +140,5 @@ shown_step thread line address bytes None = unclean_stop thread line (unclean_by
 
 -- of a variable at an offset in a block
 abbrev pub step_in : ℕ → ℕ → ℕ → ℕ → ℕ → Option (List Byte) → Option UncleanStep
-step_in thread line start size offset None = None
-step_in thread line start size offset (Some bytes) = if nat_le (offset + size) (length bytes)
-    then (let part = slice_range bytes offset (offset + size) in
-    shown_step thread line (start + offset) part (values_of part))
-    else None
+step_in thread line start size offset block =
+    option_and_then (λ part. shown_step thread line (start + offset) part (values_of part)) (part_in offset size block)

@@ -244,7 +244,6 @@ fn shown_step(thread: u32, line: u32, address: u64, bytes: &[Byte]) -> Option<Un
 }
 
 /// The unclean step of a line that shows bytes of the thread's block of an instance, from an offset on, if it has one.
-#[tactic(auto, using(crate::proofs::Parts::part_shown, crate::proofs::Parts::part_missing))]
 fn step_in(
     space: &MeantSpace,
     instance: &Instance,

@@ -6,12 +6,12 @@
 //! each, and only bytes that are something else as a [`Byte`].
 //!
 //! The rule that the crate keeps: **contracts see a list of bytes**, and no call tells how a byte is kept. A write never
-//! fails. Room for every byte's mark is reserved at the start, and takes memory once a mark is there: a system gives a
-//! page of memory when it is first touched.
+//! fails. Room for every byte's mark is reserved at the start: 52 bytes of address space for each byte. It takes memory
+//! once marks are there, since a system gives a page of memory when the page is first touched.
 //!
 //! ```text
 //! values   2a 00 00 00 00 00 00 00 05      nine bytes
-//! slots     0  1  2  0                     the second and the third are kept below; behind the end all are values
+//! slots     0  1  2  0  0  0  0  0  0      the second and the third are marks; without any mark this list is empty
 //! marks    Hidden, Part(base, 3)
 //! ```
 #![tactic(auto)]

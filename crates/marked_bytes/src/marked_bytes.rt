@@ -1,19 +1,21 @@
 //! A list of bytes that keeps values apart from all others.
 
-ghost use Rattle.std.specs.Prelude.{◌≡◌, ◌<◌, ◌≤◌, ◌+◌, ◌-◌, ◌^◌, ◌++◌, ◌∷◌, [], IfOk, length, map, replicate, slice_get, slice_index_or, slice_range, slice_set};
+ghost use Rattle.std.specs.Prelude.{◌≡◌, ◌<◌, ◌≤◌, ◌+◌, ◌-◌, ◌^◌, ◌++◌, ◌∷◌, [], IfOk, IfSome};
+ghost use Rattle.std.specs.Prelude.{length, map, option_map, replicate, slice_get, slice_index_or, slice_range, slice_set};
 ghost use Rattle.std.specs.Vec.{vec_capacity, vec_len};
+ghost use Rattle.marked_bytes.specs.Parts.{part_of};
 
 use job_meaning::Byte;
 use std::alloc::{AllocError, Global};
 use std::marker::Model;
 
-/// Bytes of which most are values. A value takes one byte of memory, or five once one of them was no value. Contracts
-/// see a list of [`Byte`].
+/// Bytes of which most are values. A value takes one byte of memory, or five once one of them was no value. Address
+/// space of 53 bytes is reserved for each. Contracts see a list of [`Byte`].
 #[derive(Drop)]
 pub struct MarkedBytes {
     /// Each byte's value, where it is one.
     values: Vec<u8>,
-    /// The number of each byte's mark, from 1; 0 where it is a value. Behind the end all are values.
+    /// The number of each byte's mark, from 1; 0 where it is a value. Empty until a byte is no value.
     slots: Vec<u32>,
     /// The bytes that are no values, or were none once.
     marks: Vec<Byte>,
@@ -106,7 +108,7 @@ fn add_mark(marks: &mut Vec<Byte>, byte: Byte) -> u32
     number
 }
 
-/// Gives each of so many bytes a number, where there is room for them.
+/// Lengthens the list of numbers to `count`, with 0 for each new one. Without room for them it does nothing.
 fn widen(slots: &mut Vec<u32>, count: usize)
     requires room { count ≤ vec_capacity slots.old }
     requires kept { vec_len slots.old ≡ length slots.old.items }
@@ -134,14 +136,12 @@ impl MarkedBytes {
         }
     }
 
-    /// These values. More than 2^32 are said to want memory.
+    /// These values.
     pub fn of(alloc: Global, values: Vec<u8>) -> Result<MarkedBytes, AllocError>
+        requires few { length values.items < 2 ^ 32 }
         ensures { IfOk result (λ bytes. bytes ≡ map Byte.Value values.items) }
     {
         let count = values.as_slice().len();
-        if count >= 1 << 32 {
-            return Err(AllocError);
-        }
         Ok(MarkedBytes {
             values,
             slots: Vec::with_capacity(alloc, count)?,
@@ -199,9 +199,14 @@ impl MarkedBytes {
         put_slot(&mut self.slots, index, number);
     }
 
-    /// Those from an index up to another.
+    /// The bytes from an index up to another.
     #[tactic(auto, using(crate::proofs::Cells::next_taken, crate::proofs::Cells::none_taken))]
-    pub fn part(&self, alloc: Global, start: usize, end: usize) -> Result<Vec<Byte>, AllocError>
+    fn bytes_between(
+        &self,
+        alloc: Global,
+        start: usize,
+        end: usize,
+    ) -> Result<Vec<Byte>, AllocError>
         requires order { start ≤ end }
         requires within { end ≤ length self.now }
         ensures { IfOk result (λ bytes. bytes.items ≡ slice_range self.now start end) }
@@ -213,7 +218,26 @@ impl MarkedBytes {
         Ok(bytes)
     }
 
-    /// The same bytes once more.
+    /// The `size` bytes from an offset on, if all of them are there.
+    #[tactic(auto, using(crate::proofs::Parts::part_is, crate::proofs::Parts::part_is_none))]
+    pub fn part(
+        &self,
+        alloc: Global,
+        offset: u64,
+        size: u32,
+    ) -> Result<Option<Vec<Byte>>, AllocError>
+        ensures part { IfOk result (λ part. option_map (λ bytes. bytes.items) part ≡ part_of offset size self.now) }
+        ensures low { IfOk result (λ part. IfSome part (λ bytes. offset < 2 ^ 32)) }
+    {
+        let end = u128::from(offset) + u128::from(size);
+        if end > u128::from(self.len()) {
+            return Ok(None);
+        }
+        let bytes = self.bytes_between(alloc, offset as usize, end as usize)?;
+        Ok(Some(bytes))
+    }
+
+    /// A copy of the bytes.
     pub fn copy(&self, alloc: Global) -> Result<MarkedBytes, AllocError>
         ensures { IfOk result (λ bytes. bytes ≡ self.now) }
     {

@@ -1,7 +1,8 @@
 -- Owners, as the code has them.
-use Rattle.std.specs.Prelude.{◌≡◌, ◌+◌, ℕ, Bool, false, List, Option, None, Some, length, nat_le, option_map, slice_range, if◌then◌else◌}
+use Rattle.std.specs.Prelude.{◌≡◌, ℕ, Bool, false, List, Option, option_and_then, option_map}
 use Rattle.std.specs.List.{find}
 use Rattle.job_meaning.specs.declared.values.Byte.{Byte}
+use Rattle.marked_bytes.specs.Parts.{part_of}
 use Rattle.thread_blocks.specs.Held.{Block, Data, Kind, Owned, Owner, data_bytes, is_block_of, is_data_of}
 use Rattle.meant_space.specs.declared.owned.Written.{Written}
 use Rattle.meant_space.specs.declared.owned.Written.TheVariants as written
@@ -19,11 +20,9 @@ is_owner written.Data instance o = is_data_of instance o
 abbrev pub bytes_for : (Owner → Bool) → List (Owned Byte) → Option (List Byte)
 bytes_for test xs = option_map (λ x. x.range.bytes) (find (λ x. test x.owner) xs)
 
--- the bytes of a block from an offset on, where so many lie in it
+-- as many bytes of a block as this from an offset on, if there is a block and all of them lie in it
 abbrev pub part_in : ℕ → ℕ → Option (List Byte) → Option (List Byte)
-part_in offset size None = None
-part_in offset size (Some bytes) =
-    if nat_le (offset + size) (length bytes) then Some (slice_range bytes offset (offset + size)) else None
+part_in offset size block = option_and_then (part_of offset size) block
 
 -- of all owners but one the bytes are as before
 pub record LeavesOthers (kind : Written) (instance : ℕ) (old new : List (Owned Byte)) : Type 0 where

@@ -39,7 +39,8 @@ impl<'m> MeantSpace<'m> {
         None
     }
 
-    /// The bytes of the block that the thread has of an instance, from an offset on, where so many lie in it.
+    /// The `size` bytes from an offset on of the block that the thread has of an instance, if there is a block and all of
+    /// them lie in it.
     pub fn part(
         &self,
         instance: u32,
@@ -51,7 +52,7 @@ impl<'m> MeantSpace<'m> {
         ensures low { IfOk result (λ part. IfSome part (λ bytes. offset < 2 ^ 32)) }
     {
         match owned::block(&self.own, instance) {
-            Some(block) => owned::part_of(self.alloc, block, offset, size),
+            Some(block) => block.part(self.alloc, offset, size),
             None => Ok(None),
         }
     }

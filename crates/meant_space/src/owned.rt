@@ -1,12 +1,12 @@
 //! Bytes that are written, and whose they are.
 
-ghost use Rattle.std.specs.Prelude.{◌≡◌, ◌-◌, ◌<◌, ◌^◌, IfOk, IfSome, IsTrue, Some, option_map, slice_get, slice_set};
+ghost use Rattle.std.specs.Prelude.{◌≡◌, ◌-◌, IfOk, IsTrue, option_map, slice_get, slice_set};
 ghost use Rattle.std.specs.List.{position_or_len};
 ghost use Rattle.guest_memory.specs.Writable.{first_writable};
 ghost use Rattle.guest_operands.specs.Ranges.{byte_in, grants, holds};
 ghost use Rattle.thread_blocks.specs.Held.{block_bytes, ranges_in};
 ghost use Rattle.thread_blocks.specs.JobWorlds.{blocks_in, data_in};
-ghost use Rattle.meant_space.specs.Owners.{LeavesOthers, bytes_for, is_owner, part_in};
+ghost use Rattle.meant_space.specs.Owners.{LeavesOthers, bytes_for, is_owner};
 ghost use Rattle.meant_space.specs.Writing.{written_in};
 
 use class_bytes::WritableRange;
@@ -127,25 +127,6 @@ pub(crate) fn block(owned: &[OwnedRange], instance: u32) -> Option<&MarkedBytes>
         }
     }
     None
-}
-
-/// The bytes of a block from an offset on, where so many lie in it.
-#[tactic(auto, using(crate::proofs::Parts::part_is, crate::proofs::Parts::part_is_none))]
-pub(crate) fn part_of(
-    alloc: Global,
-    block: &MarkedBytes,
-    offset: u64,
-    size: u32,
-) -> Result<Option<Vec<Byte>>, AllocError>
-    ensures part { IfOk result (λ part. option_map (λ bytes. bytes.items) part ≡ part_in offset size (Some block.now)) }
-    ensures low { IfOk result (λ part. IfSome part (λ bytes. offset < 2 ^ 32)) }
-{
-    let end = u128::from(offset) + u128::from(size);
-    if end > u128::from(block.len()) {
-        return Ok(None);
-    }
-    let bytes = block.part(alloc, offset as usize, end as usize)?;
-    Ok(Some(bytes))
 }
 
 /// The byte at a place, where it may be accessed so.

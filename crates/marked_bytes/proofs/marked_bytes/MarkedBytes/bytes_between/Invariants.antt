@@ -1,5 +1,5 @@
 use Rattle.std.proofs.Common.{◌≡◌, ◌-◌, drop, take}
-use Rattle.marked_bytes.proofs.marked_bytes.MarkedBytes.part.Given as goal
+use Rattle.marked_bytes.proofs.marked_bytes.MarkedBytes.bytes_between.Given as goal
 
 -- the bytes so far
 abbrev pub invariant-loop-index : goal.invariant-loop-index
