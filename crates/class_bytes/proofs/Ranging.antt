@@ -98,9 +98,6 @@ module _ (l : Linking) (bias : ℕ) (keeps : Keeps l bias) where
 
 -- ** all bytes of a table
 
-pub no_values : (c : ClassTable) (bias : ℕ) → [] ≡ map (byte_at c bias) (range_with_len 0 0)
-no_values c bias = refl
-
 pub all_values : (c : ClassTable) (bias n : ℕ) (values : List ℕ) → n ≡ length c.bytes → values ≡ map (byte_at c bias) (range_with_len 0 n)
     → values ≡ bytes_at c bias
 unfolding bytes_at

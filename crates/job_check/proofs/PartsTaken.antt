@@ -30,27 +30,6 @@ use Rattle.job_check.specs.Taking.{BeginsTo, IsOver, ResumesTo, RunsTo, TookAs}
 
 -- ** runs
 
-pub ran_over : (line count : ℕ) (state state' : State Word Flag) (k k' : Kept) (stop : Stop) (left : ℕ) (found : Option UncleanStep)
-    → RunsOn count state k (ran.Ended stop left) state' k' → found ≡ unclean_stop k'.thread line stop
-    → RunsTo line count state k (Over found) k'
-ran_over line count state state' k k' stop left found runs is = record {
-  keeps = runs.keeps;
-  runs = λ now seen points todo said has_seen. record {
-    ending = Stopped stop;
-    state = state';
-    is = ap (after_run todo said seen points) (runs.runs now has_seen);
-    unclean_is = sym is;
-  };
-}
-
-pub ran_waits : (line count : ℕ) (state state' : State Word Flag) (k k' : Kept) (left : ℕ)
-    → RunsOn count state k (ran.Waits left) state' k'
-    → RunsTo line count state k (Waits (record { state = state'; steps = left })) k'
-ran_waits line count state state' k k' left runs = record {
-  keeps = runs.keeps;
-  runs = λ now seen points todo said has_seen. ap (after_run todo said seen points) (runs.runs now has_seen);
-}
-
 -- ** lines that begin
 
 keeps_both : (k k1 k2 : Kept) → KeepsThread k k1 → KeepsJob k1 k2 → KeepsThread k k2
@@ -126,29 +105,6 @@ keeps_again k k1 k2 first next = record {
 }
 
 module _ (fuel line : ℕ) (c : Waiting) (k k1 : Kept) (state : State Word Flag) where
-  pub resumes_gone : Resumes c.state k resumed.Unloaded state k1 → ResumesTo fuel line c k (Over None) k1
-  resumes_gone resumes = record {
-    keeps = resumes.keeps;
-    resumes = λ seen points todo said has_seen. record {
-      ending = Answered (Fault IsUnloaded);
-      state = state;
-      is = ap (after_look (meant_turns (meaning_of k.images) k.thread fuel) (c.steps - 1) todo said seen points) (resumes.resumes seen has_seen);
-      unclean_is = refl;
-    };
-  }
-
-  pub resumes_ends : (stop : Stop) (found : Option UncleanStep) → Resumes c.state k (resumed.Ends stop) state k1
-      → found ≡ unclean_stop k1.thread line stop → ResumesTo fuel line c k (Over found) k1
-  resumes_ends stop found resumes is = record {
-    keeps = resumes.keeps;
-    resumes = λ seen points todo said has_seen. record {
-      ending = Stopped stop;
-      state = state;
-      is = ap (after_look (meant_turns (meaning_of k.images) k.thread fuel) (c.steps - 1) todo said seen points) (resumes.resumes seen has_seen);
-      unclean_is = sym is;
-    };
-  }
-
   pub resumes_runs : (k2 : Kept) (taken : Taken) → Resumes c.state k resumed.Goes state k1
       → RunsTo line (c.steps - 1) state k1 taken k2 → ResumesTo fuel line c k taken k2
   unfolding meant_turns

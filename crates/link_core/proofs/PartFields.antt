@@ -260,15 +260,6 @@ module _ (l : Linking) (given : IsGiven l) (limits : FitsTable l) where
   parts_join from cut to xs ys low high long is_cut part =
       (all_split from cut to (length ys) low (λ some. high) (first_part l from cut low is_cut) part xs ys long refl).0
 
-  -- a part stays as long as it was
-  pub part_keeps : (from : ℕ) (to : Option ℕ) (part : List ℕ) → IsPart l from to (length part)
-      → length (part_with_fields_from l from to 0 l.objects part) ≡ length part
-  part_keeps from to part is =
-      let none : 0 ≡ from - from = omega arith in
-      (all_split from from to (length part) (omega arith) (λ some. absurd (omega arith)) (λ o t address there e some.
-      let b = begins_in l from (Some from) o t address e in
-      absurd (omega (arith, b.low, before_end (offset_of (layout l) address) from b.high))) is [] part none refl).2
-
   -- ** the whole
 
   whole_field : (o t : ℕ) (r : Relocation) (now : List ℕ) → part_with_field l 0 o t now r ≡ with_field l o t now r

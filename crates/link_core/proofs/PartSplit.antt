@@ -105,12 +105,6 @@ second_part l from cut to n low inside part o t address there e some =
     let whole = part o t address there (ap (start_at (layout l) from to) b.address_is ∙ found) some in
     (b.low, omega (arith, whole.1, inside))
 
--- a part and a cut
-pub cut_parts : (l : Linking) (from cut : ℕ) (to : Option ℕ) (n : ℕ) → from ≤ cut → cut ≤ from + n → IsCut l cut
-    → IsPart l from to n → IsPart l from (Some cut) (cut - from) × IsPart l cut to (from + n - cut)
-cut_parts l from cut to n low inside is_cut part =
-    (first_part l from cut low is_cut, second_part l from cut to n low inside part)
-
 -- the whole file
 pub whole_is_part : (l : Linking) → IsGiven l → FitsTable l → IsPart l 0 None (length (raw_file l))
 whole_is_part l given limits o t address there e some =
@@ -119,10 +113,6 @@ whole_is_part l given limits o t address there e some =
     (omega arith, omega (arith, fits, raw_longer l))
 
 -- ** cuts
-
--- no section lies before the file
-pub cut_zero : (l : Linking) → IsCut l 0
-cut_zero l o t address there at = inr (omega arith)
 
 -- none lies on both sides of where another begins
 pub cut_at : (l : Linking) (o t address : ℕ) → IsGiven l → FitsTable l → o < length l.objects

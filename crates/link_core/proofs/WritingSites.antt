@@ -48,6 +48,3 @@ module _ (l : Linking) (file : List ℕ) (sites : List (List Site)) (n : ℕ) wh
       → with_sites_from l (n + 1) (drop (n + 1) sites) (fold (with_site l n) file own)
       ≡ with_sites_from l n (drop n sites) file
   sites_step own here = ap (λ all. with_sites_from l n all file) (sym here)
-
-  pub sites_end : length sites ≤ n → with_sites_from l n (drop n sites) file ≡ file
-  sites_end past = ap (λ all. with_sites_from l n all file) (drop_of_length-le sites past)

@@ -42,10 +42,6 @@ module _ (l : Linking) (o s : ℕ) (from : ℕ) (to : Option ℕ) (part : List �
         ≡ part_with_held l from o (object l o) part s (Some address) = rw (held.0, held.1) refl in
         same ∙ start_of (Some address) is
 
-    -- of one that begins elsewhere
-    pub table_elsewhere : None ≡ start_in l from to o t → part ≡ part_with_table l from to o (object l o) part s
-    table_elsewhere is = start_of None is
-
 -- the address of a section that begins in a part
 pub start_known : (p : Layout) (from : ℕ) (to : Option ℕ) (at : Option ℕ) (address : ℕ) → Some address ≡ start_at p from to at
     → at ≡ Some address
@@ -65,17 +61,8 @@ module _ (l : Linking) (from : ℕ) (to : Option ℕ) where
       ≡ fold (part_with_table l from to o (object l o)) part (range_with_len t (n - t))
   tables_step o part t n below = rw (range_first t n below) refl
 
-  pub tables_end : (o : ℕ) (part : List ℕ) (t n : ℕ) → n ≤ t
-      → fold (part_with_table l from to o (object l o)) part (range_with_len t (n - t)) ≡ part
-  tables_end o part t n past = rw (range_none t n past) refl
-
   -- the fields of an object, and then those of the objects behind it
   pub objects_step : (part : List ℕ) (n : ℕ) (b : List ℕ) → drop n l.objects ≡ b ∷ drop (n + 1) l.objects
       → part_with_fields_from l from to (n + 1) (drop (n + 1) l.objects) (part_with_fields l from to n b part)
       ≡ part_with_fields_from l from to n (drop n l.objects) part
   objects_step part n b here = ap (λ bs. part_with_fields_from l from to n bs part) (sym here)
-
-  pub objects_end : (part : List ℕ) (n : ℕ) → length l.objects ≤ n
-      → part_with_fields_from l from to n (drop n l.objects) part ≡ part
-  objects_end part n past =
-      ap (λ bs. part_with_fields_from l from to n bs part) (drop_of_length-le l.objects past)

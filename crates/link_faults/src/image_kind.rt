@@ -1,7 +1,7 @@
 //! The kinds of image that a linker makes.
 
 ghost use Rattle.std.specs.Prelude.{◌≡◌, ◌↔◌, IsTrue};
-ghost use Rattle.link_faults.specs.ImageKinds.{IsModule, base_of};
+ghost use Rattle.link_faults.specs.ImageKinds.{IsModule, base_of, is_moved};
 
 /// The kind of image to link.
 #[derive(Clone, Copy, PartialEq, Eq, Debug)]
@@ -25,6 +25,16 @@ impl ImageKind {
         ensures { IsTrue result ↔ IsModule self }
     {
         matches!(self, ImageKind::Start | ImageKind::Late)
+    }
+
+    /// Whether the image may be loaded at any address.
+    pub fn is_moved(self) -> bool
+        ensures { result ≡ is_moved self }
+    {
+        match self {
+            ImageKind::Exe => false,
+            ImageKind::Pie | ImageKind::Start | ImageKind::Late => true,
+        }
     }
 
     /// The address of the image before the loader moves it: that of its first section.

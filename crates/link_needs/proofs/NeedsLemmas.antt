@@ -30,10 +30,6 @@ module _ {X A : Type 0} (f : X → List A) (seen : List A) (xs : List X) (i : �
   walked x here =
       append_assoc seen (f x) (flat_map f (drop (i + 1) xs)) ∙ ap (λ ys. seen ++ flat_map f ys) (sym here)
 
-  pub walked_all : length xs ≤ i → seen ≡ seen ++ flat_map f (drop i xs)
-  walked_all past =
-      sym (ap (λ ys. seen ++ flat_map f ys) (drop_of_length-le xs past) ∙ append-nil seen)
-
 -- ** numbers below an end
 
 module _ {A : Type 0} (f : ℕ → List A) (seen : List A) (a n : ℕ) where
@@ -62,17 +58,6 @@ module _ (l : Linking) (seen : List Need) (sites : List (List Site)) (i : ℕ) w
       sym (ap (λ vs. seen ++ site_needs_from l i vs) (drop_of_length-le sites past) ∙ append-nil seen)
 
 module _ (l : Linking) (seen : List Need) (objects : List (List ℕ)) (i : ℕ) where
-  pub objects_walked : (b : List ℕ) → drop i objects ≡ b ∷ drop (i + 1) objects
-      → (seen ++ object_needs l i b) ++ object_needs_from l (i + 1) (drop (i + 1) objects)
-      ≡ seen ++ object_needs_from l i (drop i objects)
-  objects_walked b here =
-      append_assoc seen (object_needs l i b) (object_needs_from l (i + 1) (drop (i + 1) objects))
-      ∙ ap (λ bs. seen ++ object_needs_from l i bs) (sym here)
-
-  pub objects_walked_all : length objects ≤ i → seen ≡ seen ++ object_needs_from l i (drop i objects)
-  objects_walked_all past =
-      sym (ap (λ bs. seen ++ object_needs_from l i bs) (drop_of_length-le objects past) ∙ append-nil seen)
-
 -- ** calls of the stub
 
 module _ {X : Type 0} (test : X → Bool) (xs : List X) (i : ℕ) where
@@ -83,9 +68,6 @@ module _ {X : Type 0} (test : X → Bool) (xs : List X) (i : ℕ) where
   pub any_later : (x : X) → drop i xs ≡ x ∷ drop (i + 1) xs → test x ≡ false
       → list_any test (drop (i + 1) xs) ≡ list_any test (drop i xs)
   any_later x here is = sym (ap (list_any test) here ∙ ap (λ b. b || list_any test (drop (i + 1) xs)) is)
-
-  pub any_none : length xs ≤ i → list_any test (drop i xs) ≡ false
-  any_none past = ap (list_any test) (drop_of_length-le xs past)
 
 module _ (l : Linking) (sites : List (List Site)) (i : ℕ) where
   pub stub_here : (own : List Site) → drop i sites ≡ own ∷ drop (i + 1) sites

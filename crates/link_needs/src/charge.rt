@@ -5,7 +5,6 @@ ghost use Rattle.elf_object.specs.Parts.{symbol_count};
 ghost use Rattle.tls_symbols.specs.Bindings.{binding_of, object_at};
 ghost use Rattle.link_needs.specs.Refusals.{test_of, IsAskedWithin, asks_storage, is_refused, is_refused_at_all};
 ghost use Rattle.link_faults.specs.Bindings.{is_here};
-ghost use Rattle.link_faults.specs.ImageKinds.{is_moved};
 
 use elf_object::{Relocation, RelocationKind};
 use elf_records::relocation_row::{Refused, TableEntry};
@@ -23,20 +22,13 @@ pub enum Charge<'b, 'l, 's, 'a> {
     ByStorage(ImageKind, &'b Bindings<'l, 's, 'a>),
 }
 
-/// Whether an image of this kind may lie at any address.
-fn is_moved(image: ImageKind) -> bool
-    ensures { result ≡ is_moved image }
-{
-    !matches!(image, ImageKind::Exe)
-}
-
 /// Whether an image of this kind refuses relocations of a type with this fault.
 fn is_refused(fault: LinkFaultKind, image: ImageKind, kind: RelocationKind) -> bool
     ensures { result ≡ is_refused fault image kind }
 {
     match (fault, kind.row().refused) {
         (LinkFaultKind::LocalExecInModule, Refused::InModule) => image.is_module(),
-        (LinkFaultKind::NarrowInModule, Refused::WhereMoved) => is_moved(image),
+        (LinkFaultKind::NarrowInModule, Refused::WhereMoved) => image.is_moved(),
         _ => false,
     }
 }

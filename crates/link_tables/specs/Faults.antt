@@ -1,4 +1,4 @@
--- When objects do not link, and what is told.
+-- When objects do not link, and what is told; and the tables of a link as code holds them.
 use Rattle.std.specs.Prelude.{◌≡◌, ◌<◌, ◌≤◌, ◌^◌, ◌⊎◌, ℕ, List, Option, Some, None, IsNone, IsSomeAnd, false, length}
 use Rattle.std.specs.Prelude.{map, slice_get}
 use Rattle.std.specs.List.{All}
@@ -24,7 +24,7 @@ use Rattle.image_writer.specs.declared.draft.NamedSymbol.{NamedSymbol}
 
 -- ** limits
 
--- an image has at most 2^19 relocations, and its names take at most 2^22 bytes
+-- more relocations than an image may have (2^19), or names that take more bytes than they may (2^22)
 abbrev pub IsCrowded : Linking → Type 0
 IsCrowded l = (2 ^ 19 < relocation_count l.objects) ⊎ (2 ^ 22 < name_size l.objects (own_symbols l) (imports l))
 
@@ -35,10 +35,11 @@ pub record FitsLimits (l : Linking) : Type 0 where
 
 -- ** fields
 
--- a relocation of section t of object o has a field that does not hold its value; or it has none such
+-- a relocation of section t of object o has a field, and the field can't hold its value
 abbrev pub IsOverflow : Linking → ℕ → ℕ → Relocation → Type 0
 IsOverflow l o t r = (is_replaced l o r ≡ false) × IsNone (field l o t r)
 
+-- it has no field, or one that holds its value
 abbrev pub IsFilled : Linking → ℕ → ℕ → Relocation → Type 0
 IsFilled l o t r = IsOverflow l o t r → ⊥
 
@@ -78,7 +79,7 @@ pub record IsSound (l : Linking) : Type 0 where
 -- the objects link
 pub record Links (l : Linking) : Type 0 where
   pub sound : IsSound l
-  pub fits : (o s e : ℕ) → Overflows l o s e → ⊥
+  pub fits : IsToldOverflow l None
 
 -- a fault of the image as a whole stands at no object
 abbrev pub IsOfWhole : Option ℕ → ℕ → ℕ → Type 0

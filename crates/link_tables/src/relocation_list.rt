@@ -17,7 +17,6 @@ ghost use Rattle.link_needs.specs.Needs.{entries, got_size, got_start};
 use crate::tables::Tables;
 use got_pairs::{DynamicKind, DynamicRelocation, DynamicSymbol, Entry, Word};
 use image_file::{ImageRelocation, LoaderKind};
-use link_faults::ImageKind;
 use link_needs::Plan;
 use std::alloc::{AllocError, Global};
 use tls_symbols::{Use, Uses};
@@ -214,7 +213,7 @@ fn is_moved(plan: &Plan) -> bool
     ensures { result ≡ is_moved plan.now.kind }
 {
     let inputs = &plan.inputs;
-    !matches!(inputs.kind, ImageKind::Exe)
+    inputs.kind.is_moved()
 }
 
 /// The relocations of fields with addresses by their places, in an image that may lie anywhere.

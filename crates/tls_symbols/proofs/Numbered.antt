@@ -42,25 +42,6 @@ grows_push names k = record {
   };
 }
 
--- one more name
-pub grows_insert : (names : Names) (k : Bor (List ℕ)) → Grows names (insert_key same_names names k)
-grows_insert names k = by_test (list_any (same_names k) names)
-  where
-    by_test : (t : Bool) → Grows names (if t then names else names ++ k ∷ [])
-    by_test true = grows_refl names
-    by_test false = grows_push names k
-
--- has the number that it was given
-pub number_insert : (names : Names) (k : Bor (List ℕ)) → position_or_len (same_names k) names ≡ number_of (insert_key same_names names k) k.now
-number_insert names k = by_test (list_any (same_names k) names)
-  where
-    by_test : (t : Bool) → number_of names k.now ≡ number_of (if t then names else names ++ k ∷ []) k.now
-    by_test true = refl
-    by_test false =
-        sym (position_or_len_push (λ x. bytes_eq k.now x.now) names k
-        ∙ ap (λ t. cond (eqb (number_of names k.now) (length names)) (length names + cond t 0 1) (number_of names k.now)) (same_name k.now)
-        ∙ last (number_of names k.now) (length names))
-
 -- what holds of each entry so far, and of one more
 pub each_push : {X : Type 0} (P : ℕ → X → Type 0) (xs : List X) (y d : X) (n : ℕ) → length xs ≡ n
     → ((k : ℕ) → k < n → P k (slice_index_or xs k d)) → P n y → (k : ℕ) → k < n + 1 → P k (slice_index_or (xs ++ y ∷ []) k d)

@@ -28,14 +28,3 @@ first_all P x xs all first holds = (subst (All P) first holds) 0 x (omega arith)
 
 pub rest_all_of : {X : Type 0} (P : X → Type 0) (x : X) (xs all : List X) → all ≡ x ∷ xs → All P all → All P xs
 rest_all_of P x xs all first holds = rest_all P x xs (subst (All P) first holds)
-
--- a longer name is another one
-pub longer_differs : (xs ys : List ℕ) → length xs < length ys → bytes_eq xs ys ≡ false
-longer_differs [] [] h = absurd (omega arith)
-longer_differs [] (y ∷ ys) h = refl
-longer_differs (x ∷ xs) [] h = absurd (omega arith)
-longer_differs (x ∷ xs) (y ∷ ys) h = ap (λ r. nat_eq x y && r) (longer_differs xs ys (omega arith)) ∙ and_false (nat_eq x y)
-  where
-    and_false : (t : Bool) → (t && false) ≡ false
-    and_false true = refl
-    and_false false = refl
