@@ -2,7 +2,7 @@
 """check_pages.py: says what is wrong with the documents' text: links that lead nowhere, names that are not there, long lines.
 
 A name is what stands between backticks and is one word, or words joined by `::`, `.` or `/`: each word must stand in the sources,
-the scripts or the examples of the repository, or be a path there. Lines have at most 100 columns but rows of tables, lines with a
+the scripts or the examples of the repository, or be a path there. Files of definitions in tables of DEFINITIONS and TRUST are there. Lines have at most 100 columns but rows of tables, lines with a
 link, and parts that are made. README names each crate in at most 180 lines; the pages in docs/ have at most 25,000 words in all.
 """
 import glob
@@ -64,6 +64,19 @@ def bad_names(path, text, words):
                 break
 
 
+def lost_files(path, text):
+    """The files of definitions that a table names in its first column and that are not there: `crate/File`, or `File` after it."""
+    if path not in PAGES or not any(it in os.path.basename(path) for it in ("DEFINITIONS", "TRUST")):
+        return
+    for row in re.findall(r"^\| (`[^|]*) \|", text, re.M):
+        crate = ""
+        for name in re.findall(r"`([\w/]+)`", row):
+            before, _, file = name.rpartition("/")
+            crate = before.removesuffix("/specs") or crate
+            if os.path.isdir(f"{TOP}/crates/{crate}/specs") and file[0].isupper() and not os.path.isfile(f"{TOP}/crates/{crate}/specs/{file}.antt"):
+                yield f"{crate}/specs/{file}.antt is not there"
+
+
 def long_lines(text):
     made = False
     for number, line in enumerate(text.splitlines(), 1):
@@ -82,7 +95,7 @@ def main():
     words, wrong, count = known_words(), 0, 0
     for path in [*PAGES, *EXAMPLES]:
         text = read(path)
-        told = [*bad_links(path, text), *bad_names(path, text, words), *(long_lines(text) if path in PAGES else [])]
+        told = [*bad_links(path, text), *bad_names(path, text, words), *lost_files(path, text), *(long_lines(text) if path in PAGES else [])]
         if path == PAGES[0]:
             told += unnamed_crates(text) + ([f"{len(text.splitlines())} lines"] if len(text.splitlines()) > 180 else [])
         count += len(text.split()) if path in PAGES[1:] else 0

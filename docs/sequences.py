@@ -1,5 +1,5 @@
 #!/usr/bin/env python3
-"""sequences.py WHAT: prints a table of docs/SEQUENCES.md. Nothing in it is typed by hand.
+"""sequences.py WHAT: prints a table of docs/SEQUENCES.md. No byte and no answer in it is typed by hand.
 
     forms      the table of forms, as the program's source has it (crates/sequence_forms)
     places     what `tlsld link` puts in the place of each, by what its variable is bound to

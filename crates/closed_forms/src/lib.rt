@@ -1,8 +1,8 @@
-//! More small jobs, computed by the checker: all forms of sequences, three threads, and data of a late module.
+//! More small jobs, computed by the prover: all forms of sequences, three threads, and data of a late module.
 //!
 //! `closed_jobs` defines that a job's meaning and its machine print the same (`BothSay`), and has two jobs, with few
 //! rewritten sequences and two threads at most. Here are more, each in both settings. No code runs here: definitions,
-//! and laws that the checker computes.
+//! and laws that the prover computes.
 //!
 //! ```text
 //! data16 lea y@tlsgd(%rip), %rdi                      rewritten: mov %fs:0, %rax

@@ -1,10 +1,10 @@
-//! Small jobs, computed by the checker from their objects' bytes to their output, in both worlds.
+//! Small jobs, computed by the prover from their objects' bytes to their output, in both worlds.
 //!
 //! A job is run by a machine over its linked images (`thread_blocks`), and it has a meaning, taken from its objects
 //! before anything is linked (`whole_meaning`). `tied_meaning` relates the two in many small definitions. Are they the
 //! right ones? A wrong one, such as a base that counts from the wrong end, may look right for a long time, and show at
 //! last as a law that can't be proved. Here such definitions meet numbers: **each side is computed from one list of
-//! links, and the expected result is written down**. No code runs here: definitions, and laws that the checker
+//! links, and the expected result is written down**. No code runs here: definitions, and laws that the prover
 //! computes.
 //!
 //! ```text

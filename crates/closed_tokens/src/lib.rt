@@ -3,7 +3,7 @@
 //! A base and a descriptor are numbers that a linker chose. A job's meaning has a token for each, which may be moved
 //! anywhere, and used for one thing alone. `closed_jobs` defines that a job's meaning and its machine print the same
 //! (`BothSay`). Here are two clean jobs of which that is true. Beside each is one that uses a token for something
-//! else; the meaning says which step is unclean, and why. No code runs here: definitions, and laws that the checker
+//! else; the meaning says which step is unclean, and why. No code runs here: definitions, and laws that the prover
 //! computes.
 //!
 //! ```text

@@ -1,7 +1,7 @@
 //! Runs all threads of a job at once.
 //!
 //! `job_turns` lets a job's threads take turns in an order, so that a job has one transcript. Here each thread runs in
-//! a thread of the machine, and no order is given: all that they share is one history of opens and closes
+//! a thread of the host, and no order is given: all that they share is one history of opens and closes
 //! ([`shared_modules`]). Two runs of one job may print different transcripts. Each is **raced** (`lawful_points`):
 //! every thread took, at lawful looks, exactly the turns that its lines tell of.
 //!
@@ -16,7 +16,7 @@
 //! # Rows of threads
 //!
 //! There are up to 64 threads, and at first one pass of the shared history for all of them. [`race_job`] cuts it in
-//! two, gives each half to a thread of the machine, and so on down to passes of one thread each (`rows`), which run
+//! two, gives each half to a thread of the host, and so on down to passes of one thread each (`rows`), which run
 //! [`racing_thread::race_thread`]. The result of a row of threads is a `Row`: the lines of each, thread after thread,
 //! and the events that its pass has seen. Two rows are joined as their passes are:
 //!

@@ -21,7 +21,7 @@ fn halve(shared: &Shared, pass: Pass, first: u32, count: u32) -> (Pass, Pass)
     shared.split(pass)
 }
 
-/// Runs `count` threads from number `first` on, each in a thread of the machine. Those that the job does not have do
+/// Runs `count` threads from number `first` on, each in a thread of the host. Those that the job does not have do
 /// nothing.
 #[cycle(rows)]
 pub(crate) fn race_threads<R: Threads + Wait + Sync, T: Racers + Sync>(

@@ -1,6 +1,6 @@
-//! What `objdump` prints for data/instructions.s: of each instruction its address, its bytes and its text.
+//! What `objdump` prints for instructions as GNU as wrote them: of each its address, its bytes and its text.
 //!
-//! Left out of the text of data/listing.txt is what an instruction does not keep: prefixes that only pad
+//! Left out of the text is what an instruction does not keep: prefixes that only pad
 //! (data16, cs, rex), a displacement of 0, an index %riz that stands for none, which nop it is (endbr64,
 //! xchgw %ax,%ax), and which of two spellings it has (movabsq, jmp, .s, nopl, a shift by 1 without its count).
 
