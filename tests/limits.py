@@ -375,15 +375,15 @@ def run(tlsld, command, folder):
     return child.returncode, time.monotonic() - began, usage.ru_utime + usage.ru_stime, usage.ru_maxrss / 1024
 
 
-def wrong_text(command, folder, count):
-    """What is wrong with what a command printed, or None."""
+def wrong_text(maker, command, folder, count):
+    """What is wrong with what a command printed of a job, or None."""
     with open(f"{folder}/said", "rb") as file:
         said = file.read()
     word = command.split()[0]
     if word in ("run", "race"):
         found = len(re.findall(rb"^t\d+ l\d+ g", said, re.M))
         faults = said.count(b" fault ")
-        if word == "race":
+        if word == "race" and maker is opens:
             # another thread may have closed the module meanwhile
             faults -= said.count(b" fault unloaded")
         return None if found == count and not faults else f"{found} lines of {count}, faults {faults}"
@@ -392,12 +392,12 @@ def wrong_text(command, folder, count):
     return None if word != "check" or said == b"clean\n" else f"says {said[:60]!r}"
 
 
-def verdict(command, folder, count, status, seconds, mib):
+def verdict(maker, command, folder, count, status, seconds, mib):
     """What is wrong with a row, or `holds`."""
     if status:
         with open(f"{folder}/said", "rb") as file:
             return f"status {status} {file.read(60)!r}"
-    wrong = wrong_text(command, folder, count)
+    wrong = wrong_text(maker, command, folder, count)
     if wrong:
         return wrong
     return "holds" if seconds <= SECONDS and mib <= MIB else "too slow" if seconds > SECONDS else "too large"
@@ -411,7 +411,7 @@ def print_rows(tlsld, maker, commands):
             count = pool.apply(make, (maker, folder))
         for command in commands:
             status, seconds, used, mib = run(tlsld, command, folder)
-            said = verdict(command, folder, count, status, seconds, mib)
+            said = verdict(maker, command, folder, count, status, seconds, mib)
             failed += said != "holds"
             print(f"{maker.__name__:22}{command:20}{seconds:8.2f}{used:10.2f}{mib:7.0f}  {said}", flush=True)
     return failed
