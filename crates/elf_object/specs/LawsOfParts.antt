@@ -182,7 +182,8 @@ section_at b object e above below defined relative =
 
 -- where linking keeps that section, the symbol lies in it
 inside_at : (b : List ℕ) → IsObject b → (e : ℕ) → 0 < e → e < symbol_count b → IsSection b (symbol b e).shndx
-    → IsSome (section_class b (symbol b e).shndx) → symbol_value b e + symbol_size b e ≤ section_size b (symbol b e).shndx
+    → IsSome (section_class b (symbol b e).shndx)
+    → symbol_value b e + symbol_size b e ≤ section_size b (symbol b e).shndx
 unfolding Stands symbol_value symbol_size
 inside_at b object e above below within some =
     let s = (symbol b e).shndx in

@@ -140,7 +140,8 @@ lawful b object t =
           (λ k low high. lawful_at b object r k (table.1, kept, omega (arith, high))) in
           all_if (IsLawful b t) (nat_lt 0 r) (relocations_from b (section b r).offset 0
           (entry_count (section b r))) (subst P table.2 all)
-      | inr none ↦ all_none (IsLawful b t) r (relocations_from b (section b r).offset 0 (entry_count (section b r))) none
+      | inr none ↦
+          all_none (IsLawful b t) r (relocations_from b (section b r).offset 0 (entry_count (section b r))) none
     ]
   where
     all_if : (P : Relocation → Type 0) (t : Bool) (xs : List Relocation) → All P xs → All P (if t then xs else [])

@@ -79,7 +79,8 @@ pub record IsSectionPart (b : List ℕ) (s : ℕ) (part : SectionPart) : Type 0 
 
 -- the name of symbol e
 unfoldable pub symbol_name : List ℕ → ℕ → List ℕ
-symbol_name b e = if nat_lt 0 e then text_at (section_bytes b (section b (symbol_table b)).link) (symbol b e).name else []
+symbol_name b e =
+    if nat_lt 0 e then text_at (section_bytes b (section b (symbol_table b)).link) (symbol b e).name else []
 
 -- its binding, type, visibility, place, value and size
 unfoldable pub symbol_binding : List ℕ → ℕ → SymbolBinding

@@ -70,7 +70,8 @@ part_with_field l from o t part r =
 -- with those of the relocations that section s holds, whose own section begins there
 abbrev pub part_with_held : Linking → ℕ → ℕ → List ℕ → List ℕ → ℕ → Option ℕ → List ℕ
 part_with_held l from o b part s None = part
-part_with_held l from o b part s (Some start) = fold (part_with_field l from o (relocation_target b s)) part (held_in b s)
+part_with_held l from o b part s (Some start) =
+    fold (part_with_field l from o (relocation_target b s)) part (held_in b s)
 
 abbrev pub part_with_table : Linking → ℕ → Option ℕ → ℕ → List ℕ → List ℕ → ℕ → List ℕ
 part_with_table l from to o b part s = part_with_held l from o b part s (start_in l from to o (relocation_target b s))

@@ -78,4 +78,5 @@ other_number l o r kind = number_beside l o r (row kind).value
 -- what the field of a relocation of section t of object o holds, None where the value does not fit it
 unfoldable pub field : Linking → ℕ → ℕ → Relocation → Option Field
 field l o t r =
-    stored_field r.kind (own_number l r.kind (binding l o r)) r.addend (place l o t r.offset) (other_number l o r r.kind)
+    stored_field r.kind (own_number l r.kind (binding l o r)) r.addend (place l o t r.offset)
+    (other_number l o r r.kind)

@@ -31,4 +31,5 @@ pub record HoldsImages (ls : List Linking) (infos : List ImageInfo) (tables : Li
   pub infos_are : infos ≡ map info_of ls
   pub kept : AreInfos infos
   pub count : length tables ≡ length ls
-  pub each : (i : ℕ) (l : Linking) (t : Tables) → slice_get ls i ≡ Some l → slice_get tables i ≡ Some t → AreTables ls l t
+  pub each : (i : ℕ) (l : Linking) (t : Tables) → slice_get ls i ≡ Some l → slice_get tables i ≡ Some t
+      → AreTables ls l t

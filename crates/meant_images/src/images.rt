@@ -245,7 +245,8 @@ impl<'i> MeantImages<'i> {
     /// What is made ready of an image, by its number from 1.
     fn tables(&self, number: u32) -> Option<&Tables<'i>>
         ensures there { (l : Linking) → at_number self.now number ≡ Some l → IsSome result }
-        ensures each { (l : Linking) → at_number self.now number ≡ Some l → IfSome result (λ t. AreTables self.now l t.now) }
+        ensures each { (l : Linking) → at_number self.now number ≡ Some l
+            → IfSome result (λ t. AreTables self.now l t.now) }
         ensures sound { AreSound self.now }
     {
         let _images = self.inputs;

@@ -95,7 +95,8 @@ impl<'m> MeantSpace<'m> {
         wanted: Wanted,
     ) -> Result<Vec<OwnedRange>, AllocError>
         ensures blocks { IfOk result (λ blocks. blocks.items
-            ≡ flat_map (block_after (loads_of self.now.images) self.now.thread (reaches wanted) pool.old) self.now.live) }
+            ≡ flat_map (block_after (loads_of self.now.images) self.now.thread (reaches wanted) pool.old)
+            self.now.live) }
         ensures shared { OnOk result (HasSameData pool.old pool.new) }
     {
         let mut blocks = Vec::new(self.alloc);
@@ -199,7 +200,8 @@ impl<'m> MeantSpace<'m> {
         wanted: Wanted,
     ) -> Result<(), AllocError>
         ensures held { OnOk result (self.new ≡ record self.old {
-          own = held_of (loads_of self.old.images) self.old.thread (reaches wanted) (fills wanted) self.old.live pool.items;
+          own = held_of (loads_of self.old.images) self.old.thread (reaches wanted) (fills wanted)
+              self.old.live pool.items;
         }) }
         ensures kept { OnErr result (self.new ≡ self.old) }
     {

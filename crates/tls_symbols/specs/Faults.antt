@@ -78,7 +78,8 @@ NamesWithin b r = r.kind ≢ Nothing → r.symbol < symbol_count b
 
 -- what may be asked of a relocation may be asked of each of the objects
 abbrev pub MayAsk : (ℕ → Relocation → Type 0) → List (List ℕ) → Type 0
-MayAsk may_ask objects = (o : ℕ) → o < length objects → (r : Relocation) → NamesWithin (object_at objects o) r → may_ask o r
+MayAsk may_ask objects =
+    (o : ℕ) → o < length objects → (r : Relocation) → NamesWithin (object_at objects o) r → may_ask o r
 
 -- entry e of section s of object o is a relocation that is charged
 abbrev pub IsChargedAt : Test → List (List ℕ) → ℕ → ℕ → ℕ → Type 0

@@ -91,7 +91,8 @@ pub record TellsExports (names : Names) (startup : List (List (List ℕ))) (tabl
 
 -- all that is known of the names of an image
 pub record KnowsNames (objects : List (List ℕ)) (startup : List (List (List ℕ))) (names : Names)
-    (numbers : List (List KnownSymbol)) (strong weak : List (Option SymbolRef)) (imported : List (Option ℕ)) : Type 0 where
+    (numbers : List (List KnownSymbol)) (strong weak : List (Option SymbolRef))
+    (imported : List (Option ℕ)) : Type 0 where
   -- number 0 is that of the function of the run time
   pub run_time : IsNumberOf names get_address 0
   pub numbered : AllNumbered names objects numbers
