@@ -88,7 +88,6 @@ impl<'m> MeantSpace<'m> {
     }
 
     /// Whether `place` is the linker's own: an address of the run time, or in the room of a live instance.
-    /// time.
     #[tactic(auto, unfolding(crate::specs::Kept::shut_in))]
     pub fn is_shut(&self, place: u64) -> bool
         ensures { result ≡ shut_in self.now place }
