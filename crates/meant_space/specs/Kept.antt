@@ -85,7 +85,7 @@ shape_with thread = record { thread = thread; images = []; live = []; owners = [
 
 -- ** code
 
--- the live instance whose code stands at a place
+-- the live instance whose code is at a place
 abbrev pub owner_in : Kept → ℕ → Option Instance
 owner_in k place = find (λ (x : Instance). x.number == owner_at place) k.live
 
