@@ -1,4 +1,4 @@
--- What is kept of the bytes of sections: the bytes where the image is not moved, and which of them are of an address
+-- What is kept of the bytes of sections: the bytes before the image is moved, and which of them belong to an address
 -- that moves with it.
 use Rattle.std.specs.Prelude.{◌+◌, ◌-◌, ◌&&◌, ℕ, Bool, true, false, List, [], ◌∷◌, Option, None, Some, fold, map}
 use Rattle.std.specs.Prelude.{slice_index_or, unwrap_or, if◌then◌else◌}
@@ -25,13 +25,13 @@ use Rattle.class_bytes.specs.declared.fields.Table.TheVariants.{Bytes, Marks}
 
 -- ** fields
 
--- S or O, where the image is not moved
+-- S or O, before the image is moved
 abbrev pub own_number : Linking → RelocationKind → Option Binding → ℕ
 own_number l kind (Some (Here found)) = if is_offset kind then offset l found else address l found
 own_number l kind bound = 0
 
--- how far P counts as moved: a field moves as far as a symbol of the image does; from any other it moves away, and a
--- field of 4 bytes holds no such distance once the image is moved at all
+-- how far P is taken as moved: with a symbol of the image it moves by the same distance, which changes nothing; from
+-- any other symbol it moves away, and a field of 4 bytes holds no such distance once the image is moved at all
 abbrev pub moved_place : ImageKind → Option Binding → ℕ
 moved_place kind (Some (Here found)) = 0
 moved_place kind bound = bias_of kind 0
@@ -39,7 +39,7 @@ moved_place kind bound = bias_of kind 0
 abbrev pub own_subtracted : Linking → RelocationKind → ℕ
 own_subtracted l kind = subtracted l 0 kind
 
--- what a field holds; zeros where its value does not fit it
+-- what a field holds; zeros if it can't hold its value
 unfoldable pub own_field : Linking → ℕ → ℕ → Relocation → Field
 own_field l o s r =
     let bound = binding l o r in
@@ -47,7 +47,7 @@ own_field l o s r =
     (stored_field r.kind (own_number l r.kind bound) r.addend (place l o s r.offset + moved_place l.kind bound)
     (own_subtracted l r.kind)) (Word32 0)
 
--- it holds an address, which moves with the image
+-- the field holds an address, which moves with the image
 abbrev pub moves_in_form : FieldForm → Option Binding → Bool
 moves_in_form Wrapped64 (Some (Here found)) = true
 moves_in_form form bound = false
@@ -55,7 +55,7 @@ moves_in_form form bound = false
 abbrev pub is_moving : RelocationKind → Option Binding → Bool
 is_moving kind bound = moves_in_form (row kind).form bound
 
--- the marks of its bytes: 1 to 8 where it moves, else 0
+-- the marks of the field's bytes: 1 to 8 if it moves, else 0
 abbrev pub marks_in_form : FieldForm → Option Binding → Field
 marks_in_form Wrapped64 (Some (Here found)) = Word64 0x0807060504030201
 marks_in_form Wrapped64 bound = Word64 0
@@ -70,12 +70,12 @@ field_in Marks l o s r = marks_of r.kind (binding l o r)
 
 -- ** bytes
 
--- a section's own byte
+-- a byte of the section itself
 abbrev pub own_byte : Table → List ℕ → ℕ → ℕ → ℕ
 own_byte Bytes b s k = slice_index_or (section_bytes b s) k 0
 own_byte Marks b s k = 0
 
--- what the file has of it, of these bytes
+-- the bytes of the section in the file
 abbrev pub raw_bytes : Table → List ℕ → List ℕ
 raw_bytes Bytes bytes = bytes
 raw_bytes Marks bytes = []

@@ -12,13 +12,13 @@ pub record StillTables : Type 0 where
   pub constants : ClassTable
   pub initial : ClassTable
 
--- the tables are those of an image
+-- the tables are those of this image
 pub record AreStill (l : Linking) (s : StillTables) : Type 0 where
   pub code_is : IsClass l Executable s.code
   pub constants_are : IsClass l ReadOnly s.constants
   pub initial_is : IsClass l (Tls true) s.initial
 
--- the byte at a place that may be accessed so
+-- the byte at a place, if the access is allowed
 unfoldable pub still_byte : Access → StillTables → ℕ → ℕ → Option ℕ
 still_byte Run s bias place = byte_of_place s.code bias place
 still_byte Read s bias place = option_or (byte_of_place s.constants bias place) (byte_of_place s.initial bias place)

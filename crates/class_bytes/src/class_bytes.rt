@@ -1,4 +1,4 @@
-//! The bytes of a class of sections, at every place that the image may be moved to.
+//! The bytes of a class of sections, for every distance that the image may be moved.
 
 ghost use Rattle.std.specs.Prelude.{◌≡◌, ◌+◌, ◌<◌, ◌≤◌, ◌^◌, ◌==◌, IfOk, length, slice_index_or};
 ghost use Rattle.elf_records.specs.Fields.{number_at as number_in};
@@ -14,8 +14,8 @@ use link_needs::Inputs;
 use std::alloc::{AllocError, Global};
 use std::marker::Model;
 
-/// The bytes of a class of an image, for every place that it may be moved to. It takes two bytes for each byte of the
-/// class. Contracts see where the class begins, its bytes, and which of them are of an address that moves.
+/// The bytes of a class of an image, for every distance that the image may be moved. They take two bytes of memory
+/// each. Contracts see where the class begins, its bytes, and which of them belong to an address that moves.
 #[derive(Drop)]
 pub struct ClassBytes {
     start: u64,
@@ -33,7 +33,7 @@ impl Model for ClassBytes {
     ghost invariant = { λ c. IsTable (record { start = c.start; bytes = c.bytes.items; marks = c.marks.items }) };
 }
 
-/// A byte of a list; 0 past its end.
+/// A byte of a list; 0 after its end.
 fn byte_or_zero(bytes: &[u8], at: usize) -> u8
     ensures { result ≡ slice_index_or bytes.now at 0 }
 {
@@ -60,7 +60,7 @@ fn number_at(bytes: &[u8], at: usize) -> u64
     ])
 }
 
-/// Byte k of the address that begins at an index, where the image is moved so far.
+/// Byte k of the address that begins at an index, in an image that is moved by `bias`.
 #[tactic(auto, unfolding(elf_records::specs::Fields::bytes_of))]
 fn moved_byte(bytes: &[u8], bias: u64, at: usize, k: usize) -> u8
     requires { at ≤ 2 ^ 32 }
@@ -71,8 +71,8 @@ fn moved_byte(bytes: &[u8], bias: u64, at: usize, k: usize) -> u8
 }
 
 impl ClassBytes {
-    /// The bytes of a class of a link. They are those of the meaning wherever the image's other fields keep what they
-    /// hold: where it is not moved, and where it is moved by at least 2^32.
+    /// Makes the bytes of a class of a link. They are right at every distance at which the image's other fields keep
+    /// their values: 0, and 2^32 or more.
     pub fn of(alloc: Global, inputs: &Inputs, class: SectionClass) -> Result<ClassBytes, AllocError>
         requires { HasRange class }
         ensures { IfOk result (IsClass inputs.now class) }
@@ -94,7 +94,7 @@ impl ClassBytes {
         })
     }
 
-    /// Where the class begins, before the image is moved.
+    /// The address of the class, before the image is moved.
     fn start(&self) -> u64
         ensures start { result ≡ self.now.start }
         ensures low { result ≤ 2 ^ 25 }
@@ -102,7 +102,7 @@ impl ClassBytes {
         self.start
     }
 
-    /// The bytes, where the image is not moved.
+    /// The bytes, before the image is moved.
     fn bytes(&self) -> &[u8]
         ensures bytes { result.now ≡ self.now.bytes }
         ensures few { length result.now ≤ 2 ^ 25 }
@@ -110,14 +110,14 @@ impl ClassBytes {
         self.bytes.as_slice()
     }
 
-    /// The marks of those that move.
+    /// The marks of the bytes that move.
     fn marks(&self) -> &[u8]
         ensures { result.now ≡ self.now.marks }
     {
         self.marks.as_slice()
     }
 
-    /// The byte at an index, where the image is moved by `bias`.
+    /// The byte at an index, in an image that is moved by `bias`.
     #[tactic(auto, unfolding(crate::specs::Tables::byte_at))]
     fn byte_at(&self, bias: u64, index: usize) -> u8
         requires { index ≤ 2 ^ 25 }
@@ -130,7 +130,7 @@ impl ClassBytes {
         moved_byte(self.bytes(), bias, index.saturating_sub(mark - 1), mark - 1)
     }
 
-    /// The byte at a place, where the image is moved by `bias`; `None` exactly where the place is not in the class.
+    /// The byte at `place`, in an image that is moved by `bias`; `None` exactly if `place` is not in the class.
     #[tactic(auto, using(crate::proofs::Moving::below_class, crate::proofs::Moving::in_class))]
     pub fn byte(&self, bias: u64, place: u64) -> Option<u8>
         requires { bias < 2 ^ 60 }
@@ -153,7 +153,7 @@ impl ClassBytes {
         self.bytes().is_empty()
     }
 
-    /// Where the class begins, where the image is moved by `bias`.
+    /// The address of the class, in an image that is moved by `bias`.
     pub fn place(&self, bias: u64) -> u64
         requires { bias < 2 ^ 60 }
         ensures { result ≡ self.now.start + bias }
@@ -161,7 +161,7 @@ impl ClassBytes {
         self.start() + bias
     }
 
-    /// All bytes of the class, where the image is moved by `bias`.
+    /// All bytes of the class, in an image that is moved by `bias`.
     #[tactic(auto, using(crate::proofs::Ranging::all_values, crate::proofs::Ranging::more_values))]
     pub fn values(&self, alloc: Global, bias: u64) -> Result<Vec<u8>, AllocError>
         requires { bias < 2 ^ 60 }

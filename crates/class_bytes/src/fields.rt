@@ -1,4 +1,4 @@
-//! The bytes of sections with their fields filled in, and the marks of those that move.
+//! The bytes of sections with their fields filled in, and the marks of the bytes that move.
 
 ghost use Rattle.std.specs.Prelude.{◌≡◌, ◌≢◌, ◌+◌, ◌<◌, ◌≤◌, ◌^◌, ℕ, IfOk, IfSome, List, length};
 ghost use Rattle.elf_object.specs.Faults.{IsObject};
@@ -22,16 +22,16 @@ use link_needs::Inputs;
 use std::alloc::{AllocError, Global};
 use tls_relocs::{Field, apply, value};
 
-/// What a table says of each byte.
+/// What a table holds for each byte.
 #[derive(Clone, Copy, Drop)]
 pub enum Table {
-    /// The byte, where the image is not moved.
+    /// The byte, before the image is moved.
     Bytes,
-    /// 0 of a byte that stays, and k + 1 of byte k of an address that moves with the image.
+    /// The mark: 0 for a byte that stays, and k + 1 for byte k of an address that moves with the image.
     Marks,
 }
 
-/// The least that an image of this kind is moved.
+/// The least distance that an image of this kind is moved.
 pub fn least_bias(kind: ImageKind) -> u64
     ensures least { result ≡ bias_of kind 0 }
     ensures small { result ≤ 2 ^ 32 }
@@ -42,7 +42,7 @@ pub fn least_bias(kind: ImageKind) -> u64
     }
 }
 
-/// What the symbol is bound to that a relocation of an object names.
+/// What a relocation's symbol is bound to.
 fn binding(inputs: &Inputs, object: usize, relocation: &Relocation) -> Option<Binding>
     requires object { object < length inputs.now.objects }
     requires symbol { relocation.now.symbol < symbol_count (object_in inputs.now object) }
@@ -52,7 +52,7 @@ fn binding(inputs: &Inputs, object: usize, relocation: &Relocation) -> Option<Bi
     inputs.bindings.binding_of(object, relocation)
 }
 
-/// S or O, where the image is not moved.
+/// S or O, before the image is moved.
 fn symbol_number(inputs: &Inputs, kind: RelocationKind, bound: Option<Binding>) -> u64
     requires { IfSome bound (IsBindingWithin inputs.now.objects) }
     ensures { result ≡ own_number inputs.now kind bound }
@@ -64,7 +64,7 @@ fn symbol_number(inputs: &Inputs, kind: RelocationKind, bound: Option<Binding>) 
     }
 }
 
-/// How far the place of a field counts as moved.
+/// How far the place of a field is taken as moved (`specs/Filling`).
 fn moved_place(kind: ImageKind, bound: Option<Binding>) -> u64
     ensures moved { result ≡ place_moved kind bound }
     ensures small { result ≤ 2 ^ 32 }
@@ -85,7 +85,7 @@ fn subtracted(inputs: &Inputs, kind: RelocationKind) -> u64
     }
 }
 
-/// What the field of a relocation holds; zeros where its value does not fit it.
+/// What the field of a relocation holds; zeros if it can't hold its value.
 #[tactic(auto, unfolding(crate::specs::Filling::own_field))]
 fn own_field(inputs: &Inputs, object: usize, section: u32, relocation: &Relocation) -> Field
     requires object { object < length inputs.now.objects }
@@ -121,7 +121,7 @@ fn marks_of(kind: RelocationKind, bound: Option<Binding>) -> Field
     }
 }
 
-/// What the file has of a section; it has no marks.
+/// The bytes of a section in the file. Its marks have none there.
 fn raw_bytes<'b>(table: Table, part: &SectionPart<'b>) -> &'b [u8]
     ensures { result.now ≡ raw_in table part.now.bytes.now }
 {
@@ -141,7 +141,7 @@ pub struct Fields<'i, 'l, 's, 'a> {
 }
 
 impl<'i, 'l, 's, 'a> Fields<'i, 'l, 's, 'a> {
-    /// What stands in the field of a relocation.
+    /// What a relocation writes in its field.
     fn field(&self, object: usize, section: u32, relocation: &Relocation) -> Field
         requires object { object < length self.now.inputs.now.objects }
         requires lawful { IsLawful (object_in self.now.inputs.now object) section relocation.now }

@@ -1,4 +1,4 @@
-//! Laws of the tables. The functions do nothing: what they ensure is the law.
+//! Laws of the tables. The functions do nothing; each `ensures` a law.
 
 ghost use Rattle.std.specs.Prelude.{◌≡◌, ℕ, true};
 ghost use Rattle.link_core.specs.Faults.{IsSound};
@@ -17,7 +17,7 @@ pub fn instances_keep_fields()
     ensures { (l : Linking) (number : ℕ) → (is_moved l.kind ≡ true → IsMovable l) → Keeps l (bias_of l.kind number) }
 {}
 
-/// Objects that link make an image that may be moved, where its kind is.
+/// Objects that can be linked make an image that may be moved, if its kind is moved.
 #[tactic(auto, using(crate::proofs::Movable::movable))]
 pub fn linked_images_are_movable()
     ensures { (l : Linking) → IsGiven l → FitsKind l.objects l.kind → AreResolved l.objects l.startup

@@ -15,26 +15,26 @@ use link_needs::Inputs;
 use std::alloc::{AllocError, Global};
 use tls_layout::{Extent, Placement};
 
-/// What stands in a table for the bytes of a link's sections that are of one class.
+/// What a table holds for the bytes of a link's sections of one class.
 pub trait Cells {
     type Cell: Copy;
 
-    // of which link, and of which class
+    // the link, and the class
     ghost linking: { Self → Linking };
 
     ghost of_class: { Self → SectionClass };
 
-    // the cell of a byte, by object, section and how far it is into the section
+    // the cell of a byte, by object, section and offset in the section
     ghost cell: { Self → ℕ → ℕ → ℕ → Self.Cell };
 
-    // that of an address at which no section stands
+    // the cell of an address in no section
     ghost gap_cell: { Self → Self.Cell };
 
-    /// The cell of an address at which no section stands.
+    /// The cell of an address in no section.
     fn gap(&self) -> Self::Cell
         ensures { result ≡ gap_cell self.now };
 
-    /// Puts the cells of a section at the end of a table, one for each byte that it has in memory.
+    /// Adds the cells of a section to a table, one for each byte that it has in memory.
     fn push_section(
         &self,
         object: usize,
@@ -46,7 +46,7 @@ pub trait Cells {
             ≡ table.old.items ++ section_cells (cell self.now) (linking self.now) object section) };
 }
 
-/// Where the sections of a class lie.
+/// The address range of a class's sections.
 fn extent_of(placement: &Placement, class: SectionClass) -> Extent
     ensures extent { result ≡ extent_for class placement.now }
     ensures lawful { IsLawful placement.now }
@@ -59,7 +59,7 @@ fn extent_of(placement: &Placement, class: SectionClass) -> Extent
     }
 }
 
-/// Where the sections of a class of a link lie.
+/// The address range of a class's sections, in a link.
 #[tactic(auto, using(crate::proofs::Laid::extent_low, crate::proofs::Laid::extent_rises))]
 pub fn class_extent(inputs: &Inputs, class: SectionClass) -> Extent
     ensures extent { result ≡ extent_for class (layout inputs.now) }
@@ -70,7 +70,7 @@ pub fn class_extent(inputs: &Inputs, class: SectionClass) -> Extent
     extent_of(&inputs.placement, class)
 }
 
-/// Whether a section is of a class.
+/// Whether a section is in a class.
 fn is_of(class: SectionClass, kept: Option<SectionClass>) -> bool
     ensures { result ≡ is_class class kept }
 {
@@ -85,7 +85,7 @@ fn is_of(class: SectionClass, kept: Option<SectionClass>) -> bool
     }
 }
 
-/// Fills a table with gaps up to a length, if it is shorter.
+/// Fills a table with gaps up to a length, unless it is that long.
 fn pad<C: Cells>(cells: &C, len: u64, table: &mut Vec<C::Cell>) -> Result<(), AllocError>
     requires { len ≤ 2 ^ 26 }
     ensures { OnOk result (table.new.items
@@ -98,7 +98,7 @@ fn pad<C: Cells>(cells: &C, len: u64, table: &mut Vec<C::Cell>) -> Result<(), Al
     Ok(())
 }
 
-/// Lays a section, if it is of the class, behind those before it.
+/// Lays out a section after those before it, if it is in the class.
 fn lay_section<C: Cells>(
     inputs: &Inputs,
     class: SectionClass,
@@ -130,7 +130,7 @@ fn lay_section<C: Cells>(
     Ok(())
 }
 
-/// Lays the sections of an object.
+/// Lays out the sections of an object.
 #[tactic(auto, using(crate::proofs::Laid::object_laid))]
 fn lay_object<C: Cells>(
     inputs: &Inputs,
@@ -155,7 +155,7 @@ fn lay_object<C: Cells>(
     Ok(())
 }
 
-/// The cells of a class, from where it begins to where it ends: those of each section at its place, and gaps between.
+/// The cells of a class, from its first address to its last: those of each section at its address, and gaps between.
 #[tactic(auto, using(crate::proofs::Laid::none_laid, crate::proofs::Laid::class_laid))]
 pub fn lay<C: Cells>(
     alloc: Global,

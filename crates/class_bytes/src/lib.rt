@@ -1,18 +1,18 @@
 //! What the meaning of a job loads of an image's sections, made ready.
 //!
-//! The meaning of a job knows no file of a linker's: an instance of an image is its objects' sections, each at its
-//! place, with the fields of its relocations filled in. Its definitions say of one address which section stands
-//! there, and of one byte which field covers it. Asked for each byte that a job reads, that is a walk over all
-//! sections and relocations. Here the bytes of a class (code, constants, the initial image of thread-local storage,
-//! data) are made once, in one walk, and each is then read from a table.
+//! The meaning of a job knows no image file. An instance of an image is its objects' sections, each at its address,
+//! with the fields of its relocations filled in. The definitions say which section contains an address, and which field
+//! covers a byte. Asked for each byte that a job reads, that is a walk over all sections and relocations. Here the
+//! bytes of a class (code, constants, the initial image of thread-local storage, data) are made once, in one walk, and
+//! then read from a table.
 //!
-//! The rule that the crate keeps: **a table is the definition, address by address**, from where the class begins to
-//! where it ends. [`lay`] makes a table of any cells: those of each section at its place, and gaps where no section
-//! stands. For the bytes themselves there are two, [`ClassBytes`]: the byte where the image is not moved, and a
+//! The rule that the crate keeps: **a table is the definition, address by address**, from the first address of the
+//! class to the last. [`lay`] makes a table of any cells: those of each section at its address, and gaps where there is
+//! no section. For the bytes themselves there are two tables, [`ClassBytes`]: the byte before the image is moved, and a
 //! mark.
 //!
-//! An image that is loaded is moved, each instance as far as its number says. What a field holds then depends on
-//! its type (psABI, "Relocation Types"; S is the symbol's place, A the addend, P the place of the field):
+//! An image that is loaded is moved, each instance by a distance that its number gives. What a field holds then depends
+//! on its type (psABI, "Relocation Types"; S is the symbol's address, A the addend, P the address of the field):
 //!
 //! ```text
 //! R_X86_64_64                  S + A        moves with the image: marked 1 to 8, byte by byte
@@ -21,12 +21,12 @@
 //! R_X86_64_32, 32S             S + A        does not fit once the image is moved, so it is refused in such an image
 //! ```
 //!
-//! A byte of an address is byte k of the eight, read as a number, with the distance added modulo 2^64. For example,
-//! the address 0x1008 of an instance that is moved by 2^32 is stored as `08 10 00 00 01 00 00 00`: the table has
-//! `08 10 00 00 00 00 00 00` and the marks 1 to 8.
+//! A byte of an address is byte k of the eight, read as a number, with the distance added modulo 2^64. For example, the
+//! address 0x1008 of an instance that is moved by 2^32 is stored as `08 10 00 00 01 00 00 00`. The table has `08 10 00
+//! 00 00 00 00 00` and the marks 1 to 8.
 //!
-//! What the tables rely on is `specs/Tables`' `Keeps`: the fields that are not marked hold the same at this
-//! distance. [`laws`] says that those of each instance do, where the objects link.
+//! The tables rely on `Keeps` of `specs/Tables`: the fields that are not marked hold the same at this distance.
+//! [`laws`] says that the fields of each instance do, if the objects can be linked.
 #![tactic(auto)]
 
 mod class_bytes;

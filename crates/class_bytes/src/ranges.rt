@@ -37,7 +37,7 @@ impl Model for StillBytes {
 }
 
 impl StillBytes {
-    /// Those of an image.
+    /// Makes those of an image.
     pub fn of(alloc: Global, inputs: &Inputs) -> Result<StillBytes, AllocError>
         ensures { IfOk result (AreStill inputs.now) }
     {
@@ -48,14 +48,14 @@ impl StillBytes {
         })
     }
 
-    /// The initial image of thread-local storage, of which blocks are made.
+    /// The initial image of thread-local storage, from which blocks are made.
     pub fn initial(&self) -> &ClassBytes
         ensures { result.now ≡ self.now.initial }
     {
         &self.initial
     }
 
-    /// The byte at a place that may be accessed so.
+    /// The byte at `place` of the class that `access` is allowed in; `None` if there is none.
     #[tactic(auto, unfolding(crate::specs::Still::still_byte))]
     fn byte_for(&self, access: Access, bias: u64, place: u64) -> Option<u8>
         requires { bias < 2 ^ 60 }
@@ -71,8 +71,8 @@ impl StillBytes {
         }
     }
 
-    /// The byte at a place of an instance that is moved by `bias`, if it may be accessed so: code is run, and the
-    /// others are read.
+    /// The byte at `place` of an instance that is moved by `bias`; `None` if there is none, or `access` is not allowed.
+    /// Code is run, the others are read.
     pub fn byte(&self, access: Access, bias: u64, place: u64) -> Option<u8>
         requires { bias < 2 ^ 60 }
         ensures { (l : Linking) → AreStill l self.now → Keeps l bias
@@ -92,8 +92,8 @@ fn pad_block(block: &mut Vec<u8>, len: usize) -> Result<(), AllocError>
     Ok(())
 }
 
-/// The values of a thread's block before any write, of an instance that is moved by `bias`: the initial image, and
-/// zeros up to the size of the segment.
+/// The values of a thread's block before any write: the initial image of an instance that is moved by `bias`, and zeros
+/// up to the size of the segment.
 fn block_values(
     alloc: Global,
     initial: &ClassBytes,
@@ -111,7 +111,7 @@ fn block_values(
     Ok(block)
 }
 
-/// A thread's block before any write, of an instance that is moved by `bias`.
+/// A thread's block of an instance that is moved by `bias`, before any write.
 pub fn block_of(
     alloc: Global,
     initial: &ClassBytes,

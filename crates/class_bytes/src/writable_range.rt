@@ -8,7 +8,7 @@ use job_meaning::Byte;
 use marked_bytes::MarkedBytes;
 use std::marker::Model;
 
-/// Bytes that programs read and write, from a place on.
+/// Bytes that programs read and write, from an address on.
 #[derive(Drop)]
 pub struct WritableRange {
     pub start: u64,
@@ -32,7 +32,7 @@ impl Model for WritableRange {
 }
 
 impl WritableRange {
-    /// Whether the byte at a place lies in the range and may be accessed so.
+    /// Whether `place` is in the range, and `access` is allowed.
     pub fn grants(&self, access: Access, place: u64) -> bool
         ensures { result ≡ grants access self.now place }
     {
@@ -43,14 +43,14 @@ impl WritableRange {
         is_allowed && self.start <= place && place - self.start < self.bytes.len()
     }
 
-    /// The byte at a place in the range.
+    /// The byte at `place`, which is not before the range; `None` after its end.
     pub fn byte(&self, place: u64) -> Option<Byte>
         ensures { result ≡ slice_get self.now.bytes (place - self.now.start) }
     {
         self.bytes.byte(place.saturating_sub(self.start))
     }
 
-    /// Writes the byte at a place in the range.
+    /// Writes the byte at `place`, which is in the range.
     pub fn set_byte(&mut self, place: u64, byte: Byte)
         requires { IsTrue (holds self.old place) }
         ensures { self.new ≡ record self.old { bytes = slice_set self.old.bytes (place - self.old.start) byte } }

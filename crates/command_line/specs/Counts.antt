@@ -6,7 +6,8 @@ use Rattle.std.specs.Str.Parse.{digits_value}
 
 -- decimal digits, at least one, of which the first is not zero, and nothing else
 abbrev pub is_numeral : List ℕ → Bool
-is_numeral word = not (length word == 0) && not (slice_index word 0 == 48) && list_all (λ c. nat_lt (digit_value c) 10) word
+is_numeral word =
+    not (length word == 0) && not (slice_index word 0 == 48) && list_all (λ c. nat_lt (digit_value c) 10) word
 
 -- from 1 to 1,000
 abbrev pub is_count : ℕ → Bool

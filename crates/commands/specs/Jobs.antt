@@ -31,7 +31,8 @@ link_fault_text job number kind object section entry =
     (shown_object (objects_of job number) object) section entry
 
 -- an object has a fault: 6, and the first fault; w: whether data that programs write is kept, or is a fault
-pub record IsUnread (w : WritableSections) (bytes : List ℕ → List ℕ) (job : JobParts) (status : ℕ) (text : List ℕ) : Type 0 where
+pub record IsUnread (w : WritableSections) (bytes : List ℕ → List ℕ) (job : JobParts)
+    (status : ℕ) (text : List ℕ) : Type 0 where
   pub name : List ℕ
   pub section : ℕ
   pub entry : ℕ

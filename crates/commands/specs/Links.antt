@@ -73,7 +73,8 @@ pub record OfImage (name : List ℕ) (O : JobParts → ℕ → Output) (job : Jo
 -- `link JOB IMAGE OUT [--no-relax]`; the second files are those after it
 abbrev pub LinkSays : Files → Option Files → List ℕ → List ℕ → List ℕ → Rewriting → ℕ → List ℕ → Type 0
 LinkSays fs after job image out rewriting status text =
-    FileSays (Some image) (OfImage image (λ own number. IsPut fs after image out)) (is_allowed rewriting) Kept fs job status text
+    FileSays (Some image) (OfImage image (λ own number. IsPut fs after image out))
+    (is_allowed rewriting) Kept fs job status text
 
 -- `sites JOB IMAGE`
 abbrev pub SitesSays : Files → List ℕ → List ℕ → ℕ → List ℕ → Type 0

@@ -31,7 +31,8 @@ pub record HasRace (job : JobParts) (ls : List Linking) (transcript : Shown) : T
   -- for every job, each thread's lines are what the machine gives over the written images
   pub ran : AreRaced (modules_of job ls) job transcript
   -- and the lines of each thread that is clean by itself are what the objects mean at the points that they print
-  pub thread_is : (thread : ℕ) (own : List ThreadLine) (printed : List ShownLine) → at_number job.lines thread ≡ Some own
+  pub thread_is : (thread : ℕ) (own : List ThreadLine) (printed : List ShownLine)
+      → at_number job.lines thread ≡ Some own
       → at_number transcript.threads thread ≡ Some printed
       → IsMeant printed (meant_lines job ls transcript thread own printed)
 

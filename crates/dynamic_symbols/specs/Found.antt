@@ -5,19 +5,19 @@ use Rattle.tls_symbols.specs.Definitions.{definition_of}
 use Rattle.dynamic_symbols.specs.declared.defining.Found.{Found}
 use Rattle.std.specs.Str.{bytes_eq}
 
--- these names, and one more where it is none of them
+-- the names, with one more if it is new
 abbrev pub with_name : List (List ℕ) → List ℕ → List (List ℕ)
 with_name names name = if list_any (bytes_eq name) names then names else names ++ name ∷ []
 
--- these names, and others in their order
+-- the names, with those of a list that are new, in its order
 abbrev pub with_names : List (List ℕ) → List (List ℕ) → List (List ℕ)
 with_names names [] = names
 with_names names (name ∷ more) = with_names (with_name names name) more
 
--- the names
+-- the names that were found
 abbrev pub names_of : Found → List (List ℕ)
 names_of found = map (λ name. name.now) found.names.keys
 
--- the symbols are what the names bind to
+-- the symbols are the definitions that the names bind to
 abbrev pub IsBound : List (List ℕ) → Found → Type 0
 IsBound objects found = found.symbols.items ≡ filter_map (definition_of objects) (names_of found)

@@ -13,23 +13,23 @@ use Rattle.tls_symbols.specs.Definitions.{definition_of, is_defined, same_bindin
 use Rattle.dynamic_symbols.specs.Names.{defined_names, defined_symbols, imports, name_of}
 use Rattle.sequence_match.specs.Sites.{HaveSymbols}
 
--- the symbol is one of the image's, and defines a name for all objects
+-- the symbol is in the objects and defines a name that other objects see
 pub record IsShared (objects : List (List ℕ)) (found : SymbolRef) : Type 0 where
   pub within : IsWithin objects found
   pub above : 1 ≤ found.symbol
   pub shared : same_binding Local (symbol_binding (object_at objects found.object) found.symbol) ≡ false
   pub defined : is_defined (symbol_place (object_at objects found.object) found.symbol) ≡ true
 
--- every defined symbol is one of the image's, neither LOCAL nor undefined
+-- every defined symbol is in the objects, and is neither LOCAL nor undefined
 abbrev pub SymbolsAreShared : Type 0
 SymbolsAreShared = (objects : List (List ℕ)) → All (IsShared objects) (defined_symbols objects)
 
--- the symbols' names are the defined names, in their order
+-- the names of the defined symbols are the defined names, in their order
 abbrev pub SymbolsHaveTheNames : Type 0
 SymbolsHaveTheNames = (objects : List (List ℕ))
     → map (name_of objects) (defined_symbols objects) ≡ defined_names objects
 
--- no two of them are the same
+-- no two defined symbols have one name
 abbrev pub NamesAreDistinct : Type 0
 NamesAreDistinct = (objects : List (List ℕ)) → AllPairs (λ x y. x ≢ y) (map (name_of objects) (defined_symbols objects))
 
@@ -38,7 +38,7 @@ abbrev pub ImportsAreDistinct : Type 0
 ImportsAreDistinct = (objects : List (List ℕ)) (startup : List (List (List ℕ))) (sites : List (List Site))
     → AllPairs (λ x y. x ≢ y) (imports objects startup sites)
 
--- the image does not define the name, and it is not that of the run time's function
+-- the image does not define the name, and it is not `__tls_get_addr`
 pub record IsForeign (objects : List (List ℕ)) (name : List ℕ) : Type 0 where
   pub undefined : definition_of objects name ≡ None
   pub named : name ≢ get_address
@@ -52,6 +52,6 @@ abbrev pub BindingsAreByUse : Type 0
 BindingsAreByUse = (objects : List (List ℕ)) (startup : List (List (List ℕ))) (o : ℕ) (x y : Relocation)
     → x.kind ≡ y.kind → x.symbol ≡ y.symbol → binding_of objects startup o x ≡ binding_of objects startup o y
 
--- the sites of an object name its own symbols
+-- each site of an object uses a symbol of that object
 abbrev pub SitesHaveSymbols : Type 0
 SitesHaveSymbols = (b : List ℕ) (sites : List Site) → IsObject b → AreSites b sites → HaveSymbols b sites

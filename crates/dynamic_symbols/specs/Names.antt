@@ -15,18 +15,18 @@ use Rattle.link_faults.specs.declared.symbol_ref.SymbolRef.{SymbolRef}
 use Rattle.tls_symbols.specs.Bindings.{bound_to, may_import, object_at}
 use Rattle.tls_symbols.specs.Definitions.{definition_of, is_defined, same_binding}
 
--- each of these names once, where it comes first
+-- the names without repetition, each at its first place
 abbrev pub distinct : List (List ℕ) → List (List ℕ)
 distinct [] = []
 distinct (name ∷ names) = name ∷ filter (λ other. not (bytes_eq name other)) (distinct names)
 
 -- ** what the image defines
 
--- whether symbol e, GLOBAL or WEAK, defines its name
+-- whether symbol e is GLOBAL or WEAK and defines its name
 abbrev pub is_definition : List ℕ → ℕ → Bool
 is_definition b e = not (same_binding Local (symbol_binding b e)) && is_defined (symbol_place b e)
 
--- its name, where it does
+-- the name of symbol e, if it defines one
 abbrev pub defined_at : List ℕ → ℕ → List (List ℕ)
 defined_at b e = if is_definition b e then symbol_name b e ∷ [] else []
 
@@ -38,7 +38,7 @@ defined_in b = flat_map (defined_at b) (range_with_len 1 (symbol_count b - 1))
 unfoldable pub defined_names : List (List ℕ) → List (List ℕ)
 defined_names objects = distinct (flat_map defined_in objects)
 
--- what these names bind to: the first strong definition, else the first weak one
+-- the definitions that these names bind to: the first GLOBAL one, else the first WEAK one
 unfoldable pub defined_symbols : List (List ℕ) → List SymbolRef
 defined_symbols objects = filter_map (definition_of objects) (defined_names objects)
 
@@ -48,21 +48,21 @@ abbrev pub is_startup : Option Binding → Bool
 is_startup (Some (Startup image)) = true
 is_startup _ = false
 
--- whether a startup image defines what a site of object o uses
+-- whether the symbol that a site of object o uses is defined by a startup image
 abbrev pub is_import : List (List ℕ) → List (List (List ℕ)) → ℕ → Site → Bool
 is_import objects startup o site =
     is_startup (bound_to objects startup o site.symbol (may_import (row site.form).first))
 
--- its name, where one does
+-- the name that the site imports, if it imports one
 abbrev pub imported_at : List (List ℕ) → List (List (List ℕ)) → ℕ → Site → List (List ℕ)
 imported_at objects startup o site =
     if is_import objects startup o site then symbol_name (object_at objects o) site.symbol ∷ [] else []
 
--- the names of the sites of object o
+-- the names that the sites of object o import
 unfoldable pub imported_in : List (List ℕ) → List (List (List ℕ)) → ℕ → List Site → List (List ℕ)
 imported_in objects startup o sites = flat_map (imported_at objects startup o) sites
 
--- those of the objects from number o on
+-- the names that the objects from number o on import
 abbrev pub imported_from : List (List ℕ) → List (List (List ℕ)) → ℕ → List (List Site) → List (List ℕ)
 imported_from objects startup o [] = []
 imported_from objects startup o (sites ∷ more) =
@@ -77,10 +77,10 @@ imports objects startup sites = distinct (imported_from objects startup 0 sites)
 abbrev pub name_of : List (List ℕ) → SymbolRef → List ℕ
 name_of objects found = symbol_name (object_at objects found.object) found.symbol
 
--- a name: 24 bytes of the symbol table, and in the string table its own and the zero behind them
+-- the size of a name: a symbol table entry of 24 bytes, its bytes, and a zero in the string table
 abbrev pub size_of : List ℕ → ℕ
 size_of name = 25 + length name
 
--- all that are defined and imported
+-- the size of all defined and imported names
 unfoldable pub name_size : List (List ℕ) → List SymbolRef → List (List ℕ) → ℕ
 name_size objects symbols imported = sum_by (λ found. size_of (name_of objects found)) symbols + sum_by size_of imported

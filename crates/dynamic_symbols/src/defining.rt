@@ -1,4 +1,4 @@
-//! What an image defines.
+//! The symbols that an image defines for others.
 
 ghost use Rattle.std.specs.Prelude.{◌≡◌, ◌<◌, false, IfOk, OnOk, length};
 ghost use Rattle.std.specs.List.{All};
@@ -16,16 +16,16 @@ use link_faults::SymbolRef;
 use std::alloc::{AllocError, Global};
 use tls_symbols::{Bindings, symbol_total};
 
-/// What was found so far.
+/// What the walk has found so far.
 #[derive(Drop)]
 struct Found<'a> {
-    /// The names that are defined, each once.
+    /// The defined names, each once.
     names: IndexSet<&'a [u8]>,
-    /// The definitions that they bind to.
+    /// The definition that each name binds to.
     symbols: Vec<SymbolRef>,
 }
 
-/// Whether a symbol, GLOBAL or WEAK, defines its name.
+/// Whether a symbol is GLOBAL or WEAK and defines its name.
 fn is_definition(object: &Object, number: u32) -> bool
     requires { number < symbol_count object.now }
     ensures { result ≡ is_definition object.now number }
@@ -38,7 +38,7 @@ fn is_definition(object: &Object, number: u32) -> bool
     }
 }
 
-/// Adds the name of a symbol that defines it, and where the name is new the definition that it binds to.
+/// Adds the name of a symbol that defines it and, if the name is new, the definition that it binds to.
 fn add_name<'a>(
     bindings: &Bindings,
     index: usize,
@@ -62,7 +62,7 @@ fn add_name<'a>(
     Ok(())
 }
 
-/// Adds the names that an object's symbols define, and the definitions that they bind to.
+/// Adds the names that an object defines, and the definitions that they bind to.
 fn add_defined<'a>(
     bindings: &Bindings,
     index: usize,
@@ -83,9 +83,9 @@ fn add_defined<'a>(
     Ok(())
 }
 
-/// The symbols that an image of these objects defines for others: of each name that some GLOBAL or WEAK symbol
-/// defines, the definition that the name binds to. They stand in the order of the first symbols that define their
-/// names. The only error is want of memory.
+/// The symbols that an image of these objects defines for others. For each name that some GLOBAL or WEAK symbol
+/// defines, this is the definition that the name binds to. They are in the order of the first symbols that define their
+/// names. Fails only when memory runs out.
 pub fn defined_symbols(
     alloc: Global,
     objects: &[Object],

@@ -1,4 +1,4 @@
-//! What an image imports.
+//! The names that an image imports.
 
 ghost use Rattle.std.specs.Prelude.{◌≡◌, ◌<◌, ℕ, [], IfOk, OnOk, length, map, slice_index_or};
 ghost use Rattle.std.specs.List.{All};
@@ -15,7 +15,7 @@ use sequence_match::Site;
 use std::alloc::{AllocError, Global};
 use tls_symbols::{Bindings, imports_of};
 
-/// Whether a startup image defines what a site of an object uses.
+/// Whether the symbol that a site uses is defined by a startup image.
 fn is_import(bindings: &Bindings, index: usize, site: &Site) -> bool
     requires object { index < length bindings.now.objects }
     requires symbol { site.now.symbol < symbol_count (object_at bindings.now.objects index) }
@@ -51,9 +51,9 @@ fn add_imported<'a>(
     Ok(())
 }
 
-/// The names that an image of these objects takes from startup images: each that the sequences of an object use and
-/// that is bound to a startup image. `sites` has the sequences of each object. The names stand in the order of their
-/// first sites, each found by hash. The only error is want of memory.
+/// The names that an image of these objects takes from startup images: each name that a sequence of an object uses and
+/// that is bound to a startup image. `sites` has the sequences of each object. The names are in the order of their
+/// first sites. Fails only when memory runs out.
 pub fn imports<'a>(
     alloc: Global,
     objects: &[Object<'a>],

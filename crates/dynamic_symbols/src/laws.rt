@@ -1,10 +1,10 @@
-//! Laws of dynamic symbols. The functions do nothing: what they ensure is the law.
+//! Laws of dynamic symbols. The functions do nothing; each `ensures` a law.
 
 ghost use Rattle.dynamic_symbols.specs.Laws.{BindingsAreByUse, ImportsAreDistinct, ImportsAreForeign};
 ghost use Rattle.dynamic_symbols.specs.Laws.{NamesAreDistinct, SitesHaveSymbols, SymbolsAreShared};
 ghost use Rattle.dynamic_symbols.specs.Laws.{SymbolsHaveTheNames};
 
-/// Every defined symbol is within the objects, and is neither LOCAL nor undefined.
+/// Every defined symbol is in the objects, and is neither LOCAL nor undefined.
 pub fn symbols_are_shared()
     ensures { SymbolsAreShared }
 {}
@@ -24,7 +24,7 @@ pub fn imports_are_distinct()
     ensures { ImportsAreDistinct }
 {}
 
-/// No import is defined in the image, and none is `__tls_get_addr`.
+/// The image defines none of its imports, and `__tls_get_addr` is no import.
 pub fn imports_are_foreign()
     ensures { ImportsAreForeign }
 {}
@@ -34,7 +34,7 @@ pub fn bindings_are_by_use()
     ensures { BindingsAreByUse }
 {}
 
-/// The sites of an object name its own symbols.
+/// Each site of an object uses a symbol of that object.
 pub fn sites_have_symbols()
     ensures { SitesHaveSymbols }
 {}

@@ -1,4 +1,4 @@
-//! How much room the names of a dynamic symbol table take.
+//! The room that the names of a dynamic symbol table take.
 
 ghost use Rattle.std.specs.Prelude.{◌≡◌, ◌≤◌, ◌+◌, ◌↔◌, IsTrue, map, min};
 ghost use Rattle.std.specs.List.{All};
@@ -8,13 +8,13 @@ ghost use Rattle.dynamic_symbols.specs.Names.{name_size, size_of};
 use elf_object::Object;
 use link_faults::SymbolRef;
 
-/// How many bytes a name takes beside its own: an entry of the symbol table, and a zero in the string table.
+/// The bytes that a name takes besides its own: a symbol table entry, and a zero in the string table.
 const BESIDE: u64 = 25;
 
-/// The most that the names of an image may take, 4 MiB.
+/// The most bytes that the names of an image may take: 4 MiB.
 pub const NAME_LIMIT: u64 = 1 << 22;
 
-/// A sum of sizes with one more name.
+/// Adds a name's size to a sum, which stays at `u64::MAX` once it is there.
 fn with_name(size: u64, name: &[u8]) -> u64
     ensures { result ≡ min (size + size_of name.now) u64.MAX }
 {
@@ -22,8 +22,8 @@ fn with_name(size: u64, name: &[u8]) -> u64
         .saturating_add(name.len() as u64)
 }
 
-/// How many bytes the names of these symbols and these imports take in the dynamic symbol table and its string table;
-/// `u64::MAX` where they take more.
+/// The bytes that the names of these symbols and imports take in the dynamic symbol table and its string table, or
+/// `u64::MAX` if they take more.
 pub fn name_size(objects: &[Object], symbols: &[SymbolRef], imports: &[&[u8]]) -> u64
     requires { All (IsWithin objects.now) symbols.now }
     ensures { result ≡ min (name_size objects.now symbols.now (map (λ name. name.now) imports.now)) u64.MAX }
@@ -39,7 +39,7 @@ pub fn name_size(objects: &[Object], symbols: &[SymbolRef], imports: &[&[u8]]) -
     size
 }
 
-/// Whether they take no more than they may.
+/// Whether these names take at most [`NAME_LIMIT`] bytes.
 pub fn names_fit(objects: &[Object], symbols: &[SymbolRef], imports: &[&[u8]]) -> bool
     requires { All (IsWithin objects.now) symbols.now }
     ensures { IsTrue result

@@ -1,4 +1,4 @@
--- What callers may rely on of the parts that an object lends.
+-- What callers may rely on in the parts that an object lends.
 use Rattle.std.specs.Prelude.{◌≡◌, ◌≢◌, ◌+◌, ◌<◌, ◌≤◌, ◌^◌, ℕ, Bool, true, List, length, Some, IsSome, if◌then◌else◌}
 use Rattle.object_faults.specs.declared.class.SectionClass.{SectionClass}
 use Rattle.object_faults.specs.declared.class.SectionClass.TheVariants.{Executable, Tls, Writable}
@@ -22,14 +22,14 @@ has_initial _ = true
 abbrev pub IsPower : ℕ → Type 0
 IsPower n = (k : ℕ) × (k ≤ 12) × (n ≡ 2 ^ k)
 
--- section s, which linking keeps in this class, is small, and its bytes are all there
+-- section s, which linking keeps in this class, is small, and its bytes are all in the file
 pub record IsKeptAs (b : List ℕ) (s : ℕ) (class : SectionClass) : Type 0 where
   pub small : section_size b s ≤ 2 ^ 20
   pub aligned : IsPower (section_alignment b s)
   pub filled : length (section_bytes b s) ≡ (if has_initial class then section_size b s else 0)
 
--- symbol e is defined in a section that there is, and where linking keeps it the symbol lies in it; thread-local
--- storage has no functions
+-- symbol e is defined in a section of the object and, if linking keeps that section, is inside it; thread-local storage
+-- has no functions
 pub record IsPlaced (b : List ℕ) (e : ℕ) : Type 0 where
   pub section : (s : ℕ) → symbol_place b e ≡ InSection s → IsSection b s
   pub inside : (s : ℕ) → symbol_place b e ≡ InSection s → IsSome (section_class b s)
@@ -39,12 +39,12 @@ pub record IsPlaced (b : List ℕ) (e : ℕ) : Type 0 where
   pub thread_local : (s : ℕ) → symbol_type b e ≡ ThreadLocal → symbol_place b e ≡ InSection s
       → IsTls (section_class b s)
 
--- symbol e, which is not LOCAL, is undefined or lies in a section that linking keeps
+-- symbol e, which is not LOCAL, is undefined or in a section that linking keeps
 pub record IsShared (b : List ℕ) (e : ℕ) : Type 0 where
   pub relative : symbol_place b e ≢ Absolute
   pub kept : (s : ℕ) → symbol_place b e ≡ InSection s → IsSome (section_class b s)
 
--- the field of a relocation of section t lies in t, its type may stand there, and its symbol has a place
+-- the field of a relocation of section t is in t, its type may be used there, and its symbol has a place
 pub record IsLawful (b : List ℕ) (t : ℕ) (relocation : Relocation) : Type 0 where
   pub inside : relocation.offset + field_width relocation.kind ≤ section_size b t
   pub code : IsOfCode relocation.kind → section_class b t ≡ Some Executable

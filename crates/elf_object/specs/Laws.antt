@@ -15,7 +15,7 @@ use Rattle.elf_object.specs.Object.{IsOfData, IsWritable}
 use Rattle.elf_object.specs.Faults.{Stands, IsObject}
 use Rattle.elf_object.specs.Searches.{table_is, relocates_is}
 
--- a section that linking keeps is one, of its class
+-- a section that linking keeps has a section number, and its class
 pub kept_is : (b : List ℕ) (s : ℕ) → is_none (section_class b s) ≡ false
     → IsKeptSection b s × (section_class b s ≡ kept_class (section b s))
 unfolding section_class
@@ -73,7 +73,7 @@ symbols_few b object = elim (cases_lt 0 (symbol_table b)) [
     few_none : (s n : ℕ) → s ≤ 0 → (if nat_lt 0 s then n else 0) ≤ 2 ^ 20
     few_none s n h = let zero : s ≡ 0 = omega arith in rw zero (omega arith)
 
--- as many relocations as are asked for
+-- there are as many relocations as asked for
 pub length-relocations_from : (b : List ℕ) (at e n : ℕ) → length (relocations_from b at e n) ≡ n
 unfolding relocations_from
 length-relocations_from b at e zero = refl
@@ -115,11 +115,11 @@ relocations_few b object t =
     few_none : (r : ℕ) (xs : List Relocation) → r ≤ 0 → length (if nat_lt 0 r then xs else []) ≤ 2 ^ 20
     few_none r xs h = let zero : r ≡ 0 = omega arith in rw zero (omega arith)
 
--- a section that linking keeps is one
+-- a section that linking keeps has a section number
 pub class_in_table : (b : List ℕ) (s : ℕ) → is_none (section_class b s) ≡ false → IsSection b s
 class_in_table b s h = (kept_is b s h).0.0
 
--- so is one of the writable class
+-- so has one of the writable class
 pub writable_in_table : (b : List ℕ) (s : ℕ) → IsWritable b s → IsSection b s
 writable_in_table b s writable = class_in_table b s (some_of (section_class b s) writable)
   where

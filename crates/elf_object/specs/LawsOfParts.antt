@@ -1,5 +1,4 @@
--- What callers may rely on of the sections and symbols that an object lends: that no fault stands in it, said of its
--- parts.
+-- What callers may rely on in the sections and symbols that an object lends: it has no fault, said of its parts.
 use Rattle.std.proofs.Common.{◌≡◌, ◌≢◌, ◌+◌, ◌/◌, ◌<◌, ◌≤◌, ◌⊎◌, ◌∙◌, ◌==◌, ◌&&◌, ℕ, Bool, true, false, List, Option}
 use Rattle.std.proofs.Common.{Some, None, IsSome, nat_lt, if◌then◌else◌, inl, inr, refl, sym, subst, arith}
 use Rattle.std.proofs.lemmas.Bool.{cases_lt}
@@ -19,11 +18,11 @@ use Rattle.elf_object.specs.Lent.{symbol_value, symbol_size, place_numbered, typ
 use Rattle.elf_object.specs.Lawful.{IsPlaced, IsShared}
 use Rattle.elf_object.specs.Faults.{Stands, IsObject, IsSymbol}
 
--- whether n numbers a section, among c of them
+-- whether n is the number of one of c sections
 is_below : (s c : ℕ) → (0 < s) × (s < c) → (nat_lt 0 s && nat_lt s c) ≡ true
 is_below s c h = grind (arith, nat_tests)
 
--- what is lent of a section that there is
+-- the part of a section that exists
 pub class_of_section : (b : List ℕ) (s : ℕ) → IsSection b s → section_class b s ≡ kept_class (section b s)
 unfolding section_class
 class_of_section b s within = rw (is_below s (header b).e_shnum within) refl
@@ -32,7 +31,7 @@ pub size_of_section : (b : List ℕ) (s : ℕ) → IsSection b s → section_siz
 unfolding section_size
 size_of_section b s within = rw (is_below s (header b).e_shnum within) refl
 
--- there is a section of this number, or none; linking keeps it, or not
+-- a section with this number exists or not, and linking keeps it or not
 pub section_or_not : (b : List ℕ) (s : ℕ) → IsSection b s ⊎ (IsSection b s → ⊥)
 section_or_not b s = within s (header b).e_shnum
   where
@@ -65,7 +64,7 @@ is_symbol b e above below = (
   below,
 )
 
--- a symbol's place in a section is that of its number
+-- a symbol's place in a section has that section's number
 place_in : (n s : ℕ) → place_numbered n ≡ InSection s → (n ≡ s) × (n ≢ 0) × (n ≢ 0xfff1)
 place_in n s h = place_cases (n == 0) (n == 0xfff1) n s h (zero_or n) (abs_or n)
   where
@@ -111,7 +110,7 @@ place_absolute b e h = of_place (nat_lt 0 e) ((symbol b e).shndx == 0) ((symbol 
     of_place true false false n h a = absurd (cc)
     of_place false zero abs n h a = absurd (cc)
 
--- the type of a number
+-- the type with this number
 func_is : (n : ℕ) → type_numbered n ≡ Func → n ≡ 2
 func_is n h = of_type (n == 0) (n == 1) (n == 2) (n == 3) (n == 4) n h (same n)
   where
@@ -146,7 +145,7 @@ file_is n h = of_type (n == 0) (n == 1) (n == 2) (n == 3) (n == 4) n h (same n)
     of_type false false false false true n h k = k refl
     of_type false false false false false n h k = absurd (cc)
 
--- a number of thread-local storage is at least 5
+-- the type numbers of thread-local storage are at least 5
 thread_local_is : (n : ℕ) → type_numbered n ≡ ThreadLocal → 5 ≤ n
 thread_local_is n h = of_type (n == 0) (n == 1) (n == 2) (n == 3) (n == 4) n h (large n)
   where
@@ -169,7 +168,7 @@ type_of : (b : List ℕ) (e : ℕ) → 0 < e → symbol_type b e ≡ type_number
 unfolding symbol_type
 type_of b e above = rw (above_of e above) refl
 
--- the section that a symbol is defined in is one
+-- the section in which a symbol is defined exists
 section_at : (b : List ℕ) → IsObject b → (e : ℕ) → 0 < e → e < symbol_count b → (symbol b e).shndx ≢ 0
     → (symbol b e).shndx ≢ 0xfff1 → IsSection b (symbol b e).shndx
 unfolding Stands
@@ -180,9 +179,10 @@ section_at b object e above below defined relative =
           (is_symbol b e above below, inl (defined, relative, none)))
     ]
 
--- where linking keeps that section, the symbol lies in it
+-- if linking keeps that section, the symbol is inside it
 inside_at : (b : List ℕ) → IsObject b → (e : ℕ) → 0 < e → e < symbol_count b → IsSection b (symbol b e).shndx
-    → IsSome (section_class b (symbol b e).shndx) → symbol_value b e + symbol_size b e ≤ section_size b (symbol b e).shndx
+    → IsSome (section_class b (symbol b e).shndx)
+    → symbol_value b e + symbol_size b e ≤ section_size b (symbol b e).shndx
 unfolding Stands symbol_value symbol_size
 inside_at b object e above below within some =
     let s = (symbol b e).shndx in
@@ -212,7 +212,7 @@ no_code_at b object e above below within tls =
       ),
     )
 
--- a symbol of thread-local storage is defined there
+-- a symbol of thread-local storage is defined in a section of it
 tls_at : (b : List ℕ) → IsObject b → (e : ℕ) → 0 < e → e < symbol_count b → IsSection b (symbol b e).shndx
     → (symbol b e).shndx ≢ 0
     → symbol_type b e ≡ ThreadLocal → IsTls (section_class b (symbol b e).shndx)
@@ -233,7 +233,7 @@ tls_at b object e above below within defined tls =
     kinds : (n : ℕ) → 5 ≤ n → (n ≡ 6) ⊎ ((n ≡ 5) ⊎ (6 < n))
     kinds n h = grind arith
 
--- what may be relied on of a symbol
+-- what callers may rely on in a symbol
 pub placed : (b : List ℕ) → IsObject b → (e : ℕ) → e < symbol_count b → IsPlaced b e
 placed b object e below = record {
   section = λ s at.
@@ -287,7 +287,7 @@ global_or_weak b object e above below other =
     bindings : (n : ℕ) → n ≢ 0 → ((n ≡ 1) ⊎ (n ≡ 2)) ⊎ (2 < n)
     bindings n h = grind arith
 
--- it is not defined at a number
+-- it has no absolute value
 not_absolute : (b : List ℕ) → IsObject b → (e : ℕ) → e < symbol_count b → symbol_binding b e ≢ Local
     → symbol_place b e ≢ Absolute
 unfolding Stands
@@ -300,7 +300,7 @@ not_absolute b object e below shared absolute =
           (inr (binding, inl (place_absolute b e absolute))),
     )
 
--- nor in a section that linking drops
+-- it is not in a section that linking drops
 kept_at : (b : List ℕ) → IsObject b → (e : ℕ) → 0 < e → e < symbol_count b → binding_number (symbol b e) ≢ 0
     → IsSection b (symbol b e).shndx
     → IsSome (section_class b (symbol b e).shndx)
@@ -313,7 +313,7 @@ kept_at b object e above below other within =
           (is_symbol b e above below, inr (inr (global_or_weak b object e above below other, inr (within, dropped)))))
     ]
 
--- what may be relied on of a symbol that is not LOCAL
+-- what callers may rely on in a symbol that is not LOCAL
 pub shared : (b : List ℕ) → IsObject b → (e : ℕ) → e < symbol_count b → symbol_binding b e ≢ Local → IsShared b e
 shared b object e below other = record {
   relative = not_absolute b object e below other;

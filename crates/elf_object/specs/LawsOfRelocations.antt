@@ -1,4 +1,4 @@
--- What callers may rely on of the relocations that an object lends.
+-- What callers may rely on in the relocations that an object lends.
 use Rattle.std.proofs.Common.{◌≡◌, ◌≢◌, ◌+◌, ◌*◌, ◌<◌, ◌≤◌, ◌⊎◌, ◌∙◌, ℕ, zero, suc, Bool, true, false, List, []}
 use Rattle.std.proofs.Common.{Option, Some, None, IsSome, nat_lt, if◌then◌else◌, unwrap_or, inl, inr, refl, sym}
 use Rattle.std.proofs.Common.{subst, arith}
@@ -36,7 +36,7 @@ code_or_not (Some ReadOnly) = inr (λ h. cc)
 code_or_not (Some (Tls initial)) = inr (λ h. cc)
 code_or_not (Some (Writable initial)) = inr (λ h. cc)
 
--- the field lies in its section
+-- the field is in its section
 inside_at : (b : List ℕ) → IsObject b → (r e : ℕ) → IsReloc b r e
     → (rela b r e).offset + field_width (unwrap_or (relocation_kind (rela_kind (rela b r e))) Nothing) ≤
     section_size b (section b r).info
@@ -49,7 +49,7 @@ inside_at b object r e reloc =
       | inr fits ↦ fits
     ])
 
--- a type that belongs to an instruction stands in code
+-- a type that belongs to an instruction is used in code only
 code_at : (b : List ℕ) → IsObject b → (r e : ℕ) → IsReloc b r e
     → IsOfCode (unwrap_or (relocation_kind (rela_kind (rela b r e))) Nothing) → section_class b (section b r).info
     ≡ Some Executable
@@ -66,7 +66,7 @@ code_at b object r e reloc code =
     of_kind (Some k) class code fine = elim (code_or_not class)
         [ inl same ↦ same | inr other ↦ absurd (fine (code, other)) ]
 
--- a relocation that does something names a symbol that has a place
+-- a relocation that writes something names a symbol that has a place
 type_of : (n : ℕ) → unwrap_or (relocation_kind n) Nothing ≢ Nothing → n ≢ 0
 type_of n some none = some (rw none refl)
 
@@ -123,7 +123,7 @@ all_from P b at e (suc n) each zero d h = each e (omega arith) (omega arith)
 all_from P b at e (suc n) each (suc k) d h = all_from P b at (e + 1) n
     (λ i low high. each i (omega arith) (omega arith)) k d (omega arith)
 
--- what may be relied on of the relocations of a section
+-- what callers may rely on in the relocations of a section
 pub lawful : (b : List ℕ) → IsObject b → (t : ℕ) → All (IsLawful b t) (relocations b t)
 unfolding relocations_in
 lawful b object t =
@@ -140,7 +140,8 @@ lawful b object t =
           (λ k low high. lawful_at b object r k (table.1, kept, omega (arith, high))) in
           all_if (IsLawful b t) (nat_lt 0 r) (relocations_from b (section b r).offset 0
           (entry_count (section b r))) (subst P table.2 all)
-      | inr none ↦ all_none (IsLawful b t) r (relocations_from b (section b r).offset 0 (entry_count (section b r))) none
+      | inr none ↦
+          all_none (IsLawful b t) r (relocations_from b (section b r).offset 0 (entry_count (section b r))) none
     ]
   where
     all_if : (P : Relocation → Type 0) (t : Bool) (xs : List Relocation) → All P xs → All P (if t then xs else [])

@@ -1,4 +1,4 @@
--- What callers may rely on of the sections that an object lends.
+-- What callers may rely on in the sections that an object lends.
 use Rattle.std.proofs.Common.{◌≡◌, ◌≢◌, ◌+◌, ◌<◌, ◌≤◌, ◌^◌, ◌⊎◌, ◌∙◌, ◌==◌, ◌&&◌, ◌||◌, ℕ, zero, suc, Bool, true}
 use Rattle.std.proofs.Common.{false, not, List, length, slice_range, Option, Some, None, nat_lt, bit_and}
 use Rattle.std.proofs.Common.{if◌then◌else◌, inl, inr, refl, sym, ap, arith, length-take, length-drop}
@@ -18,7 +18,7 @@ use Rattle.elf_object.specs.Faults.{Stands, IsObject}
 use Rattle.elf_object.specs.Laws.{kept_small, class_in_table}
 use Rattle.elf_object.specs.LawsOfParts.{class_of_section, size_of_section}
 
--- the bytes of a section lie in the file
+-- the bytes of a section are in the file
 pub part_in_file : (b : List ℕ) → IsObject b → (s : ℕ) → IsSection b s → HasBytes (section b s)
     → (section b s).offset + (section b s).size ≤ length b
 unfolding Stands
@@ -88,7 +88,7 @@ row_initial false false false true false n u true class h = (
 row_initial false false false true false n u false class h = absurd (cc)
 row_initial false false false false p n u z class h = absurd (cc)
 
--- a section has bytes in the file exactly where its class says so
+-- a section has bytes in the file exactly if its class says so
 pub class_holds : (h : SectionHeader) (class : SectionClass) → kept_class h ≡ Some class
     → (has_initial class ≡ true → HasBytes h) × (has_initial class ≡ false → h.kind ≡ 8)
 unfolding kept_class class_of
@@ -125,7 +125,7 @@ class_holds h class e =
     eight : (n : ℕ) → (n == 8) ≡ true → n ≡ 8
     eight n h = grind (arith, nat_tests)
 
--- an alignment, or none
+-- an alignment, if there is one
 alignment_or_not : (n : ℕ) → IsAlignment n ⊎ (IsAlignment n → ⊥)
 alignment_or_not n = elim (zero_or_not n) [
   | inl null ↦ inl (inl null)
@@ -182,7 +182,7 @@ aligned_at b object s kept =
         of_test true n power = power
         of_test false n power = (0, omega arith, refl)
 
--- how many bytes of the file a section has
+-- the number of bytes that a section has in the file
 length_held : (b : List ℕ) → IsObject b → (s : ℕ) → IsSection b s → HasBytes (section b s)
     → length (section_bytes b s) ≡ (section b s).size
 unfolding section_bytes
@@ -204,7 +204,7 @@ length_empty b s empty = rw (tests (is_section b s) (section b s).kind empty) re
     tests : (t : Bool) (k : ℕ) → k ≡ 8 → (t && (not (k == 0) && not (k == 8))) ≡ false
     tests t k h = grind (arith, nat_tests)
 
--- its bytes are all there
+-- all of its bytes are in the file
 filled_at : (b : List ℕ) → IsObject b → (s : ℕ) (class : SectionClass) → IsSection b s
     → kept_class (section b s) ≡ Some class
     → length (section_bytes b s) ≡ (if has_initial class then section_size b s else 0)
@@ -215,7 +215,7 @@ filled_at b object s class within e = of_initial (has_initial class) refl
         (length_held b object s within ((class_holds (section b s) class e).0 initial))
     of_initial false initial = length_empty b s ((class_holds (section b s) class e).1 initial)
 
--- what may be relied on of a section that linking keeps
+-- what callers may rely on in a section that linking keeps
 pub kept_as : (b : List ℕ) → IsObject b → (s : ℕ) (class : SectionClass) → section_class b s ≡ Some class
     → IsKeptAs b s class
 kept_as b object s class e =

@@ -1,6 +1,5 @@
 -- What an object lends: names, bytes, symbols and relocations, as functions of the file's bytes (gABI, "Sections",
--- "Symbol Table",
--- "Relocation"). Number 0 of the sections and of the symbols is reserved, and nothing of it is looked at.
+-- "Symbol Table", "Relocation"). Number 0 of the sections and of the symbols is reserved, and nothing of it is read.
 use Rattle.std.specs.Prelude.{◌≡◌, ◌+◌, ◌*◌, ◌==◌, ◌&&◌, ℕ, not, List, [], map, slice_range, Option, None}
 use Rattle.std.specs.Prelude.{is_some, nat_lt, unwrap_or, if◌then◌else◌}
 use Rattle.std.specs.List.{range_with_len}
@@ -54,23 +53,23 @@ section_bytes b s =
     if is_section b s && (not ((section b s).kind == SHT_NULL) && not ((section b s).kind == SHT_NOBITS))
     then slice_range b (section b s).offset ((section b s).offset + (section b s).size) else []
 
--- its name
+-- the name of section s
 unfoldable pub section_name : List ℕ → ℕ → List ℕ
 section_name b s = if is_section b s then text_at (section_bytes b (header b).e_shstrndx) (section b s).name else []
 
--- the class that linking keeps it in
+-- the class that linking keeps section s in
 unfoldable pub section_class : List ℕ → ℕ → Option SectionClass
 section_class b s = if is_section b s then kept_class (section b s) else None
 
--- how many bytes it has in memory
+-- the size of section s in memory
 unfoldable pub section_size : List ℕ → ℕ → ℕ
 section_size b s = if is_section b s then (section b s).size else 0
 
--- what its address is to be a multiple of; 0 in the file counts as 1
+-- the alignment of section s; 0 in the file counts as 1
 unfoldable pub section_alignment : List ℕ → ℕ → ℕ
 section_alignment b s = if is_section b s && not ((section b s).addralign == 0) then (section b s).addralign else 1
 
--- what is lent of section s
+-- section s, as it is lent
 pub record IsSectionPart (b : List ℕ) (s : ℕ) (part : SectionPart) : Type 0 where
   pub class_is : part.class ≡ section_class b s
   pub bytes_are : part.bytes.now ≡ section_bytes b s
@@ -79,9 +78,10 @@ pub record IsSectionPart (b : List ℕ) (s : ℕ) (part : SectionPart) : Type 0 
 
 -- the name of symbol e
 unfoldable pub symbol_name : List ℕ → ℕ → List ℕ
-symbol_name b e = if nat_lt 0 e then text_at (section_bytes b (section b (symbol_table b)).link) (symbol b e).name else []
+symbol_name b e =
+    if nat_lt 0 e then text_at (section_bytes b (section b (symbol_table b)).link) (symbol b e).name else []
 
--- its binding, type, visibility, place, value and size
+-- the binding, type, visibility, place, value and size of symbol e
 unfoldable pub symbol_binding : List ℕ → ℕ → SymbolBinding
 symbol_binding b e = if nat_lt 0 e then binding_numbered (binding_number (symbol b e)) else Local
 
@@ -100,7 +100,7 @@ symbol_value b e = if nat_lt 0 e then (symbol b e).value else 0
 unfoldable pub symbol_size : List ℕ → ℕ → ℕ
 symbol_size b e = if nat_lt 0 e then (symbol b e).size else 0
 
--- what is lent of symbol e
+-- symbol e, as it is lent
 pub record IsSymbolPart (b : List ℕ) (e : ℕ) (part : SymbolPart) : Type 0 where
   pub binding_is : part.binding ≡ symbol_binding b e
   pub kind_is : part.kind ≡ symbol_type b e
@@ -121,23 +121,23 @@ relocation_at at b =
       addend = entry.addend;
     }
 
--- n relocations from an offset of the file on, beginning with number e
+-- n relocations of the table at an offset of the file, from number e on
 unfoldable pub relocations_from : List ℕ → ℕ → ℕ → ℕ → List Relocation
 relocations_from b at e n = map (λ (k : ℕ). relocation_at (at + 24 * k) b) (range_with_len e n)
 
--- the section that holds the relocations of section t, where linking keeps t; 0 where none does
+-- the section that holds the relocations of section t, if linking keeps t; 0 if there is none
 unfoldable pub kept_relocation_table : List ℕ → ℕ → ℕ
 kept_relocation_table b t = if is_some (section_class b t) then relocation_table b t else 0
 
--- the relocations in section r; none where r is 0
+-- the relocations in section r; none if r is 0
 unfoldable pub relocations_in : List ℕ → ℕ → List Relocation
 relocations_in b r = if nat_lt 0 r then relocations_from b (section b r).offset 0 (entry_count (section b r)) else []
 
--- the relocations of section t, where linking keeps it
+-- the relocations of section t, if linking keeps it
 abbrev pub relocations : List ℕ → ℕ → List Relocation
 relocations b t = relocations_in b (kept_relocation_table b t)
 
--- the section, one that linking keeps, whose relocations section r holds; 0 where it holds none of such a section
+-- the section whose relocations section r holds, if linking keeps it; else 0
 unfoldable pub relocation_target : List ℕ → ℕ → ℕ
 relocation_target b r =
     if (is_section b r && ((section b r).kind == SHT_RELA)) && is_some (section_class b (section b r).info) then

@@ -1,4 +1,4 @@
-//! An object: a file that was read and found without fault.
+//! An object: a file that was read and has no fault.
 
 ghost use Rattle.std.specs.Prelude.{◌≡◌, ◌≢◌, ◌<◌, ◌≤◌, ◌↔◌, ◌^◌, ℕ, length, All, IsNone, IfOk, IfErr, IfSome};
 ghost use Rattle.std.specs.Prelude.{OnSome, MatchOption};
@@ -19,7 +19,7 @@ use object_faults::{FaultFree, ObjectFault, SectionClass, Tables, fault_free};
 use std::alloc::Global;
 use std::marker::Model;
 
-/// An object that was read. It keeps offsets in the bytes that it was read from. Contracts see it as those bytes.
+/// An object that was read. It keeps offsets into the bytes that it was read from. Contracts see it as those bytes.
 #[derive(Drop)]
 pub struct Object<'a> {
     tables: Tables<'a>,
@@ -39,7 +39,7 @@ impl<'a> Model for Object<'a> {
 }
 
 impl<'a> Object<'a> {
-    /// Reads an object. Answers the first fault that stands, or the object that the bytes stand for.
+    /// Reads an object. The error is the first fault that holds.
     pub fn read(alloc: Global, bytes: &'a [u8]) -> Result<Object<'a>, ObjectFault>
         ensures object { IfOk result (λ object. (object ≡ bytes.now) × IsObject bytes.now) }
         ensures fault { IfErr result (IsFault bytes.now) }
@@ -65,7 +65,7 @@ fn first_writable(tables: &Tables) -> Option<u32>
 }
 
 impl<'a> Object<'a> {
-    /// How many sections there are, number 0 included.
+    /// The number of sections, including number 0.
     pub fn section_count(&self) -> u32
         ensures count { result ≡ count_of_sections self.now }
         ensures few { result < 2 ^ 16 }
@@ -74,7 +74,7 @@ impl<'a> Object<'a> {
         self.tables.count as u32
     }
 
-    /// How many symbols there are, number 0 included; 0 where there is no symbol table.
+    /// The number of symbols, including number 0; 0 if there is no symbol table.
     #[tactic(auto, using(crate::specs::Laws::symbols_few))]
     pub fn symbol_count(&self) -> u32
         ensures count { result ≡ count_of_symbols self.now }
@@ -84,7 +84,7 @@ impl<'a> Object<'a> {
         self.tables.symbols.count as u32
     }
 
-    /// A section, by its number. `None` exactly past the table. Of number 0, which is reserved, nothing is lent.
+    /// The section with this number; `None` exactly if there is none. Number 0 is reserved, and its part is empty.
     #[tactic(auto, using(crate::specs::LawsOfSections::kept_as))]
     pub fn section(&self, number: u32) -> Option<SectionPart<'a>>
         ensures past { IsNone result ↔ (count_of_sections self.now ≤ number) }
@@ -99,7 +99,7 @@ impl<'a> Object<'a> {
         Some(section_part(&self.tables, number))
     }
 
-    /// A symbol, by its number. `None` exactly past the table. Of number 0, which is reserved, nothing is lent.
+    /// The symbol with this number; `None` exactly if there is none. Number 0 is reserved, and its part is empty.
     #[tactic(auto, using(crate::specs::LawsOfParts::placed, crate::specs::LawsOfParts::shared))]
     pub fn symbol(&self, number: u32) -> Option<SymbolPart>
         ensures past { IsNone result ↔ (count_of_symbols self.now ≤ number) }
@@ -115,8 +115,7 @@ impl<'a> Object<'a> {
         Some(symbol_part(&self.tables, number))
     }
 
-    /// The name of a section. It is looked for here, up to its last byte: what [`section`](Object::section) lends
-    /// knows no name.
+    /// The name of a section. Each call searches for its end: [`section`](Object::section) lends no name.
     pub fn section_name(&self, number: u32) -> &'a [u8]
         requires { number < count_of_sections self.now }
         ensures name { result.now ≡ name_of_section self.now number }
@@ -125,7 +124,7 @@ impl<'a> Object<'a> {
         section_name(&self.tables, u64::from(number))
     }
 
-    /// The name of a symbol. It is looked for here, up to its last byte.
+    /// The name of a symbol. Each call searches for its end.
     pub fn symbol_name(&self, number: u32) -> &'a [u8]
         requires { number < count_of_symbols self.now }
         ensures name { result.now ≡ name_of_symbol self.now number }
@@ -134,8 +133,7 @@ impl<'a> Object<'a> {
         symbol_name(&self.tables, u64::from(number))
     }
 
-    /// The name of a symbol, if it has at most `limit` bytes. No more than `limit + 1` bytes are looked at, however
-    /// long it is.
+    /// The name of a symbol, if it has at most `limit` bytes. Reads at most `limit + 1` bytes of it.
     pub fn short_symbol_name(&self, number: u32, limit: usize) -> Option<&'a [u8]>
         requires { number < count_of_symbols self.now }
         ensures name { MatchOption result (limit < length (name_of_symbol self.now number))
@@ -145,8 +143,8 @@ impl<'a> Object<'a> {
         short_symbol_name(&self.tables, u64::from(number), limit)
     }
 
-    /// The relocations of a section that linking keeps, in the order of the file. There are none where no section
-    /// holds any.
+    /// The relocations of a section that linking keeps, in the order of the file. There are none if no section holds
+    /// any.
     #[tactic(auto, using(crate::specs::Laws::relocations_few, crate::specs::LawsOfRelocations::lawful))]
     pub fn relocs(&self, section: u32) -> Relocs<'a>
         ensures relocations { result ≡ relocations_of self.now section }
@@ -158,8 +156,8 @@ impl<'a> Object<'a> {
         relocs_in(&self.tables, table)
     }
 
-    /// How many relocations a section has that linking keeps: as many as [`relocs`](Object::relocs) lends. None is
-    /// looked at.
+    /// The number of relocations of a section that linking keeps: as many as [`relocs`](Object::relocs) lends. Reads
+    /// none of them.
     #[tactic(auto, using(crate::specs::Laws::relocations_few))]
     pub fn relocation_count(&self, section: u32) -> u64
         ensures count { result ≡ length (relocations_of self.now section) }
@@ -194,7 +192,7 @@ impl<'a> Object<'a> {
         }
     }
 
-    /// The section, one that linking keeps, whose relocations a section holds, if it holds those of such a section.
+    /// The section whose relocations this one holds, if linking keeps it.
     pub fn relocation_target(&self, table: u32) -> Option<u32>
         ensures target { result ≡ nonzero (target_of_relocations self.now table) }
         ensures object { IsObject self.now }

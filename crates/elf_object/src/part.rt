@@ -1,4 +1,4 @@
-//! What an object lends of a section and of a symbol.
+//! The parts that an object lends: sections and symbols.
 
 ghost use Rattle.std.specs.Prelude.{◌≡◌, ◌<◌, OnSome};
 ghost use Rattle.elf_object.specs.Parts.{symbol_count, IsSection};
@@ -10,16 +10,16 @@ use crate::symbol::{
 };
 use object_faults::{SectionClass, Tables, has_bytes, kept_class};
 
-/// A section of an object. Its bytes are the file's.
+/// A section of an object. Its bytes are in the file.
 #[derive(Clone, Copy, Debug)]
 pub struct SectionPart<'a> {
-    /// What the section becomes; `None` where linking drops it.
+    /// The class that the section is linked in; `None` if linking drops it.
     pub class: Option<SectionClass>,
-    /// Its bytes in the file; none where its type says that it has no bytes there.
+    /// Its bytes in the file; none if its type says that it has no bytes there.
     pub bytes: &'a [u8],
-    /// How many bytes it has in memory.
+    /// Its size in memory, in bytes.
     pub size: u64,
-    /// What its address is to be a multiple of.
+    /// Its alignment: a power of two.
     pub alignment: u64,
 }
 
@@ -31,13 +31,13 @@ pub struct SymbolPart {
     pub visibility: Visibility,
     /// Where the symbol is defined.
     pub place: SymbolPlace,
-    /// Of a symbol in a section its offset there.
+    /// Its value: for a symbol in a section, its offset there.
     pub value: u64,
-    /// How many bytes it names.
+    /// Its size in bytes.
     pub size: u64,
 }
 
-/// The class that linking keeps a section in.
+/// The class that linking keeps a section in; `None` if it drops it.
 #[tactic(auto, unfolding(crate::specs::Lent::section_class))]
 pub fn class_in(tables: &Tables, number: u64) -> Option<SectionClass>
     ensures class { result ≡ section_class tables.now.bytes.now number }
@@ -64,7 +64,7 @@ pub fn bytes_of<'a>(tables: &Tables<'a>, number: u64) -> &'a [u8]
     &tables.bytes[header.offset as usize..(header.offset + header.size) as usize]
 }
 
-/// What the address of a section is to be a multiple of.
+/// The alignment of a section; 0 in the file counts as 1.
 #[tactic(auto, unfolding(crate::specs::Lent::section_alignment))]
 fn alignment_in(tables: &Tables, number: u64) -> u64
     requires { number < tables.now.count }
@@ -76,7 +76,7 @@ fn alignment_in(tables: &Tables, number: u64) -> u64
     }
 }
 
-/// What is lent of a section.
+/// A section, as it is lent.
 #[tactic(auto, unfolding(crate::specs::Lent::section_size))]
 pub fn section_part<'a>(tables: &Tables<'a>, number: u64) -> SectionPart<'a>
     requires { number < tables.now.count }
@@ -95,7 +95,7 @@ pub fn section_part<'a>(tables: &Tables<'a>, number: u64) -> SectionPart<'a>
     }
 }
 
-/// What is lent of a symbol.
+/// A symbol, as it is lent.
 #[tactic(auto, unfolding(crate::specs::Lent::symbol_binding, crate::specs::Lent::symbol_type, crate::specs::Lent::symbol_visibility, crate::specs::Lent::symbol_place, crate::specs::Lent::symbol_value, crate::specs::Lent::symbol_size))]
 pub fn symbol_part(tables: &Tables, number: u64) -> SymbolPart
     requires { number < symbol_count tables.now.bytes.now }

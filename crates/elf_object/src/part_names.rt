@@ -1,4 +1,4 @@
-//! The names of sections and symbols. Each is found when it is asked for, in as many steps as it has bytes.
+//! The names of sections and symbols. Each is found on request, in as many steps as it has bytes.
 
 ghost use Rattle.std.specs.Prelude.{◌≡◌, ◌<◌, ◌≤◌, MatchOption, length};
 ghost use Rattle.elf_object.specs.Parts.{section as section_header, symbol_count, symbol_table};
@@ -42,7 +42,7 @@ pub fn symbol_name<'a>(tables: &Tables<'a>, number: u64) -> &'a [u8]
     text_at(symbol_strings(tables), tables.symbol(number).name as usize)
 }
 
-/// The name of a symbol, if it has at most `limit` bytes. No byte behind the limit is looked at.
+/// The name of a symbol, if it has at most `limit` bytes. No byte after the limit is read.
 #[tactic(auto, unfolding(crate::specs::Lent::symbol_name))]
 pub fn short_symbol_name<'a>(tables: &Tables<'a>, number: u64, limit: usize) -> Option<&'a [u8]>
     requires { number < symbol_count tables.now.bytes.now }

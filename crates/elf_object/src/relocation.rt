@@ -5,12 +5,12 @@ use object_faults::RelocationKind;
 /// A relocation: how to fill one field of a section.
 #[derive(Clone, Copy, PartialEq, Eq, Debug)]
 pub struct Relocation {
-    /// Where the field begins in its section.
+    /// The offset of the field in its section.
     pub offset: u64,
-    /// What to fill it with.
+    /// Its type: how the field's value is computed.
     pub kind: RelocationKind,
-    /// The symbol that it names.
+    /// The number of its symbol.
     pub symbol: u32,
-    /// A number that is added to the symbol's value.
+    /// The addend: it is added to the symbol's value.
     pub addend: i64,
 }

@@ -1,4 +1,4 @@
-//! The relocations of one section, one after another.
+//! The relocations of one section, as an iterator.
 
 ghost use Rattle.std.specs.Prelude.{◌≡◌, ◌+◌, ◌*◌, ◌-◌, ◌^◌, ◌<◌, ◌≤◌, length};
 ghost use Rattle.std.specs.Iterator.{YieldsFirst, item_count};
@@ -14,7 +14,7 @@ use elf_records::{Rela, read_rela};
 use object_faults::{RelocationKind, Tables};
 use std::marker::Model;
 
-/// The relocations of a section, in the order of the file. Contracts see the list of those that are left.
+/// The relocations of a section, in the order of the file. Contracts see the list of those that remain.
 #[derive(Drop)]
 pub struct Relocs<'a> {
     bytes: &'a [u8],
@@ -86,8 +86,8 @@ impl Iterator for Relocs<'_> {
     }
 }
 
-/// The section that holds the relocations of a section that linking keeps, or 0. `targets` says of each section which
-/// one does.
+/// The section that holds the relocations of a section that linking keeps, or 0. `targets` has that number for each
+/// section.
 #[tactic(auto, using(crate::specs::Laws::holds_relocations), unfolding(crate::specs::Lent::kept_relocation_table))]
 pub fn table_of(tables: &Tables, targets: &[u32], section: u64) -> u64
     requires len { length targets.now ≡ tables.now.count }
@@ -114,7 +114,7 @@ pub fn relocs_in<'a>(tables: &Tables<'a>, table: u64) -> Relocs<'a>
     Relocs::of(tables.bytes, header.offset, header.size / Rela::SIZE)
 }
 
-/// How many relocations a section holds.
+/// The number of relocations that a section holds.
 pub fn count_in(tables: &Tables, table: u64) -> u64
     requires { 0 < table → IsRela tables.now.bytes.now table }
     ensures { result ≡ length (relocations_in tables.now.bytes.now table) }
@@ -125,7 +125,7 @@ pub fn count_in(tables: &Tables, table: u64) -> u64
     tables.section(table).size / Rela::SIZE
 }
 
-/// The section, one that linking keeps, whose relocations a section holds, or 0.
+/// The section whose relocations this one holds, if linking keeps it; else 0.
 #[tactic(auto, unfolding(crate::specs::Lent::relocation_target))]
 pub fn target_of(tables: &Tables, table: u64) -> u64
     ensures target { result ≡ relocation_target tables.now.bytes.now table }

@@ -1,4 +1,4 @@
-//! What an object says of a symbol (gABI, "Symbol Table").
+//! What an object says about a symbol (gABI, "Symbol Table").
 
 ghost use Rattle.std.specs.Prelude.{◌≡◌};
 ghost use Rattle.elf_object.specs.Lent.{binding_numbered, type_numbered, visibility_numbered, place_numbered};
@@ -11,15 +11,15 @@ use elf_records::symbol::{
 /// Which objects see a symbol.
 #[derive(Clone, Copy, PartialEq, Eq, Debug)]
 pub enum SymbolBinding {
-    /// Its own object alone.
+    /// Only its own object.
     Local,
-    /// All objects, and there is one definition.
+    /// All objects. A name has one such definition.
     Global,
-    /// All objects; a GLOBAL definition of the name goes before it.
+    /// All objects. A GLOBAL definition of the name takes precedence.
     Weak,
 }
 
-/// What a symbol stands for.
+/// What a symbol names.
 #[derive(Clone, Copy, PartialEq, Eq, Debug)]
 pub enum SymbolType {
     NoType,
@@ -44,13 +44,13 @@ pub enum Visibility {
 pub enum SymbolPlace {
     /// In another object.
     Undefined,
-    /// At a number that linking does not change.
+    /// At an absolute value, which linking does not change.
     Absolute,
-    /// In the section of this number.
+    /// In the section with this number.
     InSection(u32),
 }
 
-/// The binding of a number.
+/// The binding with this number in the file.
 pub fn binding_numbered(number: u8) -> SymbolBinding
     ensures { result ≡ binding_numbered number }
 {
@@ -61,7 +61,7 @@ pub fn binding_numbered(number: u8) -> SymbolBinding
     }
 }
 
-/// The type of a number.
+/// The type with this number in the file.
 pub fn type_numbered(number: u8) -> SymbolType
     ensures { result ≡ type_numbered number }
 {
@@ -75,7 +75,7 @@ pub fn type_numbered(number: u8) -> SymbolType
     }
 }
 
-/// The visibility of a number.
+/// The visibility with this number in the file.
 pub fn visibility_numbered(number: u8) -> Visibility
     ensures { result ≡ visibility_numbered number }
 {
@@ -87,7 +87,7 @@ pub fn visibility_numbered(number: u8) -> Visibility
     }
 }
 
-/// The place of a section's number, or of one that is reserved.
+/// The place that a section number in the file stands for.
 pub fn place_numbered(number: u16) -> SymbolPlace
     ensures { result ≡ place_numbered number }
 {

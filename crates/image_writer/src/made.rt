@@ -49,7 +49,8 @@ fn put_made(draft: &Draft<'_>, layout: &Layout, outline: &Outline<'_>, out: &mut
     requires page { 4096 ≤ length out.old }
     requires loadable { IsLoadable (outlined outline.now) }
     requires tls { HoldsTls (outlined outline.now) }
-    ensures bytes { out.new ≡ splice 0 (page (outlined outline.now)) (splice at (tables_at (next_page draft.now) (told draft.now)) out.old) }
+    ensures bytes { out.new ≡ splice 0 (page (outlined outline.now))
+        (splice at (tables_at (next_page draft.now) (told draft.now)) out.old) }
     ensures symbols { All IsSymbolFitting draft.now.symbols.now }
     ensures relocations { All IsRelocationFitting draft.now.relocations.now }
 {
@@ -62,8 +63,10 @@ fn put_made(draft: &Draft<'_>, layout: &Layout, outline: &Outline<'_>, out: &mut
 /// and the image keeps the bytes.
 pub fn image_of(alloc: Global, draft: &Draft<'_>, file: Vec<u8>) -> Result<Image, AllocError>
     requires linkable { IsLinkable (contents_of draft.now file.items) }
-    requires ends { length file.items ≡ file_offset draft.now.kind (parts_end draft.now.kind (contents_of draft.now file.items).parts) }
-    requires inside { All (λ part. file_offset draft.now.kind part.address + part.size ≤ length file.items) draft.now.parts.now }
+    requires ends { length file.items ≡ file_offset draft.now.kind
+        (parts_end draft.now.kind (contents_of draft.now file.items).parts) }
+    requires inside { All (λ part. file_offset draft.now.kind part.address + part.size ≤ length file.items)
+        draft.now.parts.now }
     ensures { IfOk result (λ image. image ≡ finished (contents_of draft.now file.items)) }
 {
     let layout = layout_of(draft);

@@ -49,7 +49,8 @@ fn put_entries(entries: &[DynamicEntry], out: &mut [u8], at: usize)
 fn put_relocation_entries(place: u64, count: u64, out: &mut [u8], at: usize) -> usize
     requires few { 24 * count < 2 ^ 64 }
     requires room { at + 16 * length (leading_entries (nat_lt 0 count) place count) ≤ length out.old }
-    ensures bytes { out.new ≡ splice at (flat_map dynamic_bytes (leading_entries (nat_lt 0 count) place count)) out.old }
+    ensures bytes { out.new ≡ splice at
+        (flat_map dynamic_bytes (leading_entries (nat_lt 0 count) place count)) out.old }
     ensures next { result ≡ at + 16 * length (leading_entries (nat_lt 0 count) place count) }
 {
     if count == 0 {

@@ -11,7 +11,7 @@ use Rattle.whole_meaning.specs.Loads.{info_of}
 abbrev pub infos_of : List Linking → List ImageInfo
 infos_of ls = map info_of ls
 
--- how far below the thread pointer the block of the last image begins that starts with the program
+-- how far below the thread pointer the block of the last image that starts with the program begins
 abbrev pub last_of : List Linking → ℕ
 last_of ls = startup_end (infos_of ls) 0
 
@@ -19,7 +19,7 @@ last_of ls = startup_end (infos_of ls) 0
 abbrev pub IsHistory : List Linking → List Event → Type 0
 IsHistory ls events = IsLegal (infos_of ls) (last_of ls) events
 
--- a history of the job's images leaves it
+-- some history of the job's images leaves this state
 pub record IsLeftBy (ls : List Linking) (p : Past) : Type 0 where
   pub events : List Event
   pub legal : IsHistory ls events

@@ -1,4 +1,4 @@
--- What the first look of a thread's line comes to in the code.
+-- The first look of a thread's line, as the code takes it.
 use Rattle.std.specs.Prelude.{◌≡◌, ◌+◌, ℕ, Bool, true, false, List, [], Option, Some, None, option_and_then, option_to_list, if◌then◌else◌}
 use Rattle.guest_arithmetic.specs.declared.cause.Cause.{Cause}
 use Rattle.guest_operands.specs.declared.state.State.{State}
@@ -26,12 +26,12 @@ use Rattle.meant_space.specs.Kept.{HasSeen, Kept, held_at}
 use Rattle.meant_space.specs.Owners.{part_in}
 use Rattle.meant_space.specs.Spaces.{with_held}
 
--- these events leave this history
+-- the events leave this state
 abbrev pub HasLeft : Kept → List Event → Past → Type 0
 HasLeft k seen p = left_by (loads_of k.images) seen ≡ p
 
--- what a look comes to, where the thread saw these events then, with its registers as they were: the line is over, with
--- this unclean step or none; or a call begins, with these registers
+-- how the line begins, for a thread that has seen these events and had these registers: it is over, with this unclean
+-- step or none; or a call begins, with these registers
 abbrev pub BegunAs : ℕ → List Event → State Word Flag → Kept → Started → Begun Meant → Type 0
 BegunAs line now state k (Says unclean) (SaysSo ending h) =
     (unclean_ending k.thread line ending ≡ unclean) × (h ≡ held_at now state k)
@@ -39,13 +39,13 @@ BegunAs line now state k (Says unclean) (CallsOn h) = ⊥
 BegunAs line now state k (Calls first) (SaysSo ending h) = ⊥
 BegunAs line now state k (Calls first) (CallsOn h) = h ≡ held_at now first k
 
--- whose memory it is stays
+-- the memory belongs to the same thread of the same job
 pub record KeepsThread (old new : Kept) : Type 0 where
   pub thread : new.thread ≡ old.thread
   pub images : new.images ≡ old.images
   pub lent : new.lent ≡ old.lent
 
--- a line begins as it is meant to, after the look
+-- after the look the line begins as the definition says
 pub record Starts (line : Line) (p : Past) (k : Kept) (started : Started) (p' : Past) (k' : Kept) : Type 0 where
   pub thread : k'.thread ≡ k.thread
   pub images : k'.images ≡ k.images
@@ -60,7 +60,7 @@ pub record Starts (line : Line) (p : Past) (k : Kept) (started : Started) (p' : 
 
 -- ** the parts
 
--- a part of a line begins as it is meant to, and this event of the thread's own is in the history then, if there is one
+-- a part of a line begins as the definition says, and the thread's own event, if there is one, enters the history
 pub record Begins (line : ℕ) (event : Option Event) (begun : List Event → Meant → Begun Meant) (p : Past) (k : Kept)
     (started : Started) (p' : Past) (k' : Kept) : Type 0 where
   pub keeps : KeepsThread k k'
@@ -73,7 +73,7 @@ module _ (line : Line) (k : Kept) (seen : List Event) where
   abbrev pub shows : List Byte → Ending
   shows bytes = meant_show (meaning_of k.images) k.thread line seen bytes
 
--- a call of the function of a name, in the live instance of the line's image
+-- a call of a function by its name, in the live instance of the line's image
 abbrev pub BeginsCall : Line → List ℕ → ℕ → ℕ → ℕ → Past → Kept → Started → Past → Kept → Type 0
 BeginsCall line symbol a b c p k = let l = loads_of k.images in
     Begins line.number None
@@ -93,12 +93,12 @@ BeginsClose line p k = let l = loads_of k.images in
     Begins line.number (unless_refused refusal (event_at k.thread line.number false line.told.image))
     (λ seen h. begun_close ops l (shows line k seen) k.thread line seen h refusal) p k
 
--- a line that shows so many bytes of a variable
+-- a line that shows `size` bytes of a variable
 abbrev pub peek_line : Line → List ℕ → ℕ → Line
 peek_line line symbol size =
     record { number = line.number; told = record { image = line.told.image; action = Peek symbol size } }
 
--- a look at bytes of a variable, in the block of the live instance of the line's image
+-- a peek at bytes of a variable, in the block of the live instance of the line's image
 abbrev pub BeginsPeek : Line → List ℕ → ℕ → Past → Kept → Started → Past → Kept → Type 0
 BeginsPeek line symbol size p k = let l = loads_of k.images in
     Begins line.number None
@@ -107,12 +107,12 @@ BeginsPeek line symbol size p k = let l = loads_of k.images in
 
 -- ** steps of the parts
 
--- a thread sees the history as it is now
+-- the thread sees the history as it is now
 pub record Sees (old : Kept) (p : Past) (new : Kept) : Type 0 where
   pub left : IsLeftBy old.images p
   pub is : new ≡ with_held (instances_in (infos_of old.images) p) [] Fixed old
 
--- a load, where the image was not loaded before, fills the data of its instance
+-- a load fills the data of the instance, unless the image was loaded before
 abbrev pub LoadsNew : Bool → Option Instance → Kept → Kept → Type 0
 LoadsNew true x old new = new ≡ old
 LoadsNew false None old new = new ≡ old
@@ -120,7 +120,7 @@ LoadsNew false (Some x) old new = new ≡ with_held old.live [] (DataOf x.number
 
 -- ** bytes that are shown
 
--- why bytes are no numbers is said of no job and no thread
+-- why bytes are not numbers depends on no job and no thread
 abbrev pub byte_cause : Byte → Option Cause
 byte_cause byte = cause_of_byte (meaning_of []) 0 byte
 
@@ -133,12 +133,12 @@ unclean_for address bytes why = lowest_unclean (meaning_of []) 0 address bytes w
 abbrev pub unclean_bytes : ℕ → List Byte → Stop
 unclean_bytes address bytes = first_unclean (meaning_of []) 0 address bytes
 
--- the unclean step of a line that shows bytes from an address on, if they are no numbers
+-- the unclean step of a line that shows bytes from an address on, if some of them are not numbers
 abbrev pub shown_step : ℕ → ℕ → ℕ → List Byte → Option (List ℕ) → Option UncleanStep
 shown_step thread line address bytes (Some numbers) = None
 shown_step thread line address bytes None = unclean_stop thread line (unclean_bytes address bytes)
 
--- of a variable at an offset in a block
+-- likewise for a variable at an offset in a block
 abbrev pub step_in : ℕ → ℕ → ℕ → ℕ → ℕ → Option (List Byte) → Option UncleanStep
 step_in thread line start size offset block =
     option_and_then (λ part. shown_step thread line (start + offset) part (values_of part)) (part_in offset size block)

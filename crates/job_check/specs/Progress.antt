@@ -1,4 +1,4 @@
--- How far the threads of a job have come: what the code keeps between two turns, and the definition's threads that this
+-- How far the threads of a job have come: what the code keeps between two turns, and the definition's threads that it
 -- stands for.
 use Rattle.std.specs.Prelude.{◌≡◌, ◌+◌, ℕ, suc, Bool, true, List, [], ◌∷◌, length, slice_get, Option, Some, None}
 use Rattle.std.specs.Option.{option_or}
@@ -21,7 +21,7 @@ use Rattle.whole_meaning.specs.Threads.{Meant, meant_turns}
 use Rattle.job_check.specs.Histories.{IsHistory, infos_of, last_of}
 use Rattle.job_check.specs.Standing.{IsFirstRun, Run, StandsFor, is_done}
 
--- what the history leaves, the data of all instances, and each thread, thread 1 first
+-- the state that the history leaves, the data of all instances, and each thread, thread 1 first
 pub record Progress : Type 0 where
   pub past : Past
   pub shared : List (Owned Byte)
@@ -29,7 +29,7 @@ pub record Progress : Type 0 where
 
 -- ** which threads are over
 
--- it has nothing left to do, or there is no such thread
+-- the thread has nothing left to do, or there is no such thread
 abbrev pub is_over : Option Run → Bool
 is_over None = true
 is_over (Some r) = is_done r
@@ -39,7 +39,7 @@ is_thread_over runs thread = is_over (at_number runs thread)
 
 -- ** what it stands for
 
--- of a job with these images and this fuel, what is kept of a thread and the thread that it stands for
+-- what is kept of a thread, in a job with these images and this fuel, and the definition's thread that it stands for
 pub record IsRunOf (ls : List Linking) (fuel thread : ℕ) (r : Run) (t : Thread Meant Line Event) : Type 0 where
   pub thread_is : r.kept.thread ≡ thread
   pub images_are : r.kept.images ≡ ls
@@ -56,7 +56,7 @@ pub record Stands (ls : List Linking) (fuel : ℕ) (w : Shared Word Flag Byte Li
   pub each : (k : ℕ) (r : Run) (t : Thread Meant Line Event) → slice_get x.runs k ≡ Some r
       → slice_get w.threads k ≡ Some t → IsRunOf ls fuel (suc k) r t
 
--- it stands for threads of some job
+-- the progress stands for the threads of some job
 pub record StandsForSome (x : Progress) : Type 0 where
   pub images : List Linking
   pub fuel : ℕ
@@ -69,14 +69,14 @@ abbrev pub meant_order : List Linking → ℕ → List ℕ → Shared Word Flag 
 meant_order ls fuel order w = let m = meaning_of ls in
     shared_order (λ thread. meant_turns m thread fuel) (λ thread. event_by m.loads thread) order w
 
--- whatever it stood for before, it stands for that after turns in this order
+-- whatever threads the old progress stood for, the new one stands for them after turns in this order
 pub record TakesTurns (old : Progress) (order : List ℕ) (new : Progress) : Type 0 where
   pub turns : (ls : List Linking) (fuel : ℕ) (w : Shared Word Flag Byte Line) → Stands ls fuel w old
       → Stands ls fuel (meant_order ls fuel order w) new
 
 -- ** before the first turn
 
--- it stands before the first turn of a job over these images
+-- the progress before the first turn of a job over these images
 pub record IsFirst (ls : List Linking) (job : JobParts) (x : Progress) : Type 0 where
   pub legal : IsHistory ls []
   pub past_is : x.past ≡ start (infos_of ls) (last_of ls)

@@ -1,5 +1,5 @@
--- What clauses say of steps and runs of a thread's call: they are the meaning's, over any history that leaves the
--- instances that the code has.
+-- Steps and runs of a thread's call, as clauses speak of them: they are those of the definition, over any history that
+-- leaves the same live instances.
 use Rattle.std.specs.Prelude.{◌≡◌, ℕ, List}
 use Rattle.guest_machine.specs.Run.{Next, Goes as GoesTo, Ends as EndsWith, Looks as LooksAt, Outcome, Ended as EndedWith, Waits as WaitsAt, run}
 use Rattle.guest_operands.specs.declared.state.State.{State}
@@ -19,7 +19,7 @@ use Rattle.job_check.specs.declared.step.Stepped.{Stepped}
 use Rattle.job_check.specs.declared.step.Stepped.TheVariants.{Goes, Looks, Ends}
 use Rattle.meant_space.specs.Kept.{HasSeen, Kept, held_at}
 
--- of whom the memory is, and what is live, stays
+-- the memory belongs to the same thread of the same job, with the same live instances
 pub record KeepsJob (old new : Kept) : Type 0 where
   pub thread : new.thread ≡ old.thread
   pub images : new.images ≡ old.images
@@ -33,7 +33,7 @@ stepped_as Goes h = GoesTo h
 stepped_as Looks h = LooksAt h
 stepped_as (Ends stop) h = EndsWith stop
 
--- a stop or a look leaves all as it was
+-- a stop or a look changes nothing
 abbrev pub StaysUnless : Stepped → State Word Flag → Kept → State Word Flag → Kept → Type 0
 StaysUnless Goes state k state' k' = Unit {0}
 StaysUnless Looks state k state' k' = (state' ≡ state) × (k' ≡ k)
@@ -53,7 +53,7 @@ abbrev pub ran_as : Ran → Meant → Outcome Meant
 ran_as (Ended stop left) h = EndedWith stop left h
 ran_as (Waits left) h = WaitsAt left h
 
--- a run of at most so many steps
+-- a run of at most `count` steps
 pub record RunsOn (count : ℕ) (state : State Word Flag) (k : Kept) (ran : Ran) (state' : State Word Flag) (k' : Kept)
     : Type 0 where
   pub keeps : KeepsJob k k'
@@ -68,7 +68,7 @@ resumed_as GoesOn h = Calls h
 resumed_as Unloaded h = Says (Answered (Fault IsUnloaded)) h
 resumed_as (EndsSo stop) h = Says (Stopped stop) h
 
--- behind the look
+-- after the look
 pub record Resumes (state : State Word Flag) (k : Kept) (resumed : Resumed) (state' : State Word Flag) (k' : Kept)
     : Type 0 where
   pub keeps : KeepsJob k k'

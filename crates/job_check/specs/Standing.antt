@@ -1,4 +1,4 @@
--- Which threads of the definition a thread of the code stands for, between two turns.
+-- The definition's threads that a thread of the code stands for, between two turns.
 use Rattle.std.specs.Prelude.{◌≡◌, ◌+◌, ℕ, Bool, false, List, [], Option, Some, None, drop, length, nat_le}
 use Rattle.std.specs.Option.{option_or}
 use Rattle.guest_operands.specs.declared.state.State.{State}
@@ -29,7 +29,7 @@ use Rattle.meant_space.specs.Kept.{Kept, held_at}
 use Rattle.meant_space.specs.Spaces.{with_held}
 use Rattle.job_check.specs.Taking.{BeginsTo, ResumesTo}
 
--- what contracts see of a thread: its lines and how many are begun, the most steps of a call, what its memory keeps,
+-- what contracts see of a thread: its lines and how many have begun, the most steps of a call, what its memory keeps,
 -- the call that waits, if one does, and its first unclean step so far
 pub record Run : Type 0 where
   pub lines : List ThreadLine
@@ -39,7 +39,7 @@ pub record Run : Type 0 where
   pub call : Option Waiting
   pub unclean : Option UncleanStep
 
--- nothing is left to do
+-- the thread has nothing left to do
 abbrev pub is_done_with : List ThreadLine → ℕ → Option Waiting → Bool
 is_done_with lines begun None = nat_le (length lines) begun
 is_done_with lines begun (Some c) = false
@@ -47,9 +47,9 @@ is_done_with lines begun (Some c) = false
 abbrev pub is_done : Run → Bool
 is_done r = is_done_with r.lines r.begun r.call
 
--- ** threads that it stands for, while the shared data are in no thread's hands
+-- ** threads that it stands for, while no thread has the shared data
 
--- between two lines its registers do not count
+-- between two lines its registers do not matter
 pub record IsIdle (k : Kept) (h : Meant) : Type 0 where
   pub seen : List Event
   pub state : State Word Flag
@@ -67,7 +67,7 @@ PhaseIs k None (Mid steps points h) = ⊥
 PhaseIs k (Some c) (Idle h) = ⊥
 PhaseIs k (Some c) (Mid steps points h) = IsMid k c steps h
 
--- how many lines are begun where so many are over
+-- how many lines have begun when `over` are over
 abbrev pub begun_of : ℕ → Option Waiting → ℕ
 begun_of over None = over
 begun_of over (Some c) = over + 1
@@ -82,23 +82,23 @@ pub record StandsFor (r : Run) (t : Thread Meant Line Event) : Type 0 where
 
 -- ** a turn
 
--- a thread after a turn with the shared data in its hands: this stands for it, the data are these, and the events leave
--- this history
+-- a thread after a turn, which has the shared data: the code's thread stands for it, the data are these, and the events
+-- leave this state
 pub record StandsAfter (r : Run) (p : Past) (d : List (Owned Byte)) (now : List Event)
     (t : Thread Meant Line Event) : Type 0 where
   pub stands : StandsFor r (without_data t)
   pub shared : data_in (owned_by (held_in t.phase)) ≡ d
   pub leaves : left_by (loads_of r.kept.images) now ≡ p
 
--- what is the same of a thread after a turn
+-- what a turn does not change
 pub record IsSameThread (old new : Run) : Type 0 where
   pub thread : new.kept.thread ≡ old.kept.thread
   pub images : new.kept.images ≡ old.kept.images
   pub lines : new.lines ≡ old.lines
   pub fuel : new.fuel ≡ old.fuel
 
--- of each thread that the old one stands for, the turn at a history that leaves this, with the data in its hands, is
--- one that the new one stands for
+-- for each thread that the old one stands for: after a turn with the data, at a history that leaves this state, the new
+-- one stands for it
 pub record TakesTurn (old : Run) (p : Past) (d : List (Owned Byte)) (new : Run) (p' : Past)
     (d' : List (Owned Byte)) : Type 0 where
   pub same : IsSameThread old new
@@ -109,9 +109,9 @@ pub record TakesTurn (old : Run) (p : Past) (d : List (Owned Byte)) (new : Run) 
       StandsAfter new p' d' (with_event seen (event_of (event_by m.loads thread) t seen))
       (turn (meant_turns m thread old.fuel) (with_data d t) seen)
 
--- ** once a turn is over
+-- ** after a turn
 
--- what is kept while the shared data are out of the thread's hands
+-- what is kept while another thread has the shared data
 abbrev pub emptied : Kept → Kept
 emptied k = record k { own = blocks_in k.own }
 
@@ -133,7 +133,7 @@ run_after lines fuel begun unclean (Waits call) k = record {
   unclean = unclean;
 }
 
--- it began its next line, and its turn came to this
+-- it began its next line, and its turn ended so
 pub record BeginsLine (lines : List ThreadLine) (fuel begun : ℕ) (unclean : Option UncleanStep) (line : ThreadLine)
     (p : Past) (k : Kept) (r : Run) (p' : Past) (d : List (Owned Byte)) : Type 0 where
   pub taken : Taken
@@ -142,7 +142,7 @@ pub record BeginsLine (lines : List ThreadLine) (fuel begun : ℕ) (unclean : Op
   pub shared : d ≡ data_in new.own
   pub is : r ≡ run_after lines fuel (begun + 1) unclean taken (emptied new)
 
--- it went on with a call, and its turn came to this
+-- it continued a call, and its turn ended so
 pub record ResumesLine (lines : List ThreadLine) (fuel begun : ℕ) (unclean : Option UncleanStep) (c : Waiting)
     (k : Kept) (r : Run) (d : List (Owned Byte)) : Type 0 where
   pub taken : Taken

@@ -1,5 +1,5 @@
--- What clauses say of the parts of a step: each is a part of the meaning's step, over any history that leaves the
--- instances that the code has.
+-- The parts of a step, as clauses speak of them: each is a part of the definition's step, over any history that leaves
+-- the same live instances.
 use Rattle.std.specs.Prelude.{◌≡◌, Bool, true, ℕ, List, Option, Some, Result, Ok, Err, if◌then◌else◌}
 use Rattle.std.specs.List.{list_any}
 use Rattle.amd64_subset.specs.declared.instr.Decoded.{Decoded}
@@ -28,7 +28,7 @@ use Rattle.job_check.specs.declared.running.Resumed.TheVariants.{Goes as GoesOn,
 use Rattle.meant_space.specs.Kept.{HasSeen, Kept, held_at, mark_in, memory_of, shape_of, shut_in}
 use Rattle.job_check.specs.Running.{KeepsJob, StaysUnless, resumed_as}
 
--- the memory of the meaning's thread that saw these events
+-- the memory of the definition's thread that has seen these events
 abbrev pub space_of : List Event → Kept → Memory
 space_of seen k = record { seen = seen; stack = k.stack; own = ranges_in k.own }
 
@@ -38,12 +38,12 @@ abbrev pub made : {A : Type 0} → Result (Unit {0}) Stop → A → Result A Sto
 made (Ok done) after = Ok after
 made (Err stop) after = Err stop
 
--- a stop leaves all as it was
+-- a stop changes nothing
 abbrev pub StaysIf : Result (Unit {0}) Stop → State Word Flag → Kept → State Word Flag → Kept → Type 0
 StaysIf (Ok done) state k state' k' = Unit {0}
 StaysIf (Err stop) state k state' k' = (state' ≡ state) × (k' ≡ k)
 
--- what is meant to be done is done, or stops
+-- the code does what the definition does, or stops as it does
 pub record Makes (result : Result (Unit {0}) Stop) (state : State Word Flag) (k : Kept) (state' : State Word Flag)
     (k' : Kept) (meant : List Event → Result (After Word Flag Memory) Stop) : Type 0 where
   pub shape : shape_of k' ≡ shape_of k
@@ -55,21 +55,21 @@ next_as Goes at = GoesTo at
 next_as Looks at = LooksAt at
 next_as (Ends stop) at = EndsWith stop
 
--- the same of a step
+-- likewise for a step
 pub record StepsAs (stepped : Stepped) (state : State Word Flag) (k : Kept) (state' : State Word Flag) (k' : Kept)
     (meant : List Event → Next (After Word Flag Memory)) : Type 0 where
   pub shape : shape_of k' ≡ shape_of k
   pub stays : StaysUnless stepped state k state' k'
   pub steps : (seen : List Event) → HasSeen k seen → meant seen ≡ next_as stepped (left state' (space_of seen k'))
 
--- what a part of a step comes to, as a step
+-- how a step ends, if this part of it is all that it does
 abbrev pub stepped_of : Result (Unit {0}) Stop → Stepped
 stepped_of (Ok done) = Goes
 stepped_of (Err stop) = Ends stop
 
 -- ** a sequence
 
--- what a sequence is meant to do, a look aside
+-- what a sequence does by the definition, without a look
 abbrev pub sequence_made : Sequence → State Word Flag → Kept → List Event → Result (After Word Flag Memory) Stop
 sequence_made s state k seen = sequence_does (meaning_of k.images) k.thread s (left state (space_of seen k))
 
@@ -79,46 +79,46 @@ sequence_made s state k seen = sequence_does (meaning_of k.images) k.thread s (l
 unfoldable pub code_in : Kept → ℕ → List ℕ
 code_in k place = fetch_of (range_accesses ops) (memory_of k) place
 
--- an instruction begins at what is the linker's own, or touches a byte of it
+-- an instruction begins at the linker's own bytes, or touches one
 unfoldable pub linker_in : State Word Flag → Kept → Option Decoded → Bool
 linker_in state k it = if shut_in k state.place then true else
     list_any (shut_in k) (touched (range_accesses ops) (memory_of k) (own_touches ops (mark_in k) state it))
 
--- what an instruction is meant to do that was read
+-- what an instruction that was read does by the definition
 abbrev pub acted_in : Decoded → State Word Flag → Kept → List Event → Result (After Word Flag Memory) Stop
 acted_in it state k seen = acted ops (meant_accesses (meaning_of k.images) k.thread) (mark_in k)
     (marked_frame (mark_in k) state.place it) it state (space_of seen k)
 
--- the same, or why it is not done
+-- likewise, or why it is not done
 abbrev pub done_in : Option Cause → Option Decoded → State Word Flag → Kept → List Event
     → Result (After Word Flag Memory) Stop
 done_in why it state k seen =
     done ops (meant_accesses (meaning_of k.images) k.thread) (mark_in k) why it state (space_of seen k)
 
--- what a step is meant to be where no sequence begins
+-- the definition's step where no sequence begins
 abbrev pub plain_next : State Word Flag → Kept → List Event → Next (After Word Flag Memory)
 plain_next state k seen = let m = meaning_of k.images in let memory = space_of seen k in
     next_of (marked_step ops (meant_accesses m k.thread) (meant_mark m k.thread memory) (meant_shut m k.thread memory)
     state memory)
 
--- ** what no step is left for, and what follows a look
+-- ** the step after the last one, and what follows a look
 
--- the stop of a step that may not be made any more
+-- the stop of the step after the last one
 abbrev pub Asks : Stop → State Word Flag → Kept → Type 0
 Asks stop state k = (seen : List Event) → HasSeen k seen
     → (meant_steps (meaning_of k.images) k.thread).spent (held_at seen state k) ≡ stop
 
--- what a part of a step comes to, behind a look
+-- how a call goes on after its sequence was done, or stopped
 abbrev pub resumed_of : Result (Unit {0}) Stop → Resumed
 resumed_of (Ok done) = GoesOn
 resumed_of (Err stop) = EndsSo stop
 
--- what a look in the middle of a call is meant to come to
+-- a call goes on after a look as the definition says
 pub record ResumesAs (state : State Word Flag) (k : Kept) (resumed : Resumed) (state' : State Word Flag) (k' : Kept)
     (meant : List Event → Begun Meant) : Type 0 where
   pub keeps : KeepsJob k k'
   pub resumes : (seen : List Event) → HasSeen k seen → meant seen ≡ resumed_as resumed (held_at seen state' k')
 
--- what a sequence is meant to do behind its look
+-- what a sequence does after its look by the definition
 abbrev pub sequence_resumed : Sequence → State Word Flag → Kept → List Event → Begun Meant
 sequence_resumed s state k seen = resumed_at (meaning_of k.images) k.thread (held_at seen state k) (Some s)

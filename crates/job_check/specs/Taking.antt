@@ -1,4 +1,4 @@
--- What a turn comes to behind its look: a line that is over, or a call that waits for its next look.
+-- How a turn ends: a line is over, or a call waits for its next look.
 use Rattle.std.specs.Prelude.{◌≡◌, ◌∷◌, ◌-◌, ℕ, [], List, Option, length}
 use Rattle.guest_machine.specs.Run.{run}
 use Rattle.guest_operands.specs.declared.state.State.{State}
@@ -19,7 +19,7 @@ use Rattle.meant_space.specs.Kept.{HasSeen, Kept, held_at}
 use Rattle.job_check.specs.Lines.{HasLeft, KeepsThread}
 use Rattle.job_check.specs.Running.{KeepsJob}
 
--- a thread whose line of this number is over, and that keeps this where it saw these events
+-- a thread whose line of this number is over, and that has this memory and has seen these events
 pub record IsOver (line : ℕ) (k : Kept) (unclean : Option UncleanStep) (points : List ℕ) (now : List Event)
     (todo : List Line) (said : List Said) (seen : List Event) (t : Thread Meant Line Event) : Type 0 where
   pub ending : Ending
@@ -39,7 +39,7 @@ TookAs line k (Waits call) points now todo said seen t = t ≡ record {
 
 -- ** what the parts of a turn do
 
--- a call runs, for at most so many steps, up to its end or its next look
+-- a call runs for at most `count` steps, up to its end or its next look
 pub record RunsTo (line count : ℕ) (state : State Word Flag) (k : Kept) (taken : Taken) (new : Kept) : Type 0 where
   pub keeps : KeepsJob k new
   pub runs : (now seen : List Event) (points : List ℕ) (todo : List Line) (said : List Said) → HasSeen k now
@@ -47,7 +47,7 @@ pub record RunsTo (line count : ℕ) (state : State Word Flag) (k : Kept) (taken
       (after_run todo said seen points
       (run (meant_steps (meaning_of k.images) k.thread) count (held_at now state k)))
 
--- a line begins, which looked already
+-- a line begins, after its look
 pub record BeginsTo (fuel : ℕ) (line : Line) (p : Past) (k : Kept) (taken : Taken) (p' : Past)
     (new : Kept) : Type 0 where
   pub keeps : KeepsThread k new
@@ -61,7 +61,7 @@ pub record BeginsTo (fuel : ℕ) (line : Line) (p : Past) (k : Kept) (taken : Ta
       (begun_by ops m.loads (meant_show m k.thread line seen) k.thread line seen (held_at seen state k)
       line.told.action))
 
--- a call that waited goes on, which looked already
+-- a call that waited goes on, after its look
 pub record ResumesTo (fuel line : ℕ) (c : Waiting) (k : Kept) (taken : Taken) (new : Kept) : Type 0 where
   pub keeps : KeepsJob k new
   pub resumes : (seen : List Event) (points : List ℕ) (todo : List Line) (said : List Said) → HasSeen k seen

@@ -1,4 +1,4 @@
--- How contracts see a thread of the code, and what the code keeps of it besides.
+-- How contracts see a thread of the code, and what else the code keeps true of it.
 use Rattle.std.specs.Prelude.{◌≡◌, ◌≤◌, ◌<◌, ◌^◌, length, None}
 use Rattle.job_check.specs.declared.thread.MeantThread.TheInside.{Inside}
 use Rattle.job_check.specs.Standing.{Run}

@@ -1,4 +1,4 @@
-//! Whether a job is clean.
+//! Runs a job with marked bytes and finds its first unclean step.
 
 ghost use Rattle.std.specs.Prelude.{◌≡◌, IfOk};
 ghost use Rattle.whole_meaning.specs.Jobs.{lines_of, meant_world, verdict_of};
@@ -10,8 +10,8 @@ use meant_images::MeantImages;
 use std::alloc::{AllocError, Global};
 use whole_meaning::UncleanStep;
 
-/// Whether a job over these images is clean: the first unclean step of the lowest thread that makes one, or `None`
-/// where no step of any thread is unclean. The only error is want of memory.
+/// The first unclean step of the lowest thread that makes one, for a job over these images; `None` if the job is clean.
+/// Fails only when memory runs out.
 pub fn check_job(
     alloc: Global,
     job: &Job,

@@ -1,4 +1,4 @@
-//! What the first look of a thread's line comes to.
+//! The first look of a thread's line.
 
 ghost use Rattle.std.specs.Prelude.{◌≡◌, ◌≤◌, ◌<◌, ◌+◌, ◌^◌, ℕ, IfOk, OnOk, is_some, length, map};
 ghost use Rattle.job_meaning.specs.Marked.{values_of};
@@ -23,21 +23,21 @@ use module_table::{Event, ModuleTable};
 use std::alloc::{AllocError, Global};
 use whole_meaning::UncleanStep;
 
-/// What the first look of a line comes to.
+/// What a line does at its first look.
 #[derive(Clone, Copy, Debug)]
 pub(crate) enum Started {
-    /// The line is over; it shows bytes that are no numbers, or nothing is unclean.
+    /// The line is over, with its unclean step if it shows bytes that are not numbers.
     Says(Option<UncleanStep>),
     /// A call begins, with these registers.
     Calls(State<Word, Flag>),
 }
 
-/// A line that is over, and of which nothing is unclean.
+/// A line that is over and clean.
 const CLEAN: Started = Started::Says(None);
 
 // ** calls
 
-/// The registers before a call of the function at a place.
+/// The registers before a call of the function at `place`.
 fn registers_at(thread: u32, place: u64, a: u64, b: u64, c: u64) -> State<Word, Flag>
     requires { thread ≤ 64 }
     ensures { result ≡ call_start ops thread place a b c }
@@ -55,8 +55,8 @@ fn registers_at(thread: u32, place: u64, a: u64, b: u64, c: u64) -> State<Word, 
     state
 }
 
-/// Begins a call of the function of a name, in the live instance of the line's image. It finds a fresh stack, and the
-/// blocks as the line before left them.
+/// Begins a call of a function by its name, in the live instance of the line's image. The call finds a fresh stack, and
+/// the blocks as the last line left them.
 fn call(
     space: &mut MeantSpace,
     table: &ModuleTable,
@@ -83,7 +83,7 @@ fn call(
 
 // ** opens and closes
 
-/// A thread sees the history as it is now.
+/// Makes the thread see the history as it is now.
 fn see(alloc: Global, space: &mut MeantSpace, table: &ModuleTable) -> Result<(), AllocError>
     requires { IsLeftBy space.old.images table.now }
     ensures { OnOk result (Sees space.old table.now space.new) }
@@ -92,7 +92,7 @@ fn see(alloc: Global, space: &mut MeantSpace, table: &ModuleTable) -> Result<(),
     space.hold(live, Vec::new(alloc), Wanted::Fixed)
 }
 
-/// Fills the data of an image that was not loaded before.
+/// Fills the data of an image, unless it was loaded before.
 fn load_new(
     space: &mut MeantSpace,
     table: &ModuleTable,
@@ -110,7 +110,7 @@ fn load_new(
     Ok(())
 }
 
-/// An open of the line's image. One that is accepted is in the history then, and a load fills the data of the instance.
+/// Opens the line's image. An accepted open enters the history, and a load fills the data of the instance.
 fn open(
     alloc: Global,
     space: &mut MeantSpace,
@@ -140,7 +140,7 @@ fn open(
     Ok(CLEAN)
 }
 
-/// A close of the line's image. One that is accepted is in the history then.
+/// Closes the line's image. An accepted close enters the history.
 fn close(
     alloc: Global,
     space: &mut MeantSpace,
@@ -170,7 +170,7 @@ fn close(
 
 // ** peeks
 
-/// Why a byte is no number.
+/// Why a byte is not a number.
 fn byte_cause(byte: Byte) -> Option<Cause>
     ensures { result ≡ byte_cause byte }
 {
@@ -182,7 +182,7 @@ fn byte_cause(byte: Byte) -> Option<Cause>
     }
 }
 
-/// Whether this is why a byte is no number.
+/// Whether this cause is why a byte is not a number.
 fn is_for(cause: Cause, byte: Byte) -> bool
     ensures { result ≡ is_for cause (byte_cause byte) }
 {
@@ -192,7 +192,7 @@ fn is_for(cause: Cause, byte: Byte) -> bool
     }
 }
 
-/// The lowest byte that is no number for this cause.
+/// The stop at the lowest byte that is not a number for this cause.
 fn unclean_for(address: u64, bytes: &[Byte], cause: Cause) -> Option<Stop>
     requires { address + length bytes.now < 2 ^ 64 }
     ensures { result ≡ unclean_for address bytes.now cause }
@@ -205,7 +205,7 @@ fn unclean_for(address: u64, bytes: &[Byte], cause: Cause) -> Option<Stop>
     None
 }
 
-/// Of the causes the first, whichever byte comes first.
+/// The stop for the first cause that some byte has, wherever the byte is.
 fn unclean_bytes(address: u64, bytes: &[Byte]) -> Stop
     requires { address + length bytes.now < 2 ^ 64 }
     ensures { result ≡ unclean_bytes address bytes.now }
@@ -232,7 +232,7 @@ fn are_numbers(bytes: &[Byte]) -> bool
     true
 }
 
-/// The unclean step of a line that shows bytes from an address on, if they are no numbers.
+/// The unclean step of a line that shows bytes from an address on, if some of them are not numbers.
 fn shown_step(thread: u32, line: u32, address: u64, bytes: &[Byte]) -> Option<UncleanStep>
     requires { address + length bytes.now < 2 ^ 64 }
     ensures { result ≡ shown_step thread line address bytes.now (values_of bytes.now) }
@@ -243,7 +243,8 @@ fn shown_step(thread: u32, line: u32, address: u64, bytes: &[Byte]) -> Option<Un
     unclean_stop(thread, line, unclean_bytes(address, bytes))
 }
 
-/// The unclean step of a line that shows bytes of the thread's block of an instance, from an offset on, if it has one.
+/// The unclean step of a line that shows `size` bytes of the thread's block of an instance, from `offset`, if it has
+/// one.
 fn step_in(
     space: &MeantSpace,
     instance: &Instance,
@@ -262,8 +263,8 @@ fn step_in(
     Ok(shown_step(thread, line, address, &bytes))
 }
 
-/// Shows bytes of a variable, from the block of the live instance of the line's image. The block is reached, also where
-/// the line is then refused.
+/// Shows bytes of a variable, from the thread's block of the live instance of the line's image. The block is made even
+/// if the line is then refused.
 fn peek(
     space: &mut MeantSpace,
     table: &ModuleTable,
@@ -288,8 +289,8 @@ fn peek(
 
 // ** lines
 
-/// The first look of a line, of this number from 1, of a thread that has seen all events. An open or a close that is
-/// accepted is in the history then. The only error is want of memory, and then nothing is said of the thread.
+/// Takes the first look of a line, which has this number from 1, for a thread that has seen all events. An accepted
+/// open or close enters the history. Fails only when memory runs out; no clause says what is then left of the thread.
 pub(crate) fn begin(
     alloc: Global,
     space: &mut MeantSpace,

@@ -1,4 +1,4 @@
-//! The instances that a history leaves, and their blocks.
+//! The instances that a history leaves, and where their blocks are.
 
 ghost use Rattle.std.specs.Prelude.{◌≡◌, ◌≤◌, ◌<◌, ◌^◌, IfOk};
 ghost use Rattle.thread_blocks.specs.Instances.{block_start, instances_in, loaded_instance};
@@ -10,7 +10,7 @@ use meant_images::MeantImages;
 use module_table::ModuleTable;
 use std::alloc::{AllocError, Global};
 
-/// One more than the most images that a job has.
+/// One more than the most images of a job.
 const NUMBERS: u32 = 65;
 
 /// The live instance of an image.
@@ -56,7 +56,7 @@ pub(crate) fn live_instances(
     Ok(live)
 }
 
-/// Where a thread's block of an instance begins.
+/// The address of a thread's block of an instance.
 pub(crate) fn block_start(thread: u32, instance: &Instance) -> u64
     requires { thread ≤ 64 }
     ensures value { result ≡ block_start thread instance.now }

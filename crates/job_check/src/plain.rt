@@ -25,7 +25,7 @@ use meant_space::MeantSpace;
 use meant_steps::{address_at, hindrance, marked_frame, own_touches};
 use std::alloc::AllocError;
 
-/// Whether one of so many bytes from a place on is the linker's own.
+/// Whether one of `size` bytes from `place` on is the linker's own.
 fn is_any_shut(space: &MeantSpace, place: u64, size: u8) -> bool
     ensures { result ≡ list_any (shut_in space.now) (places_from place size) }
 {
@@ -35,7 +35,7 @@ fn is_any_shut(space: &MeantSpace, place: u64, size: u8) -> bool
     space.is_shut(place) || is_any_shut(space, place.wrapping_add(1), size - 1)
 }
 
-/// Whether each of so many bytes from a place on may be written.
+/// Whether each of `size` bytes from `place` on may be written.
 fn may_write_all(space: &MeantSpace, place: u64, size: u8) -> bool
     ensures { result ≡ not (refuses (range_accesses ops) (memory_of space.now) Store place size) }
 {
@@ -45,7 +45,7 @@ fn may_write_all(space: &MeantSpace, place: u64, size: u8) -> bool
     space.may_write(place) && may_write_all(space, place.wrapping_add(1), size - 1)
 }
 
-/// Whether an access does not take place.
+/// Whether an access is refused.
 fn is_refused(space: &MeantSpace, touch: &Touch) -> bool
     ensures { result ≡ refuses (range_accesses ops) (memory_of space.now) touch.now.direction touch.now.address
         (bytes_in touch.now.size) }
@@ -95,7 +95,7 @@ fn reaches_linker(space: &MeantSpace, state: &State<Word, Flag>, it: &Option<Dec
     space.is_shut(state.place) || touches_linker(space, &own_touches(space, state, it))
 }
 
-/// What stands around an instruction whose operand is a word that is lent at address 0.
+/// The frame of an instruction whose operand is a word that is lent at address 0.
 fn lent_frame(number: Option<u64>, frame: Frame) -> Frame
     ensures { result ≡ lent_frame number frame }
 {
@@ -111,7 +111,7 @@ fn lent_frame(number: Option<u64>, frame: Frame) -> Frame
     }
 }
 
-/// Does an instruction that was read where the thread is.
+/// Does the instruction that was read at the thread's place.
 fn do_instruction(
     it: &Decoded,
     state: &mut State<Word, Flag>,
@@ -128,7 +128,7 @@ fn do_instruction(
     result
 }
 
-/// Does an instruction, if one was read and nothing hinders.
+/// Does the instruction, unless none was read or something prevents it.
 fn do_read(
     hindrance: Option<Cause>,
     it: &Option<Decoded>,
@@ -145,7 +145,7 @@ fn do_read(
     }
 }
 
-/// The cause of a step that reaches for what is the linker's own: its own where that comes first.
+/// The cause of a step that reaches the linker's own bytes: the cause that it has otherwise, if that comes first.
 fn beside_linker(step: &Result<(), Stop>) -> Cause
     ensures { result ≡ linker_with step.now }
 {
@@ -155,8 +155,7 @@ fn beside_linker(step: &Result<(), Stop>) -> Cause
     }
 }
 
-/// The stop of a step that reaches for what is the linker's own. What the step would come to is asked without its
-/// effect.
+/// The stop of a step that reaches the linker's own bytes. The step is tried in a copy of the memory.
 fn stop_at_linker(
     hindrance: Option<Cause>,
     it: &Option<Decoded>,

@@ -17,27 +17,27 @@ use meant_space::MeantSpace;
 use std::alloc::AllocError;
 use whole_meaning::Sequence;
 
-/// What a run comes to.
+/// How a run ends.
 #[derive(Clone, Copy, Debug)]
 pub(crate) enum Ran {
-    /// It stopped, with so many steps left.
+    /// It stopped, with this number of steps left.
     Ended(Stop, u64),
-    /// A sequence looks, with so many steps left: its own is among them.
+    /// A sequence looks, with this number of steps left; its own step is one of them.
     Waits(u64),
 }
 
-/// What a look in the middle of a call comes to.
+/// How a call goes on after a look.
 #[derive(Clone, Copy, Debug)]
 pub(crate) enum Resumed {
     /// The sequence is done, and the call goes on.
     Goes,
-    /// The instance is gone whose code asks.
+    /// The instance that contains the code is gone.
     Unloaded,
-    /// The sequence is not done.
+    /// The sequence stops.
     Ends(Stop),
 }
 
-/// What a call returned, from %rax.
+/// The stop of a call that returned, from %rax.
 fn returned(answer: Result<u64, Cause>, place: u64) -> Stop
     ensures { result ≡ returned answer place }
 {
@@ -47,7 +47,7 @@ fn returned(answer: Result<u64, Cause>, place: u64) -> Stop
     }
 }
 
-/// The stop of a step that may not be made any more: its own cause, or that steps are wanting.
+/// The stop of the step after the last one: the step's own cause, or that no steps are left.
 fn asked_stop(place: u64, stepped: Stepped) -> Stop
     ensures { (h : Meant) → asked place (stepped_as stepped h) ≡ result }
 {
@@ -57,7 +57,7 @@ fn asked_stop(place: u64, stepped: Stepped) -> Stop
     }
 }
 
-/// The same step, asked without its effect.
+/// The stop of the next step. The step is tried in a copy of the memory.
 fn asked(state: &State<Word, Flag>, space: &MeantSpace) -> Result<Stop, AllocError>
     requires { space.now.lent ≡ None }
     ensures { IfOk result (λ stop. Asks stop state.now space.now) }
@@ -69,8 +69,8 @@ fn asked(state: &State<Word, Flag>, space: &MeantSpace) -> Result<Stop, AllocErr
     Ok(asked_stop(place, stepped))
 }
 
-/// Steps up to a stop or a look, at most so many. The step that would be one too many is asked for its cause, and not
-/// made. The only error is want of memory, and then nothing is said of the thread.
+/// Steps up to a stop or a look, at most `count` times. The step after the last one is tried for its cause, and has no
+/// effect. Fails only when memory runs out; no clause says what is then left of the thread.
 pub(crate) fn run(
     state: &mut State<Word, Flag>,
     space: &mut MeantSpace,
@@ -96,7 +96,7 @@ pub(crate) fn run(
     }
 }
 
-/// What a sequence comes to behind its look.
+/// How a call goes on after its sequence was done, or stopped.
 fn as_resumed(done: Result<(), Stop>) -> Resumed
     ensures { result ≡ resumed_of done }
 {
@@ -106,7 +106,7 @@ fn as_resumed(done: Result<(), Stop>) -> Resumed
     }
 }
 
-/// Does a sequence behind its look: the thread reaches its block of the variable's instance.
+/// Does a sequence after its look: makes the thread's block of the variable's instance, if there is none.
 fn resume_at(
     sequence: &Sequence,
     state: &mut State<Word, Flag>,
@@ -124,8 +124,8 @@ fn resume_at(
     }
 }
 
-/// Does the sequence at which a call waits, behind its look: the thread reaches its block of the variable's instance.
-/// The only error is want of memory, and then nothing is said of the thread.
+/// Does the sequence at which a call waits, after its look. Fails only when memory runs out; no clause says what is
+/// then left of the thread.
 pub(crate) fn resume(
     state: &mut State<Word, Flag>,
     space: &mut MeantSpace,

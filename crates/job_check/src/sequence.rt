@@ -29,7 +29,7 @@ fn came_late(images: &MeantImages, number: u64) -> bool
     (count as u64) < number
 }
 
-/// Where a thread's block of an instance begins.
+/// The address of a thread's block of an instance.
 fn start_in(thread: u32, instance: Option<Instance>) -> u64
     requires { thread ≤ 64 }
     ensures { (m : Meaning) → result ≡ start_in m thread instance }
@@ -40,7 +40,7 @@ fn start_in(thread: u32, instance: Option<Instance>) -> u64
     }
 }
 
-/// Does what a sequence does, a look aside.
+/// Does a sequence, without a look.
 pub(crate) fn do_sequence(
     sequence: &Sequence,
     state: &mut State<Word, Flag>,
@@ -53,7 +53,7 @@ pub(crate) fn do_sequence(
     does(sequence, u64::from(thread), start, state, space)
 }
 
-/// A look before a sequence: it is made only where the sequence can be done behind it.
+/// The look before a sequence. The thread looks only if the sequence can be done after it; else this is the stop.
 fn look(sequence: &Sequence, state: &State<Word, Flag>, space: &MeantSpace) -> Stepped
     ensures { (seen : List Event) → looks_first true (left state.now (space_of seen space.now))
         (sequence_made sequence.now state.now space.now seen)

@@ -11,18 +11,18 @@ use job_meaning::{Flag, Word};
 use meant_space::MeantSpace;
 use std::alloc::AllocError;
 
-/// What a step comes to.
+/// How a step ends.
 #[derive(Clone, Copy, Debug)]
 pub(crate) enum Stepped {
-    /// It is made.
+    /// The step is made.
     Goes,
     /// A sequence looks first, and nothing is done yet.
     Looks,
-    /// It is not made.
+    /// The step stops, and has no effect.
     Ends(Stop),
 }
 
-/// What a step comes to that does not look.
+/// How a step ends that does not look.
 pub(crate) fn as_step(done: Result<(), Stop>) -> Stepped
     ensures { result ≡ stepped_of done }
 {
@@ -32,8 +32,8 @@ pub(crate) fn as_step(done: Result<(), Stop>) -> Stepped
     }
 }
 
-/// One step: of the sequence that begins where the thread is, else of the instruction there. Where it is not made,
-/// nothing has changed. The only error is want of memory, and then nothing is said of the thread.
+/// Makes one step: the sequence that begins at the thread's place, or else the instruction there. A stop changes
+/// nothing. Fails only when memory runs out; no clause says what is then left of the thread.
 pub(crate) fn step(
     state: &mut State<Word, Flag>,
     space: &mut MeantSpace,

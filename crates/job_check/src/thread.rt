@@ -26,14 +26,14 @@ use whole_meaning::UncleanStep;
 #[derive(Clone, Copy, Debug)]
 pub(crate) struct Waiting {
     pub(crate) state: State<Word, Flag>,
-    /// The steps that it has left, the look's own among them.
+    /// The steps that it has left. The step that looks is one of them.
     pub(crate) steps: u64,
 }
 
-/// What a turn comes to behind its look.
+/// How a turn ends.
 #[derive(Clone, Copy, Debug)]
 pub(crate) enum Taken {
-    /// The line is over: at an unclean step, or clean.
+    /// The line is over: unclean at this step, or clean.
     Over(Option<UncleanStep>),
     /// The call waits for its next look.
     Waits(Waiting),
@@ -46,7 +46,7 @@ pub(crate) struct MeantThread<'j, 'm> {
     lines: &'j [ThreadLine],
     /// The most steps of a call.
     fuel: u64,
-    /// How many lines are begun.
+    /// The number of lines that have begun.
     begun: usize,
     space: MeantSpace<'m>,
     call: Option<Waiting>,
@@ -66,9 +66,9 @@ impl<'j, 'm> Model for MeantThread<'j, 'm> {
     ghost invariant = { HoldsRun };
 }
 
-// ** behind a look
+// ** after a look
 
-/// Runs a call up to its end or its next look, for at most so many steps.
+/// Runs a call up to its end or its next look, for at most `count` steps.
 fn run_to(
     space: &mut MeantSpace,
     mut state: State<Word, Flag>,
@@ -85,7 +85,7 @@ fn run_to(
     }
 }
 
-/// Begins a line, at whose first look the thread is, and runs its call.
+/// Begins a line, whose first look is taken here, and runs its call.
 fn take_begin(
     alloc: Global,
     space: &mut MeantSpace,
@@ -108,7 +108,7 @@ fn take_begin(
     }
 }
 
-/// Goes on with a call that waited, at its next look.
+/// Continues a call that waited, at its next look.
 fn take_resume(space: &mut MeantSpace, line: u32, call: Waiting) -> Result<Taken, AllocError>
     requires { space.old.lent ≡ None }
     ensures { IfOk result (λ taken. (fuel : ℕ) → ResumesTo fuel line call space.old taken space.new) }
@@ -132,7 +132,7 @@ struct Script<'j> {
     fuel: u64,
 }
 
-/// The thread once a turn is over.
+/// Rebuilds the thread after a turn.
 fn ended<'j, 'm>(
     script: Script<'j>,
     begun: usize,
@@ -161,7 +161,7 @@ fn ended<'j, 'm>(
     }
 }
 
-/// Begins the next line, where the thread has looked and has the data in its hands.
+/// Begins the next line. The thread has looked, and has the data.
 fn begin_line<'j, 'm>(
     script: Script<'j>,
     begun: usize,
@@ -186,7 +186,7 @@ fn begin_line<'j, 'm>(
     Ok(ended(script, begun + 1, space, unclean, taken))
 }
 
-/// Goes on with a call, where the thread has looked and has the data in its hands.
+/// Continues a call. The thread has looked, and has the data.
 fn resume_line<'j, 'm>(
     script: Script<'j>,
     begun: usize,
@@ -207,8 +207,8 @@ fn resume_line<'j, 'm>(
 }
 
 impl<'j, 'm> MeantThread<'j, 'm> {
-    /// A thread of a job, from 1 to 64, before its first line. The only error is want of memory, and a thread of 2^31
-    /// lines and more is said to want it: a job that is read has at most 65,536.
+    /// A thread of a job, numbered from 1 to 64, before its first line. Fails only when memory runs out; 2^31 lines
+    /// count as that, where a job that was read has at most 65,536.
     pub(crate) fn new(
         alloc: Global,
         thread: u32,
@@ -241,7 +241,7 @@ impl<'j, 'm> MeantThread<'j, 'm> {
         })
     }
 
-    /// Whether it has nothing left to do.
+    /// Whether the thread has nothing left to do.
     pub(crate) fn is_done(&self) -> bool
         ensures { result ≡ is_done self.now }
     {
@@ -251,16 +251,16 @@ impl<'j, 'm> MeantThread<'j, 'm> {
         }
     }
 
-    /// Its first unclean step so far.
+    /// The thread's first unclean step so far.
     pub(crate) fn unclean(&self) -> Option<UncleanStep>
         ensures { result ≡ self.now.unclean }
     {
         self.unclean
     }
 
-    /// Takes the thread's next turn: a look at the whole history, and the steps up to its next look, with the data that
-    /// all threads share in its hands. An open or a close that is accepted is in the history then. A refusal, which
-    /// only want of memory is, drops the thread, and nothing is said of the data then.
+    /// Takes the thread's next turn: a look at the whole history, and the steps up to the next look. During the turn
+    /// the thread has the data that all threads share. An accepted open or close enters the history. Fails only when
+    /// memory runs out: the thread is dropped then, and no clause says what is left of the data.
     pub(crate) fn turn(
         self,
         table: &mut ModuleTable,

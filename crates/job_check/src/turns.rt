@@ -18,11 +18,11 @@ use std::alloc::{AllocError, Global};
 use std::marker::Model;
 use whole_meaning::UncleanStep;
 
-/// So many events no memory holds.
+/// More events than any memory holds.
 const MOST_EVENTS: u64 = 1 << 61;
 
-/// The threads of a job between two turns: what the history leaves, the data of all instances, and each thread.
-/// Contracts see a `Progress`.
+/// The threads of a job between two turns: the state that the history leaves, the data of all instances, and each
+/// thread. Contracts see a `Progress`.
 #[derive(Drop)]
 pub(crate) struct Turns<'j, 'm> {
     table: ModuleTable,
@@ -85,7 +85,7 @@ impl<'j, 'm> Turns<'j, 'm> {
         })
     }
 
-    /// Whether a thread has nothing left to do, or there is none of this number.
+    /// Whether a thread has nothing left to do, or there is no thread with this number.
     fn is_over(&self, thread: u32) -> bool
         ensures { result ≡ is_thread_over self.now.runs thread }
     {
@@ -98,7 +98,7 @@ impl<'j, 'm> Turns<'j, 'm> {
         }
     }
 
-    /// A turn of a thread that has something left to do.
+    /// Takes a turn of a thread that has something left to do.
     fn go(&mut self, thread: u32) -> Result<(), AllocError>
         requires some { StandsForSome self.old }
         requires going { is_thread_over self.old.runs thread ≡ false }
@@ -114,7 +114,7 @@ impl<'j, 'm> Turns<'j, 'm> {
         Ok(())
     }
 
-    /// A turn of a thread.
+    /// Takes a turn of a thread. Does nothing if the thread has nothing left to do.
     fn turn(&mut self, thread: u32) -> Result<(), AllocError>
         requires { StandsForSome self.old }
         ensures { OnOk result (TakesTurns self.old (thread ∷ []) self.new) }
@@ -125,7 +125,7 @@ impl<'j, 'm> Turns<'j, 'm> {
         self.go(thread)
     }
 
-    /// Turns of threads, in this order.
+    /// Takes turns of threads, in this order.
     pub(crate) fn take_order(&mut self, order: &[u32]) -> Result<(), AllocError>
         requires { StandsForSome self.old }
         ensures { OnOk result (TakesTurns self.old order.now self.new) }
@@ -136,7 +136,7 @@ impl<'j, 'm> Turns<'j, 'm> {
         Ok(())
     }
 
-    /// So many turns of a thread; those past its end, which change nothing, are left out.
+    /// Takes `count` turns of a thread, or fewer if it ends before: further turns would change nothing.
     fn take_turns(&mut self, thread: u32, count: u64) -> Result<(), AllocError>
         requires { StandsForSome self.old }
         ensures { OnOk result (TakesTurns self.old (replicate count thread) self.new) }
@@ -150,7 +150,8 @@ impl<'j, 'm> Turns<'j, 'm> {
         Ok(())
     }
 
-    /// A thread's turns to its end: enough for so many lines. The definition takes `4 * fuel + 2` turns for each line.
+    /// Takes turns of a thread up to its end, if it has at most `lines` lines. The definition takes `4 * fuel + 2`
+    /// turns for each line.
     fn finish_thread(&mut self, thread: u32, fuel: u64, lines: usize) -> Result<(), AllocError>
         requires some { StandsForSome self.old }
         requires fuel { fuel < 2 ^ 32 }
@@ -162,7 +163,7 @@ impl<'j, 'm> Turns<'j, 'm> {
         Ok(())
     }
 
-    /// The turns that bring each thread to its end, in rising number.
+    /// Takes the turns that bring each thread to its end, thread 1 first.
     pub(crate) fn finish(&mut self, job: &Job) -> Result<(), AllocError>
         requires { StandsForSome self.old }
         ensures { OnOk result (TakesTurns self.old (finishing (4 * job.now.fuel) 1 job.now.lines) self.new) }

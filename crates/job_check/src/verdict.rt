@@ -1,4 +1,4 @@
-//! What is unclean, and how it is told.
+//! Unclean steps, and the line that is printed of one.
 
 ghost use Rattle.std.specs.Prelude.{◌≡◌, Some, IfOk};
 ghost use Rattle.std.specs.String.{string_bytes};
@@ -9,7 +9,7 @@ use guest_operands::Stop;
 use std::alloc::{AllocError, Global};
 use whole_meaning::UncleanStep;
 
-/// The unclean step that a thread's line stopped at, if it is one.
+/// The unclean step of a thread's line that stopped, if the stop is one.
 pub(crate) fn unclean_stop(thread: u32, line: u32, stop: Stop) -> Option<UncleanStep>
     ensures { result ≡ unclean_stop thread line stop }
 {

@@ -42,11 +42,14 @@ and_one : (images : List Image) (image : Image) → AreAllModules images → is_
 and_one [] image all is = (is, tt)
 and_one (x ∷ xs) image all is = (all.0, and_one xs image all.1 is)
 
-with_one : (kind : ImageKind) (image : Image) (d : Declared) → image.kind ≡ kind → AreGroups d → AreGroups (with_image image kind d)
+with_one : (kind : ImageKind) (image : Image) (d : Declared) → image.kind ≡ kind → AreGroups d
+    → AreGroups (with_image image kind d)
 with_one Exe image d is are = record { program = ap is_module is; starts = are.starts; lates = are.lates }
 with_one Pie image d is are = record { program = ap is_module is; starts = are.starts; lates = are.lates }
-with_one Start image d is are = record { program = are.program; starts = and_one d.starts image are.starts (ap is_module is); lates = are.lates }
-with_one Late image d is are = record { program = are.program; starts = are.starts; lates = and_one d.lates image are.lates (ap is_module is) }
+with_one Start image d is are =
+    record { program = are.program; starts = and_one d.starts image are.starts (ap is_module is); lates = are.lates }
+with_one Late image d is are =
+    record { program = are.program; starts = are.starts; lates = and_one d.lates image are.lates (ap is_module is) }
 
 with_more : (h : Heading) (words : List (List ℕ)) (d : Declared) → AreGroups d → AreGroups (with_words h words d)
 with_more (heading.Image kind) words d are = with_one kind _ d refl are
@@ -56,11 +59,13 @@ with_more heading.Order words d are = record { program = are.program; starts = a
 with_more (heading.Thread verb) words d are = record { program = are.program; starts = are.starts; lates = are.lates }
 with_more heading.Short words d are = are
 
-with_headed : (h : Option Heading) (words : List (List ℕ)) (d : Declared) → AreGroups d → AreGroups (with_heading h words d)
+with_headed : (h : Option Heading) (words : List (List ℕ)) (d : Declared) → AreGroups d
+    → AreGroups (with_heading h words d)
 with_headed None words d are = are
 with_headed (Some h) words d are = with_more h words d are
 
-with_line_of : (skipped : Bool) (line : List ℕ) (d : Declared) → is_skipped line ≡ skipped → AreGroups d → AreGroups (with_text line d)
+with_line_of : (skipped : Bool) (line : List ℕ) (d : Declared) → is_skipped line ≡ skipped → AreGroups d
+    → AreGroups (with_text line d)
 unfolding with_text
 with_line_of true line d is are = rw is are
 with_line_of false line d is are = rw is (with_headed (heading_of (words_of line)) (words_of line) d are)
@@ -75,9 +80,11 @@ all_kinds : (images : List Image) → AreAllModules images
     → All (λ (other : ImageKind). is_module other ≡ true) (map (λ (image : Image). image.kind) images)
 all_kinds [] all = All-nil (λ (other : ImageKind). is_module other ≡ true)
 all_kinds (x ∷ xs) all =
-    All-cons (λ (other : ImageKind). is_module other ≡ true) x.kind (map (λ (image : Image). image.kind) xs) all.0 (all_kinds xs all.1)
+    All-cons (λ (other : ImageKind). is_module other ≡ true) x.kind (map (λ (image : Image). image.kind) xs)
+    all.0 (all_kinds xs all.1)
 
-declared_first : (p : Option Image) (d : Declared) (job : JobParts) → IsProgram p → AreGroups d → job_of_program p d ≡ Ok job
+declared_first : (p : Option Image) (d : Declared) (job : JobParts) → IsProgram p → AreGroups d
+    → job_of_program p d ≡ Ok job
     → ProgramFirst (map (λ image. image.kind) job.images)
 declared_first None d job is are e = absurd (cc e)
 declared_first (Some program) d job is are e =
@@ -87,18 +94,23 @@ declared_first (Some program) d job is are e =
     same : (x y : JobParts) → ◌≡◌ {A = Result JobParts JobFault} (Ok x) (Ok y) → x ≡ y
     same x y e = cc
 
-past_fault : (number : ℕ) (fault : Option JobFaultKind) (rest : Result JobParts JobFault) (job : JobParts) → fault_or number fault rest ≡ Ok job → rest ≡ Ok job
+past_fault : (number : ℕ) (fault : Option JobFaultKind) (rest : Result JobParts JobFault) (job : JobParts)
+    → fault_or number fault rest ≡ Ok job → rest ≡ Ok job
 past_fault number None rest job is = is
 past_fault number (Some kind) rest job is = absurd (cc is)
 
-from_first : (lines : List (List ℕ)) (number : ℕ) (d : Declared) (job : JobParts) → AreGroups d → job_from d number lines ≡ Ok job
+from_first : (lines : List (List ℕ)) (number : ℕ) (d : Declared) (job : JobParts) → AreGroups d
+    → job_from d number lines ≡ Ok job
     → ProgramFirst (map (λ image. image.kind) job.images)
 unfolding job_from
 from_first [] number d job are is = declared_first d.program d job are.program are is
 from_first (line ∷ more) number d job are is =
-    from_first more (number + 1) (with_text line d) job (with_line_of (is_skipped line) line d refl are) (past_fault number (fault_of d number line) _ job is)
+    from_first more (number + 1) (with_text line d) job (with_line_of (is_skipped line) line d refl are)
+    (past_fault number (fault_of d number line) _ job is)
 
 -- the law
-pub program_first : (text : List ℕ) (job : JobParts) → job_of text ≡ Ok job → ProgramFirst (map (λ image. image.kind) job.images)
+pub program_first : (text : List ℕ) (job : JobParts) → job_of text ≡ Ok job
+    → ProgramFirst (map (λ image. image.kind) job.images)
 unfolding job_of
-program_first text job is = from_first (lines_of text) 1 nothing_declared job (record { program = tt; starts = tt; lates = tt }) is
+program_first text job is =
+    from_first (lines_of text) 1 nothing_declared job (record { program = tt; starts = tt; lates = tt }) is

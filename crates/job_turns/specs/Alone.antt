@@ -36,4 +36,5 @@ pub record TakesOwnTurn (old : Run) (events : List Event) (new : Run) : Type 0 w
       ≡ after old.kept.vector.past events
       → let l = job_loads old.kept.vector.images in
       let thread = old.kept.vector.thread in
-      StandsAlone new (with_event seen (event_of (event_by l thread) t seen)) (turn (thread_turns l thread old.fuel) t seen)
+      StandsAlone new (with_event seen (event_of (event_by l thread) t seen))
+      (turn (thread_turns l thread old.fuel) t seen)

@@ -42,7 +42,8 @@ is_thread_over runs thread = is_over (at_number runs thread)
 
 -- for a job with these images and this fuel: a runner and the thread that it stands for; it has seen a front of the
 -- events
-pub record IsRunner (m : JobImages) (fuel thread : ℕ) (events : List Event) (r : Run) (t : Thread Runs Line Event) : Type 0 where
+pub record IsRunner (m : JobImages) (fuel thread : ℕ) (events : List Event)
+    (r : Run) (t : Thread Runs Line Event) : Type 0 where
   pub thread_is : r.kept.vector.thread ≡ thread
   pub images_are : r.kept.vector.images ≡ m
   pub fuel_is : r.fuel ≡ fuel
@@ -60,7 +61,8 @@ pub record Stands (m : JobImages) (fuel : ℕ) (w : Shared ℕ Bool ℕ Line) (x
   pub pieces_are : length x.pieces ≡ length m.images + 1
   pub shared_is : w.shared ≡ shared_of m (past (infos m) (last_offset m) w.events) x.pieces
   pub count : length x.runs ≡ length w.threads
-  pub each : (k : ℕ) (r : Run) (t : Thread Runs Line Event) → slice_get x.runs k ≡ Some r → slice_get w.threads k ≡ Some t
+  pub each : (k : ℕ) (r : Run) (t : Thread Runs Line Event)
+      → slice_get x.runs k ≡ Some r → slice_get w.threads k ≡ Some t
       → IsRunner m fuel (suc k) w.events r t
 
 -- the code stands for threads of some job

@@ -100,7 +100,8 @@ IsCleanRan (ran.Over stop) = IsClean stop
 IsCleanRan (ran.Waits wanted) = Unit {0}
 
 -- all of its steps are done, up to an end or a wait for a look
-pub record RunsOn (limit : ℕ) (m : Standing ℕ Bool) (k : Kept) (result : Ran) (m' : Standing ℕ Bool) (k' : Kept) : Type 0 where
+pub record RunsOn (limit : ℕ) (m : Standing ℕ Bool) (k : Kept) (result : Ran)
+    (m' : Standing ℕ Bool) (k' : Kept) : Type 0 where
   pub same : IsSameThread k k'
   pub shape : shape_of k' ≡ shape_of k
   pub within : m'.taken ≤ limit
@@ -134,7 +135,8 @@ abbrev pub IsStill : List Event → Option Ran → Kept → Kept → Type 0
 IsStill seen None k k' = Unit {0}
 IsStill seen (Some result) k k' = space_in seen k' ≡ space_in seen k
 
-pub record AnswersLook (m : Standing ℕ Bool) (k : Kept) (result : Option Ran) (m' : Standing ℕ Bool) (k' : Kept) : Type 0 where
+pub record AnswersLook (m : Standing ℕ Bool) (k : Kept) (result : Option Ran)
+    (m' : Standing ℕ Bool) (k' : Kept) : Type 0 where
   pub shape : shape_of k' ≡ shape_of k
   pub takes : TakesStep result m m'
   pub clean : IsCleanPart result
@@ -162,7 +164,8 @@ IsCleanResumed resumed.Goes = Unit {0}
 IsCleanResumed (resumed.Stops stop) = IsClean stop
 IsCleanResumed resumed.Unloaded = Unit {0}
 
-pub record Resumes (m : Standing ℕ Bool) (k : Kept) (asked : Asked) (result : Resumed) (m' : Standing ℕ Bool) (k' : Kept) : Type 0 where
+pub record Resumes (m : Standing ℕ Bool) (k : Kept) (asked : Asked)
+    (result : Resumed) (m' : Standing ℕ Bool) (k' : Kept) : Type 0 where
   pub same : IsSameThread k k'
   pub takes : TakesAnswer result m m'
   pub clean : IsCleanResumed result

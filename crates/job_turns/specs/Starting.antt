@@ -61,7 +61,8 @@ pub record Starts (line : Line) (old : Kept) (result : Started) (new : Kept) : T
 -- a call of the function with a name, in the live instance of an image
 abbrev pub BeginsCall : ℕ → List ℕ → ℕ → ℕ → ℕ → Kept → Started → Kept → Type 0
 BeginsCall image symbol a b c old = let l = job_loads old.vector.images in let thread = old.vector.thread in
-    Begins None (λ seen h. begun_in plain_operations l (shows l thread) thread symbol a b c h (instance_at l seen image)) old
+    Begins None (λ seen h. begun_in plain_operations l (shows l thread) thread symbol a b c h
+    (instance_at l seen image)) old
 
 -- an open of the line's image
 abbrev pub BeginsOpen : Line → Kept → Started → Kept → Type 0
@@ -80,7 +81,8 @@ BeginsClose line old = let l = job_loads old.vector.images in let thread = old.v
 -- a peek at bytes of a variable, in the block of the live instance of the line's image
 abbrev pub BeginsPeek : Line → List ℕ → ℕ → Kept → Started → Kept → Type 0
 BeginsPeek line symbol size old = let l = job_loads old.vector.images in let thread = old.vector.thread in
-    Begins None (λ seen h. begun_peek plain_operations l (shows l thread) thread line symbol size h (instance_at l seen line.told.image)) old
+    Begins None (λ seen h. begun_peek plain_operations l (shows l thread) thread line symbol size h
+    (instance_at l seen line.told.image)) old
 
 -- ---- steps of the parts
 

@@ -24,7 +24,8 @@ use Rattle.thread_space.specs.Live.{HasStartups}
 use Rattle.job_turns.specs.Standing.{Run, Waiting}
 
 -- a thread whose line is over with this outcome, and that keeps this after these events
-pub record IsOver (k : Kept) (outcome : Outcome) (points : List ℕ) (now : List Event) (todo : List Line) (said : List Said)
+pub record IsOver (k : Kept) (outcome : Outcome) (points : List ℕ)
+    (now : List Event) (todo : List Line) (said : List Said)
     (seen : List Event) (t : Thread Runs Line Event) : Type 0 where
   pub ending : Ending
   pub held : Runs
@@ -84,10 +85,12 @@ pub record BeginsTo (fuel : ℕ) (line : Line) (k : Kept) (result : Taken) (new 
       HasSeen new.vector now
       × TookAs (4 * fuel) new result (length seen ∷ []) now todo said seen
       (after_look (thread_turns l k.vector.thread fuel) (4 * fuel) todo said seen (length seen ∷ [])
-      (begun_by plain_operations l (shows l k.vector.thread) k.vector.thread line seen (held_at seen state asked k) line.told.action))
+      (begun_by plain_operations l (shows l k.vector.thread) k.vector.thread line seen
+      (held_at seen state asked k) line.told.action))
 
 -- a call that waited goes on after its look
-pub record ResumesTo (fuel : ℕ) (m : Standing ℕ Bool) (asked : Asked) (k : Kept) (result : Taken) (new : Kept) : Type 0 where
+pub record ResumesTo (fuel : ℕ) (m : Standing ℕ Bool) (asked : Asked) (k : Kept)
+    (result : Taken) (new : Kept) : Type 0 where
   pub keeps : KeepsJob k new
   pub steps : HasStepsLeft (4 * fuel) result
   pub resumes : (seen : List Event) (points : List ℕ) (todo : List Line) (said : List Said)
@@ -124,7 +127,8 @@ run_after lines begun fuel said points (taken.Waits machine asked) k = record {
 }
 
 -- the runner began its next line, and its turn ended with this result
-pub record BeginsLine (lines : List ThreadLine) (begun fuel : ℕ) (line : ThreadLine) (k : Kept) (said : List Printed) (r : Run)
+pub record BeginsLine (lines : List ThreadLine) (begun fuel : ℕ) (line : ThreadLine) (k : Kept)
+    (said : List Printed) (r : Run)
     (d : List Piece) : Type 0 where
   pub taken : Taken
   pub new : Kept
@@ -133,7 +137,8 @@ pub record BeginsLine (lines : List ThreadLine) (begun fuel : ℕ) (line : Threa
   pub is : r ≡ run_after lines (begun + 1) fuel said (k.vector.past.seen ∷ []) taken (emptied new)
 
 -- the runner went on with a call, and its turn ended with this result
-pub record ResumesLine (lines : List ThreadLine) (begun fuel : ℕ) (k : Kept) (said : List Printed) (c : Waiting) (r : Run)
+pub record ResumesLine (lines : List ThreadLine) (begun fuel : ℕ) (k : Kept)
+    (said : List Printed) (c : Waiting) (r : Run)
     (d : List Piece) : Type 0 where
   pub taken : Taken
   pub new : Kept

@@ -114,7 +114,8 @@ fn refused_close(refusal: CloseRefusal) -> LineRefusal
 /// Fills the data of an image, unless it was loaded before.
 fn load_new(space: &mut ThreadSpace, was: bool, image: u32) -> Result<(), AllocError>
     ensures { OnOk result (LoadsNew was
-        (loaded_instance (infos space.old.vector.images) image (module_of space.old.vector.past image)) space.old space.new) }
+        (loaded_instance (infos space.old.vector.images) image (module_of space.old.vector.past image))
+        space.old space.new) }
 {
     if !was {
         if let Some(instance) = space.instance(image) {
@@ -158,7 +159,8 @@ fn open(
     line: &ThreadLine,
     answer: Result<Opened, OpenRefusal>,
 ) -> Result<Started, AllocError>
-    requires answer { answer ≡ unless (open_refusal space.old.vector.past line.now.image) (opened_at space.old.vector.past line.now.image) }
+    requires answer { answer ≡ unless (open_refusal space.old.vector.past line.now.image)
+        (opened_at space.old.vector.past line.now.image) }
     requires room { space.old.vector.past.seen + 1 < 2 ^ 62 }
     requires startups { HasStartups space.old.vector }
     requires pieces { length space.old.pieces ≡ length space.old.vector.images.images + 1 }
@@ -200,7 +202,8 @@ fn close(
     line: &ThreadLine,
     answer: Result<Closed, CloseRefusal>,
 ) -> Result<Started, AllocError>
-    requires answer { answer ≡ unless (close_refusal space.old.vector.past line.now.image) (closed_at space.old.vector.past line.now.image) }
+    requires answer { answer ≡ unless (close_refusal space.old.vector.past line.now.image)
+        (closed_at space.old.vector.past line.now.image) }
     requires room { space.old.vector.past.seen + 1 < 2 ^ 62 }
     requires startups { HasStartups space.old.vector }
     ensures { IfOk result
@@ -314,7 +317,8 @@ pub fn begin(
     requires room { space.old.vector.past.seen + 1 < 2 ^ 62 }
     requires startups { HasStartups space.old.vector }
     requires pieces { length space.old.pieces ≡ length space.old.vector.images.images + 1 }
-    ensures { IfOk result (λ started. Starts (record { number = number; told = line.now }) space.old started space.new) }
+    ensures { IfOk result (λ started. Starts (record { number = number; told = line.now })
+        space.old started space.new) }
 {
     match &line.action {
         Action::Call { symbol, a, b, c } => call(

@@ -162,7 +162,8 @@ fn begin_line<'j, 'n, 'm>(
     requires room { space.vector.past.seen + 1 < 2 ^ 62 }
     requires pieces { length space.pieces ≡ length space.vector.images.images + 1 }
     requires answer { answer ≡ answer_to space.vector.past (ask_by (begun + 1) line.now.image line.now.action) }
-    ensures { IfOk result (λ r. BeginsLine script.entry.lines.now begun script.entry.fuel line.now space.entry said.items r pieces.new) }
+    ensures { IfOk result (λ r. BeginsLine script.entry.lines.now begun script.entry.fuel line.now
+        space.entry said.items r pieces.new) }
 {
     let point = space.seen();
     let points = vec![in script.alloc; point]?;
@@ -187,7 +188,8 @@ fn resume_line<'j, 'n, 'm>(
     requires lines { length script.lines.now < 2 ^ 31 }
     requires begun { begun ≤ length script.lines.now }
     requires steps { call.machine.taken < 4 * script.fuel }
-    ensures { IfOk result (λ r. ResumesLine script.entry.lines.now begun script.entry.fuel space.entry said.items call r pieces.new) }
+    ensures { IfOk result (λ r. ResumesLine script.entry.lines.now begun script.entry.fuel
+        space.entry said.items call r pieces.new) }
 {
     let Pending {
         machine,

@@ -68,7 +68,8 @@ pub(crate) fn take_begin(
     requires startups { HasStartups space.old.vector }
     requires pieces { length space.old.pieces ≡ length space.old.vector.images.images + 1 }
     requires answer { answer ≡ answer_to space.old.vector.past (ask_by number line.now.image line.now.action) }
-    ensures { IfOk result (λ taken. BeginsTo fuel (record { number = number; told = line.now }) space.old taken space.new) }
+    ensures { IfOk result (λ taken. BeginsTo fuel (record { number = number; told = line.now })
+        space.old taken space.new) }
 {
     match begin(space, names, number, line, answer)? {
         Started::Says(outcome) => Ok(Taken::Over(outcome)),

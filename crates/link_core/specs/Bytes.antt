@@ -1,5 +1,5 @@
--- The bytes of an image's file but for its headers and its dynamic tables: the sections at their places, the fields of
--- relocations and the sequences in the place of rewritten ones, the global offset table and the stub.
+-- The bytes of an image's file, without its headers and its dynamic tables: the sections at their places, the fields of
+-- relocations, the new sequences, the global offset table and the stub.
 use Rattle.std.specs.Prelude.{◌+◌, ◌-◌, ◌==◌, ◌∷◌, ℕ, negsuc, List, [], Option, Some, None, fold, unwrap_or}
 use Rattle.std.specs.Prelude.{if◌then◌else◌}
 use Rattle.std.specs.List.{flat_map, range_with_len}
@@ -30,11 +30,11 @@ use Rattle.link_needs.specs.Values.{field, is_replaced}
 
 -- ** the table and the stub
 
--- the words of an entry as they stand in the file
+-- the words of an entry, as they are in the file
 abbrev pub need_bytes : Linking → Need → List ℕ
 need_bytes l need = flat_map (λ w. bytes_of 8 w.number) (words (entry_of l.kind (block_offset l) need))
 
--- those of all entries of a table
+-- the words of all entries of a table
 abbrev pub table_bytes : Table → List ℕ
 table_bytes t =
     flat_map (λ need. flat_map (λ w. bytes_of 8 w.number) (words (entry_of t.kind t.block_offset need))) t.entries
@@ -49,7 +49,7 @@ stub_bytes l =
     ∷ field_bytes (unwrap_or (stored_field GotPcRel 0 (negsuc 3) (stub_start l + 2) (need_address l (Some RuntimeWord)))
     Empty)
 
--- bytes at an address, behind zeros
+-- the file with bytes added at an address, after zeros
 abbrev pub with_part : Linking → ℕ → List ℕ → List ℕ → List ℕ
 with_part l address bytes file = with_section file (record { place = offset_of (layout l) address; bytes = bytes })
 
@@ -59,13 +59,13 @@ with_got l file = if got_size l == 0 then file else with_part l (got_start l) (g
 abbrev pub with_stub : Linking → List ℕ → List ℕ
 with_stub l file = if has_stub l then with_part l (stub_start l) (stub_bytes l) file else file
 
--- all parts as they lie, before anything is written in the sections
+-- all parts at their places, before anything is written in the sections
 unfoldable pub raw_file : Linking → List ℕ
 raw_file l = with_stub l (with_got l (sections_file (layout l) l.objects))
 
 -- ** fields
 
--- with the field of a relocation of section t of object o, which stands at its place
+-- the file with the field of a relocation of section t of object o written
 abbrev pub with_field_at : Linking → ℕ → ℕ → ℕ → Option Field → List ℕ → List ℕ
 with_field_at l o t k value file =
     patched (field_patch (offset_of (layout l) (place l o t k)) (unwrap_or value Empty) ∷ []) file
@@ -74,22 +74,22 @@ abbrev pub with_field : Linking → ℕ → ℕ → List ℕ → Relocation → 
 with_field l o t file r =
     if is_replaced l o r then file else with_field_at l o t r.offset (field l o t r) file
 
--- with those of the relocations that section s holds
+-- likewise for the relocations that section s holds
 abbrev pub with_table : Linking → ℕ → List ℕ → List ℕ → ℕ → List ℕ
 with_table l o b file s = fold (with_field l o (relocation_target b s)) file (held_in b s)
 
--- with those of object o
+-- likewise for object o
 unfoldable pub with_fields : Linking → ℕ → List ℕ → List ℕ → List ℕ
 with_fields l o b file = fold (with_table l o b) file (range_with_len 1 (section_count b - 1))
 
--- with those of the objects from number o on
+-- likewise for the objects from number o on
 abbrev pub with_fields_from : Linking → ℕ → List (List ℕ) → List ℕ → List ℕ
 with_fields_from l o [] file = file
 with_fields_from l o (b ∷ more) file = with_fields_from l (o + 1) more (with_fields l o b file)
 
 -- ** sequences
 
--- a site of object o, where it stands in the file
+-- a site of object o, with its offset in the file
 abbrev pub in_file : Linking → ℕ → Site → Site
 in_file l o site = record site { start = offset_of (layout l) (place l o site.section site.start) }
 
@@ -98,13 +98,13 @@ with_new_field l o site None file = file
 with_new_field l o site (Some f) file =
     with_field_at l o site.section (site.start + f.at) (field l o site.section (new_relocation site f)) file
 
--- with the sequence that stands in a site's place
+-- the file with the sequence written that takes a site's place
 unfoldable pub with_site : Linking → ℕ → List ℕ → Site → List ℕ
 with_site l o file site =
     with_new_field l o site (new_field site.form (choice l o site))
     (rewritten (in_file l o site) (choice l o site) file)
 
--- with those of the objects from number o on, which have these sites
+-- likewise for the objects from number o on, which have these sites
 abbrev pub with_sites_from : Linking → ℕ → List (List Site) → List ℕ → List ℕ
 with_sites_from l o [] file = file
 with_sites_from l o (own ∷ more) file = with_sites_from l (o + 1) more (fold (with_site l o) file own)

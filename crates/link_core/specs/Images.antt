@@ -50,7 +50,7 @@ stub_places l = if has_stub l then record { class = Executable; address = stub_s
 unfoldable pub places : Linking → List PartPlace
 places l = section_places (layout l) ++ (got_places l ++ stub_places l)
 
--- the part that the loader alone writes
+-- the part that only the loader writes
 unfoldable pub got_number : Linking → Option ℕ
 got_number l = if got_size l == 0 then None else Some (length (section_places (layout l)))
 
@@ -80,11 +80,11 @@ contents l = record {
   is_flagged = is_flagged l;
 }
 
--- with its dynamic tables
+-- the image with its dynamic tables
 unfoldable pub image_of : Linking → Spelled
 image_of l = finished (contents l)
 
--- ** what linking gives
+-- ** the result of linking
 
 -- the image, and the choices of all objects
 pub record LinkedImage : Type 0 where

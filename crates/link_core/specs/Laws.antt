@@ -1,4 +1,4 @@
--- What holds of every linked image.
+-- The laws of every linked image.
 use Rattle.std.specs.Prelude.{◌≡◌, ◌+◌, ◌<◌, ◌≤◌, ◌⊎◌, ℕ, pos, ◌-ℤ◌, true, false, Some, length, slice_get}
 use Rattle.std.specs.Int.{w32, cast_unsigned}
 use Rattle.elf_object.specs.declared.relocation.Relocation.{Relocation}
@@ -31,24 +31,24 @@ use Rattle.link_needs.specs.Needs.{entries, got_size, got_start, has_stub, is_ke
 use Rattle.link_needs.specs.Needs.{stub_start}
 use Rattle.link_needs.specs.Values.{field, is_replaced}
 
--- an image can be written: its TLS segment begins no further than its last part ends
+-- an image can be written: its TLS segment begins at or before the end of its last part
 abbrev pub ImagesHoldTls : Type 0
 ImagesHoldTls = (l : Linking) → IsGiven l → Links l → HoldsTls (outline_of (image_of l))
 
--- each byte of a section stands at its place, as it is meant
+-- each byte of a section is at its place, as it is meant
 abbrev pub BytesAreMeant : Type 0
 BytesAreMeant = (l : Linking) (o t k address : ℕ) → IsGiven l → Links l → o < length l.objects
     → address_of (layout l) o t ≡ Some address → k < section_size (object l o) t
     → slice_get (file l) (offset_of (layout l) (address + k)) ≡ Some (meant_byte l o t k)
 
--- each entry of the table stands at its place, with the numbers of its row
+-- each entry of the table is at its place, with the numbers of its row
 abbrev pub EntriesStand : Type 0
 EntriesStand = (l : Linking) (need : Need) (at : ℕ) → IsGiven l → Links l → Contains (entries l) need
     → start_of (entries l) need ≡ Some at
     → part_at (length (need_bytes l need)) (offset_of (layout l) (got_start l + at)) (file l) ≡ need_bytes l need
 
--- the stub stands at its place, and jumps through the word of the run time's function: its field holds how far that
--- lies behind the field's end
+-- the stub is at its place, and jumps through the word of the run time's function: its field holds the distance of the
+-- word from the field's end
 pub record StubStands (l : Linking) : Type 0 where
   pub stands : part_at 6 (offset_of (layout l) (stub_start l)) (file l) ≡ stub_bytes l
   pub jumps : part_at 4 2 (stub_bytes l)
@@ -57,11 +57,11 @@ pub record StubStands (l : Linking) : Type 0 where
 abbrev pub StubsStand : Type 0
 StubsStand = (l : Linking) → IsGiven l → Links l → has_stub l ≡ true → StubStands l
 
--- no object has a loose relocation of a sequence, or a stray call of the run time
+-- no object has a relocation of a sequence, or a call of the run time, outside its sites
 abbrev pub HasNoStray : Linking → Type 0
 HasNoStray l = (o : ℕ) → o < length l.objects → Nowhere Sequence (object l o) × Nowhere StrayCall (object l o)
 
--- byte k of section t lies in the field of a relocation, and in a site of object o
+-- byte k of section t is in the field of a relocation, and in a site of object o
 abbrev pub IsCovered : Relocation → ℕ → Type 0
 IsCovered r k = (r.offset ≤ k) × (k < r.offset + field_width r.kind)
 
@@ -71,7 +71,7 @@ pub record IsInSite (l : Linking) (o t k : ℕ) (site : Site) : Type 0 where
   pub from : site.start ≤ k
   pub to : k < site.start + site.len
 
--- a relocation that has a field has it outside all rewritten sites, and one that has none lies in such a site
+-- the field of a relocation is outside all rewritten sites; a relocation with no field is inside one
 pub record GoWithTheirSites (l : Linking) (o t : ℕ) (r : Relocation) : Type 0 where
   pub outside : is_replaced l o r ≡ false → (k : ℕ) (site : Site) → IsCovered r k → IsInSite l o t k site
       → is_kept (choice l o site) ≡ true
@@ -82,18 +82,18 @@ abbrev pub FieldsGoWithTheirSites : Type 0
 FieldsGoWithTheirSites = (l : Linking) (o t : ℕ) (r : Relocation) → IsGiven l → Links l → HasNoStray l
     → o < length l.objects → Contains (relocations (object l o) t) r → GoWithTheirSites l o t r
 
--- so a relocation has no field exactly where its field lies in a rewritten sequence, whatever its type,
+-- so a relocation has no field exactly if its place is in a rewritten sequence, whatever its type,
 abbrev pub ReplacedFieldsLieInSites : Type 0
 ReplacedFieldsLieInSites = (l : Linking) (o t : ℕ) (r : Relocation) → IsGiven l → Links l → HasNoStray l
     → o < length l.objects → Contains (relocations (object l o) t) r
     → is_replaced l o r ≡ lies_in_rewritten l o t r
 
--- and what a byte means asks for its place alone
+-- and what a byte means depends only on its place
 abbrev pub BytesAreMeantByPlace : Type 0
 BytesAreMeantByPlace = (l : Linking) (o t k : ℕ) → IsGiven l → Links l → HasNoStray l → o < length l.objects
     → meant_byte l o t k ≡ placed_byte l o t k
 
--- the field that a rewritten sequence leaves to be written holds its value
+-- the new field of a rewritten sequence holds its value
 abbrev pub NewFieldsFit : Type 0
 NewFieldsFit = (l : Linking) (o : ℕ) (site : Site) (new : NewField) → IsGiven l → Links l → o < length l.objects
     → Contains (sites_at l o) site → new_field site.form (choice l o site) ≡ Some new
@@ -112,14 +112,14 @@ GapsAreZero = (l : Linking) (i k : ℕ) (part : Part) → IsGiven l → Links l 
     → slice_get (image_of l).parts i ≡ Some part → k < length part.bytes → IsGap l (part.address + k)
     → slice_get part.bytes k ≡ Some 0
 
--- the part that the loader alone writes is the table, whole
+-- the part that only the loader writes is the whole table
 abbrev pub TablesAreParts : Type 0
 TablesAreParts = (l : Linking) → IsGiven l → Links l → 0 < got_size l
     → (n : ℕ) × (got_number l ≡ Some n)
     × (slice_get (image_of l).parts n
     ≡ Some (record { class = Writable; address = got_start l; bytes = got_bytes l }))
 
--- and the stub is a part that is run
+-- and the stub is a part with code
 abbrev pub StubsAreParts : Type 0
 StubsAreParts = (l : Linking) → IsGiven l → Links l → has_stub l ≡ true
     → Contains (image_of l).parts (record { class = Executable; address = stub_start l; bytes = stub_bytes l })

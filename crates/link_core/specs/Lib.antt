@@ -1,4 +1,4 @@
--- what the crate below it says of tables and faults, so that whoever cites this crate finds all of a link here
+-- the words of the crate below for tables and faults, so that this crate has all of a link in one place
 pub use Rattle.link_tables.specs.Dynamic
 pub use Rattle.link_tables.specs.Faults
 pub mod Bytes

@@ -1,5 +1,5 @@
--- What an image holds at each place, by its objects, their layout and the tables alone: in words that know nothing of
--- how a linker writes it.
+-- What an image holds at each place, by its objects, their layout and its tables, without a word of how a linker writes
+-- it.
 use Rattle.std.specs.Prelude.{◌+◌, ◌-◌, ◌&&◌, ◌==◌, ℕ, Bool, not, List, Option, Some, None}
 use Rattle.std.specs.Prelude.{nat_le, nat_lt, slice_index_or, unwrap_or}
 use Rattle.std.specs.List.{find, list_any}
@@ -18,12 +18,12 @@ use Rattle.link_needs.specs.Values.{field, is_replaced}
 
 -- ** a rewritten sequence
 
--- byte k of section t lies in a site of object o that is rewritten
+-- byte k of section t is in a site of object o that is rewritten
 abbrev pub is_in_rewritten : Linking → ℕ → ℕ → ℕ → Site → Bool
 is_in_rewritten l o t k site =
     (site.section == t) && (nat_le site.start k && nat_lt k (site.start + site.len)) && not (is_kept (choice l o site))
 
--- the row of the table that stands in its place, with its field
+-- the row of the table of sequences that takes the site's place, with its field
 abbrev pub row_with : Linking → ℕ → Site → Option NewField → List ℕ
 row_with l o site None = new_bytes site.form (choice l o site) site.reg
 row_with l o site (Some f) =
@@ -35,7 +35,7 @@ rewritten_bytes l o site = row_with l o site (new_field site.form (choice l o si
 
 -- ** a field
 
--- byte k of section t lies in the field of a relocation that has one
+-- byte k of section t is in the field of a relocation that has one
 abbrev pub is_in_field : Linking → ℕ → ℕ → Relocation → Bool
 is_in_field l o k r = (nat_le r.offset k && nat_lt k (r.offset + field_width r.kind)) && not (is_replaced l o r)
 
@@ -49,8 +49,8 @@ abbrev pub site_byte : Linking → ℕ → ℕ → Option Site → ℕ → ℕ
 site_byte l o k None other = other
 site_byte l o k (Some site) other = slice_index_or (rewritten_bytes l o site) (k - site.start) 0
 
--- byte k of section t of object o, once it is linked: of the sequence that stands in a rewritten site's place, else of
--- the field that covers it, else the section's own
+-- byte k of section t of object o, once it is linked: a byte of the sequence that takes a rewritten site's place, else
+-- of the field that covers it, else the section's own
 unfoldable pub meant_byte : Linking → ℕ → ℕ → ℕ → ℕ
 meant_byte l o t k =
     site_byte l o k (find (is_in_rewritten l o t k) (sites_at l o))
@@ -59,15 +59,16 @@ meant_byte l o t k =
 
 -- ** the same by place alone
 
--- a relocation's field lies in a sequence that is rewritten
+-- a relocation's place is in a sequence that is rewritten
 abbrev pub lies_in_rewritten : Linking → ℕ → ℕ → Relocation → Bool
 lies_in_rewritten l o t r = nat_lt 0 (field_width r.kind) && list_any (is_in_rewritten l o t r.offset) (sites_at l o)
 
--- byte k lies in the field of a relocation
+-- byte k is in the field of a relocation
 abbrev pub is_of_field : ℕ → Relocation → Bool
 is_of_field k r = nat_le r.offset k && nat_lt k (r.offset + field_width r.kind)
 
--- of the sequence that stands in a rewritten site's place, else of the field of any relocation, else the section's own
+-- a byte of the sequence that takes a rewritten site's place, else of the field of any relocation, else the section's
+-- own
 unfoldable pub placed_byte : Linking → ℕ → ℕ → ℕ → ℕ
 placed_byte l o t k =
     site_byte l o k (find (is_in_rewritten l o t k) (sites_at l o))

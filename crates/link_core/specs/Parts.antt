@@ -1,5 +1,5 @@
--- Fields that are written in a part of the file alone. They are those of the sections that begin in the part, and a
--- place counts from where the part begins.
+-- Fields that are written in one part of the file. They are those of the sections that begin in the part. Offsets count
+-- from the start of the part.
 use Rattle.std.specs.Prelude.{◌≡◌, ◌+◌, ◌-◌, ◌<◌, ◌≤◌, ◌⊎◌, ◌&&◌, ◌∷◌, ℕ, Bool, true, List, [], Option, Some, None}
 use Rattle.std.specs.Prelude.{fold, length, nat_le, nat_lt, unwrap_or, if◌then◌else◌, ◌^◌}
 use Rattle.std.specs.List.{range_with_len}
@@ -19,28 +19,28 @@ use Rattle.link_faults.specs.ImageKinds.{base_of}
 
 -- ** where a section begins
 
--- an offset before the end, if there is one
+-- an offset is before the end, if there is one
 abbrev pub is_before : ℕ → Option ℕ → Bool
 is_before at None = true
 is_before at (Some end) = nat_lt at end
 
--- an end, if there is one, that lies behind
+-- the end, if there is one, is not before an offset
 abbrev pub EndsBehind : ℕ → Option ℕ → Type 0
 EndsBehind at None = Unit {0}
 EndsBehind at (Some end) = at ≤ end
 
--- the address, if there is one that stands in the file from an offset on and before the end
+-- the address, if there is one and its offset in the file is in the part
 abbrev pub start_at : Layout → ℕ → Option ℕ → Option ℕ → Option ℕ
 start_at p from to None = None
 start_at p from to (Some address) =
     if nat_le from (offset_of p address) && is_before (offset_of p address) to then Some address else None
 
--- that of section t of object o
+-- likewise for the address of section t of object o
 abbrev pub start_in : Linking → ℕ → Option ℕ → ℕ → ℕ → Option ℕ
 start_in l from to o t = start_at (layout l) from to (address_of (layout l) o t)
 
--- the bytes of section t of object o, at this address, lie among n bytes of the file from an offset on. (The guard
--- 0 < size is there since a section with no bytes may have an address past the end of the file.)
+-- the bytes of section t of object o, at this address, are among n bytes of the file from an offset on. (The guard 0 <
+-- size is there because an empty section may have an address past the end of the file.)
 abbrev pub IsInside : Linking → ℕ → ℕ → ℕ → ℕ → ℕ → Type 0
 IsInside l from n o t address =
     0 < section_size (object l o) t
@@ -51,7 +51,7 @@ abbrev pub IsPart : Linking → ℕ → Option ℕ → ℕ → Type 0
 IsPart l from to n =
     (o t address : ℕ) → o < length l.objects → start_in l from to o t ≡ Some address → IsInside l from n o t address
 
--- no section lies on both sides of an offset
+-- no section is on both sides of an offset
 abbrev pub IsCut : Linking → ℕ → Type 0
 IsCut l cut =
     (o t address : ℕ) → o < length l.objects → address_of (layout l) o t ≡ Some address
@@ -59,7 +59,7 @@ IsCut l cut =
 
 -- ** its fields
 
--- with the field of a relocation of section t of object o
+-- the part with the field of a relocation of section t of object o written
 abbrev pub part_with_field : Linking → ℕ → ℕ → ℕ → List ℕ → Relocation → List ℕ
 part_with_field l from o t part r =
     if is_replaced l o r
@@ -67,33 +67,34 @@ part_with_field l from o t part r =
     else patched
     (field_patch (offset_of (layout l) (place l o t r.offset) - from) (unwrap_or (field l o t r) Empty) ∷ []) part
 
--- with those of the relocations that section s holds, whose own section begins there
+-- likewise for the relocations that section s holds, if they apply to a section that begins in the part
 abbrev pub part_with_held : Linking → ℕ → ℕ → List ℕ → List ℕ → ℕ → Option ℕ → List ℕ
 part_with_held l from o b part s None = part
-part_with_held l from o b part s (Some start) = fold (part_with_field l from o (relocation_target b s)) part (held_in b s)
+part_with_held l from o b part s (Some start) =
+    fold (part_with_field l from o (relocation_target b s)) part (held_in b s)
 
 abbrev pub part_with_table : Linking → ℕ → Option ℕ → ℕ → List ℕ → List ℕ → ℕ → List ℕ
 part_with_table l from to o b part s = part_with_held l from o b part s (start_in l from to o (relocation_target b s))
 
--- with those of object o
+-- likewise for object o
 unfoldable pub part_with_fields : Linking → ℕ → Option ℕ → ℕ → List ℕ → List ℕ → List ℕ
 part_with_fields l from to o b part =
     fold (part_with_table l from to o b) part (range_with_len 1 (section_count b - 1))
 
--- with those of the objects from number o on
+-- likewise for the objects from number o on
 abbrev pub part_with_fields_from : Linking → ℕ → Option ℕ → ℕ → List (List ℕ) → List ℕ → List ℕ
 part_with_fields_from l from to o [] part = part
 part_with_fields_from l from to o (b ∷ more) part =
     part_with_fields_from l from to (o + 1) more (part_with_fields l from to o b part)
 
--- what writing a part leaves: all its fields are written
+-- a part is written: all its fields, and nothing else
 pub record IsWritten (l : Linking) (from : ℕ) (to : Option ℕ) (before after : List ℕ) : Type 0 where
   pub written : after ≡ part_with_fields_from l from to 0 l.objects before
   pub filled : length after ≡ length before
 
--- ** what a field asks of the place that it is written at
+-- ** what a field requires of its place
 
--- a field of so many bytes, where it has some, lies at its address in a file of n bytes
+-- a field of `width` bytes, if it has any, fits at its address in a file of n bytes
 pub record HasRoom (l : Linking) (place width n : ℕ) : Type 0 where
   pub near : place + 4096 < 2 ^ 64
   pub above : 0 < width → base_of l.kind ≤ place + 4096

@@ -16,10 +16,10 @@ use sequence_match::{Form, Site};
 use std::alloc::{AllocError, Global};
 use tls_layout::{Extent, Placement};
 
-/// How many bytes the stub has.
+/// The size of the stub, in bytes.
 const STUB_SIZE: u64 = 6;
 
-/// What the file of an image says that it is.
+/// The file type of an image of this kind.
 pub fn file_kind(kind: ImageKind) -> FileKind
     ensures { result ≡ file_kind kind }
 {
@@ -61,7 +61,7 @@ pub fn section_places(alloc: Global, placement: &Placement) -> Result<Vec<PartPl
     Ok(places)
 }
 
-/// Adds those of the table and of the stub. Answers the number of the table's part, if there is one.
+/// Adds the parts of the offset table and the stub. Returns the number of the table's part, if there is one.
 #[tactic(auto, unfolding(crate::specs::Images::got_number))]
 pub fn push_made(plan: &Plan, places: &mut Vec<PartPlace>) -> Result<Option<u64>, AllocError>
     requires sections { places.old.items ≡ section_places (layout plan.now) }
@@ -112,7 +112,7 @@ fn has_initial(own: &[Site]) -> bool
         .any(|site| matches!(site.form, Form::IeMov | Form::IeAdd))
 }
 
-/// Whether one of these objects does.
+/// Whether one of these objects has such code.
 fn any_initial(sites: &[Vec<Site>]) -> bool
     ensures { result ≡ list_any (λ own. list_any (λ (site : Site). is_initial site.form) own.items) sites.now }
 {

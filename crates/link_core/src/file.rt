@@ -1,4 +1,4 @@
-//! The bytes of an image's file but for its headers and its dynamic tables.
+//! The bytes of an image's file, without its headers and its dynamic tables.
 
 ghost use Rattle.std.specs.Prelude.{◌≡◌, ◌<◌, ◌-◌, ◌^◌, ◌++◌, IfOk, OnOk, length};
 ghost use Rattle.std.specs.List.{flat_map};
@@ -20,7 +20,7 @@ use std::alloc::AllocError;
 use std::thread::Threads;
 use tls_relocs::{Field, value};
 
-/// Puts zeros behind the file, up to an offset.
+/// Adds zeros to the file, up to an offset.
 fn pad(file: &mut Vec<u8>, offset: u64) -> Result<(), AllocError>
     requires { offset < 2 ^ 32 }
     ensures { OnOk result (file.new.items ≡ file.old.items ++ zeros (offset - length file.old.items)) }
@@ -29,7 +29,7 @@ fn pad(file: &mut Vec<u8>, offset: u64) -> Result<(), AllocError>
     file.resize(file.len() + gap, 0)
 }
 
-/// Puts a word behind the file.
+/// Adds a word to the file.
 #[tactic(auto, unfolding(elf_records::specs::Fields::bytes_of))]
 fn push_word(file: &mut Vec<u8>, word: &Word) -> Result<(), AllocError>
     ensures { OnOk result (file.new.items ≡ file.old.items ++ bytes_of 8 word.now.number) }
@@ -37,7 +37,7 @@ fn push_word(file: &mut Vec<u8>, word: &Word) -> Result<(), AllocError>
     file.extend_from_slice(&word.number.to_le_bytes())
 }
 
-/// Puts an entry behind the file.
+/// Adds an entry to the file.
 fn push_entry(file: &mut Vec<u8>, entry: &Entry) -> Result<(), AllocError>
     ensures { OnOk result
         (file.new.items ≡ file.old.items ++ flat_map (λ w. bytes_of 8 w.number) (words entry.now)) }
@@ -51,7 +51,7 @@ fn push_entry(file: &mut Vec<u8>, entry: &Entry) -> Result<(), AllocError>
     }
 }
 
-/// Puts the entries of a table behind the file.
+/// Adds the entries of a table to the file.
 fn push_entries(got: &GotPlan, file: &mut Vec<u8>) -> Result<(), AllocError>
     ensures { OnOk result (file.new.items ≡ file.old.items ++ table_bytes got.now) }
 {
@@ -63,7 +63,7 @@ fn push_entries(got: &GotPlan, file: &mut Vec<u8>) -> Result<(), AllocError>
     Ok(())
 }
 
-/// Puts the global offset table at its place, if it has entries.
+/// Adds the global offset table at its place, if it has entries.
 fn push_got(plan: &Plan, file: &mut Vec<u8>) -> Result<(), AllocError>
     ensures { OnOk result (file.new.items ≡ with_got plan.now file.old.items) }
 {
@@ -74,7 +74,7 @@ fn push_got(plan: &Plan, file: &mut Vec<u8>) -> Result<(), AllocError>
     push_entries(&plan.got, file)
 }
 
-/// Puts the bytes of a field behind the file.
+/// Adds the bytes of a field to the file.
 #[tactic(auto, unfolding(elf_records::specs::Fields::bytes_of))]
 fn push_field(file: &mut Vec<u8>, field: Field) -> Result<(), AllocError>
     ensures { OnOk result (file.new.items ≡ file.old.items ++ field_bytes field) }
@@ -86,7 +86,7 @@ fn push_field(file: &mut Vec<u8>, field: Field) -> Result<(), AllocError>
     }
 }
 
-/// Puts the stub at its place, if there is one: a jump through the word of `__tls_get_addr`.
+/// Adds the stub at its place, if there is one: a jump through the word of `__tls_get_addr`.
 fn push_stub(plan: &Plan, file: &mut Vec<u8>) -> Result<(), AllocError>
     ensures { OnOk result (file.new.items ≡ with_stub plan.now file.old.items) }
 {
@@ -104,7 +104,7 @@ fn push_stub(plan: &Plan, file: &mut Vec<u8>) -> Result<(), AllocError>
     }
 }
 
-/// All parts of a link as they lie behind its sections, before fields are written.
+/// Adds the offset table and the stub to the sections of a link. Fields are not written yet.
 #[tactic(auto, unfolding(crate::specs::Bytes::raw_file))]
 fn raw_file(plan: &Plan, mut sections: Vec<u8>) -> Result<Vec<u8>, AllocError>
     requires { sections.items ≡ sections_file (layout plan.now) plan.now.objects }
@@ -115,7 +115,7 @@ fn raw_file(plan: &Plan, mut sections: Vec<u8>) -> Result<Vec<u8>, AllocError>
     Ok(sections)
 }
 
-/// The file of a link whose sections are laid down. A field that does not hold its value is left as it was.
+/// The file of a link whose sections are laid out. A field that can't hold its value is left as it was.
 #[tactic(auto, unfolding(crate::specs::Bytes::file))]
 pub fn file_of<R: Threads + Sync>(
     rt: &R,

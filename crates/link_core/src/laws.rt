@@ -1,45 +1,45 @@
-//! Laws of linked images. The functions do nothing: what they ensure is the law.
+//! Laws of linked images. The functions do nothing; each `ensures` a law.
 
 ghost use Rattle.link_core.specs.Laws.{BytesAreMeant, BytesAreMeantByPlace, EntriesStand, FieldsGoWithTheirSites};
 ghost use Rattle.link_core.specs.Laws.{GapsAreZero, ImagesHoldTls, NewFieldsFit, ReplacedFieldsLieInSites};
 ghost use Rattle.link_core.specs.Laws.{StubsAreParts, StubsStand, TablesAreParts};
 
-/// An image can be written: its TLS segment begins no further than its last part ends.
+/// An image can be written: its TLS segment begins at or before the end of its last part.
 pub fn images_hold_tls()
     ensures { ImagesHoldTls }
 {}
 
-/// Each byte of a section stands at its place, as the section, its relocations and its sequences mean it.
+/// Each byte of a section is at its place, as the section, its relocations and its sequences mean it.
 pub fn bytes_are_meant()
     ensures { BytesAreMeant }
 {}
 
-/// Each entry of the global offset table stands at its place, with the numbers of its row.
+/// Each entry of the global offset table is at its place, with the numbers of its row.
 pub fn entries_stand()
     ensures { EntriesStand }
 {}
 
-/// The stub stands at its place, and jumps through the word of `__tls_get_addr`.
+/// The stub is at its place, and jumps through the word of `__tls_get_addr`.
 pub fn stubs_stand()
     ensures { StubsStand }
 {}
 
-/// A relocation that has a field has it outside all rewritten sequences, and one that has none lies in one.
+/// The field of a relocation is outside all rewritten sequences; a relocation with no field is inside one.
 pub fn fields_go_with_their_sites()
     ensures { FieldsGoWithTheirSites }
 {}
 
-/// So a relocation has no field exactly where its field lies in a rewritten sequence.
+/// So a relocation has no field exactly if its place is in a rewritten sequence.
 pub fn replaced_fields_lie_in_sites()
     ensures { ReplacedFieldsLieInSites }
 {}
 
-/// What a byte means asks for its place alone: of a rewritten sequence, else of a field, else the section's own.
+/// What a byte means depends only on its place: it is in a rewritten sequence, else in a field, else the section's own.
 pub fn bytes_are_meant_by_place()
     ensures { BytesAreMeantByPlace }
 {}
 
-/// The new field of a rewritten sequence fits its value, so it is written.
+/// The new field of a rewritten sequence holds its value, so it is written.
 pub fn new_fields_fit()
     ensures { NewFieldsFit }
 {}
@@ -49,12 +49,12 @@ pub fn gaps_are_zero()
     ensures { GapsAreZero }
 {}
 
-/// The part that the loader alone writes is the global offset table, whole.
+/// The part that only the loader writes is the whole global offset table.
 pub fn tables_are_parts()
     ensures { TablesAreParts }
 {}
 
-/// The stub is a part that is run.
+/// The stub is a part with code.
 pub fn stubs_are_parts()
     ensures { StubsAreParts }
 {}

@@ -1,9 +1,9 @@
 //! The image of objects: linking, for every kind of image.
 //!
-//! A compiler leaves two things open. It does not know where a symbol will lie, so it leaves a *field*, and says in a
-//! *relocation* what belongs there. And it does not know whether a thread-local variable will be the program's own or
-//! another module's, so it writes the longest *sequence* that finds it, in bytes that a linker may know again. This
-//! crate joins what the crates below it know of both:
+//! A compiler leaves two things open. It does not know where a symbol will be, so it leaves a *field*, and says in a
+//! *relocation* what belongs there. And it does not know whether a thread-local variable will be in the program or in
+//! another module, so it writes the longest *sequence* that finds it, in bytes that a linker can recognize. This crate
+//! puts together what the crates below it know of both:
 //!
 //! ```text
 //! names      what each relocation's symbol is bound to                       tls_symbols
@@ -13,31 +13,31 @@
 //!
 //! file       sections at their places, the table, the stub                   section_file, here
 //! fields     the value of each relocation, written                           tls_relocs, here
-//! sequences  those that stand in the place of others                         relax_sites, here
+//! sequences  the new ones, written over those that are rewritten             relax_sites, here
 //! tables     symbols and relocations for a loader                            link_tables, image_writer
 //! ```
 //!
-//! Linking has two halves. [`prepare`] does what stands above the gap, and asks all that may refuse the objects but
-//! whether each field holds its value: a [`ReadyLink`] has no byte of the image. [`ReadyLink::overflow`] finds the first
-//! field that does not hold its value, still with no byte laid, so that who wants no image can ask whether objects link.
-//! Where there is none, [`ReadyLink::write`] does what stands below the gap, and only memory may be wanting. [`link`] is
-//! all three.
+//! Linking has two halves. [`prepare`] does what is above the gap. It tests all that can refuse the objects, except
+//! whether each field holds its value, and returns a [`ReadyLink`], which has no byte of the image.
+//! [`ReadyLink::overflow`] finds the first field that can't hold its value. It writes no byte either, so a caller that
+//! wants no image can ask whether objects can be linked. If there is no such field, [`ReadyLink::write`] does what is
+//! below the gap, and fails only when memory runs out. [`link`] does all three.
 //!
-//! **The rule of bytes** (`specs/Bytes`): each byte of a section stands at its place, changed only in the fields of its
-//! relocations and in the sequences that are rewritten; behind the sections stand the table and the stub, behind these
-//! the dynamic tables; gaps are zero, and there is nothing else. `specs/Meant` says the same of each byte in words that
-//! know nothing of a writer, and `laws::bytes_are_meant` that they agree.
+//! **The rule of bytes** (`specs/Bytes`): each byte of a section is at its place, and only the fields of relocations
+//! and the rewritten sequences are changed. After the sections come the table and the stub, and after these the dynamic
+//! tables. Gaps are zero, and there is nothing else. `specs/Meant` says what each byte is without a word of how it is
+//! written, and `laws::bytes_are_meant` that the two agree.
 //!
-//! **The rule of faults** (link_tables, `specs/Faults`): of all that may be wrong the first is told: Undefined, Duplicate, NotTls,
-//! LocalExecInModule, NarrowInModule, TlsTooLarge, ImageTooLarge, NoTls, and Overflow last, since it needs every place;
-//! of each kind the first object, section and entry.
+//! **The rule of faults** (link_tables, `specs/Faults`): the first fault is reported. The order is Undefined,
+//! Duplicate, NotTls, LocalExecInModule, NarrowInModule, TlsTooLarge, ImageTooLarge, NoTls, and last Overflow, which
+//! depends on every address. Of each kind it is the first object, section and entry.
 //!
-//! For example, b.o has `f`, which asks for the address of its own variable `x`, eight bytes into `.tdata`, by the
-//! general dynamic sequence. Linked as a program, and linked as one whose sequences are kept:
+//! For example, b.o has `f`, which asks for the address of its own variable `x`, at offset 8 of `.tdata`, with the
+//! general dynamic sequence. Linked as a program, and linked as a program whose sequences are kept:
 //!
 //! ```text
 //! 400000  64 48 8b 04 25 00 00 00 00    mov %fs:0, %rax               the thread pointer
-//!         48 8d 80 f0 ff ff ff          lea -16(%rax), %rax           x lies 16 below it
+//!         48 8d 80 f0 ff ff ff          lea -16(%rax), %rax           x is 16 bytes below it
 //!         c3                            ret
 //!
 //! 400000  66 48 8d 3d f8 1f 00 00       lea 0x402000(%rip), %rdi      x's pair in the table
@@ -48,11 +48,12 @@
 //! 403000  ff 25 0a f0 ff ff             jmp *0x402010(%rip)
 //! ```
 //!
-//! Names are compared by hash, each section is copied once, and each relocation is looked at by a fixed number of walks:
+//! Names are compared by hash, each section is copied once, and each relocation is read by a fixed number of walks:
 //! time is linear in objects, symbols, relocations and bytes.
 //!
-//! Threads share a large image: its fields are written in parts of the file, cut where a section begins. No clause knows
-//! of it. `specs/Parts` says what is written in a part, and its proofs that the parts together are the whole.
+//! Several threads write a large image: its fields are written in parts of the file, cut where a section begins. No
+//! clause depends on it. `specs/Parts` says what is written in a part, and its proofs say that the parts together are
+//! the whole.
 //!
 //! The rules are those of "ELF Handling For Thread-Local Storage" (Drepper), of the psABI ("Thread-Local Storage",
 //! "Relocation Types") and of the gABI ("Program Loading and Dynamic Linking").

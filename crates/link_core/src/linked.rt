@@ -1,14 +1,14 @@
-//! What linking gives.
+//! The result of linking.
 
 use image_file::Image;
 use relax_sites::Choice;
 use std::marker::Model;
 
-/// An image of objects, and which sequence stands in the place of each of their sites.
+/// A linked image, and which sequence takes the place of each site's.
 #[derive(Drop)]
 pub struct Linked {
     pub image: Image,
-    /// Those of each object, in the order of its sites.
+    /// The choices of each object, in the order of its sites.
     pub choices: Vec<Vec<Choice>>,
 }
 

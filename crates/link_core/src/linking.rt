@@ -30,7 +30,7 @@ use std::alloc::{AllocError, Global};
 use std::thread::Threads;
 use tls_symbols::Exports;
 
-/// What is known of an image before its dynamic tables are laid.
+/// Collects what an image is made from, before its dynamic tables are laid out.
 fn draft_of<'d>(
     inputs: &Inputs,
     parts: &'d [PartPlace],
@@ -58,7 +58,7 @@ fn draft_of<'d>(
     }
 }
 
-/// The image that a file becomes.
+/// Makes the image from its file.
 fn finished(alloc: Global, tables: &Tables, file: Vec<u8>) -> Result<Image, AllocError>
     requires sound { IsSound tables.now }
     requires file { file.items ≡ file_of_link tables.now }
@@ -80,7 +80,7 @@ fn finished(alloc: Global, tables: &Tables, file: Vec<u8>) -> Result<Image, Allo
     image_of(alloc, &draft, file)
 }
 
-/// The sections of a link, laid into a file.
+/// Lays the sections of a link out in a file.
 fn laid(alloc: Global, plan: &Plan) -> Result<Vec<u8>, AllocError>
     ensures { IfOk result (λ file. file.items ≡ sections_file (layout plan.now) plan.now.objects) }
 {
@@ -100,8 +100,8 @@ fn image<R: Threads + Sync>(rt: &R, alloc: Global, tables: &Tables) -> Result<Im
 }
 
 impl ReadyLink<'_, '_, '_> {
-    /// Writes the image, where all fields hold their values ([`overflow`](Self::overflow) tells). The only error is want
-    /// of memory.
+    /// Writes the image. All fields must hold their values, which [`overflow`](Self::overflow) tests. Fails only when
+    /// memory runs out.
     #[tactic(auto, unfolding(crate::specs::Images::linked_of))]
     pub fn write<R: Threads + Sync>(self, rt: &R, alloc: Global) -> Result<Linked, AllocError>
         requires { Links self }
@@ -115,7 +115,7 @@ impl ReadyLink<'_, '_, '_> {
     }
 }
 
-/// The image of a link that is ready, or the first field that does not hold its value.
+/// Writes the image of a ready link. The error is the first field that can't hold its value.
 fn written<R: Threads + Sync>(rt: &R, alloc: Global, ready: ReadyLink) -> Result<Linked, LinkFault>
     requires { IsSound ready }
     ensures linked { IfOk result (λ linked. linked ≡ linked_of ready.entry) }
@@ -128,11 +128,11 @@ fn written<R: Threads + Sync>(rt: &R, alloc: Global, ready: ReadyLink) -> Result
     }
 }
 
-/// Links objects into an image of this kind, beside startup images that export these names: of all of them in image
-/// order, the image's own included where it is one. `sites` has the sequences of each object, which are all that it has
-/// of thread-local storage: no relocation of theirs is loose, and no call of the run time strays. `relax` says whether
-/// they may be rewritten. Answers the first fault: the kinds in their order, `Overflow` last, and within a kind the
-/// first object, section and entry.
+/// Links objects into an image of this kind. `startup` has what each startup image exports, in image order; an image
+/// that is one itself is among them. `sites` has the sequences of each object. They are all that it has of thread-local
+/// storage: no relocation of a sequence and no call of the run time is outside them. `relax` says whether they may be
+/// rewritten. The error is the first fault: the kinds in their order, `Overflow` last, and within a kind the first
+/// object, section and entry.
 pub fn link<'a, R: Threads + Sync>(
     rt: &R,
     alloc: Global,

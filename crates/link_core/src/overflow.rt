@@ -1,4 +1,4 @@
-//! The first field that does not hold its value, found with no byte written.
+//! Finds the first field that can't hold its value, before a byte is written.
 
 ghost use Rattle.std.specs.Prelude.{OnErr, OnOk};
 ghost use Rattle.tls_symbols.specs.Walks.{IsUse};
@@ -11,7 +11,7 @@ use link_needs::Plan;
 use tls_relocs::Overflow;
 use tls_symbols::{Use, Uses};
 
-/// Asks whether the field of a relocation holds its value, if it has a field.
+/// Tests whether the field of a relocation holds its value, if it has a field.
 fn ask_field(plan: &Plan, found: &Use) -> Result<(), Overflow>
     requires { IsUse plan.now.objects found.now }
     ensures fits { OnOk result (IsFilled plan.now found.now.place.object found.now.section found.now.relocation) }
@@ -35,7 +35,7 @@ fn ask_field(plan: &Plan, found: &Use) -> Result<(), Overflow>
     }
 }
 
-/// The first of all fields that does not hold its value.
+/// The first of all fields that can't hold its value.
 fn first_overflow(plan: &Plan) -> Option<LinkFault>
     ensures { IsToldOverflow plan.now result }
 {
@@ -49,7 +49,7 @@ fn first_overflow(plan: &Plan) -> Option<LinkFault>
 }
 
 impl ReadyLink<'_, '_, '_> {
-    /// The first field that does not hold its value, if there is one. No byte of the image is laid.
+    /// The first field that can't hold its value, if there is one. No byte of the image is written.
     pub fn overflow(&self) -> Option<LinkFault>
         ensures { IsToldOverflow self.now result }
     {

@@ -1,6 +1,6 @@
-//! The fields of all relocations, written in several parts of the file at once.
+//! Writes the fields of all relocations, in several parts of the file at once.
 //!
-//! A part begins where a section does, so that no field lies in two, and each thread writes what lies in its own.
+//! A part begins where a section does. So no field is in two parts, and each thread writes only in its own.
 
 ghost use Rattle.std.specs.Prelude.{◌≡◌, ◌+◌, ◌<◌, ◌≤◌, ◌^◌, Some, length};
 ghost use Rattle.std.specs.Thread.{IsSync};
@@ -12,13 +12,13 @@ use crate::writing::{FilePart, place_in_file, write_part};
 use link_needs::Plan;
 use std::thread::{Threads, join_mut};
 
-/// How many bytes of the file are halved: each half is worth a thread of its own.
+/// A part of this many bytes is halved: each half is worth a thread of its own.
 const WORTH_TWO_THREADS: usize = 1 << 20;
 
-/// How often the file is halved at most.
+/// How many times a part is halved at most.
 const HALVINGS: u32 = 3;
 
-/// The later of two places where the file may be cut: one so far, and where a section begins, if that is not too far.
+/// The later of two offsets where the file may be cut: `cut`, and the start of a section, if that is not past `limit`.
 fn later(plan: &Plan, number: usize, section: u32, limit: u64, cut: u64) -> u64
     requires object { number < length plan.now.objects }
     requires cut { IsCut plan.now cut }
@@ -40,7 +40,7 @@ fn later(plan: &Plan, number: usize, section: u32, limit: u64, cut: u64) -> u64
     }
 }
 
-/// The last place up to a limit where a section of an object begins, if that lies behind the last so far.
+/// The last start of a section of an object up to `limit`, if it is later than `so_far`; else `so_far`.
 fn last_of(plan: &Plan, number: usize, limit: u64, so_far: u64) -> u64
     requires object { number < length plan.now.objects }
     requires cut { IsCut plan.now so_far }
@@ -55,7 +55,7 @@ fn last_of(plan: &Plan, number: usize, limit: u64, so_far: u64) -> u64
     cut
 }
 
-/// Where the file may be cut: the last place up to a limit where a section begins, else its start.
+/// Where the file may be cut: the last start of a section up to `limit`, else the start of the file.
 fn cut_before(plan: &Plan, limit: u64) -> u64
     ensures cut { IsCut plan.now result }
     ensures near { result ≤ limit }
@@ -68,7 +68,7 @@ fn cut_before(plan: &Plan, limit: u64) -> u64
     cut
 }
 
-/// Writes the fields of a part of the file, by as many threads as it is worth.
+/// Writes the fields of a part of the file, with as many threads as it is worth.
 #[cycle(halves)]
 fn write_halves<R: Threads + Sync>(
     rt: &R,
@@ -82,7 +82,7 @@ fn write_halves<R: Threads + Sync>(
     requires far { part.from + length bytes.old ≤ 2 ^ 30 }
     ensures { IsWritten plan.now part.from part.to bytes.old bytes.new }
 {
-    // What is known of a plan is known where a part of it is read.
+    // Reading a field lets the proof use the plan's invariant.
     let _inputs = &plan.inputs;
     if halvings == 0 || bytes.len() < WORTH_TWO_THREADS {
         return write_part(plan, part, bytes);
@@ -95,7 +95,7 @@ fn write_halves<R: Threads + Sync>(
     write_both(rt, plan, part, cut, halvings - 1, front, back);
 }
 
-/// Writes the fields of the two parts that a cut makes of one, side by side.
+/// Writes the fields of the two halves of a part at the same time.
 #[cycle(halves)]
 fn write_both<R: Threads + Sync>(
     rt: &R,
@@ -141,7 +141,7 @@ pub fn write_fields<R: Threads + Sync>(rt: &R, plan: &Plan, file: &mut [u8])
     ensures written { file.new ≡ with_fields_from plan.now 0 plan.now.objects file.old }
     ensures filled { length file.new ≡ length (raw_file plan.now) }
 {
-    // What is known of a plan is known where a part of it is read.
+    // Reading a field lets the proof use the plan's invariant.
     let _inputs = &plan.inputs;
     let whole = FilePart { from: 0, to: None };
     write_halves(rt, plan, whole, HALVINGS, file);

@@ -1,5 +1,5 @@
-//! A link that is ready to be written: all that may refuse it has been asked but whether its fields hold their values,
-//! and its table is laid out. No byte of the image is.
+//! A link that is ready to be written. All that can refuse it was tested, except whether its fields hold their values,
+//! and its offset table is laid out. No byte of the image is written.
 
 ghost use Rattle.std.specs.Prelude.{◌≡◌, ◌-◌, ◌<◌, ◌^◌, ℕ, [], None, IfErr, IfOk, OnOk, length, map, slice_index_or};
 ghost use Rattle.sequence_match.specs.Faults.{AreSites};
@@ -25,7 +25,7 @@ use std::marker::Model;
 use tls_layout::{Placement, TlsSize, place, static_offsets};
 use tls_symbols::{Bindings, Exports, resolve};
 
-/// A link that no fault stands in but an `Overflow`, with its table laid out. Contracts see what decides it.
+/// A link with no fault, except that a field may overflow, and with its offset table laid out. Contracts see the link.
 #[derive(Drop)]
 pub struct ReadyLink<'l, 's, 'a> {
     pub(crate) tables: Tables<'l, 's, 'a>,
@@ -62,7 +62,7 @@ fn block_offset(alloc: Global, placement: &Placement) -> Result<u64, AllocError>
     Ok(offsets[0])
 }
 
-/// The image as a whole is too large.
+/// The fault of an image that is too large as a whole.
 fn too_large() -> LinkFault
     ensures { result ≡ LinkFault.At LinkFaultKind.ImageTooLarge None 0 0 }
 {
@@ -74,7 +74,7 @@ fn too_large() -> LinkFault
     }
 }
 
-/// The names of an image whose relocations are few and whose names are short.
+/// The names of an image. The fault is that it has too many relocations, or too long names.
 fn named<'a>(
     alloc: Global,
     objects: &[Object<'a>],
@@ -105,7 +105,8 @@ fn named<'a>(
     Ok(Names { own, imports })
 }
 
-/// How far below the thread pointer the block begins, where what asks for thread-local storage finds some.
+/// How far below the thread pointer the block begins. The fault is that code asks for thread-local storage and finds
+/// none.
 fn storage(
     alloc: Global,
     objects: &[Object],
@@ -125,7 +126,7 @@ fn storage(
     Ok(block_offset(alloc, placement)?)
 }
 
-/// A link of these inputs, with its table laid out. The only error is want of memory.
+/// A link of these inputs, with its offset table laid out. Fails only when memory runs out.
 fn planned<'l, 's, 'a>(
     alloc: Global,
     inputs: Inputs<'l, 's, 'a>,
@@ -144,8 +145,8 @@ fn planned<'l, 's, 'a>(
     Ok(ReadyLink { tables })
 }
 
-/// The link of objects whose names are bound so and whose sections go there, or the first fault that is left, of another
-/// kind than `Overflow`.
+/// A ready link of objects with these bindings and this placement. The error is the first fault of those that remain,
+/// except `Overflow`.
 fn within_limits<'l, 's, 'a>(
     alloc: Global,
     objects: &'l [Object<'a>],
@@ -183,8 +184,8 @@ fn within_limits<'l, 's, 'a>(
     Ok(ready)
 }
 
-/// Makes a link of objects ready, beside startup images that export these names, or answers the first fault of another
-/// kind than `Overflow`. No byte of the image is laid.
+/// Makes a link of objects ready, beside startup images that export these names. The error is the first fault, except
+/// `Overflow`. No byte of the image is written.
 pub fn prepare<'l, 's, 'a>(
     alloc: Global,
     objects: &'l [Object<'a>],
@@ -207,7 +208,7 @@ pub fn prepare<'l, 's, 'a>(
     within_limits(alloc, objects, sites, kind, relax, bindings, placement)
 }
 
-/// A link without the names of its tables.
+/// A link without the names of its dynamic tables.
 fn plan_in<'l, 's, 'a>(tables: Tables<'l, 's, 'a>) -> Plan<'l, 's, 'a>
     ensures { result ≡ tables.entry }
 {
@@ -220,7 +221,7 @@ fn plan_in<'l, 's, 'a>(tables: Tables<'l, 's, 'a>) -> Plan<'l, 's, 'a>
 }
 
 impl<'l, 's, 'a> ReadyLink<'l, 's, 'a> {
-    /// What is known of the link, where no byte of it is asked for.
+    /// The inputs of the link, for a caller that wants no byte of the image.
     pub fn into_inputs(self) -> Inputs<'l, 's, 'a>
         ensures { result ≡ self.entry }
     {
@@ -228,7 +229,7 @@ impl<'l, 's, 'a> ReadyLink<'l, 's, 'a> {
         plan_in(tables).into_inputs()
     }
 
-    /// Which sequence stands in the place of each site, where no byte of the image is asked for.
+    /// Which sequence takes the place of each site's, for a caller that wants no byte of the image.
     pub fn into_choices(self) -> Vec<Vec<Choice>>
         ensures { map (λ own. own.items) result.items ≡ choices_from self.entry 0 self.entry.sites }
     {

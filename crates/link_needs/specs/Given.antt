@@ -1,4 +1,4 @@
--- What a linker is given, what it keeps of it, and what laying out its table asks.
+-- What a linker is given, what it keeps of that, and what laying out its table requires.
 use Rattle.std.specs.Prelude.{◌≡◌, ◌+◌, ◌*◌, ◌-◌, ◌<◌, ◌≤◌, ◌^◌, ℕ, List, length}
 use Rattle.std.specs.List.{All}
 use Rattle.elf_object.specs.Faults.{IsObject}
@@ -23,8 +23,8 @@ pub record AreInputs (l : Linking) (objects : List (List ℕ)) (p : Layout) (dis
   pub lawful : IsLawful p
   pub distance_is : distance ≡ block_offset l
 
--- the table can be laid out behind the sections: they are within the limits, and so is its size, two words for each
--- of 2^19 relocations and for the run time's function
+-- the table can be laid out after the sections: they are within the limits, and so is its size, two words for each of
+-- 2^19 relocations and for the run time's function
 pub record FitsTable (l : Linking) : Type 0 where
   pub lawful : IsLawful (layout l)
   pub got : got_size l ≤ 16 * (2 ^ 19 + 1)

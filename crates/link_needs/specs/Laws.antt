@@ -21,7 +21,7 @@ use Rattle.link_needs.specs.Linking.{Linking, address, binding, choice, object, 
 use Rattle.link_needs.specs.Needs.{entries, has_stub, is_address_kind, is_kept, needs, new_relocation}
 use Rattle.link_needs.specs.Needs.{relocation_need}
 
--- an entry of the table serves the need, and begins so many bytes behind its start
+-- an entry of the table serves the need, and begins this many bytes after the table's start
 pub record HasEntry (l : Linking) (need : Need) : Type 0 where
   pub at : ℕ
   pub starts : start_of (entries l) need ≡ Some at
@@ -29,8 +29,9 @@ pub record HasEntry (l : Linking) (need : Need) : Type 0 where
 abbrev pub NeedsHaveEntries : Type 0
 NeedsHaveEntries = (l : Linking) (need : Need) → Contains (needs l) need → HasEntry l need
 
--- what a sequence of object o reaches: by its first relocation where it is kept, by that of its new field where it is
--- rewritten; and the run time's function, where it stays a call of it, through its word or by the stub
+-- what a sequence of object o reaches: if it is kept, with its first relocation; if it is rewritten, with the
+-- relocation of its new field; and the run time's function, if a call of it is kept, through its word or through the
+-- stub
 pub record ReachesEntries (l : Linking) (o : ℕ) (site : Site) : Type 0 where
   pub first : is_kept (choice l o site) ≡ true → (need : Need) → relocation_need l o (first_of site) ≡ Some need
       → HasEntry l need
@@ -51,6 +52,6 @@ FieldsReachEntries = (l : Linking) (o t : ℕ) (r : Relocation) (found : SymbolR
     → t < section_count (object l o) → Contains (relocations (object l o) t) r → is_address_kind r.kind ≡ true
     → binding l o r ≡ Some (Here found) → HasEntry l (AddressWord found (address l found))
 
--- where a stub is there is the word that it jumps through
+-- if there is a stub, there is the word that it jumps through
 abbrev pub StubsHaveTheirWord : Type 0
 StubsHaveTheirWord = (l : Linking) → has_stub l ≡ true → HasEntry l RuntimeWord

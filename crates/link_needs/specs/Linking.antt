@@ -1,5 +1,5 @@
--- All that decides an image: what it is linked as, its objects with their sequences, what the startup images export,
--- and whether sequences may be rewritten.
+-- All that an image depends on: its kind, its objects with their sequences, what the startup images export, and whether
+-- sequences may be rewritten.
 use Rattle.std.specs.Prelude.{◌+◌, ℕ, Bool, List, [], ◌∷◌, Option, Some, None, map, slice_index_or, unwrap_or}
 use Rattle.std.specs.Global.{Vec}
 use Rattle.elf_object.specs.declared.relocation.Relocation.{Relocation}
@@ -29,7 +29,7 @@ pub record Linking : Type 0 where
   pub sites : List (List Site)
   pub relax : Bool
 
--- that of objects and their sites, as code holds them
+-- the link of objects and their sites, as code holds them
 abbrev pub link_of : List (List ℕ) → List (Vec Site) → ImageKind → List (List (List ℕ)) → Bool → Linking
 link_of objects sites kind startup relax = record {
   kind = kind;
@@ -45,7 +45,7 @@ object l o = object_at l.objects o
 abbrev pub sites_at : Linking → ℕ → List Site
 sites_at l o = slice_index_or l.sites o []
 
--- where its sections go
+-- where the sections of a link go
 abbrev pub layout : Linking → Layout
 layout l = layout_of l.kind l.objects
 
@@ -55,12 +55,12 @@ block_offset l = round_up (tls_size (layout l).sections) (tls_alignment (layout 
 
 -- ** symbols
 
--- what the symbol is bound to that a relocation of object o names
+-- what the symbol of a relocation of object o is bound to
 abbrev pub binding : Linking → ℕ → Relocation → Option Binding
 binding l o r = binding_of l.objects l.startup o r
 
--- where a symbol of object o is that lies so far behind the start of its section: its address, and its offset in the
--- TLS segment
+-- a symbol of object o that is this many bytes after the start of its section: its address, and its offset in the TLS
+-- segment
 abbrev pub address_in : Layout → ℕ → SymbolPlace → ℕ → ℕ
 address_in p o (InSection s) value = unwrap_or (address_of p o s) 0 + value
 address_in p o place value = value
@@ -79,13 +79,13 @@ offset l found =
     offset_in (layout l) found.object (symbol_place (object l found.object) found.symbol)
     (symbol_value (object l found.object) found.symbol)
 
--- where byte k of section s of object o is
+-- the address of byte k of section s of object o
 abbrev pub place : Linking → ℕ → ℕ → ℕ → ℕ
 place l o s k = unwrap_or (address_of (layout l) o s) 0 + k
 
 -- ** sequences
 
--- which sequence stands in a site's place; it is bound as its first relocation is
+-- which sequence takes the place of a site's; the site is bound as its first relocation is
 abbrev pub chosen : Linking → Form → Option Binding → Choice
 chosen l form None = Keep
 chosen l form (Some bound) = choice_of form bound l.kind l.relax
@@ -93,7 +93,7 @@ chosen l form (Some bound) = choice_of form bound l.kind l.relax
 unfoldable pub choice : Linking → ℕ → Site → Choice
 choice l o site = chosen l site.form (binding l o (first_of site))
 
--- those of the sites of object o, and of all objects, from number o on
+-- likewise for the sites of object o, and of all objects from number o on
 abbrev pub choices_in : Linking → ℕ → List Site → List Choice
 choices_in l o own = map (choice l o) own
 

@@ -1,4 +1,4 @@
--- What code needs of the global offset table, and where the table, the stub and each entry lie (Drepper, "ELF Handling
+-- What code needs of the global offset table, and where the table, the stub and each entry are (Drepper, "ELF Handling
 -- For Thread-Local Storage", section 4; psABI, "Thread-Local Storage").
 use Rattle.std.specs.Prelude.{◌+◌, ◌&&◌, ◌++◌, ℕ, Bool, true, false, List, [], ◌∷◌, Option, Some, None, filter}
 use Rattle.std.specs.Prelude.{option_and_then, option_map, is_some, if◌then◌else◌, nat_le}
@@ -40,13 +40,13 @@ target_by l o e (Some (Here found)) = Some (target.Here found (offset l found))
 target_by l o e (Some (Startup image)) = Some (target.Import (symbol_name (object l o) e))
 target_by l o e bound = None
 
--- the word with the address of a symbol of the image, or with that of the run time's function
+-- the word with the address of a symbol of the image, or of the run time's function
 abbrev pub address_need : Linking → Option Binding → Option Need
 address_need l (Some (Here found)) = Some (AddressWord found (address l found))
 address_need l (Some Runtime) = Some RuntimeWord
 address_need l bound = None
 
--- the entry that a relocation's field reaches, by its type; its symbol has number e in object o, and is bound so
+-- the entry that a relocation's field reaches, by its type, and by the number and the binding of its symbol in object o
 abbrev pub entry_need : Linking → ℕ → ℕ → Option Binding → TableEntry → Option Need
 entry_need l o e bound entry.NoEntry = None
 entry_need l o e bound entry.ModulePair = Some ModulePair
@@ -63,12 +63,12 @@ relocation_need l o r = need_by l o r.symbol (binding l o r) r.kind
 
 -- ** what a sequence needs
 
--- the relocation of a field that stands in a site's place; it names the site's symbol
+-- the relocation of a field in the sequence that takes a site's place; its symbol is the site's
 abbrev pub new_relocation : Site → NewField → Relocation
 new_relocation site f =
     record { offset = site.start + f.at; kind = f.kind; symbol = site.symbol; addend = f.addend }
 
--- the relocation by which a site reaches its entry: its first one where it is kept, else that of the new field
+-- the relocation with which a site reaches its entry: its first one if it is kept, else that of the new field
 abbrev pub reaching : Site → Choice → Option Relocation
 reaching site Keep = Some (first_of site)
 reaching site choice = option_map (new_relocation site) (new_field site.form choice)
@@ -81,7 +81,7 @@ calls GdInd = true
 calls LdInd = true
 calls form = false
 
--- directly: by the stub
+-- directly: through the stub
 abbrev pub calls_stub : Form → Bool
 calls_stub Gd = true
 calls_stub Ld = true
@@ -95,20 +95,20 @@ abbrev pub as_list : {X : Type 0} → Option X → List X
 as_list None = []
 as_list (Some x) = x ∷ []
 
--- what a site of object o needs: its variable's entry, and where it stays the run time's word if it calls it
+-- what a site of object o needs: its variable's entry, and the run time's word if it is kept and calls through it
 unfoldable pub site_needs : Linking → ℕ → Site → List Need
 site_needs l o site =
     as_list (option_and_then (relocation_need l o) (reaching site (choice l o site)))
     ++ (if is_kept (choice l o site) && calls site.form then RuntimeWord ∷ [] else [])
 
--- those of the objects from number o on have these sites
+-- what the objects from number o on need, which have these sites
 abbrev pub site_needs_from : Linking → ℕ → List (List Site) → List Need
 site_needs_from l o [] = []
 site_needs_from l o (own ∷ more) = flat_map (site_needs l o) own ++ site_needs_from l (o + 1) more
 
 -- ** what other code needs: the addresses of symbols of the image
 
--- of the image's own symbols alone: a call of the run time belongs to a site
+-- only of the image's own symbols: a call of the run time belongs to a site
 abbrev pub own_word : Linking → Option Binding → List Need
 own_word l (Some (Here found)) = AddressWord found (address l found) ∷ []
 own_word l bound = []
@@ -116,18 +116,18 @@ own_word l bound = []
 abbrev pub address_needs : Linking → ℕ → Relocation → List Need
 address_needs l o r = own_word l (binding l o r)
 
--- x before the first element whose number is at least its own
+-- x, before the first element with at least its number
 abbrev pub inserted : {X : Type 0} → (X → ℕ) → X → List X → List X
 inserted number x [] = x ∷ []
 inserted number x (y ∷ more) =
     if nat_le (number x) (number y) then x ∷ (y ∷ more) else y ∷ inserted number x more
 
--- the elements by rising number; those of one number in the order that they have
+-- the elements in the order of their numbers; those with one number keep their order
 abbrev pub sorted_by : {X : Type 0} → (X → ℕ) → List X → List X
 sorted_by number [] = []
 sorted_by number (x ∷ more) = inserted number x (sorted_by number more)
 
--- the address fields of section t, by their places
+-- the address fields of section t, in the order of their places
 abbrev pub address_fields : List ℕ → ℕ → List Relocation
 address_fields b t = sorted_by (λ r. r.offset) (filter (λ r. is_address_kind r.kind) (relocations b t))
 
@@ -146,21 +146,21 @@ object_needs_from l o (b ∷ more) = object_needs l o b ++ object_needs_from l (
 unfoldable pub needs : Linking → List Need
 needs l = site_needs_from l 0 l.sites ++ object_needs_from l 0 l.objects
 
--- its entries
+-- the entries of the table
 unfoldable pub entries : Linking → List Need
 entries l = entries_of (needs l)
 
 abbrev pub table : Linking → Table
 table l = record { kind = l.kind; block_offset = block_offset l; entries = entries l }
 
--- it begins behind all sections of objects, on a page of its own
+-- the table begins after all sections of objects, on a page of its own
 abbrev pub got_start : Linking → ℕ
 got_start l = room (layout l).kind (layout l).sections
 
 abbrev pub got_size : Linking → ℕ
 got_size l = total_size (entries l)
 
--- where the entry of a need is; 0 where there is none
+-- the address of the entry for a need; 0 if there is none
 abbrev pub entry_by : Linking → Option ℕ → ℕ
 entry_by l None = 0
 entry_by l (Some at) = got_start l + at
@@ -172,7 +172,7 @@ need_address l need = entry_by l (option_and_then (start_of (entries l)) need)
 abbrev pub uses_runtime : Linking → Bool
 uses_runtime l = is_some (start_of (entries l) RuntimeWord)
 
--- ** the stub: a jump through the run time's word, which direct calls go to
+-- ** the stub: a jump through the run time's word, for direct calls
 
 abbrev pub is_stub_call : Linking → ℕ → Site → Bool
 is_stub_call l o site = is_kept (choice l o site) && calls_stub site.form
@@ -184,6 +184,6 @@ any_stub_call l o (own ∷ more) = if list_any (is_stub_call l o) own then true 
 unfoldable pub has_stub : Linking → Bool
 has_stub l = any_stub_call l 0 l.sites
 
--- on the page behind the table
+-- the stub is on the page after the table
 abbrev pub stub_start : Linking → ℕ
 stub_start l = page_up (got_start l + got_size l)

@@ -1,5 +1,5 @@
--- What a link keeps of its table, what each symbol that relocations name stands for, what a relocation's field takes
--- from it, and what is asked of one site.
+-- What a link keeps of its table, what each symbol of a relocation is bound to, what a relocation's field takes from
+-- that, and what must hold of one site.
 use Rattle.std.specs.Prelude.{◌≡◌, ℕ, Bool, List, true, false, Option, Some, length, map, if◌then◌else◌, ◌+◌, ◌<◌, ◌≤◌}
 use Rattle.std.specs.Prelude.{◌^◌}
 use Rattle.got_pairs.specs.Plans.{Table}
@@ -22,7 +22,7 @@ use Rattle.elf_object.specs.Lent.{section_size}
 use Rattle.relax_sites.specs.Rows.{form_length}
 use Rattle.sequence_forms.specs.declared.places.Site.{Site}
 
--- a site lies in its section, names a symbol of its object, and has the bytes and a register of its form
+-- a site is in its section, its symbol is one of its object, and it has the bytes and a register of its form
 pub record IsUsable (b : List ℕ) (site : Site) : Type 0 where
   pub symbol : site.symbol < symbol_count b
   pub inside : site.start + site.len ≤ section_size b site.section
@@ -30,14 +30,14 @@ pub record IsUsable (b : List ℕ) (site : Site) : Type 0 where
   pub whole : site.len ≡ form_length site.form
   pub register : site.reg ≤ 15
 
--- ** what a symbol stands for
+-- ** what a symbol is bound to
 
 abbrev pub value_by : Linking → Option Binding → SymbolValue
 value_by l (Some (bound.Here found)) = Here (address l found) (offset l found)
 value_by l (Some bound.Runtime) = Runtime
 value_by l other = Elsewhere
 
--- symbol e of object o, which may not be another image's
+-- symbol e of object o, where it may not be another image's
 unfoldable pub value_of : Linking → ℕ → ℕ → SymbolValue
 value_of l o e = value_by l (bound_to l.objects l.startup o e false)
 
@@ -50,7 +50,7 @@ all_values l = map (values_of l) (range_with_len 0 (length l.objects))
 
 -- ** what a field takes from it
 
--- S, its place, or O, its offset in the TLS segment
+-- S, its address, or O, its offset in the TLS segment
 abbrev pub number_by : Linking → RelocationKind → SymbolValue → ℕ
 number_by l kind (Here place within) = if is_offset kind then within else place
 number_by l kind Runtime = stub_start l
@@ -64,15 +64,15 @@ abbrev pub is_run_time : SymbolValue → Bool
 is_run_time Runtime = true
 is_run_time value = false
 
--- whether a type of relocation goes with its sequence, where its symbol stands for this
+-- whether a relocation has no field once its sequence is rewritten, by its type and what its symbol is bound to
 abbrev pub goes_by : SymbolValue → RelocationKind → Bool
 goes_by value kind = goes_where (is_own value) (is_run_time value) (row kind).replaced
 
 -- ** what is kept
 
--- these belong to the link: what its symbols stand for, which sequences stand in the place of its sites, its table, where
--- it and the stub begin, whether there is a stub, whether sequences are rewritten, and whether offsets count from the
--- thread pointer
+-- these belong to the link: what its symbols are bound to, which sequences take the places of its sites, its table,
+-- where the table and the stub begin, whether there is a stub, whether sequences are rewritten, and whether offsets
+-- count from the thread pointer
 pub record IsPlan (l : Linking) (values : List (List SymbolValue)) (choices : List (List Choice)) (got : Table)
     (start stub : ℕ) (stubbed rewriting counting : Bool) : Type 0 where
   pub given : IsGiven l

@@ -1,4 +1,4 @@
--- What is refused of a relocation: what no linker of static thread-local storage can fill in (psABI, "Relocation
+-- Which relocations are refused: those that no linker of static thread-local storage can fill in (psABI, "Relocation
 -- Types"; Drepper, "ELF Handling For Thread-Local Storage", section 4).
 use Rattle.std.specs.Prelude.{◌==◌, ◌&&◌, ◌||◌, ℕ, Bool, true, false, Option, ◌≡◌, ◌<◌, List, Some, length, ◌-◌, sum_by}
 use Rattle.elf_records.specs.declared.relocation.RelocationKind.{RelocationKind}
@@ -25,8 +25,8 @@ use Rattle.std.specs.List.{range_with_len}
 use Rattle.elf_object.specs.Lent.{relocations}
 use Rattle.elf_object.specs.Object.{section_count}
 
--- whether a type of relocation is refused, whatever its symbol is bound to: an offset from the thread pointer, which
--- a module's code can't know, and an address in 32 bits, which does not hold that of an image that is moved
+-- whether a type of relocation is refused, whatever its symbol is bound to: an offset from the thread pointer, which a
+-- module's code can't know, and an address in 32 bits, which can't hold the address of an image that is moved
 abbrev pub is_refused_by : LinkFaultKind → ImageKind → Refused → Bool
 is_refused_by LocalExecInModule image InModule = is_module image
 is_refused_by NarrowInModule image WhereMoved = is_moved image
@@ -35,12 +35,12 @@ is_refused_by fault image refused = false
 abbrev pub is_refused : LinkFaultKind → ImageKind → RelocationKind → Bool
 is_refused fault image type = is_refused_by fault image (row type).refused
 
--- whether it is refused at all
+-- whether a type of relocation is refused with some fault
 abbrev pub is_refused_at_all : ImageKind → RelocationKind → Bool
 is_refused_at_all image type = is_refused LocalExecInModule image type || is_refused NarrowInModule image type
 
--- whether a type of relocation asks for storage of the image itself, where its symbol is bound so: for the image's
--- block (TLSLD), for the descriptor of a variable in it, and in a module for a variable's pair of words or its offset
+-- whether a relocation asks for storage of the image itself, by its type and its binding: for the image's block
+-- (TLSLD), for the descriptor of a variable in it, and in a module for a variable's pair of words or its offset
 abbrev pub entry_asks_storage : ImageKind → TableEntry → Option Binding → Bool
 entry_asks_storage image ModulePair bound = true
 entry_asks_storage image SymbolPair bound = is_module image && is_here bound
@@ -51,7 +51,7 @@ entry_asks_storage image entry bound = false
 abbrev pub asks_storage : ImageKind → RelocationKind → Option Binding → Bool
 asks_storage image type bound = entry_asks_storage image (row type).entry bound
 
--- ** which one is told
+-- ** which fault is reported
 
 -- the relocations that the image's kind refuses
 abbrev pub by_type : LinkFaultKind → ImageKind → Test
@@ -61,18 +61,18 @@ by_type fault image o r = is_refused fault image r.kind
 abbrev pub by_kind : ImageKind → Test
 by_kind image o r = is_refused_at_all image r.kind
 
--- those that want storage of an image that has none; startup is what the startup images export
+-- those that ask for storage of an image that has none; startup is what the startup images export
 abbrev pub by_storage : List (List ℕ) → List (List (List ℕ)) → ImageKind → ℕ → Test
 by_storage objects startup image size o r = (size == 0) && asks_storage image r.kind (binding_of objects startup o r)
 
 -- ** the kind of the image
 
--- nothing is refused of an image of this kind
+-- an image of this kind refuses no relocation
 pub record FitsKind (objects : List (List ℕ)) (image : ImageKind) : Type 0 where
   pub no_local_exec : NoneCharged (by_type LocalExecInModule image) objects
   pub no_narrow : NoneCharged (by_type NarrowInModule image) objects
 
--- what a refusal says of the objects: an address in 32 bits is told where there is no offset from the thread pointer
+-- what a refusal reports: an address in 32 bits only if there is no offset from the thread pointer
 abbrev pub IsKindFault : List (List ℕ) → ImageKind → LinkFault → Type 0
 IsKindFault objects image (At LocalExecInModule (Some o) s e) =
     IsFirstCharged (by_type LocalExecInModule image) objects o s e
@@ -83,7 +83,7 @@ IsKindFault objects image fault = ⊥
 
 -- ** its thread-local storage
 
--- nothing is refused of an image with this much storage
+-- an image with this much storage refuses no relocation
 abbrev pub FitsStorage : List (List ℕ) → List (List (List ℕ)) → ImageKind → ℕ → Type 0
 FitsStorage objects startup image size = NoneCharged (by_storage objects startup image size) objects
 
@@ -100,13 +100,13 @@ test_of (ByType fault image) = by_type fault image
 test_of (ByKind image) = by_kind image
 test_of (ByStorage image bindings) = by_storage bindings.now.objects bindings.now.startup image 0
 
--- it is asked of these objects
+-- the question is about these objects
 abbrev pub IsAskedOf : List (List ℕ) → Charge → Type 0
 IsAskedOf objects (ByType fault image) = Unit {0}
 IsAskedOf objects (ByKind image) = Unit {0}
 IsAskedOf objects (ByStorage image bindings) = bindings.now.objects ≡ objects
 
--- it may be asked of a relocation of object o: its symbol is there
+-- the question may be asked about a relocation of object o: its symbol exists
 abbrev pub IsAskedWithin : Charge → ℕ → Relocation → Type 0
 IsAskedWithin (ByType fault image) o r = Unit {0}
 IsAskedWithin (ByKind image) o r = Unit {0}
@@ -115,10 +115,10 @@ IsAskedWithin (ByStorage image bindings) o r =
 
 -- ** how many relocations there are
 
--- those of the sections of an object that linking keeps, of type NONE too
+-- the number of relocations of those sections of an object that linking keeps; type NONE counts too
 unfoldable pub own_count : List ℕ → ℕ
 own_count b = sum_by (λ t. length (relocations b t)) (range_with_len 1 (section_count b - 1))
 
--- those of all objects
+-- the number for all objects
 abbrev pub relocation_count : List (List ℕ) → ℕ
 relocation_count objects = sum_by own_count objects

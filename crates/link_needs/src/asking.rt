@@ -1,4 +1,4 @@
-//! What is refused of the relocations of an image.
+//! What an image refuses of the relocations of its objects.
 
 ghost use Rattle.std.specs.Prelude.{◌≡◌, MatchOption, MatchResult};
 ghost use Rattle.link_needs.specs.Refusals.{by_kind, test_of, FitsKind, FitsStorage, IsAskedOf, IsKindFault, IsStorageFault};
@@ -9,7 +9,7 @@ use elf_object::Object;
 use link_faults::{ImageKind, LinkFault, LinkFaultKind};
 use tls_symbols::{Bindings, Place, first_use};
 
-/// The first relocation of the objects that is charged, if one is.
+/// The first relocation of the objects that the question is about, if there is one.
 fn first_place(charge: &Charge, objects: &[Object]) -> Option<Place>
     requires { IsAskedOf objects.now charge.now }
     ensures { MatchOption result (NoneCharged (test_of charge.now) objects.now)
@@ -29,7 +29,7 @@ fn first_refused(objects: &[Object], kind: ImageKind) -> Option<Place>
     }
 }
 
-/// Asks of one fault after another whether an image of this kind refuses a relocation with it.
+/// Asks about one fault after another: does an image of this kind refuse a relocation with it?
 fn ask_faults(objects: &[Object], kind: ImageKind) -> Result<(), LinkFault>
     ensures { MatchResult result (λ _. FitsKind objects.now kind) (IsKindFault objects.now kind) }
 {
@@ -44,9 +44,9 @@ fn ask_faults(objects: &[Object], kind: ImageKind) -> Result<(), LinkFault>
     }
 }
 
-/// Asks whether an image of these objects may be of this kind: a module has no offset from the thread pointer in its
-/// code, and an image that may lie at any address no address in 32 bits. Answers the first fault: `LocalExecInModule`,
-/// else `NarrowInModule`, at the first object, section and entry.
+/// Tests whether an image of these objects may be of this kind. The code of a module may hold no offset from the thread
+/// pointer, and an image that may be loaded at any address may hold no address in 32 bits. The error is the first
+/// fault: `LocalExecInModule`, else `NarrowInModule`, at the first object, section and entry.
 pub fn ask_kind(objects: &[Object], kind: ImageKind) -> Result<(), LinkFault>
     ensures { MatchResult result (λ _. FitsKind objects.now kind) (IsKindFault objects.now kind) }
 {
@@ -56,8 +56,8 @@ pub fn ask_kind(objects: &[Object], kind: ImageKind) -> Result<(), LinkFault>
     }
 }
 
-/// Asks whether an image of these objects asks for storage that it does not have. `tls_size` is the size of its segment
-/// of thread-local storage; `bindings` are those of the objects. Answers the fault `NoTls` at the first object, section
+/// Tests whether an image of these objects has the thread-local storage that its code asks for. `tls_size` is the size
+/// of its TLS segment; `bindings` are those of the objects. The error is the fault `NoTls` at the first object, section
 /// and entry.
 pub fn ask_tls(
     objects: &[Object],

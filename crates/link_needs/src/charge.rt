@@ -1,4 +1,4 @@
-//! What a relocation may be refused for.
+//! Why a relocation may be refused.
 
 ghost use Rattle.std.specs.Prelude.{◌≡◌, ◌≢◌, ◌<◌, length};
 ghost use Rattle.elf_object.specs.Parts.{symbol_count};
@@ -18,7 +18,7 @@ pub enum Charge<'b, 'l, 's, 'a> {
     ByType(LinkFaultKind, ImageKind),
     /// Does the kind of the image refuse its type, with any fault?
     ByKind(ImageKind),
-    /// Does it want storage that the image, which has none, would have itself?
+    /// Does it ask for storage of the image itself, which has none?
     ByStorage(ImageKind, &'b Bindings<'l, 's, 'a>),
 }
 
@@ -41,7 +41,7 @@ fn is_refused_at_all(image: ImageKind, kind: RelocationKind) -> bool
         || is_refused(LinkFaultKind::NarrowInModule, image, kind)
 }
 
-/// Whether what a relocation names is a symbol of the image itself.
+/// Whether a relocation is bound to a symbol of the image itself.
 fn is_here(bindings: &Bindings, index: usize, relocation: &Relocation) -> bool
     requires object { index < length bindings.now.objects }
     requires symbol { relocation.now.symbol < symbol_count (object_at bindings.now.objects index) }
@@ -53,7 +53,7 @@ fn is_here(bindings: &Bindings, index: usize, relocation: &Relocation) -> bool
     )
 }
 
-/// Whether a relocation asks for storage that the image itself has.
+/// Whether a relocation asks for storage of the image itself.
 fn asks_storage(
     bindings: &Bindings,
     image: ImageKind,

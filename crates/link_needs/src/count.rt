@@ -1,4 +1,4 @@
-//! How many relocations an image has.
+//! The number of relocations of an image.
 
 ghost use Rattle.std.specs.Prelude.{◌≡◌, ◌+◌, ◌*◌, ◌<◌, ◌≤◌, ◌^◌, ◌↔◌, IsTrue, length};
 ghost use Rattle.std.specs.List.{All};
@@ -8,10 +8,10 @@ ghost use Rattle.link_needs.specs.Refusals.{own_count, relocation_count};
 
 use elf_object::Object;
 
-/// How many relocations an image may have.
+/// The most relocations that an image may have.
 pub const MAX_RELOCATIONS: u128 = 1 << 19;
 
-/// How many the sections of an object have.
+/// The number of relocations of an object's sections that linking keeps.
 #[tactic(auto, unfolding(crate::specs::Refusals::own_count))]
 fn own_count(object: &Object) -> u64
     ensures count { result ≡ own_count object.now }
@@ -25,7 +25,7 @@ fn own_count(object: &Object) -> u64
     count
 }
 
-/// How many relocations the objects have, of sections that linking keeps.
+/// The number of relocations of the objects' sections that linking keeps.
 pub fn relocation_count(objects: &[Object]) -> u128
     ensures count { result ≡ relocation_count objects.now }
     ensures objects { All IsObject objects.now }
@@ -37,7 +37,7 @@ pub fn relocation_count(objects: &[Object]) -> u128
     count
 }
 
-/// Whether they are no more than an image may have.
+/// Whether the objects have at most [`MAX_RELOCATIONS`] relocations.
 pub fn has_few_relocations(objects: &[Object]) -> bool
     ensures few { IsTrue result ↔ (relocation_count objects.now ≤ MAX_RELOCATIONS) }
     ensures objects { All IsObject objects.now }

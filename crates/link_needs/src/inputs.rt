@@ -1,4 +1,4 @@
-//! What a link is given, and what each symbol and each sequence of it is.
+//! What a link is given, and what its symbols are bound to and where they are.
 
 ghost use Rattle.std.specs.Prelude.{◌≡◌, ◌<◌, ◌≤◌, ◌^◌, ℕ, IfSome, IsSome, length, unwrap_or};
 ghost use Rattle.elf_object.specs.Parts.{symbol_count};
@@ -15,7 +15,7 @@ use std::marker::Model;
 use tls_layout::Placement;
 use tls_symbols::{Bindings, imports_of};
 
-/// Objects, what their names are bound to, and where their sections go. Contracts see what decides these.
+/// Objects, what their names are bound to, and where their sections go. Contracts see the link that these are for.
 #[derive(Drop)]
 pub struct Inputs<'l, 's, 'a> {
     pub kind: ImageKind,
@@ -57,7 +57,7 @@ impl<'l, 's, 'a> Model for Inputs<'l, 's, 'a> {
 }
 
 impl<'l, 's, 'a> Inputs<'l, 's, 'a> {
-    /// An object, by its place in the list.
+    /// The object at this index in the list.
     pub fn object(&self, number: usize) -> &'l Object<'a>
         requires { number < length self.now.objects }
         ensures { result.now ≡ object_at self.now.objects number }
@@ -66,7 +66,7 @@ impl<'l, 's, 'a> Inputs<'l, 's, 'a> {
         &objects[number]
     }
 
-    /// What a symbol of an object is bound to that a relocation of this type names.
+    /// What a symbol of an object is bound to, in a relocation of this type.
     #[inline]
     pub fn bound(&self, object: usize, symbol: u32, kind: RelocationKind) -> Option<Binding>
         requires object { object < length self.now.objects }
@@ -77,7 +77,7 @@ impl<'l, 's, 'a> Inputs<'l, 's, 'a> {
         self.bindings.binding(object, symbol, imports_of(kind))
     }
 
-    /// Which sequence stands in a site's place.
+    /// Which sequence takes the place of a site's.
     #[tactic(auto, unfolding(crate::specs::Linking::choice))]
     pub(crate) fn choice(&self, object: usize, site: &Site) -> Choice
         requires object { object < length self.now.objects }
@@ -90,7 +90,7 @@ impl<'l, 's, 'a> Inputs<'l, 's, 'a> {
         }
     }
 
-    /// Where a section of an object begins; 0 where it has no address.
+    /// The address of a section of an object; 0 if it has none.
     #[tactic(auto, using(crate::proofs::InputsLemmas::address_small))]
     pub fn section_address(&self, object: usize, section: u32) -> u64
         ensures address { result ≡ unwrap_or (address_of (layout self.now) object section) 0 }
@@ -130,7 +130,7 @@ impl<'l, 's, 'a> Inputs<'l, 's, 'a> {
         }
     }
 
-    /// The address so far behind the start of a section; the value alone where it has no address.
+    /// The address of a symbol, by its place and its value. It is the value alone if its section has no address.
     #[tactic(auto, using(crate::proofs::InputsLemmas::address_small))]
     #[inline]
     fn address_in(&self, object: usize, place: SymbolPlace, value: u64) -> u64
@@ -147,7 +147,8 @@ impl<'l, 's, 'a> Inputs<'l, 's, 'a> {
         }
     }
 
-    /// The offset so far behind the start of a section; the value alone where it has no offset.
+    /// The offset of a symbol in the TLS segment, by its place and its value. It is the value alone if its section has
+    /// none.
     #[tactic(auto, using(crate::proofs::InputsLemmas::offset_small))]
     #[inline]
     fn offset_in(&self, object: usize, place: SymbolPlace, value: u64) -> u64

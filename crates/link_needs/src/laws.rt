@@ -1,4 +1,4 @@
-//! Laws of what code reaches. The functions do nothing: what they ensure is the law.
+//! Laws of what code reaches. The functions do nothing; each `ensures` a law.
 
 ghost use Rattle.link_needs.specs.Laws.{FieldsReachEntries, NeedsHaveEntries, SitesReachEntries, StubsHaveTheirWord};
 
@@ -7,17 +7,18 @@ pub fn needs_have_entries()
     ensures { NeedsHaveEntries }
 {}
 
-/// So has what each sequence reaches, kept or rewritten, and a direct call that stays has the stub.
+/// Each entry that a sequence reaches is in the table, whether the sequence is kept or rewritten. A direct call of the
+/// run time that is kept has the stub.
 pub fn sites_reach_entries()
     ensures { SitesReachEntries }
 {}
 
-/// And what each address field reaches.
+/// Each entry that an address field reaches is in the table.
 pub fn fields_reach_entries()
     ensures { FieldsReachEntries }
 {}
 
-/// Where a stub is there is the word that it jumps through.
+/// If there is a stub, there is the word that it jumps through.
 pub fn stubs_have_their_word()
     ensures { StubsHaveTheirWord }
 {}

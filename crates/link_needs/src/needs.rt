@@ -23,8 +23,8 @@ use relax_sites::{Choice, NewField, new_field};
 use sequence_match::{Form, Site};
 use std::alloc::{AllocError, Global};
 
-/// What all code needs of the table, and which sequence stands in the place of each site. Each site is chosen for once;
-/// one that reaches an entry is bound a second time, for its entry.
+/// What all code needs of the table, and which sequence takes the place of each site's. Each site is decided once; a
+/// site that reaches an entry is bound a second time, for its entry.
 #[derive(Drop)]
 pub(crate) struct Wanted<'a> {
     pub needs: Vec<Need<'a>>,
@@ -38,7 +38,7 @@ fn calls(form: Form) -> bool
     matches!(form, Form::Gd | Form::Ld | Form::GdInd | Form::LdInd)
 }
 
-/// Whether it does so directly, by the stub.
+/// Whether it does so directly, through the stub.
 pub fn calls_stub(form: Form) -> bool
     ensures { result ≡ calls_stub form }
 {
@@ -52,7 +52,7 @@ pub fn is_kept(choice: Choice) -> bool
     matches!(choice, Choice::Keep)
 }
 
-/// The run time's word, where a sequence stays that calls it.
+/// The run time's word, if a sequence that calls through it is kept.
 fn word_of_call<'a>(form: Form, choice: Choice) -> Option<Need<'a>>
     ensures { as_list result ≡ (if is_kept choice && calls form then Need.RuntimeWord ∷ [] else []) }
 {
@@ -73,7 +73,7 @@ fn push_some<'a>(need: Option<Need<'a>>, needs: &mut Vec<Need<'a>>) -> Result<()
     Ok(())
 }
 
-/// The relocation of a field that stands in a site's place; it names the site's symbol.
+/// The relocation of a field in the sequence that takes a site's place; its symbol is the site's.
 pub fn new_relocation(site: &Site, field: &NewField) -> Relocation
     requires { site.now.start + field.now.at < 2 ^ 64 }
     ensures { result ≡ new_relocation site.now field.now }
@@ -86,7 +86,7 @@ pub fn new_relocation(site: &Site, field: &NewField) -> Relocation
     }
 }
 
-/// The type of the relocation by which a site reaches its entry, if it does.
+/// The type of the relocation with which a site reaches its entry, if it reaches one.
 fn reaching(site: &Site, choice: Choice) -> Option<RelocationKind>
     ensures { result ≡ option_map (λ r. r.kind) (reaching site.now choice) }
 {
@@ -100,7 +100,7 @@ fn reaching(site: &Site, choice: Choice) -> Option<RelocationKind>
 }
 
 impl<'l, 's, 'a> Inputs<'l, 's, 'a> {
-    /// The variable that symbol `symbol` of an object stands for, which is bound so.
+    /// The variable that symbol number `symbol` of an object is, by its binding.
     fn target(&self, object: usize, symbol: u32, bound: Option<Binding>) -> Option<Target<'a>>
         requires object { object < length self.now.objects }
         requires symbol { symbol < symbol_count (object_at self.now.objects object) }
@@ -119,7 +119,7 @@ impl<'l, 's, 'a> Inputs<'l, 's, 'a> {
         }
     }
 
-    /// The word with the address of what is bound so.
+    /// The word with the address of a binding.
     fn address_need(&self, bound: Option<Binding>) -> Option<Need<'a>>
         requires { IfSome bound (IsBindingWithin self.now.objects) }
         ensures { result ≡ address_need self.now bound }
@@ -134,7 +134,7 @@ impl<'l, 's, 'a> Inputs<'l, 's, 'a> {
         }
     }
 
-    /// The entry that the field of a relocation of this type reaches, whose symbol is bound so.
+    /// The entry that the field of a relocation reaches, by its type and its binding.
     pub(crate) fn need(
         &self,
         object: usize,
@@ -166,7 +166,7 @@ impl<'l, 's, 'a> Inputs<'l, 's, 'a> {
         }
     }
 
-    /// The entry that a site reaches in whose place this sequence stands.
+    /// The entry that a site reaches, by the sequence that takes its place.
     #[tactic(auto, unfolding(crate::specs::Needs::relocation_need))]
     fn reached(&self, object: usize, site: &Site, choice: Choice) -> Option<Need<'a>>
         requires object { object < length self.now.objects }
@@ -182,7 +182,7 @@ impl<'l, 's, 'a> Inputs<'l, 's, 'a> {
         }
     }
 
-    /// Adds what a site needs. Answers which sequence stands in its place.
+    /// Adds what a site needs. Returns which sequence takes its place.
     #[tactic(auto, unfolding(crate::specs::Needs::site_needs))]
     fn push_site(
         &self,
@@ -201,7 +201,7 @@ impl<'l, 's, 'a> Inputs<'l, 's, 'a> {
         Ok(choice)
     }
 
-    /// Adds what the sites of an object need. Answers which sequences stand in their places.
+    /// Adds what the sites of an object need. Returns which sequences take their places.
     fn push_own_sites(
         &self,
         alloc: Global,
@@ -223,7 +223,7 @@ impl<'l, 's, 'a> Inputs<'l, 's, 'a> {
         Ok(choices)
     }
 
-    /// Adds what all sites need. Answers which sequence stands in the place of each.
+    /// Adds what all sites need. Returns which sequence takes the place of each.
     fn push_sites(
         &self,
         alloc: Global,
@@ -242,7 +242,7 @@ impl<'l, 's, 'a> Inputs<'l, 's, 'a> {
         Ok(all)
     }
 
-    /// What an address field needs, whose symbol is bound so.
+    /// What an address field needs, by its binding.
     fn own_word(&self, bound: Option<Binding>) -> Option<Need<'a>>
         requires { IfSome bound (IsBindingWithin self.now.objects) }
         ensures { as_list result ≡ own_word self.now bound }
@@ -318,8 +318,8 @@ impl<'l, 's, 'a> Inputs<'l, 's, 'a> {
         Ok(())
     }
 
-    /// What all code needs: sequences in the order of their sites, and then address fields in that of their places.
-    /// And which sequence stands in the place of each site.
+    /// What all code needs: first sequences, in the order of their sites, and then address fields, in the order of
+    /// their places. And which sequence takes the place of each site's.
     pub(crate) fn wanted(&self, alloc: Global) -> Result<Wanted<'a>, AllocError>
         ensures needs { IfOk result (λ wanted. wanted.needs.items ≡ needs self.now) }
         ensures choices { IfOk result (λ wanted. map (λ own. own.items) wanted.choices.items
@@ -344,7 +344,7 @@ fn found_fields(alloc: Global, object: &Object, section: u32) -> Result<Vec<Relo
         .collect(alloc)
 }
 
-/// The address fields of a section, by their places.
+/// The address fields of a section, in the order of their places.
 fn address_fields(
     alloc: Global,
     object: &Object,

@@ -1,4 +1,4 @@
-//! Where the global offset table and the stub of an image lie, and what the field of each relocation holds.
+//! Where the global offset table and the stub of an image are, and what the field of each relocation holds.
 
 ghost use Rattle.std.specs.Prelude.{◌≡◌, ◌<◌, ◌&&◌, ℕ, IfOk, length, map, slice_index_or};
 ghost use Rattle.std.specs.List.{list_any};
@@ -28,23 +28,23 @@ use std::marker::Model;
 use tls_layout::page_up;
 use tls_relocs::{Field, Overflow, value};
 
-/// A link whose table is laid out. Contracts see what decides it.
+/// A link whose offset table is laid out. Contracts see the link.
 #[derive(Drop)]
 pub struct Plan<'l, 's, 'a> {
     pub inputs: Inputs<'l, 's, 'a>,
-    /// What each symbol of each object stands for.
+    /// What each symbol of each object is bound to.
     pub values: Vec<Vec<SymbolValue>>,
-    /// Which sequence stands in the place of each site.
+    /// Which sequence takes the place of each site's.
     pub choices: Vec<Vec<Choice>>,
     pub got: GotPlan<'a>,
-    /// Where the table begins.
+    /// The address of the global offset table.
     pub got_start: u64,
-    /// Where the stub begins, if there is one.
+    /// The address of the stub, if there is one.
     pub stub_start: u64,
     pub has_stub: bool,
     /// Whether sequences are rewritten at all.
     pub is_rewriting: bool,
-    /// Whether offsets of variables count from the thread pointer, since local dynamic code is rewritten.
+    /// Whether offsets of variables count from the thread pointer, because local dynamic code is rewritten.
     pub counts_from_thread_pointer: bool,
 }
 
@@ -62,14 +62,14 @@ impl<'l, 's, 'a> Model for Plan<'l, 's, 'a> {
         plan.got_start plan.stub_start plan.has_stub plan.is_rewriting plan.counts_from_thread_pointer };
 }
 
-/// Whether a site calls the stub, in whose place this sequence stands.
+/// Whether a site calls the stub, by the sequence that takes its place.
 fn is_stub_call(site: &Site, choice: Choice) -> bool
     ensures { result ≡ (is_kept choice && calls_stub site.now.form) }
 {
     is_kept(choice) && calls_stub(site.form)
 }
 
-/// Whether a form is of local dynamic code.
+/// Whether a form is local dynamic code.
 fn is_local(form: Form) -> bool
     ensures { result ≡ is_local form }
 {
@@ -91,7 +91,7 @@ fn any_local(sites: &[Vec<Site>]) -> bool
 }
 
 impl<'l, 's, 'a> Inputs<'l, 's, 'a> {
-    /// Whether sequences are rewritten: in a program, where it is asked for.
+    /// Whether sequences are rewritten: in a program, if it was asked for.
     pub(crate) fn is_rewriting(&self) -> bool
         ensures { result ≡ is_rewriting self.now }
     {
@@ -106,7 +106,7 @@ impl<'l, 's, 'a> Inputs<'l, 's, 'a> {
         self.is_rewriting() && any_local(self.sites)
     }
 
-    /// Whether an object calls the stub, in the place of whose sites these sequences stand.
+    /// Whether an object calls the stub, by the sequences that take the places of its sites.
     fn calls_stub_in(&self, object: usize, own: &[Site], choices: &[Choice]) -> bool
         requires { choices.now ≡ choices_in self.now object own.now }
         ensures { result ≡ list_any (is_stub_call self.now object) own.now }
@@ -119,7 +119,7 @@ impl<'l, 's, 'a> Inputs<'l, 's, 'a> {
         false
     }
 
-    /// Whether there is a stub, where these sequences stand in the place of the sites.
+    /// Whether there is a stub, by the sequences that take the places of all sites.
     fn has_stub(&self, choices: &[Vec<Choice>]) -> bool
         requires { map (λ own. own.items) choices.now ≡ choices_from self.now 0 self.now.sites }
         ensures { result ≡ has_stub self.now }
@@ -134,7 +134,7 @@ impl<'l, 's, 'a> Inputs<'l, 's, 'a> {
     }
 }
 
-/// Lays out the table of a link behind its sections.
+/// Lays out the offset table of a link after its sections.
 pub fn plan_of<'l, 's, 'a>(
     alloc: Global,
     inputs: Inputs<'l, 's, 'a>,
@@ -163,7 +163,7 @@ pub fn plan_of<'l, 's, 'a>(
     })
 }
 
-/// Whether a type of relocation goes with the sequence that it belongs to, where its symbol stands for this.
+/// Whether a relocation has no field once its sequence is rewritten, by its type and what its symbol is bound to.
 #[inline(always)]
 fn goes(symbol: SymbolValue, kind: RelocationKind) -> bool
     ensures { result ≡ goes_by symbol kind }
@@ -177,7 +177,7 @@ fn goes(symbol: SymbolValue, kind: RelocationKind) -> bool
 }
 
 impl<'l, 's, 'a> Plan<'l, 's, 'a> {
-    /// The address of the entry of a need; 0 where there is none.
+    /// The address of the entry for a need; 0 if there is none.
     pub fn need_address(&self, need: Option<Need<'a>>) -> u64
         ensures { result ≡ need_address self.now need.entry }
     {
@@ -190,7 +190,7 @@ impl<'l, 's, 'a> Plan<'l, 's, 'a> {
         }
     }
 
-    /// What a symbol of an object stands for.
+    /// What a symbol of an object is bound to.
     #[inline(always)]
     pub fn symbol_value(&self, object: usize, symbol: u32) -> SymbolValue
         requires object { object < length self.now.objects }
@@ -201,7 +201,7 @@ impl<'l, 's, 'a> Plan<'l, 's, 'a> {
         own[symbol as usize]
     }
 
-    /// Which sequence stands in the place of an object's site of this number.
+    /// Which sequence takes the place of the site with this number in an object.
     #[inline(always)]
     pub fn choice(&self, object: usize, number: usize) -> Choice
         requires object { object < length self.now.sites }
@@ -215,21 +215,21 @@ impl<'l, 's, 'a> Plan<'l, 's, 'a> {
         own[number]
     }
 
-    /// What is known of the link without its table.
+    /// The inputs of the link; the table is dropped.
     pub fn into_inputs(self) -> Inputs<'l, 's, 'a>
         ensures { result ≡ self.entry }
     {
         self.inputs
     }
 
-    /// Which sequence stands in the place of each site.
+    /// Which sequence takes the place of each site's.
     pub fn into_choices(self) -> Vec<Vec<Choice>>
         ensures { map (λ own. own.items) result.items ≡ choices_from self.entry 0 self.entry.sites }
     {
         self.choices
     }
 
-    /// Whether a relocation has no field, since its sequence is rewritten; its symbol stands for this.
+    /// Whether a relocation has no field because its sequence is rewritten. `symbol` is what its symbol is bound to.
     #[inline(always)]
     pub fn is_replaced(&self, symbol: SymbolValue, kind: RelocationKind) -> bool
         ensures { result ≡ (is_rewriting self.now && goes_by symbol kind) }
@@ -237,7 +237,7 @@ impl<'l, 's, 'a> Plan<'l, 's, 'a> {
         self.is_rewriting && goes(symbol, kind)
     }
 
-    /// The symbol's place, or its offset in the TLS segment.
+    /// The symbol's address, or its offset in the TLS segment.
     #[inline(always)]
     pub fn own_number(&self, kind: RelocationKind, symbol: SymbolValue) -> u64
         ensures { result ≡ number_by self.now kind symbol }
@@ -250,7 +250,7 @@ impl<'l, 's, 'a> Plan<'l, 's, 'a> {
         }
     }
 
-    /// The place of the entry that the field of a relocation reaches; 0 where it reaches none.
+    /// The address of the entry that the field of a relocation reaches; 0 if it reaches none.
     fn entry_place(&self, object: usize, relocation: &Relocation) -> u64
         requires object { object < length self.now.objects }
         requires symbol { relocation.now.symbol < symbol_count (object_at self.now.objects object) }
@@ -261,7 +261,7 @@ impl<'l, 's, 'a> Plan<'l, 's, 'a> {
         self.need_address(inputs.need(object, relocation.symbol, bound, relocation.kind))
     }
 
-    /// The place of the entry in the table, or what is subtracted from an offset.
+    /// The address of the entry in the table, or what is subtracted from an offset.
     #[inline(always)]
     fn other_number(&self, object: usize, relocation: &Relocation) -> u64
         requires object { object < length self.now.objects }
@@ -278,7 +278,7 @@ impl<'l, 's, 'a> Plan<'l, 's, 'a> {
         }
     }
 
-    /// What the field of a relocation holds, which stands at this place; its symbol stands for this.
+    /// What the field of a relocation at address `place` holds. `symbol` is what its symbol is bound to.
     #[inline(always)]
     pub fn field(
         &self,

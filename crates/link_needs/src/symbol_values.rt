@@ -1,4 +1,4 @@
-//! What each symbol that relocations name stands for, found once for each.
+//! What each symbol of a relocation is bound to, found once for each symbol.
 
 ghost use Rattle.std.specs.Prelude.{◌≡◌, ◌<◌, IfOk, IfSome, length, map};
 ghost use Rattle.elf_object.specs.Parts.{symbol_count};
@@ -10,19 +10,19 @@ use link_faults::Binding;
 use std::alloc::{AllocError, Global};
 use tls_symbols::Imports;
 
-/// What a symbol that relocations name stands for.
+/// What a symbol of a relocation is bound to.
 #[derive(Clone, Copy)]
 pub enum SymbolValue {
     /// A symbol of the image: its address, and its offset in the TLS segment.
     Here { address: u64, offset: u64 },
     /// The function of the run time.
     Runtime,
-    /// A symbol of another image, or of none.
+    /// A symbol of another image, or one that is bound to nothing.
     Elsewhere,
 }
 
 impl<'l, 's, 'a> Inputs<'l, 's, 'a> {
-    /// What is bound so.
+    /// The value of a binding.
     fn value_by(&self, bound: Option<Binding>) -> SymbolValue
         requires { IfSome bound (IsBindingWithin self.now.objects) }
         ensures { result ≡ value_by self.now bound }
@@ -37,7 +37,7 @@ impl<'l, 's, 'a> Inputs<'l, 's, 'a> {
         }
     }
 
-    /// What a symbol of an object stands for, which may not be another image's.
+    /// What a symbol of an object is bound to, where it may not be another image's.
     #[tactic(auto, unfolding(crate::specs::Plans::value_of))]
     fn value_of(&self, object: usize, symbol: u32) -> SymbolValue
         requires object { object < length self.now.objects }
@@ -47,7 +47,7 @@ impl<'l, 's, 'a> Inputs<'l, 's, 'a> {
         self.value_by(self.bindings.binding(object, symbol, Imports::No))
     }
 
-    /// What each symbol of an object stands for.
+    /// What each symbol of an object is bound to.
     fn own_values(&self, alloc: Global, object: usize) -> Result<Vec<SymbolValue>, AllocError>
         requires { object < length self.now.objects }
         ensures { IfOk result (λ own. own.items ≡ values_of self.now object) }
@@ -60,7 +60,7 @@ impl<'l, 's, 'a> Inputs<'l, 's, 'a> {
         Ok(own)
     }
 
-    /// What each symbol of each object stands for.
+    /// What each symbol of each object is bound to.
     pub(crate) fn symbol_values(&self, alloc: Global) -> Result<Vec<Vec<SymbolValue>>, AllocError>
         ensures { IfOk result (λ all. map (λ own. own.items) all.items ≡ all_values self.now) }
     {

@@ -1,4 +1,4 @@
--- The symbols and the relocations by which a loader ties an image to others (gABI, "Symbol Table", "Relocation";
+-- The symbols and the relocations by which a loader connects an image with others (gABI, "Symbol Table", "Relocation";
 -- psABI, "Relocation Types").
 use Rattle.std.specs.Prelude.{◌+◌, ◌^◌, ◌&&◌, ◌++◌, ℕ, ℤ, pos, ◌+ℤ◌, Bool, true, false, List, [], ◌∷◌, length}
 use Rattle.std.specs.Prelude.{Option, Some, None, map, unwrap_or, if◌then◌else◌}
@@ -49,7 +49,7 @@ use Rattle.link_needs.specs.Values.{own_number}
 
 -- ** symbols
 
--- what an object says of a symbol, as an image does
+-- a symbol's binding, visibility and type, as they are written in an image
 abbrev pub binding_shown : SymbolBinding → binding_in_image.SymbolBinding
 binding_shown of_object.Local = of_image.Local
 binding_shown of_object.Global = of_image.Global
@@ -69,7 +69,8 @@ type_shown type_in_object.Section = type_in_image.Section
 type_shown type_in_object.File = type_in_image.File
 type_shown type_in_object.Tls = type_in_image.Tls
 
--- a symbol of the image: a thread-local one is told by its offset in the TLS segment, whatever type its object says
+-- a symbol that the image defines; the value of a thread-local one is its offset in the TLS segment, and its type is
+-- TLS, whatever its object says
 unfoldable pub defined : Linking → SymbolRef → ImageSymbol
 defined l found =
     let b = object l found.object in
@@ -99,7 +100,7 @@ own_symbols l = defined_symbols l.objects
 abbrev pub imports : Linking → List (List ℕ)
 imports l = imports_of l.objects l.startup l.sites
 
--- the function of the run time, where it is called through its word
+-- the function of the run time, if it is called through its word
 abbrev pub runtime_symbols : Bool → List ImageSymbol
 runtime_symbols uses = if uses then foreign type_in_image.NoType ∷ [] else []
 
@@ -115,7 +116,7 @@ symbols l =
 unfoldable pub names : Linking → List (List ℕ)
 names l = map (name_of l.objects) (own_symbols l) ++ (imports l ++ runtime_names (uses_runtime l))
 
--- the number of the symbol that a word of the table names
+-- the number of the symbol that a GOT word names
 abbrev pub number_of : Linking → DynamicSymbol → ℕ
 number_of l Image = 0
 number_of l (Imported name) =
@@ -140,7 +141,7 @@ relocation_of l place d = record {
   addend = cast_signed w64 d.addend;
 }
 
--- that of a word at an address
+-- the relocation of a GOT word at an address
 abbrev pub word_relocations : Linking → ℕ → Option DynamicRelocation → List ImageRelocation
 word_relocations l place None = []
 word_relocations l place (Some d) = relocation_of l place d ∷ []
@@ -156,7 +157,7 @@ need_relocations l entry = entry_relocations l entry.1 (entry_of l.kind (block_o
 unfoldable pub got_relocations : Linking → List ImageRelocation
 got_relocations l = flat_map (need_relocations l) (starts_from (got_start l) (entries l))
 
--- ** relocations of fields: addresses of 8 bytes, in an image that may lie anywhere
+-- ** relocations of fields: addresses of 8 bytes, in an image that may be loaded at any address
 
 abbrev pub relative : ℕ → ℤ → ImageRelocation
 relative place addend = record { place = place; kind = loader.Relative; symbol = 0; addend = addend }
@@ -183,7 +184,7 @@ unfoldable pub relatives : Linking → List ImageRelocation
 relatives l =
     if is_moved l.kind then sorted_by (λ r. r.place) (object_relocations_from l 0 l.objects) else []
 
--- all relocations by their places: the table lies behind all sections
+-- all relocations, in the order of their places: the offset table comes after all sections
 unfoldable pub image_relocations : Linking → List ImageRelocation
 image_relocations l = relatives l ++ got_relocations l
 

@@ -1,4 +1,4 @@
--- When objects do not link, and what is told; and the tables of a link as code holds them.
+-- Why objects can't be linked, and which fault is reported; the tables of a link as code has them.
 use Rattle.std.specs.Prelude.{◌≡◌, ◌<◌, ◌≤◌, ◌^◌, ◌⊎◌, ℕ, List, Option, Some, None, IsNone, IsSomeAnd, false, length}
 use Rattle.std.specs.Prelude.{map, slice_get}
 use Rattle.std.specs.List.{All}
@@ -35,7 +35,7 @@ pub record FitsLimits (l : Linking) : Type 0 where
 
 -- ** fields
 
--- a relocation of section t of object o has a field, and the field can't hold its value
+-- a relocation of section t of object o has a field that can't hold its value, and is not rewritten
 abbrev pub IsOverflow : Linking → ℕ → ℕ → Relocation → Type 0
 IsOverflow l o t r = (is_replaced l o r ≡ false) × IsNone (field l o t r)
 
@@ -49,39 +49,39 @@ Overflows l o s e =
     (o < length l.objects) × (0 < s) × (s < section_count (object l o))
     × IsSomeAnd (slice_get (held_in (object l o) s) e) (IsOverflow l o (relocation_target (object l o) s))
 
--- it is the first
+-- the fault is the first such relocation
 abbrev pub IsFirstOverflow : Linking → LinkFault → Type 0
 IsFirstOverflow l (At fault.Overflow (Some o) s e) =
     Overflows l o s e × ((p t f : ℕ) → Earlier p t f o s e → Overflows l p t f → ⊥)
 IsFirstOverflow l told = ⊥
 
--- what is told of all fields: nothing where each holds its value, else the first that does not
+-- the first field that can't hold its value; none if each holds it
 abbrev pub IsToldOverflow : Linking → Option LinkFault → Type 0
 IsToldOverflow l None = (o s e : ℕ) → Overflows l o s e → ⊥
 IsToldOverflow l (Some told) = IsFirstOverflow l told
 
 -- ** storage
 
--- what is told where thread-local storage is asked for and there is none; of want of memory nothing is said
+-- the fault of an image that asks for thread-local storage and finds none; of OutOfMemory nothing is said
 abbrev pub LacksStorage : List (List ℕ) → List (List (List ℕ)) → ImageKind → ℕ → LinkFault → Type 0
 LacksStorage objects startup kind size OutOfMemory = Unit {0}
 LacksStorage objects startup kind size told = IsStorageFault objects startup kind size told
 
 -- ** the first fault
 
--- what is asked before fields are filled
+-- what must hold before fields are filled
 pub record IsSound (l : Linking) : Type 0 where
   pub resolved : AreResolved l.objects l.startup
   pub kind : FitsKind l.objects l.kind
   pub limits : FitsLimits l
   pub storage : FitsStorage l.objects l.startup l.kind (tls_size (layout l).sections)
 
--- the objects link
+-- the objects can be linked
 pub record Links (l : Linking) : Type 0 where
   pub sound : IsSound l
   pub fits : IsToldOverflow l None
 
--- a fault of the image as a whole stands at no object
+-- a fault of the image as a whole names no object
 abbrev pub IsOfWhole : Option ℕ → ℕ → ℕ → Type 0
 IsOfWhole object s e = (object ≡ None) × (s ≡ 0) × (e ≡ 0)
 
@@ -102,8 +102,7 @@ IsLaterFault l (At fault.NoTls object s e) =
 IsLaterFault l (At fault.Overflow (Some o) s e) = IsSound l × IsFirstOverflow l (At fault.Overflow (Some o) s e)
 IsLaterFault l told = ⊥
 
--- what a refusal says of the objects: the first fault, in the order of the kinds, Overflow last; of want of memory
--- nothing
+-- a refusal reports the first fault: in the order of the kinds, and Overflow last; of OutOfMemory nothing is said
 abbrev pub IsLinkFault : Linking → LinkFault → Type 0
 IsLinkFault l OutOfMemory = Unit {0}
 IsLinkFault l (At fault.Undefined (Some o) s e) = IsFirst l.objects l.startup fault.Undefined o s e
@@ -113,7 +112,7 @@ IsLinkFault l told = AreResolved l.objects l.startup × IsLaterFault l told
 
 -- ** what the linker keeps
 
--- these belong to the link: the symbols that it defines and the names that it imports, all within the limits
+-- the symbols that the link defines and the names that it imports, all within the limits
 pub record ArePrepared (l : Linking) (own : List SymbolRef) (names : List (List ℕ)) : Type 0 where
   pub given : IsGiven l
   pub limits : FitsLimits l

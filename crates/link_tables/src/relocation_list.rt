@@ -1,4 +1,4 @@
-//! The relocations of an image, by which a loader fills in what linking can't know.
+//! The relocations of an image. With them a loader fills in what linking can't know.
 
 ghost use Rattle.std.specs.Prelude.{◌≡◌, ◌+◌, ◌*◌, ◌<◌, ◌≤◌, ◌^◌, ◌++◌, IfOk, OnOk, length, option_map, slice_get};
 ghost use Rattle.std.specs.Prelude.{unwrap_or};
@@ -21,7 +21,7 @@ use link_needs::Plan;
 use std::alloc::{AllocError, Global};
 use tls_symbols::{Use, Uses};
 
-/// What a loader writes for a word of the table.
+/// The type of the relocation of a GOT word.
 fn loader_kind(kind: DynamicKind) -> LoaderKind
     ensures { result ≡ loader_kind kind }
 {
@@ -35,7 +35,7 @@ fn loader_kind(kind: DynamicKind) -> LoaderKind
     }
 }
 
-/// How many symbols the image defines.
+/// The number of symbols that the image defines.
 #[tactic(auto, using(crate::proofs::RelocationListLemmas::few_symbols))]
 fn own_count(tables: &Tables) -> usize
     ensures count { result ≡ length (own_symbols tables.now) }
@@ -44,14 +44,14 @@ fn own_count(tables: &Tables) -> usize
     tables.own.len()
 }
 
-/// How many names it imports.
+/// The number of names that it imports.
 fn import_count(tables: &Tables) -> usize
     ensures { result ≡ length (imports tables.now) }
 {
     tables.imports.len()
 }
 
-/// The number of an import among the imports; 0 where there is no such import.
+/// The index of a name among the imports; 0 if it is not imported.
 fn import_number(tables: &Tables, name: &[u8]) -> usize
     ensures number { result ≡ unwrap_or (position_from (bytes_eq name.now) 0 (imports tables.now)) 0 }
     ensures small { result ≤ length (imports tables.now) }
@@ -60,7 +60,7 @@ fn import_number(tables: &Tables, name: &[u8]) -> usize
 }
 
 impl Tables<'_, '_, '_> {
-    /// The number of the symbol that a word of the table names.
+    /// The number of the symbol that a GOT word names.
     fn number_of(&self, symbol: &DynamicSymbol) -> u32
         ensures { result ≡ number_of self.now symbol.now }
     {
@@ -74,7 +74,7 @@ impl Tables<'_, '_, '_> {
         }
     }
 
-    /// The relocation of a word at an address.
+    /// The relocation of a GOT word at an address.
     fn relocation_of(&self, place: u64, relocation: &DynamicRelocation) -> ImageRelocation
         ensures { result ≡ relocation_of self.now place relocation.now }
     {
@@ -86,7 +86,7 @@ impl Tables<'_, '_, '_> {
         }
     }
 
-    /// Adds that of a word at an address, if it has one.
+    /// Adds the relocation of a GOT word at an address, if it has one.
     fn push_word(
         &self,
         place: u64,
@@ -102,7 +102,7 @@ impl Tables<'_, '_, '_> {
         Ok(())
     }
 
-    /// Adds those of an entry at an address.
+    /// Adds the relocations of a GOT entry at an address.
     fn push_entry(
         &self,
         place: u64,
@@ -122,7 +122,7 @@ impl Tables<'_, '_, '_> {
     }
 }
 
-/// Where the table begins.
+/// The address of the global offset table.
 #[tactic(auto, using(crate::proofs::RelocationListLemmas::table_low))]
 fn table_start(plan: &Plan) -> u64
     ensures start { result ≡ got_start plan.now }
@@ -131,14 +131,14 @@ fn table_start(plan: &Plan) -> u64
     plan.got_start
 }
 
-/// How many entries it has.
+/// The number of its entries.
 fn entry_count(plan: &Plan) -> usize
     ensures { result ≡ length (entries plan.now) }
 {
     plan.got.entry_count()
 }
 
-/// What an entry holds, by its number.
+/// The entry with this number.
 fn entry<'a>(plan: &Plan<'_, '_, 'a>, number: usize) -> Option<Entry<'a>>
     ensures { result
         ≡ option_map (entry_of plan.now.kind (block_offset plan.now)) (slice_get (entries plan.now) number) }
@@ -146,7 +146,7 @@ fn entry<'a>(plan: &Plan<'_, '_, 'a>, number: usize) -> Option<Entry<'a>>
     plan.got.entry(number)
 }
 
-/// How many bytes an entry has.
+/// The size of an entry, in bytes.
 fn size_of(entry: &Entry) -> u64
     ensures { result ≡ 8 * length (words entry.now) }
 {
@@ -156,7 +156,7 @@ fn size_of(entry: &Entry) -> u64
     }
 }
 
-/// Adds those of the table.
+/// Adds the relocations of the global offset table.
 fn push_got(tables: &Tables, all: &mut Vec<ImageRelocation>) -> Result<(), AllocError>
     ensures { OnOk result (all.new.items ≡ all.old.items ++ got_relocations tables.now) }
 {
@@ -172,7 +172,7 @@ fn push_got(tables: &Tables, all: &mut Vec<ImageRelocation>) -> Result<(), Alloc
     Ok(())
 }
 
-/// Adds that of a field of 8 bytes with an address.
+/// Adds the relocation of a field, if it holds an address of 8 bytes.
 fn push_field(plan: &Plan, found: &Use, all: &mut Vec<ImageRelocation>) -> Result<(), AllocError>
     requires { IsUse plan.now.objects found.now }
     ensures { OnOk result (all.new.items ≡ all.old.items
@@ -196,7 +196,7 @@ fn push_field(plan: &Plan, found: &Use, all: &mut Vec<ImageRelocation>) -> Resul
     Ok(())
 }
 
-/// Those of all fields, section by section.
+/// The relocations of all fields, section by section.
 fn found_fields(alloc: Global, plan: &Plan) -> Result<Vec<ImageRelocation>, AllocError>
     ensures { IfOk result (λ all. all.items ≡ object_relocations_from plan.now 0 plan.now.objects) }
 {
@@ -208,7 +208,7 @@ fn found_fields(alloc: Global, plan: &Plan) -> Result<Vec<ImageRelocation>, Allo
     Ok(all)
 }
 
-/// Whether the image may lie at any address.
+/// Whether the image may be loaded at any address.
 fn is_moved(plan: &Plan) -> bool
     ensures { result ≡ is_moved plan.now.kind }
 {
@@ -216,7 +216,8 @@ fn is_moved(plan: &Plan) -> bool
     inputs.kind.is_moved()
 }
 
-/// The relocations of fields with addresses by their places, in an image that may lie anywhere.
+/// The relocations of fields with addresses, in the order of their places. Only an image that may be loaded at any
+/// address has them.
 fn relatives(alloc: Global, plan: &Plan) -> Result<Vec<ImageRelocation>, AllocError>
     ensures { IfOk result (λ all. all.items ≡ relatives plan.now) }
 {

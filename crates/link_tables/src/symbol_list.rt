@@ -20,10 +20,10 @@ use link_faults::SymbolRef;
 use link_needs::Inputs;
 use std::alloc::{AllocError, Global};
 
-/// The name of the function of the run time.
+/// The name of the run time's function.
 const GET_ADDRESS: &[u8] = b"__tls_get_addr";
 
-/// What an object says of a symbol's binding, as an image does.
+/// A symbol's binding, as it is written in an image.
 fn binding_shown(binding: elf_object::SymbolBinding) -> SymbolBinding
     ensures { result ≡ binding_shown binding }
 {
@@ -34,7 +34,7 @@ fn binding_shown(binding: elf_object::SymbolBinding) -> SymbolBinding
     }
 }
 
-/// Its visibility.
+/// A symbol's visibility, as it is written in an image.
 fn visibility_shown(visibility: elf_object::Visibility) -> Visibility
     ensures { result ≡ visibility_shown visibility }
 {
@@ -46,7 +46,7 @@ fn visibility_shown(visibility: elf_object::Visibility) -> Visibility
     }
 }
 
-/// Its type.
+/// A symbol's type, as it is written in an image.
 fn type_shown(kind: elf_object::SymbolType) -> SymbolType
     ensures { result ≡ type_shown kind }
 {
@@ -74,7 +74,7 @@ fn foreign(kind: SymbolType) -> ImageSymbol
     }
 }
 
-/// Whether what is defined at a place is thread-local.
+/// Whether a symbol with this place is thread-local.
 #[tactic(auto, using(tls_symbols::proofs::Sections::past_class))]
 fn is_tls_place(object: &Object, place: SymbolPlace) -> bool
     ensures { result ≡ is_tls_place object.now place }
@@ -88,7 +88,7 @@ fn is_tls_place(object: &Object, place: SymbolPlace) -> bool
     }
 }
 
-/// What a symbol of the image stands for: a thread-local one for a variable, whatever type its object says.
+/// A symbol's type in the image. It is TLS for a thread-local symbol, whatever type its object says.
 fn kind_of(is_thread_local: bool, kind: elf_object::SymbolType) -> SymbolType
     ensures { result ≡ (if is_thread_local then type_in_image.Tls else type_shown kind) }
 {
@@ -99,7 +99,7 @@ fn kind_of(is_thread_local: bool, kind: elf_object::SymbolType) -> SymbolType
     }
 }
 
-/// Its value: a thread-local one has its offset in the TLS segment.
+/// A symbol's value in the image: its address, or for a thread-local symbol its offset in the TLS segment.
 fn value_of(inputs: &Inputs, is_thread_local: bool, found: SymbolRef) -> u64
     requires { IsWithin inputs.now.objects found }
     ensures { result ≡ (if is_thread_local then offset inputs.now found else address inputs.now found) }
@@ -111,7 +111,7 @@ fn value_of(inputs: &Inputs, is_thread_local: bool, found: SymbolRef) -> u64
     }
 }
 
-/// A symbol of the image.
+/// A symbol that the image defines.
 #[tactic(auto, unfolding(crate::specs::Dynamic::defined))]
 fn defined(inputs: &Inputs, found: SymbolRef) -> ImageSymbol
     requires { IsWithin inputs.now.objects found }
@@ -133,7 +133,7 @@ fn defined(inputs: &Inputs, found: SymbolRef) -> ImageSymbol
 }
 
 /// All symbols from number 1 on, with their names: those that the image defines, the imports, and the function of the
-/// run time where it is called through its word.
+/// run time if it is called through its word.
 #[tactic(auto, unfolding(crate::specs::Dynamic::symbols, crate::specs::Dynamic::names))]
 pub fn symbols<'a>(
     alloc: Global,
@@ -173,7 +173,7 @@ fn push_own<'a>(
     Ok(())
 }
 
-/// Adds the imports of these names.
+/// Adds a symbol for each of these imports.
 fn push_imports<'a>(names: &[&'a [u8]], all: &mut Vec<NamedSymbol<'a>>) -> Result<(), AllocError>
     ensures symbols { OnOk result (symbols_in all.new.items
         ≡ symbols_in all.old.items
@@ -189,7 +189,7 @@ fn push_imports<'a>(names: &[&'a [u8]], all: &mut Vec<NamedSymbol<'a>>) -> Resul
     Ok(())
 }
 
-/// Adds the function of the run time, where it is called through its word.
+/// Adds the function of the run time, if it is called through its word.
 fn push_runtime(is_used: bool, all: &mut Vec<NamedSymbol>) -> Result<(), AllocError>
     ensures symbols { OnOk result (symbols_in all.new.items ≡ symbols_in all.old.items ++ runtime_symbols is_used) }
     ensures names { OnOk result (names_in all.new.items ≡ names_in all.old.items ++ runtime_names is_used) }

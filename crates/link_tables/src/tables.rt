@@ -1,11 +1,12 @@
-//! What the tables of an image are made of.
+//! What the dynamic tables of an image are made from.
 
 use indexmap::IndexSet;
 use link_faults::SymbolRef;
 use link_needs::Plan;
 use std::marker::Model;
 
-/// A link whose table is laid out, with the names that its dynamic tables have. Contracts see what decides them.
+/// A link whose offset table is laid out, with the names of its dynamic tables. Contracts see what the link is made
+/// from.
 #[derive(Drop)]
 pub struct Tables<'l, 's, 'a> {
     pub plan: Plan<'l, 's, 'a>,

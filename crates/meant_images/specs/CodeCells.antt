@@ -1,4 +1,4 @@
--- The cells of code: of each byte what it is one of, and which byte of it.
+-- The cells of code: for each byte, what it belongs to, and which byte of that it is.
 use Rattle.std.specs.Prelude.{◌≡◌, ◌+◌, ◌-◌, ◌&&◌, ◌<◌, ◌≤◌, ◌^◌, ℕ, Bool, List, [], ◌∷◌, Option, None, Some}
 use Rattle.std.specs.Prelude.{length, nat_le, nat_lt, slice_get, slice_index_or, option_and_then, if◌then◌else◌}
 use Rattle.std.specs.List.{AllWithin}
@@ -17,25 +17,25 @@ use Rattle.whole_meaning.specs.Bytes.{covers}
 use Rattle.whole_meaning.specs.Code.{is_in_site, sequence_in, spot_mark}
 use Rattle.whole_meaning.specs.Spots.{Spot}
 
--- that of a byte of which nothing is kept: the first entry
+-- the cell of a byte that no field and no sequence covers: the first entry
 abbrev pub no_cell : Cell
 no_cell = record { entry = 0; byte = 0 }
 
 abbrev pub cell_from : ℕ → ℕ → ℕ → Cell
 cell_from entry start k = record { entry = entry; byte = k - start }
 
--- byte k is one of so many from a place on
+-- byte k is one of `width` bytes from a place on
 abbrev pub is_within : ℕ → ℕ → ℕ → Bool
 is_within start width k = nat_le start k && nat_lt k (start + width)
 
--- byte k of a section: of the first field that covers it, where the entries of these relocations begin with number
--- first
+-- the cell of byte k of a section: of the first field that covers it; the entries of these relocations begin with
+-- number first
 abbrev pub field_cell : ℕ → List Relocation → ℕ → Cell → Cell
 field_cell first [] k other = other
 field_cell first (r ∷ more) k other =
     if covers k r then cell_from first r.offset k else field_cell (first + 1) more k other
 
--- likewise of the first sequence that covers it
+-- likewise for the first sequence that covers it
 abbrev pub site_cell : ℕ → List Site → ℕ → ℕ → Cell → Cell
 site_cell first [] s k other = other
 site_cell first (site ∷ more) s k other =
@@ -51,13 +51,13 @@ abbrev pub sites_in : Option KeptObject → ℕ
 sites_in None = 0
 sites_in (Some it) = it.sites
 
--- byte k of section s of object o
+-- the cell of byte k of section s of object o
 unfoldable pub code_cell : List KeptObject → Linking → ℕ → ℕ → ℕ → Cell
 code_cell kept l o s k =
     site_cell (sites_in (slice_get kept o)) (sites_at l o) s k
     (field_cell (fields_in (slice_get kept o) s) (relocations (object l o) s) k no_cell)
 
--- just the first n of an object's sequences lie in sections below a number
+-- exactly the first n of an object's sequences are in sections below a number
 pub record IsSplit (sites : List Site) (section n : ℕ) : Type 0 where
   pub few : n ≤ length sites
   pub below : AllWithin (λ (site : Site). site.section < section) sites 0 n
@@ -72,9 +72,9 @@ pub record HaveRoom (l : Linking) (kept : List KeptObject) : Type 0 where
       → slice_index_or it.fields.items s 0 + length (relocations (object l o) s) ≤ 2 ^ 32
   pub sites : (o : ℕ) (it : KeptObject) → slice_get kept o ≡ Some it → it.sites + length (sites_at l o) ≤ 2 ^ 32
 
--- ** what they say
+-- ** what cells say
 
--- the cell says what stands there
+-- the cell says what the definitions find at the byte
 pub record Shows (ls : List Linking) (l : Linking) (entries : List Entry) (spot : Option Spot) (cell : Cell) : Type 0
   where
     pub there : cell.entry < length entries

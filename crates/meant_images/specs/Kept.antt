@@ -1,4 +1,4 @@
--- What is kept of the relocations and the sequences of each object.
+-- The entries of the relocations and the sequences of each object.
 use Rattle.std.specs.Prelude.{◌≡◌, ◌+◌, ◌<◌, ◌≤◌, ℕ, List, Some, length, slice_get, slice_index_or}
 use Rattle.std.specs.List.{All}
 use Rattle.elf_object.specs.declared.relocation.Relocation.{Relocation}
@@ -12,22 +12,22 @@ use Rattle.meant_images.specs.Entries.{IsFieldEntry, IsNumberedEntry, IsSiteEntr
 use Rattle.object_faults.specs.declared.class.SectionClass.TheVariants.{Executable}
 use Rattle.sequence_forms.specs.declared.places.Site.{Site}
 
--- what was kept before is kept
+-- the new list has all entries of the old one, under their numbers
 pub record Grows (old new : List Entry) : Type 0 where
   pub longer : length old ≤ length new
   pub kept : (e : ℕ) (it : Entry) → slice_get old e ≡ Some it → slice_get new e ≡ Some it
 
--- those of the first n relocations, from number first on
+-- the entries of the first n relocations, from number first on
 abbrev pub FieldsBelow : Linking → ℕ → List Entry → List Relocation → ℕ → ℕ → Type 0
 FieldsBelow l o entries rs first n = (i : ℕ) (r : Relocation) → i < n → slice_get rs i ≡ Some r
     → (it : Entry) × ((slice_get entries (first + i) ≡ Some it) × IsFieldEntry l o r it)
 
--- those of all
+-- the entries of all relocations
 pub record AreFields (l : Linking) (o : ℕ) (entries : List Entry) (rs : List Relocation) (first : ℕ) : Type 0 where
   pub inside : first + length rs ≤ length entries
   pub each : FieldsBelow l o entries rs first (length rs)
 
--- those of the first n sequences
+-- the entries of the first n sequences
 abbrev pub SequencesBelow : List Linking → Linking → ℕ → List Entry → List Site → ℕ → ℕ → Type 0
 SequencesBelow ls l o entries sites first n = (i : ℕ) (site : Site) → i < n → slice_get sites i ≡ Some site
     → (it : Entry) × ((slice_get entries (first + i) ≡ Some it) × IsSiteEntry ls l o site it)
@@ -37,24 +37,24 @@ pub record AreSequences (ls : List Linking) (l : Linking) (o : ℕ) (entries : L
   pub inside : first + length sites ≤ length entries
   pub each : SequencesBelow ls l o entries sites first (length sites)
 
--- those of the sections of code below number n
+-- the entries of the sections of code below number n
 abbrev pub KeepsFields : Linking → ℕ → List Entry → List ℕ → ℕ → Type 0
 KeepsFields l o entries firsts n = (s : ℕ) → s < n → section_class (object l o) s ≡ Some Executable
     → AreFields l o entries (relocations (object l o) s) (slice_index_or firsts s 0)
 
--- those of an object
+-- the entries of an object
 pub record Keeps (ls : List Linking) (l : Linking) (o : ℕ) (entries : List Entry) (kept : KeptObject) : Type 0 where
   pub all : length kept.fields.items ≡ section_count (object l o)
   pub fields : KeepsFields l o entries kept.fields.items (section_count (object l o))
   pub sites : AreSequences ls l o entries (sites_at l o) kept.sites
 
--- those of the first n objects
+-- the entries of the first n objects
 pub record KeepAll (ls : List Linking) (l : Linking) (entries : List Entry) (kept : List KeptObject) (n : ℕ) : Type 0
   where
     pub count : length kept ≡ n
     pub each : (o : ℕ) (it : KeptObject) → slice_get kept o ≡ Some it → Keeps ls l o entries it
 
--- the first entry is of what the program alone decides, and each sequence has its numbers
+-- the first entry is what the program alone decides, and each sequence has its numbers
 pub record AreEntries (entries : List Entry) : Type 0 where
   pub first : slice_get entries 0 ≡ Some Usual
   pub numbered : All IsNumberedEntry entries

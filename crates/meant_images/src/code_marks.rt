@@ -1,4 +1,4 @@
-//! What each place of an image's code is, and which sequence begins there.
+//! What each byte of an image's code is, and which sequence begins there.
 
 ghost use Rattle.std.specs.Prelude.{◌≡◌, ◌<◌, ◌≤◌, ◌^◌, IfOk, length, slice_index_or};
 ghost use Rattle.std.specs.List.{All};
@@ -21,16 +21,16 @@ use std::alloc::{AllocError, Global};
 use std::marker::Model;
 use whole_meaning::{Mark, Sequence};
 
-/// What each place of an image's code is. Contracts see the image, and all images of its job.
+/// What each byte of an image's code is. Contracts see the image, and all images of its job.
 #[derive(Drop)]
 pub struct CodeMarks<'i, 'l, 's, 'a> {
     images: &'i [Inputs<'l, 's, 'a>],
     inputs: &'i Inputs<'l, 's, 'a>,
-    /// Where code begins, before the image is moved.
+    /// The address of the first byte of code, before the image is moved.
     start: u64,
-    /// A cell for each byte from there on.
+    /// A cell for each byte of code.
     cells: Vec<Cell>,
-    /// What bytes are one of.
+    /// The fields and sequences that cells refer to.
     entries: Vec<Entry>,
 }
 
@@ -44,7 +44,7 @@ impl<'i, 'l, 's, 'a> Model for CodeMarks<'i, 'l, 's, 'a> {
     ghost invariant = { λ m. AreMarks m.images.now m.inputs.now m.start m.cells.items m.entries.items };
 }
 
-/// How far an instance is moved from where its image was laid out.
+/// The bias of an instance: its distance from where its image was laid out.
 pub(crate) fn bias_of(kind: ImageKind, number: u32) -> u64
     ensures bias { result ≡ bias_of kind number }
     ensures small { result ≤ 2 ^ 60 }
@@ -66,7 +66,7 @@ fn code_start(inputs: &Inputs) -> u64
     inputs.placement.executable().start
 }
 
-/// The cell of a place, where the image is so far moved, in a table that begins at an address.
+/// The cell of `place`, in an image that is moved by `bias`. The table begins at address `start`, before the move.
 fn cell_at(cells: &[Cell], start: u64, bias: u64, place: u64) -> Option<Cell>
     ensures { result ≡ moved_cell start cells.now bias place }
 {
@@ -77,7 +77,7 @@ fn cell_at(cells: &[Cell], start: u64, bias: u64, place: u64) -> Option<Cell>
     cells.get((address - start) as usize).copied()
 }
 
-/// An entry, by its number.
+/// The entry with this number.
 fn entry_at(entries: &[Entry], number: u32) -> Entry
     requires { number < length entries.now }
     ensures { result ≡ slice_index_or entries.now number Entry.Usual }
@@ -86,7 +86,7 @@ fn entry_at(entries: &[Entry], number: u32) -> Entry
 }
 
 impl<'i, 'l, 's, 'a> CodeMarks<'i, 'l, 's, 'a> {
-    /// Those of an image. `images` are all of its job, in image order.
+    /// The marks of an image. `images` are all images of its job, in image order.
     pub fn of(
         alloc: Global,
         images: &'i [Inputs<'l, 's, 'a>],
@@ -114,7 +114,7 @@ impl<'i, 'l, 's, 'a> CodeMarks<'i, 'l, 's, 'a> {
         })
     }
 
-    /// What a place is, where the image is so far moved, modulo 2^64.
+    /// The mark of the byte at `place`, in an instance that is moved by `bias`, modulo 2^64.
     pub fn mark(&self, bias: u64, place: u64) -> Mark
         ensures { result ≡ mark_of self.now.own bias place }
     {
@@ -124,8 +124,8 @@ impl<'i, 'l, 's, 'a> CodeMarks<'i, 'l, 's, 'a> {
         }
     }
 
-    /// The sequence of an instance that begins at a place, if one does. `image` is the number of the image, and
-    /// `number` that of the instance.
+    /// The sequence that begins at `place`, if one does. `image` is the number of the image, and `number` that of the
+    /// instance.
     pub fn sequence(&self, image: u32, number: u32, place: u64) -> Option<Sequence>
         requires image { image ≤ 64 }
         ensures { result ≡ sequence_of self.now.all image number self.now.own place }

@@ -1,4 +1,4 @@
-//! What a byte of code may be one of: a field that only the linker knows, or a sequence.
+//! What a byte of code can belong to: a field that only the linker knows, or a sequence.
 
 ghost use Rattle.std.specs.Prelude.{◌≡◌, ◌≢◌, ◌+◌, ◌+ℤ◌, ◌<◌, ◌≤◌, ◌^◌, IfSome, length, pos};
 ghost use Rattle.std.specs.List.{All};
@@ -21,32 +21,32 @@ use link_needs::Inputs;
 use sequence_match::{Form, Site};
 use whole_meaning::{Mark, Sequence};
 
-/// A sequence as it is known before there is an instance.
+/// A sequence, as far as it is known before there is an instance.
 #[derive(Clone, Copy)]
 pub struct SitePart {
     pub form: Form,
-    /// How many bytes it has.
+    /// Its length in bytes.
     pub len: u64,
     pub register: Register,
     pub target: Target,
 }
 
-/// What a byte of code is one of.
+/// What a byte of code belongs to.
 #[derive(Clone, Copy)]
 pub enum Entry {
-    /// What the program alone decides.
+    /// The program alone decides the byte.
     Usual,
-    /// An offset field: its number.
+    /// An offset field, with its number.
     Offset(u64),
-    /// An address field: the address that its word holds where the image is not moved, its addend, and whether the
-    /// address is moved with the image.
+    /// An address field: the address that its word holds in the image before it is moved, its addend, and whether the
+    /// address moves with the image.
     Address(u64, i64, bool),
     /// A sequence.
     Sequence(SitePart),
 }
 
 impl SitePart {
-    /// The sequence of an instance of an image, from a place on.
+    /// The sequence in an instance of an image, where it begins at `place`.
     fn sequence(self, image: u32, number: u32, place: u64) -> Sequence
         requires image { image ≤ 64 }
         requires numbered { IsNumbered self.target }
@@ -67,7 +67,7 @@ impl SitePart {
 }
 
 impl Entry {
-    /// What a byte of it is where the image is so far moved.
+    /// The mark of byte number `byte` of this entry, in an instance that is moved by `bias`.
     pub fn mark(self, bias: u64, byte: u8) -> Mark
         ensures { result ≡ mark_by bias self byte }
     {
@@ -82,7 +82,7 @@ impl Entry {
         }
     }
 
-    /// The sequence of an instance of an image that begins at a byte of it, which lies at a place.
+    /// The sequence that begins at this byte, if `byte` is 0. `place` is the byte's address in the instance.
     pub fn sequence(self, image: u32, number: u32, place: u64, byte: u8) -> Option<Sequence>
         requires image { image ≤ 64 }
         requires numbered { IsNumberedEntry self }
@@ -104,7 +104,7 @@ fn sum(offset: u64, addend: i64) -> u64
     (i128::from(offset) + i128::from(addend)).rem_euclid(modulus) as u64
 }
 
-/// The number of an offset field.
+/// The entry of an offset field, with the number that it holds.
 fn offset_entry(inputs: &Inputs, relocation: &Relocation, bound: Option<Binding>) -> Entry
     requires { IfSome bound (IsBindingWithin inputs.now.objects) }
     ensures { result ≡ Entry.Offset (offset_number inputs.now 0 relocation.now bound) }
@@ -117,7 +117,7 @@ fn offset_entry(inputs: &Inputs, relocation: &Relocation, bound: Option<Binding>
     }
 }
 
-/// What an address field holds.
+/// The entry of an address field, with the address that it holds.
 fn address_entry(inputs: &Inputs, relocation: &Relocation, bound: Option<Binding>) -> Entry
     requires { IfSome bound (IsBindingWithin inputs.now.objects) }
     ensures { result ≡ address_entry inputs.now relocation.now bound }
@@ -130,7 +130,7 @@ fn address_entry(inputs: &Inputs, relocation: &Relocation, bound: Option<Binding
     }
 }
 
-/// What the bytes of a relocation's field are: its row says what it holds, and which entry it reaches.
+/// The entry of a relocation's field. The relocation's row says what the field holds and which GOT entry it reaches.
 pub fn field_entry(inputs: &Inputs, number: usize, relocation: &Relocation) -> Entry
     requires object { number < length inputs.now.objects }
     requires symbol { relocation.now.kind ≢ Nothing
@@ -152,7 +152,7 @@ pub fn field_entry(inputs: &Inputs, number: usize, relocation: &Relocation) -> E
     }
 }
 
-/// What the bytes of a sequence are.
+/// The entry of a sequence.
 pub fn site_entry(images: &[Inputs], inputs: &Inputs, number: usize, site: &Site) -> Entry
     requires few { length images.now ≤ 64 }
     requires small { All HasFewObjects images.now }

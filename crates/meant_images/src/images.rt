@@ -1,4 +1,4 @@
-//! All images of a job, as they are meant.
+//! All images of a job, with marked bytes.
 
 ghost use Rattle.std.specs.Prelude.{◌≡◌, ◌<◌, ◌≤◌, ◌+◌, ◌*◌, ◌^◌, ℕ, All, IfOk, IfSome, IsSome, Some, true, length, map, option_map, slice_get, take};
 ghost use Rattle.guest_operands.specs.Ranges.{Range, byte_in};
@@ -32,18 +32,18 @@ use std::alloc::{AllocError, Global};
 use std::marker::Model;
 use whole_meaning::{Mark, Sequence};
 
-/// What is made ready of one image.
+/// The tables of one image.
 #[derive(Drop)]
 pub struct Tables<'i> {
-    /// What each place of its code is.
+    /// What each byte of its code is.
     marks: CodeMarks<'i, 'i, 'i, 'i>,
-    /// Code, constants, the initial image of blocks.
+    /// Its code, its constants, and the initial image of its blocks.
     still: StillBytes,
-    /// Data.
+    /// Its data.
     writable: ClassBytes,
 }
 
-/// The images of a job in image order, as they are meant. Contracts see what each is linked from.
+/// The images of a job in image order, with marked bytes. Contracts see what each is linked from.
 #[derive(Drop)]
 pub struct MeantImages<'i> {
     inputs: &'i [Inputs<'i, 'i, 'i>],
@@ -63,7 +63,7 @@ impl<'i> Model for MeantImages<'i> {
     ghost invariant = { λ images. HoldsImages images.inputs.now images.infos.items images.tables.items };
 }
 
-/// What is known of each image.
+/// When each image is loaded, and its TLS segment.
 fn infos_of(alloc: Global, inputs: &[Inputs]) -> Result<Vec<ImageInfo>, AllocError>
     ensures infos { IfOk result (λ infos. infos.items ≡ map info_of inputs.now) }
     ensures each { IfOk result (λ infos. All IsInfo infos.items) }
@@ -75,7 +75,7 @@ fn infos_of(alloc: Global, inputs: &[Inputs]) -> Result<Vec<ImageInfo>, AllocErr
     Ok(infos)
 }
 
-/// What is made ready of an image of a job.
+/// Makes the tables of an image of a job.
 fn tables_of<'i>(
     alloc: Global,
     images: &'i [Inputs<'i, 'i, 'i>],
@@ -93,7 +93,7 @@ fn tables_of<'i>(
     })
 }
 
-/// What is made ready of each image of a job.
+/// Makes the tables of each image of a job.
 fn all_tables<'i>(
     alloc: Global,
     images: &'i [Inputs<'i, 'i, 'i>],
@@ -111,7 +111,8 @@ fn all_tables<'i>(
     Ok(all)
 }
 
-/// Where blocks end, counted from the thread pointer down, with that of an image where it starts with the program.
+/// Adds an image's block to those below the thread pointer, if the image starts with the program. `taken` and the
+/// result are distances from the thread pointer down.
 fn end_with(taken: u64, info: ImageInfo) -> u64
     requires room { taken ≤ 2 ^ 32 }
     requires kept { IsInfo info }
@@ -124,7 +125,7 @@ fn end_with(taken: u64, info: ImageInfo) -> u64
     (taken + info.size).next_multiple_of(info.align)
 }
 
-/// Where the blocks end of those of these images that start with the program.
+/// How far below the thread pointer the blocks of the images that start with the program reach.
 fn end_of(infos: &[ImageInfo]) -> u64
     requires few { length infos.now ≤ 64 }
     requires each { All IsInfo infos.now }
@@ -138,7 +139,7 @@ fn end_of(infos: &[ImageInfo]) -> u64
     end
 }
 
-/// Where a function begins in an instance of an image, by its name.
+/// The address of a function in an instance of an image, by its name.
 fn function_in(own: &Inputs, number: u32, name: &[u8]) -> Option<u64>
     ensures { result ≡ option_map (λ at. at + bias_of own.now.kind number) (function_of own.now name.now) }
 {
@@ -148,7 +149,7 @@ fn function_in(own: &Inputs, number: u32, name: &[u8]) -> Option<u64>
     }
 }
 
-/// Where data begin that are moved by `bias`, if there are any.
+/// The address of data in an instance that is moved by `bias`, if there are any.
 fn start_of(writable: &ClassBytes, bias: u64) -> Option<u64>
     requires { bias < 2 ^ 60 }
     ensures { (l : Linking) → IsClass l (Writable true) writable.now → Keeps l bias
@@ -161,7 +162,7 @@ fn start_of(writable: &ClassBytes, bias: u64) -> Option<u64>
     }
 }
 
-/// Data that are moved by `bias`, if there are any.
+/// The data of an instance that is moved by `bias`, if there are any.
 fn data_in(
     alloc: Global,
     writable: &ClassBytes,
@@ -181,8 +182,8 @@ fn data_in(
 }
 
 impl<'i> MeantImages<'i> {
-    /// Those of these images, which stand in image order and link. The only error is want of memory, and more than 2^32
-    /// objects are said to want it.
+    /// Makes the tables of these images, which are in image order and can be linked. Fails only when memory runs out;
+    /// 2^32 objects in one image count as that.
     pub fn new(
         alloc: Global,
         inputs: &'i [Inputs<'i, 'i, 'i>],
@@ -205,7 +206,7 @@ impl<'i> MeantImages<'i> {
         })
     }
 
-    /// How many there are.
+    /// The number of images.
     pub fn count(&self) -> u32
         ensures value { result ≡ length self.now }
         ensures few { result ≤ 64 }
@@ -213,7 +214,7 @@ impl<'i> MeantImages<'i> {
         self.infos.as_slice().len() as u32
     }
 
-    /// What is known of each image before anything is loaded.
+    /// When each image is loaded, and its TLS segment.
     pub fn infos(&self) -> &[ImageInfo]
         ensures value { result.now ≡ map info_of self.now }
         ensures kept { AreInfos result.now }
@@ -221,8 +222,8 @@ impl<'i> MeantImages<'i> {
         self.infos.as_slice()
     }
 
-    /// How far below the thread pointer the block of an image that starts with the program begins. Where the number is a
-    /// late image's, or none, that of the last one that starts with it.
+    /// How far below the thread pointer the block of an image that starts with the program begins. For the number of a
+    /// late image, or one that no image has, it is that of the last image that starts with the program.
     pub fn static_offset(&self, image: u32) -> u64
         ensures value { result ≡ startup_end (take image (map info_of self.now)) 0 }
         ensures low { result < 2 ^ 27 }
@@ -232,7 +233,7 @@ impl<'i> MeantImages<'i> {
         end_of(&infos[..count])
     }
 
-    /// An image, by its number from 1.
+    /// The image with this number, from 1.
     fn image(&self, number: u32) -> Option<&'i Inputs<'i, 'i, 'i>>
         ensures { option_map (λ own. own.now) result ≡ at_number self.now number }
     {
@@ -242,10 +243,11 @@ impl<'i> MeantImages<'i> {
         self.inputs.get(number as usize - 1)
     }
 
-    /// What is made ready of an image, by its number from 1.
+    /// The tables of the image with this number, from 1.
     fn tables(&self, number: u32) -> Option<&Tables<'i>>
         ensures there { (l : Linking) → at_number self.now number ≡ Some l → IsSome result }
-        ensures each { (l : Linking) → at_number self.now number ≡ Some l → IfSome result (λ t. AreTables self.now l t.now) }
+        ensures each { (l : Linking) → at_number self.now number ≡ Some l
+            → IfSome result (λ t. AreTables self.now l t.now) }
         ensures sound { AreSound self.now }
     {
         let _images = self.inputs;
@@ -255,7 +257,7 @@ impl<'i> MeantImages<'i> {
         self.tables.as_slice().get(number as usize - 1)
     }
 
-    /// Where the function of a name begins in an instance, where there is one that can be called.
+    /// The address of the function with this name in an instance, if there is one that can be called.
     #[tactic(auto, unfolding(whole_meaning::specs::Loads::loads_of))]
     pub fn function(&self, instance: &Instance, name: &[u8]) -> Option<u64>
         ensures { result ≡ (loads_of self.now).function instance.now name.now }
@@ -266,7 +268,7 @@ impl<'i> MeantImages<'i> {
         }
     }
 
-    /// The offset of the thread-local variable of a name in the blocks of an image, where there is one.
+    /// The offset of the thread-local variable with this name in an image's blocks, if there is one.
     #[tactic(auto, unfolding(whole_meaning::specs::Loads::loads_of))]
     pub fn variable(&self, image: u32, name: &[u8]) -> Option<u64>
         ensures { result ≡ (loads_of self.now).variable image name.now }
@@ -277,7 +279,7 @@ impl<'i> MeantImages<'i> {
         }
     }
 
-    /// Whether a place is one where a linker may put what it makes for an instance.
+    /// Whether `place` is in the room of an instance: after its sections, where a linker may put what it makes.
     #[tactic(auto, unfolding(whole_meaning::specs::Loads::meaning_of))]
     pub fn is_in_room(&self, instance: &Instance, place: u64) -> bool
         ensures { result ≡ (meaning_of self.now).room instance.now place }
@@ -288,7 +290,7 @@ impl<'i> MeantImages<'i> {
         }
     }
 
-    /// What a place of an instance's code is.
+    /// The mark of a byte of an instance's code.
     #[tactic(auto, unfolding(whole_meaning::specs::Loads::meaning_of))]
     pub fn mark(&self, instance: &Instance, place: u64) -> Mark
         ensures { result ≡ (meaning_of self.now).mark instance.now place }
@@ -302,7 +304,7 @@ impl<'i> MeantImages<'i> {
         }
     }
 
-    /// The sequence that begins at a place of an instance's code, if one does.
+    /// The sequence that begins at `place` in an instance's code, if one does.
     #[tactic(auto, unfolding(whole_meaning::specs::Loads::meaning_of))]
     pub fn sequence(&self, instance: &Instance, place: u64) -> Option<Sequence>
         ensures { result ≡ (meaning_of self.now).sequence instance.now place }
@@ -321,7 +323,7 @@ impl<'i> MeantImages<'i> {
         }
     }
 
-    /// The byte at a place of an instance that no thread writes, where it may be accessed so.
+    /// The byte at `place` of an instance's code or constants; `None` if there is none, or `access` is not allowed.
     #[tactic(auto, unfolding(whole_meaning::specs::Loads::loads_of))]
     pub fn fixed_byte(&self, instance: &Instance, access: Access, place: u64) -> Option<u8>
         ensures { option_map Value result ≡ byte_in access ((loads_of self.now).fixed instance.now) place }
@@ -340,7 +342,7 @@ impl<'i> MeantImages<'i> {
         }
     }
 
-    /// Where the data of an instance begin that threads write, if its image has any.
+    /// The address of an instance's data, if its image has any.
     #[tactic(auto, unfolding(whole_meaning::specs::Loads::loads_of))]
     pub fn data_start(&self, instance: &Instance) -> Option<u64>
         ensures { result ≡ option_map (λ (range : Range Byte). range.start) ((loads_of self.now).shared instance.now) }
@@ -355,7 +357,7 @@ impl<'i> MeantImages<'i> {
         }
     }
 
-    /// The data that threads write, as a load of the instance makes it, if its image has any.
+    /// The data of an instance as its load fills them, if its image has any.
     #[tactic(auto, unfolding(whole_meaning::specs::Loads::loads_of))]
     pub fn fresh_data(
         &self,
@@ -374,7 +376,7 @@ impl<'i> MeantImages<'i> {
         }
     }
 
-    /// A thread's block of the instance before any write.
+    /// A thread's block of an instance, before any write.
     #[tactic(auto, unfolding(whole_meaning::specs::Loads::loads_of))]
     pub fn block(&self, alloc: Global, instance: &Instance) -> Result<MarkedBytes, AllocError>
         ensures { IfOk result (λ bytes. bytes ≡ (loads_of self.now).block instance.now) }

@@ -1,4 +1,4 @@
-//! What is kept of an image's code before it is laid: an entry for each relocation and for each sequence.
+//! Lists an entry for each relocation and each sequence of an image's code, before the code is laid out.
 
 ghost use Rattle.std.specs.Prelude.{◌≡◌, ◌<◌, ◌≤◌, ◌^◌, Some, IfOk, OnOk, length};
 ghost use Rattle.std.specs.List.{All};
@@ -19,20 +19,20 @@ use link_needs::Inputs;
 use sequence_match::Site;
 use std::alloc::{AllocError, Global};
 
-/// Where the entries of an object stand in the list.
+/// Where the entries of an object are in the list.
 #[derive(Drop)]
 pub struct KeptObject {
-    /// Of each section of code the first of its relocations'.
+    /// For each section of code, the number of its first relocation's entry.
     pub fields: Vec<usize>,
-    /// The first of its sequences'.
+    /// The number of its first sequence's entry.
     pub sites: usize,
 }
 
-/// What is kept of an image's code.
+/// The entries of an image's code.
 #[derive(Drop)]
 pub struct Kept {
     pub entries: Vec<Entry>,
-    /// Of each object where its entries stand.
+    /// For each object, where its entries are.
     pub objects: Vec<KeptObject>,
 }
 
@@ -48,7 +48,7 @@ pub fn relocations_of(
     object.relocs(section).collect(alloc)
 }
 
-/// Adds the entries of a section's relocations. Answers the number of the first.
+/// Adds the entries of a section's relocations. Returns the number of the first.
 fn push_fields(
     alloc: Global,
     inputs: &Inputs,
@@ -71,7 +71,7 @@ fn push_fields(
     Ok(first)
 }
 
-/// Adds those of a section, if it is one of code. Answers the number of the first; else 0.
+/// Adds the entries of a section's relocations, if it is a section of code. Returns the number of the first, or 0.
 fn push_section(
     alloc: Global,
     inputs: &Inputs,
@@ -94,7 +94,7 @@ fn push_section(
     Ok(first)
 }
 
-/// Adds the entries of the relocations of an object's code. Answers, of each section, the number of the first.
+/// Adds the entries of the relocations of an object's code. Returns, for each section, the number of the first.
 fn push_sections(
     alloc: Global,
     inputs: &Inputs,
@@ -117,7 +117,7 @@ fn push_sections(
     Ok(firsts)
 }
 
-/// Adds the entries of an object's sequences. Answers the number of the first.
+/// Adds the entries of an object's sequences. Returns the number of the first.
 fn push_sites(
     images: &[Inputs],
     inputs: &Inputs,
@@ -142,7 +142,7 @@ fn push_sites(
     Ok(first)
 }
 
-/// Adds the entries of an object. Answers where they stand.
+/// Adds the entries of an object. Returns where they are.
 fn push_object(
     alloc: Global,
     images: &[Inputs],
@@ -175,7 +175,7 @@ pub fn own_sites<'l>(inputs: &Inputs<'l, '_, '_>, number: usize) -> &'l [Site]
     sites[number].as_slice()
 }
 
-/// What is kept of an image's code, and of what it shares with startup images.
+/// Lists the entries of an image's code. `images` are all images of the job: its sequences may use variables of others.
 pub fn keep(alloc: Global, images: &[Inputs], inputs: &Inputs) -> Result<Kept, AllocError>
     requires few { length images.now ≤ 64 }
     requires small { All HasFewObjects images.now }

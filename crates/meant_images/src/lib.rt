@@ -1,13 +1,13 @@
 //! What a job means, in code: which place of an image's code is what.
 //!
-//! `whole_meaning` says of each place of an instance's code what it is: a byte that the program alone decides, a byte
-//! of a field that only the linker knows, or one of a sequence that reaches thread-local storage. Its definitions
-//! search: for the section that stands at the place, for the first relocation whose field covers the byte, for the first
-//! sequence that does. A step asks this of each byte that it reads, so the code here asks no more than a table.
+//! For each byte of an instance's code `whole_meaning` says what it is: a byte that the program alone decides, a byte
+//! of a field that only the linker knows, or a byte of a sequence that reaches thread-local storage. Its definitions
+//! search: for the section that contains the byte, for the first relocation whose field covers it, for the first
+//! sequence that does. A step asks this for each byte that it reads, so the code here looks it up in a table.
 //!
-//! An image is laid out once, not moved, into one *cell* for each byte from where its code begins to where it ends: the
-//! number of an *entry*, and which byte of it this is. An entry is a field with its number, a sequence, or what the
-//! program alone decides.
+//! An image is laid out once, before it is moved, as one *cell* for each byte from the first byte of its code to the
+//! last. A cell is the number of an *entry*, and which byte of the entry this is. An entry is a field with its number,
+//! a sequence, or what the program alone decides.
 //!
 //! ```text
 //! f:  mov x@dtpoff(%rax), %ecx      8b 88 r r r r      cells    0,0  0,0  1,0  1,1  1,2  1,3
@@ -20,15 +20,15 @@
 //! ```
 //!
 //! The rule that the crate keeps: **each answer is that of the definitions, for any distance that the image is moved.**
-//! The distance enters in one place: an address that a field names moves with the image, so its entry says that it
-//! does, and the rest stays ([`CodeMarks::mark`]). Where a sequence names a variable that a startup image exports, that
-//! image is asked while the entries are made. Both answers take constant time ([`CodeMarks::sequence`]).
+//! The distance matters in one place: an address in a field moves with the image, and its entry says so; all else stays
+//! ([`CodeMarks::mark`]). A sequence may name a variable that a startup image exports. That image is searched once,
+//! when the entries are made. Both answers, the mark and the sequence ([`CodeMarks::sequence`]), take constant time.
 //!
-//! [`MeantImages`] has this of all images of a job, and beside it what is loaded of each instance: the bytes of its
-//! sections (`class_bytes`), its functions and variables by name, and a thread's fresh block.
+//! [`MeantImages`] has these tables for all images of a job. It also has what is loaded of each instance: the bytes of
+//! its sections (`class_bytes`), its functions and variables by name, and a thread's fresh block.
 //!
-//! Of two fields or two sequences that share a byte the first would have it, by the definitions; the last is written
-//! first, so that it does.
+//! By the definitions a byte that two fields or two sequences share belongs to the first. So cells are written from the
+//! last to the first.
 #![tactic(auto)]
 
 mod code_marks;

@@ -1,5 +1,4 @@
-//! What is known of an image before anything of it is loaded: its functions and variables by their names, its blocks,
-//! and its room.
+//! What is known of an image before it is loaded: its functions and variables by name, its blocks, and its room.
 
 ghost use Rattle.std.specs.Prelude.{◌≡◌, ◌^◌, ◌<◌, ◌≤◌, IfSome};
 ghost use Rattle.std.specs.List.{list_any};
@@ -22,10 +21,10 @@ use link_needs::Inputs;
 use module_table::ImageInfo;
 use sequence_match::{Form, Site};
 
-/// How many addresses an instance has for its own.
+/// The size of an instance's address range.
 const SPAN: u64 = 1 << 26;
 
-/// A place, if it lies below an end.
+/// An address, if it is below an end.
 fn below(end: u64, at: u64) -> Option<u64>
     ensures value { result ≡ below end at }
     ensures low { IfSome result (λ at. at < end) }
@@ -33,7 +32,7 @@ fn below(end: u64, at: u64) -> Option<u64>
     if at < end { Some(at) } else { None }
 }
 
-/// The class that linking keeps a section in, if there is one.
+/// The class that linking keeps a section in, if it keeps it.
 #[tactic(auto, using(tls_symbols::proofs::Sections::past_class))]
 fn class_of(object: &Object, section: u32) -> Option<SectionClass>
     ensures { result ≡ section_class object.now section }
@@ -44,14 +43,14 @@ fn class_of(object: &Object, section: u32) -> Option<SectionClass>
     }
 }
 
-/// Whether a section is one of code.
+/// Whether a section is a section of code.
 pub(crate) fn is_code(object: &Object, section: u32) -> bool
     ensures { result ≡ is_class SectionClass.Executable (section_class object.now section) }
 {
     matches!(class_of(object, section), Some(SectionClass::Executable))
 }
 
-/// Whether what is defined at a place is thread-local.
+/// Whether a symbol with this place is thread-local.
 fn is_variable(object: &Object, place: SymbolPlace) -> bool
     ensures { result ≡ is_tls_place object.now place }
 {
@@ -63,7 +62,7 @@ fn is_variable(object: &Object, place: SymbolPlace) -> bool
     }
 }
 
-/// Where the code of an image ends, before the image is moved.
+/// The end of an image's code, before the image is moved.
 fn code_end(inputs: &Inputs) -> u64
     ensures end { result ≡ (executable (layout inputs.now).kind (layout inputs.now).sections).end }
     ensures low { result ≤ 2 ^ 25 }
@@ -71,7 +70,7 @@ fn code_end(inputs: &Inputs) -> u64
     inputs.placement.executable().end
 }
 
-/// Where code begins that is named by a symbol of the image.
+/// The address of a symbol's function, before the image is moved.
 fn function_at(inputs: &Inputs, found: SymbolRef) -> Option<u64>
     requires { IsWithin inputs.now.objects found }
     ensures value { result ≡ function_at inputs.now found }
@@ -87,7 +86,7 @@ fn function_at(inputs: &Inputs, found: SymbolRef) -> Option<u64>
     }
 }
 
-/// How far into a block a variable lies that is named by a symbol of the image.
+/// The offset of a symbol's variable in a block.
 fn variable_at(inputs: &Inputs, found: SymbolRef) -> Option<u64>
     requires { IsWithin inputs.now.objects found }
     ensures { result ≡ variable_at inputs.now found }
@@ -100,8 +99,8 @@ fn variable_at(inputs: &Inputs, found: SymbolRef) -> Option<u64>
     None
 }
 
-/// Where a function begins, by its name, before its image is moved. `None` where the image defines no such name, or
-/// where what it defines is no byte of its code.
+/// The address of a function by its name, before the image is moved. `None` if the image does not define the name, or
+/// what it defines is not in its code.
 #[tactic(auto, unfolding(whole_meaning::specs::Bytes::function_of))]
 pub fn function(inputs: &Inputs, name: &[u8]) -> Option<u64>
     ensures value { result ≡ function_of inputs.now name.now }
@@ -111,8 +110,8 @@ pub fn function(inputs: &Inputs, name: &[u8]) -> Option<u64>
     function_at(inputs, found)
 }
 
-/// How far into a block a variable lies, by its name. `None` where the image defines no such name, or where what it
-/// defines is not thread-local.
+/// The offset of a variable in a block, by its name. `None` if the image does not define the name, or what it defines
+/// is not thread-local.
 #[tactic(auto, unfolding(whole_meaning::specs::Bytes::variable_of))]
 pub fn variable(inputs: &Inputs, name: &[u8]) -> Option<u64>
     ensures { result ≡ variable_of inputs.now name.now }
@@ -121,7 +120,7 @@ pub fn variable(inputs: &Inputs, name: &[u8]) -> Option<u64>
     variable_at(inputs, found)
 }
 
-/// Whether an object has code that finds a variable at a fixed distance from the thread pointer.
+/// Whether an object has code that reaches a variable at a fixed distance from the thread pointer.
 fn has_initial(own: &[Site]) -> bool
     ensures { result ≡ list_any (λ (site : Site). is_initial site.form) own.now }
 {
@@ -129,14 +128,14 @@ fn has_initial(own: &[Site]) -> bool
         .any(|site| matches!(site.form, Form::IeMov | Form::IeAdd))
 }
 
-/// Whether one of these objects does.
+/// Whether one of the objects has such code.
 fn any_initial(sites: &[Vec<Site>]) -> bool
     ensures { result ≡ list_any (λ own. list_any (λ (site : Site). is_initial site.form) own.items) sites.now }
 {
     sites.iter().any(|own| has_initial(own.as_slice()))
 }
 
-/// Whether the image is a module that wants its blocks below the thread pointer.
+/// Whether the image is a module that needs its blocks below the thread pointer.
 #[tactic(auto, using(link_core::proofs::DraftLemmas::any_seen), unfolding(whole_meaning::specs::Loads::wants_surplus))]
 fn wants_surplus(inputs: &Inputs) -> bool
     ensures { result ≡ wants_surplus inputs.now }
@@ -144,14 +143,14 @@ fn wants_surplus(inputs: &Inputs) -> bool
     inputs.kind.is_module() && any_initial(inputs.sites)
 }
 
-/// Whether an image is loaded by an open; else it starts with the program.
+/// Whether an image is loaded by an open; the others start with the program.
 fn is_late(kind: ImageKind) -> bool
     ensures { result ≡ is_late kind }
 {
     matches!(kind, ImageKind::Late)
 }
 
-/// What is known of an image from the start: when it is loaded, and its TLS segment.
+/// When an image is loaded, and its TLS segment.
 #[tactic(auto, unfolding(whole_meaning::specs::Loads::info_of))]
 pub fn info(inputs: &Inputs) -> ImageInfo
     ensures value { result ≡ info_of inputs.now }
@@ -165,8 +164,8 @@ pub fn info(inputs: &Inputs) -> ImageInfo
     }
 }
 
-/// Whether a place is in the room of an instance that is so far moved: from behind all of its sections to where its
-/// part of the addresses ends.
+/// Whether `place` is in the room of an instance that is moved by `bias`: from the end of all its sections to the end
+/// of its address range.
 #[tactic(auto, unfolding(whole_meaning::specs::Spots::in_room))]
 pub fn is_in_room(inputs: &Inputs, bias: u64, place: u64) -> bool
     requires { bias ≤ 2 ^ 60 }

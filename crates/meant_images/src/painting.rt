@@ -1,4 +1,4 @@
-//! Painting code: the cell of each byte of a section.
+//! Writes the cell of each byte of a section of code.
 
 ghost use Rattle.std.specs.Prelude.{◌≡◌, ◌+◌, ◌<◌, ◌≤◌, ◌^◌, ℕ, IfOk, length, slice_index_or, if◌then◌else◌};
 ghost use Rattle.std.specs.List.{All};
@@ -20,17 +20,17 @@ use link_needs::Inputs;
 use sequence_match::Site;
 use std::alloc::{AllocError, Global};
 
-/// A byte of code: the number of the entry that says what it is one of, and which byte of that it is, from 0.
+/// A byte of code: the number of the entry that it belongs to, and which byte of the entry it is, from 0.
 #[derive(Clone, Copy)]
 pub struct Cell {
     pub entry: u32,
     pub byte: u8,
 }
 
-/// A byte of which nothing is kept. The first entry says so.
+/// A byte that no field and no sequence covers. It belongs to the first entry.
 const NO_CELL: Cell = Cell { entry: 0, byte: 0 };
 
-/// Writes the cells of an entry over those of so many bytes.
+/// Writes the cells of an entry, over `width` bytes from `start`.
 fn paint(entry: u32, start: usize, width: usize, cells: &mut [Cell])
     requires inside { start + width ≤ length cells.old }
     requires narrow { width ≤ 256 }
@@ -45,8 +45,8 @@ fn paint(entry: u32, start: usize, width: usize, cells: &mut [Cell])
     }
 }
 
-/// Writes the cells of a section's fields, whose entries begin with number `first`. Of two that share a byte the first
-/// has it, so the last is written first.
+/// Writes the cells of a section's fields. The first field's entry has number `first`. A byte that two fields share
+/// belongs to the first, so the last is written first.
 fn paint_fields(relocations: &[Relocation], first: usize, cells: &mut [Cell])
     requires inside { All (λ (r : Relocation). r.offset + field_width r.kind ≤ length cells.old) relocations.now }
     requires few { first + length relocations.now ≤ 2 ^ 32 }
@@ -67,7 +67,7 @@ fn paint_fields(relocations: &[Relocation], first: usize, cells: &mut [Cell])
     }
 }
 
-/// Writes the cells of sequences of a section, whose entries begin with number `first`.
+/// Writes the cells of the sequences in a section. The first sequence's entry has number `first`.
 fn paint_sites(sites: &[Site], first: usize, section: u32, cells: &mut [Cell])
     requires own { All (λ (site : Site). site.section ≡ section) sites.now }
     requires inside { All (λ (site : Site). site.start + site.len ≤ length cells.old) sites.now }
@@ -85,7 +85,7 @@ fn paint_sites(sites: &[Site], first: usize, section: u32, cells: &mut [Cell])
     }
 }
 
-/// How many sequences lie in sections below a number.
+/// How many of these sequences are in sections with lower numbers.
 fn sites_below(sites: &[Site], section: u32) -> usize
     requires rising { IsNonDecreasingBy (λ (site : Site). site.section) sites.now }
     ensures { IsSplit sites.now section result }
@@ -93,7 +93,7 @@ fn sites_below(sites: &[Site], section: u32) -> usize
     sites.partition_point(|site| site.section < section)
 }
 
-/// Writes the cells of the sequences of an object that lie in a section.
+/// Writes the cells of those sequences of an object that are in a section.
 fn paint_own_sites(sites: &[Site], first: usize, section: u32, cells: &mut [Cell])
     requires rising { IsNonDecreasingBy (λ (site : Site). site.section) sites.now }
     requires inside { All (λ (site : Site). site.section ≡ section → site.start + site.len ≤ length cells.old)
@@ -110,17 +110,17 @@ fn paint_own_sites(sites: &[Site], first: usize, section: u32, cells: &mut [Cell
     paint_sites(&rest[..count], first + begin, section, cells);
 }
 
-/// What paints the code of an image.
+/// Writes the cells of an image's code.
 #[derive(Drop)]
 pub struct Painter<'p, 'l, 's, 'a> {
     pub alloc: Global,
     pub inputs: &'p Inputs<'l, 's, 'a>,
-    /// Of each object where its entries stand.
+    /// For each object, where its entries are.
     pub objects: &'p [KeptObject],
     ghost have_room: { HaveRoom inputs.now objects.now },
 }
 
-/// How many bytes a section has.
+/// The size of a section.
 fn size_of(object: &Object, section: u32) -> u64
     requires { section < section_count object.now }
     ensures size { result ≡ section_size object.now section }

@@ -1,4 +1,4 @@
-//! Which variable a sequence names.
+//! The variable that a sequence names.
 
 ghost use Rattle.std.specs.Prelude.{◌≡◌, ◌<◌, ◌≤◌, ◌^◌, ℕ, length};
 ghost use Rattle.std.specs.List.{All};
@@ -13,17 +13,17 @@ use link_needs::Inputs;
 use sequence_match::{Form, Site};
 use std::marker::Model;
 
-/// One more than the greatest number of an object, and of a symbol, in the number of a definition.
+/// More than the greatest number of an object, and of a symbol, in the number of a definition.
 const OBJECTS: u64 = 1 << 32;
 
 const SYMBOLS: u64 = 1 << 24;
 
-/// A variable as a sequence of an instance knows it.
+/// A variable, as a sequence in an instance names it.
 #[derive(Drop)]
 pub struct Variable {
-    /// The number of the instance in whose blocks it lies.
+    /// The number of the instance whose blocks contain it.
     pub target: u64,
-    /// Its offset there.
+    /// Its offset in a block.
     pub offset: u64,
     /// The number of its definition.
     pub symbol: u64,
@@ -37,20 +37,20 @@ impl Model for Variable {
     ghost view = { λ v. record { target = v.target; offset = v.offset; symbol = v.symbol } };
 }
 
-/// The variable that a sequence names, as it is known before there is an instance.
+/// The variable that a sequence names, as far as it is known before there is an instance.
 #[derive(Clone, Copy)]
 pub enum Target {
-    /// None: the symbol is bound to no variable.
+    /// The symbol is bound to no variable.
     Unknown,
-    /// The block of the code's own instance.
+    /// The block of the instance that contains the code.
     OwnBlock,
-    /// A variable of the code's own image: its definition and its offset.
+    /// A variable of the image that contains the code: its definition and its offset.
     Own(SymbolRef, u64),
-    /// A variable of a startup image, whose number is its instance's: its definition and its offset.
+    /// A variable of a startup image, whose number its instance has too: its definition and its offset.
     Shared(u32, SymbolRef, u64),
 }
 
-/// The number of a definition in an image.
+/// The number of a definition: no other definition of the job has it.
 fn definition_number(image: u32, found: SymbolRef) -> u64
     requires image { image ≤ 64 }
     requires small { HasNumber found }
@@ -60,7 +60,7 @@ fn definition_number(image: u32, found: SymbolRef) -> u64
 }
 
 impl Target {
-    /// The variable, in the code of an instance of an image.
+    /// The variable that the code of an instance of an image names.
     pub fn variable(self, image: u32, number: u32) -> Variable
         requires image { image ≤ 64 }
         requires numbered { IsNumbered self }
@@ -91,7 +91,7 @@ impl Target {
     }
 }
 
-/// The variable that a startup image exports by a name.
+/// The variable that a startup image exports under a name.
 fn shared_target(images: &[Inputs], image: u32, name: &[u8]) -> Target
     requires few { length images.now ≤ 64 }
     requires small { All HasFewObjects images.now }
@@ -108,7 +108,7 @@ fn shared_target(images: &[Inputs], image: u32, name: &[u8]) -> Target
     }
 }
 
-/// The variable that a sequence asks for by its symbol.
+/// The variable that a sequence's symbol is bound to.
 fn bound_target(images: &[Inputs], inputs: &Inputs, number: usize, site: &Site) -> Target
     requires few { length images.now ≤ 64 }
     requires small { All HasFewObjects images.now }
@@ -118,7 +118,7 @@ fn bound_target(images: &[Inputs], inputs: &Inputs, number: usize, site: &Site) 
     ensures target { IsBound images.now inputs.now number site.now result }
     ensures numbered { IsNumbered result }
 {
-    // What is known of inputs is known where a part of them is read.
+    // Reading a field lets the proof use the invariant of `inputs`.
     let _objects = inputs.objects;
     match inputs.bound(number, site.symbol, site.form.row().first) {
         Some(Binding::Here(found)) => Target::Own(found, inputs.offset(found)),
@@ -130,7 +130,7 @@ fn bound_target(images: &[Inputs], inputs: &Inputs, number: usize, site: &Site) 
     }
 }
 
-/// The variable that a sequence of an object asks for.
+/// The variable that a sequence of an object names.
 pub fn target_of(images: &[Inputs], inputs: &Inputs, number: usize, site: &Site) -> Target
     requires few { length images.now ≤ 64 }
     requires small { All HasFewObjects images.now }

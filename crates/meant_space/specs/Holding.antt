@@ -1,4 +1,4 @@
--- How contracts see a thread's memory, and what the code keeps of it besides.
+-- How contracts see a thread's memory, and what else the code keeps true of it.
 use Rattle.std.specs.Prelude.{◌≡◌, ◌≤◌}
 use Rattle.thread_blocks.specs.MachineTurns.{pointer_word}
 use Rattle.whole_meaning.specs.Threads.{ops}

@@ -1,4 +1,4 @@
--- What the checker keeps of a thread's memory, and what the meaning's thread holds then.
+-- What the checker keeps of a thread's memory, and the definitions' thread that it stands for.
 use Rattle.std.specs.Prelude.{◌≡◌, ◌==◌, ℕ, Bool, true, false, List, [], ◌∷◌, ◌++◌, Option, Some, None, option_and_then, if◌then◌else◌}
 use Rattle.std.specs.List.{find, list_any}
 use Rattle.guest_machine.specs.Run.{is_look}
@@ -26,17 +26,17 @@ pub record Kept : Type 0 where
   pub thread : ℕ
   -- the images of the job, in image order
   pub images : List Linking
-  -- the instances that are live where the thread looked last, in the order of their images
+  -- the instances that were live at the thread's last look, in the order of their images
   pub live : List Instance
   pub stack : List Byte
-  -- its blocks, and behind them the data while they are in its hands
+  -- its blocks, and after them the data while this thread has them
   pub own : List (Owned Byte)
-  -- the word that is lent at address 0, for the time of one step
+  -- the word that is lent at address 0 for one step
   pub lent : Option ℕ
 
 -- ** memory
 
--- the eight bytes of a word that is lent, which can only be read
+-- the eight bytes of a lent word, which can only be read
 abbrev pub lent_range : ℕ → Range Byte
 lent_range number = record {
   start = 0;
@@ -50,7 +50,7 @@ abbrev pub with_lent : Option ℕ → List (Range Byte) → List (Range Byte)
 with_lent None ranges = ranges
 with_lent (Some number) ranges = lent_range number ∷ ranges
 
--- what no thread writes: the word at the thread pointer, code and constants
+-- what no thread writes: the word at the thread pointer, and code and constants
 abbrev pub fixed_in : Kept → List (Range Byte)
 fixed_in k = pointer_word ops k.thread ∷ fixed_of (loads_of k.images) k.live
 
@@ -79,21 +79,21 @@ shape_of k = record {
   lent = k.lent;
 }
 
--- the shape of a thread that knows of no image
+-- the shape of a thread with no images
 abbrev pub shape_with : ℕ → Shape
 shape_with thread = record { thread = thread; images = []; live = []; owners = []; lent = None }
 
 -- ** code
 
--- the live instance whose code stands at a place
+-- the live instance whose code is at a place
 abbrev pub owner_in : Kept → ℕ → Option Instance
 owner_in k place = find (λ (x : Instance). x.number == owner_at place) k.live
 
--- what a place of code is
+-- the mark of a byte of code
 unfoldable pub mark_in : Kept → ℕ → Mark
 mark_in k place = marked_in (meaning_of k.images) k.thread place (owner_in k place)
 
--- whether a place is the linker's own
+-- whether a place is the linker's own: an address of the run time, or in the room of a live instance
 unfoldable pub shut_in : Kept → ℕ → Bool
 shut_in k place =
     if is_look place then true else list_any (λ x. (meaning_of k.images).room x place) k.live
@@ -102,17 +102,17 @@ shut_in k place =
 unfoldable pub sequence_in : Kept → ℕ → Option Sequence
 sequence_in k place = option_and_then (λ x. (meaning_of k.images).sequence x place) (owner_in k place)
 
--- whether the byte at a place is one of the stack
+-- whether a place is in the stack
 abbrev pub is_stack : Kept → ℕ → Bool
 is_stack k place = grants Write (stack_range (stack_start k.thread) k.stack) place
 
 -- ** as the definitions have it
 
--- the live instances are those of the events
+-- the live instances are those that the events leave
 abbrev pub HasSeen : Kept → List Event → Type 0
 HasSeen k seen = instances (loads_of k.images) seen ≡ k.live
 
--- the meaning's thread that keeps this, with its registers, where it saw these events
+-- the definitions' thread with this memory and these registers, which has seen these events
 abbrev pub held_at : List Event → State Word Flag → Kept → Meant
 held_at seen state k = record {
   after = left state (record { seen = seen; stack = k.stack; own = ranges_in k.own });

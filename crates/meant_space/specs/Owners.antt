@@ -1,4 +1,4 @@
--- Owners, as the code has them.
+-- The owners of ranges, as the code has them.
 use Rattle.std.specs.Prelude.{◌≡◌, ℕ, Bool, false, List, Option, option_and_then, option_map}
 use Rattle.std.specs.List.{find}
 use Rattle.job_meaning.specs.declared.values.Byte.{Byte}
@@ -20,15 +20,15 @@ is_owner written.Data instance o = is_data_of instance o
 abbrev pub bytes_for : (Owner → Bool) → List (Owned Byte) → Option (List Byte)
 bytes_for test xs = option_map (λ x. x.range.bytes) (find (λ x. test x.owner) xs)
 
--- as many bytes of a block as this from an offset on, if there is a block and all of them lie in it
+-- `size` bytes of a block, from an offset; None if there is no block, or it ends before
 abbrev pub part_in : ℕ → ℕ → Option (List Byte) → Option (List Byte)
 part_in offset size block = option_and_then (part_of offset size) block
 
--- of all owners but one the bytes are as before
+-- the bytes of all owners but one are unchanged
 pub record LeavesOthers (kind : Written) (instance : ℕ) (old new : List (Owned Byte)) : Type 0 where
   pub others : (test : Owner → Bool) → test (record { kind = kind_of kind; instance = instance }) ≡ false
       → bytes_for test new ≡ bytes_for test old
 
--- the data of all instances are as before
+-- the data of all instances are unchanged
 abbrev pub HasSameData : List (Owned Byte) → List (Owned Byte) → Type 0
 HasSameData old new = (number : ℕ) → data_bytes number new ≡ data_bytes number old

@@ -1,4 +1,4 @@
--- What clauses say of a thread's memory before and after a call.
+-- A thread's memory before and after a call, as clauses speak of it.
 use Rattle.std.specs.Prelude.{◌≡◌, ◌==◌, ◌-◌, ◌++◌, ℕ, Bool, false, List, is_some}
 use Rattle.std.specs.List.{AllPairs}
 use Rattle.job_meaning.specs.declared.values.Byte.{Byte}
@@ -11,13 +11,13 @@ use Rattle.meant_space.specs.declared.space.Wanted.{Wanted}
 use Rattle.meant_space.specs.declared.space.Wanted.TheVariants.{Fixed, BlockOf, DataOf}
 use Rattle.meant_space.specs.Kept.{Kept}
 
--- the blocks that are made fresh where the thread has none
+-- of which instances blocks are made fresh where the thread has none
 abbrev pub reaches : Wanted → Instance → Bool
 reaches Fixed x = is_some x.offset
 reaches (BlockOf number) x = x.number == number
 reaches (DataOf number) x = false
 
--- the data that are made fresh
+-- of which instances data are made fresh
 abbrev pub fills : Wanted → Instance → Bool
 fills Fixed x = false
 fills (BlockOf number) x = false
@@ -27,13 +27,13 @@ fills (DataOf number) x = x.number == number
 abbrev pub HaveOwnNumbers : List Instance → Type 0
 HaveOwnNumbers live = AllPairs (λ (x y : Instance). (x.number == y.number) ≡ false) live
 
--- of these instances it holds what it held and was handed, and what is wanted; of others nothing
+-- the blocks and data of these instances, held, handed over, or fresh where wanted; those of others are gone
 unfoldable pub with_held : List Instance → List (Owned Byte) → Wanted → Kept → Kept
 with_held live handed wanted k = record k {
   live = live;
   own = held_of (loads_of k.images) k.thread (reaches wanted) (fills wanted) live (k.own ++ handed);
 }
 
--- nothing is known any more of the stack below a place
+-- the stack below a place is unknown
 unfoldable pub with_hidden : ℕ → Kept → Kept
 with_hidden place k = record k { stack = hidden_below (place - stack_start k.thread) k.stack }

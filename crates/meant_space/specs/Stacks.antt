@@ -5,7 +5,7 @@ use Rattle.job_meaning.specs.declared.values.Byte.{Byte}
 use Rattle.job_meaning.specs.declared.values.Byte.TheVariants.{Value}
 use Rattle.meant_space.specs.declared.stack.MarkedStack.TheInside.{Inside}
 
--- of so many bytes, the highest first, the first are these, and those behind them all alike
+-- the `size` bytes of a stack, the highest first: those of `top`, and then `deep` for each of the rest
 unfoldable pub down_from : ℕ → Byte → List Byte → List Byte
 down_from size deep top = top ++ replicate (size - length top) deep
 
@@ -13,13 +13,13 @@ down_from size deep top = top ++ replicate (size - length top) deep
 unfoldable pub stack_of : ℕ → Byte → List Byte → List Byte
 stack_of size deep top = reverse (down_from size deep top)
 
--- no byte is kept that the stack does not have, and for each there is room
+-- no more bytes are stored than the stack has, and there is room for all
 pub record IsStack (s : Inside) : Type 0 where
   pub within : length s.top.items ≤ s.size
   pub few : s.size ≤ 65536
   pub kept : vec_len s.top ≡ length s.top.items
   pub room : s.size ≤ vec_capacity s.top
 
--- the address that a call returns to, the highest byte first
+-- the return address of a call, the highest byte first
 abbrev pub last_bytes : List Byte
 last_bytes = Value 0 ∷ Value 0 ∷ Value 0 ∷ Value 0 ∷ Value 0 ∷ Value 0 ∷ Value 0x20 ∷ Value 0 ∷ []

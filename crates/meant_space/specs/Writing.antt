@@ -1,4 +1,4 @@
--- What a byte that is written leaves of ranges that have owners.
+-- What a write of a byte changes in ranges that have owners.
 use Rattle.std.specs.Prelude.{◌-◌, ℕ, List, [], ◌∷◌, slice_set, if◌then◌else◌}
 use Rattle.guest_operands.specs.declared.space.Access.TheVariants.{Write}
 use Rattle.guest_operands.specs.Ranges.{grants}
@@ -11,7 +11,7 @@ written_at o place byte = record o {
   range = record o.range { bytes = slice_set o.range.bytes (place - o.range.start) byte };
 }
 
--- the first range that may be written there has the byte, and where none may, nothing has changed
+-- a write changes the first range that may be written there; where there is none, it changes nothing
 abbrev pub written_in : List (Owned Byte) → ℕ → Byte → List (Owned Byte)
 written_in [] place byte = []
 written_in (o ∷ os) place byte =

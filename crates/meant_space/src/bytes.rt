@@ -19,7 +19,8 @@ use job_meaning::{Byte, MarkedValues, Word};
 use loaded_modules::Instance;
 use std::marker::Model;
 
-/// What no access of a thread changes. None is ever made: only contracts speak of it.
+/// The part of a thread's memory that no access changes. No value of this type is ever made: only contracts speak of
+/// it.
 #[derive(Drop)]
 pub struct Outline {
     pub(crate) thread: u32,
@@ -34,7 +35,7 @@ impl Model for Outline {
 }
 
 impl<'m> MeantSpace<'m> {
-    /// The byte at a place of the word that is lent, where it may be accessed so.
+    /// The byte of the lent word at `place`; `None` if there is none, or `access` is not allowed.
     fn lent_byte(&self, access: Access, place: u64) -> Option<Byte>
         ensures { result ≡ byte_in access (with_lent self.now.lent []) place }
     {
@@ -46,7 +47,7 @@ impl<'m> MeantSpace<'m> {
         }
     }
 
-    /// The byte at a place of the stack, where it may be accessed so.
+    /// The byte of the stack at `place`; `None` if there is none, or `access` is not allowed.
     fn stack_byte(&self, access: Access, place: u64) -> Option<Byte>
         ensures { result ≡ byte_in access (stack_range (stack_start self.now.thread) self.now.stack ∷ []) place }
     {
@@ -58,7 +59,7 @@ impl<'m> MeantSpace<'m> {
         }
     }
 
-    /// The byte at a place of the word at the thread pointer, where it may be accessed so.
+    /// The byte of the word at the thread pointer; `None` if `place` is outside it, or `access` is not allowed.
     fn pointer_byte(&self, access: Access, place: u64) -> Option<Byte>
         ensures { result ≡ byte_in access (pointer_word ops self.now.thread ∷ []) place }
     {
@@ -68,7 +69,7 @@ impl<'m> MeantSpace<'m> {
         None
     }
 
-    /// The byte at a place of what is loaded of an instance and no thread writes, where it may be accessed so.
+    /// The byte of an instance's code or constants; `None` if there is none at `place`, or `access` is not allowed.
     fn loaded_byte(&self, instance: &Instance, access: Access, place: u64) -> Option<Byte>
         ensures { result ≡ byte_in access ((loads_of self.now.images).fixed instance.now) place }
     {
@@ -78,7 +79,7 @@ impl<'m> MeantSpace<'m> {
         }
     }
 
-    /// The byte at a place of what is loaded of the live instances and no thread writes, where it may be accessed so.
+    /// The byte of a live instance's code or constants; `None` if there is none at `place`, or `access` is not allowed.
     fn fixed_byte(&self, access: Access, place: u64) -> Option<Byte>
         ensures { result ≡ byte_in access (fixed_of (loads_of self.now.images) self.now.live) place }
     {
@@ -90,7 +91,7 @@ impl<'m> MeantSpace<'m> {
         None
     }
 
-    /// The byte at a place, where it may be accessed so.
+    /// The byte at `place`; `None` if there is none, or `access` is not allowed.
     fn byte_at(&self, access: Access, place: u64) -> Option<Byte>
         ensures { result ≡ byte_in access (memory_of self.now).ranges place }
     {
@@ -109,7 +110,7 @@ impl<'m> MeantSpace<'m> {
         self.fixed_byte(access, place)
     }
 
-    /// Writes the byte at a place of the stack.
+    /// Writes a byte of the stack.
     fn set_stack_byte(&mut self, place: u64, byte: Byte)
         requires { is_stack self.old place ≡ true }
         ensures { self.new ≡ record self.old {
@@ -120,7 +121,8 @@ impl<'m> MeantSpace<'m> {
         self.stack.set_byte(place - start, byte);
     }
 
-    /// Writes the byte at a place of what it owns, or nothing where none is there.
+    /// Writes a byte of the thread's blocks or of the data that it holds. Does nothing where `place` is in none of
+    /// them.
     fn set_own_byte(&mut self, place: u64, byte: Byte)
         ensures { self.new ≡ record self.old { own = written_in self.old.own place byte } }
     {

@@ -19,7 +19,7 @@ use loaded_modules::Instance;
 use std::alloc::AllocError;
 use whole_meaning::{Mark, Sequence};
 
-/// Whether the run time is called there.
+/// Whether this is one of the two addresses of the run time, `__tls_get_addr` and the descriptor's function.
 fn is_look(place: u64) -> bool
     ensures { result ≡ is_look place }
 {
@@ -27,7 +27,7 @@ fn is_look(place: u64) -> bool
 }
 
 impl<'m> MeantSpace<'m> {
-    /// The live instance of a number.
+    /// The live instance with this number.
     pub fn numbered(&self, number: u64) -> Option<Instance>
         ensures { result ≡ find (λ (x : Instance). x.number == number) self.now.live }
     {
@@ -39,8 +39,8 @@ impl<'m> MeantSpace<'m> {
         None
     }
 
-    /// The `size` bytes from an offset on of the block that the thread has of an instance, if there is a block and all of
-    /// them lie in it.
+    /// `size` bytes of the thread's block of an instance, from `offset`; `None` if the thread has no block of it, or
+    /// one that ends before.
     pub fn part(
         &self,
         instance: u32,
@@ -57,14 +57,14 @@ impl<'m> MeantSpace<'m> {
         }
     }
 
-    /// The live instance whose code stands at a place.
+    /// The live instance whose code is at `place`.
     pub fn owner(&self, place: u64) -> Option<Instance>
         ensures { result ≡ owner_in self.now place }
     {
         self.numbered(job_meaning::owner(place))
     }
 
-    /// What a place of code is.
+    /// The mark of a byte of code.
     #[tactic(auto, unfolding(crate::specs::Kept::mark_in))]
     pub fn mark(&self, place: u64) -> Mark
         ensures { result ≡ mark_in self.now place }
@@ -75,7 +75,7 @@ impl<'m> MeantSpace<'m> {
         }
     }
 
-    /// Whether a place is in the room of a live instance.
+    /// Whether `place` is in the room of a live instance: after its sections, where a linker may put what it makes.
     fn is_in_room(&self, place: u64) -> bool
         ensures { result ≡ list_any (λ x. (meaning_of self.now.images).room x place) self.now.live }
     {
@@ -87,7 +87,7 @@ impl<'m> MeantSpace<'m> {
         false
     }
 
-    /// Whether a place is the linker's own.
+    /// Whether `place` is the linker's own: an address of the run time, or in the room of a live instance.
     #[tactic(auto, unfolding(crate::specs::Kept::shut_in))]
     pub fn is_shut(&self, place: u64) -> bool
         ensures { result ≡ shut_in self.now place }
@@ -95,7 +95,7 @@ impl<'m> MeantSpace<'m> {
         is_look(place) || self.is_in_room(place)
     }
 
-    /// The sequence that begins at a place, if one does.
+    /// The sequence that begins at `place`, if one does.
     #[tactic(auto, unfolding(crate::specs::Kept::sequence_in))]
     pub fn sequence(&self, place: u64) -> Option<Sequence>
         ensures { result ≡ sequence_in self.now place }
@@ -106,7 +106,7 @@ impl<'m> MeantSpace<'m> {
         }
     }
 
-    /// Whether the byte at a place is one of the stack.
+    /// Whether `place` is in the stack.
     pub fn is_stack(&self, place: u64) -> bool
         ensures { result ≡ is_stack self.now place }
     {
@@ -114,7 +114,7 @@ impl<'m> MeantSpace<'m> {
         start <= place && place - start < self.stack.len()
     }
 
-    /// Forgets the bytes of the stack below a place.
+    /// Makes the bytes of the stack below `place` unknown.
     pub fn forget(&mut self, place: u64)
         requires { place - stack_start self.old.thread ≤ length self.old.stack }
         ensures { self.new ≡ with_hidden place self.old }

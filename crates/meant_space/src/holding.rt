@@ -1,4 +1,4 @@
-//! What a thread holds of the live instances: its blocks, and data.
+//! Makes the blocks and the data that a thread holds after a look.
 
 ghost use Rattle.std.specs.Prelude.{◌≡◌, ◌≤◌, ◌∷◌, ◌++◌, [], IfOk, OnErr, OnOk, Some, true, option_map, option_to_list};
 ghost use Rattle.std.specs.List.{flat_map};
@@ -17,7 +17,7 @@ use loaded_modules::Instance;
 use marked_bytes::MarkedBytes;
 use std::alloc::AllocError;
 
-/// Whether the block of an instance is wanted.
+/// Whether a fresh block of the instance is wanted where the thread has none.
 fn reaches(wanted: Wanted, instance: &Instance) -> bool
     ensures { result ≡ reaches wanted instance.now }
 {
@@ -28,7 +28,7 @@ fn reaches(wanted: Wanted, instance: &Instance) -> bool
     }
 }
 
-/// Whether the data of an instance are to be made fresh.
+/// Whether fresh data of the instance are wanted.
 fn fills(wanted: Wanted, instance: &Instance) -> bool
     ensures { result ≡ fills wanted instance.now }
 {
@@ -38,7 +38,7 @@ fn fills(wanted: Wanted, instance: &Instance) -> bool
     }
 }
 
-/// A thread's block of an instance, of these bytes.
+/// A thread's block of an instance, with these bytes.
 fn block_with(thread: u32, instance: &Instance, bytes: MarkedBytes) -> OwnedRange
     requires { thread ≤ 64 }
     ensures { result ∷ [] ≡ block_with thread instance.now (Some bytes) }
@@ -64,7 +64,8 @@ fn push_some(ranges: &mut Vec<OwnedRange>, range: Option<OwnedRange>) -> Result<
 }
 
 impl<'m> MeantSpace<'m> {
-    /// Its block of an instance: the one that it has among these ranges, or a fresh one if that is wanted.
+    /// The thread's block of an instance: its bytes are taken out of `pool`, or made fresh if `pool` has none and the
+    /// block is wanted.
     fn block_after(
         &self,
         pool: &mut [OwnedRange],
@@ -88,14 +89,15 @@ impl<'m> MeantSpace<'m> {
         Ok(Some(block_with(self.thread, instance, bytes)))
     }
 
-    /// Its blocks of the live instances, made of these ranges: their bytes are taken out.
+    /// The thread's blocks of all live instances. Their bytes are taken out of `pool`.
     fn blocks_after(
         &self,
         pool: &mut [OwnedRange],
         wanted: Wanted,
     ) -> Result<Vec<OwnedRange>, AllocError>
         ensures blocks { IfOk result (λ blocks. blocks.items
-            ≡ flat_map (block_after (loads_of self.now.images) self.now.thread (reaches wanted) pool.old) self.now.live) }
+            ≡ flat_map (block_after (loads_of self.now.images) self.now.thread (reaches wanted) pool.old)
+            self.now.live) }
         ensures shared { OnOk result (HasSameData pool.old pool.new) }
     {
         let mut blocks = Vec::new(self.alloc);
@@ -114,7 +116,7 @@ impl<'m> MeantSpace<'m> {
         self.images.data_start(instance)
     }
 
-    /// The data of an instance as a load makes them.
+    /// The data of an instance as its load fills them.
     fn fresh_data(&self, instance: &Instance) -> Result<Option<OwnedRange>, AllocError>
         ensures { IfOk result (λ made. option_to_list made
             ≡ data_after (loads_of self.now.images) (λ x. true) [] instance.now) }
@@ -130,7 +132,7 @@ impl<'m> MeantSpace<'m> {
         }
     }
 
-    /// The data of an instance: those among these ranges, or fresh ones if they are wanted.
+    /// The data of an instance: taken out of `pool`, or fresh if they are wanted.
     fn data_after(
         &self,
         pool: &mut [OwnedRange],
@@ -159,7 +161,7 @@ impl<'m> MeantSpace<'m> {
         }
     }
 
-    /// The data of the live instances, made of these ranges: their bytes are taken out.
+    /// The data of all live instances. Their bytes are taken out of `pool`.
     fn shared_after(
         &self,
         pool: &mut [OwnedRange],
@@ -176,7 +178,7 @@ impl<'m> MeantSpace<'m> {
         Ok(shared)
     }
 
-    /// What it holds of the live instances, made of these ranges: their bytes are taken out.
+    /// The blocks and the data of all live instances. Their bytes are taken out of `pool`.
     fn held_of(
         &self,
         pool: &mut [OwnedRange],
@@ -191,15 +193,16 @@ impl<'m> MeantSpace<'m> {
         Ok(own)
     }
 
-    /// Holds of the live instances what these ranges are, and what is wanted. Where there is no memory for that, it holds
-    /// what it held.
+    /// Replaces what the thread holds by its blocks and data in `pool`, and what is wanted. On an error it keeps what
+    /// it held.
     pub(crate) fn hold_of(
         &mut self,
         pool: Vec<OwnedRange>,
         wanted: Wanted,
     ) -> Result<(), AllocError>
         ensures held { OnOk result (self.new ≡ record self.old {
-          own = held_of (loads_of self.old.images) self.old.thread (reaches wanted) (fills wanted) self.old.live pool.items;
+          own = held_of (loads_of self.old.images) self.old.thread (reaches wanted) (fills wanted)
+              self.old.live pool.items;
         }) }
         ensures kept { OnErr result (self.new ≡ self.old) }
     {

@@ -1,7 +1,8 @@
 //! What a thread of a job may reach while it is checked.
 //!
-//! `job_check` runs a job as its objects mean it (`whole_meaning`), with marked bytes where only a linker knows more. The
-//! machine that does it (`guest_machine`) asks a memory for bytes, and this is that memory, of one thread:
+//! `job_check` runs a job as its objects mean it (`whole_meaning`). Its bytes are marked: some are unknown, and some
+//! are tokens for what only a linker knows. The machine that runs the code (`guest_machine`) asks a memory for bytes.
+//! This crate is that memory, for one thread:
 //!
 //! ```text
 //! 0                                 a word that is lent for one step: what an address field stands for   read
@@ -12,18 +13,18 @@
 //! below t * 2^40 + 2^39             its stack of 65,536 bytes                                            read, written
 //! ```
 //!
-//! **The rule**: [`MeantSpace`] is at each moment what the definitions' thread holds, range by range and in their order
-//! (`specs/Kept`: `memory_of`, `held_at`). So an access of the machine is the definition's with no argument about where
-//! ranges lie, and what a look leaves ([`MeantSpace::hold`]) is `held_of`, its very definition: blocks and data of what is
-//! live now, as they were, or fresh. No byte is copied by that.
+//! **The rule**: at each moment [`MeantSpace`] is what the definitions' thread holds, range by range and in the same
+//! order (`specs/Kept`: `memory_of`, `held_at`). So each access of the machine is the definition's access, with no
+//! argument about where ranges lie. A look ([`MeantSpace::hold`]) leaves `held_of`, as the definition says: the blocks
+//! and the data of what is live now, kept or fresh. It copies no byte.
 //!
-//! **What never changes is not kept** for each thread: code and constants are asked of the images (`meant_images`) byte by
-//! byte. And of the stack, most of which no call touches, only what was touched is kept: all bytes below are zeros before a
-//! call, and unknown behind a sequence that calls (`stack`). A marked byte takes some forty bytes of memory, so blocks and
-//! data that are checked take that much more than those that run.
+//! **What never changes is not stored** for each thread: code and constants are read from the images (`meant_images`),
+//! byte by byte. Of the stack only the bytes that were touched are stored. All below them are alike: zero before a
+//! call, unknown after a sequence that calls (`stack`). Blocks and data take about one byte of memory for each of
+//! theirs, and more only for bytes that are unknown or part of a token (`marked_bytes`).
 //!
-//! Between its threads a job hands the data on: [`MeantSpace::take_data`], and `hold` again in the next turn. These calls
-//! move what the memory holds, so one that finds no room has used that up: no block and no data is left.
+//! A job passes the data from one thread to the next: [`MeantSpace::take_data`] gives them up, and `hold` takes them in
+//! the next turn. Both move what the memory holds, so after an error it holds no block and no data.
 #![tactic(auto)]
 
 mod bytes;

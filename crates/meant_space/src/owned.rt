@@ -1,4 +1,4 @@
-//! Bytes that are written, and whose they are.
+//! Bytes that threads write: blocks and data, each with its owner.
 
 ghost use Rattle.std.specs.Prelude.{◌≡◌, ◌-◌, IfOk, IsTrue, option_map, slice_get, slice_set};
 ghost use Rattle.std.specs.List.{position_or_len};
@@ -17,14 +17,14 @@ use std::alloc::{AllocError, Global};
 use std::marker::Model;
 use std::mem;
 
-/// What is written: a thread's block of an instance, or an instance's data.
+/// Which kind of bytes: a thread's block of an instance, or an instance's data.
 #[derive(Clone, Copy, PartialEq, Eq, Debug)]
 pub enum Written {
     Block,
     Data,
 }
 
-/// Bytes that are written, and whose they are. Contracts see an `Owned`.
+/// A block or data, and the instance that it belongs to. Contracts see an `Owned`.
 #[derive(Drop)]
 pub struct OwnedRange {
     pub kind: Written,
@@ -47,7 +47,7 @@ impl Model for OwnedRange {
 }
 
 impl OwnedRange {
-    /// Whether it is an instance's block, or its data.
+    /// Whether it is the block, or the data, of this instance.
     fn is_of(&self, kind: Written, instance: u32) -> bool
         ensures { result ≡ is_owner kind instance self.now.owner }
     {
@@ -59,7 +59,6 @@ impl OwnedRange {
         }
     }
 
-    /// Its bytes.
     fn bytes(&self) -> &MarkedBytes
         ensures { result.now ≡ self.now.range.bytes }
     {
@@ -67,7 +66,7 @@ impl OwnedRange {
         &range.bytes
     }
 
-    /// The same once more.
+    /// Copies the range with its bytes.
     fn copy(&self, alloc: Global) -> Result<OwnedRange, AllocError>
         ensures { IfOk result (λ owned. owned ≡ self.now) }
     {
@@ -83,7 +82,7 @@ impl OwnedRange {
         })
     }
 
-    /// Hands out its bytes, and keeps none.
+    /// Takes its bytes out, and leaves none.
     fn take_bytes(&mut self, alloc: Global) -> MarkedBytes
         ensures bytes { result ≡ self.old.range.bytes }
         ensures owner { self.new.owner ≡ self.old.owner }
@@ -92,21 +91,19 @@ impl OwnedRange {
         mem::replace(&mut range.bytes, MarkedBytes::none(alloc))
     }
 
-    /// Whether the byte at a place lies in the range and may be accessed so.
+    /// Whether `place` is in the range, and `access` is allowed there.
     pub(crate) fn grants(&self, access: Access, place: u64) -> bool
         ensures { result ≡ grants access self.now.range place }
     {
         self.range.grants(access, place)
     }
 
-    /// The byte at a place in the range.
     pub(crate) fn byte(&self, place: u64) -> Option<Byte>
         ensures { result ≡ slice_get self.now.range.bytes (place - self.now.range.start) }
     {
         self.range.byte(place)
     }
 
-    /// Writes the byte at a place in the range.
     pub(crate) fn set_byte(&mut self, place: u64, byte: Byte)
         requires { IsTrue (holds self.old.range place) }
         ensures { self.new ≡ record self.old {
@@ -117,7 +114,7 @@ impl OwnedRange {
     }
 }
 
-/// The bytes of the block of an instance.
+/// The bytes of an instance's block.
 pub(crate) fn block(owned: &[OwnedRange], instance: u32) -> Option<&MarkedBytes>
     ensures { option_map (λ b. b.now) result ≡ block_bytes instance owned.now }
 {
@@ -129,7 +126,7 @@ pub(crate) fn block(owned: &[OwnedRange], instance: u32) -> Option<&MarkedBytes>
     None
 }
 
-/// The byte at a place, where it may be accessed so.
+/// The byte at `place`; `None` if no range has it, or `access` is not allowed.
 pub(crate) fn byte_in(owned: &[OwnedRange], access: Access, place: u64) -> Option<Byte>
     ensures { result ≡ byte_in access (ranges_in owned.now) place }
 {
@@ -141,7 +138,7 @@ pub(crate) fn byte_in(owned: &[OwnedRange], access: Access, place: u64) -> Optio
     None
 }
 
-/// Which range takes a byte that is written at a place, or how many there are where none does.
+/// The index of the first range that may be written at `place`; the number of ranges if there is none.
 fn writable_at(owned: &[OwnedRange], place: u64) -> usize
     ensures { result ≡ first_writable (ranges_in owned.now) place }
 {
@@ -153,7 +150,7 @@ fn writable_at(owned: &[OwnedRange], place: u64) -> usize
     owned.len()
 }
 
-/// Writes the byte at a place, or nothing where it may not be written.
+/// Writes a byte, in the first range that may be written at `place`. Does nothing where there is none.
 pub(crate) fn write_in(owned: &mut [OwnedRange], place: u64, byte: Byte)
     ensures { owned.new ≡ written_in owned.old place byte }
 {
@@ -164,7 +161,7 @@ pub(crate) fn write_in(owned: &mut [OwnedRange], place: u64, byte: Byte)
     }
 }
 
-/// All of them once more.
+/// Copies all ranges.
 pub(crate) fn copy(alloc: Global, owned: &[OwnedRange]) -> Result<Vec<OwnedRange>, AllocError>
     ensures { IfOk result (λ copies. copies.items ≡ owned.now) }
 {
@@ -175,14 +172,14 @@ pub(crate) fn copy(alloc: Global, owned: &[OwnedRange]) -> Result<Vec<OwnedRange
     Ok(copies)
 }
 
-/// Blocks, and data.
+/// A thread's blocks, apart from the data of instances.
 #[derive(Drop)]
 pub(crate) struct Parted {
     pub(crate) blocks: Vec<OwnedRange>,
     pub(crate) shared: Vec<OwnedRange>,
 }
 
-/// Parts blocks from data.
+/// Separates blocks from data, each in their order.
 pub(crate) fn part(alloc: Global, owned: Vec<OwnedRange>) -> Result<Parted, AllocError>
     ensures blocks { IfOk result (λ parted. parted.blocks.items ≡ blocks_in owned.items) }
     ensures shared { IfOk result (λ parted. parted.shared.items ≡ data_in owned.items) }
@@ -198,7 +195,7 @@ pub(crate) fn part(alloc: Global, owned: Vec<OwnedRange>) -> Result<Parted, Allo
     Ok(Parted { blocks, shared })
 }
 
-/// Which range is the block, or the data, of an instance, or how many there are where none is.
+/// The index of the block, or of the data, of an instance; the number of ranges if there is none.
 fn place_of(owned: &[OwnedRange], kind: Written, instance: u32) -> usize
     ensures { result ≡ position_or_len (λ x. is_owner kind instance x.owner) owned.now }
 {
@@ -210,7 +207,7 @@ fn place_of(owned: &[OwnedRange], kind: Written, instance: u32) -> usize
     owned.len()
 }
 
-/// Takes the bytes of the block, or of the data, of an instance out, if they are there.
+/// Takes out the bytes of the block, or of the data, of an instance.
 pub(crate) fn take_bytes(
     alloc: Global,
     owned: &mut [OwnedRange],

@@ -1,4 +1,4 @@
-//! A thread's memory, as the meaning has it.
+//! A thread's memory: what it holds, and how that changes at a look.
 
 ghost use Rattle.std.specs.Prelude.{◌≡◌, ◌≤◌, [], None, IfOk, OnErr, OnOk};
 ghost use Rattle.thread_blocks.specs.JobWorlds.{blocks_in, data_in};
@@ -18,18 +18,18 @@ use std::alloc::{AllocError, Global};
 use std::marker::Model;
 use std::mem;
 
-/// What a thread is to hold besides what it has.
+/// What a thread shall hold besides what it has.
 #[derive(Clone, Copy, Debug)]
 pub enum Wanted {
-    /// Its blocks at a fixed distance from the thread pointer.
+    /// Its blocks of all instances at a fixed distance from the thread pointer.
     Fixed,
-    /// Its block of the instance of this number.
+    /// Its block of the instance with this number.
     BlockOf(u32),
-    /// The data of the instance of this number, as a load makes them.
+    /// The data of the instance with this number, as its load fills them.
     DataOf(u32),
 }
 
-/// What a thread may reach while it runs, as the meaning has it. Contracts see a `Kept`.
+/// What a thread can reach while it runs, with marked bytes. Contracts see a `Kept`.
 #[derive(Drop)]
 pub struct MeantSpace<'m> {
     pub(crate) alloc: Global,
@@ -38,9 +38,9 @@ pub struct MeantSpace<'m> {
     /// The live instances, in the order of their images.
     pub(crate) live: Vec<Instance>,
     pub(crate) stack: MarkedStack,
-    /// Its blocks, and behind them the data while they are in its hands.
+    /// Its blocks, and after them the data while this thread has them.
     pub(crate) own: Vec<OwnedRange>,
-    /// The eight bytes at the thread pointer, which hold it.
+    /// The eight bytes at the thread pointer: the thread pointer itself.
     pub(crate) pointer: GuestRange<Byte>,
     /// The word that is lent at address 0.
     pub(crate) lent: Option<u64>,
@@ -59,7 +59,7 @@ impl<'m> Model for MeantSpace<'m> {
 }
 
 impl<'m> MeantSpace<'m> {
-    /// The memory of a thread, from 1 to 64, of a job with these images, where it holds nothing.
+    /// The memory of a thread, numbered from 1 to 64, of a job with these images. It holds nothing yet.
     pub fn new(
         alloc: Global,
         thread: u32,
@@ -89,7 +89,7 @@ impl<'m> MeantSpace<'m> {
         })
     }
 
-    /// The thread, from 1.
+    /// The thread's number, from 1.
     pub fn thread(&self) -> u32
         ensures value { result ≡ self.now.thread }
         ensures low { 1 ≤ result }
@@ -105,7 +105,7 @@ impl<'m> MeantSpace<'m> {
         self.images
     }
 
-    /// The same memory once more.
+    /// Copies the memory.
     pub fn copy(&self) -> Result<MeantSpace<'m>, AllocError>
         ensures { IfOk result (λ space. space ≡ self.now) }
     {
@@ -121,9 +121,8 @@ impl<'m> MeantSpace<'m> {
         })
     }
 
-    /// Holds what it held of these instances, which are live now, what it is handed, and what is wanted. Of other
-    /// instances it holds nothing any more. Where there is no memory for that, what it held and what it was handed is used
-    /// up: it holds nothing of any instance.
+    /// Takes a look: `live` are the live instances now. Keeps the blocks and data of these, takes `handed`, makes what
+    /// is wanted, and drops the rest. Fails only when memory runs out, and then holds no block and no data.
     pub fn hold(
         &mut self,
         live: Vec<Instance>,
@@ -142,8 +141,8 @@ impl<'m> MeantSpace<'m> {
         Ok(())
     }
 
-    /// Reaches its block of a live instance: at the first time it is made. Where there is no memory for it, what it held
-    /// is used up.
+    /// Makes the thread's block of a live instance, unless it has one. Fails only when memory runs out, and then holds
+    /// no block and no data.
     pub fn reach(&mut self, instance: u32) -> Result<(), AllocError>
         ensures reached { OnOk result (self.new ≡ with_held self.old.live [] (Wanted.BlockOf instance) self.old) }
         ensures used_up { OnErr result (self.new ≡ record self.old { own = [] }) }
@@ -153,8 +152,8 @@ impl<'m> MeantSpace<'m> {
         Ok(())
     }
 
-    /// Loads a live instance: its data become those of its image. Where there is no memory for them, what it held is used
-    /// up.
+    /// Fills the data of a live instance as a load does. Fails only when memory runs out, and then holds no block and
+    /// no data.
     pub fn load(&mut self, instance: u32) -> Result<(), AllocError>
         ensures loaded { OnOk result (self.new ≡ with_held self.old.live [] (Wanted.DataOf instance) self.old) }
         ensures used_up { OnErr result (self.new ≡ record self.old { own = [] }) }
@@ -164,7 +163,7 @@ impl<'m> MeantSpace<'m> {
         Ok(())
     }
 
-    /// Hands out the data, and keeps the blocks. Where there is no memory for that, what it held is used up.
+    /// Gives up the data, and keeps the blocks. Fails only when memory runs out, and then holds no block and no data.
     pub fn take_data(&mut self) -> Result<Vec<OwnedRange>, AllocError>
         ensures taken { IfOk result (λ handed. handed.items ≡ data_in self.old.own) }
         ensures blocks { OnOk result (self.new ≡ record self.old { own = blocks_in self.old.own }) }
@@ -176,7 +175,7 @@ impl<'m> MeantSpace<'m> {
         Ok(parted.shared)
     }
 
-    /// Makes the stack as a call finds it. Where there is no memory for that, nothing has changed.
+    /// Makes the stack as a call finds it. Fails only when memory runs out, and then nothing has changed.
     pub fn renew_stack(&mut self) -> Result<(), AllocError>
         ensures renewed { OnOk result (self.new ≡ record self.old { stack = fresh_stack ops }) }
         ensures kept { OnErr result (self.new ≡ self.old) }
@@ -184,7 +183,7 @@ impl<'m> MeantSpace<'m> {
         self.stack.renew(self.alloc)
     }
 
-    /// Lends a word at address 0, or takes it back.
+    /// Lends a word at address 0; `None` takes it back.
     pub fn lend(&mut self, word: Option<u64>)
         ensures { self.new ≡ record self.old { lent = word } }
     {

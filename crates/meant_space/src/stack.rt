@@ -1,4 +1,4 @@
-//! A thread's stack, of which only what was touched takes time.
+//! A thread's stack. Only the bytes that were touched are stored.
 
 ghost use Rattle.std.specs.Prelude.{◌≡◌, ◌<◌, ◌-◌, ◌≤◌, ◌++◌, [], IfOk, OnErr, OnOk, length, replicate, slice_get, slice_set};
 ghost use Rattle.std.specs.Vec.{vec_capacity, vec_len};
@@ -13,16 +13,16 @@ use std::marker::Model;
 /// How many bytes a stack has.
 pub(crate) const STACK_SIZE: u64 = 65_536;
 
-/// A thread's stack. Most of it is never touched: the deepest bytes are all alike, zeros before a call and unknown behind a
-/// sequence that calls, and only those above them are kept one by one, the highest first. Contracts see all bytes, the
+/// A thread's stack. Most of it is never touched. The deepest bytes are all alike: zero before a call, unknown after a
+/// sequence that calls. Only those above them are stored one by one, the highest first. Contracts see all bytes, the
 /// lowest first.
 #[derive(Drop)]
 pub(crate) struct MarkedStack {
-    /// How many bytes there are: none before the first call.
+    /// The number of bytes: 0 before the first call.
     size: u64,
-    /// Each of the bytes below those that are kept.
+    /// The value of each byte that is not stored.
     deep: Byte,
-    /// The highest bytes, the highest first.
+    /// The bytes that are stored, the highest first.
     top: Vec<Byte>,
 }
 
@@ -40,7 +40,7 @@ impl Model for MarkedStack {
     ghost invariant = { IsStack };
 }
 
-/// The last eight bytes before a call, the highest first: the address to return to.
+/// The last eight bytes before a call, the highest first: the return address.
 const LAST: [Byte; 8] = [
     Byte::Value(0),
     Byte::Value(0),
@@ -52,7 +52,7 @@ const LAST: [Byte; 8] = [
     Byte::Value(0),
 ];
 
-/// Makes room for a whole stack, where there is none yet. Where there is no memory for it, nothing has changed.
+/// Makes room for a whole stack, unless there is room. Fails only when memory runs out, and then nothing has changed.
 fn make_room(alloc: Global, top: &mut Vec<Byte>) -> Result<(), AllocError>
     ensures room { OnOk result (65536 ≤ vec_capacity top.new) }
     ensures err { OnErr result (top.new ≡ top.old) }
@@ -63,7 +63,7 @@ fn make_room(alloc: Global, top: &mut Vec<Byte>) -> Result<(), AllocError>
     Ok(())
 }
 
-/// Keeps those last bytes alone, where there is room for them.
+/// Makes the stored bytes the return address alone, where there is room for it.
 fn keep_last(top: &mut Vec<Byte>)
     requires { 8 ≤ vec_capacity top.old }
     ensures items { top.new.items ≡ last_bytes }
@@ -76,14 +76,14 @@ fn keep_last(top: &mut Vec<Byte>)
     }
 }
 
-/// The byte at a depth, where it is kept.
+/// The byte at `depth` below the top, if it is stored.
 fn kept_byte(top: &Vec<Byte>, depth: u64) -> Option<Byte>
     ensures { result ≡ slice_get top.now.items depth }
 {
     top.get(depth as usize).copied()
 }
 
-/// Keeps so many bytes one by one, at least, where there is room for them.
+/// Stores at least `count` bytes one by one, where there is room for them.
 fn keep(top: &mut Vec<Byte>, deep: Byte, count: u64)
     requires room { count ≤ vec_capacity top.old }
     requires kept { vec_len top.old ≡ length top.old.items }
@@ -99,7 +99,7 @@ fn keep(top: &mut Vec<Byte>, deep: Byte, count: u64)
     }
 }
 
-/// Writes the byte at a depth, which is kept.
+/// Writes a byte that is stored.
 fn put(top: &mut Vec<Byte>, depth: u64, byte: Byte)
     requires { depth < length top.old.items }
     ensures items { top.new.items ≡ slice_set top.old.items depth byte }
@@ -110,7 +110,7 @@ fn put(top: &mut Vec<Byte>, depth: u64, byte: Byte)
 }
 
 impl MarkedStack {
-    /// A stack of no byte.
+    /// An empty stack.
     #[tactic(auto, unfolding(crate::specs::Stacks::stack_of, crate::specs::Stacks::down_from))]
     pub(crate) fn none(alloc: Global) -> MarkedStack
         ensures { result ≡ [] }
@@ -122,14 +122,14 @@ impl MarkedStack {
         }
     }
 
-    /// How many bytes there are.
+    /// The number of bytes.
     pub(crate) fn len(&self) -> u64
         ensures { result ≡ length self.now }
     {
         self.size
     }
 
-    /// Makes it as a call finds it. Where there is no memory for that, it is as it was.
+    /// Makes the stack as a call finds it. Fails only when memory runs out, and then nothing has changed.
     pub(crate) fn renew(&mut self, alloc: Global) -> Result<(), AllocError>
         ensures renewed { OnOk result (self.new ≡ fresh_stack ops) }
         ensures kept { OnErr result (self.new ≡ self.old) }
@@ -141,7 +141,7 @@ impl MarkedStack {
         Ok(())
     }
 
-    /// The byte so far from the lowest.
+    /// The byte at this index, counted from the lowest.
     pub(crate) fn byte(&self, within: u64) -> Option<Byte>
         ensures { result ≡ slice_get self.now within }
     {
@@ -154,7 +154,7 @@ impl MarkedStack {
         }
     }
 
-    /// Writes the byte so far from the lowest.
+    /// Writes the byte at this index, counted from the lowest.
     pub(crate) fn set_byte(&mut self, within: u64, byte: Byte)
         requires { within < length self.old }
         ensures { self.new ≡ slice_set self.old within byte }
@@ -164,7 +164,7 @@ impl MarkedStack {
         put(&mut self.top, depth, byte);
     }
 
-    /// Makes the lowest bytes such that nothing is known of them.
+    /// Makes the lowest `count` bytes unknown.
     pub(crate) fn hide(&mut self, count: u64)
         requires { count ≤ length self.old }
         ensures { self.new ≡ hidden_below count self.old }
@@ -175,7 +175,7 @@ impl MarkedStack {
         self.deep = Byte::Hidden;
     }
 
-    /// The same stack once more.
+    /// Copies the stack.
     pub(crate) fn copy(&self, alloc: Global) -> Result<MarkedStack, AllocError>
         ensures { IfOk result (λ stack. stack ≡ self.now) }
     {

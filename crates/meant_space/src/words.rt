@@ -1,4 +1,4 @@
-//! Where a thread's parts lie, and the bytes of a number.
+//! Where the parts of a thread's memory lie, and the bytes of a number.
 
 ghost use Rattle.std.specs.Prelude.{◌≡◌, ◌<◌, ◌≤◌, IfOk};
 ghost use Rattle.thread_blocks.specs.Instances.{block_start};
@@ -12,14 +12,14 @@ use job_meaning::{Byte, MarkedValues};
 use loaded_modules::Instance;
 use std::alloc::{AllocError, Global};
 
-/// What may be done with the word at a thread pointer.
+/// The rights of the word at a thread pointer: it can only be read.
 const CONSTANT: Rights = Rights {
     readable: true,
     writable: false,
     runnable: false,
 };
 
-/// The thread pointer of a thread, from 1.
+/// A thread's thread pointer. Threads are numbered from 1.
 pub(crate) fn thread_pointer(thread: u32) -> u64
     requires { thread ≤ 64 }
     ensures { result ≡ pointer_of thread }
@@ -27,7 +27,7 @@ pub(crate) fn thread_pointer(thread: u32) -> u64
     u64::from(thread) * (1 << 40) + (1 << 38)
 }
 
-/// Where a thread's stack begins, with its lowest byte.
+/// The lowest address of a thread's stack.
 pub(crate) fn stack_start(thread: u32) -> u64
     requires { thread ≤ 64 }
     ensures { result ≡ stack_start thread }
@@ -49,7 +49,7 @@ pub(crate) fn block_start(thread: u32, instance: &Instance) -> u64
     }
 }
 
-/// One byte of a number, the lowest being byte 0.
+/// One byte of a number; byte 0 is the lowest.
 fn byte_of(number: u64, index: u8) -> Byte
     requires { index < 8 }
     ensures { result ≡ ops.byte_of (ops.word number) index }
@@ -73,7 +73,7 @@ pub(crate) fn word_bytes(number: u64) -> [Byte; 8]
     ]
 }
 
-/// The eight bytes at the thread pointer, which hold it and can only be read.
+/// The eight bytes at the thread pointer. They hold the thread pointer, and can only be read.
 pub(crate) fn pointer_word(alloc: Global, thread: u32) -> Result<GuestRange<Byte>, AllocError>
     requires { thread ≤ 64 }
     ensures { IfOk result (λ range. range ≡ pointer_word ops thread) }

@@ -126,7 +126,8 @@ fn called_with<S: CallStack>(
     state: &mut State<Word, Flag>,
     stack: &mut S,
 ) -> Result<(), Stop>
-    ensures does { (thread start : ℕ) → Leaves result (left state.old (S.memory stack.old)) (left state.new (S.memory stack.new))
+    ensures does { (thread start : ℕ) → Leaves result (left state.old (S.memory stack.old))
+        (left state.new (S.memory stack.new))
         (called_with (stack_from (S.start stack.old)) sequence.now thread start word state.old (S.memory stack.old)) }
     ensures start { S.start stack.new ≡ S.start stack.old }
     ensures rest { S.rest stack.new ≡ S.rest stack.old }
@@ -146,7 +147,8 @@ fn descriptor_called<S: CallStack>(
     state: &mut State<Word, Flag>,
     stack: &mut S,
 ) -> Result<(), Stop>
-    ensures does { (thread : ℕ) → Leaves result (left state.old (S.memory stack.old)) (left state.new (S.memory stack.new))
+    ensures does { (thread : ℕ) → Leaves result (left state.old (S.memory stack.old))
+        (left state.new (S.memory stack.new))
         (descriptor_called (stack_from (S.start stack.old)) sequence.now thread start state.old (S.memory stack.old)) }
     ensures start { S.start stack.new ≡ S.start stack.old }
     ensures rest { S.rest stack.new ≡ S.rest stack.old }

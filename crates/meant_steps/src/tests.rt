@@ -22,7 +22,8 @@ struct OffsetField {
 }
 
 impl Marks for OffsetField {
-    ghost mark = { λ s place. if nat_le s.at place && nat_lt (place - s.at) 4 then Offset 16 (place - s.at) else Usual };
+    ghost mark = { λ s place.
+        if nat_le s.at place && nat_lt (place - s.at) 4 then Offset 16 (place - s.at) else Usual };
 
     fn mark(&self, place: u64) -> Mark {
         if self.at <= place && place - self.at < 4 {

@@ -54,7 +54,8 @@ fn symbol_stands(fault: SymbolFault, tables: &Tables, entry: u64) -> bool
 /// The first symbol, number 0 left out, at which a kind of fault of symbols stands.
 fn first_symbol(fault: SymbolFault, tables: &Tables) -> Option<u64>
     requires { 0 < tables.now.symbols.table }
-    ensures { IsFirstAt (λ e. (0 < e) × Stands (of_symbol fault) tables.now.bytes.now tables.now.symbols.table e) result }
+    ensures { IsFirstAt (λ e. (0 < e) × Stands (of_symbol fault)
+        tables.now.bytes.now tables.now.symbols.table e) result }
 {
     for entry in 1..tables.symbols.count {
         if symbol_stands(fault, tables, entry) {

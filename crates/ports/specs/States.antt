@@ -54,7 +54,8 @@ sink_after_put sink piece (Err put.Failed) = record sink {
   faults = counted sink.faults;
   fails_in = sink.fails_in - 1;
 }
-sink_after_put sink piece (Err put.OutOfMemory) = record sink { shortages = counted sink.shortages; fails_in = sink.fails_in - 1 }
+sink_after_put sink piece (Err put.OutOfMemory) =
+    record sink { shortages = counted sink.shortages; fails_in = sink.fails_in - 1 }
 
 -- what the sink's writer holds, if that is known, how often the sink has failed, and how often it ran out of memory
 pub record HostSinkState : Type 0 where

@@ -1,6 +1,6 @@
-//! Entries of the global offset table, and a table of them. The relocations of a module and their addends are those that
-//! GNU ld 2.40 writes (`ld -shared`); those of a program follow from them, since a program is module 1 and knows where its
-//! block lies.
+//! Entries of the global offset table, and a table of them. The relocations of a module and their addends are those
+//! that GNU ld 2.40 writes (`ld -shared`). Those of a program follow from them, since a program is module 1 and knows
+//! where its block is.
 
 use crate::words::{kind_of, need_of, planned, push_entry, same};
 use got_pairs::entry_of;

@@ -45,7 +45,8 @@ loaded_instance infos image m = if is_loaded m
 
 abbrev pub instances_from : List ImageInfo → ℕ → List Module → List Instance
 instances_from infos image [] = []
-instances_from infos image (m ∷ ms) = option_to_list (loaded_instance infos image m) ++ instances_from infos (suc image) ms
+instances_from infos image (m ∷ ms) =
+    option_to_list (loaded_instance infos image m) ++ instances_from infos (suc image) ms
 
 -- the live instances after a history, in the order of their images
 unfoldable pub instances_in : List ImageInfo → Past → List Instance

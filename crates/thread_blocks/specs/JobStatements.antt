@@ -30,7 +30,8 @@ HoldsLive = (l : Loads ℕ) (thread : ℕ) (seen : List Event) (xs : List (Owned
 
 -- each thread finishes, in any order of turns
 abbrev pub ThreadsEnd : Type 0
-ThreadsEnd = (l : Loads ℕ) (fuel : ℕ) (lines : List (List ThreadLine)) (order : List ℕ) (thread : ℕ) (own : List ThreadLine)
+ThreadsEnd = (l : Loads ℕ) (fuel : ℕ) (lines : List (List ThreadLine)) (order : List ℕ)
+    (thread : ℕ) (own : List ThreadLine)
     → at_number lines thread ≡ Some own
     → (t : Thread Runs Line Event) × ((at_number (job_world l fuel lines order).threads thread ≡ Some t)
     × IsFinished t.todo t.phase)

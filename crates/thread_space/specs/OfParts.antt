@@ -34,7 +34,8 @@ module _ (m : JobImages) (image : Spelled) (x : Instance) (i : ℕ) where
   abbrev pub byte_of_part : Access → ℕ → Option Part → Option ℕ
   byte_of_part access place None = None
   byte_of_part access place (Some part) = if allows_fixed access part.class (is_loaders image.got i)
-      then option_and_then (slice_get (part_bytes m image x part)) (behind (part.address + bias image.kind x.number) place)
+      then option_and_then (slice_get (part_bytes m image x part))
+      (behind (part.address + bias image.kind x.number) place)
       else None
 
   -- whether the part is written, and holds the 16 bytes from an address on

@@ -17,7 +17,8 @@ use loaded_modules::Instance;
 impl<'m> ThreadSpace<'m> {
     /// The offset of an address from the start of an instance's data, if the address lies in the data.
     fn behind_data(&self, instance: &Instance, place: u64) -> Option<u64>
-        ensures { result ≡ option_and_then (λ start. behind start place) (data_start self.now.vector.images instance.now) }
+        ensures { result ≡ option_and_then (λ start. behind start place)
+            (data_start self.now.vector.images instance.now) }
     {
         place.checked_sub(self.data.start(self.modules, instance)?)
     }
@@ -25,7 +26,8 @@ impl<'m> ThreadSpace<'m> {
     /// The byte at an address in the data of an instance.
     pub(crate) fn data_byte(&self, instance: &Instance, place: u64) -> Option<u8>
         ensures read { result ≡ byte_in Read (data_ranges self.now.vector.images self.now.pieces instance.now) place }
-        ensures written { result ≡ byte_in Write (data_ranges self.now.vector.images self.now.pieces instance.now) place }
+        ensures written { result ≡ byte_in Write (data_ranges self.now.vector.images
+            self.now.pieces instance.now) place }
     {
         let Some(at) = self.behind_data(instance, place) else {
             return None;

@@ -20,11 +20,13 @@ pub record Covers (thread : ℕ) (images : JobImages) (p : Past) (instance addre
 
 -- a thread's blocks of two instances share no address
 abbrev pub BlocksAreApart : JobImages → Past → Type 0
-BlocksAreApart images p = (thread a b address : ℕ) → a ≢ b → Covers thread images p a address → ¬ Covers thread images p b address
+BlocksAreApart images p =
+    (thread a b address : ℕ) → a ≢ b → Covers thread images p a address → ¬ Covers thread images p b address
 
 -- blocks of two threads share no address, whatever each has seen
 abbrev pub ThreadsAreApart : JobImages → Past → Past → Type 0
-ThreadsAreApart images p q = (one two a b address : ℕ) → one ≢ two → Covers one images p a address → ¬ Covers two images q b address
+ThreadsAreApart images p q =
+    (one two a b address : ℕ) → one ≢ two → Covers one images p a address → ¬ Covers two images q b address
 
 -- an address of the thread's own below its thread pointer, so neither at the thread pointer nor on the stack
 pub record IsBelow (thread address : ℕ) : Type 0 where

@@ -17,7 +17,8 @@ startup_info infos image = if_early (slice_get infos (image - 1))
 
 -- a startup image as a loader knows it: its number is also its instance's number and its module id
 abbrev pub startup_instance : JobImages → ℕ → Instance
-startup_instance images image = record { image = image; number = image; id = image; offset = Some (static_offset images image) }
+startup_instance images image =
+    record { image = image; number = image; id = image; offset = Some (static_offset images image) }
 
 -- the slot of a number: the block of the startup image with that number
 abbrev pub IsFirstOf : JobImages → ℕ → Piece → Option ImageInfo → Type 0

@@ -22,8 +22,12 @@ FilledAt old image new (Some offset) = let fresh = fresh_block old.images (loade
 
 -- a block of a loaded image is made in its slot
 pub record MadeAt (old : Vector) (image : ℕ) (new : Vector) : Type 0 where
-  pub slots : new ≡ record old { slots = written old.slots old.past.limit (module_of old.past image) None (fresh_block old.images (loaded_as old.images old.past image)) }
-  pub long : length (fresh_block old.images (loaded_as old.images old.past image)) ≡ (module_of old.past image).info.size
+  pub slots : new ≡ record old {
+    slots = written old.slots old.past.limit (module_of old.past image) None
+        (fresh_block old.images (loaded_as old.images old.past image));
+  }
+  pub long : length (fresh_block old.images (loaded_as old.images old.past image))
+      ≡ (module_of old.past image).info.size
 
 -- the address in the block of the live instance with this id, which was reached
 abbrev pub IsAddress : Vector → ℕ → ℕ → Vector → ℕ → Type 0
@@ -34,4 +38,5 @@ IsAddress old id offset new address = (instance : ℕ) → instance_of old.past 
 -- why there is no address: the instance that asks is closed, or there was no memory for the block
 abbrev pub IsRefused : Vector → ℕ → ℕ → AddressRefusal → Type 0
 IsRefused old asking id Unloaded = live old.past asking ≡ false
-IsRefused old asking id OutOfMemory = (instance : ℕ) → instance_of old.past id ≡ Some instance → held old instance ≡ None
+IsRefused old asking id OutOfMemory =
+    (instance : ℕ) → instance_of old.past id ≡ Some instance → held old instance ≡ None

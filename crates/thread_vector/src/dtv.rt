@@ -280,7 +280,8 @@ impl<'m> Dtv<'m> {
     /// Whether the thread has a block of an instance. It is as long as the image says.
     pub fn has_block(&self, instance: u32) -> bool
         ensures value { result ≡ is_some (held self.now instance) }
-        ensures long { (bytes : List ℕ) → held self.now instance ≡ Some bytes → length bytes ≡ block_length self.now.past instance }
+        ensures long { (bytes : List ℕ) → held self.now instance ≡ Some bytes
+            → length bytes ≡ block_length self.now.past instance }
     {
         let _ = &self.table;
         self.block(instance).is_some()
@@ -404,7 +405,8 @@ impl<'m> Dtv<'m> {
         requires { is_some (held self.old instance) ≡ true }
         ensures* writes_back { sem 𝓛 (LendsBlock self.entry instance result) }
         ensures value { held self.old instance ≡ Some result.now }
-        ensures writes { (w : List ℕ) → length w ≡ length result.now → Writes self.old instance w (with_block self.old instance w) }
+        ensures writes { (w : List ℕ) → length w ≡ length result.now
+            → Writes self.old instance w (with_block self.old instance w) }
     {
         let place = self.place(instance);
         self.slots[place.slot].part_mut(place.from, place.size)

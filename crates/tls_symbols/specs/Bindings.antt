@@ -1,5 +1,5 @@
--- What a symbol is bound to (gABI, "Symbol Table"; Drepper, "ELF Handling For Thread-Local Storage",
--- section 4: which ways to reach a variable leave room for another module's).
+-- What a symbol is bound to (gABI, "Symbol Table"; Drepper, "ELF Handling For Thread-Local Storage", section 4: which
+-- ways to reach a variable allow another module's).
 use Rattle.std.specs.Prelude.{◌+◌, ◌-◌, ◌&&◌, ◌++◌, ℕ, Bool, true, false, not, List, [], ◌∷◌, Option, Some, None}
 use Rattle.std.specs.Prelude.{codes, slice_index_or, nat_eq, if◌then◌else◌}
 use Rattle.std.specs.List.{flat_map, list_any, range_with_len}
@@ -37,7 +37,7 @@ abbrev pub is_tls_class : Option SectionClass → Bool
 is_tls_class (Some (Tls initial)) = true
 is_tls_class class = false
 
--- whether what is defined there is thread-local: it lies in a section of thread-local storage
+-- whether a symbol with this place is thread-local: it is in a section of thread-local storage
 abbrev pub is_tls_place : List ℕ → SymbolPlace → Bool
 is_tls_place b (InSection s) = is_tls_class (section_class b s)
 is_tls_place b place = false
@@ -61,12 +61,12 @@ abbrev pub is_symbol : Option SymbolRef → ℕ → ℕ → Bool
 is_symbol (Some found) o e = nat_eq found.object o && nat_eq found.symbol e
 is_symbol None o e = false
 
--- whether symbol e of object o, GLOBAL or WEAK, is the definition that its name binds to
+-- whether symbol e of object o is GLOBAL or WEAK, and its name binds to it
 abbrev pub is_its_definition : List (List ℕ) → ℕ → List ℕ → ℕ → Bool
 is_its_definition objects o b e =
     not (same_binding Local (symbol_binding b e)) && is_symbol (definition_of objects (symbol_name b e)) o e
 
--- whether the image exports its name by it
+-- whether the image exports a name through this symbol
 abbrev pub is_exported : List (List ℕ) → ℕ → List ℕ → ℕ → Bool
 is_exported objects o b e =
     is_its_definition objects o b e && (is_tls_symbol b e && is_visible (symbol_visibility b e))
@@ -78,7 +78,7 @@ exported_at objects o b e = if is_exported objects o b e then symbol_name b e �
 unfoldable pub exported_in : List (List ℕ) → ℕ → List ℕ → List (List ℕ)
 exported_in objects o b = flat_map (exported_at objects o b) (range_with_len 1 (symbol_count b - 1))
 
--- those of the objects from number o on
+-- the names that symbols of the objects from number o on export
 abbrev pub exported_from : List (List ℕ) → ℕ → List (List ℕ) → List (List ℕ)
 exported_from objects o [] = []
 exported_from objects o (b ∷ more) = exported_in objects o b ++ exported_from objects (o + 1) more
@@ -102,7 +102,7 @@ abbrev pub here_or : Option SymbolRef → Option Binding → Option Binding
 here_or (Some found) rest = Some (Here found)
 here_or None rest = rest
 
--- whether a symbol may be another image's variable, as code says it
+-- whether a symbol may be another image's variable
 abbrev pub may : Imports → Bool
 may Yes = true
 may No = false
@@ -121,20 +121,20 @@ bound_to objects startup o e imports =
     then Some (Here (record { object = o; symbol = e }))
     else name_bound objects startup imports (symbol_name b e)
 
--- the same of a relocation of object o, by the symbol that it names and by its type
+-- what a relocation of object o is bound to, by its symbol and its type
 abbrev pub name_binding : List (List ℕ) → List (List (List ℕ)) → RelocationKind → List ℕ → Option Binding
 name_binding objects startup kind name = name_bound objects startup (may_import kind) name
 
 abbrev pub binding_of : List (List ℕ) → List (List (List ℕ)) → ℕ → Relocation → Option Binding
 binding_of objects startup o r = bound_to objects startup o r.symbol (may_import r.kind)
 
--- whether what it is bound to is thread-local; what a startup image exports always is
+-- whether a binding is thread-local; what a startup image exports always is
 abbrev pub is_tls_binding : List (List ℕ) → Binding → Bool
 is_tls_binding objects (Here found) = is_tls_symbol (object_at objects found.object) found.symbol
 is_tls_binding objects (Startup k) = true
 is_tls_binding objects Runtime = false
 
--- what is bound in the image is a symbol of it
+-- what is bound in the image is one of its symbols
 abbrev pub IsBindingWithin : List (List ℕ) → Binding → Type 0
 IsBindingWithin objects (Here found) = IsWithin objects found
 IsBindingWithin objects (Startup k) = Unit {0}

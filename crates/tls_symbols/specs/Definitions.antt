@@ -1,4 +1,5 @@
--- The symbol that a name binds to in an image (gABI, "Symbol Table": a strong definition goes before a weak one).
+-- The symbol that a name binds to in an image (gABI, "Symbol Table": a GLOBAL definition takes precedence over a WEAK
+-- one).
 use Rattle.std.specs.Prelude.{◌+◌, ◌-◌, ◌&&◌, ℕ, List, [], ◌∷◌, Bool, true, false, Option, Some, None, ◌<◌, length}
 use Rattle.std.specs.Prelude.{slice_index_or}
 use Rattle.std.specs.List.{find, range_with_len}
@@ -35,7 +36,7 @@ abbrev pub found_or : ℕ → Option ℕ → Option SymbolRef → Option SymbolR
 found_or o (Some e) rest = Some (record { object = o; symbol = e })
 found_or o None rest = rest
 
--- the first of the objects from number o on that has such a symbol, and the symbol
+-- the first such symbol of the objects from number o on, with its object
 abbrev pub first_from : SymbolBinding → List ℕ → ℕ → List (List ℕ) → Option SymbolRef
 first_from binding name o [] = None
 first_from binding name o (b ∷ more) = found_or o (first_in binding name b) (first_from binding name (o + 1) more)
@@ -44,11 +45,11 @@ abbrev pub or_weak : Option SymbolRef → Option SymbolRef → Option SymbolRef
 or_weak (Some strong) weak = Some strong
 or_weak None weak = weak
 
--- the definition that a name binds to in an image: the first strong one, else the first weak one
+-- the definition that a name binds to in an image: the first GLOBAL one, else the first WEAK one
 unfoldable pub definition_of : List (List ℕ) → List ℕ → Option SymbolRef
 definition_of objects name = or_weak (first_from Global name 0 objects) (first_from Weak name 0 objects)
 
--- the object and its symbol are there
+-- the object exists and has this symbol
 pub record IsWithin (objects : List (List ℕ)) (found : SymbolRef) : Type 0 where
   pub object : found.object < length objects
   pub symbol : found.symbol < symbol_count (slice_index_or objects found.object [])

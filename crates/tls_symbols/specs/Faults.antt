@@ -1,4 +1,4 @@
--- When the names of an image are at fault: what each kind means, and which fault is the first.
+-- Faults of the names of an image: what each kind means, and which fault is the first.
 use Rattle.std.specs.Prelude.{◌≡◌, ◌≢◌, ◌<◌, ◌⊎◌, ◌&&◌, ◌||◌, ℕ, Bool, true, false, not, List, [], Option, Some, None}
 use Rattle.std.specs.Prelude.{is_none, length, slice_get, IsSomeAnd}
 use Rattle.std.specs.Str.{bytes_eq}
@@ -19,37 +19,37 @@ use Rattle.link_faults.specs.declared.binding.Binding.{Binding}
 use Rattle.tls_symbols.specs.Definitions.{definition_of, is_defined, same_binding}
 use Rattle.tls_symbols.specs.Bindings.{binding_of, get_address, is_symbol, is_tls_binding, object_at}
 
--- ** what a relocation is charged with
+-- ** the faults of a relocation
 
 abbrev pub differ : Bool → Bool → Bool
 differ true other = not other
 differ false other = other
 
--- whether a relocation of this type may not name what is bound so: one of the two is thread-local, and the other isn't
+-- whether a relocation of this type may not be bound to this: one of the two is thread-local, and the other isn't
 abbrev pub is_mismatched : List (List ℕ) → RelocationKind → Option Binding → Bool
 is_mismatched objects kind None = false
 is_mismatched objects kind (Some binding) = differ (is_tls_kind kind) (is_tls_binding objects binding)
 
--- whether a relocation of object o has no binding, or one that does not suit it
+-- whether a relocation of object o has this fault: it has no binding, or one that does not suit it
 abbrev pub is_faulty : LinkFaultKind → List (List ℕ) → List (List (List ℕ)) → ℕ → Relocation → Bool
 is_faulty Undefined objects startup o r = names_symbol r.kind && is_none (binding_of objects startup o r)
 is_faulty NotTls objects startup o r =
     names_symbol r.kind && is_mismatched objects r.kind (binding_of objects startup o r)
 is_faulty kind objects startup o r = false
 
--- whether it is one of the two
+-- whether it has one of the two faults
 abbrev pub is_unfit : List (List ℕ) → List (List (List ℕ)) → ℕ → Relocation → Bool
 is_unfit objects startup o r = is_faulty Undefined objects startup o r || is_faulty NotTls objects startup o r
 
--- ** what a symbol is charged with
+-- ** the faults of a symbol
 
--- whether symbol e of object o is a second strong definition: its name binds to another
+-- whether symbol e of object o is a second GLOBAL definition: its name binds to another symbol
 abbrev pub is_second : List (List ℕ) → ℕ → List ℕ → ℕ → Bool
 is_second objects o b e =
     (same_binding Global (symbol_binding b e) && is_defined (symbol_place b e))
     && not (is_symbol (definition_of objects (symbol_name b e)) o e)
 
--- whether it defines the function of the run time for all objects
+-- whether it defines the function of the run time for other objects
 abbrev pub takes_run_time : List ℕ → ℕ → Bool
 takes_run_time b e =
     (not (same_binding Local (symbol_binding b e)) && is_defined (symbol_place b e))
@@ -60,7 +60,7 @@ is_duplicate objects o b e = is_second objects o b e || takes_run_time b e
 
 -- ** the first fault
 
--- the relocations that section s of an object holds, where linking keeps what they are for
+-- the relocations that section s of an object holds, if linking keeps the section that they apply to
 abbrev pub held_for : List ℕ → Option ℕ → List Relocation
 held_for b (Some t) = relocations b t
 held_for b None = []
@@ -68,7 +68,7 @@ held_for b None = []
 unfoldable pub held_in : List ℕ → ℕ → List Relocation
 held_in b s = held_for b (nonzero (relocation_target b s))
 
--- which relocations are charged, by the number of their object
+-- a test of relocations, with the number of their object
 abbrev pub Test : Type 0
 Test = ℕ → Relocation → Bool
 
@@ -76,11 +76,12 @@ Test = ℕ → Relocation → Bool
 abbrev pub NamesWithin : List ℕ → Relocation → Type 0
 NamesWithin b r = r.kind ≢ Nothing → r.symbol < symbol_count b
 
--- what may be asked of a relocation may be asked of each of the objects
+-- what may be asked about a relocation may be asked in each of the objects
 abbrev pub MayAsk : (ℕ → Relocation → Type 0) → List (List ℕ) → Type 0
-MayAsk may_ask objects = (o : ℕ) → o < length objects → (r : Relocation) → NamesWithin (object_at objects o) r → may_ask o r
+MayAsk may_ask objects =
+    (o : ℕ) → o < length objects → (r : Relocation) → NamesWithin (object_at objects o) r → may_ask o r
 
--- entry e of section s of object o is a relocation that is charged
+-- entry e of section s of object o is a relocation that passes the test
 abbrev pub IsChargedAt : Test → List (List ℕ) → ℕ → ℕ → ℕ → Type 0
 IsChargedAt test objects o s e =
     (o < length objects) × (0 < s) × (s < section_count (object_at objects o))
@@ -92,14 +93,14 @@ IsDuplicateAt objects o s e =
     let b = object_at objects o in
     (o < length objects) × (s ≡ symbol_table b) × (0 < e) × (e < symbol_count b) × (is_duplicate objects o b e ≡ true)
 
--- the kind stands at entry e of section s of object o: what each kind means
+-- there is a fault of this kind at entry e of section s of object o
 unfoldable pub Stands : LinkFaultKind → List (List ℕ) → List (List (List ℕ)) → ℕ → ℕ → ℕ → Type 0
 Stands Undefined objects startup o s e = IsChargedAt (is_faulty Undefined objects startup) objects o s e
 Stands Duplicate objects startup o s e = IsDuplicateAt objects o s e
 Stands NotTls objects startup o s e = IsChargedAt (is_faulty NotTls objects startup) objects o s e
 Stands kind objects startup o s e = ⊥
 
--- the order of the kinds that names may be charged with
+-- the order of the kinds of faults that names can have
 abbrev pub number : LinkFaultKind → ℕ
 number Undefined = 0
 number Duplicate = 1
@@ -110,12 +111,12 @@ number kind = 3
 abbrev pub Earlier : ℕ → ℕ → ℕ → ℕ → ℕ → ℕ → Type 0
 Earlier p t f o s e = (p < o) ⊎ ((p ≡ o) × ((t < s) ⊎ ((t ≡ s) × (f < e))))
 
--- a relocation is the first that is charged: none is at an earlier object, section or entry
+-- the first relocation that passes the test: none at an earlier object, section or entry does
 pub record IsFirstCharged (test : Test) (objects : List (List ℕ)) (o s e : ℕ) : Type 0 where
   pub here : IsChargedAt test objects o s e
   pub nowhere_earlier : (p t f : ℕ) → Earlier p t f o s e → IsChargedAt test objects p t f → ⊥
 
--- none is a duplicate; a symbol is the first that is
+-- no symbol is a duplicate; or the first that is one
 abbrev pub NoDuplicate : List (List ℕ) → Type 0
 NoDuplicate objects = (o s e : ℕ) → IsDuplicateAt objects o s e → ⊥
 
@@ -123,23 +124,23 @@ abbrev pub IsFirstDuplicate : List (List ℕ) → ℕ → ℕ → ℕ → Type 0
 IsFirstDuplicate objects o s e =
     IsDuplicateAt objects o s e × ((p t f : ℕ) → Earlier p t f o s e → IsDuplicateAt objects p t f → ⊥)
 
--- none is charged
+-- no relocation passes the test
 pub record NoneCharged (test : Test) (objects : List (List ℕ)) : Type 0 where
   pub nowhere : (o s e : ℕ) → IsChargedAt test objects o s e → ⊥
 
--- the kind stands nowhere
+-- there is no fault of this kind
 abbrev pub Nowhere : LinkFaultKind → List (List ℕ) → List (List (List ℕ)) → Type 0
 Nowhere kind objects startup = (o s e : ℕ) → Stands kind objects startup o s e → ⊥
 
--- none of the first n kinds stands anywhere
+-- there is no fault of the first n kinds
 abbrev pub NoneBelow : ℕ → List (List ℕ) → List (List (List ℕ)) → Type 0
 NoneBelow n objects startup = (kind : LinkFaultKind) → number kind < n → Nowhere kind objects startup
 
--- all names are as they should be
+-- the names have no fault
 abbrev pub AreResolved : List (List ℕ) → List (List (List ℕ)) → Type 0
 AreResolved objects startup = NoneBelow 3 objects startup
 
--- the first fault: it stands here, at no earlier place, and no earlier kind stands anywhere
+-- the first fault: there is none of its kind at an earlier place, and none of an earlier kind
 pub record IsFirst (objects : List (List ℕ)) (startup : List (List (List ℕ))) (kind : LinkFaultKind)
     (o s e : ℕ) : Type 0 where
   pub known : number kind < 3
@@ -147,7 +148,7 @@ pub record IsFirst (objects : List (List ℕ)) (startup : List (List (List ℕ))
   pub nowhere_earlier : (p t f : ℕ) → Earlier p t f o s e → Stands kind objects startup p t f → ⊥
   pub earlier_kinds : NoneBelow (number kind) objects startup
 
--- what a refusal says of the objects; of want of memory nothing. No fault of a name is one of the image as a whole
+-- a refusal reports the first fault, which is never one of the image as a whole; of OutOfMemory nothing is said
 abbrev pub IsFault : List (List ℕ) → List (List (List ℕ)) → LinkFault → Type 0
 IsFault objects startup OutOfMemory = Unit {0}
 IsFault objects startup (At kind (Some o) s e) = IsFirst objects startup kind o s e

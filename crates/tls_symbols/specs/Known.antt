@@ -1,4 +1,4 @@
--- What is known of the names of an image, and what it tells by their numbers.
+-- What is kept of the names of an image, and what it says by their numbers.
 use Rattle.std.specs.Prelude.{◌==◌, ℕ, Bool, List, Option, Some, None, map, if◌then◌else◌}
 use Rattle.link_faults.specs.declared.binding.Binding.{Binding}
 use Rattle.link_faults.specs.declared.binding.Binding.TheVariants.{Runtime}
@@ -24,7 +24,7 @@ binding_at n number imports =
     if number == 0 then Some Runtime else
     here_or (definition_at n number) (if imports then imported_at n number else None)
 
--- what contracts see of bindings: what decides them
+-- what contracts see of bindings: what they depend on
 pub record Resolved : Type 0 where
   -- the image's objects
   pub objects : List (List ℕ)

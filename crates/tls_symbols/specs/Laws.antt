@@ -7,14 +7,14 @@ use Rattle.link_faults.specs.declared.symbol_ref.SymbolRef.{SymbolRef}
 use Rattle.tls_symbols.specs.Bindings.{exported_names, is_tls_symbol, is_visible, object_at}
 use Rattle.tls_symbols.specs.Definitions.{definition_of}
 
--- whether a name of this definition is exported: it is thread-local, and other images see it
+-- whether a name with this definition is exported: the definition is thread-local and visible to other images
 abbrev pub is_exported_by : List (List ℕ) → Option SymbolRef → Bool
 is_exported_by objects (Some found) =
     let b = object_at objects found.object in
     is_tls_symbol b found.symbol && is_visible (symbol_visibility b found.symbol)
 is_exported_by objects None = false
 
--- an image exports exactly the names whose definition in it is thread-local and seen by other images
+-- an image exports exactly the names whose definition in it is thread-local and visible to other images
 abbrev pub ExportsAreByName : Type 0
 ExportsAreByName = (objects : List (List ℕ)) (name : List ℕ)
     → list_any (bytes_eq name) (exported_names objects) ≡ is_exported_by objects (definition_of objects name)

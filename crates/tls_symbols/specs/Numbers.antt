@@ -1,4 +1,4 @@
--- Names and their numbers, and what a table over these numbers tells of each name.
+-- Names and their numbers, and what a table by these numbers says about each name.
 use Rattle.std.specs.Prelude.{◌≡◌, ◌<◌, ℕ, true, false, List, [], Option, Some, None, length, map, slice_index}
 use Rattle.std.specs.Prelude.{slice_index_or, slice_set, MatchOption, if◌then◌else◌}
 use Rattle.std.specs.Borrow.{Bor}
@@ -14,40 +14,40 @@ use Rattle.link_faults.specs.declared.symbol_ref.SymbolRef.{SymbolRef}
 use Rattle.tls_symbols.specs.Definitions.{first_from, same_binding, first_in, found_or}
 use Rattle.tls_symbols.specs.Bindings.{first_export, get_address, is_tls_symbol, object_at}
 
--- names, each of which is lent
+-- names that are borrowed
 abbrev pub Names : Type 0
 Names = List (Bor (List ℕ))
 
--- the number of a name: the place of the first that is equal, or how many there are
+-- the number of a name: the index of the first that is equal, or the number of names if there is none
 abbrev pub number_of : Names → List ℕ → ℕ
 number_of names name = position_or_len (λ k. bytes_eq name k.now) names
 
--- the name stands among the names, at this number
+-- the name is among the names, under this number
 pub record IsNumberOf (names : Names) (name : List ℕ) (n : ℕ) : Type 0 where
   pub number : n ≡ number_of names name
   pub within : n < length names
 
--- more names, among which each name keeps its number
+-- a longer list, in which each name keeps its number
 pub record Grows (old new : Names) : Type 0 where
   pub keeps : (name : List ℕ) (n : ℕ) → IsNumberOf old name n → IsNumberOf new name n
 
--- symbol e has the number of its name, and none where it is LOCAL
+-- symbol e has the number of its name, or none if it is LOCAL
 abbrev pub IsNamed : Names → List ℕ → ℕ → Option ℕ → Type 0
 IsNamed names b e number =
     MatchOption number (same_binding Local (symbol_binding b e) ≡ true)
     (λ n. (same_binding Local (symbol_binding b e) ≡ false) × IsNumberOf names (symbol_name b e) n)
 
--- what is known of symbol e: the number of its name, and whether it is thread-local
+-- what is kept of symbol e: the number of its name, and whether it is thread-local
 pub record IsNumbered (names : Names) (b : List ℕ) (e : ℕ) (known : KnownSymbol) : Type 0 where
   pub name : IsNamed names b e known.name
   pub is_tls : known.is_tls ≡ is_tls_symbol b e
 
--- it is known of each symbol of an object
+-- likewise for each symbol of an object
 pub record AreNumbered (names : Names) (b : List ℕ) (known : List KnownSymbol) : Type 0 where
   pub len : length known ≡ symbol_count b
   pub each : (e : ℕ) (d : KnownSymbol) → e < symbol_count b → IsNumbered names b e (slice_index_or known e d)
 
--- of each symbol of each object
+-- likewise for each symbol of each object
 pub record AllNumbered (names : Names) (objects : List (List ℕ)) (numbers : List (List KnownSymbol)) : Type 0 where
   pub len : length numbers ≡ length objects
   pub each : (o : ℕ) → o < length objects → AreNumbered names (object_at objects o) (slice_index_or numbers o [])
@@ -57,12 +57,12 @@ pub record AreListed (names : Names) (listed : List (List ℕ)) (numbers : List 
   pub len : length numbers ≡ length listed
   pub each : (j : ℕ) → j < length listed → IsNumberOf names (slice_index_or listed j []) (slice_index numbers j)
 
--- each name of each list has
+-- likewise for each list
 pub record AllListed (names : Names) (lists : List (List (List ℕ))) (numbers : List (List ℕ)) : Type 0 where
   pub len : length numbers ≡ length lists
   pub each : (k : ℕ) → k < length lists → AreListed names (slice_index_or lists k []) (slice_index_or numbers k [])
 
--- what a table has at a number; nothing past its end
+-- what a table has at a number; nothing after its end
 abbrev pub at_number : {X : Type 0} → List (Option X) → ℕ → Option X
 at_number table n = slice_index_or table n None
 
@@ -70,51 +70,52 @@ abbrev pub or_else : {X : Type 0} → Option X → Option X → Option X
 or_else (Some x) rest = Some x
 or_else None rest = rest
 
--- the table with an entry, where there was none
+-- the table with an entry at this number, unless it has one there
 abbrev pub with_first : {X : Type 0} → List (Option X) → ℕ → X → List (Option X)
 with_first table n x = slice_set table n (or_else (at_number table n) (Some x))
 
--- what a table tells of a name
+-- what a table says about a name
 abbrev pub told : {X : Type 0} → Names → List (Option X) → List ℕ → Option X
 told names table name = at_number table (number_of names name)
 
--- a table that tells the first definition of each name, with this binding
+-- a table of the first definition of each name, with this binding
 pub record TellsDefinitions (names : Names) (binding : SymbolBinding) (objects : List (List ℕ))
     (table : List (Option SymbolRef)) : Type 0 where
   pub len : length table ≡ length names
   pub tells : (name : List ℕ) → told names table name ≡ first_from binding name 0 objects
 
--- one that tells the first startup image that exports each name
+-- a table of the first startup image that exports each name
 pub record TellsExports (names : Names) (startup : List (List (List ℕ))) (table : List (Option ℕ)) : Type 0 where
   pub len : length table ≡ length names
   pub tells : (name : List ℕ) → told names table name ≡ first_export name 1 startup
 
--- all that is known of the names of an image
+-- all that is kept of the names of an image
 pub record KnowsNames (objects : List (List ℕ)) (startup : List (List (List ℕ))) (names : Names)
-    (numbers : List (List KnownSymbol)) (strong weak : List (Option SymbolRef)) (imported : List (Option ℕ)) : Type 0 where
-  -- number 0 is that of the function of the run time
+    (numbers : List (List KnownSymbol)) (strong weak : List (Option SymbolRef))
+    (imported : List (Option ℕ)) : Type 0 where
+  -- number 0 is the function of the run time
   pub run_time : IsNumberOf names get_address 0
   pub numbered : AllNumbered names objects numbers
   pub strongly : TellsDefinitions names Global objects strong
   pub weakly : TellsDefinitions names Weak objects weak
   pub exports : TellsExports names startup imported
 
--- what a list of lists has at an index
+-- the list at an index, in a list of lists
 abbrev pub own_numbers : {X : Type 0} → List (Vec X) → ℕ → List X
 own_numbers numbers index = slice_index_or (map (λ own. own.items) numbers) index []
 
--- ** what a table notes, step by step
+-- ** how a table is filled, step by step
 
--- image k, if the name is among those
+-- image k, if it exports the name
 abbrev pub export_in : ℕ → List ℕ → List (List ℕ) → Option ℕ
 export_in k name names = if list_any (bytes_eq name) names then Some k else None
 
--- the first definitions that object o has were noted, where there were none
+-- the first definitions of object o were entered, for names that had none
 pub record NotesDefinitions (names : Names) (binding : SymbolBinding) (o : ℕ) (b : List ℕ)
     (old new : List (Option SymbolRef)) : Type 0 where
   pub notes : (name : List ℕ)
       → told names new name ≡ or_else (told names old name) (found_or o (first_in binding name b) None)
 
--- so was what image k exports
+-- the exports of image k were entered, for names that had none
 pub record NotesExports (names : Names) (k : ℕ) (exported : List (List ℕ)) (old new : List (Option ℕ)) : Type 0 where
   pub notes : (name : List ℕ) → told names new name ≡ or_else (told names old name) (export_in k name exported)

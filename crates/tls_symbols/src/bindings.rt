@@ -40,7 +40,7 @@ impl<'l, 's, 'a> Model for Bindings<'l, 's, 'a> {
     ghost invariant = { λ b. IsKnown b.names × AreResolved b.names.objects.now b.names.startup.now };
 }
 
-/// The first relocation that has the fault.
+/// The first relocation with this fault.
 fn first_charged(names: &ImageNames, standings: &[Vec<Standing>], charge: Charge) -> Option<Place>
     requires { AllStandings names.now.objects.now names.now.startup.now (map (λ own. own.items) standings.now) }
     ensures { MatchOption result
@@ -56,7 +56,7 @@ fn first_charged(names: &ImageNames, standings: &[Vec<Standing>], charge: Charge
     first_use(&question, names.objects)
 }
 
-/// The first fault of names where some relocation may be at fault.
+/// The first fault of names, if some relocation or symbol has one: each kind is searched for in turn.
 fn first_of_all(names: &ImageNames, standings: &[Vec<Standing>]) -> Option<LinkFault>
     requires known { IsKnown names.now }
     requires standings { AllStandings names.now.objects.now names.now.startup.now
@@ -76,7 +76,7 @@ fn first_of_all(names: &ImageNames, standings: &[Vec<Standing>]) -> Option<LinkF
     }
 }
 
-/// The first fault of the names of an image. Where no relocation is unfit, one walk over them says so.
+/// The first fault of the names of an image. If no relocation has one, a single walk over them shows it.
 fn first_fault(alloc: Global, names: &ImageNames) -> Result<Option<LinkFault>, AllocError>
     requires { IsKnown names.now }
     ensures { IfOk result (λ fault. MatchOption fault (AreResolved names.now.objects.now names.now.startup.now)
@@ -92,9 +92,9 @@ fn first_fault(alloc: Global, names: &ImageNames) -> Result<Option<LinkFault>, A
     }
 }
 
-/// Binds the names of an image of these objects, beside startup images that export these names: of all of them in
-/// image order, the image's own included where it is one. Answers the first fault: `Undefined`, else `Duplicate`, else
-/// `NotTls`, at the first object, section and entry.
+/// Binds the names of an image of these objects. `startup` has what each startup image exports, in image order; an
+/// image that is one itself is among them. The error is the first fault: `Undefined`, else `Duplicate`, else `NotTls`,
+/// at the first object, section and entry.
 pub fn resolve<'l, 's, 'a>(
     alloc: Global,
     objects: &'l [Object<'a>],
@@ -114,9 +114,9 @@ pub fn resolve<'l, 's, 'a>(
 }
 
 impl Bindings<'_, '_, '_> {
-    /// What a symbol of an object is bound to, by whether it may be another image's variable, in time that does not
-    /// depend on the names. `None` where it has no binding, which no symbol has that a relocation of a type that
-    /// imports so names. `object` is the object's place in the list, from 0.
+    /// What a symbol of an object is bound to. `imports` says whether it may be another image's variable. The symbol of
+    /// a relocation always has a binding, with the `imports` of the relocation's type; another symbol may have none.
+    /// `object` is the object's index in the list. The time does not depend on the names.
     pub fn binding(&self, object: usize, symbol: u32, imports: Imports) -> Option<Binding>
         requires object { object < length self.now.objects }
         requires symbol { symbol < symbol_count (object_at self.now.objects object) }
@@ -127,7 +127,7 @@ impl Bindings<'_, '_, '_> {
         binding(&self.names, object, symbol, imports)
     }
 
-    /// The same of the symbol that a relocation of an object names.
+    /// What the symbol of a relocation is bound to.
     pub fn binding_of(&self, object: usize, relocation: &Relocation) -> Option<Binding>
         requires object { object < length self.now.objects }
         requires symbol { relocation.now.symbol < symbol_count (object_at self.now.objects object) }
@@ -138,7 +138,7 @@ impl Bindings<'_, '_, '_> {
         self.binding(object, relocation.symbol, imports_of(relocation.kind))
     }
 
-    /// The definition that a name binds to in the image, in time that depends on the name's length alone.
+    /// The definition that a name binds to in the image. The time depends only on the name's length.
     pub fn definition(&self, name: &[u8]) -> Option<SymbolRef>
         ensures definition { result ≡ definition_of self.now.objects name.now }
         ensures within { IfSome result (IsWithin self.now.objects) }
@@ -147,8 +147,8 @@ impl Bindings<'_, '_, '_> {
         definition_named(&self.names, name)
     }
 
-    /// The definition that the name of a symbol binds to, one that is not LOCAL, in time that does not depend on the
-    /// names. `object` is the object's place in the list, from 0.
+    /// The definition that the name of a symbol binds to, if the symbol is not LOCAL. `object` is the object's index in
+    /// the list. The time does not depend on the names.
     pub fn symbol_definition(&self, object: usize, symbol: u32) -> Option<SymbolRef>
         requires object { object < length self.now.objects }
         requires symbol { symbol < symbol_count (object_at self.now.objects object) }

@@ -1,4 +1,4 @@
-//! The faults that a relocation may have by what its symbol is bound to.
+//! The faults that a relocation can have because of what its symbol is bound to.
 
 ghost use Rattle.std.specs.Prelude.{◌≡◌, ◌<◌, length, map};
 ghost use Rattle.elf_object.specs.Parts.{symbol_count};
@@ -12,25 +12,25 @@ use crate::standings::{Bound, Standing};
 use crate::uses::Question;
 use elf_object::{Relocation, RelocationKind};
 
-/// A fault that a relocation may have by what its symbol is bound to.
+/// A fault that a relocation can have because of what its symbol is bound to.
 #[derive(Clone, Copy)]
 pub enum Charge {
-    /// It is bound to nothing.
+    /// The symbol is bound to nothing.
     Unbound,
-    /// One of the two is thread-local, the relocation's type or what its symbol is bound to, and the other isn't.
+    /// The relocation's type is thread-local and what its symbol is bound to isn't, or the other way round.
     Unsuited,
-    /// Either of these.
+    /// One of these two.
     Either,
 }
 
-/// Whether there is nothing that a symbol is bound to.
+/// Whether a symbol is bound to nothing.
 fn is_nothing(bound: Bound) -> bool
     ensures { result ≡ is_unbound bound }
 {
     matches!(bound, Bound::Nothing)
 }
 
-/// Whether a relocation of this type may not name what is bound so.
+/// Whether a relocation of this type may not be bound to this: one of the two is thread-local, and the other isn't.
 fn is_mismatched(bound: Bound, kind: RelocationKind) -> bool
     ensures { result ≡ is_unsuited kind bound }
 {
@@ -41,7 +41,7 @@ fn is_mismatched(bound: Bound, kind: RelocationKind) -> bool
     }
 }
 
-/// Whether a relocation of this type has this fault, whose symbol is bound so.
+/// Whether a relocation has this fault, by its type and what its symbol is bound to.
 fn is_charged(charge: Charge, bound: Bound, kind: RelocationKind) -> bool
     ensures { result ≡ is_charged charge kind bound }
 {
@@ -52,7 +52,7 @@ fn is_charged(charge: Charge, bound: Bound, kind: RelocationKind) -> bool
     }
 }
 
-/// Which relocations have this fault? `standings` has what each symbol of each object stands for.
+/// Asks which relocations have this fault. `standings` has what each symbol of each object is bound to.
 #[derive(Clone, Copy)]
 pub struct NameQuestion<'n, 'l, 's, 'a> {
     pub names: &'n ImageNames<'l, 's, 'a>,
@@ -60,7 +60,7 @@ pub struct NameQuestion<'n, 'l, 's, 'a> {
     pub charge: Charge,
 }
 
-/// What a symbol of an object stands for.
+/// What a symbol of an object is bound to.
 fn standing_at(
     names: &ImageNames,
     standings: &[Vec<Standing>],

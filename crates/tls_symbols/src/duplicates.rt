@@ -1,4 +1,4 @@
-//! The first symbol that defines what is defined already.
+//! The first symbol that defines a name again.
 
 ghost use Rattle.std.specs.Prelude.{◌≡◌, ◌-◌, ◌<◌, MatchOption, false, length};
 ghost use Rattle.std.specs.List.{find, range_with_len};
@@ -25,7 +25,8 @@ pub fn is_symbol(definition: Option<SymbolRef>, object: usize, symbol: u32) -> b
     }
 }
 
-/// Whether a symbol is a second strong definition of its name, or defines the function of the run time for all objects.
+/// Whether a symbol is a second GLOBAL definition of its name, or defines the function of the run time for other
+/// objects.
 fn is_duplicate(names: &ImageNames, index: usize, object: &Object, symbol: u32) -> bool
     requires known { IsKnown names.now }
     requires object { index < length names.now.objects.now }
@@ -63,7 +64,7 @@ fn first_duplicate_in(names: &ImageNames, index: usize, object: &Object) -> Opti
     None
 }
 
-/// The number of the section that holds an object's symbols; 0 where there is none.
+/// The section that holds an object's symbols; 0 if there is none.
 fn symbol_table(object: &Object) -> u64
     ensures { result ≡ symbol_table object.now }
 {
@@ -73,7 +74,7 @@ fn symbol_table(object: &Object) -> u64
     }
 }
 
-/// The first such symbol.
+/// The first such symbol of all objects.
 pub fn first_duplicate(names: &ImageNames) -> Option<Place>
     requires { IsKnown names.now }
     ensures { MatchOption result (NoDuplicate names.now.objects.now)

@@ -19,7 +19,7 @@ impl<'a> Model for Exports<'a> {
 ghost use Rattle.std.specs.Prelude.{◌≡◌, ◌^◌, ◌<◌, length, map};
 
 impl<'a> Exports<'a> {
-    /// The exports of these names.
+    /// A list of exported names.
     pub fn of(names: Vec<&'a [u8]>) -> Exports<'a>
         ensures { result ≡ map (λ name. name.now) names.entry.items }
     {

@@ -21,7 +21,7 @@ fn is_visible(visibility: Visibility) -> bool
     matches!(visibility, Visibility::Default | Visibility::Protected)
 }
 
-/// Whether the image exports a symbol's name by it: it is the definition that its name binds to, thread-local, and
+/// Whether the image exports a name through this symbol: the name binds to the symbol, and it is thread-local and
 /// visible.
 fn is_exported(names: &ImageNames, index: usize, object: &Object, symbol: u32) -> bool
     requires known { IsKnown names.now }
@@ -61,8 +61,8 @@ fn push_exported<'a>(
     Ok(())
 }
 
-/// The names that an image of these objects exports: each whose definition in the image is thread-local, GLOBAL or
-/// WEAK, and of default or protected visibility. The only error is want of memory.
+/// The names that an image of these objects exports: those whose definition in the image is thread-local, GLOBAL or
+/// WEAK, and of default or protected visibility. Fails only when memory runs out.
 #[tactic(auto, unfolding(crate::specs::Bindings::exported_names))]
 pub fn exports<'a>(alloc: Global, objects: &[Object<'a>]) -> Result<Exports<'a>, AllocError>
     ensures { IfOk result (λ exports. exports ≡ exported_names objects.now) }

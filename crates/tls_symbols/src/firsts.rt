@@ -1,4 +1,4 @@
-//! Tables over the numbers of names: what comes first of each name.
+//! Tables by name number: the first definition of each name, and the first startup image that exports it.
 
 ghost use Rattle.std.specs.Prelude.{◌≡◌, ◌<◌, ◌-◌, ◌^◌, ◌&&◌, false, IfOk, IfSome, MatchOption, length, map};
 ghost use Rattle.elf_object.specs.Lent.{symbol_binding, symbol_place};
@@ -14,7 +14,7 @@ use elf_object::{Object, SymbolBinding, SymbolPlace};
 use link_faults::SymbolRef;
 use std::alloc::{AllocError, Global};
 
-/// Notes a definition of a name, where the table has none of it yet. A LOCAL symbol's name has no number.
+/// Enters a definition of a name, unless the table has one. The name of a LOCAL symbol has no number.
 fn note_definition(table: &mut [Option<SymbolRef>], name: Option<usize>, found: SymbolRef)
     requires { IfSome name (λ number. number < length table.old) }
     ensures { MatchOption name (table.new ≡ table.old) (λ number. table.new ≡ with_first table.old number found) }
@@ -24,7 +24,7 @@ fn note_definition(table: &mut [Option<SymbolRef>], name: Option<usize>, found: 
     }
 }
 
-/// Notes a startup image, where the table has none for the name yet.
+/// Enters a startup image for a name, unless the table has one.
 fn note_image(table: &mut [Option<u32>], number: usize, image: u32)
     requires { number < length table.old }
     ensures { table.new ≡ with_first table.old number image }
@@ -44,7 +44,7 @@ fn is_definition(object: &Object, number: u32, binding: SymbolBinding) -> bool
     }
 }
 
-/// Notes the definitions that an object has, with this binding.
+/// Enters the definitions of an object with this binding.
 fn note_object(
     numbers: &Numbers,
     index: usize,
@@ -89,7 +89,7 @@ pub fn first_definitions(
     Ok(table)
 }
 
-/// Notes what a startup image exports.
+/// Enters what a startup image exports.
 fn note_exports(
     numbers: &Numbers,
     index: usize,

@@ -1,4 +1,4 @@
-//! All that is known of the names of an image.
+//! The names of an image, and what each stands for.
 
 ghost use Rattle.std.specs.Prelude.{◌≡◌, ◌<◌, ◌^◌, ◌-◌, IfOk, IfSome, false, length};
 ghost use Rattle.std.specs.Str.{bytes_eq};
@@ -18,7 +18,7 @@ use elf_object::{Object, SymbolBinding};
 use link_faults::{Binding, SymbolRef};
 use std::alloc::{AllocError, Global};
 
-/// An image's names: their numbers, and by these what each stands for.
+/// An image's names: their numbers, and for each number what it stands for.
 #[derive(Drop)]
 pub struct ImageNames<'l, 's, 'a> {
     pub objects: &'l [Object<'a>],
@@ -29,7 +29,7 @@ pub struct ImageNames<'l, 's, 'a> {
     pub imported: Vec<Option<u32>>,
 }
 
-/// What is known of the names of an image of these objects, beside these startup images.
+/// Numbers the names of an image of these objects, and finds what each stands for beside these startup images.
 pub fn know_names<'l, 's, 'a>(
     alloc: Global,
     objects: &'l [Object<'a>],
@@ -54,7 +54,7 @@ pub fn know_names<'l, 's, 'a>(
     })
 }
 
-/// The definition of the name of this number: the first strong one, else the first weak one.
+/// The definition of the name with this number: the first GLOBAL one, else the first WEAK one.
 fn definition_at(names: &ImageNames, number: usize) -> Option<SymbolRef>
     ensures { result ≡ definition_at names.now number }
 {
@@ -79,7 +79,7 @@ pub fn definition_named(names: &ImageNames, name: &[u8]) -> Option<SymbolRef>
     }
 }
 
-/// What is known of a symbol.
+/// The number of a symbol's name, and whether the symbol is thread-local.
 fn symbol_at(names: &ImageNames, object: usize, symbol: u32) -> KnownSymbol
     requires known { IsKnown names.now }
     requires object { object < length names.now.objects.now }
@@ -99,7 +99,7 @@ pub fn is_tls(names: &ImageNames, found: SymbolRef) -> bool
     symbol_at(names, found.object as usize, found.symbol).is_tls
 }
 
-/// The definition that the name of a symbol binds to, one that is not LOCAL.
+/// The definition that the name of a symbol binds to, if the symbol is not LOCAL.
 pub fn symbol_definition(names: &ImageNames, object: usize, symbol: u32) -> Option<SymbolRef>
     requires known { IsKnown names.now }
     requires object { object < length names.now.objects.now }
@@ -115,7 +115,7 @@ pub fn symbol_definition(names: &ImageNames, object: usize, symbol: u32) -> Opti
     }
 }
 
-/// Whether a symbol, one that is not LOCAL, has the name of the run time's function.
+/// Whether a symbol is not LOCAL and has the name of the run time's function.
 pub fn is_run_time(names: &ImageNames, object: usize, symbol: u32) -> bool
     requires known { IsKnown names.now }
     requires object { object < length names.now.objects.now }
@@ -129,7 +129,7 @@ pub fn is_run_time(names: &ImageNames, object: usize, symbol: u32) -> bool
     }
 }
 
-/// The first startup image that exports the name of this number.
+/// The first startup image that exports the name with this number.
 fn imported_at(names: &ImageNames, number: usize) -> Option<Binding>
     ensures { result ≡ imported_at names.now number }
 {
@@ -139,7 +139,7 @@ fn imported_at(names: &ImageNames, number: usize) -> Option<Binding>
     }
 }
 
-/// What the name of this number is bound to, by whether it may be another image's variable.
+/// What the name with this number is bound to, by whether it may be another image's variable.
 fn binding_at(names: &ImageNames, number: usize, imports: Imports) -> Option<Binding>
     ensures { result ≡ binding_at names.now number (may imports) }
 {
@@ -153,7 +153,7 @@ fn binding_at(names: &ImageNames, number: usize, imports: Imports) -> Option<Bin
     }
 }
 
-/// What a symbol of an object is bound to, by whether it may be another image's variable; a LOCAL one is bound to
+/// What a symbol of an object is bound to, by whether it may be another image's variable. A LOCAL one is bound to
 /// itself.
 #[tactic(auto, unfolding(crate::specs::Bindings::bound_to))]
 pub fn binding(names: &ImageNames, object: usize, symbol: u32, imports: Imports) -> Option<Binding>

@@ -5,15 +5,15 @@ ghost use Rattle.tls_symbols.specs.Bindings.{may, may_import};
 
 use elf_object::RelocationKind;
 
-/// Whether a symbol may be another image's variable: what it is bound to depends on that, and on nothing else of the
-/// relocation that names it.
+/// Whether a symbol may be another image's variable. What the symbol is bound to depends on this, and on nothing else
+/// in the relocation.
 #[derive(Clone, Copy, PartialEq, Eq, Debug)]
 pub enum Imports {
     Yes,
     No,
 }
 
-/// Whether what a relocation of this type names may be.
+/// Whether the symbol of a relocation of this type may be another image's variable.
 pub fn imports_of(kind: RelocationKind) -> Imports
     ensures { may result ≡ may_import kind }
 {

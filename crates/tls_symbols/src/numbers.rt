@@ -16,28 +16,28 @@ use std::alloc::{AllocError, Global};
 /// The function of the run time.
 const GET_ADDRESS: &[u8] = b"__tls_get_addr";
 
-/// What is known of a symbol.
+/// What is kept of a symbol.
 #[derive(Clone, Copy)]
 pub struct KnownSymbol {
-    /// The number of its name; `None` of a LOCAL one, whose name is not looked at.
+    /// The number of its name; `None` for a LOCAL one, whose name is not read.
     pub name: Option<usize>,
     /// Whether it is thread-local.
     pub is_tls: bool,
 }
 
-/// The names of an image, and the numbers of those that its symbols and the startup images have.
+/// The names of an image, each with a number, and the numbers that its symbols and its startup images use.
 #[derive(Drop)]
 pub struct Numbers<'a> {
-    /// All names, each once. The first is the run time's.
+    /// All names, each once. The first is the run time's function.
     pub names: IndexSet<&'a [u8]>,
-    /// What each symbol of each object is.
+    /// For each symbol of each object, what is kept of it.
     pub symbols: Vec<Vec<KnownSymbol>>,
-    /// The numbers of what each startup image exports.
+    /// For each startup image, the numbers of the names that it exports.
     pub exported: Vec<Vec<usize>>,
 }
 
-/// How many symbols objects have together, `usize::MAX` where they have more: a table of their names that has room for
-/// so many need not grow.
+/// The number of symbols in all objects together, or `usize::MAX` if there are more. A table of names with this
+/// capacity need not grow.
 pub fn symbol_total(objects: &[Object]) -> usize
     ensures { result ≡ min (sum_by symbol_count objects.now) usize.MAX }
 {
@@ -48,7 +48,7 @@ pub fn symbol_total(objects: &[Object]) -> usize
     total
 }
 
-/// The names of an image before any is added: that of the run time's function. There is room for so many more.
+/// The names of an image before any is added: only the run time's function. There is room for `room` more.
 fn first_names<'a>(alloc: Global, room: usize) -> Result<IndexSet<&'a [u8]>, AllocError>
     ensures { IfOk result (λ names. IsNumberOf names.keys get_address 0) }
 {
@@ -66,7 +66,7 @@ fn number_name<'a>(names: &mut IndexSet<&'a [u8]>, name: &'a [u8]) -> Result<usi
     Ok(number)
 }
 
-/// The number of a symbol's name; `None` of a LOCAL symbol, whose name is not looked at.
+/// The number of a symbol's name; `None` for a LOCAL symbol, whose name is not read.
 fn number_symbol<'a>(
     object: &Object<'a>,
     symbol: u32,
@@ -85,7 +85,7 @@ fn number_symbol<'a>(
     Ok(Some(number))
 }
 
-/// What is known of a symbol.
+/// Numbers a symbol's name, and says whether the symbol is thread-local.
 fn know_symbol<'a>(
     object: &Object<'a>,
     symbol: u32,
@@ -108,7 +108,7 @@ fn know_symbol<'a>(
     }
 }
 
-/// What is known of an object's symbols.
+/// Numbers the names of an object's symbols.
 fn number_symbols<'a>(
     alloc: Global,
     object: &Object<'a>,
@@ -125,7 +125,7 @@ fn number_symbols<'a>(
     Ok(numbers)
 }
 
-/// What is known of all objects' symbols.
+/// Numbers the names of all objects' symbols.
 fn number_objects<'a>(
     alloc: Global,
     objects: &[Object<'a>],
@@ -143,7 +143,7 @@ fn number_objects<'a>(
     Ok(numbers)
 }
 
-/// The numbers of listed names.
+/// The numbers of these names.
 fn number_list<'a>(
     alloc: Global,
     listed: &[&'a [u8]],
@@ -161,7 +161,7 @@ fn number_list<'a>(
     Ok(numbers)
 }
 
-/// The numbers of what the startup images export.
+/// The numbers of the names that the startup images export.
 fn number_exports<'a>(
     alloc: Global,
     startup: &[Exports<'a>],
@@ -179,7 +179,8 @@ fn number_exports<'a>(
     Ok(numbers)
 }
 
-/// Numbers the names of an image: the run time's function first, then what startup images export, then its symbols'.
+/// Numbers the names of an image: first the run time's function, then what startup images export, then its symbols'
+/// names.
 pub fn number_names<'a>(
     alloc: Global,
     objects: &[Object<'a>],

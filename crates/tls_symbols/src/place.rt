@@ -1,14 +1,14 @@
-//! Where a fault stands.
+//! The place of a fault.
 
 ghost use Rattle.std.specs.Prelude.{◌≡◌, Some};
 ghost use Rattle.link_faults.specs.declared.fault.LinkFault.TheVariants.{At};
 
 use link_faults::{LinkFault, LinkFaultKind};
 
-/// Where a fault of a name stands.
+/// The place of a relocation or a symbol.
 #[derive(Clone, Copy, PartialEq, Eq, Debug)]
 pub struct Place {
-    /// The object's place in the list, from 0.
+    /// The object's index in the list.
     pub object: u64,
     /// The section that holds the relocation or the symbol.
     pub section: u64,
@@ -17,7 +17,7 @@ pub struct Place {
 }
 
 impl Place {
-    /// The fault of this kind that stands here.
+    /// The fault of this kind at this place.
     pub fn fault(self, kind: LinkFaultKind) -> LinkFault
         ensures { result ≡ At kind (Some self.object) self.section self.entry }
     {

@@ -1,4 +1,4 @@
-//! What each symbol of an object stands for, asked once a symbol and not once a relocation.
+//! What each symbol of an object is bound to: found once for each symbol, and not for each relocation.
 
 ghost use Rattle.std.specs.Prelude.{◌≡◌, ◌<◌, IfOk, IfSome, length, map};
 ghost use Rattle.elf_object.specs.Parts.{symbol_count};
@@ -12,7 +12,7 @@ use elf_object::Object;
 use link_faults::Binding;
 use std::alloc::{AllocError, Global};
 
-/// What a symbol is bound to, as far as a relocation may be at fault for it.
+/// What a symbol is bound to, as far as a fault of a relocation depends on it.
 #[derive(Clone, Copy)]
 pub enum Bound {
     Nothing,
@@ -20,7 +20,7 @@ pub enum Bound {
     Ordinary,
 }
 
-/// What a symbol is bound to, by whether it may be another image's variable.
+/// What a symbol is bound to, in two cases: if it may be another image's variable, and if it may not.
 #[derive(Clone, Copy)]
 pub struct Standing {
     pub importing: Bound,
@@ -28,7 +28,7 @@ pub struct Standing {
 }
 
 impl Standing {
-    /// What the symbol is bound to.
+    /// What the symbol is bound to, by whether it may be another image's variable.
     pub fn bound(self, imports: Imports) -> Bound
         ensures { result ≡ bound_in self (may imports) }
     {
@@ -52,7 +52,7 @@ fn is_tls_binding(names: &ImageNames, binding: Binding) -> bool
     }
 }
 
-/// What is left of a binding.
+/// What a fault of a relocation depends on in a binding.
 fn bound_of(names: &ImageNames, binding: Option<Binding>) -> Bound
     requires known { IsKnown names.now }
     requires within { IfSome binding (IsBindingWithin names.now.objects.now) }
@@ -65,7 +65,7 @@ fn bound_of(names: &ImageNames, binding: Option<Binding>) -> Bound
     }
 }
 
-/// What a symbol of an object is bound to.
+/// What a symbol of an object is bound to, by whether it may be another image's variable.
 fn bound_by(names: &ImageNames, index: usize, symbol: u32, imports: Imports) -> Bound
     requires known { IsKnown names.now }
     requires object { index < length names.now.objects.now }
@@ -76,7 +76,7 @@ fn bound_by(names: &ImageNames, index: usize, symbol: u32, imports: Imports) -> 
     bound_of(names, binding(names, index, symbol, imports))
 }
 
-/// What a symbol of an object stands for.
+/// What a symbol of an object is bound to, in both cases.
 fn standing_of(names: &ImageNames, index: usize, symbol: u32) -> Standing
     requires known { IsKnown names.now }
     requires object { index < length names.now.objects.now }
@@ -89,7 +89,7 @@ fn standing_of(names: &ImageNames, index: usize, symbol: u32) -> Standing
     }
 }
 
-/// What each symbol of an object stands for.
+/// What each symbol of an object is bound to.
 fn own_standings(
     alloc: Global,
     names: &ImageNames,
@@ -109,7 +109,7 @@ fn own_standings(
     Ok(standings)
 }
 
-/// What each symbol of each object stands for.
+/// What each symbol of each object is bound to.
 pub fn standings(alloc: Global, names: &ImageNames) -> Result<Vec<Vec<Standing>>, AllocError>
     requires { IsKnown names.now }
     ensures { IfOk result (λ all.

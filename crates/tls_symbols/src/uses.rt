@@ -1,5 +1,5 @@
-//! The relocations of objects, one after another, and the first that a question is about. No other function loops over
-//! those of all objects.
+//! An iterator over the relocations of all objects, and the first that a question is about. No other function loops
+//! over them.
 
 ghost use Rattle.std.specs.Prelude.{◌≡◌, ℕ, MatchBool, MatchOption, []};
 ghost use Rattle.std.specs.Iterator.{YieldsFirst, item_count};
@@ -17,24 +17,24 @@ use elf_object::{Object, Relocation, Relocs};
 /// A relocation of a section that linking keeps.
 #[derive(Clone, Copy)]
 pub struct Use {
-    /// Where it stands: the object, the section that holds it and its number there.
+    /// Its object, the section that holds it, and its number there.
     pub place: Place,
-    /// The section that it is for.
+    /// The section that it applies to.
     pub section: u32,
     pub relocation: Relocation,
 }
 
-/// By which sections the relocations of an object are walked.
+/// The order in which the relocations of an object are walked.
 #[derive(Clone, Copy)]
 pub enum Order {
-    /// By those that hold them.
+    /// By the sections that hold relocations.
     Holders,
-    /// By those that they are for.
+    /// By the sections that they apply to.
     Targets,
 }
 
-/// The relocations of objects that are left, in the order of objects, of sections and of entries. Only those are met
-/// whose sections linking keeps.
+/// The relocations of objects that remain, in the order of objects, sections and entries. Those of sections that
+/// linking drops are left out.
 #[derive(Drop)]
 pub struct Uses<'o, 'a> {
     objects: &'o [Object<'a>],
@@ -42,13 +42,13 @@ pub struct Uses<'o, 'a> {
     // the object and the section that come next
     object: usize,
     number: u32,
-    // what is left of the section before: where its first entry stands, and the section that the entries are for
+    // what remains of the section before: the place of its first entry, and the section that the entries apply to
     place: Place,
     section: u32,
     relocs: Relocs<'a>,
 }
 
-/// Tells of each object that it was read without fault.
+/// Lets the proof know that each object was read without fault.
 fn are_objects(objects: &[Object])
     ensures { All IsObject objects.now }
 {
@@ -57,14 +57,14 @@ fn are_objects(objects: &[Object])
     }
 }
 
-/// A section that holds relocations, and the one that they are for.
+/// A section that holds relocations, and the section that they apply to.
 #[derive(Clone, Copy)]
 struct Held {
     table: u32,
     section: u32,
 }
 
-/// The two of which one has this number, as the order says.
+/// Such a pair of sections, of which one has this number: which one depends on the order.
 fn held_by(object: &Object, order: Order, number: u32) -> Option<Held>
     ensures { MatchOption result ((o : ℕ) → uses_held order o object.now number ≡ [])
         (λ held. (o : ℕ) → uses_held order o object.now number
@@ -112,7 +112,7 @@ impl<'o, 'a> Uses<'o, 'a> {
         }
     }
 
-    /// All relocations of these objects, by the sections that hold them, as faults are told.
+    /// All relocations of these objects, by the sections that hold them: the order of faults.
     #[tactic(auto, unfolding(crate::specs::Walks::uses))]
     pub fn of(objects: &'o [Object<'a>]) -> Uses<'o, 'a>
         ensures uses { uses_left result ≡ uses objects.now }
@@ -122,7 +122,7 @@ impl<'o, 'a> Uses<'o, 'a> {
         Uses::start(objects, Order::Holders)
     }
 
-    /// All relocations of these objects, by the sections that they are for.
+    /// All relocations of these objects, by the sections that they apply to.
     #[tactic(auto, unfolding(crate::specs::Walks::section_uses))]
     pub fn by_section(objects: &'o [Object<'a>]) -> Uses<'o, 'a>
         ensures uses { uses_left result ≡ section_uses objects.now }
@@ -132,7 +132,7 @@ impl<'o, 'a> Uses<'o, 'a> {
         Uses::start(objects, Order::Targets)
     }
 
-    /// Goes on to the next section, of this object or of the one behind it. `false` behind the last object.
+    /// Goes on to the next section, of this object or of the next one. `false` after the last object.
     #[inline(always)]
     fn advance(&mut self) -> bool
         requires counted { IsCounted self.old }
@@ -195,17 +195,17 @@ pub trait Question {
     // which relocations it is about, by the number of their object
     ghost test: { Self → Test };
 
-    // which it may be asked of
+    // which relocations it may be asked about
     ghost may_ask: { Self → ℕ → Relocation → Type 0 };
 
-    /// Whether it is about a relocation of an object. `object` is the object's place in the list, from 0.
+    /// Whether it is about a relocation of an object. `object` is the object's index in the list.
     fn is_about(&self, object: usize, relocation: &Relocation) -> bool
         requires { may_ask self.now object relocation.now }
         ensures { result ≡ test self.now object relocation.now };
 }
 
-/// The first relocation that a question is about, by object, by the section that holds it and by its number there. Only
-/// those are walked whose sections linking keeps.
+/// The first relocation that a question is about, by object, by the section that holds it, and by its number there.
+/// Those of sections that linking drops are left out.
 pub fn first_use<Q: Question>(question: &Q, objects: &[Object]) -> Option<Place>
     requires { MayAsk (Q.may_ask question.now) objects.now }
     ensures { MatchOption result (NoneCharged (Q.test question.now) objects.now)

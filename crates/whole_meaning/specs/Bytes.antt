@@ -54,7 +54,8 @@ module _ (l : Linking) (bias : ℕ) where
   -- the field of a relocation of section s of object o, at the instance's address
   unfoldable pub value_of : ℕ → ℕ → Relocation → Option Field
   value_of o s r =
-      stored_field r.kind (symbol_number r.kind (binding l o r)) r.addend (place l o s r.offset + bias) (subtracted r.kind)
+      stored_field r.kind (symbol_number r.kind (binding l o r)) r.addend (place l o s r.offset + bias)
+      (subtracted r.kind)
 
   -- ** bytes
 

@@ -65,7 +65,8 @@ unclean_ending thread line (Stopped stop) = unclean_stop thread line stop
 -- the first of a thread's lines from this number on
 abbrev pub first_in : ℕ → ℕ → List Said → Option UncleanStep
 first_in thread line [] = None
-first_in thread line (said ∷ more) = option_or (unclean_ending thread line said.ending) (first_in thread (line + 1) more)
+first_in thread line (said ∷ more) =
+    option_or (unclean_ending thread line said.ending) (first_in thread (line + 1) more)
 
 -- the first of the lowest thread from this number on
 abbrev pub first_from : ℕ → List (List Said) → Option UncleanStep

@@ -106,7 +106,8 @@ module _ {M : Type 0} (stack : Stack M) (s : Sequence) (thread start : ℕ) wher
   -- a register holds the distance
   abbrev pub loaded : State Word Flag → M → Result (After Word Flag M) Stop
   loaded state memory =
-      Ok (left (at_place (with_word state s.register (Number (variable_distance s start state.thread_pointer))) s.next) memory)
+      Ok (left (at_place (with_word state s.register (Number (variable_distance s start state.thread_pointer)))
+      s.next) memory)
 
   -- a register holds a sum, and the flags are unknown
   abbrev pub with_sum : ℕ → State Word Flag → State Word Flag
@@ -130,7 +131,8 @@ module _ {M : Type 0} (stack : Stack M) (s : Sequence) (thread start : ℕ) wher
   abbrev pub descriptor_called : State Word Flag → M → Result (After Word Flag M) Stop
   descriptor_called state memory = do
     uses ← clean state.place (descriptor_calls state memory)
-    Ok (left (at_place (without_flags (with_answer (Number (variable_distance s start state.thread_pointer)) state)) s.next)
+    Ok (left (at_place (without_flags (with_answer (Number (variable_distance s start state.thread_pointer)) state))
+        s.next)
         (stack.forget memory uses.1))
 
   -- the step of each form
