@@ -14,15 +14,9 @@ use Rattle.job_text.specs.declared.fault.JobFaultKind.{JobFaultKind}
 use Rattle.job_text.specs.declared.grammar.Heading.TheVariants as heading
 use Rattle.job_text.specs.declared.grammar.Heading.{Heading}
 use Rattle.job_text.specs.declared.images.Image.{Image}
+pub use Rattle.link_faults.specs.ImageKinds.{is_late}
 use Rattle.link_faults.specs.declared.image_kind.ImageKind.{ImageKind}
 use Rattle.link_faults.specs.declared.image_kind.ImageKind.TheVariants.{Exe, Pie, Start, Late}
-
--- whether an image is late, so that a thread opens it; the others are loaded with the program
-abbrev pub is_late : ImageKind → Bool
-is_late Exe = false
-is_late Pie = false
-is_late Start = false
-is_late Late = true
 
 -- late images come after all that are loaded with the program
 abbrev pub LateLast : List ImageKind → Type 0

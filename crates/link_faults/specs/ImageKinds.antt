@@ -24,6 +24,13 @@ is_moved Pie = true
 is_moved Start = true
 is_moved Late = true
 
+-- whether a thread opens it; the others are loaded with the program
+abbrev pub is_late : ImageKind → Bool
+is_late Exe = false
+is_late Pie = false
+is_late Start = false
+is_late Late = true
+
 -- where an image begins, before the loader moves it
 abbrev pub base_of : ImageKind → ℕ
 base_of Exe = 0x400000

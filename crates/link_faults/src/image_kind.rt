@@ -1,7 +1,7 @@
 //! The kinds of image that a linker makes.
 
 ghost use Rattle.std.specs.Prelude.{◌≡◌, ◌↔◌, IsTrue};
-ghost use Rattle.link_faults.specs.ImageKinds.{IsModule, base_of, is_moved};
+ghost use Rattle.link_faults.specs.ImageKinds.{IsModule, base_of, is_late, is_moved};
 
 /// The kind of image to link.
 #[derive(Clone, Copy, PartialEq, Eq, Debug)]
@@ -25,6 +25,13 @@ impl ImageKind {
         ensures { IsTrue result ↔ IsModule self }
     {
         matches!(self, ImageKind::Start | ImageKind::Late)
+    }
+
+    /// Whether a thread opens the image; else it is loaded with the program.
+    pub fn is_late(self) -> bool
+        ensures { result ≡ is_late self }
+    {
+        matches!(self, ImageKind::Late)
     }
 
     /// Whether the image may be loaded at any address.

@@ -2,7 +2,6 @@
 
 ghost use Rattle.std.specs.Prelude.{◌≡◌, ◌++◌, ℕ, List, IfOk, OnOk, map, if◌then◌else◌};
 ghost use Rattle.std.specs.List.{All};
-ghost use Rattle.tls_symbols.specs.Bindings.{is_tls_place};
 ghost use Rattle.tls_symbols.specs.Definitions.{IsWithin};
 ghost use Rattle.dynamic_symbols.specs.Names.{name_of};
 ghost use Rattle.image_file.specs.declared.symbol.SymbolType.TheVariants as type_in_image;
@@ -12,13 +11,13 @@ ghost use Rattle.link_tables.specs.Faults.{names_in, symbols_in};
 ghost use Rattle.link_needs.specs.Linking.{address, offset};
 
 use crate::tables::Tables;
-use elf_object::{Object, SectionClass, SymbolPlace};
 use got_pairs::Need;
 use image_file::{ImageSymbol, SymbolBinding, SymbolType, Visibility};
 use image_writer::NamedSymbol;
 use link_faults::SymbolRef;
 use link_needs::Inputs;
 use std::alloc::{AllocError, Global};
+use tls_symbols::is_tls_place;
 
 /// The name of the run time's function.
 const GET_ADDRESS: &[u8] = b"__tls_get_addr";
@@ -71,20 +70,6 @@ fn foreign(kind: SymbolType) -> ImageSymbol
         is_defined: false,
         value: 0,
         size: 0,
-    }
-}
-
-/// Whether a symbol with this place is thread-local.
-#[tactic(auto, using(tls_symbols::proofs::Sections::past_class))]
-fn is_tls_place(object: &Object, place: SymbolPlace) -> bool
-    ensures { result ≡ is_tls_place object.now place }
-{
-    match place {
-        SymbolPlace::InSection(section) => match object.section(section) {
-            Some(part) => matches!(part.class, Some(SectionClass::Tls { .. })),
-            None => false,
-        },
-        _ => false,
     }
 }
 

@@ -5,10 +5,8 @@ ghost use Rattle.std.specs.Prelude.{if◌then◌else◌, slice_get};
 ghost use Rattle.std.specs.Option.{option_or};
 ghost use Rattle.std.specs.Str.{bytes_eq};
 ghost use Rattle.loaded_modules.specs.Exported.{found, shared_at};
-ghost use Rattle.loaded_modules.specs.Images.{is_late};
 ghost use Rattle.loaded_modules.specs.Loader.{export_here, export_in, is_shared, shared_from, shared_offset};
 
-use crate::infos::is_late;
 use image_file::{Image, ImageSymbol, SymbolType, Visibility};
 use link_faults::ImageKind;
 use std::alloc::{AllocError, Global};
@@ -112,7 +110,7 @@ impl<'a> Exports<'a> {
         ensures { OnOk result ((q : List ℕ) → found self.new.by_name q ≡ option_or (found self.old.by_name q)
             (export_here q number kind image.now)) }
     {
-        if is_late(kind) {
+        if kind.is_late() {
             return Ok(());
         }
         self.add_image(number, image)

@@ -2,20 +2,13 @@
 
 ghost use Rattle.std.specs.Prelude.{◌≡◌, ◌≤◌, ◌+◌, ◌^◌, ◌∷◌, All, IfOk, IfSome, length};
 ghost use Rattle.module_table.specs.Modules.{AreInfos, IsInfo};
-ghost use Rattle.loaded_modules.specs.Images.{info_of, infos_of, is_late};
+ghost use Rattle.loaded_modules.specs.Images.{info_of, infos_of};
 ghost use Rattle.loaded_modules.specs.Ends.{ends_behind, end_behind, IsTls};
 
 use image_file::{Image, TlsPart, image_is_spelled};
 use link_faults::ImageKind;
 use module_table::ImageInfo;
 use std::alloc::{AllocError, Global};
-
-/// Whether an image is late, so that a thread opens it; else it starts with the program.
-pub(crate) fn is_late(kind: ImageKind) -> bool
-    ensures { result ≡ is_late kind }
-{
-    matches!(kind, ImageKind::Late)
-}
 
 /// The TLS segment of an image, with what every image ensures of it.
 pub(crate) fn tls_of(image: &Image) -> Option<TlsPart>
@@ -36,7 +29,7 @@ fn info_of(kind: ImageKind, image: &Image) -> ImageInfo
         None => (0, 1),
     };
     ImageInfo {
-        late: is_late(kind),
+        late: kind.is_late(),
         statics: image.is_flagged(),
         size,
         align,

@@ -2,24 +2,24 @@
 
 ghost use Rattle.std.specs.Prelude.{◌≡◌, ◌^◌, ◌<◌, ◌≤◌, IfSome};
 ghost use Rattle.std.specs.List.{list_any};
-ghost use Rattle.job_text.specs.LateImages.{is_late};
 ghost use Rattle.elf_object.specs.Lent.{section_class};
 ghost use Rattle.link_needs.specs.Linking.{layout};
 ghost use Rattle.module_table.specs.Modules.{IsInfo};
 ghost use Rattle.sequence_forms.specs.declared.places.Site.{Site};
 ghost use Rattle.tls_layout.specs.Sections.{is_class};
 ghost use Rattle.tls_layout.specs.Places.{executable};
-ghost use Rattle.tls_symbols.specs.Bindings.{is_tls_class, is_tls_place};
+ghost use Rattle.tls_symbols.specs.Bindings.{is_tls_class};
 ghost use Rattle.tls_symbols.specs.Definitions.{IsWithin};
 ghost use Rattle.whole_meaning.specs.Bytes.{below, function_at, function_of, variable_at, variable_of};
 ghost use Rattle.whole_meaning.specs.Loads.{info_of, is_initial, wants_surplus};
 ghost use Rattle.whole_meaning.specs.Spots.{in_room};
 
 use elf_object::{Object, SectionClass, SymbolPlace};
-use link_faults::{ImageKind, SymbolRef};
+use link_faults::SymbolRef;
 use link_needs::Inputs;
 use module_table::ImageInfo;
 use sequence_match::{Form, Site};
+use tls_symbols::is_tls_place;
 
 /// The size of an instance's address range.
 const SPAN: u64 = 1 << 26;
@@ -48,18 +48,6 @@ pub(crate) fn is_code(object: &Object, section: u32) -> bool
     ensures { result ≡ is_class SectionClass.Executable (section_class object.now section) }
 {
     matches!(class_of(object, section), Some(SectionClass::Executable))
-}
-
-/// Whether a symbol with this place is thread-local.
-fn is_variable(object: &Object, place: SymbolPlace) -> bool
-    ensures { result ≡ is_tls_place object.now place }
-{
-    match place {
-        SymbolPlace::InSection(section) => {
-            matches!(class_of(object, section), Some(SectionClass::Tls { .. }))
-        }
-        _ => false,
-    }
 }
 
 /// The end of an image's code, before the image is moved.
@@ -93,7 +81,7 @@ fn variable_at(inputs: &Inputs, found: SymbolRef) -> Option<u64>
 {
     let object = inputs.object(found.object as usize);
     let part = object.symbol(found.symbol)?;
-    if is_variable(object, part.place) {
+    if is_tls_place(object, part.place) {
         return Some(inputs.offset(found));
     }
     None
@@ -143,13 +131,6 @@ fn wants_surplus(inputs: &Inputs) -> bool
     inputs.kind.is_module() && any_initial(inputs.sites)
 }
 
-/// Whether an image is loaded by an open; the others start with the program.
-fn is_late(kind: ImageKind) -> bool
-    ensures { result ≡ is_late kind }
-{
-    matches!(kind, ImageKind::Late)
-}
-
 /// When an image is loaded, and its TLS segment.
 #[tactic(auto, unfolding(whole_meaning::specs::Loads::info_of))]
 pub fn info(inputs: &Inputs) -> ImageInfo
@@ -157,7 +138,7 @@ pub fn info(inputs: &Inputs) -> ImageInfo
     ensures kept { IsInfo result }
 {
     ImageInfo {
-        late: is_late(inputs.kind),
+        late: inputs.kind.is_late(),
         statics: wants_surplus(inputs),
         size: inputs.placement.tls_size(),
         align: inputs.placement.tls_alignment(),

@@ -70,4 +70,5 @@ pub use exporting::exports;
 pub use imports::{Imports, imports_of};
 pub use numbers::symbol_total;
 pub use place::Place;
+pub use tls_place::is_tls_place;
 pub use uses::{Question, Use, Uses, first_use};
