@@ -11,9 +11,9 @@ use std::marker::Model;
 /// see a list of [`Byte`].
 #[derive(Drop)]
 pub struct MarkedBytes {
-    /// Each byte's value, where it is one.
+    /// The value of each byte that is one.
     values: Vec<u8>,
-    /// The number of each byte's mark, from 1; 0 where it is a value. Behind the end all are values.
+    /// The number of each byte's mark, from 1; 0 for a value. All bytes after the last one here are values.
     slots: Vec<u32>,
     /// The bytes that are no values, or were none once.
     marks: Vec<Byte>,
@@ -33,7 +33,7 @@ impl Model for MarkedBytes {
     ghost invariant = { IsKept };
 }
 
-/// The number of a byte's mark, from 1; 0 where it is a value.
+/// The number of a byte's mark, from 1; 0 for a value.
 fn slot_at(slots: &[u32], index: usize) -> u32
     ensures { result ≡ slice_index_or slots.now index 0 }
 {
@@ -106,7 +106,7 @@ fn add_mark(marks: &mut Vec<Byte>, byte: Byte) -> u32
     number
 }
 
-/// Gives each of so many bytes a number, where there is room for them.
+/// Gives each of the first `count` bytes a number, if there is room for them.
 fn widen(slots: &mut Vec<u32>, count: usize)
     requires room { count ≤ vec_capacity slots.old }
     requires kept { vec_len slots.old ≡ length slots.old.items }
@@ -134,7 +134,7 @@ impl MarkedBytes {
         }
     }
 
-    /// These values. More than 2^32 are said to want memory.
+    /// Keeps these values. Fails only when memory runs out; 2^32 values and more count as that.
     pub fn of(alloc: Global, values: Vec<u8>) -> Result<MarkedBytes, AllocError>
         ensures { IfOk result (λ bytes. bytes ≡ map Byte.Value values.items) }
     {
@@ -213,7 +213,7 @@ impl MarkedBytes {
         Ok(bytes)
     }
 
-    /// The same bytes once more.
+    /// Copies the bytes.
     pub fn copy(&self, alloc: Global) -> Result<MarkedBytes, AllocError>
         ensures { IfOk result (λ bytes. bytes ≡ self.now) }
     {
