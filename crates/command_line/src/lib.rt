@@ -8,7 +8,7 @@
 //! |---|---|
 //! | `run JOB [--no-relax]` | link the images of the job in the file JOB, and run its threads |
 //! | `race JOB [--no-relax]` | the same, each thread in a thread of its own |
-//! | `link JOB IMAGE OUT [--no-relax]` | link the images, put the one named IMAGE to the file OUT, and say how long it is |
+//! | `link JOB IMAGE OUT [--no-relax]` | link the images, write the one named IMAGE to the file OUT, print its length |
 //! | `sites JOB IMAGE` | print the code sequences of the image named IMAGE, and what stands in the place of each |
 //! | `show FILE` | print what the image in the file FILE says |
 //! | `check JOB` | print whether the job is clean, or its first step that uses what only a linker can know |

@@ -119,7 +119,7 @@ relocations_few b object t =
 pub class_in_table : (b : List ℕ) (s : ℕ) → is_none (section_class b s) ≡ false → IsSection b s
 class_in_table b s h = (kept_is b s h).0.0
 
--- so has one of the writable class
+-- a section of the writable class has a section number
 pub writable_in_table : (b : List ℕ) (s : ℕ) → IsWritable b s → IsSection b s
 writable_in_table b s writable = class_in_table b s (some_of (section_class b s) writable)
   where

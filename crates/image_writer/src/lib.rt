@@ -22,8 +22,8 @@
 //! For example, a module that defines one symbol, `x`, thread-local at offset 8, has these tables at address 0x1000,
 //!
 //! ```text
-//! 1000  04 60 10 · 05 a8 10 · 06 78 10 · 0a 03 · 0b 18 · 00 00    HASH STRTAB SYMTAB STRSZ SYMENT NULL, in 16 bytes each
-//! 1060  01 00 00 00  02 00 00 00  01 00 00 00  00 00 00 00  00 00 00 00       one bucket, two symbols: symbol 1, its end
+//! 1000  04 60 10 · 05 a8 10 · 06 78 10 · 0a 03 · 0b 18 · 00 00    HASH STRTAB SYMTAB STRSZ SYMENT NULL, 16 bytes each
+//! 1060  01 00 00 00  02 00 00 00  01 00 00 00  00 00 00 00  00 00 00 00       one bucket, two symbols: symbol 1, end
 //! 1074  00 00 00 00                                                           up to a multiple of 8
 //! 1078  24 zeros                                                              symbol 0
 //! 1090  01 00 00 00  16 00  01 00  08 00 .. 00  04 00 .. 00                   GLOBAL, TLS, defined, at 8, of 4 bytes

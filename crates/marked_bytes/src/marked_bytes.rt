@@ -13,7 +13,7 @@ use std::marker::Model;
 /// space of 53 bytes is reserved for each. Contracts see a list of [`Byte`].
 #[derive(Drop)]
 pub struct MarkedBytes {
-    /// Each byte's value, where it is one.
+    /// The value of each byte that is one.
     values: Vec<u8>,
     /// The number of each byte's mark, from 1; 0 where it is a value. Empty until a byte is no value.
     slots: Vec<u32>,
@@ -35,7 +35,7 @@ impl Model for MarkedBytes {
     ghost invariant = { IsKept };
 }
 
-/// The number of a byte's mark, from 1; 0 where it is a value.
+/// The number of a byte's mark, from 1; 0 for a value.
 fn slot_at(slots: &[u32], index: usize) -> u32
     ensures { result ≡ slice_index_or slots.now index 0 }
 {
@@ -136,7 +136,7 @@ impl MarkedBytes {
         }
     }
 
-    /// These values.
+    /// Keeps these values.
     pub fn of(alloc: Global, values: Vec<u8>) -> Result<MarkedBytes, AllocError>
         requires few { length values.items < 2 ^ 32 }
         ensures { IfOk result (λ bytes. bytes ≡ map Byte.Value values.items) }

@@ -4,8 +4,10 @@
 //!
 //! ```text
 //! let sections = [
-//!     Section::code(b"\x64\x8b\x04\x25\0\0\0\0\xc3").with(&[rela(4, R_X86_64_TPOFF32, 2, 0)]),    section 1, relocations in 2
-//!     Section::variables(b"\x2a\0\0\0"),                                                          section 3
+//!     // section 1, and its relocations in section 2
+//!     Section::code(b"\x64\x8b\x04\x25\0\0\0\0\xc3").with(&[rela(4, R_X86_64_TPOFF32, 2, 0)]),
+//!     // section 3
+//!     Section::variables(b"\x2a\0\0\0"),
 //! ];
 //! let symbols = [Symbol::global(b"f", STT_FUNC, 1, 0, 9), Symbol::global(b"x", STT_TLS, 3, 0, 4)];
 //! let bytes = object_of(alloc, &sections, &symbols)?;

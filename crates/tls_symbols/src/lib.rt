@@ -1,10 +1,10 @@
 //! What names stand for.
 //!
-//! A relocation names a symbol, and a symbol that is not LOCAL is only a name. Code of one object reads `x`, and
-//! another object defines it, or another image that a program loads. For each name that is used a linker has to find
-//! the one thing that it stands for, and to report a name that stands for nothing or for two things. This crate does
-//! that for one image (gABI, "Symbol Table"; Drepper, "ELF Handling For Thread-Local Storage", section 4, for what may
-//! be in another image).
+//! A relocation names a symbol, and a symbol that is not LOCAL is only a name. Code of one object reads `x`; another
+//! object defines it, or another image does that the program loads. For each name that is used a linker has to find the
+//! one thing that it stands for, and to report a name that stands for nothing or for two things. This crate does that
+//! for one image (gABI, "Symbol Table"; Drepper, "ELF Handling For Thread-Local Storage", section 4, for what may be in
+//! another image).
 //!
 //! The rule of names, in the order in which it is asked:
 //!
