@@ -32,7 +32,7 @@
 //! is bound to, and which definition a name or a symbol has in the image. What a symbol is bound to depends on whether
 //! it may be another image's variable ([`Imports`]), and on nothing else in a relocation.
 //!
-//! [`Uses`] is the one walk over the relocations of all objects, by object, section and entry. It goes by the sections
+//! [`Uses`] is an iterator over the relocations of all objects, by object, section and entry. It goes by the sections
 //! that hold relocations, which is the order of faults, or by the sections that they apply to. [`first_use`] finds the
 //! first relocation that a [`Question`] is about.
 //!

@@ -1,5 +1,5 @@
 //! An iterator over the relocations of all objects, and the first that a question is about. No other function loops
-//! over them.
+//! over them to look for one.
 
 ghost use Rattle.std.specs.Prelude.{◌≡◌, ℕ, MatchBool, MatchOption, []};
 ghost use Rattle.std.specs.Iterator.{YieldsFirst, item_count};
