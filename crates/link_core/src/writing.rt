@@ -143,6 +143,7 @@ fn write_section(plan: &Plan, from: u64, own: PlacedSection, bytes: &mut [u8])
         (relocations (object_at plan.now.objects own.object) own.section) }
     ensures filled { length bytes.new ≡ length bytes.old }
 {
+    // Not over `Uses`: a thread passes over sections of other parts, and reads none of their relocations.
     for relocation in plan.inputs.object(own.object).relocs(own.section) {
         write_field(plan, from, own, &relocation, bytes);
     }

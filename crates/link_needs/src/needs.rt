@@ -338,6 +338,7 @@ fn found_fields(alloc: Global, object: &Object, section: u32) -> Result<Vec<Relo
         fields.items ≡ filter (λ (r : Relocation). is_address_kind r.kind) (relocations object.now section)) }
     ensures lawful { All (IsLawful object.now section) (relocations object.now section) }
 {
+    // Not over `Uses`: fields are sorted section by section, and those of one alone are in memory.
     object
         .relocs(section)
         .filter(|relocation| relocation.kind.reaches_address())
