@@ -332,13 +332,12 @@ impl<'l, 's, 'a> Inputs<'l, 's, 'a> {
     }
 }
 
-/// The address fields of a section, in the order of the file.
+/// The address fields of a section, in the order of the file. Not over `Uses`: those of one section alone are kept.
 fn found_fields(alloc: Global, object: &Object, section: u32) -> Result<Vec<Relocation>, AllocError>
     ensures fields { IfOk result (λ fields.
         fields.items ≡ filter (λ (r : Relocation). is_address_kind r.kind) (relocations object.now section)) }
     ensures lawful { All (IsLawful object.now section) (relocations object.now section) }
 {
-    // Not over `Uses`: fields are sorted section by section, and those of one alone are in memory.
     object
         .relocs(section)
         .filter(|relocation| relocation.kind.reaches_address())
