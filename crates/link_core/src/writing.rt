@@ -134,7 +134,7 @@ fn write_field(
     }
 }
 
-/// Writes the fields of a section's relocations.
+/// Writes the fields of a section's relocations. Not over `Uses`: a thread reads none of the sections of other parts.
 fn write_section(plan: &Plan, from: u64, own: PlacedSection, bytes: &mut [u8])
     requires object { own.object < length plan.now.objects }
     requires address { address_of (layout plan.now) own.object own.section ≡ Some own.address }

@@ -1,5 +1,5 @@
 -- What may be asked of an image's relocations.
-use Rattle.std.proofs.Common.{◌≡◌, ◌<◌, ℕ, List, length, sym, subst}
+use Rattle.std.proofs.Common.{◌<◌, ℕ, List, length, sym, subst}
 use Rattle.tls_symbols.specs.Bindings.{object_at}
 use Rattle.tls_symbols.specs.Faults.{MayAsk, NamesWithin}
 use Rattle.link_needs.specs.declared.charge.Charge.{Charge}

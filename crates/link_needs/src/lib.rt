@@ -35,9 +35,9 @@
 //!
 //! **Refusals.** Objects may have no fault, and all of their names may be bound, and still no image can be made of
 //! them. Code that holds a variable's distance from the thread pointer (local exec) works in a program, whose block has
-//! the same distance in every thread, and not in a module. An address in 32 bits does not work where the loader moves the image.
-//! Code that asks for the block of its own image asks for nothing if the image has no thread-local storage. A linker
-//! that accepted these would make an image that reads another's memory (`specs/Refusals`):
+//! the same distance in every thread, and not in a module. An address in 32 bits does not work where the loader moves
+//! the image. Code that asks for the block of its own image asks for nothing if the image has no thread-local storage.
+//! A linker that accepted these would make an image that reads another's memory (`specs/Refusals`):
 //!
 //! ```text
 //! TPOFF32                 LocalExecInModule in a module, loaded with the program or opened by a thread

@@ -332,7 +332,7 @@ impl<'l, 's, 'a> Inputs<'l, 's, 'a> {
     }
 }
 
-/// The address fields of a section, in the order of the file.
+/// The address fields of a section, in the order of the file. Not over `Uses`: those of one section alone are kept.
 fn found_fields(alloc: Global, object: &Object, section: u32) -> Result<Vec<Relocation>, AllocError>
     ensures fields { IfOk result (λ fields.
         fields.items ≡ filter (λ (r : Relocation). is_address_kind r.kind) (relocations object.now section)) }

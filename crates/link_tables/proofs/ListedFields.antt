@@ -16,7 +16,6 @@ use Rattle.image_file.specs.declared.relocation.ImageRelocation.{ImageRelocation
 use Rattle.tls_symbols.specs.declared.uses.Use.{Use}
 use Rattle.tls_symbols.specs.Walks.{section_uses}
 use Rattle.tls_symbols.proofs.SectionUses.{made, made_of_all}
-use Rattle.tls_symbols.specs.Bindings.{object_at}
 use Rattle.link_needs.specs.Linking.{Linking, object}
 use Rattle.link_tables.specs.Dynamic.{field_relocations, is_absolute, object_relocations, object_relocations_from}
 use Rattle.link_needs.specs.Given.{IsGiven}
