@@ -11,6 +11,10 @@ abbrev pub shown_byte : ℕ → List ℕ
 shown_byte byte =
     if nat_le 32 byte && nat_le byte 126 then byte ∷ [] else 92 ∷ 120 ∷ digit (byte / 16) ∷ digit (byte % 16) ∷ []
 
+-- two dots, if there are more than 80 bytes
+abbrev pub dots : List ℕ → List ℕ
+dots bytes = if nat_lt 80 (length bytes) then codes ".." else []
+
 -- the first 80 bytes, and two dots in place of the others
 unfoldable pub printable : List ℕ → List ℕ
-printable bytes = flat_map shown_byte (take 80 bytes) ++ (if nat_lt 80 (length bytes) then codes ".." else [])
+printable bytes = flat_map shown_byte (take 80 bytes) ++ dots bytes

@@ -1,7 +1,7 @@
 //! Names as a terminal may show them.
-ghost use Rattle.std.specs.Prelude.{◌≡◌, ◌<◌, ◌++◌, OnOk};
+ghost use Rattle.std.specs.Prelude.{◌≡◌, ◌<◌, ◌++◌, OnOk, take};
 ghost use Rattle.std.specs.List.{flat_map};
-ghost use Rattle.terminal_notes.specs.Printable.{digit, shown_byte, printable};
+ghost use Rattle.terminal_notes.specs.Printable.{digit, shown_byte, dots, printable};
 
 use std::alloc::AllocError;
 
@@ -39,14 +39,32 @@ fn append_bytes(into: &mut Vec<u8>, bytes: &[u8]) -> Result<(), AllocError>
     Ok(())
 }
 
+/// The first `count` bytes, or all if there are fewer.
+fn front(bytes: &[u8], count: usize) -> &[u8]
+    ensures { result.now ≡ take count bytes.now }
+{
+    if count < bytes.len() {
+        &bytes[..count]
+    } else {
+        bytes
+    }
+}
+
+fn append_dots(into: &mut Vec<u8>, name: &[u8]) -> Result<(), AllocError>
+    ensures { OnOk result (into.new.items ≡ into.old.items ++ dots name.now) }
+{
+    if LIMIT < name.len() {
+        into.extend_from_slice(b"..")
+    } else {
+        Ok(())
+    }
+}
+
 /// Appends the first 80 bytes of a name, those outside 0x20 to 0x7e in hexadecimal, and two dots if there are more.
 #[tactic(auto, unfolding(crate::specs::Printable::printable))]
 pub fn append_printable(into: &mut Vec<u8>, name: &[u8]) -> Result<(), AllocError>
     ensures { OnOk result (into.new.items ≡ into.old.items ++ printable name.now) }
 {
-    if name.len() <= LIMIT {
-        return append_bytes(into, name);
-    }
-    append_bytes(into, &name[..LIMIT])?;
-    into.extend_from_slice(b"..")
+    append_bytes(into, front(name, LIMIT))?;
+    append_dots(into, name)
 }

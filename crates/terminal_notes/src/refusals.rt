@@ -74,7 +74,8 @@ fn line_of(alloc: Global, refusal: &ObjectRefusal) -> Result<String, AllocError>
     let section = refusal.section;
     let entry = refusal.entry;
     let kind = refusal.kind;
-    format!(in alloc; "object {name} section {section} entry {entry} {kind}\n")
+    let line = format!(in alloc; "object {name} section {section} entry {entry} {kind}\n")?;
+    Ok(line)
 }
 
 /// The refusal of an object that this line says. `None` if it says none, or if memory runs out.

@@ -11,7 +11,7 @@ use command_replies::say_no_memory;
 use commands::tlsld;
 use ports::{HostSink, HostStore, ProgressStore};
 use std::alloc::Global;
-use std::io::{ErrorKind, IsTerminal, Write};
+use std::io::{ErrorKind, IsTerminal};
 use std::process::ExitCode;
 use std::rt::Env;
 use std::{env, io};
