@@ -6,4 +6,4 @@ mod streams;
 
 pub use progress::ProgressStore;
 pub use sink::HostSink;
-pub use store::{HostStore, LARGEST_FILE};
+pub use store::{HostFault, HostStore, LARGEST_FILE};

@@ -45,7 +45,7 @@ mod stores;
 
 pub use faults::{FetchFault, PutFault};
 pub use fetching::fetch_each;
-pub use host::{HostSink, HostStore, LARGEST_FILE, ProgressStore};
+pub use host::{HostFault, HostSink, HostStore, LARGEST_FILE, ProgressStore};
 pub use memory::{MemorySink, MemoryStore};
 pub use sinks::Sink;
 pub use stores::Store;

@@ -2,7 +2,9 @@
 //!
 //! It passes all three to [`commands::tlsld`], whose contract says what happens.
 //!
-//! On a terminal, a long fetch of files shows its progress on standard error (`ports::ProgressStore`).
+//! If standard error is a terminal, a long fetch of files shows its progress there (`ports::ProgressStore`), and once
+//! the command has ended, a refusal is explained in one line more (`terminal_notes`). Neither changes the status or
+//! standard output.
 #![tactic(auto)]
 
 use command_replies::say_no_memory;
@@ -13,6 +15,7 @@ use std::io::{ErrorKind, IsTerminal};
 use std::process::ExitCode;
 use std::rt::Env;
 use std::{env, io};
+use terminal_notes::{KeptSink, note_of};
 
 /// The largest request for memory that freed memory may serve, in bytes.
 const LARGEST_KEPT: usize = 1 << 21;
@@ -34,7 +37,7 @@ fn words_of(rt: &(impl Env + AllocGlobal)) -> io::Result<Vec<String>> {
 
 fn main(rt: HostRuntime) -> ExitCode {
     keep_freed(rt.alloc());
-    let mut out = HostSink::new(io::writer(&rt));
+    let mut out = KeptSink::new(rt.alloc(), HostSink::new(io::writer(&rt)));
     let words = match words_of(&rt) {
         Ok(words) => words,
         Err(error) if error.kind() == ErrorKind::OutOfMemory => {
@@ -44,7 +47,13 @@ fn main(rt: HostRuntime) -> ExitCode {
         Err(_) => Vec::new(rt.alloc()),
     };
     let files = HostStore::new(&rt, rt.alloc());
-    let mut store = ProgressStore::new(files, &rt, rt.stderr().is_terminal());
+    let is_shown = rt.stderr().is_terminal();
+    let mut store = ProgressStore::new(files, &rt, is_shown);
     let status = tlsld(&rt, rt.alloc(), words.as_slice(), &mut store, &mut out);
+    if is_shown {
+        if let Some(note) = note_of(rt.alloc(), status, out.last(), store.inner()) {
+            let _ = rt.stderr().write_all(note.as_slice());
+        }
+    }
     ExitCode::from(status)
 }

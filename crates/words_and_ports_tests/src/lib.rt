@@ -14,6 +14,8 @@ mod files;
 #[cfg(test)]
 mod many_files;
 #[cfg(test)]
+mod notes;
+#[cfg(test)]
 mod progress;
 #[cfg(test)]
 mod words;

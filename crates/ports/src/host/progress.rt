@@ -94,6 +94,13 @@ impl<'a, S: Store + Drop, R: Clock + Eprint + Sync> ProgressStore<'a, S, R> {
             progress: Progress::new(rt, is_shown),
         }
     }
+
+    /// The store within.
+    pub fn inner(&self) -> &S
+        ensures { result.now ≡ self.now }
+    {
+        &self.store
+    }
 }
 
 impl<'a, S: Store + Drop, R: Clock + Eprint + Sync> Store for ProgressStore<'a, S, R> {

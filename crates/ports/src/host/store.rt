@@ -1,14 +1,14 @@
 //! The host's file system as a store.
 ghost use Rattle.std.specs.Prelude.{◌≡◌, ◌+◌, ◌++◌, ◌≤◌, length, take};
 ghost use Rattle.std.specs.Prelude.{IsErr, OnOk, OnErr, IfOk, IfSome, MatchOption};
-ghost use Rattle.ports.specs.Counts.{FetchCounts, PutCounts};
+ghost use Rattle.ports.specs.Counts.{counted, Counted, FetchCounts, PutCounts, faults_after_fetch, faults_after_put};
 ghost use Rattle.ports.specs.Files.{file_at, with_file, with_name, IsFile};
 
-use super::streams::{read_all, write_all};
+use super::streams::{read_all, too_large, write_all};
 use crate::{FetchFault, PutFault, Store};
 use std::alloc::Global;
 use std::fs::{File, OpenFile};
-use std::io::ErrorKind;
+use std::io::{ErrorKind, Read};
 use std::marker::Model;
 use std::rt::Files;
 use std::{fs, io};
@@ -18,6 +18,47 @@ pub const LARGEST_FILE: usize = 1 << 28;
 
 /// How many names a put tries for its new file.
 const NAMES: u32 = 100;
+
+/// A call that failed: the name that it was given, and what the host said.
+#[derive(Drop)]
+pub struct HostFault {
+    pub name: String,
+    pub error: io::Error,
+}
+
+/// A fault, if the host says why and there is memory for the name.
+fn fault_of(alloc: Global, name: &str, error: Option<io::Error>) -> Option<HostFault> {
+    let error = error?;
+    let name = String::from_str(alloc, name).ok()?;
+    Some(HostFault { name, error })
+}
+
+/// How often a store has failed, and its last fault.
+#[derive(Drop)]
+struct HostFaults {
+    count: u64,
+    last: Option<HostFault>,
+}
+
+impl HostFaults {
+    fn new() -> Self
+        ensures { result.count ≡ 0 }
+    {
+        HostFaults {
+            count: 0,
+            last: None,
+        }
+    }
+
+    /// Counts a fault, up to the greatest value of the count, and remembers it.
+    fn add(&mut self, alloc: Global, name: &str, error: Option<io::Error>)
+        ensures after { self.new.count ≡ counted self.old.count }
+        ensures rose { Counted self.old.count self.new.count }
+    {
+        self.count = self.count.saturating_add(1);
+        self.last = fault_of(alloc, name, error);
+    }
+}
 
 /// The files of the host, by path. Clauses say nothing of its files and names; a contract sees the store as
 /// the count of its faults.
@@ -32,11 +73,13 @@ const NAMES: u32 = 100;
 /// and the new one is removed. A put does not wait for the disk: it promises nothing for a loss of power. Only if
 /// the path is not a plain file but, say, a device, a pipe or a link, are the bytes written to it in place; a
 /// refused put may then leave a part.
+///
+/// The store remembers its last fault, for a person to read; no clause speaks of it.
 #[derive(Drop)]
 pub struct HostStore<'a, R: Files + Sync> {
     rt: &'a R,
     alloc: Global,
-    faults: u64,
+    faults: HostFaults,
 }
 
 impl<'a, R: Files + Sync> Model for HostStore<'a, R> {
@@ -44,7 +87,7 @@ impl<'a, R: Files + Sync> Model for HostStore<'a, R> {
 
     ghost Value = { ℕ };
 
-    ghost view = { λ a. a.faults };
+    ghost view = { λ a. a.faults.count };
 }
 
 impl<'a, R: Files + Sync> HostStore<'a, R> {
@@ -55,7 +98,7 @@ impl<'a, R: Files + Sync> HostStore<'a, R> {
         HostStore {
             rt,
             alloc,
-            faults: 0,
+            faults: HostFaults::new(),
         }
     }
 
@@ -63,7 +106,23 @@ impl<'a, R: Files + Sync> HostStore<'a, R> {
     pub fn faults(&self) -> u64
         ensures { result ≡ self.now }
     {
-        self.faults
+        self.faults.count
+    }
+
+    /// The last fault, unless there was no memory to remember it or the host does not say why it failed.
+    pub fn last_fault(&self) -> Option<&HostFault> {
+        self.faults.last.as_ref()
+    }
+
+    /// Reads a file once more, to show what a refusal is about. Only a plain file is opened, since a pipe may wait for
+    /// a writer that has gone.
+    pub fn read_again(&self, alloc: Global, name: &str) -> io::Result<Vec<u8>> {
+        if !fs::metadata(self.rt, name)?.is_file() {
+            return Err(io::Error::from(ErrorKind::InvalidInput));
+        }
+        let mut file = Vec::new(alloc);
+        read_file(self.rt, name, &mut file)?;
+        Ok(file)
     }
 }
 
@@ -86,13 +145,18 @@ impl<'a, R: Files + Sync> Store for HostStore<'a, R> {
         ensures asked { untold_names ≡ with_name name.now untold_names }
 
         ensures fits { OnOk result (length into.new.items ≤ length into.old.items + LARGEST_FILE) }
+        ensures count { self.new ≡ faults_after_fetch self.old result }
     {
+        let alloc = self.alloc;
         match read_file(self.rt, name, into) {
-            Err(FetchFault::Failed) => {
-                self.faults = self.faults.saturating_add(1);
-                Err(FetchFault::Failed)
+            Ok(()) => Ok(()),
+            Err(error) => {
+                let fault = FetchFault::from(error);
+                if let FetchFault::Failed = fault {
+                    self.faults.add(alloc, name, Some(error));
+                }
+                Err(fault)
             }
-            answer => answer,
         }
     }
 
@@ -108,19 +172,23 @@ impl<'a, R: Files + Sync> Store for HostStore<'a, R> {
 
     fn count(
         &mut self,
-        _name: &str,
+        name: &str,
         read: Result<Vec<u8>, FetchFault>,
     ) -> Result<Vec<u8>, FetchFault>
         ensures files { untold_files ≡ untold_files }
-        ensures bytes { IfOk result (λ file. IsFile untold_files _name.now file.items) }
+        ensures bytes { IfOk result (λ file. IsFile untold_files name.now file.items) }
         ensures cause { FetchCounts self.old self.new result }
-        ensures asked { untold_names ≡ with_name _name.now untold_names }
+        ensures asked { untold_names ≡ with_name name.now untold_names }
         ensures same { OnOk result (result ≡ read) }
 
         ensures given { result ≡ read }
+        ensures count { self.new ≡ faults_after_fetch self.old result }
     {
         if let Err(FetchFault::Failed) = read {
-            self.faults = self.faults.saturating_add(1);
+            // Threads share `read`, so it remembers nothing: the host is asked again.
+            let alloc = self.alloc;
+            let error = try_read(self.rt, name).err();
+            self.faults.add(alloc, name, error);
         }
         read
     }
@@ -130,19 +198,25 @@ impl<'a, R: Files + Sync> Store for HostStore<'a, R> {
         ensures err { OnErr result (untold_files ≡ untold_files) }
         ensures cause { PutCounts self.old self.new result }
         ensures asked { untold_names ≡ untold_names }
+
+        ensures count { self.new ≡ faults_after_put self.old result }
     {
-        match write_file(self.rt, self.alloc, name, bytes) {
-            Err(PutFault::Failed) => {
-                self.faults = self.faults.saturating_add(1);
-                Err(PutFault::Failed)
+        let alloc = self.alloc;
+        match write_file(self.rt, alloc, name, bytes) {
+            Ok(()) => Ok(()),
+            Err(error) => {
+                let fault = PutFault::from(error);
+                if let PutFault::Failed = fault {
+                    self.faults.add(alloc, name, Some(error));
+                }
+                Err(fault)
             }
-            answer => answer,
         }
     }
 }
 
 /// Appends the file's bytes. On a refusal `into` is as before.
-fn read_file<R: Files>(rt: &R, name: &str, into: &mut Vec<u8>) -> Result<(), FetchFault>
+fn read_file<R: Files>(rt: &R, name: &str, into: &mut Vec<u8>) -> io::Result<()>
     ensures fits { OnOk result (length into.new.items ≤ length into.old.items + LARGEST_FILE) }
     ensures begins { take (length into.old.items) into.new.items ≡ into.old.items }
     ensures kept { OnErr result (into.new.items ≡ into.old.items) }
@@ -152,8 +226,26 @@ fn read_file<R: Files>(rt: &R, name: &str, into: &mut Vec<u8>) -> Result<(), Fet
     read_all(&mut file, into, expected, LARGEST_FILE)
 }
 
+/// Tries to read the file once more, for the sake of the error alone. Only a plain file is opened: a pipe may wait for
+/// a writer that has gone.
+fn try_read<R: Files>(rt: &R, name: &str) -> io::Result<()> {
+    let found = fs::metadata(rt, name)?;
+    if found.is_dir() {
+        return Err(io::Error::from(ErrorKind::IsADirectory));
+    }
+    if !found.is_file() {
+        return Ok(());
+    }
+    let mut file = fs::open(rt, name)?;
+    if found.len() > LARGEST_FILE as u64 {
+        return Err(too_large());
+    }
+    let _count = file.read(&mut [0; 1])?;
+    Ok(())
+}
+
 /// Replaces the content of the file by the bytes.
-fn write_file<R: Files>(rt: &R, alloc: Global, name: &str, bytes: &[u8]) -> Result<(), PutFault> {
+fn write_file<R: Files>(rt: &R, alloc: Global, name: &str, bytes: &[u8]) -> io::Result<()> {
     if is_special(rt, name)? {
         write_all(&mut fs::create(rt, name)?, bytes)
     } else {
@@ -171,16 +263,16 @@ fn is_special<R: Files>(rt: &R, name: &str) -> io::Result<bool> {
 }
 
 /// Writes a new file next to `name`, and then renames it to `name`.
-fn replace_file<R: Files>(rt: &R, alloc: Global, name: &str, bytes: &[u8]) -> Result<(), PutFault> {
+fn replace_file<R: Files>(rt: &R, alloc: Global, name: &str, bytes: &[u8]) -> io::Result<()> {
     for number in 0..NAMES {
         let part = format!(in alloc; "{name}.part{number}")?;
         match File::create_new(rt, part.as_str()) {
             Ok(file) => return finish_file(rt, file, part.as_str(), name, bytes),
             Err(error) if error.kind() == ErrorKind::AlreadyExists => {}
-            Err(error) => return Err(PutFault::from(error)),
+            Err(error) => return Err(error),
         }
     }
-    Err(PutFault::Failed)
+    Err(io::Error::from(ErrorKind::AlreadyExists))
 }
 
 /// Fills the new file `part` and renames it, or removes it.
@@ -190,10 +282,10 @@ fn finish_file<R: Files>(
     part: &str,
     name: &str,
     bytes: &[u8],
-) -> Result<(), PutFault> {
+) -> io::Result<()> {
     let answer = match fill_file(file, bytes) {
-        Ok(()) => fs::rename(rt, part, name).map_err(PutFault::from),
-        Err(fault) => Err(fault),
+        Ok(()) => fs::rename(rt, part, name),
+        Err(error) => Err(error),
     };
     if answer.is_err() {
         let _ = fs::remove_file(rt, part);
@@ -202,6 +294,6 @@ fn finish_file<R: Files>(
 }
 
 /// Writes the bytes to the new file, and closes it.
-fn fill_file<F: io::Write + Drop>(mut file: F, bytes: &[u8]) -> Result<(), PutFault> {
+fn fill_file<F: io::Write + Drop>(mut file: F, bytes: &[u8]) -> io::Result<()> {
     write_all(&mut file, bytes)
 }

@@ -1,10 +1,10 @@
 //! Whole streams, by single reads and writes.
 ghost use Rattle.std.specs.Prelude.{◌≡◌, [], ◌+◌, ◌++◌, ◌≤◌, length, take, ℕ, List, OnOk, OnErr, IsOk, IfOk, IfErr, IfSome};
 ghost use Rattle.std.specs.Io.{ReadsAtMost, WritesAtMost};
+ghost use Rattle.std.specs.IoError.{error_kind};
 ghost use Rattle.std.specs.Io.KnownBytes.{ReadConsumes, WriteAppends, Appends, Consumes};
 ghost use Rattle.ports.specs.Streams.{AppendsFront};
 
-use crate::{FetchFault, PutFault};
 use std::io;
 use std::io::{ErrorKind, Read, Write};
 
@@ -45,7 +45,7 @@ fn write_some<W: Write>(to: &mut W, bytes: &[u8]) -> io::Result<usize>
 }
 
 /// Appends the rest of the reader, chunk by chunk. On a refusal some of it has been appended.
-fn read_rest<R: Read>(from: &mut R, into: &mut Vec<u8>, mut room: usize) -> Result<(), FetchFault>
+fn read_rest<R: Read>(from: &mut R, into: &mut Vec<u8>, mut room: usize) -> io::Result<()>
     ensures bytes { OnOk result (IfSome (R.remaining from.old)
         (λ bytes. into.new.items ≡ into.old.items ++ bytes)) }
     ensures fits { OnOk result (length into.new.items ≤ length into.old.items + room) }
@@ -58,18 +58,25 @@ fn read_rest<R: Read>(from: &mut R, into: &mut Vec<u8>, mut room: usize) -> Resu
             return Ok(());
         }
         if count > room {
-            return Err(FetchFault::Failed);
+            return Err(too_large());
         }
         room -= count;
         append(into, &buffer[..count])?;
     }
 }
 
-/// Appends the bytes. The only fault is `OutOfMemory`.
-fn append(into: &mut Vec<u8>, bytes: &[u8]) -> Result<(), FetchFault>
+/// The error of a reader that has more bytes than there is room for.
+pub(super) fn too_large() -> io::Error
+    ensures { error_kind result ≡ ErrorKind.FileTooLarge }
+{
+    io::Error::new(ErrorKind::FileTooLarge, "the file is too large")
+}
+
+/// Appends the bytes. The only error is `OutOfMemory`.
+fn append(into: &mut Vec<u8>, bytes: &[u8]) -> io::Result<()>
     ensures ok { OnOk result (into.new.items ≡ into.old.items ++ bytes.now) }
     ensures err { OnErr result (into.new.items ≡ into.old.items) }
-    ensures cause { IfErr result (λ fault. fault ≡ FetchFault.OutOfMemory) }
+    ensures cause { IfErr result (λ error. error_kind error ≡ ErrorKind.OutOfMemory) }
 {
     Ok(into.extend_from_slice(bytes)?)
 }
@@ -98,7 +105,7 @@ fn read_front<R: Read>(
     from: &mut R,
     into: &mut Vec<u8>,
     expected: usize,
-) -> Result<usize, FetchFault>
+) -> io::Result<usize>
     ensures bytes { IfOk result (λ count. (front : List ℕ) × (length front ≡ count)
         × Consumes (R.remaining from.old) (R.remaining from.new) front
         × (into.new.items ≡ into.old.items ++ front)) }
@@ -120,14 +127,14 @@ fn read_sized<R: Read>(
     into: &mut Vec<u8>,
     expected: usize,
     room: usize,
-) -> Result<(), FetchFault>
+) -> io::Result<()>
     ensures bytes { OnOk result (IfSome (R.remaining from.old)
         (λ bytes. into.new.items ≡ into.old.items ++ bytes)) }
     ensures fits { OnOk result (length into.new.items ≤ length into.old.items + room) }
     ensures begins { take (length into.old.items) into.new.items ≡ into.old.items }
 {
     if expected > room {
-        return Err(FetchFault::Failed);
+        return Err(too_large());
     }
     let count = read_front(from, into, expected)?;
     read_rest(from, into, room - count)
@@ -140,7 +147,7 @@ pub(super) fn read_all<R: Read>(
     into: &mut Vec<u8>,
     expected: usize,
     room: usize,
-) -> Result<(), FetchFault>
+) -> io::Result<()>
     ensures bytes { OnOk result (IfSome (R.remaining from.old)
         (λ bytes. into.new.items ≡ into.old.items ++ bytes)) }
     ensures fits { OnOk result (length into.new.items ≤ length into.old.items + room) }
@@ -156,7 +163,7 @@ pub(super) fn read_all<R: Read>(
 }
 
 /// Writes all the bytes, piece by piece. A writer that takes no byte has failed.
-pub(super) fn write_all<W: Write>(to: &mut W, bytes: &[u8]) -> Result<(), PutFault>
+pub(super) fn write_all<W: Write>(to: &mut W, bytes: &[u8]) -> io::Result<()>
     ensures ok { OnOk result (Appends (W.contents to.old) (W.contents to.new) bytes.now) }
     ensures err { OnErr result (AppendsFront (W.contents to.old) (W.contents to.new) bytes.now) }
     ensures empty { bytes.now ≡ [] → IsOk result }
@@ -165,7 +172,7 @@ pub(super) fn write_all<W: Write>(to: &mut W, bytes: &[u8]) -> Result<(), PutFau
     while written < bytes.len() {
         let count = write_some(to, &bytes[written..])?;
         if count == 0 {
-            return Err(PutFault::Failed);
+            return Err(io::Error::from(ErrorKind::WriteZero));
         }
         written += count;
     }

@@ -1,0 +1,35 @@
+//! One line more for a person at a terminal: the names that a refusal gives by number, what the host said of a file,
+//! the commands.
+//!
+//! A refused command prints one line on standard output, which scripts read: `object b.o section 2 entry 0 RelocRange`,
+//! `store fault`, `usage`. A person asks which section that is and what was wrong with which file. Once the command has
+//! ended, `main` prints the answer on standard error, if that is a terminal:
+//!
+//! ```text
+//! status 6   tlsld: b.o: section .rela.text, symbol x
+//! status 3   tlsld: b.o: No such file or directory (os error 2)
+//! status 2   tlsld: commands: run JOB, race JOB, ..
+//! ```
+//!
+//! The rule that the crate keeps: **a note says what stands in the file that the refusal names, and shows no byte that
+//! moves a cursor.** [`object_refusal`] reads the line of a refusal only where it is exactly that line; the names are
+//! those at its numbers (`specs/Names`), or there is no note; and of each name [`append_printable`] shows 80 bytes, those
+//! outside 0x20 to 0x7e in hexadecimal.
+//!
+//! [`KeptSink`] keeps the line for this, and is the sink within otherwise. [`note_of`] chooses the note by the status.
+//! If memory runs out, or the file has changed or gone, there is no note, and nothing else differs.
+//!
+//! Names lie in an object as the System V ABI has it (gABI, "Object Files").
+#![tactic(auto)]
+
+mod kept_sink;
+mod names;
+mod notes;
+mod printable;
+mod refusals;
+
+pub use kept_sink::KeptSink;
+pub use names::{Part, section_name, symbol_name};
+pub use notes::{COMMANDS, file_note, note_of, object_note};
+pub use printable::append_printable;
+pub use refusals::{ObjectRefusal, object_refusal};
