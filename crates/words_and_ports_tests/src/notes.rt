@@ -58,15 +58,36 @@ fn noted(alloc: Global, line: &str) -> Result<String, Fail> {
 #[test]
 fn a_refused_object_is_shown_by_its_names(rt: HostRuntime) -> Result<(), Fail> {
     for (line, note) in [
-        ("object b.o section 2 entry 0 RelocRange\n", "tlsld: b.o: section .rela.text, symbol x\\x1b\n"),
-        ("object b.o section 2 entry 0 RelocTarget\n", "tlsld: b.o: section .rela.text\n"),
-        ("object b.o section 2 entry 1 RelocRange\n", "tlsld: b.o: section .rela.text\n"),
-        ("object b.o section 4 entry 1 SymbolRange\n", "tlsld: b.o: section .symtab, symbol f\n"),
-        ("object b.o section 3 entry 0 SectionAlign\n", "tlsld: b.o: section .tdata\n"),
+        (
+            "object b.o section 2 entry 0 RelocRange\n",
+            "tlsld: b.o: section .rela.text, symbol x\\x1b\n",
+        ),
+        (
+            "object b.o section 2 entry 0 RelocTarget\n",
+            "tlsld: b.o: section .rela.text\n",
+        ),
+        (
+            "object b.o section 2 entry 1 RelocRange\n",
+            "tlsld: b.o: section .rela.text\n",
+        ),
+        (
+            "object b.o section 4 entry 1 SymbolRange\n",
+            "tlsld: b.o: section .symtab, symbol f\n",
+        ),
+        (
+            "object b.o section 3 entry 0 SectionAlign\n",
+            "tlsld: b.o: section .tdata\n",
+        ),
         ("object b.o section 0 entry 0 NotElf\n", "no note"),
         ("object b.o section 99 entry 0 SectionAlign\n", "no note"),
-        ("object b.o section 4294967295 entry 4294967295 SymbolName\n", "no note"),
-        ("object b.o section 4294967296 entry 0 SymbolName\n", "no refusal"),
+        (
+            "object b.o section 4294967295 entry 4294967295 SymbolName\n",
+            "no note",
+        ),
+        (
+            "object b.o section 4294967296 entry 0 SymbolName\n",
+            "no refusal",
+        ),
         ("object b.o section 2 entry 0 RelocRange", "no refusal"),
         ("object b.o section 02 entry 0 RelocRange\n", "no refusal"),
         ("object b.o section 2 entry 0 Undefined\n", "no refusal"),
@@ -93,8 +114,10 @@ fn told(rt: &HostRuntime, status: u8, line: &str, name: &str) -> Result<String, 
 #[test]
 fn a_status_has_its_note(rt: HostRuntime) -> Result<(), Fail> {
     assert!(rt; told(&rt, 2, "usage\n", "none")?.as_bytes() == COMMANDS);
-    assert!(rt; told(&rt, 3, "store fault\n", "none")?.as_str()
-        == "tlsld: none: No such file or directory (os error 2)\n");
+    assert!(rt;
+        told(&rt, 3, "store fault\n", "none")?.as_str()
+            == "tlsld: none: No such file or directory (os error 2)\n"
+    );
     assert!(rt; told(&rt, 3, "store fault\n", "/")?.as_str() == "tlsld: /: is a directory\n");
     assert!(rt; told(&rt, 3, "store fault\n", "/dev/null")?.as_str() == "no note");
     let line = "object none section 2 entry 0 RelocRange\n";
