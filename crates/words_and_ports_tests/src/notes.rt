@@ -2,7 +2,7 @@
 use elf_records::relocation::R_X86_64_TPOFF32;
 use elf_records::symbol::{STT_FUNC, STT_TLS};
 use object_builder::{Section, Symbol, object_of, rela};
-use ports::{HostStore, MemorySink, Sink, fetch_each};
+use ports::{HostStore, MemorySink, Sink, Store};
 use std::alloc::{AllocError, Global};
 use std::test::Fail;
 use terminal_notes::{COMMANDS, KeptSink, append_printable, note_of, object_note, object_refusal};
@@ -60,15 +60,15 @@ fn a_refused_object_is_shown_by_its_names(rt: HostRuntime) -> Result<(), Fail> {
     for (line, note) in [
         (
             "object b.o section 2 entry 0 RelocRange\n",
-            "tlsld: b.o: section .rela.text, symbol x\\x1b\n",
+            "tlsld: b.o: section .rela, symbol x\\x1b\n",
         ),
         (
             "object b.o section 2 entry 0 RelocTarget\n",
-            "tlsld: b.o: section .rela.text\n",
+            "tlsld: b.o: section .rela\n",
         ),
         (
             "object b.o section 2 entry 1 RelocRange\n",
-            "tlsld: b.o: section .rela.text\n",
+            "tlsld: b.o: section .rela\n",
         ),
         (
             "object b.o section 4 entry 1 SymbolRange\n",
@@ -100,11 +100,12 @@ fn a_refused_object_is_shown_by_its_names(rt: HostRuntime) -> Result<(), Fail> {
     Ok(())
 }
 
-/// What is told of a command that ended with this status, after these files were asked for.
+/// What is told of a command that ended with this status, after this file was read.
 fn told(rt: &HostRuntime, status: u8, line: &str, name: &str) -> Result<String, Fail> {
     let alloc = rt.alloc();
     let mut store = HostStore::new(rt, alloc);
-    let _ = fetch_each(rt, alloc, &mut store, &[name]);
+    let read = store.read(alloc, name);
+    let _ = store.count(name, read);
     match note_of(alloc, status, line.as_bytes(), &store) {
         Some(note) => Ok(String::from_utf8(note)?),
         None => Ok(String::from_str(alloc, "no note")?),
