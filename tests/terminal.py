@@ -1,9 +1,9 @@
 #!/usr/bin/env python3
 """terminal.py TLSLD: what the program says on standard error, at a terminal and elsewhere.
 
-Each row runs one command three times: with standard error at a terminal, in a pipe, and closed. The status and standard output have
-to be the same bytes each time, and those that the row names; at a terminal one line more has to stand on standard error, or none,
-and elsewhere nothing. Prints what differs and fails, or prints the lines.
+Each row runs one command three times: with standard error at a terminal, in a pipe, and closed. The status and standard
+output have to be the same bytes each time, and those that the row names; at a terminal one line more has to stand on
+standard error, or none, and elsewhere nothing. Prints the lines, and what differs.
 """
 import os
 import pty
@@ -20,6 +20,8 @@ FAULT = "store fault\n"
 COMMANDS = ("tlsld: commands: run JOB, race JOB, link JOB IMAGE OUT, sites JOB IMAGE, show FILE, check JOB, gen N; "
             "run, race and link take --no-relax\n")
 NO_FILE = "No such file or directory (os error 2)"
+LATE = "object late.o section 2 entry 0 RelocRange\n"
+LATE_NAMES = "tlsld: late.o: section .rela.text, symbol x\n"
 
 
 def write(path, text):
@@ -99,18 +101,17 @@ ROWS = [
     (["show", "large"], 3, FAULT, "tlsld: large: the file is too large\n"),
     (["run", "large-job"], 3, FAULT, "tlsld: large: the file is too large\n"),
     (["link", "good", "app", "none/out"], 3, FAULT, f"tlsld: none/out: {NO_FILE}\n"),
-    (["run", "late"], 6, "object late.o section 2 entry 0 RelocRange\n", "tlsld: late.o: section .rela.text, symbol x\n"),
-    (["race", "late"], 6, "object late.o section 2 entry 0 RelocRange\n", "tlsld: late.o: section .rela.text, symbol x\n"),
-    (["check", "late"], 6, "object late.o section 2 entry 0 RelocRange\n", "tlsld: late.o: section .rela.text, symbol x\n"),
-    (["sites", "late", "app"], 6, "object late.o section 2 entry 0 RelocRange\n",
-     "tlsld: late.o: section .rela.text, symbol x\n"),
-    (["link", "late", "app", "out"], 6, "object late.o section 2 entry 0 RelocRange\n",
-     "tlsld: late.o: section .rela.text, symbol x\n"),
+    (["run", "late"], 6, LATE, LATE_NAMES),
+    (["race", "late"], 6, LATE, LATE_NAMES),
+    (["check", "late"], 6, LATE, LATE_NAMES),
+    (["sites", "late", "app"], 6, LATE, LATE_NAMES),
+    (["link", "late", "app", "out"], 6, LATE, LATE_NAMES),
     (["run", "escape"], 6, "object escape.o section 2 entry 0 RelocRange\n",
      "tlsld: escape.o: section .rela.t\\x0aext, symbol x\\x1b[31m\\xc3\\xa9\n"),
     (["run", "long"], 6, "object long.o section 2 entry 0 RelocRange\n",
      f"tlsld: long.o: section .rela.text.{'n' * 69}.., symbol {'s' * 80}..\n"),
-    (["run", "wide"], 6, "object wide.o section 3 entry 2 SymbolRange\n", "tlsld: wide.o: section .symtab, symbol wide\n"),
+    (["run", "wide"], 6, "object wide.o section 3 entry 2 SymbolRange\n",
+     "tlsld: wide.o: section .symtab, symbol wide\n"),
     (["run", "three"], 6, "object three.o section 1 entry 0 SectionAlign\n", "tlsld: three.o: section .text\n"),
     (["run", "text"], 6, "object text.o section 0 entry 0 Truncated\n", ""),
     (["run", "good"], 0, "t1 l1 g0 = 000000000000002a\n", ""),

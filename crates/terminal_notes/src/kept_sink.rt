@@ -10,8 +10,8 @@ use std::marker::Model;
 /// The longest piece that is kept, in bytes. The line of a refusal is shorter, unless a name is very long.
 const LONGEST: usize = 4096;
 
-/// A sink that keeps the last piece, taken or refused, if it has up to 4,096 bytes and there is memory for it. It is the
-/// sink within otherwise.
+/// A sink that keeps the last piece, taken or refused, if it has at most 4,096 bytes and there is memory for it. All
+/// else is as in the sink within.
 #[derive(Drop)]
 pub struct KeptSink<K: Sink + Drop> {
     sink: K,

@@ -12,12 +12,13 @@
 //! ```
 //!
 //! The rule that the crate keeps: **a note says what stands in the file that the refusal names, and shows no byte that
-//! moves a cursor.** [`object_refusal`] reads the line of a refusal only where it is exactly that line; the names are
-//! those at its numbers (`specs/Names`), or there is no note; and of each name [`append_printable`] shows 80 bytes, those
-//! outside 0x20 to 0x7e in hexadecimal.
+//! moves a cursor.** [`object_refusal`] takes a line only if it is exactly the line of such a refusal. The names are
+//! those at its numbers (`specs/Names`); if there is none, there is no note. Of each name [`append_printable`] shows at
+//! most 80 bytes, those outside 0x20 to 0x7e in hexadecimal.
 //!
-//! [`KeptSink`] keeps the line for this, and is the sink within otherwise. [`note_of`] chooses the note by the status.
-//! If memory runs out, or the file has changed or gone, there is no note, and nothing else differs.
+//! [`KeptSink`] keeps the line, and [`note_of`] chooses the note by the status. The object is read once more for it. If
+//! memory runs out, or the file is gone, there is no note; if the file has changed, the names are those that it has
+//! now. Nothing else differs.
 //!
 //! Names lie in an object as the System V ABI has it (gABI, "Object Files").
 #![tactic(auto)]

@@ -10,7 +10,8 @@ use std::alloc::{AllocError, Global};
 use std::rt::Files;
 
 /// The commands, for who gave words that are none.
-pub const COMMANDS: &[u8] = b"tlsld: commands: run JOB, race JOB, link JOB IMAGE OUT, sites JOB IMAGE, show FILE, \
+pub const COMMANDS: &[u8] =
+    b"tlsld: commands: run JOB, race JOB, link JOB IMAGE OUT, sites JOB IMAGE, show FILE, \
     check JOB, gen N; run, race and link take --no-relax\n";
 
 /// A file, and why the host failed to read or write it.
@@ -86,8 +87,8 @@ fn refused_note<R: Files + Sync>(
     object_note(alloc, &refusal, object.as_slice())
 }
 
-/// What a person at a terminal is told besides the line of a command that ended with this status, if there is something:
-/// the names of the section and of the symbol that the line gives by number, the file that failed, the commands.
+/// What a person at a terminal is told besides the line of a command that ended with this status: for 6 the names of
+/// the section and of the symbol that the line gives by number, for 3 the file that failed, for 2 the commands.
 pub fn note_of<R: Files + Sync>(
     alloc: Global,
     status: u8,

@@ -2,7 +2,7 @@
 use elf_records::relocation::R_X86_64_TPOFF32;
 use elf_records::symbol::{STT_FUNC, STT_TLS};
 use object_builder::{Section, Symbol, object_of, rela};
-use ports::{HostStore, MemorySink, Sink, fetch_each};
+use ports::{HostStore, MemorySink, Sink, Store};
 use std::alloc::{AllocError, Global};
 use std::test::Fail;
 use terminal_notes::{COMMANDS, KeptSink, append_printable, note_of, object_note, object_refusal};
@@ -58,15 +58,36 @@ fn noted(alloc: Global, line: &str) -> Result<String, Fail> {
 #[test]
 fn a_refused_object_is_shown_by_its_names(rt: HostRuntime) -> Result<(), Fail> {
     for (line, note) in [
-        ("object b.o section 2 entry 0 RelocRange\n", "tlsld: b.o: section .rela.text, symbol x\\x1b\n"),
-        ("object b.o section 2 entry 0 RelocTarget\n", "tlsld: b.o: section .rela.text\n"),
-        ("object b.o section 2 entry 1 RelocRange\n", "tlsld: b.o: section .rela.text\n"),
-        ("object b.o section 4 entry 1 SymbolRange\n", "tlsld: b.o: section .symtab, symbol f\n"),
-        ("object b.o section 3 entry 0 SectionAlign\n", "tlsld: b.o: section .tdata\n"),
+        (
+            "object b.o section 2 entry 0 RelocRange\n",
+            "tlsld: b.o: section .rela, symbol x\\x1b\n",
+        ),
+        (
+            "object b.o section 2 entry 0 RelocTarget\n",
+            "tlsld: b.o: section .rela\n",
+        ),
+        (
+            "object b.o section 2 entry 1 RelocRange\n",
+            "tlsld: b.o: section .rela\n",
+        ),
+        (
+            "object b.o section 4 entry 1 SymbolRange\n",
+            "tlsld: b.o: section .symtab, symbol f\n",
+        ),
+        (
+            "object b.o section 3 entry 0 SectionAlign\n",
+            "tlsld: b.o: section .tdata\n",
+        ),
         ("object b.o section 0 entry 0 NotElf\n", "no note"),
         ("object b.o section 99 entry 0 SectionAlign\n", "no note"),
-        ("object b.o section 4294967295 entry 4294967295 SymbolName\n", "no note"),
-        ("object b.o section 4294967296 entry 0 SymbolName\n", "no refusal"),
+        (
+            "object b.o section 4294967295 entry 4294967295 SymbolName\n",
+            "no note",
+        ),
+        (
+            "object b.o section 4294967296 entry 0 SymbolName\n",
+            "no refusal",
+        ),
         ("object b.o section 2 entry 0 RelocRange", "no refusal"),
         ("object b.o section 02 entry 0 RelocRange\n", "no refusal"),
         ("object b.o section 2 entry 0 Undefined\n", "no refusal"),
@@ -79,11 +100,12 @@ fn a_refused_object_is_shown_by_its_names(rt: HostRuntime) -> Result<(), Fail> {
     Ok(())
 }
 
-/// What is told of a command that ended with this status, after these files were asked for.
+/// What is told of a command that ended with this status, after this file was read.
 fn told(rt: &HostRuntime, status: u8, line: &str, name: &str) -> Result<String, Fail> {
     let alloc = rt.alloc();
     let mut store = HostStore::new(rt, alloc);
-    let _ = fetch_each(rt, alloc, &mut store, &[name]);
+    let read = store.read(alloc, name);
+    let _ = store.count(name, read);
     match note_of(alloc, status, line.as_bytes(), &store) {
         Some(note) => Ok(String::from_utf8(note)?),
         None => Ok(String::from_str(alloc, "no note")?),
@@ -93,8 +115,10 @@ fn told(rt: &HostRuntime, status: u8, line: &str, name: &str) -> Result<String, 
 #[test]
 fn a_status_has_its_note(rt: HostRuntime) -> Result<(), Fail> {
     assert!(rt; told(&rt, 2, "usage\n", "none")?.as_bytes() == COMMANDS);
-    assert!(rt; told(&rt, 3, "store fault\n", "none")?.as_str()
-        == "tlsld: none: No such file or directory (os error 2)\n");
+    assert!(rt;
+        told(&rt, 3, "store fault\n", "none")?.as_str()
+            == "tlsld: none: No such file or directory (os error 2)\n"
+    );
     assert!(rt; told(&rt, 3, "store fault\n", "/")?.as_str() == "tlsld: /: is a directory\n");
     assert!(rt; told(&rt, 3, "store fault\n", "/dev/null")?.as_str() == "no note");
     let line = "object none section 2 entry 0 RelocRange\n";

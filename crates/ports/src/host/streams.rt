@@ -101,11 +101,7 @@ fn fill<R: Read>(from: &mut R, buffer: &mut [u8]) -> io::Result<usize>
 /// Appends the next `expected` bytes of the reader, or its rest if that is shorter, and returns how many
 /// bytes that was. They are read straight into the room made for them. On a refusal some of that room may be
 /// left at the end of `into`.
-fn read_front<R: Read>(
-    from: &mut R,
-    into: &mut Vec<u8>,
-    expected: usize,
-) -> io::Result<usize>
+fn read_front<R: Read>(from: &mut R, into: &mut Vec<u8>, expected: usize) -> io::Result<usize>
     ensures bytes { IfOk result (λ count. (front : List ℕ) × (length front ≡ count)
         × Consumes (R.remaining from.old) (R.remaining from.new) front
         × (into.new.items ≡ into.old.items ++ front)) }
