@@ -5,12 +5,11 @@ ghost use Rattle.guest_arithmetic.specs.Flags.{with_changes};
 ghost use Rattle.guest_machine.specs.Step.{is_cleared, finished, concluded, settled, compute_in, compute_out, add_field, compute_plain, compute_number, compute_of, test_of, multiply_of, shift_of, all_unsettled};
 ghost use Rattle.guest_operands.specs.Use.{Does};
 
+use crate::execution::Execution;
 use crate::moves::immediate;
 use amd64_subset::{Arithmetic, Memory, Operand, Operands, Register, Shift, Width};
 use guest_arithmetic::{Change, Changes, Effect, Values, compute, product, shift, with_changes};
-use guest_operands::{
-    Frame, Slot, Space, State, Stop, charged, number_at, put, register, take_operand, used,
-};
+use guest_operands::{Frame, Slot, Space, State, Stop, charged, number_at, put, register, used};
 
 /// Whether a register is combined with itself, which gives 0 whatever it holds.
 #[tactic(auto, unfolding(crate::specs::Step::is_cleared))]
@@ -35,261 +34,203 @@ fn settle<V: Values>(changes: &Changes, frame: &Frame, state: &mut State<V::Word
     state.place = frame.next;
 }
 
-/// Writes a result, and then the flags and the next address.
-#[tactic(auto, unfolding(crate::specs::Step::finished))]
-fn finish<V: Values, S: Space<V>>(
-    width: Width,
-    slot: Slot,
-    effect: &Effect,
-    frame: &Frame,
-    state: &mut State<V::Word, V::Flag>,
-    space: &mut S,
-) -> Result<(), Stop>
-    ensures does { Does V.operations result state.old (S.memory space.old) state.new (S.memory space.new)
-        (λ ops acc s m. finished ops acc width slot effect.now frame.now s m) }
-    ensures rest { S.rest space.new ≡ S.rest space.old }
-{
-    put::<V, S>(width, slot, V::word(effect.number), state, space)?;
-    settle::<V>(&effect.changes, frame, state);
-    Ok(())
-}
-
-/// The same, except that cmp writes no result.
-#[tactic(auto, unfolding(crate::specs::Step::concluded))]
-fn conclude<V: Values, S: Space<V>>(
-    arithmetic: Arithmetic,
-    width: Width,
-    slot: Slot,
-    effect: &Effect,
-    frame: &Frame,
-    state: &mut State<V::Word, V::Flag>,
-    space: &mut S,
-) -> Result<(), Stop>
-    ensures does { Does V.operations result state.old (S.memory space.old) state.new (S.memory space.new)
-        (λ ops acc s m. concluded ops acc arithmetic width slot effect.now frame.now s m) }
-    ensures rest { S.rest space.new ≡ S.rest space.old }
-{
-    match arithmetic {
-        Arithmetic::Compare => {
-            settle::<V>(&effect.changes, frame, state);
-            Ok(())
-        }
-        _ => finish::<V, S>(width, slot, effect, frame, state, space),
+impl<V: Values, S: Space<V>> Execution<'_, V, S> {
+    /// Writes a result, and then the flags and the next address.
+    #[tactic(auto, unfolding(crate::specs::Step::finished))]
+    fn finish(self, width: Width, slot: Slot, effect: &Effect) -> Result<(), Stop>
+        ensures does { Does V.operations result self.entry.state.now (S.memory self.entry.space.now) self.exit.0.now
+            (S.memory self.exit.1.0.now)
+            (λ ops acc s m. finished ops acc width slot effect.now self.entry.frame.now s m) }
+        ensures rest { S.rest self.exit.1.0.now ≡ S.rest self.entry.space.now }
+    {
+        let Execution { state, space, .. } = self;
+        put::<V, S>(width, slot, V::word(effect.number), state, space)?;
+        settle::<V>(&effect.changes, self.frame, state);
+        Ok(())
     }
-}
 
-/// add, or, and, sub, xor, cmp into a register
-#[tactic(auto, unfolding(crate::specs::Step::compute_in))]
-fn compute_in<V: Values, S: Space<V>>(
-    arithmetic: Arithmetic,
-    width: Width,
-    frame: &Frame,
-    to: Register,
-    from: &Operand,
-    state: &mut State<V::Word, V::Flag>,
-    space: &mut S,
-) -> Result<(), Stop>
-    ensures does { Does V.operations result state.old (S.memory space.old) state.new (S.memory space.new)
-        (λ ops acc s m. compute_in ops acc arithmetic width frame.now s m to from.now) }
-    ensures rest { S.rest space.new ≡ S.rest space.old }
-{
-    if is_cleared(arithmetic, to, from) {
-        let effect = compute(arithmetic, width, 0, 0);
-        return finish::<V, S>(width, Slot::Register(to), &effect, frame, state, space);
-    }
-    let left = number_at::<V>(width, register(&state.registers, to));
-    let it = take_operand::<V, S>(width, frame, state, space, from, left)?;
-    let effect = compute(arithmetic, width, it.other, it.number);
-    conclude::<V, S>(
-        arithmetic,
-        width,
-        Slot::Register(to),
-        &effect,
-        frame,
-        state,
-        space,
-    )
-}
-
-/// The same, into a memory operand.
-#[tactic(auto, unfolding(crate::specs::Step::compute_out))]
-fn compute_out<V: Values, S: Space<V>>(
-    arithmetic: Arithmetic,
-    width: Width,
-    frame: &Frame,
-    to: &Memory,
-    from: Register,
-    state: &mut State<V::Word, V::Flag>,
-    space: &mut S,
-) -> Result<(), Stop>
-    ensures does { Does V.operations result state.old (S.memory space.old) state.new (S.memory space.new)
-        (λ ops acc s m. compute_out ops acc arithmetic width frame.now s m to.now from) }
-    ensures rest { S.rest space.new ≡ S.rest space.old }
-{
-    let right = number_at::<V>(width, register(&state.registers, from));
-    let to = Operand::InMemory(*to);
-    let it = take_operand::<V, S>(width, frame, state, space, &to, right)?;
-    let effect = compute(arithmetic, width, it.number, it.other);
-    conclude::<V, S>(arithmetic, width, it.slot, &effect, frame, state, space)
-}
-
-/// Adds an offset field to a base.
-#[tactic(auto, unfolding(crate::specs::Step::add_field))]
-fn add_field<V: Values, S: Space<V>>(
-    frame: &Frame,
-    to: Register,
-    at: u64,
-    state: &mut State<V::Word, V::Flag>,
-    space: &mut S,
-) -> Result<(), Stop>
-    ensures does { Does V.operations result state.old (S.memory space.old) state.new (S.memory space.new)
-        (λ ops acc s m. add_field ops acc frame.now s m to at) }
-    ensures rest { S.rest space.new ≡ S.rest space.old }
-{
-    let moved = V::moved(register(&state.registers, to), frame.immediate, at);
-    let number = used(state.place, charged(Some(at), moved))?;
-    let changes = Changes {
-        zero: Change::Unsettled,
-        sign: Change::Unsettled,
-        carry: Change::Unsettled,
-        overflow: Change::Unsettled,
-    };
-    let effect = Effect { number, changes };
-    finish::<V, S>(
-        Width::Quad,
-        Slot::Register(to),
-        &effect,
-        frame,
-        state,
-        space,
-    )
-}
-
-/// add, or, and, sub, xor, cmp with an immediate
-#[tactic(auto, unfolding(crate::specs::Step::compute_plain))]
-fn compute_plain<V: Values, S: Space<V>>(
-    arithmetic: Arithmetic,
-    width: Width,
-    frame: &Frame,
-    to: &Operand,
-    state: &mut State<V::Word, V::Flag>,
-    space: &mut S,
-) -> Result<(), Stop>
-    ensures does { Does V.operations result state.old (S.memory space.old) state.new (S.memory space.new)
-        (λ ops acc s m. compute_plain ops acc arithmetic width frame.now.immediate_field frame.now s m to.now) }
-    ensures rest { S.rest space.new ≡ S.rest space.old }
-{
-    let right = immediate::<V>(width, frame);
-    let it = take_operand::<V, S>(width, frame, state, space, to, right)?;
-    let effect = compute(arithmetic, width, it.number, it.other);
-    conclude::<V, S>(arithmetic, width, it.slot, &effect, frame, state, space)
-}
-
-/// The same, except that the immediate may be an offset field that is added to a base in a register.
-#[tactic(auto, unfolding(crate::specs::Step::compute_number))]
-fn compute_number<V: Values, S: Space<V>>(
-    arithmetic: Arithmetic,
-    width: Width,
-    frame: &Frame,
-    to: &Operand,
-    state: &mut State<V::Word, V::Flag>,
-    space: &mut S,
-) -> Result<(), Stop>
-    ensures does { Does V.operations result state.old (S.memory space.old) state.new (S.memory space.new)
-        (λ ops acc s m. compute_number ops acc arithmetic width frame.now.immediate_field frame.now s m to.now) }
-    ensures rest { S.rest space.new ≡ S.rest space.old }
-{
-    match (arithmetic, width, frame.immediate_field, to) {
-        (Arithmetic::Add, Width::Quad, Some(at), Operand::Register(to)) => {
-            add_field::<V, S>(frame, *to, at, state, space)
-        }
-        _ => compute_plain::<V, S>(arithmetic, width, frame, to, state, space),
-    }
-}
-
-/// add, or, and, sub, xor, cmp
-#[tactic(auto, unfolding(crate::specs::Step::compute_of))]
-pub(crate) fn compute_operands<V: Values, S: Space<V>>(
-    arithmetic: Arithmetic,
-    width: Width,
-    frame: &Frame,
-    operands: &Operands,
-    state: &mut State<V::Word, V::Flag>,
-    space: &mut S,
-) -> Result<(), Stop>
-    ensures does { Does V.operations result state.old (S.memory space.old) state.new (S.memory space.new)
-        (λ ops acc s m. compute_of ops acc arithmetic width frame.now s m operands.now) }
-    ensures rest { S.rest space.new ≡ S.rest space.old }
-{
-    match operands {
-        Operands::IntoRegister { to, from } => {
-            compute_in::<V, S>(arithmetic, width, frame, *to, from, state, space)
-        }
-        Operands::IntoMemory { to, from } => {
-            compute_out::<V, S>(arithmetic, width, frame, to, *from, state, space)
-        }
-        Operands::Immediate { to } => {
-            compute_number::<V, S>(arithmetic, width, frame, to, state, space)
+    /// The same, except that cmp writes no result.
+    #[tactic(auto, unfolding(crate::specs::Step::concluded))]
+    fn conclude(
+        self,
+        arithmetic: Arithmetic,
+        width: Width,
+        slot: Slot,
+        effect: &Effect,
+    ) -> Result<(), Stop>
+        ensures does { Does V.operations result self.entry.state.now (S.memory self.entry.space.now) self.exit.0.now
+            (S.memory self.exit.1.0.now)
+            (λ ops acc s m. concluded ops acc arithmetic width slot effect.now self.entry.frame.now s m) }
+        ensures rest { S.rest self.exit.1.0.now ≡ S.rest self.entry.space.now }
+    {
+        match arithmetic {
+            Arithmetic::Compare => {
+                settle::<V>(&effect.changes, self.frame, self.state);
+                Ok(())
+            }
+            _ => self.finish(width, slot, effect),
         }
     }
-}
 
-/// test r/m, r
-#[tactic(auto, unfolding(crate::specs::Step::test_of))]
-pub(crate) fn test<V: Values, S: Space<V>>(
-    width: Width,
-    frame: &Frame,
-    from: &Operand,
-    right: Register,
-    state: &mut State<V::Word, V::Flag>,
-    space: &S,
-) -> Result<(), Stop>
-    ensures { Does V.operations result state.old (S.memory space.now) state.new (S.memory space.now)
-        (λ ops acc s m. test_of ops acc width frame.now s m from.now right) }
-{
-    let right = number_at::<V>(width, register(&state.registers, right));
-    let it = take_operand::<V, S>(width, frame, state, space, from, right)?;
-    let effect = compute(Arithmetic::And, width, it.number, it.other);
-    settle::<V>(&effect.changes, frame, state);
-    Ok(())
-}
+    /// add, or, and, sub, xor, cmp into a register
+    #[tactic(auto, unfolding(crate::specs::Step::compute_in))]
+    fn compute_in(
+        self,
+        arithmetic: Arithmetic,
+        width: Width,
+        to: Register,
+        from: &Operand,
+    ) -> Result<(), Stop>
+        ensures does { Does V.operations result self.entry.state.now (S.memory self.entry.space.now) self.exit.0.now
+            (S.memory self.exit.1.0.now)
+            (λ ops acc s m. compute_in ops acc arithmetic width self.entry.frame.now s m to from.now) }
+        ensures rest { S.rest self.exit.1.0.now ≡ S.rest self.entry.space.now }
+    {
+        let slot = Slot::Register(to);
+        if is_cleared(arithmetic, to, from) {
+            return self.finish(width, slot, &compute(arithmetic, width, 0, 0));
+        }
+        let left = number_at::<V>(width, register(&self.state.registers, to));
+        let it = self.take(width, from, left)?;
+        let effect = compute(arithmetic, width, it.other, it.number);
+        self.conclude(arithmetic, width, slot, &effect)
+    }
 
-/// imul r, r/m
-#[tactic(auto, unfolding(crate::specs::Step::multiply_of))]
-pub(crate) fn multiply<V: Values, S: Space<V>>(
-    width: Width,
-    frame: &Frame,
-    to: Register,
-    from: &Operand,
-    state: &mut State<V::Word, V::Flag>,
-    space: &mut S,
-) -> Result<(), Stop>
-    ensures does { Does V.operations result state.old (S.memory space.old) state.new (S.memory space.new)
-        (λ ops acc s m. multiply_of ops acc width frame.now s m to from.now) }
-    ensures rest { S.rest space.new ≡ S.rest space.old }
-{
-    let left = number_at::<V>(width, register(&state.registers, to));
-    let it = take_operand::<V, S>(width, frame, state, space, from, left)?;
-    let effect = product(width, it.other, it.number);
-    finish::<V, S>(width, Slot::Register(to), &effect, frame, state, space)
-}
+    /// The same, into a memory operand.
+    #[tactic(auto, unfolding(crate::specs::Step::compute_out))]
+    fn compute_out(
+        self,
+        arithmetic: Arithmetic,
+        width: Width,
+        to: &Memory,
+        from: Register,
+    ) -> Result<(), Stop>
+        ensures does { Does V.operations result self.entry.state.now (S.memory self.entry.space.now) self.exit.0.now
+            (S.memory self.exit.1.0.now)
+            (λ ops acc s m. compute_out ops acc arithmetic width self.entry.frame.now s m to.now from) }
+        ensures rest { S.rest self.exit.1.0.now ≡ S.rest self.entry.space.now }
+    {
+        let right = number_at::<V>(width, register(&self.state.registers, from));
+        let it = self.take(width, &Operand::InMemory(*to), right)?;
+        let effect = compute(arithmetic, width, it.number, it.other);
+        self.conclude(arithmetic, width, it.slot, &effect)
+    }
 
-/// shl, shr, sar r/m, count
-#[tactic(auto, unfolding(crate::specs::Step::shift_of))]
-pub(crate) fn shift_operand<V: Values, S: Space<V>>(
-    kind: Shift,
-    width: Width,
-    frame: &Frame,
-    to: &Operand,
-    count: u8,
-    state: &mut State<V::Word, V::Flag>,
-    space: &mut S,
-) -> Result<(), Stop>
-    ensures does { Does V.operations result state.old (S.memory space.old) state.new (S.memory space.new)
-        (λ ops acc s m. shift_of ops acc kind width frame.now s m to.now count) }
-    ensures rest { S.rest space.new ≡ S.rest space.old }
-{
-    let it = take_operand::<V, S>(width, frame, state, space, to, Ok(0))?;
-    let effect = shift(kind, width, it.number, count);
-    finish::<V, S>(width, it.slot, &effect, frame, state, space)
+    /// Adds an offset field to a base.
+    #[tactic(auto, unfolding(crate::specs::Step::add_field))]
+    fn add_field(self, to: Register, at: u64) -> Result<(), Stop>
+        ensures does { Does V.operations result self.entry.state.now (S.memory self.entry.space.now) self.exit.0.now
+            (S.memory self.exit.1.0.now) (λ ops acc s m. add_field ops acc self.entry.frame.now s m to at) }
+        ensures rest { S.rest self.exit.1.0.now ≡ S.rest self.entry.space.now }
+    {
+        let base = register(&self.state.registers, to);
+        let moved = V::moved(base, self.frame.immediate, at);
+        let number = used(self.state.place, charged(Some(at), moved))?;
+        let changes = Changes {
+            zero: Change::Unsettled,
+            sign: Change::Unsettled,
+            carry: Change::Unsettled,
+            overflow: Change::Unsettled,
+        };
+        self.finish(Width::Quad, Slot::Register(to), &Effect { number, changes })
+    }
+
+    /// add, or, and, sub, xor, cmp with an immediate
+    #[tactic(auto, unfolding(crate::specs::Step::compute_plain))]
+    fn compute_plain(self, arithmetic: Arithmetic, width: Width, to: &Operand) -> Result<(), Stop>
+        ensures does { Does V.operations result self.entry.state.now (S.memory self.entry.space.now) self.exit.0.now
+            (S.memory self.exit.1.0.now)
+            (λ ops acc s m. compute_plain ops acc arithmetic width self.entry.frame.now.immediate_field
+            self.entry.frame.now s m to.now) }
+        ensures rest { S.rest self.exit.1.0.now ≡ S.rest self.entry.space.now }
+    {
+        let it = self.take(width, to, immediate::<V>(width, self.frame))?;
+        let effect = compute(arithmetic, width, it.number, it.other);
+        self.conclude(arithmetic, width, it.slot, &effect)
+    }
+
+    /// The same, except that the immediate may be an offset field that is added to a base in a register.
+    #[tactic(auto, unfolding(crate::specs::Step::compute_number))]
+    fn compute_number(self, arithmetic: Arithmetic, width: Width, to: &Operand) -> Result<(), Stop>
+        ensures does { Does V.operations result self.entry.state.now (S.memory self.entry.space.now) self.exit.0.now
+            (S.memory self.exit.1.0.now)
+            (λ ops acc s m. compute_number ops acc arithmetic width self.entry.frame.now.immediate_field
+            self.entry.frame.now s m to.now) }
+        ensures rest { S.rest self.exit.1.0.now ≡ S.rest self.entry.space.now }
+    {
+        match (arithmetic, width, self.frame.immediate_field, to) {
+            (Arithmetic::Add, Width::Quad, Some(at), Operand::Register(to)) => {
+                self.add_field(*to, at)
+            }
+            _ => self.compute_plain(arithmetic, width, to),
+        }
+    }
+
+    /// add, or, and, sub, xor, cmp
+    #[tactic(auto, unfolding(crate::specs::Step::compute_of))]
+    pub(crate) fn compute(
+        self,
+        arithmetic: Arithmetic,
+        width: Width,
+        operands: &Operands,
+    ) -> Result<(), Stop>
+        ensures does { Does V.operations result self.entry.state.now (S.memory self.entry.space.now) self.exit.0.now
+            (S.memory self.exit.1.0.now)
+            (λ ops acc s m. compute_of ops acc arithmetic width self.entry.frame.now s m operands.now) }
+        ensures rest { S.rest self.exit.1.0.now ≡ S.rest self.entry.space.now }
+    {
+        match operands {
+            Operands::IntoRegister { to, from } => self.compute_in(arithmetic, width, *to, from),
+            Operands::IntoMemory { to, from } => self.compute_out(arithmetic, width, to, *from),
+            Operands::Immediate { to } => self.compute_number(arithmetic, width, to),
+        }
+    }
+
+    /// test r/m, r
+    #[tactic(auto, unfolding(crate::specs::Step::test_of))]
+    pub(crate) fn test(self, width: Width, from: &Operand, right: Register) -> Result<(), Stop>
+        ensures does { Does V.operations result self.entry.state.now (S.memory self.entry.space.now) self.exit.0.now
+            (S.memory self.exit.1.0.now)
+            (λ ops acc s m. test_of ops acc width self.entry.frame.now s m from.now right) }
+        ensures rest { S.rest self.exit.1.0.now ≡ S.rest self.entry.space.now }
+    {
+        let right = number_at::<V>(width, register(&self.state.registers, right));
+        let it = self.take(width, from, right)?;
+        let effect = compute(Arithmetic::And, width, it.number, it.other);
+        settle::<V>(&effect.changes, self.frame, self.state);
+        Ok(())
+    }
+
+    /// imul r, r/m
+    #[tactic(auto, unfolding(crate::specs::Step::multiply_of))]
+    pub(crate) fn multiply(self, width: Width, to: Register, from: &Operand) -> Result<(), Stop>
+        ensures does { Does V.operations result self.entry.state.now (S.memory self.entry.space.now) self.exit.0.now
+            (S.memory self.exit.1.0.now)
+            (λ ops acc s m. multiply_of ops acc width self.entry.frame.now s m to from.now) }
+        ensures rest { S.rest self.exit.1.0.now ≡ S.rest self.entry.space.now }
+    {
+        let left = number_at::<V>(width, register(&self.state.registers, to));
+        let it = self.take(width, from, left)?;
+        let effect = product(width, it.other, it.number);
+        self.finish(width, Slot::Register(to), &effect)
+    }
+
+    /// shl, shr, sar r/m, count
+    #[tactic(auto, unfolding(crate::specs::Step::shift_of))]
+    pub(crate) fn shift(
+        self,
+        kind: Shift,
+        width: Width,
+        to: &Operand,
+        count: u8,
+    ) -> Result<(), Stop>
+        ensures does { Does V.operations result self.entry.state.now (S.memory self.entry.space.now) self.exit.0.now
+            (S.memory self.exit.1.0.now)
+            (λ ops acc s m. shift_of ops acc kind width self.entry.frame.now s m to.now count) }
+        ensures rest { S.rest self.exit.1.0.now ≡ S.rest self.entry.space.now }
+    {
+        let it = self.take(width, to, Ok(0))?;
+        let effect = shift(kind, width, it.number, count);
+        self.finish(width, it.slot, &effect)
+    }
 }

@@ -39,6 +39,7 @@
 #![tactic(auto)]
 
 mod compute;
+mod execution;
 mod jump;
 pub mod laws;
 mod machine;

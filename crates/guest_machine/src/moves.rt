@@ -7,11 +7,11 @@ ghost use Rattle.guest_operands.specs.Operand.{carried_as};
 ghost use Rattle.guest_machine.specs.Step.{immediate_of, sign_extended, move_in, stored, store_byte, move_number, move_of, extend_byte, extend_long, load_address};
 ghost use Rattle.guest_operands.specs.Use.{Does};
 
+use crate::execution::Execution;
 use amd64_subset::{Memory, Operand, Operands, Register, Width};
 use guest_arithmetic::{Cause, Values, low};
 use guest_operands::{
-    Frame, Size, Space, State, Stop, address, carried, kept, kept_byte, load, register,
-    set_register, size, store, unmoved, used,
+    Frame, Size, Space, Stop, kept, kept_byte, register, set_register, size, store, unmoved, used,
 };
 
 /// The immediate at a width.
@@ -36,155 +36,6 @@ fn sign_extended(number: u64) -> u64
     }
 }
 
-/// mov r, r/m
-#[tactic(auto, unfolding(crate::specs::Step::move_in))]
-fn move_in<V: Values, S: Space<V>>(
-    width: Width,
-    frame: &Frame,
-    to: Register,
-    from: &Operand,
-    state: &mut State<V::Word, V::Flag>,
-    space: &S,
-) -> Result<(), Stop>
-    ensures { Does V.operations result state.old (S.memory space.now) state.new (S.memory space.now)
-        (λ ops acc s m. move_in ops acc width frame.now s m to from.now) }
-{
-    let word = carried::<V, S>(width, frame, state, space, from)?;
-    set_register(&mut state.registers, to, word);
-    state.place = frame.next;
-    Ok(())
-}
-
-/// Writes a word's lowest bytes to a memory operand.
-#[tactic(auto, unfolding(crate::specs::Step::stored))]
-fn stored<V: Values, S: Space<V>>(
-    size: Size,
-    frame: &Frame,
-    to: &Memory,
-    word: V::Word,
-    state: &mut State<V::Word, V::Flag>,
-    space: &mut S,
-) -> Result<(), Stop>
-    ensures does { Does V.operations result state.old (S.memory space.old) state.new (S.memory space.new)
-        (λ ops acc s m. stored ops acc (bytes_in size) frame.now s m to.now word) }
-    ensures rest { S.rest space.new ≡ S.rest space.old }
-{
-    let place = used(state.place, address::<V>(frame, state, to))?;
-    store::<V, S>(space, state.place, place, size, word)?;
-    state.place = frame.next;
-    Ok(())
-}
-
-/// mov r8 to memory
-#[tactic(auto, unfolding(crate::specs::Step::store_byte))]
-pub(crate) fn store_byte<V: Values, S: Space<V>>(
-    frame: &Frame,
-    to: &Memory,
-    from: Register,
-    state: &mut State<V::Word, V::Flag>,
-    space: &mut S,
-) -> Result<(), Stop>
-    ensures does { Does V.operations result state.old (S.memory space.old) state.new (S.memory space.new)
-        (λ ops acc s m. store_byte ops acc frame.now s m to.now from) }
-    ensures rest { S.rest space.new ≡ S.rest space.old }
-{
-    let byte = kept_byte::<V>(register(&state.registers, from));
-    stored::<V, S>(Size::Byte, frame, to, byte, state, space)
-}
-
-/// mov r/m, imm
-#[tactic(auto, unfolding(crate::specs::Step::move_number))]
-fn move_number<V: Values, S: Space<V>>(
-    width: Width,
-    frame: &Frame,
-    to: &Operand,
-    state: &mut State<V::Word, V::Flag>,
-    space: &mut S,
-) -> Result<(), Stop>
-    ensures does { Does V.operations result state.old (S.memory space.old) state.new (S.memory space.new)
-        (λ ops acc s m. move_number ops acc width frame.now s m to.now) }
-    ensures rest { S.rest space.new ≡ S.rest space.old }
-{
-    let number = used(state.place, immediate::<V>(width, frame))?;
-    match to {
-        Operand::Register(to) => {
-            set_register(&mut state.registers, *to, V::word(number));
-            state.place = frame.next;
-            Ok(())
-        }
-        Operand::InMemory(to) => {
-            stored::<V, S>(size(width), frame, to, V::word(number), state, space)
-        }
-    }
-}
-
-/// mov
-#[tactic(auto, unfolding(crate::specs::Step::move_of))]
-pub(crate) fn move_operands<V: Values, S: Space<V>>(
-    width: Width,
-    frame: &Frame,
-    operands: &Operands,
-    state: &mut State<V::Word, V::Flag>,
-    space: &mut S,
-) -> Result<(), Stop>
-    ensures does { Does V.operations result state.old (S.memory space.old) state.new (S.memory space.new)
-        (λ ops acc s m. move_of ops acc width frame.now s m operands.now) }
-    ensures rest { S.rest space.new ≡ S.rest space.old }
-{
-    match operands {
-        Operands::IntoRegister { to, from } => {
-            move_in::<V, S>(width, frame, *to, from, state, space)
-        }
-        Operands::IntoMemory { to, from } => {
-            let word = kept::<V>(width, register(&state.registers, *from));
-            stored::<V, S>(size(width), frame, to, word, state, space)
-        }
-        Operands::Immediate { to } => move_number::<V, S>(width, frame, to, state, space),
-    }
-}
-
-/// movzx r, r/m8
-#[tactic(auto, unfolding(crate::specs::Step::extend_byte))]
-pub(crate) fn extend_byte<V: Values, S: Space<V>>(
-    frame: &Frame,
-    to: Register,
-    from: &Operand,
-    state: &mut State<V::Word, V::Flag>,
-    space: &S,
-) -> Result<(), Stop>
-    ensures { Does V.operations result state.old (S.memory space.now) state.new (S.memory space.now)
-        (λ ops acc s m. extend_byte ops acc frame.now s m to from.now) }
-{
-    let word = match from {
-        Operand::Register(from) => kept_byte::<V>(register(&state.registers, *from)),
-        Operand::InMemory(from) => {
-            let place = used(state.place, address::<V>(frame, state, from))?;
-            load::<V, S>(space, state.place, place, Size::Byte)?
-        }
-    };
-    set_register(&mut state.registers, to, word);
-    state.place = frame.next;
-    Ok(())
-}
-
-/// movslq r, r/m
-#[tactic(auto, unfolding(crate::specs::Step::extend_long))]
-pub(crate) fn extend_long<V: Values, S: Space<V>>(
-    frame: &Frame,
-    to: Register,
-    from: &Operand,
-    state: &mut State<V::Word, V::Flag>,
-    space: &S,
-) -> Result<(), Stop>
-    ensures { Does V.operations result state.old (S.memory space.now) state.new (S.memory space.now)
-        (λ ops acc s m. extend_long ops acc frame.now s m to from.now) }
-{
-    let word = extended::<V>(carried::<V, S>(Width::Long, frame, state, space, from)?);
-    set_register(&mut state.registers, to, word);
-    state.place = frame.next;
-    Ok(())
-}
-
 /// A word's lower half, sign-extended and moved.
 fn extended<V: Values>(word: V::Word) -> V::Word
     ensures { result ≡ carried_as V.operations sign_extended (V.operations.number_of word) }
@@ -195,21 +46,121 @@ fn extended<V: Values>(word: V::Word) -> V::Word
     }
 }
 
-/// lea r, m
-#[tactic(auto, unfolding(crate::specs::Step::load_address))]
-pub(crate) fn load_address<V: Values, S: Space<V>>(
-    width: Width,
-    frame: &Frame,
-    to: Register,
-    from: &Memory,
-    state: &mut State<V::Word, V::Flag>,
-    space: &S,
-) -> Result<(), Stop>
-    ensures { Does V.operations result state.old (S.memory space.now) state.new (S.memory space.now)
-        (λ ops acc s m. load_address ops acc width frame.now s m to from.now) }
-{
-    let place = used(state.place, address::<V>(frame, state, from))?;
-    set_register(&mut state.registers, to, V::word(low(width, place)));
-    state.place = frame.next;
-    Ok(())
+impl<V: Values, S: Space<V>> Execution<'_, V, S> {
+    /// mov r, r/m
+    #[tactic(auto, unfolding(crate::specs::Step::move_in))]
+    fn move_in(self, width: Width, to: Register, from: &Operand) -> Result<(), Stop>
+        ensures does { Does V.operations result self.entry.state.now (S.memory self.entry.space.now) self.exit.0.now
+            (S.memory self.exit.1.0.now) (λ ops acc s m. move_in ops acc width self.entry.frame.now s m to from.now) }
+        ensures rest { S.rest self.exit.1.0.now ≡ S.rest self.entry.space.now }
+    {
+        let word = self.carried(width, from)?;
+        set_register(&mut self.state.registers, to, word);
+        self.state.place = self.frame.next;
+        Ok(())
+    }
+
+    /// Writes a word's lowest bytes to a memory operand.
+    #[tactic(auto, unfolding(crate::specs::Step::stored))]
+    fn stored(self, size: Size, to: &Memory, word: V::Word) -> Result<(), Stop>
+        ensures does { Does V.operations result self.entry.state.now (S.memory self.entry.space.now) self.exit.0.now
+            (S.memory self.exit.1.0.now)
+            (λ ops acc s m. stored ops acc (bytes_in size) self.entry.frame.now s m to.now word) }
+        ensures rest { S.rest self.exit.1.0.now ≡ S.rest self.entry.space.now }
+    {
+        let place = self.address(to)?;
+        let Execution { state, space, .. } = self;
+        store::<V, S>(space, state.place, place, size, word)?;
+        state.place = self.frame.next;
+        Ok(())
+    }
+
+    /// mov r8 to memory
+    #[tactic(auto, unfolding(crate::specs::Step::store_byte))]
+    pub(crate) fn store_byte(self, to: &Memory, from: Register) -> Result<(), Stop>
+        ensures does { Does V.operations result self.entry.state.now (S.memory self.entry.space.now) self.exit.0.now
+            (S.memory self.exit.1.0.now) (λ ops acc s m. store_byte ops acc self.entry.frame.now s m to.now from) }
+        ensures rest { S.rest self.exit.1.0.now ≡ S.rest self.entry.space.now }
+    {
+        let byte = kept_byte::<V>(register(&self.state.registers, from));
+        self.stored(Size::Byte, to, byte)
+    }
+
+    /// mov r/m, imm
+    #[tactic(auto, unfolding(crate::specs::Step::move_number))]
+    fn move_number(self, width: Width, to: &Operand) -> Result<(), Stop>
+        ensures does { Does V.operations result self.entry.state.now (S.memory self.entry.space.now) self.exit.0.now
+            (S.memory self.exit.1.0.now) (λ ops acc s m. move_number ops acc width self.entry.frame.now s m to.now) }
+        ensures rest { S.rest self.exit.1.0.now ≡ S.rest self.entry.space.now }
+    {
+        let number = used(self.state.place, immediate::<V>(width, self.frame))?;
+        match to {
+            Operand::Register(to) => {
+                set_register(&mut self.state.registers, *to, V::word(number));
+                self.state.place = self.frame.next;
+                Ok(())
+            }
+            Operand::InMemory(to) => self.stored(size(width), to, V::word(number)),
+        }
+    }
+
+    /// mov
+    #[tactic(auto, unfolding(crate::specs::Step::move_of))]
+    pub(crate) fn move_operands(self, width: Width, operands: &Operands) -> Result<(), Stop>
+        ensures does { Does V.operations result self.entry.state.now (S.memory self.entry.space.now) self.exit.0.now
+            (S.memory self.exit.1.0.now) (λ ops acc s m. move_of ops acc width self.entry.frame.now s m operands.now) }
+        ensures rest { S.rest self.exit.1.0.now ≡ S.rest self.entry.space.now }
+    {
+        match operands {
+            Operands::IntoRegister { to, from } => self.move_in(width, *to, from),
+            Operands::IntoMemory { to, from } => {
+                let word = kept::<V>(width, register(&self.state.registers, *from));
+                self.stored(size(width), to, word)
+            }
+            Operands::Immediate { to } => self.move_number(width, to),
+        }
+    }
+
+    /// movzx r, r/m8
+    #[tactic(auto, unfolding(crate::specs::Step::extend_byte))]
+    pub(crate) fn extend_byte(self, to: Register, from: &Operand) -> Result<(), Stop>
+        ensures does { Does V.operations result self.entry.state.now (S.memory self.entry.space.now) self.exit.0.now
+            (S.memory self.exit.1.0.now) (λ ops acc s m. extend_byte ops acc self.entry.frame.now s m to from.now) }
+        ensures rest { S.rest self.exit.1.0.now ≡ S.rest self.entry.space.now }
+    {
+        let word = match from {
+            Operand::Register(from) => kept_byte::<V>(register(&self.state.registers, *from)),
+            Operand::InMemory(from) => self.load(self.address(from)?, Size::Byte)?,
+        };
+        set_register(&mut self.state.registers, to, word);
+        self.state.place = self.frame.next;
+        Ok(())
+    }
+
+    /// movslq r, r/m
+    #[tactic(auto, unfolding(crate::specs::Step::extend_long))]
+    pub(crate) fn extend_long(self, to: Register, from: &Operand) -> Result<(), Stop>
+        ensures does { Does V.operations result self.entry.state.now (S.memory self.entry.space.now) self.exit.0.now
+            (S.memory self.exit.1.0.now) (λ ops acc s m. extend_long ops acc self.entry.frame.now s m to from.now) }
+        ensures rest { S.rest self.exit.1.0.now ≡ S.rest self.entry.space.now }
+    {
+        let word = extended::<V>(self.carried(Width::Long, from)?);
+        set_register(&mut self.state.registers, to, word);
+        self.state.place = self.frame.next;
+        Ok(())
+    }
+
+    /// lea r, m
+    #[tactic(auto, unfolding(crate::specs::Step::load_address))]
+    pub(crate) fn load_address(self, width: Width, to: Register, from: &Memory) -> Result<(), Stop>
+        ensures does { Does V.operations result self.entry.state.now (S.memory self.entry.space.now) self.exit.0.now
+            (S.memory self.exit.1.0.now)
+            (λ ops acc s m. load_address ops acc width self.entry.frame.now s m to from.now) }
+        ensures rest { S.rest self.exit.1.0.now ≡ S.rest self.entry.space.now }
+    {
+        let place = self.address(from)?;
+        set_register(&mut self.state.registers, to, V::word(low(width, place)));
+        self.state.place = self.frame.next;
+        Ok(())
+    }
 }

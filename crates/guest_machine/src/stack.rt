@@ -5,11 +5,10 @@ ghost use Rattle.amd64_subset.specs.declared.instr.Target.TheVariants.{Indirect}
 ghost use Rattle.guest_machine.specs.Step.{pushed, push_of, pop_of, leave_of, return_of, call_of};
 ghost use Rattle.guest_operands.specs.Use.{Does};
 
+use crate::execution::Execution;
 use amd64_subset::{Operand, Register, Target, Width};
 use guest_arithmetic::Values;
-use guest_operands::{
-    Frame, Size, Space, State, Stop, load, register, set_register, store, take_operand, used,
-};
+use guest_operands::{Size, Space, State, Stop, load, register, set_register, store, used};
 
 /// Pushes a word onto the stack that %rsp points to.
 #[tactic(auto, unfolding(crate::specs::Step::pushed))]
@@ -26,62 +25,6 @@ fn push_word<V: Values, S: Space<V>>(
     let place = stack.wrapping_sub(8);
     store::<V, S>(space, state.place, place, Size::Quad, word)?;
     state.registers.rsp = V::word(place);
-    Ok(())
-}
-
-/// push r
-#[tactic(auto, unfolding(crate::specs::Step::push_of))]
-pub(crate) fn push<V: Values, S: Space<V>>(
-    frame: &Frame,
-    from: Register,
-    state: &mut State<V::Word, V::Flag>,
-    space: &mut S,
-) -> Result<(), Stop>
-    ensures does { Does V.operations result state.old (S.memory space.old) state.new (S.memory space.new)
-        (λ ops acc s m. push_of ops acc frame.now s m from) }
-    ensures rest { S.rest space.new ≡ S.rest space.old }
-{
-    let stack = used(state.place, V::number_of(state.registers.rsp))?;
-    let word = register(&state.registers, from);
-    push_word::<V, S>(stack, word, state, space)?;
-    state.place = frame.next;
-    Ok(())
-}
-
-/// pop r
-#[tactic(auto, unfolding(crate::specs::Step::pop_of))]
-pub(crate) fn pop<V: Values, S: Space<V>>(
-    frame: &Frame,
-    to: Register,
-    state: &mut State<V::Word, V::Flag>,
-    space: &S,
-) -> Result<(), Stop>
-    ensures { Does V.operations result state.old (S.memory space.now) state.new (S.memory space.now)
-        (λ ops acc s m. pop_of ops acc frame.now s m to) }
-{
-    let stack = used(state.place, V::number_of(state.registers.rsp))?;
-    let word = load::<V, S>(space, state.place, stack, Size::Quad)?;
-    state.registers.rsp = V::word(stack.wrapping_add(8));
-    set_register(&mut state.registers, to, word);
-    state.place = frame.next;
-    Ok(())
-}
-
-/// leave
-#[tactic(auto, unfolding(crate::specs::Step::leave_of))]
-pub(crate) fn leave<V: Values, S: Space<V>>(
-    frame: &Frame,
-    state: &mut State<V::Word, V::Flag>,
-    space: &S,
-) -> Result<(), Stop>
-    ensures { Does V.operations result state.old (S.memory space.now) state.new (S.memory space.now)
-        (λ ops acc s m. leave_of ops acc frame.now s m) }
-{
-    let base = used(state.place, V::number_of(state.registers.rbp))?;
-    let word = load::<V, S>(space, state.place, base, Size::Quad)?;
-    state.registers.rsp = V::word(base.wrapping_add(8));
-    state.registers.rbp = word;
-    state.place = frame.next;
     Ok(())
 }
 
@@ -102,44 +45,73 @@ pub(crate) fn return_from<V: Values, S: Space<V>>(
     Ok(())
 }
 
-/// call: the target is loaded before the return address is pushed.
-#[tactic(auto, unfolding(crate::specs::Step::call_of))]
-pub(crate) fn call<V: Values, S: Space<V>>(
-    frame: &Frame,
-    target: &Target,
-    state: &mut State<V::Word, V::Flag>,
-    space: &mut S,
-) -> Result<(), Stop>
-    ensures does { Does V.operations result state.old (S.memory space.old) state.new (S.memory space.new)
-        (λ ops acc s m. call_of ops acc frame.now s m target.now) }
-    ensures rest { S.rest space.new ≡ S.rest space.old }
-{
-    match target {
-        Target::Relative(distance) => {
-            let stack = used(state.place, V::number_of(state.registers.rsp))?;
-            push_word::<V, S>(stack, V::word(frame.next), state, space)?;
-            state.place = frame.next.wrapping_add(*distance);
-            Ok(())
-        }
-        Target::Indirect(operand) => call_at::<V, S>(frame, operand, state, space),
+impl<V: Values, S: Space<V>> Execution<'_, V, S> {
+    /// push r
+    #[tactic(auto, unfolding(crate::specs::Step::push_of))]
+    pub(crate) fn push(self, from: Register) -> Result<(), Stop>
+        ensures does { Does V.operations result self.entry.state.now (S.memory self.entry.space.now) self.exit.0.now
+            (S.memory self.exit.1.0.now) (λ ops acc s m. push_of ops acc self.entry.frame.now s m from) }
+        ensures rest { S.rest self.exit.1.0.now ≡ S.rest self.entry.space.now }
+    {
+        let stack = used(self.state.place, V::number_of(self.state.registers.rsp))?;
+        let word = register(&self.state.registers, from);
+        let Execution { state, space, .. } = self;
+        push_word::<V, S>(stack, word, state, space)?;
+        state.place = self.frame.next;
+        Ok(())
     }
-}
 
-/// call r/m
-#[tactic(auto, unfolding(crate::specs::Step::call_of))]
-fn call_at<V: Values, S: Space<V>>(
-    frame: &Frame,
-    operand: &Operand,
-    state: &mut State<V::Word, V::Flag>,
-    space: &mut S,
-) -> Result<(), Stop>
-    ensures does { Does V.operations result state.old (S.memory space.old) state.new (S.memory space.new)
-        (λ ops acc s m. call_of ops acc frame.now s m (Indirect operand.now)) }
-    ensures rest { S.rest space.new ≡ S.rest space.old }
-{
-    let stack = V::number_of(state.registers.rsp);
-    let it = take_operand::<V, S>(Width::Quad, frame, state, space, operand, stack)?;
-    push_word::<V, S>(it.other, V::word(frame.next), state, space)?;
-    state.place = it.number;
-    Ok(())
+    /// pop r
+    #[tactic(auto, unfolding(crate::specs::Step::pop_of))]
+    pub(crate) fn pop(self, to: Register) -> Result<(), Stop>
+        ensures does { Does V.operations result self.entry.state.now (S.memory self.entry.space.now) self.exit.0.now
+            (S.memory self.exit.1.0.now) (λ ops acc s m. pop_of ops acc self.entry.frame.now s m to) }
+        ensures rest { S.rest self.exit.1.0.now ≡ S.rest self.entry.space.now }
+    {
+        let stack = used(self.state.place, V::number_of(self.state.registers.rsp))?;
+        let word = self.load(stack, Size::Quad)?;
+        self.state.registers.rsp = V::word(stack.wrapping_add(8));
+        set_register(&mut self.state.registers, to, word);
+        self.state.place = self.frame.next;
+        Ok(())
+    }
+
+    /// leave
+    #[tactic(auto, unfolding(crate::specs::Step::leave_of))]
+    pub(crate) fn leave(self) -> Result<(), Stop>
+        ensures does { Does V.operations result self.entry.state.now (S.memory self.entry.space.now) self.exit.0.now
+            (S.memory self.exit.1.0.now) (λ ops acc s m. leave_of ops acc self.entry.frame.now s m) }
+        ensures rest { S.rest self.exit.1.0.now ≡ S.rest self.entry.space.now }
+    {
+        let base = used(self.state.place, V::number_of(self.state.registers.rbp))?;
+        let word = self.load(base, Size::Quad)?;
+        self.state.registers.rsp = V::word(base.wrapping_add(8));
+        self.state.registers.rbp = word;
+        self.state.place = self.frame.next;
+        Ok(())
+    }
+
+    /// call: the target is loaded before the return address is pushed.
+    #[tactic(auto, unfolding(crate::specs::Step::call_of))]
+    pub(crate) fn call(self, target: &Target) -> Result<(), Stop>
+        ensures does { Does V.operations result self.entry.state.now (S.memory self.entry.space.now) self.exit.0.now
+            (S.memory self.exit.1.0.now) (λ ops acc s m. call_of ops acc self.entry.frame.now s m target.now) }
+        ensures rest { S.rest self.exit.1.0.now ≡ S.rest self.entry.space.now }
+    {
+        let stack = V::number_of(self.state.registers.rsp);
+        let (stack, place) = match target {
+            Target::Relative(distance) => {
+                let stack = used(self.state.place, stack)?;
+                (stack, self.frame.next.wrapping_add(*distance))
+            }
+            Target::Indirect(operand) => {
+                let it = self.take(Width::Quad, operand, stack)?;
+                (it.other, it.number)
+            }
+        };
+        let Execution { state, space, .. } = self;
+        push_word::<V, S>(stack, V::word(self.frame.next), state, space)?;
+        state.place = place;
+        Ok(())
+    }
 }

@@ -7,10 +7,8 @@ ghost use Rattle.guest_operands.specs.Access.{fetch_of};
 ghost use Rattle.guest_machine.specs.Step.{act, step_of};
 ghost use Rattle.guest_operands.specs.Use.{Does};
 
-use crate::compute::{compute_operands, multiply, shift_operand, test};
-use crate::jump::{jump, jump_if, nop};
-use crate::moves::{extend_byte, extend_long, load_address, move_operands, store_byte};
-use crate::stack::{call, leave, pop, push, return_from};
+use crate::execution::Execution;
+use crate::stack::return_from;
 use amd64_subset::Operation::{
     Call, Compute, ExtendByte, ExtendLong, Jump, JumpIf, Leave, LoadAddress, Move, Multiply, Nop,
     Pop, Push, Return, Shift, StoreByte, Test, Undefined,
@@ -31,38 +29,41 @@ pub fn act<V: Values, S: Space<V>>(
         (λ ops acc s m. act ops acc frame.now operation.now s m) }
     ensures rest { S.rest space.new ≡ S.rest space.old }
 {
+    let execution = Execution {
+        state,
+        space,
+        frame,
+    };
     match operation {
-        Move { width, operands } => move_operands::<V, S>(*width, frame, operands, state, space),
-        StoreByte { to, from } => store_byte::<V, S>(frame, to, *from, state, space),
-        ExtendByte { to, from, .. } => extend_byte::<V, S>(frame, *to, from, state, space),
-        ExtendLong { to, from } => extend_long::<V, S>(frame, *to, from, state, space),
-        LoadAddress { width, to, from } => {
-            load_address::<V, S>(*width, frame, *to, from, state, space)
-        }
+        Move { width, operands } => execution.move_operands(*width, operands),
+        StoreByte { to, from } => execution.store_byte(to, *from),
+        ExtendByte { to, from, .. } => execution.extend_byte(*to, from),
+        ExtendLong { to, from } => execution.extend_long(*to, from),
+        LoadAddress { width, to, from } => execution.load_address(*width, *to, from),
         Compute {
             arithmetic,
             width,
             operands,
-        } => compute_operands::<V, S>(*arithmetic, *width, frame, operands, state, space),
-        Test { width, left, right } => test::<V, S>(*width, frame, left, *right, state, space),
-        Multiply { width, to, from } => multiply::<V, S>(*width, frame, *to, from, state, space),
+        } => execution.compute(*arithmetic, *width, operands),
+        Test { width, left, right } => execution.test(*width, left, *right),
+        Multiply { width, to, from } => execution.multiply(*width, *to, from),
         Shift {
             shift,
             width,
             to,
             count,
-        } => shift_operand::<V, S>(*shift, *width, frame, to, *count, state, space),
-        Push { from } => push::<V, S>(frame, *from, state, space),
-        Pop { to } => pop::<V, S>(frame, *to, state, space),
-        Leave => leave::<V, S>(frame, state, space),
-        Call { target } => call::<V, S>(frame, target, state, space),
-        Jump { target } => jump::<V, S>(frame, target, state, space),
+        } => execution.shift(*shift, *width, to, *count),
+        Push { from } => execution.push(*from),
+        Pop { to } => execution.pop(*to),
+        Leave => execution.leave(),
+        Call { target } => execution.call(target),
+        Jump { target } => execution.jump(target),
         JumpIf {
             condition,
             distance,
-        } => jump_if::<V, S>(frame, *condition, *distance, state, space),
+        } => execution.jump_if(*condition, *distance),
         Return => return_from::<V, S>(state, space),
-        Nop { operand } => nop::<V, S>(frame, operand, state, space),
+        Nop { operand } => execution.nop(operand),
         Undefined => Err(Stop::Code(state.place)),
     }
 }

@@ -54,169 +54,128 @@ fn paired(first: Option<Touch>, second: Option<Touch>) -> Touches
     Touches { first, second }
 }
 
-fn memory_touch<V: Values>(
-    frame: &Frame,
-    state: &State<V::Word, V::Flag>,
-    direction: Direction,
-    size: Size,
-    memory: &Memory,
-) -> Option<Touch>
-    ensures { result ≡ operand_touch V.operations frame.now state.now direction size (InMemory memory.now) }
-{
-    touch_at(direction, size, address::<V>(frame, state, memory))
+/// An instruction's frame and the state that it finds: where its operands lie.
+#[derive(Drop)]
+struct Addressing<'a, V: Values> {
+    frame: &'a Frame,
+    state: &'a State<V::Word, V::Flag>,
 }
 
-/// The access to an operand, if it lies in memory.
-fn operand_touch<V: Values>(
-    frame: &Frame,
-    state: &State<V::Word, V::Flag>,
-    direction: Direction,
-    size: Size,
-    operand: &Operand,
-) -> Option<Touch>
-    ensures { result ≡ operand_touch V.operations frame.now state.now direction size operand.now }
-{
-    match operand {
-        Operand::Register(_) => None,
-        Operand::InMemory(memory) => memory_touch::<V>(frame, state, direction, size, memory),
+impl<V: Values> Addressing<'_, V> {
+    fn memory(&self, direction: Direction, size: Size, memory: &Memory) -> Option<Touch>
+        ensures { result ≡ operand_touch V.operations self.now.frame.now self.now.state.now direction size
+            (InMemory memory.now) }
+    {
+        touch_at(
+            direction,
+            size,
+            address::<V>(self.frame, self.state, memory),
+        )
     }
-}
 
-/// The accesses to an operand that is read and then written.
-fn changed_touches<V: Values>(
-    frame: &Frame,
-    state: &State<V::Word, V::Flag>,
-    width: Width,
-    to: &Operand,
-) -> Touches
-    ensures { result ≡ changed_touches V.operations frame.now state.now width to.now }
-{
-    paired(
-        operand_touch::<V>(frame, state, Direction::Load, size(width), to),
-        operand_touch::<V>(frame, state, Direction::Store, size(width), to),
-    )
-}
-
-/// The access to an operand that is read.
-fn loaded<V: Values>(
-    frame: &Frame,
-    state: &State<V::Word, V::Flag>,
-    size: Size,
-    from: &Operand,
-) -> Touches
-    ensures { result ≡ paired (operand_touch V.operations frame.now state.now Load size from.now) None }
-{
-    paired(
-        operand_touch::<V>(frame, state, Direction::Load, size, from),
-        None,
-    )
-}
-
-/// The accesses of an arithmetic instruction; cmp writes nothing.
-fn computed_touches<V: Values>(
-    frame: &Frame,
-    state: &State<V::Word, V::Flag>,
-    arithmetic: Arithmetic,
-    width: Width,
-    to: &Operand,
-) -> Touches
-    ensures { result ≡ computed_touches V.operations frame.now state.now arithmetic width to.now }
-{
-    match arithmetic {
-        Arithmetic::Compare => loaded::<V>(frame, state, size(width), to),
-        Arithmetic::Add | Arithmetic::Or | Arithmetic::And | Arithmetic::Sub | Arithmetic::Xor =>
-            changed_touches::<V>(frame, state, width, to),
-    }
-}
-
-fn move_touches<V: Values>(
-    frame: &Frame,
-    state: &State<V::Word, V::Flag>,
-    width: Width,
-    operands: &Operands,
-) -> Touches
-    ensures { result ≡ move_touches V.operations frame.now state.now width operands.now }
-{
-    let store = match operands {
-        Operands::IntoRegister { from, .. } => {
-            return loaded::<V>(frame, state, size(width), from);
+    /// The access to an operand, if it lies in memory.
+    fn operand(&self, direction: Direction, size: Size, operand: &Operand) -> Option<Touch>
+        ensures { result ≡ operand_touch V.operations self.now.frame.now self.now.state.now direction size operand.now }
+    {
+        match operand {
+            Operand::Register(_) => None,
+            Operand::InMemory(memory) => self.memory(direction, size, memory),
         }
-        Operands::IntoMemory { to, .. } => {
-            memory_touch::<V>(frame, state, Direction::Store, size(width), to)
-        }
-        Operands::Immediate { to } => {
-            operand_touch::<V>(frame, state, Direction::Store, size(width), to)
-        }
-    };
-    paired(store, None)
-}
-
-fn compute_touches<V: Values>(
-    frame: &Frame,
-    state: &State<V::Word, V::Flag>,
-    arithmetic: Arithmetic,
-    width: Width,
-    operands: &Operands,
-) -> Touches
-    ensures { result ≡ compute_touches V.operations frame.now state.now arithmetic width operands.now }
-{
-    match operands {
-        Operands::IntoRegister { from, .. } => loaded::<V>(frame, state, size(width), from),
-        Operands::IntoMemory { to, .. } => {
-            let to = Operand::InMemory(*to);
-            computed_touches::<V>(frame, state, arithmetic, width, &to)
-        }
-        Operands::Immediate { to } => { computed_touches::<V>(frame, state, arithmetic, width, to) }
     }
-}
 
-/// The eight bytes that %rsp points to.
-fn pop_touch<V: Values>(state: &State<V::Word, V::Flag>) -> Option<Touch>
-    ensures { result ≡ pop_touch V.operations state.now }
-{
-    touch_at(
-        Direction::Load,
-        Size::Quad,
-        V::number_of(state.registers.rsp),
-    )
-}
-
-/// The eight bytes below %rsp.
-fn push_touch<V: Values>(state: &State<V::Word, V::Flag>) -> Option<Touch>
-    ensures { result ≡ push_touch V.operations state.now }
-{
-    match V::number_of(state.registers.rsp) {
-        Ok(stack) => touch_at(Direction::Store, Size::Quad, Ok(stack.wrapping_sub(8))),
-        Err(_) => None,
+    /// The accesses to an operand that is read and then written.
+    fn changed(&self, width: Width, to: &Operand) -> Touches
+        ensures { result ≡ changed_touches V.operations self.now.frame.now self.now.state.now width to.now }
+    {
+        paired(
+            self.operand(Direction::Load, size(width), to),
+            self.operand(Direction::Store, size(width), to),
+        )
     }
-}
 
-fn call_touches<V: Values>(
-    frame: &Frame,
-    state: &State<V::Word, V::Flag>,
-    target: &Target,
-) -> Touches
-    ensures { result ≡ call_touches V.operations frame.now state.now target.now }
-{
-    match target {
-        Target::Relative(_) => paired(push_touch::<V>(state), None),
-        Target::Indirect(operand) => paired(
-            operand_touch::<V>(frame, state, Direction::Load, Size::Quad, operand),
-            push_touch::<V>(state),
-        ),
+    /// The access to an operand that is read.
+    fn loaded(&self, size: Size, from: &Operand) -> Touches
+        ensures { result
+            ≡ paired (operand_touch V.operations self.now.frame.now self.now.state.now Load size from.now) None }
+    {
+        paired(self.operand(Direction::Load, size, from), None)
     }
-}
 
-fn jump_touches<V: Values>(
-    frame: &Frame,
-    state: &State<V::Word, V::Flag>,
-    target: &Target,
-) -> Touches
-    ensures { result ≡ jump_touches V.operations frame.now state.now target.now }
-{
-    match target {
-        Target::Relative(_) => paired(None, None),
-        Target::Indirect(operand) => loaded::<V>(frame, state, Size::Quad, operand),
+    /// The accesses of an arithmetic instruction; cmp writes nothing.
+    fn computed(&self, arithmetic: Arithmetic, width: Width, to: &Operand) -> Touches
+        ensures { result ≡ computed_touches V.operations self.now.frame.now self.now.state.now arithmetic width to.now }
+    {
+        match arithmetic {
+            Arithmetic::Compare => self.loaded(size(width), to),
+            Arithmetic::Add
+            | Arithmetic::Or
+            | Arithmetic::And
+            | Arithmetic::Sub
+            | Arithmetic::Xor => self.changed(width, to),
+        }
+    }
+
+    fn of_move(&self, width: Width, operands: &Operands) -> Touches
+        ensures { result ≡ move_touches V.operations self.now.frame.now self.now.state.now width operands.now }
+    {
+        let store = match operands {
+            Operands::IntoRegister { from, .. } => return self.loaded(size(width), from),
+            Operands::IntoMemory { to, .. } => self.memory(Direction::Store, size(width), to),
+            Operands::Immediate { to } => self.operand(Direction::Store, size(width), to),
+        };
+        paired(store, None)
+    }
+
+    fn of_compute(&self, arithmetic: Arithmetic, width: Width, operands: &Operands) -> Touches
+        ensures { result ≡ compute_touches V.operations self.now.frame.now self.now.state.now arithmetic width
+            operands.now }
+    {
+        match operands {
+            Operands::IntoRegister { from, .. } => self.loaded(size(width), from),
+            Operands::IntoMemory { to, .. } => {
+                self.computed(arithmetic, width, &Operand::InMemory(*to))
+            }
+            Operands::Immediate { to } => self.computed(arithmetic, width, to),
+        }
+    }
+
+    /// The eight bytes that %rsp points to.
+    fn pop(&self) -> Option<Touch>
+        ensures { result ≡ pop_touch V.operations self.now.state.now }
+    {
+        let stack = V::number_of(self.state.registers.rsp);
+        touch_at(Direction::Load, Size::Quad, stack)
+    }
+
+    /// The eight bytes below %rsp.
+    fn push(&self) -> Option<Touch>
+        ensures { result ≡ push_touch V.operations self.now.state.now }
+    {
+        match V::number_of(self.state.registers.rsp) {
+            Ok(stack) => touch_at(Direction::Store, Size::Quad, Ok(stack.wrapping_sub(8))),
+            Err(_) => None,
+        }
+    }
+
+    fn of_call(&self, target: &Target) -> Touches
+        ensures { result ≡ call_touches V.operations self.now.frame.now self.now.state.now target.now }
+    {
+        match target {
+            Target::Relative(_) => paired(self.push(), None),
+            Target::Indirect(operand) => paired(
+                self.operand(Direction::Load, Size::Quad, operand),
+                self.push(),
+            ),
+        }
+    }
+
+    fn of_jump(&self, target: &Target) -> Touches
+        ensures { result ≡ jump_touches V.operations self.now.frame.now self.now.state.now target.now }
+    {
+        match target {
+            Target::Relative(_) => paired(None, None),
+            Target::Indirect(operand) => self.loaded(Size::Quad, operand),
+        }
     }
 }
 
@@ -229,30 +188,28 @@ pub fn touches_of<V: Values>(
 ) -> Touches
     ensures { result ≡ touches_of V.operations frame.now state.now operation.now }
 {
+    let addressing = Addressing::<V> { frame, state };
     match operation {
-        Move { width, operands } => move_touches::<V>(frame, state, *width, operands),
-        StoreByte { to, .. } => paired(
-            memory_touch::<V>(frame, state, Direction::Store, Size::Byte, to),
-            None,
-        ),
-        ExtendByte { from, .. } => loaded::<V>(frame, state, Size::Byte, from),
-        ExtendLong { from, .. } => loaded::<V>(frame, state, Size::Long, from),
+        Move { width, operands } => addressing.of_move(*width, operands),
+        StoreByte { to, .. } => paired(addressing.memory(Direction::Store, Size::Byte, to), None),
+        ExtendByte { from, .. } => addressing.loaded(Size::Byte, from),
+        ExtendLong { from, .. } => addressing.loaded(Size::Long, from),
         Compute {
             arithmetic,
             width,
             operands,
-        } => compute_touches::<V>(frame, state, *arithmetic, *width, operands),
-        Test { width, left, .. } => loaded::<V>(frame, state, size(*width), left),
-        Multiply { width, from, .. } => loaded::<V>(frame, state, size(*width), from),
-        Shift { width, to, .. } => changed_touches::<V>(frame, state, *width, to),
-        Push { .. } => paired(push_touch::<V>(state), None),
-        Pop { .. } | Return => paired(pop_touch::<V>(state), None),
+        } => addressing.of_compute(*arithmetic, *width, operands),
+        Test { width, left, .. } => addressing.loaded(size(*width), left),
+        Multiply { width, from, .. } => addressing.loaded(size(*width), from),
+        Shift { width, to, .. } => addressing.changed(*width, to),
+        Push { .. } => paired(addressing.push(), None),
+        Pop { .. } | Return => paired(addressing.pop(), None),
         Leave => {
             let base = V::number_of(state.registers.rbp);
             paired(touch_at(Direction::Load, Size::Quad, base), None)
         }
-        Call { target } => call_touches::<V>(frame, state, target),
-        Jump { target } => jump_touches::<V>(frame, state, target),
+        Call { target } => addressing.of_call(target),
+        Jump { target } => addressing.of_jump(target),
         LoadAddress { .. } | JumpIf { .. } | Nop { .. } | Undefined => paired(None, None),
     }
 }
