@@ -1,19 +1,15 @@
 -- What a turn comes to behind its look, from what its parts do.
-use Rattle.std.proofs.Common.{◌≡◌, ◌∙◌, ◌-◌, ℕ, List, [], ◌∷◌, Option, None, length, refl, sym, ap, subst}
+use Rattle.std.proofs.Common.{◌≡◌, ◌∙◌, ◌-◌, ℕ, List, [], ◌∷◌, Option, length, sym, ap, subst}
 use Rattle.guest_operands.specs.declared.state.State.{State}
-use Rattle.guest_operands.specs.declared.stop.Stop.{Stop}
 use Rattle.job_meaning.specs.declared.values.Flag.{Flag}
 use Rattle.job_meaning.specs.declared.values.Word.{Word}
 use Rattle.link_needs.specs.Linking.{Linking}
 use Rattle.module_table.specs.declared.events.Event.{Event}
 use Rattle.module_table.specs.Past.{Past}
-use Rattle.transcript_text.specs.declared.outcomes.LineFault.TheVariants.{Unloaded as IsUnloaded}
-use Rattle.transcript_text.specs.declared.outcomes.Outcome.TheVariants.{Fault}
 use Rattle.thread_blocks.specs.Instances.{instances, left_by}
 use Rattle.thread_blocks.specs.Lines.{Line}
-use Rattle.thread_blocks.specs.Turns.{Answered, Begun, Calls as CallsOn, Says as SaysSo, Said, Stopped, after_look, after_run, over_with}
+use Rattle.thread_blocks.specs.Turns.{Begun, Calls as CallsOn, Says as SaysSo, Said, after_look, over_with}
 use Rattle.whole_meaning.specs.declared.unclean.UncleanStep.{UncleanStep}
-use Rattle.whole_meaning.specs.Jobs.{unclean_stop}
 use Rattle.whole_meaning.specs.Loads.{loads_of, meaning_of}
 use Rattle.whole_meaning.specs.Threads.{Meant, code_owner, meant_turns, resumed_for}
 use Rattle.job_check.specs.declared.lines.Started.{Started}
@@ -21,11 +17,11 @@ use Rattle.job_check.specs.declared.lines.Started.TheVariants.{Says, Calls}
 use Rattle.job_check.specs.declared.running.Ran.TheVariants as ran
 use Rattle.job_check.specs.declared.running.Resumed.TheVariants as resumed
 use Rattle.job_check.specs.declared.thread.Taken.{Taken}
-use Rattle.job_check.specs.declared.thread.Taken.TheVariants.{Over, Waits}
+use Rattle.job_check.specs.declared.thread.Taken.TheVariants.{Over}
 use Rattle.job_check.specs.declared.thread.Waiting.{Waiting}
 use Rattle.meant_space.specs.Kept.{HasSeen, Kept, held_at}
 use Rattle.job_check.specs.Lines.{BegunAs, HasLeft, KeepsThread, Starts}
-use Rattle.job_check.specs.Running.{KeepsJob, Resumes, RunsOn}
+use Rattle.job_check.specs.Running.{KeepsJob, Resumes}
 use Rattle.job_check.specs.Taking.{BeginsTo, IsOver, ResumesTo, RunsTo, TookAs}
 
 -- ** runs

@@ -22,7 +22,7 @@ use Rattle.link_core.specs.Bytes.{with_field, with_fields, with_fields_from, wit
 use Rattle.link_core.specs.Parts.{EndsBehind, IsCut, IsPart, is_before, part_with_field, part_with_fields, part_with_fields_from}
 use Rattle.link_core.specs.Parts.{part_with_held, part_with_table, start_at, start_in}
 use Rattle.link_core.proofs.LengthsKept.{field_at_most}
-use Rattle.link_core.proofs.PartSplit.{before_cut, before_end, begins_in, first_part, is_before_end, not_before}
+use Rattle.link_core.proofs.PartSplit.{before_cut, first_part, is_before_end, not_before}
 use Rattle.link_core.proofs.PartSplit.{start_before, start_behind, start_yes}
 use Rattle.link_core.proofs.PartSteps.{Splits, fold_none, fold_same, fold_still, splits_after, splits_back}
 use Rattle.link_core.proofs.PartSteps.{splits_fold, splits_front, splits_nothing}

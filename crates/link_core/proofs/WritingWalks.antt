@@ -1,14 +1,13 @@
 -- Fields that are written one after another.
-use Rattle.std.proofs.Common.{◌≡◌, ◌+◌, ◌-◌, ◌<◌, ◌≤◌, ◌∙◌, ◌&&◌, ℕ, Bool, true, false, List, ◌∷◌}
-use Rattle.std.proofs.Common.{Option, Some, None, length, drop, refl, sym, ap}
+use Rattle.std.proofs.Common.{◌≡◌, ◌+◌, ◌-◌, ◌<◌, ◌∙◌, ◌&&◌, ℕ, Bool, true, false, List, ◌∷◌}
+use Rattle.std.proofs.Common.{Option, Some, None, drop, refl, sym, ap}
 use Rattle.std.specs.Prelude.{fold, nat_le, if◌then◌else◌}
 use Rattle.std.specs.List.{range_with_len}
-use Rattle.std.proofs.Math.ListN.{drop_of_length-le}
 use Rattle.object_faults.specs.Firsts.{nonzero}
 use Rattle.elf_object.specs.Lent.{relocation_target, relocations}
 use Rattle.section_file.specs.Files.{offset_of}
 use Rattle.tls_layout.specs.Sections.{Layout}
-use Rattle.tls_symbols.proofs.Search.{range_first, range_none}
+use Rattle.tls_symbols.proofs.Search.{range_first}
 use Rattle.tls_symbols.proofs.Walked.{held_is, held_none}
 use Rattle.link_needs.specs.Linking.{Linking, object}
 use Rattle.link_core.specs.Parts.{part_with_field, part_with_fields, part_with_fields_from, part_with_held}

@@ -19,7 +19,7 @@ use Rattle.sequence_forms.specs.declared.places.Site.{Site}
 use Rattle.tls_symbols.specs.Bindings.{bound_to, may_import}
 use Rattle.tls_symbols.proofs.Search.{range_first, range_none}
 use Rattle.link_needs.specs.Linking.{Linking}
-use Rattle.link_needs.specs.Needs.{any_stub_call, is_address_kind, is_stub_call, object_needs, object_needs_from}
+use Rattle.link_needs.specs.Needs.{any_stub_call, is_address_kind, is_stub_call}
 use Rattle.link_needs.specs.Needs.{need_by, new_relocation, reaching, relocation_need, site_needs, site_needs_from}
 
 -- ** elements of a list
@@ -57,7 +57,6 @@ module _ (l : Linking) (seen : List Need) (sites : List (List Site)) (i : ℕ) w
   sites_walked_all past =
       sym (ap (λ vs. seen ++ site_needs_from l i vs) (drop_of_length-le sites past) ∙ append-nil seen)
 
-module _ (l : Linking) (seen : List Need) (objects : List (List ℕ)) (i : ℕ) where
 -- ** calls of the stub
 
 module _ {X : Type 0} (test : X → Bool) (xs : List X) (i : ℕ) where

@@ -1,14 +1,12 @@
 -- Names keep their numbers where more names come.
-use Rattle.std.proofs.Common.{◌≡◌, ◌+◌, ◌<◌, ◌∙◌, ◌++◌, ℕ, Bool, true, false, cond, List, [], ◌∷◌, Option, Some, None, length, map, eqb, inl, inr, refl, sym, ap, subst, Bor, arith}
+use Rattle.std.proofs.Common.{◌≡◌, ◌+◌, ◌<◌, ◌∙◌, ◌++◌, ℕ, Bool, true, cond, List, [], ◌∷◌, Option, Some, None, length, map, eqb, inl, inr, refl, sym, ap, subst, Bor, arith}
 use Rattle.std.specs.Global.{Vec}
-use Rattle.std.specs.Prelude.{if◌then◌else◌, slice_index, slice_index_or}
-use Rattle.std.specs.List.{list_any, position_or_len}
+use Rattle.std.specs.Prelude.{slice_index, slice_index_or}
 use Rattle.std.specs.Str.{bytes_eq}
 use Rattle.std.proofs.lemmas.Bool.{cases_lt}
 use Rattle.std.proofs.lemmas.Bool.Decides.{nat_tests}
 use Rattle.std.proofs.lemmas.List.{length-append, length-map, map-append, get_or_append_left, get_or_push}
 use Rattle.std.proofs.lemmas.List.Folds.{position_or_len_push}
-use Rattle.indexmap.specs.IndexSet.{insert_key}
 use Rattle.elf_object.specs.Lent.{symbol_name}
 use Rattle.tls_symbols.specs.declared.numbers.KnownSymbol.{KnownSymbol}
 use Rattle.tls_symbols.specs.Numbers.{Names, number_of, Grows, IsNamed, IsNumbered, AreNumbered, AreListed, AllListed}
