@@ -5,7 +5,7 @@ use Rattle.std.proofs.lemmas.Bool.Decides.{nat_tests}
 use Rattle.input_changes.specs.Differing.{differing}
 
 -- one place
-same : (x : ℕ) → (if x == x then 0 else 1) ≡ 0
+same : (x : ℕ) → ◌≡◌ {A = ℕ} (if x == x then 0 else 1) 0
 same x = grind (arith, nat_tests)
 
 few : (x y : ℕ) → (if x == y then 0 else 1) ≤ 1
