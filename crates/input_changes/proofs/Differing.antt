@@ -44,3 +44,14 @@ unfolding differing
 differing_take [] n = refl
 differing_take (x ∷ a) zero = refl
 differing_take (x ∷ a) (suc n) = omega (arith, same x, differing_take a n)
+
+-- what a vector has once its slice was written
+pub differing_written : (a b c rest : List ℕ) (n k : ℕ) → n ≡ length c → length a ≤ length b → differing a b ≡ 0 → differing b c ≤ k
+    → differing a (take n (c ++ rest)) ≤ k
+differing_written a b c rest n k long h same_front near =
+    let e : take n (c ++ rest) ≡ c = rw long (take_front c rest) in
+    rw e (omega (arith, differing_across a b c h))
+  where
+    take_front : (xs ys : List ℕ) → take (length xs) (xs ++ ys) ≡ xs
+    take_front [] ys = refl
+    take_front (x ∷ xs) ys = ap (λ zs. x ∷ zs) (take_front xs ys)

@@ -203,6 +203,27 @@ fn append_copy(bytes: &mut Vec<u8>, from: u64, count: u64) -> Result<(), AllocEr
     Ok(())
 }
 
+/// Copies a table behind the file, and one of its entries once more behind that.
+#[tactic(auto, using(crate::proofs::Differing::differing_self, crate::proofs::Differing::differing_across))]
+fn append_table(bytes: &mut Vec<u8>, table: Table, doubled: u64) -> Result<(), AllocError>
+    ensures kept { differing bytes.old.items bytes.new.items ≡ 0 }
+    ensures no_shorter { length bytes.old.items ≤ length bytes.new.items }
+    ensures longer { length bytes.new.items ≤ length bytes.old.items + 2 ^ 16 + 24 }
+{
+    append_copy(bytes, table.at, table.count.saturating_mul(ENTRY))?;
+    append_copy(bytes, table.place(doubled), ENTRY)
+}
+
+/// Says in a section's header that its table begins there and has this size.
+#[tactic(auto, using(crate::proofs::Differing::differing_across))]
+fn set_table(bytes: &mut [u8], section: u64, start: u64, size: u64)
+    ensures { differing bytes.old bytes.new ≤ 16 }
+{
+    let sections = sections(bytes);
+    sections.field(section, OFFSET).set(bytes, start);
+    sections.field(section, SIZE).set(bytes, size);
+}
+
 /// Moves a section's table behind the file, with one of its entries doubled at the end.
 #[tactic(auto, using(crate::proofs::Differing::differing_self, crate::proofs::Differing::differing_across))]
 fn double_entry(
@@ -218,13 +239,9 @@ fn double_entry(
         return Ok(());
     };
     let start = bytes.len() as u64;
-    let size = table.count.saturating_mul(ENTRY);
-    append_copy(bytes, table.at, size)?;
-    append_copy(bytes, table.place(doubled), ENTRY)?;
-    let sections = sections(bytes);
-    sections.field(section, OFFSET).set(bytes, start);
-    let longer = size.saturating_add(ENTRY);
-    sections.field(section, SIZE).set(bytes, longer);
+    append_table(bytes, table, doubled)?;
+    let size = table.count.saturating_mul(ENTRY).saturating_add(ENTRY);
+    set_table(bytes, section, start, size);
     Ok(())
 }
 
