@@ -1,8 +1,13 @@
 //! Changes of jobs: texts of lines, which are words with spaces between.
 
+ghost use Rattle.std.specs.Prelude.{◌≡◌, IfOk, map, string_bytes};
+ghost use Rattle.std.specs.Str.Lines.{lines};
+ghost use Rattle.input_changes.specs.Lines.{joined};
+
 use crate::generator::Generator;
 use crate::job_words::{any_kind, any_line, any_word, count_of, with_odd, with_words};
 use std::alloc::{AllocError, Global};
+use std::marker::Model;
 
 /// The lines of a job, in order.
 #[derive(Drop)]
@@ -11,27 +16,62 @@ pub struct JobLines {
     lines: Vec<String>,
 }
 
+impl Model for JobLines {
+    ghost use Rattle.std.specs.Prelude.{ℕ, List, map, string_bytes};
+
+    ghost Value = { List (List ℕ) };
+
+    ghost view = { λ job. map string_bytes job.lines.items };
+}
+
 /// How often a word or some lines may come again, and once in a while much more often.
 const TIMES: [u64; 8] = [2, 2, 2, 3, 3, 4, 17, 65];
 
+/// The parts of a text that are its lines.
+fn parts_of(alloc: Global, text: &str) -> Result<Vec<&str>, AllocError>
+    ensures { IfOk result (λ parts. map (λ part. part.now) parts.items ≡ lines text.now) }
+{
+    text.lines().collect(alloc)
+}
+
+/// A copy of each.
+fn copies_of(alloc: Global, parts: &[&str]) -> Result<Vec<String>, AllocError>
+    ensures { IfOk result (λ lines. map string_bytes lines.items ≡ map (λ part. part.now) parts.now) }
+{
+    let mut lines = Vec::new(alloc);
+    for part in parts {
+        lines.push(String::from_str(alloc, part)?)?;
+    }
+    Ok(lines)
+}
+
+/// Lines as one text, with a line feed behind each.
+fn text_of(alloc: Global, lines: &[String]) -> Result<String, AllocError>
+    ensures { IfOk result (λ text. string_bytes text ≡ joined (map string_bytes lines.now)) }
+{
+    let mut text = String::new(alloc);
+    for line in lines {
+        text.push_str(line.as_str())?;
+        text.push('\n')?;
+    }
+    Ok(text)
+}
+
 impl JobLines {
     /// The lines of a text.
-    pub fn of(alloc: Global, text: &str) -> Result<JobLines, AllocError> {
-        let mut lines = Vec::new(alloc);
-        for line in text.lines() {
-            lines.push(String::from_str(alloc, line)?)?;
-        }
+    pub fn of(alloc: Global, text: &str) -> Result<JobLines, AllocError>
+        ensures { IfOk result (λ job. job ≡ lines text.now) }
+    {
+        let parts = parts_of(alloc, text)?;
+        let lines = copies_of(alloc, &parts)?;
         Ok(JobLines { alloc, lines })
     }
 
-    /// The text of the lines.
-    pub fn text(&self) -> Result<String, AllocError> {
-        let mut text = String::new(self.alloc);
-        for line in &self.lines {
-            text.push_str(line.as_str())?;
-            text.push('\n')?;
-        }
-        Ok(text)
+    /// The text of the lines, with a line feed behind each.
+    pub fn text(&self) -> Result<String, AllocError>
+        ensures { IfOk result (λ text. string_bytes text ≡ joined self.now) }
+    {
+        text_of(self.alloc, &self.lines)
     }
 
     /// The number of a line by chance; of none where there is none.
