@@ -1,6 +1,6 @@
 -- What one change leaves of the lines.
-use Rattle.std.proofs.Common.{◌≡◌, ◌∙◌, ◌+◌, ◌++◌, ◌<◌, ◌≤◌, ◌⊎◌, ℕ, suc, List, [], ◌∷◌, drop, length, map, take, refl, sym, ap, subst, arith, inl, inr}
-use Rattle.std.specs.Prelude.{slice_index_or, slice_set}
+use Rattle.std.proofs.Common.{◌≡◌, ◌∙◌, ◌+◌, ◌++◌, ◌<◌, ◌≤◌, ◌⊎◌, ℕ, suc, Bool, true, false, List, [], ◌∷◌, drop, length, length-append, map, take, refl, sym, ap, subst, arith, inl, inr}
+use Rattle.std.specs.Prelude.{if◌then◌else◌, slice_index_or, slice_set}
 use Rattle.std.specs.List.{All, Contains, insert, remove}
 use Rattle.std.proofs.lemmas.Bool.{cases_lt}
 use Rattle.std.proofs.lemmas.List.{drop-map, get_or_past, length-map, length-set, map-append, map-set, set_past, take-map}
@@ -136,11 +136,17 @@ module _ (old : List (List ℕ)) where
   pub change_repeated : (new : List (List ℕ)) → AreFrom old [] new → length old ≤ length new → length new ≤ length old + 12300 → IsChange old new
   change_repeated new are no_fewer more = record { other = []; from = are; fewer = omega (arith, no_fewer); more = more }
 
-  -- one more of them at the end
-  pub from_pushed : (new : List (List ℕ)) (line : List ℕ) (k : ℕ) → AreFrom old [] new → line ≡ slice_index_or new k [] → AreFrom old [] (new ++ line ∷ [])
-  from_pushed new line k are is =
-      All-push (IsFrom old []) new line are (subst (IsFrom old []) (sym is) (there (line_from new k)))
-    where
-      there : IsFrom new [] (slice_index_or new k []) → IsFrom old [] (slice_index_or new k [])
-      there (inl within) = All-contains (IsFrom old []) new (slice_index_or new k []) are within
-      there (inr none) = inr none
+  -- one of them once more, at the end
+  pub from_pushed : (new : List (List ℕ)) (line : List ℕ) (k : ℕ) (put : Bool) → line ≡ slice_index_or old k [] → new ≡ (if put then old ++ line ∷ [] else old)
+      → AreFrom old [] new
+  from_pushed new line k true is at =
+      subst (AreFrom old []) (sym at) (All-push (IsFrom old []) old line (from_self old []) (subst (IsFrom old []) (sym is) (line_from old k)))
+  from_pushed new line k false is at = subst (AreFrom old []) (sym at) (from_self old [])
+
+  pub pushed_no_fewer : (new : List (List ℕ)) (line : List ℕ) (put : Bool) → new ≡ (if put then old ++ line ∷ [] else old) → length old ≤ length new
+  pushed_no_fewer new line true at = omega (arith, ap length at, length-append old (line ∷ []))
+  pushed_no_fewer new line false at = omega (arith, ap length at)
+
+  pub pushed_more : (new : List (List ℕ)) (line : List ℕ) (put : Bool) → new ≡ (if put then old ++ line ∷ [] else old) → length new ≤ length old + 1
+  pushed_more new line true at = omega (arith, ap length at, length-append old (line ∷ []))
+  pushed_more new line false at = omega (arith, ap length at)

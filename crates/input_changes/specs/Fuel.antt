@@ -18,8 +18,8 @@ abbrev pub has_fuel : List ℕ → Bool
 has_fuel line = is_some (fuel_in (words_of line))
 
 -- the line that gives so much fuel
-abbrev pub limit : ℕ → List ℕ
-limit most = codes "fuel " ++ decimal most
+abbrev pub fuel_line : ℕ → List ℕ
+fuel_line most = codes "fuel " ++ decimal most
 
 -- a word that is no decimal number of 64 bits above this one
 abbrev pub IsWithin : ℕ → List ℕ → Type 0
@@ -32,7 +32,7 @@ AsksWithin most line = IfSome (fuel_in (words_of line)) (IsWithin most)
 
 -- what becomes of a line: it stays, where it does not ask for more, or it is the limit
 abbrev pub IsLimited : ℕ → List ℕ → List ℕ → Type 0
-IsLimited most old new = (new ≡ limit most) ⊎ ((new ≡ old) × AsksWithin most old)
+IsLimited most old new = (new ≡ fuel_line most) ⊎ ((new ≡ old) × AsksWithin most old)
 
 -- the same of each of these lines
 abbrev pub AreLimited : ℕ → List (List ℕ) → List (List ℕ) → Type 0

@@ -1,10 +1,11 @@
 //! Changes of jobs: texts of lines, which are words with spaces between.
 
-ghost use Rattle.std.specs.Prelude.{◌≡◌, ◌≢◌, ◌+◌, ◌<◌, ◌≤◌, ◌⊎◌, ◌∷◌, [], ◌++◌, ℕ, false, if◌then◌else◌, IfOk, OnOk, is_ok, is_some, length, map, slice_get, slice_index_or, slice_set, string_bytes, true};
+ghost use Rattle.std.specs.Prelude.{◌≡◌, ◌≢◌, ◌+◌, ◌<◌, ◌≤◌, ◌⊎◌, ◌∷◌, [], ◌++◌, ℕ, false, if◌then◌else◌, IfOk, OnOk, is_ok, is_some, length, map, slice_index_or, slice_set, string_bytes, true};
+ghost use Rattle.std.specs.Bool.{MatchBool};
 ghost use Rattle.std.specs.List.{insert, list_any, remove};
 ghost use Rattle.std.specs.Option.{option_map};
 ghost use Rattle.std.specs.Str.Lines.{lines};
-ghost use Rattle.input_changes.specs.Fuel.{AreLimited, AsksWithin, IsLimited, IsWithin, fuel_in, has_fuel, limit, words_of};
+ghost use Rattle.input_changes.specs.Fuel.{AreLimited, AsksWithin, IsLimited, IsWithin, fuel_in, fuel_line, has_fuel, words_of};
 ghost use Rattle.input_changes.specs.Lines.{AreFrom, IsChange, joined};
 
 use crate::generator::Generator;
@@ -192,7 +193,6 @@ impl JobLines {
     }
 
     /// Drops any line.
-    #[tactic(auto, using(crate::proofs::Lines::dropped_from, crate::proofs::Lines::dropped_fewer, crate::proofs::Lines::dropped_no_more, crate::proofs::Lines::change_dropped))]
     fn drop_any(&mut self, generator: &mut Generator)
         ensures { IsChange self.old self.new }
     {
@@ -255,15 +255,25 @@ impl JobLines {
         Ok(())
     }
 
+    /// Puts a copy of a line behind all.
+    fn push_copy(&mut self, number: usize) -> Result<(), AllocError>
+        ensures from { AreFrom self.old [] self.new }
+        ensures no_fewer { length self.old ≤ length self.new }
+        ensures more { length self.new ≤ length self.old + 1 }
+    {
+        let line = self.copy(number)?;
+        self.push(line)
+    }
+
     /// Puts a copy of so many lines, from one on, behind all.
+    #[tactic(auto, using(crate::proofs::Lines::from_self, crate::proofs::Lines::from_across))]
     fn repeat_once(&mut self, first: usize, count: u64) -> Result<(), AllocError>
         ensures from { AreFrom self.old [] self.new }
         ensures no_fewer { length self.old ≤ length self.new }
         ensures more { length self.new ≤ length self.old + count }
     {
         for step in 0..count {
-            let line = self.copy(first.saturating_add(step as usize))?;
-            self.push(line)?;
+            self.push_copy(first.saturating_add(step as usize))?;
         }
         Ok(())
     }
@@ -320,7 +330,7 @@ impl JobLines {
     /// Makes a line the limit where it asks for more fuel than this, and says whether it gives fuel at all.
     fn limit_line(&mut self, number: usize, most: u64, limit: &str) -> Result<bool, AllocError>
         requires within { number < length self.old }
-        requires limit { limit.now ≡ limit most }
+        requires limit { limit.now ≡ fuel_line most }
         ensures limited { OnOk result (IsLimited most (slice_index_or self.old number []) (slice_index_or self.new number [])) }
         ensures others { (k : ℕ) → k ≢ number → slice_index_or self.new k [] ≡ slice_index_or self.old k [] }
         ensures count { length self.new ≡ length self.old }
@@ -338,7 +348,7 @@ impl JobLines {
 
     /// Makes each line the limit that asks for more fuel than this, and says whether any gives fuel.
     fn limit_lines(&mut self, most: u64, limit: &str) -> Result<bool, AllocError>
-        requires { limit.now ≡ limit most }
+        requires { limit.now ≡ fuel_line most }
         ensures limited { OnOk result (AreLimited most self.old self.new) }
         ensures count { length self.new ≡ length self.old }
         ensures gives { IfOk result (λ gives. gives ≡ list_any has_fuel self.old) }
@@ -356,8 +366,8 @@ impl JobLines {
     /// another than one of fuel stays.
     pub fn limit_fuel(&mut self, most: u64) -> Result<(), AllocError>
         ensures limited { OnOk result (AreLimited most self.old self.new) }
-        ensures more { OnOk result (if list_any has_fuel self.old then length self.new ≡ length self.old
-            else (slice_get self.new (length self.old) ≡ Some (limit most)) × (length self.new ≡ length self.old + 1)) }
+        ensures more { OnOk result (MatchBool (list_any has_fuel self.old) (length self.new ≡ length self.old)
+            ((length self.new ≡ length self.old + 1) × (slice_index_or self.new (length self.old) [] ≡ fuel_line most))) }
     {
         let limit = limit_of(self.alloc, most)?;
         if !self.limit_lines(most, limit.as_str())? {
@@ -382,7 +392,7 @@ fn any_times(generator: &mut Generator) -> u64
 
 /// The line that gives so much fuel.
 fn limit_of(alloc: Global, most: u64) -> Result<String, AllocError>
-    ensures { IfOk result (λ line. string_bytes line ≡ limit most) }
+    ensures { IfOk result (λ line. string_bytes line ≡ fuel_line most) }
 {
     format!(in alloc; "fuel {most}")
 }
@@ -423,5 +433,8 @@ fn asks_for_more(alloc: Global, line: &str, most: u64) -> Result<Option<bool>, A
     ensures within { IfOk result (λ asks. (asks ≡ Some true) ⊎ AsksWithin most line.now) }
 {
     let words = words_of(alloc, line)?;
-    Ok(fuel_in(&words).map(|word| is_more(word, most)))
+    match fuel_in(&words) {
+        Some(word) => Ok(Some(is_more(word, most))),
+        None => Ok(None),
+    }
 }
