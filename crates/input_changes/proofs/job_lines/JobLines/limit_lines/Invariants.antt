@@ -6,9 +6,8 @@ use Rattle.input_changes.proofs.job_lines.JobLines.limit_lines.Given as goal
 
 -- the lines so far are limited, and the others are as they were
 abbrev pub invariant-loop-number : goal.invariant-loop-number
-invariant-loop-number l = record {
-  count = length l.self ≡ length l.initial.self;
-  front = (k : ℕ) → k < l.number → IsLimited l.most (slice_index_or l.initial.self k []) (slice_index_or l.self k []);
-  rest = (k : ℕ) → l.number ≤ k → slice_index_or l.self k [] ≡ slice_index_or l.initial.self k [];
-  said = l.is_said ≡ list_any has_fuel (take l.number l.initial.self);
-}
+invariant-loop-number l =
+    (length l.self ≡ length l.initial.self)
+    × ((k : ℕ) → k < l.number → IsLimited l.most (slice_index_or l.initial.self k []) (slice_index_or l.self k []))
+    × ((k : ℕ) → l.number ≤ k → slice_index_or l.self k [] ≡ slice_index_or l.initial.self k [])
+    × (l.is_said ≡ list_any has_fuel (take l.number l.initial.self))
