@@ -1,5 +1,5 @@
 -- Lines that get a limit, one after another.
-use Rattle.std.proofs.Common.{◌≡◌, ◌≢◌, ◌∙◌, ◌+◌, ◌<◌, ◌≤◌, ◌⊎◌, ◌||◌, ℕ, Bool, true, false, Some, List, [], take, length, refl, sym, subst, arith, inl, inr}
+use Rattle.std.proofs.Common.{◌≡◌, ◌≢◌, ◌∙◌, ◌+◌, ◌<◌, ◌≤◌, ◌⊎◌, ◌||◌, ℕ, Bool, true, false, Some, List, [], take, length, refl, sym, ap, subst, arith, inl, inr}
 use Rattle.std.specs.Prelude.{IfSome, slice_index_or}
 use Rattle.std.specs.List.{list_any}
 use Rattle.std.proofs.lemmas.Bool.{cases_eq}
@@ -31,3 +31,18 @@ module _ (most : ℕ) (first now next : List (List ℕ)) (n : ℕ) where
       → ((k : ℕ) → k ≢ n → slice_index_or next k [] ≡ slice_index_or now k [])
       → (k : ℕ) → n + 1 ≤ k → slice_index_or next k [] ≡ slice_index_or first k []
   rest_less rest others k high = others k (omega arith) ∙ rest k (omega arith)
+
+pub then_said : (was is gives : Bool) → gives ≡ true → is ≡ true → is ≡ (was || gives)
+then_said true is gives g e = e
+then_said false is gives g e = e ∙ sym g
+
+pub else_said : (was is gives : Bool) → gives ≡ false → is ≡ was → is ≡ (was || gives)
+else_said true is gives g e = e
+else_said false is gives g e = e ∙ sym g
+
+pub said_more : (first now : List (List ℕ)) (n : ℕ) (was is gives : Bool) → n < length first → was ≡ list_any has_fuel (take n first)
+    → gives ≡ has_fuel (slice_index_or now n []) → slice_index_or now n [] ≡ slice_index_or first n [] → is ≡ (was || gives)
+    → is ≡ list_any has_fuel (take (n + 1) first)
+said_more first now n was is gives low before here same e =
+    e ∙ ap (λ b. b || gives) before ∙ ap (λ b. list_any has_fuel (take n first) || b) (here ∙ ap has_fuel same)
+    ∙ sym (list_any_more has_fuel first n [] low)

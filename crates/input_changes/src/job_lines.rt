@@ -347,7 +347,6 @@ impl JobLines {
     }
 
     /// Makes each line the limit that asks for more fuel than this, and says whether any gives fuel.
-    #[tactic(auto, using(crate::proofs::Limits::front_more, crate::proofs::Limits::rest_less, std::proofs::lemmas::List::Folds::list_any_more))]
     fn limit_lines(&mut self, most: u64, limit: &str) -> Result<bool, AllocError>
         requires { limit.now ≡ fuel_line most }
         ensures limited { OnOk result (AreLimited most self.old self.new) }
