@@ -1,7 +1,7 @@
 -- What one change leaves of the lines.
 use Rattle.std.proofs.Common.{◌≡◌, ◌∙◌, ◌+◌, ◌++◌, ◌<◌, ◌≤◌, ◌⊎◌, ℕ, suc, Bool, true, false, List, [], ◌∷◌, drop, length, length-append, map, take, refl, sym, ap, subst, arith, inl, inr}
 use Rattle.std.specs.Prelude.{if◌then◌else◌, slice_index_or, slice_set}
-use Rattle.std.specs.List.{All, Contains, insert, remove}
+use Rattle.std.specs.List.{Contains, insert, remove}
 use Rattle.std.proofs.lemmas.Bool.{cases_lt}
 use Rattle.std.proofs.lemmas.List.{drop-map, get_or_past, length-map, length-set, map-append, map-set, set_past, take-map}
 use Rattle.std.proofs.lemmas.List.Edits.{length-insert, length-remove}
@@ -75,7 +75,7 @@ module _ (old : List (List ℕ)) where
       record {
         other = [];
         from = All-set (IsFrom old []) once j (slice_index_or old i []) (line_from old i)
-        (All-set (IsFrom old []) old i (slice_index_or old j []) (line_from old j) (from_self old []));
+            (All-set (IsFrom old []) old i (slice_index_or old j []) (line_from old j) (from_self old []));
         fewer = omega (arith, first, both);
         more = omega (arith, first, both);
       }

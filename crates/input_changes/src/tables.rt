@@ -1,11 +1,11 @@
 //! Tables of entries of one size, somewhere in a file.
 
+ghost use Rattle.std.specs.Prelude.{◌≡◌, ◌≤◌};
+ghost use Rattle.input_changes.specs.Differing.{differing};
+
 use crate::fields::Field;
 use crate::generator::Generator;
 use crate::numbers::other_number;
-
-ghost use Rattle.std.specs.Prelude.{◌≡◌, ◌≤◌};
-ghost use Rattle.input_changes.specs.Differing.{differing};
 
 /// A table: where it begins, how many entries it has, and how many bytes each.
 #[derive(Clone, Copy)]

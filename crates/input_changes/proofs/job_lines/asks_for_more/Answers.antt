@@ -1,6 +1,5 @@
 -- A word that is not called more is within.
-use Rattle.std.proofs.Common.{◌≡◌, Some, map, rules, sym, ap, ◌∙◌}
-use Rattle.std.specs.Option.{option_map}
+use Rattle.std.proofs.Common.{◌≡◌, Some, rules}
 use Rattle.input_changes.specs.Fuel.{fuel_in, words_of}
 use Rattle.input_changes.proofs.Limits.{within_or_more}
 use Rattle.input_changes.proofs.job_lines.asks_for_more.Goals as goal

@@ -1,5 +1,5 @@
 -- The copies change no byte that was there, and the header two numbers.
-use Rattle.std.proofs.Common.{rules, ◌≡◌, ◌≤◌, ◌∙◌, length, sym, ap, arith}
+use Rattle.std.proofs.Common.{rules, sym}
 use Rattle.input_changes.proofs.Differing.{differing_written}
 use Rattle.input_changes.proofs.objects.double_entry.Goals as goal
 

@@ -1,5 +1,5 @@
 -- The view of the lines without one.
-use Rattle.std.proofs.Common.{rules, arith}
+use Rattle.std.proofs.Common.{rules}
 use Rattle.std.specs.Prelude.{string_bytes}
 use Rattle.input_changes.proofs.Lines.{removed}
 use Rattle.input_changes.proofs.job_lines.JobLines.drop_line.Goals as goal

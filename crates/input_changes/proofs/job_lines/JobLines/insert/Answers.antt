@@ -1,5 +1,5 @@
 -- The view of the lines with one more.
-use Rattle.std.proofs.Common.{rules, arith}
+use Rattle.std.proofs.Common.{rules}
 use Rattle.std.specs.Prelude.{string_bytes}
 use Rattle.input_changes.proofs.Lines.{inserted}
 use Rattle.input_changes.proofs.job_lines.JobLines.insert.Goals as goal

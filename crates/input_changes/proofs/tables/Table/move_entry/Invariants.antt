@@ -1,4 +1,4 @@
-use Rattle.std.proofs.Common.{◌≤◌, ◌*◌, ◌≡◌, length}
+use Rattle.std.proofs.Common.{◌≤◌, ◌*◌}
 use Rattle.input_changes.specs.Differing.{differing}
 use Rattle.input_changes.proofs.tables.Table.move_entry.Given as goal
 
