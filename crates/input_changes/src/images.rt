@@ -1,5 +1,8 @@
 //! Changes of images: ELF files with program headers and a dynamic array, as `link` writes them.
 
+ghost use Rattle.std.specs.Prelude.{◌+◌, ◌≤◌, length};
+ghost use Rattle.input_changes.specs.Differing.{differing};
+
 use crate::fields::Field;
 use crate::generator::Generator;
 use crate::lengths::{change_any_byte, change_byte, change_length};
@@ -157,7 +160,9 @@ fn change_table(
     bytes: &mut [u8],
     table: Table,
     fields: &[Field],
-) -> Option<()> {
+) -> Option<()>
+    ensures { differing bytes.old bytes.new ≤ 128 }
+{
     if generator.is_one_in(8) {
         return table.move_entry(generator, bytes);
     }
@@ -165,38 +170,56 @@ fn change_table(
 }
 
 /// Changes a program header.
-fn change_segment(generator: &mut Generator, bytes: &mut [u8]) -> Option<()> {
+#[tactic(auto, using(crate::proofs::Differing::differing_self))]
+fn change_segment(generator: &mut Generator, bytes: &mut [u8]) -> Option<()>
+    ensures { differing bytes.old bytes.new ≤ 128 }
+{
     let table = segments(bytes);
     change_table(generator, bytes, table, &SEGMENT)
 }
 
 /// Changes an entry of the dynamic array.
-fn change_entry(generator: &mut Generator, bytes: &mut [u8]) -> Option<()> {
+#[tactic(auto, using(crate::proofs::Differing::differing_self))]
+fn change_entry(generator: &mut Generator, bytes: &mut [u8]) -> Option<()>
+    ensures { differing bytes.old bytes.new ≤ 128 }
+{
     let table = dynamic(generator, bytes)?;
     change_table(generator, bytes, table, &ENTRY)
 }
 
 /// Changes a symbol.
-fn change_symbol(generator: &mut Generator, bytes: &mut [u8]) -> Option<()> {
+#[tactic(auto, using(crate::proofs::Differing::differing_self))]
+fn change_symbol(generator: &mut Generator, bytes: &mut [u8]) -> Option<()>
+    ensures { differing bytes.old bytes.new ≤ 128 }
+{
     let table = symbols(generator, bytes)?;
     change_table(generator, bytes, table, &SYMBOL)
 }
 
 /// Changes a relocation.
-fn change_relocation(generator: &mut Generator, bytes: &mut [u8]) -> Option<()> {
+#[tactic(auto, using(crate::proofs::Differing::differing_self))]
+fn change_relocation(generator: &mut Generator, bytes: &mut [u8]) -> Option<()>
+    ensures { differing bytes.old bytes.new ≤ 128 }
+{
     let table = relocations(generator, bytes)?;
     change_table(generator, bytes, table, &RELOCATION)
 }
 
 /// Changes a byte of the names, or one of the next sixty-three behind them.
-fn change_name(generator: &mut Generator, bytes: &mut [u8]) -> Option<()> {
+#[tactic(auto, using(crate::proofs::Differing::differing_self))]
+fn change_name(generator: &mut Generator, bytes: &mut [u8]) -> Option<()>
+    ensures { differing bytes.old bytes.new ≤ 1 }
+{
     let address = under_tag(generator, bytes, NAMES)?;
     let place = place_of(bytes, address).saturating_add(generator.below(64));
     change_byte(generator, bytes, place)
 }
 
 /// Changes an image in one way that is drawn by chance. Where it has not what that way changes, it stays.
-pub fn change_image(generator: &mut Generator, bytes: &mut Vec<u8>) -> Result<(), AllocError> {
+pub fn change_image(generator: &mut Generator, bytes: &mut Vec<u8>) -> Result<(), AllocError>
+    ensures few { differing bytes.old.items bytes.new.items ≤ 128 }
+    ensures longer { length bytes.new.items ≤ length bytes.old.items + 63 }
+{
     let _is_changed = match generator.below(24) {
         0 | 1 => header().change_field(generator, bytes, &HEADER),
         2..=5 => change_segment(generator, bytes),

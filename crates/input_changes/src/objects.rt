@@ -1,5 +1,8 @@
 //! Changes of objects: ELF files of 64 bits, little-endian, with sections.
 
+ghost use Rattle.std.specs.Prelude.{◌≡◌, ◌+◌, ◌^◌, ◌≤◌, length};
+ghost use Rattle.input_changes.specs.Differing.{differing};
+
 use crate::fields::Field;
 use crate::generator::Generator;
 use crate::lengths::{change_any_byte, change_byte, change_length};
@@ -120,7 +123,9 @@ fn table_in(bytes: &[u8], section: u64) -> Table {
 }
 
 /// Gives a field of a section's header another number, or moves the whole.
-fn change_section(generator: &mut Generator, bytes: &mut [u8]) -> Option<()> {
+fn change_section(generator: &mut Generator, bytes: &mut [u8]) -> Option<()>
+    ensures { differing bytes.old bytes.new ≤ 128 }
+{
     let table = sections(bytes);
     if generator.is_one_in(12) {
         return table.move_entry(generator, bytes);
@@ -129,7 +134,10 @@ fn change_section(generator: &mut Generator, bytes: &mut [u8]) -> Option<()> {
 }
 
 /// Gives a field of a symbol another number, or moves the whole.
-fn change_symbol(generator: &mut Generator, bytes: &mut [u8]) -> Option<()> {
+#[tactic(auto, using(crate::proofs::Differing::differing_self))]
+fn change_symbol(generator: &mut Generator, bytes: &mut [u8]) -> Option<()>
+    ensures { differing bytes.old bytes.new ≤ 128 }
+{
     let table = table_of(generator, bytes, SYMBOLS)?;
     if generator.is_one_in(8) {
         return table.move_entry(generator, bytes);
@@ -138,7 +146,10 @@ fn change_symbol(generator: &mut Generator, bytes: &mut [u8]) -> Option<()> {
 }
 
 /// Gives a field of a relocation another number, or moves the whole.
-fn change_relocation(generator: &mut Generator, bytes: &mut [u8]) -> Option<()> {
+#[tactic(auto, using(crate::proofs::Differing::differing_self))]
+fn change_relocation(generator: &mut Generator, bytes: &mut [u8]) -> Option<()>
+    ensures { differing bytes.old bytes.new ≤ 128 }
+{
     let table = table_of(generator, bytes, RELOCATIONS)?;
     if generator.is_one_in(4) {
         return table.move_entry(generator, bytes);
@@ -147,7 +158,10 @@ fn change_relocation(generator: &mut Generator, bytes: &mut [u8]) -> Option<()> 
 }
 
 /// Changes a byte of code next to where a relocation stands.
-fn change_site(generator: &mut Generator, bytes: &mut [u8]) -> Option<()> {
+#[tactic(auto, using(crate::proofs::Differing::differing_self))]
+fn change_site(generator: &mut Generator, bytes: &mut [u8]) -> Option<()>
+    ensures { differing bytes.old bytes.new ≤ 1 }
+{
     let sections = sections(bytes);
     let section = sections.any_with(generator, bytes, TYPE, RELOCATIONS)?;
     let table = table_in(bytes, section);
@@ -160,7 +174,10 @@ fn change_site(generator: &mut Generator, bytes: &mut [u8]) -> Option<()> {
 }
 
 /// Changes a byte of a name.
-fn change_name(generator: &mut Generator, bytes: &mut [u8]) -> Option<()> {
+#[tactic(auto, using(crate::proofs::Differing::differing_self))]
+fn change_name(generator: &mut Generator, bytes: &mut [u8]) -> Option<()>
+    ensures { differing bytes.old bytes.new ≤ 1 }
+{
     let sections = sections(bytes);
     let section = sections.any_with(generator, bytes, TYPE, NAMES)?;
     let start = sections.value(bytes, section, OFFSET);
@@ -170,8 +187,14 @@ fn change_name(generator: &mut Generator, bytes: &mut [u8]) -> Option<()> {
 }
 
 /// Copies bytes of a file behind its end.
-fn append_copy(bytes: &mut Vec<u8>, from: u64, length: u64) -> Result<(), AllocError> {
-    for step in 0..length.min(LARGEST_COPY) {
+#[tactic(auto, using(crate::proofs::Differing::differing_self, crate::proofs::Differing::differing_append))]
+fn append_copy(bytes: &mut Vec<u8>, from: u64, count: u64) -> Result<(), AllocError>
+    ensures kept { differing bytes.old.items bytes.new.items ≡ 0 }
+    ensures no_shorter { length bytes.old.items ≤ length bytes.new.items }
+    ensures longer { length bytes.new.items ≤ length bytes.old.items + count }
+    ensures bounded { length bytes.new.items ≤ length bytes.old.items + 2 ^ 16 }
+{
+    for step in 0..count.min(LARGEST_COPY) {
         let Some(byte) = bytes.get(from.saturating_add(step) as usize).copied() else {
             return Ok(());
         };
@@ -180,36 +203,63 @@ fn append_copy(bytes: &mut Vec<u8>, from: u64, length: u64) -> Result<(), AllocE
     Ok(())
 }
 
+/// Copies a table behind the file, and one of its entries once more behind that.
+#[tactic(auto, using(crate::proofs::Differing::differing_self, crate::proofs::Differing::differing_across))]
+fn append_table(bytes: &mut Vec<u8>, table: Table, doubled: u64) -> Result<(), AllocError>
+    ensures kept { differing bytes.old.items bytes.new.items ≡ 0 }
+    ensures no_shorter { length bytes.old.items ≤ length bytes.new.items }
+    ensures longer { length bytes.new.items ≤ length bytes.old.items + 2 ^ 16 + 24 }
+{
+    append_copy(bytes, table.at, table.count.saturating_mul(ENTRY))?;
+    append_copy(bytes, table.place(doubled), ENTRY)
+}
+
+/// Says in a section's header that its table begins there and has this size.
+#[tactic(auto, using(crate::proofs::Differing::differing_across))]
+fn set_table(bytes: &mut [u8], section: u64, start: u64, size: u64)
+    ensures { differing bytes.old bytes.new ≤ 16 }
+{
+    let sections = sections(bytes);
+    sections.field(section, OFFSET).set(bytes, start);
+    sections.field(section, SIZE).set(bytes, size);
+}
+
 /// Moves a section's table behind the file, with one of its entries doubled at the end.
+#[tactic(auto, using(crate::proofs::Differing::differing_self, crate::proofs::Differing::differing_across))]
 fn double_entry(
     generator: &mut Generator,
     bytes: &mut Vec<u8>,
     section: u64,
-) -> Result<(), AllocError> {
+) -> Result<(), AllocError>
+    ensures few { differing bytes.old.items bytes.new.items ≤ 16 }
+    ensures longer { length bytes.new.items ≤ length bytes.old.items + 2 ^ 16 + 24 }
+{
     let table = table_in(bytes, section);
     let Some(doubled) = table.any(generator) else {
         return Ok(());
     };
     let start = bytes.len() as u64;
-    let size = table.count.saturating_mul(ENTRY);
-    append_copy(bytes, table.at, size)?;
-    append_copy(bytes, table.place(doubled), ENTRY)?;
-    let sections = sections(bytes);
-    sections.field(section, OFFSET).set(bytes, start);
-    let longer = size.saturating_add(ENTRY);
-    sections.field(section, SIZE).set(bytes, longer);
+    append_table(bytes, table, doubled)?;
+    let size = table.count.saturating_mul(ENTRY).saturating_add(ENTRY);
+    set_table(bytes, section, start, size);
     Ok(())
 }
 
 /// Drops the last entry of a section's table.
-fn drop_entry(bytes: &mut [u8], section: u64) {
+fn drop_entry(bytes: &mut [u8], section: u64)
+    ensures { differing bytes.old bytes.new ≤ 8 }
+{
     let size = sections(bytes).field(section, SIZE);
     let shorter = size.value(bytes).saturating_sub(ENTRY);
     size.set(bytes, shorter);
 }
 
 /// Gives a table of relocations or symbols one entry more or one less.
-fn resize_table(generator: &mut Generator, bytes: &mut Vec<u8>) -> Result<(), AllocError> {
+#[tactic(auto, using(crate::proofs::Differing::differing_self))]
+fn resize_table(generator: &mut Generator, bytes: &mut Vec<u8>) -> Result<(), AllocError>
+    ensures few { differing bytes.old.items bytes.new.items ≤ 16 }
+    ensures longer { length bytes.new.items ≤ length bytes.old.items + 2 ^ 16 + 24 }
+{
     let kind = if generator.is_one_in(3) {
         SYMBOLS
     } else {
@@ -226,7 +276,10 @@ fn resize_table(generator: &mut Generator, bytes: &mut Vec<u8>) -> Result<(), Al
 }
 
 /// Changes an object in one way that is drawn by chance. Where it has not what that way changes, it stays.
-pub fn change_object(generator: &mut Generator, bytes: &mut Vec<u8>) -> Result<(), AllocError> {
+pub fn change_object(generator: &mut Generator, bytes: &mut Vec<u8>) -> Result<(), AllocError>
+    ensures few { differing bytes.old.items bytes.new.items ≤ 128 }
+    ensures longer { length bytes.new.items ≤ length bytes.old.items + 2 ^ 16 + 24 }
+{
     let _is_changed = match generator.below(24) {
         0 => header().change_field(generator, bytes, &IDENTITY),
         1 => header().change_field(generator, bytes, &PLACES),

@@ -1,5 +1,8 @@
 //! Tables of entries of one size, somewhere in a file.
 
+ghost use Rattle.std.specs.Prelude.{◌≡◌, ◌≤◌};
+ghost use Rattle.input_changes.specs.Differing.{differing};
+
 use crate::fields::Field;
 use crate::generator::Generator;
 use crate::numbers::other_number;
@@ -19,7 +22,9 @@ impl Table {
     }
 
     /// A field of an entry.
-    pub(crate) fn field(self, number: u64, field: Field) -> Field {
+    pub(crate) fn field(self, number: u64, field: Field) -> Field
+        ensures { result.1 ≡ field.1 }
+    {
         field.behind(self.place(number))
     }
 
@@ -55,12 +60,15 @@ impl Table {
     }
 
     /// Gives one of these fields of an entry another number.
+    #[tactic(auto, using(crate::proofs::Differing::differing_self))]
     pub(crate) fn change_field(
         self,
         generator: &mut Generator,
         bytes: &mut [u8],
         fields: &[Field],
-    ) -> Option<()> {
+    ) -> Option<()>
+        ensures { differing bytes.old bytes.new ≤ 8 }
+    {
         let number = self.any(generator)?;
         let field = generator.pick(fields)?;
         let neighbour = self.any(generator)?;
@@ -71,7 +79,10 @@ impl Table {
     }
 
     /// Gives an entry the bytes of another one, and that one its bytes, or not.
-    pub(crate) fn move_entry(self, generator: &mut Generator, bytes: &mut [u8]) -> Option<()> {
+    #[tactic(auto, using(crate::proofs::Differing::differing_self, crate::proofs::Differing::differing_across))]
+    pub(crate) fn move_entry(self, generator: &mut Generator, bytes: &mut [u8]) -> Option<()>
+        ensures { differing bytes.old bytes.new ≤ 128 }
+    {
         let one = self.any(generator)?;
         let other = self.any(generator)?;
         let is_exchanged = generator.is_one_in(2);

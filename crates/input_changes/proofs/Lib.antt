@@ -1,0 +1,3 @@
+mod Differing
+mod Limits
+mod Lines

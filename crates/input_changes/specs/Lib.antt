@@ -1,0 +1,4 @@
+pub mod Differing
+pub mod Fuel
+pub mod Lines
+pub mod Sequence
