@@ -5,7 +5,7 @@ The gate runs a program over files of its own crate alone. So data/examples of t
 examples/ whose jobs have something to print: these jobs, the objects, what stands beside the jobs, and `runs`, the list of what
 is to be run. The crate's `stdout` is what the program prints where all is well: a line for this list, and one for each list of
 data/cases and data/lying, which are written by hand. tests/examples.sh says which file beside a job means which runs, and
-crates/command_runs/src/main.rt what the lines of a list are.
+crates/command_runs/src/main.rt what the lines of a list are. The objects of crates/command_fuzz are copies of these, but for two.
 """
 import os
 import re
@@ -14,6 +14,8 @@ import sys
 
 TOP = os.path.dirname(os.path.dirname(os.path.abspath(__file__)))
 CRATE = f"{TOP}/crates/command_runs"
+FUZZ = f"{TOP}/crates/command_fuzz/data"
+FUZZ_ALONE = ("no_tls.o", "space.o")
 BY_HAND = ("cases/commands", "cases/turns", "cases/verdicts", "cases/failing", "lying/objects", "lying/images")
 HEAD = "# Written by tests/example_data.py from examples/.\n"
 SETTINGS = ([], ["--no-relax"])
@@ -110,12 +112,24 @@ def found():
     return {os.path.relpath(path, CRATE): read(path) for path in there if os.path.exists(path)}
 
 
+def strangers():
+    """The objects of the crate command_fuzz that are no copies of one of this crate, and are not its own."""
+    known = {read(f"{path}/{name}") for path, _, names in os.walk(f"{CRATE}/data") for name in names if name.endswith(".o")}
+    objects = sorted(name for name in os.listdir(FUZZ) if name.endswith(".o") and name not in FUZZ_ALONE)
+    return [name for name in objects if read(f"{FUZZ}/{name}") not in known]
+
+
 def check(made):
     """Ends with whether the crate's files are those."""
     there = found()
     others = sorted(name for name in made.keys() | there.keys() if made.get(name) != there.get(name))
     for name in others:
         print(f"crates/command_runs/{name} is not what examples/ gives")
+    lost = strangers()
+    for name in lost:
+        print(f"crates/command_fuzz/data/{name} is no object of crates/command_runs")
+    if lost:
+        sys.exit(1)
     print("run tests/example_data.py" if others else "crates/command_runs is in step with examples/")
     sys.exit(1 if others else 0)
 

@@ -5,8 +5,8 @@ PROGRAM is crates/command_fuzz as it was built, and its first lines say what it 
 not given, are made in slices of 10,000, each by a process with a seed of its own: SEED, SEED + 1, and on. JOBS processes run at
 once, two if that is not in the environment. For each kind the rows of all slices are added up, and printed with the greatest memory
 of a process and the greatest time of a slice. The status is 1 if a slice ends with an error, which is printed and names the seed and
-the input, or where an answer has no cause that is known, or one of the known causes never came (below so many inputs as are asked for here
-by default some never may).
+the input, if an answer has no cause that is known, if fewer than a tenth of the inputs of a kind are accepted, or if one of the known
+causes never came (with fewer inputs than the default some never may).
 """
 import os
 import subprocess

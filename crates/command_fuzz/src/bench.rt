@@ -33,7 +33,7 @@ impl Answer {
         self.status == other.status && self.out.bytes() == other.out.bytes()
     }
 
-    /// Whether what it printed begins so. An image's names are bytes, so the output of `show` and `sites` may be no text.
+    /// Whether what it printed begins so. An image's names are bytes, so what `show` and `sites` print may be no text.
     pub(crate) fn begins_with(&self, start: &[u8]) -> bool {
         self.out.bytes().get(..start.len()) == Some(start)
     }

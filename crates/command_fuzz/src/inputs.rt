@@ -149,8 +149,8 @@ pub(crate) fn linked_images<R: Threads + Wait + Sync>(
     Ok(images)
 }
 
-/// Tries one changed image: `show` has to take it or to say what it lacks, and as a job or an object it is one that is
-/// refused.
+/// Tries one changed image: `show` has to take it or to name its fault. As a job it is refused, and as an object `check`
+/// refuses it if `run` does.
 pub(crate) fn try_changed_image<R: Threads + Wait + Sync>(
     rt: &R,
     bench: &mut Bench,

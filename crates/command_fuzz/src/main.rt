@@ -1,6 +1,6 @@
-//! Changes jobs, objects and images, and runs every command over them in memory: `command_fuzz COUNT SEED KIND..`, where
-//! KIND is `jobs`, `objects` or `images`, makes COUNT inputs of each kind. Each is a sample among the crate's data with
-//! one to three changes (`input_changes`), drawn from the seed, so that each run with these words is the same.
+//! Changes jobs, objects and images, and runs every command over them in memory: `command_fuzz COUNT SEED KIND..`,
+//! where KIND is `jobs`, `objects` or `images`, makes COUNT inputs of each kind. Each is a sample among the crate's data
+//! with one to three changes (`input_changes`), drawn from the seed, so that each run with these words is the same.
 //!
 //! That no input crashes a command is proved, and so is most of what is tested here. This program tries what the proofs
 //! stand on: the definitions, which might say of an input what nobody meant; the two compilers, whose code it is that
@@ -9,7 +9,8 @@
 //! - that each answer has a cause: its status is one of those of the guide, and its text is the output, or the one line
 //!   of that status with a kind that is known, and nothing else;
 //! - that the commands agree: `run` in both settings, `check`, `sites`, `link` and `race` refuse the same input with
-//!   the same line, and each image that `link` puts has the length that it says, and `show` takes it;
+//!   the same line, but for links that fail in one setting, images that a job does not have, and the data that `race`
+//!   alone refuses; each image that `link` puts has the length that it says, and `show` takes it;
 //! - that a `link` that is refused leaves OUT as it was;
 //! - that a job which `check` calls clean prints the same whether sequences were rewritten or not, and that `race` of
 //!   one thread prints what `run` does;
@@ -23,8 +24,8 @@
 //! ```
 //!
 //! where the rows of status 0 are the commands, and those of the number 10 count what the lines of transcripts say.
-//! Jobs get at most 1,000 fuel. tests/fuzz.py runs many slices with seeds of their own, adds their rows up, and measures
-//! time and memory.
+//! Jobs get at most 1,000 fuel. tests/fuzz.py runs many slices with seeds of their own, adds their rows up, and
+//! measures time and memory.
 #![tactic(auto)]
 
 mod bench;

@@ -6,7 +6,7 @@ ghost use Rattle.input_changes.specs.Differing.{differing};
 use crate::fields::Field;
 use crate::generator::Generator;
 use crate::lengths::{change_any_byte, change_byte, change_length};
-use crate::tables::Table;
+use crate::tables::{ENTRY_SIZE, RELOCATION, SYMBOL, Table, header};
 use std::alloc::AllocError;
 
 /// The fields of the file's header.
@@ -71,31 +71,6 @@ const SYMBOLS: u64 = 6;
 const RELOCATIONS: u64 = 7;
 
 const RELOCATIONS_SIZE: u64 = 8;
-
-/// The fields of a symbol.
-const SYMBOL: [Field; 6] = [
-    Field(0, 4),
-    Field(4, 1),
-    Field(5, 1),
-    Field(6, 2),
-    Field(8, 8),
-    Field(16, 8),
-];
-
-/// The fields of a relocation.
-const RELOCATION: [Field; 4] = [Field(0, 8), Field(8, 4), Field(12, 4), Field(16, 8)];
-
-/// The size of a symbol, and of a relocation.
-const ENTRY_SIZE: u64 = 24;
-
-/// The header of the file, as a table of one entry.
-fn header() -> Table {
-    Table {
-        at: 0,
-        count: 1,
-        size: 64,
-    }
-}
 
 /// The program headers.
 fn segments(bytes: &[u8]) -> Table {

@@ -16,8 +16,8 @@
 //!   length.
 //! - Of an **image** ([`change_image`]) the fields of its header and segments, of its dynamic array, symbols and
 //!   relocations; names, its length, and any byte.
-//! - Of a **job** ([`JobLines`]) its lines, dropped, doubled, moved and exchanged, and their words, which become words of
-//!   other lines, numbers at limits, names that are too long, and words that no line knows.
+//! - Of a **job** ([`JobLines`]) its lines, dropped, doubled, moved and exchanged, and their words, which become words
+//!   of other lines, numbers at limits, names that are too long, and words that no line knows.
 //!
 //! A table is found as a reader finds it, by the fields that name its place. Where an earlier change has moved it away
 //! there is nothing to change, and the call leaves the bytes alone. So no change needs a file that is whole.

@@ -6,7 +6,7 @@ ghost use Rattle.input_changes.specs.Differing.{differing};
 use crate::fields::Field;
 use crate::generator::Generator;
 use crate::lengths::{change_any_byte, change_byte, change_length};
-use crate::tables::Table;
+use crate::tables::{ENTRY_SIZE, PLACE, RELOCATION, SYMBOL, Table, header};
 use std::alloc::AllocError;
 
 /// The fields of the file's header that say what the file is.
@@ -61,30 +61,12 @@ const SIZE: Field = Field(32, 8);
 
 const INFO: Field = Field(44, 4);
 
-/// The fields of a symbol.
-const SYMBOL: [Field; 6] = [
-    Field(0, 4),
-    Field(4, 1),
-    Field(5, 1),
-    Field(6, 2),
-    Field(8, 8),
-    Field(16, 8),
-];
-
-/// The fields of a relocation: its place, type, symbol and addend.
-const RELOCATION: [Field; 4] = [PLACE, Field(8, 4), Field(12, 4), Field(16, 8)];
-
-const PLACE: Field = Field(0, 8);
-
 /// Types of sections: of symbols, of names, and of relocations.
 const SYMBOLS: u64 = 2;
 
 const NAMES: u64 = 3;
 
 const RELOCATIONS: u64 = 4;
-
-/// The size of a symbol, and of a relocation.
-const ENTRY: u64 = 24;
 
 /// How many bytes of a table are copied at most.
 const LARGEST_COPY: u64 = 1 << 16;
@@ -94,15 +76,6 @@ fn sections(bytes: &[u8]) -> Table {
     Table {
         at: SECTION_TABLE.value(bytes),
         count: SECTION_COUNT.value(bytes),
-        size: 64,
-    }
-}
-
-/// The header of the file, as a table of one entry.
-fn header() -> Table {
-    Table {
-        at: 0,
-        count: 1,
         size: 64,
     }
 }
@@ -117,8 +90,8 @@ fn table_of(generator: &mut Generator, bytes: &[u8], kind: u64) -> Option<Table>
 fn table_in(bytes: &[u8], section: u64) -> Table {
     Table {
         at: sections(bytes).value(bytes, section, OFFSET),
-        count: sections(bytes).value(bytes, section, SIZE) / ENTRY,
-        size: ENTRY,
+        count: sections(bytes).value(bytes, section, SIZE) / ENTRY_SIZE,
+        size: ENTRY_SIZE,
     }
 }
 
@@ -210,8 +183,8 @@ fn append_table(bytes: &mut Vec<u8>, table: Table, doubled: u64) -> Result<(), A
     ensures no_shorter { length bytes.old.items ≤ length bytes.new.items }
     ensures longer { length bytes.new.items ≤ length bytes.old.items + 2 ^ 16 + 24 }
 {
-    append_copy(bytes, table.at, table.count.saturating_mul(ENTRY))?;
-    append_copy(bytes, table.place(doubled), ENTRY)
+    append_copy(bytes, table.at, table.count.saturating_mul(ENTRY_SIZE))?;
+    append_copy(bytes, table.place(doubled), ENTRY_SIZE)
 }
 
 /// Says in a section's header that its table begins there and has this size.
@@ -240,7 +213,10 @@ fn double_entry(
     };
     let start = bytes.len() as u64;
     append_table(bytes, table, doubled)?;
-    let size = table.count.saturating_mul(ENTRY).saturating_add(ENTRY);
+    let size = table
+        .count
+        .saturating_mul(ENTRY_SIZE)
+        .saturating_add(ENTRY_SIZE);
     set_table(bytes, section, start, size);
     Ok(())
 }
@@ -250,7 +226,7 @@ fn drop_entry(bytes: &mut [u8], section: u64)
     ensures { differing bytes.old bytes.new ≤ 8 }
 {
     let size = sections(bytes).field(section, SIZE);
-    let shorter = size.value(bytes).saturating_sub(ENTRY);
+    let shorter = size.value(bytes).saturating_sub(ENTRY_SIZE);
     size.set(bytes, shorter);
 }
 

@@ -7,12 +7,39 @@ use crate::fields::Field;
 use crate::generator::Generator;
 use crate::numbers::other_number;
 
+/// The fields of a symbol, in an object and in an image.
+pub(crate) const SYMBOL: [Field; 6] = [
+    Field(0, 4),
+    Field(4, 1),
+    Field(5, 1),
+    Field(6, 2),
+    Field(8, 8),
+    Field(16, 8),
+];
+
+/// The fields of a relocation: its place, type, symbol and addend.
+pub(crate) const RELOCATION: [Field; 4] = [PLACE, Field(8, 4), Field(12, 4), Field(16, 8)];
+
+pub(crate) const PLACE: Field = Field(0, 8);
+
+/// The size of a symbol, and of a relocation.
+pub(crate) const ENTRY_SIZE: u64 = 24;
+
 /// A table: where it begins, how many entries it has, and how many bytes each.
 #[derive(Clone, Copy)]
 pub(crate) struct Table {
     pub(crate) at: u64,
     pub(crate) count: u64,
     pub(crate) size: u64,
+}
+
+/// The header of the file, as a table of one entry.
+pub(crate) fn header() -> Table {
+    Table {
+        at: 0,
+        count: 1,
+        size: 64,
+    }
 }
 
 impl Table {
