@@ -1,16 +1,13 @@
 -- Bytes as a terminal may show them.
 use Rattle.std.specs.Prelude.{ℕ, ◌+◌, ◌/◌, ◌%◌, ◌&&◌, List, [], ◌∷◌, ◌++◌, codes, length, take}
 use Rattle.std.specs.Prelude.{nat_le, nat_lt, if◌then◌else◌}
+use Rattle.hex.specs.Hex.{encode_lower}
 use Rattle.std.specs.List.{flat_map}
-
--- a hexadecimal digit
-abbrev pub digit : ℕ → ℕ
-digit n = if nat_lt n 10 then 48 + n else 87 + n
 
 -- a byte from 0x20 to 0x7e as it is, and another one in hexadecimal, as \x0a
 abbrev pub shown_byte : ℕ → List ℕ
 shown_byte byte =
-    if nat_le 32 byte && nat_le byte 126 then byte ∷ [] else 92 ∷ 120 ∷ digit (byte / 16) ∷ digit (byte % 16) ∷ []
+    if nat_le 32 byte && nat_le byte 126 then byte ∷ [] else codes "\\x" ++ encode_lower (byte ∷ [])
 
 -- two dots, if there are more than 80 bytes
 abbrev pub dots : List ℕ → List ℕ

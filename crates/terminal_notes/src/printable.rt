@@ -8,25 +8,15 @@ use std::alloc::AllocError;
 /// How many bytes of a name are shown.
 const LIMIT: usize = 80;
 
-/// A hexadecimal digit.
-fn digit(number: u8) -> u8
-    requires { number < 16 }
-    ensures { result ≡ digit number }
-{
-    if number < 10 {
-        b'0' + number
-    } else {
-        b'a' - 10 + number
-    }
-}
-
 fn append_byte(into: &mut Vec<u8>, byte: u8) -> Result<(), AllocError>
     ensures { OnOk result (into.new.items ≡ into.old.items ++ shown_byte byte) }
 {
     if 0x20 <= byte && byte <= 0x7e {
         into.extend_from_slice(&[byte])
     } else {
-        into.extend_from_slice(&[b'\\', b'x', digit(byte / 16), digit(byte % 16)])
+        into.extend_from_slice(b"\\x")?;
+        let digits = hex::encode(*into.allocator(), &[byte])?;
+        into.extend_from_slice(digits.as_bytes())
     }
 }
 

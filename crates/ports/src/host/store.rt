@@ -91,7 +91,7 @@ impl<'a, R: Files + Sync> Model for HostStore<'a, R> {
 }
 
 impl<'a, R: Files + Sync> HostStore<'a, R> {
-    /// The files that `rt` reaches. Names of new files and of the last fault are allocated from `alloc`.
+    /// The files that `rt` reaches. Names of new files are allocated from `alloc`.
     pub fn new(rt: &'a R, alloc: Global) -> Self
         ensures { result ≡ 0 }
     {
