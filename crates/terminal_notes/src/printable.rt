@@ -1,7 +1,7 @@
 //! Names as a terminal may show them.
-ghost use Rattle.std.specs.Prelude.{◌≡◌, ◌<◌, ◌++◌, OnOk, take};
+ghost use Rattle.std.specs.Prelude.{◌≡◌, ◌++◌, OnOk, take};
 ghost use Rattle.std.specs.List.{flat_map};
-ghost use Rattle.terminal_notes.specs.Printable.{digit, shown_byte, dots, printable};
+ghost use Rattle.terminal_notes.specs.Printable.{shown_byte, dots, printable};
 
 use std::alloc::AllocError;
 
