@@ -1,7 +1,7 @@
-use Rattle.std.proofs.Common.{◌≡◌, ◌<◌, ◌++◌, [], refl, sym, ap, arith}
+use Rattle.std.proofs.Common.{◌≡◌, ◌<◌, ◌++◌, [], refl, ap, arith}
 use Rattle.std.proofs.lemmas.List.{drop_all}
 use Rattle.elf_object.specs.Object.{section_count}
-use Rattle.tls_symbols.specs.Walks.{entries_from, steps_left, uses_from, uses_left}
+use Rattle.tls_symbols.specs.Walks.{entries_from, steps_left, uses_left}
 use Rattle.tls_symbols.proofs.Walked.{fewer_objects, fewer_sections, next_held, next_object}
 use Rattle.tls_symbols.proofs.uses.Uses.advance.Goals as goal
 
