@@ -17,5 +17,4 @@ pub mod SitesSymbols
 pub mod Spans
 pub mod Surveys
 pub mod Tables
-pub mod Taken
 pub mod Unused

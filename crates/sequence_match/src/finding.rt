@@ -117,12 +117,9 @@ fn is_use(getters: &[bool], relocation: &Relocation) -> bool
 fn has_use(object: &Object, getters: &[bool], section: u32) -> bool
     ensures { result ≡ list_any (is_use getters.now) (relocations_in_file object.now section) }
 {
-    for relocation in object.relocs(section) {
-        if is_use(getters, &relocation) {
-            return true;
-        }
-    }
-    false
+    object
+        .relocs(section)
+        .any(|relocation| is_use(getters, &relocation))
 }
 
 /// The relocations of a section.
@@ -134,10 +131,9 @@ fn relocations_of(
     ensures relocations { IfOk result (λ found. found.items ≡ relocations_in_file object.now section) }
     ensures few { IfOk result (λ found. length found.items ≤ 2 ^ 20) }
 {
+    // Not over `Uses` of `tls_symbols`, which stands above: sequences are known before names are bound.
     let mut relocations = Vec::with_capacity(alloc, object.relocation_count(section) as usize)?;
-    for relocation in object.relocs(section) {
-        relocations.push(relocation)?;
-    }
+    relocations.extend(object.relocs(section))?;
     Ok(relocations)
 }
 

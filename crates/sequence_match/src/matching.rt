@@ -169,6 +169,7 @@ fn is_uncovered(code: &Code, form: Form, spelling: &Row, start: u64, near: u32) 
 }
 
 /// Whether the cells of a form's row stand in the code from `start` on. Its relocations are near number `near`.
+#[inline(always)]
 fn is_spelled(code: &Code, form: Form, spelling: &Row, start: u64, near: u32) -> bool
     requires ready { IsReady code.now }
     requires spelling { IsRow (row form) spelling.now }
@@ -286,6 +287,7 @@ fn takes(wanted: Option<i64>, addend: i64) -> bool
 
 /// Whether a sequence of this form starts here. Relocation number `entry`, which has the place and the type of its
 /// first relocation, is its first.
+#[inline(always)]
 fn is_site_at(code: &Code, form: Form, entry: u32, first: &Relocation, start: u64) -> bool
     requires ready { IsReady code.now }
     requires entry { IsEntry code.now.relocations.now entry first.now }
@@ -302,7 +304,9 @@ fn is_site_at(code: &Code, form: Form, entry: u32, first: &Relocation, start: u6
         && is_earliest(code, entry, first)
 }
 
-/// The sequence of a form whose first relocation is number `entry`, which has the form's type.
+/// The sequence of a form whose first relocation is number `entry`, which has the form's type. It is compiled for each
+/// form by itself, with the row as a constant.
+#[inline(always)]
 fn site_of_form(code: &Code, form: Form, entry: u32, first: &Relocation) -> Option<Site>
     requires ready { IsReady code.now }
     requires entry { IsEntry code.now.relocations.now entry first.now }
@@ -328,6 +332,7 @@ fn site_of_form(code: &Code, form: Form, entry: u32, first: &Relocation) -> Opti
 }
 
 /// The sequence of one of two forms.
+#[inline(always)]
 fn site_of_forms(
     code: &Code,
     form: Form,
@@ -359,6 +364,7 @@ fn relocation_at<'a>(code: &Code<'a>, entry: u32) -> &'a Relocation
 
 /// The sequence whose first relocation is number `entry`.
 #[tactic(auto, unfolding(sequence_forms::specs::Forms::row))]
+#[inline(always)]
 fn site_opened_by(code: &Code, entry: u32, first: &Relocation) -> Option<Site>
     requires ready { IsReady code.now }
     requires entry { IsEntry code.now.relocations.now entry first.now }
@@ -375,6 +381,7 @@ fn site_opened_by(code: &Code, entry: u32, first: &Relocation) -> Option<Site>
 }
 
 /// The sequence whose first relocation is number `entry`.
+#[inline(always)]
 pub fn site_of(code: &Code, entry: u32) -> Option<Site>
     requires ready { IsReady code.now }
     requires entry { entry < length code.now.relocations.now }

@@ -1,19 +1,16 @@
-use Rattle.std.proofs.Common.{◌≡◌}
-use Rattle.elf_object.specs.Lent.{relocations}
-use Rattle.sequence_match.proofs.Taken.{none_taken, one_taken}
+use Rattle.std.proofs.Common.{rules}
+use Rattle.std.proofs.lemmas.Iterator.Adapters.{items_from_extend}
+use Rattle.std.proofs.lemmas.Iterator.Consumers.{YieldsList-from_first}
 use Rattle.sequence_match.proofs.finding.relocations_of.Goals as goal
 
-pub loop-relocation-init : goal.loop-relocation-init
-loop-relocation-init c =
-    let all = relocations c.args.object.now c.args.section in
-    let same : c.into_iter-relocation-iterator.result ≡ all = cc in
-    (tt, tt, none_taken _ c.into_iter-relocation-iterator.result all c.in_ok-relocations.ensures.items same)
+pub returns-clause-relocations : goal.returns-clause-relocations
+returns-clause-relocations c =
+    let all = YieldsList-from_first (λ x. x) (λ s. s) _ c.relocs.ensures.relocations in
+    let given = items_from_extend c.extend.result c.extend.ensures.ran all in
+    search rules
 
-pub loop-relocation-preserved : goal.loop-relocation-preserved
-loop-relocation-preserved c =
-    let all = relocations c.args.object.now c.args.section in (
-      tt,
-      tt,
-      one_taken c.loop-relocation.relocations.items _ c.loop-relocation.relocation-iterator c.next.new.self all c.in-Some.relocation
-          c.in_ok-push.ensures.items c.in-Some.ensures.steps c.loop-relocation.invariant.2,
-    )
+pub returns-clause-few : goal.returns-clause-few
+returns-clause-few c =
+    let all = YieldsList-from_first (λ x. x) (λ s. s) _ c.relocs.ensures.relocations in
+    let given = items_from_extend c.extend.result c.extend.ensures.ran all in
+    search rules
