@@ -1,5 +1,5 @@
 #!/usr/bin/env python3
-"""terminal.py TLSLD: what the program says on standard error, at a terminal and elsewhere.
+"""terminal.py [TLSLD]: what the program says on standard error, at a terminal and elsewhere.
 
 Each row runs one command three times: with standard error at a terminal, in a pipe, and closed. The status and standard
 output have to be the same bytes each time, and those that the row names; at a terminal one line more has to stand on
@@ -162,7 +162,7 @@ def fed(tool, way):
 
 
 def main():
-    tool = os.path.abspath(sys.argv[1])
+    tool = os.path.abspath(sys.argv[1] if len(sys.argv) > 1 else f"{HERE}/../crates/tlsld/out/tlsld")
     failed = 0
     with tempfile.TemporaryDirectory() as folder:
         os.chdir(folder)
