@@ -1,5 +1,5 @@
 #!/usr/bin/env python3
-"""terminal.py TLSLD: what the program says on standard error, at a terminal and elsewhere.
+"""terminal.py [TLSLD]: what the program says on standard error, at a terminal and elsewhere.
 
 Each row runs one command three times: with standard error at a terminal, in a pipe, and closed. The status and standard
 output have to be the same bytes each time, and those that the row names; at a terminal one line more has to stand on
@@ -20,7 +20,7 @@ FAULT = "store fault\n"
 COMMANDS = ("tlsld: commands: run JOB, race JOB, link JOB IMAGE OUT, sites JOB IMAGE, show FILE, check JOB, gen N; "
             "run, race and link take --no-relax\n")
 NO_FILE = "No such file or directory (os error 2)"
-LATE = "object late.o section 2 entry 0 RelocRange\n"
+LATE = "object late.o section 3 entry 0 RelocRange\n"
 LATE_NAMES = "tlsld: late.o: section .rela.text, symbol x\n"
 
 
@@ -106,9 +106,9 @@ ROWS = [
     (["check", "late"], 6, LATE, LATE_NAMES),
     (["sites", "late", "app"], 6, LATE, LATE_NAMES),
     (["link", "late", "app", "out"], 6, LATE, LATE_NAMES),
-    (["run", "escape"], 6, "object escape.o section 2 entry 0 RelocRange\n",
+    (["run", "escape"], 6, "object escape.o section 3 entry 0 RelocRange\n",
      "tlsld: escape.o: section .rela.t\\x0aext, symbol x\\x1b[31m\\xc3\\xa9\n"),
-    (["run", "long"], 6, "object long.o section 2 entry 0 RelocRange\n",
+    (["run", "long"], 6, "object long.o section 3 entry 0 RelocRange\n",
      f"tlsld: long.o: section .rela.text.{'n' * 69}.., symbol {'s' * 80}..\n"),
     (["run", "wide"], 6, "object wide.o section 3 entry 2 SymbolRange\n",
      "tlsld: wide.o: section .symtab, symbol wide\n"),
@@ -162,7 +162,7 @@ def fed(tool, way):
 
 
 def main():
-    tool = os.path.abspath(sys.argv[1])
+    tool = os.path.abspath(sys.argv[1] if len(sys.argv) > 1 else f"{HERE}/../crates/tlsld/out/tlsld")
     failed = 0
     with tempfile.TemporaryDirectory() as folder:
         os.chdir(folder)
@@ -175,7 +175,7 @@ def main():
                     print(f"{words} {way.__name__}: {answer}, not {(*want, shown.encode())}")
                     failed += 1
             print(f"{status} {line}", end="" if line else "\n")
-        want = 6, b"object pipe.o section 2 entry 0 RelocRange\n", b""
+        want = 6, b"object pipe.o section 3 entry 0 RelocRange\n", b""
         for way in at_terminal, in_pipe, closed:
             answer = fed(tool, way)
             if answer != want:
