@@ -93,12 +93,22 @@ impl Bench {
         Ok(Answer { status, out })
     }
 
-    /// What a command answers; it is counted, and must have a cause.
-    pub(crate) fn ask<R: Threads + Wait + Sync>(&mut self, rt: &R, words: &str) -> Result<Answer> {
+    /// Counts what a command answers, which must have a cause. It may be the first answer to an input.
+    fn counted<R: Threads + Wait + Sync>(
+        &mut self,
+        rt: &R,
+        words: &str,
+        is_first: bool,
+    ) -> Result<Answer> {
         let answer = self.answer(rt, words, None)?;
         let cause = answer.cause(words).context(format_args!("{words}"))?;
-        self.tally.count(answer.status, cause, false);
+        self.tally.count(answer.status, cause, is_first);
         Ok(answer)
+    }
+
+    /// What a command answers; it is counted, and must have a cause.
+    pub(crate) fn ask<R: Threads + Wait + Sync>(&mut self, rt: &R, words: &str) -> Result<Answer> {
+        self.counted(rt, words, false)
     }
 
     /// What the first command answers that is asked of an input.
@@ -107,10 +117,7 @@ impl Bench {
         rt: &R,
         words: &str,
     ) -> Result<Answer> {
-        let answer = self.answer(rt, words, None)?;
-        let cause = answer.cause(words).context(format_args!("{words}"))?;
-        self.tally.count(answer.status, cause, true);
-        Ok(answer)
+        self.counted(rt, words, true)
     }
 
     /// What a command answers whose sink fails once it took so many bytes: a front of its text must be there.

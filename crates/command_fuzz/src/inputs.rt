@@ -91,6 +91,28 @@ fn object_bytes(
     Ok(Vec::from_slice(alloc, bytes)?)
 }
 
+/// Puts a changed object onto the bench.
+fn lay_changed_object(
+    bench: &mut Bench,
+    generator: &mut Generator,
+    samples: &Samples,
+    name: &str,
+) -> Result<()> {
+    let mut bytes = object_bytes(bench.alloc, generator, samples, name)?;
+    for _ in 0..change_count(generator) {
+        change_object(generator, &mut bytes)?;
+    }
+    bench.tally.note_size(bytes.len());
+    Ok(bench.files.add(name, bytes.as_slice())?)
+}
+
+/// Asks `show` of a file that may be no image.
+fn show_file<R: Threads + Wait + Sync>(rt: &R, bench: &mut Bench, name: &str) -> Result<()> {
+    let words = format!(in bench.alloc; "show {name}")?;
+    let _shown = bench.ask(rt, words.as_str())?;
+    Ok(())
+}
+
 /// Tries a job with one changed object.
 pub(crate) fn try_changed_object<R: Threads + Wait + Sync>(
     rt: &R,
@@ -100,20 +122,13 @@ pub(crate) fn try_changed_object<R: Threads + Wait + Sync>(
 ) -> Result<()> {
     let job = samples.text(any_job(generator))?;
     let name = any_object(generator, job).context("the job names no object")?;
-    let mut bytes = object_bytes(bench.alloc, generator, samples, name)?;
-    for _ in 0..change_count(generator) {
-        change_object(generator, &mut bytes)?;
-    }
-    bench.tally.note_size(bytes.len());
+    lay_changed_object(bench, generator, samples, name)?;
     bench.files.add("job", job.as_bytes())?;
-    bench.files.add(name, bytes.as_slice())?;
     try_job(rt, bench, generator)?;
     if generator.is_one_in(32) {
-        let words = format!(in bench.alloc; "show {name}")?;
-        let _shown = bench.ask(rt, words.as_str())?;
+        show_file(rt, bench, name)?;
     }
-    bench.files.add(name, samples.bytes(name)?)?;
-    Ok(())
+    Ok(bench.files.add(name, samples.bytes(name)?)?)
 }
 
 /// Puts an image of the bench's job among these, in one setting, if the job has one of that name.
@@ -149,10 +164,8 @@ pub(crate) fn linked_images<R: Threads + Wait + Sync>(
     Ok(images)
 }
 
-/// Tries one changed image: `show` has to take it or to name its fault. As a job it is refused, and as an object `check`
-/// refuses it if `run` does.
-pub(crate) fn try_changed_image<R: Threads + Wait + Sync>(
-    rt: &R,
+/// Puts a changed image onto the bench.
+fn lay_changed_image(
     bench: &mut Bench,
     generator: &mut Generator,
     images: &[Vec<u8>],
@@ -163,12 +176,26 @@ pub(crate) fn try_changed_image<R: Threads + Wait + Sync>(
         change_image(generator, &mut bytes)?;
     }
     bench.tally.note_size(bytes.len());
-    bench.files.add("image", bytes.as_slice())?;
+    Ok(bench.files.add("image", bytes.as_slice())?)
+}
+
+/// Asks `show`, which lists an image where it takes one.
+fn test_listing<R: Threads + Wait + Sync>(rt: &R, bench: &mut Bench) -> Result<()> {
     let shown = bench.ask_first(rt, "show image")?;
     let is_listing = shown.begins_with(b"kind ");
     ensure!(shown.is_done() == is_listing, "show lists no image");
+    Ok(())
+}
+
+/// Asks `run` of the image as a job.
+fn test_as_job<R: Threads + Wait + Sync>(rt: &R, bench: &mut Bench) -> Result<()> {
     let job = bench.ask(rt, "run image")?;
     ensure!(job.status == JOB, "an image is a job");
+    Ok(())
+}
+
+/// Asks `run` and `check` of the job whose object is the image.
+fn test_as_object<R: Threads + Wait + Sync>(rt: &R, bench: &mut Bench) -> Result<()> {
     let run = bench.ask(rt, "run job")?;
     let check = bench.ask(rt, "check job")?;
     ensure!(
@@ -176,6 +203,20 @@ pub(crate) fn try_changed_image<R: Threads + Wait + Sync>(
         "check refuses otherwise than run"
     );
     Ok(())
+}
+
+/// Tries one changed image: `show` has to take it or to name its fault. As a job it is refused, and as an object `check`
+/// refuses it if `run` does.
+pub(crate) fn try_changed_image<R: Threads + Wait + Sync>(
+    rt: &R,
+    bench: &mut Bench,
+    generator: &mut Generator,
+    images: &[Vec<u8>],
+) -> Result<()> {
+    lay_changed_image(bench, generator, images)?;
+    test_listing(rt, bench)?;
+    test_as_job(rt, bench)?;
+    test_as_object(rt, bench)
 }
 
 /// The job whose one object is the changed image.

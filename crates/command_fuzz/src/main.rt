@@ -44,7 +44,9 @@ use inputs::{
 };
 use ports::HostStore;
 use samples::Samples;
+use std::alloc::Global;
 use std::env;
+use std::rt::Files;
 use std::sync::Wait;
 use std::thread::Threads;
 use tally::Tally;
@@ -80,20 +82,42 @@ fn try_inputs<R: Threads + Wait + Sync>(
     Ok(())
 }
 
+/// Tries changed inputs of the kind of this name, and prints the counts.
+fn try_kind<R: Threads + Wait + Print + Sync>(
+    rt: &R,
+    bench: &mut Bench,
+    samples: &Samples,
+    name: &str,
+    plan: Plan,
+) -> Result<()> {
+    let kind = kind_of(name).context("no such kind")?;
+    try_inputs(rt, bench, samples, kind, plan)?;
+    Ok(bench.tally.print(rt, name)?)
+}
+
+/// The samples among the host's files.
+fn fetched_samples<R: Files + Sync>(rt: &R, alloc: Global) -> Result<Samples> {
+    let mut store = HostStore::new(rt, alloc);
+    Samples::fetch(alloc, &mut store)
+}
+
 fn main(rt: HostRuntime) -> Result<()> {
     let alloc = rt.alloc();
     let mut words = env::args(&rt)?.skip(1);
     let count: u64 = words.next().context("how many inputs")?.parse()?;
     let seed: u64 = words.next().context("which seed")?.parse()?;
-    let mut store = HostStore::new(&rt, alloc);
-    let samples = Samples::fetch(alloc, &mut store)?;
+    let samples = fetched_samples(&rt, alloc)?;
     let mut bench = Bench::new(alloc)?;
     lay_objects(&mut bench, &samples)?;
     println!(rt; "seed {seed}")?;
     for name in words {
-        let kind = kind_of(name.as_str()).context("no such kind")?;
-        try_inputs(&rt, &mut bench, &samples, kind, Plan { count, seed })?;
-        bench.tally.print(&rt, name.as_str())?;
+        try_kind(
+            &rt,
+            &mut bench,
+            &samples,
+            name.as_str(),
+            Plan { count, seed },
+        )?;
     }
     Ok(())
 }

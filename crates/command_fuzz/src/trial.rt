@@ -62,6 +62,29 @@ fn test_settings(run: &Answer, kept: &Answer, check: &Answer) -> Result<()> {
     Ok(())
 }
 
+/// How many bytes the file has that `link` writes.
+fn put_length(bench: &Bench) -> Result<usize> {
+    Ok(bench.files.get("out").context("out is gone")?.len())
+}
+
+/// Tests what `link` said of the image that it put.
+fn test_length(bench: &Bench, image: &str, answer: &Answer) -> Result<()> {
+    let length = put_length(bench)?;
+    let wanted = format!(in bench.alloc; "linked {image} {length}\n")?;
+    ensure!(
+        answer.text()? == wanted.as_str(),
+        "link says another length"
+    );
+    Ok(())
+}
+
+/// Asks `show`, which must take the image that `link` put.
+fn test_shown<R: Threads + Wait + Sync>(rt: &R, bench: &mut Bench) -> Result<()> {
+    let shown = bench.ask(rt, "show out")?;
+    ensure!(shown.is_done(), "what link put is no image");
+    Ok(())
+}
+
 /// Asks `link`, which must put what it says, and nothing where it refuses; `show` must take what it put.
 fn test_link<R: Threads + Wait + Sync>(
     rt: &R,
@@ -71,22 +94,17 @@ fn test_link<R: Threads + Wait + Sync>(
     setting: &str,
 ) -> Result<()> {
     bench.files.add("out", b"")?;
-    let alloc = bench.alloc;
-    let words = format!(in alloc; "link job {image} out{setting}")?;
+    let words = format!(in bench.alloc; "link job {image} out{setting}")?;
     let answer = bench.ask(rt, words.as_str())?;
     ensure!(follows(run, &answer)?, "{words}: otherwise than run");
-    let length = bench.files.get("out").context("out is gone")?.len();
-    if !answer.is_done() {
-        ensure!(length == 0, "{words}: it is refused and was put");
-        return Ok(());
+    if answer.is_done() {
+        test_length(bench, image, &answer)?;
+        return test_shown(rt, bench);
     }
-    let wanted = format!(in alloc; "linked {image} {length}\n")?;
     ensure!(
-        answer.text()? == wanted.as_str(),
-        "{words}: it says another length"
+        put_length(bench)? == 0,
+        "{words}: it is refused and was put"
     );
-    let shown = bench.ask(rt, "show out")?;
-    ensure!(shown.is_done(), "{words}: it is no image");
     Ok(())
 }
 
@@ -174,6 +192,25 @@ fn test_seldom<R: Threads + Wait + Sync>(
     Ok(())
 }
 
+/// Asks `check`, and tests it beside `run` in both settings.
+fn test_check<R: Threads + Wait + Sync>(
+    rt: &R,
+    bench: &mut Bench,
+    run: &Answer,
+    kept: &Answer,
+) -> Result<()> {
+    let check = bench.ask(rt, "check job")?;
+    test_settings(run, kept, &check)
+}
+
+/// Counts what the lines of a transcript say, if there is one.
+fn count_lines(bench: &mut Bench, run: &Answer) -> Result<()> {
+    if run.is_done() {
+        bench.tally.count_lines(run.text()?)?;
+    }
+    Ok(())
+}
+
 /// Asks every command about the bench's job, whose name is `job`.
 pub(crate) fn try_job<R: Threads + Wait + Sync>(
     rt: &R,
@@ -182,11 +219,8 @@ pub(crate) fn try_job<R: Threads + Wait + Sync>(
 ) -> Result<()> {
     let run = bench.ask_first(rt, "run job")?;
     let kept = bench.ask(rt, "run job --no-relax")?;
-    let check = bench.ask(rt, "check job")?;
-    test_settings(&run, &kept, &check)?;
-    if run.is_done() {
-        bench.tally.count_lines(run.text()?)?;
-    }
+    test_check(rt, bench, &run, &kept)?;
+    count_lines(bench, &run)?;
     let image = generator.pick(&IMAGES).unwrap_or("app");
     test_image(rt, bench, &run, &kept, image)?;
     test_seldom(rt, bench, generator, &run)
