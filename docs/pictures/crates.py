@@ -1,5 +1,6 @@
 #!/usr/bin/env python3
-"""crates.py [--check]: draws the crates by layers, as crates.txt lists them, into crates.svg; or says whether it is in step.
+"""crates.py [--check]: draws the crates by layers, as crates.txt lists them, into crates.svg, and lays crates.txt out by these
+layers, the highest first; or says whether both are in step.
 
 A crate stands one layer above the highest of those that it uses. A line leads down to each crate that it uses, but for those
 that it reaches over another one. Crates of tests, and programs that measure or list, stand in rows of their own, without lines.
@@ -28,18 +29,31 @@ AREAS = [
 ]
 BESIDE = re.compile(r".*_(tests|benchmark|listing|fuzz|runs)|object_builder|input_changes")
 
+HEAD = "# NAME: the crates that it stands on, of this repository or of the kit\n"
+
 WIDTH, ROW, BOX, GAP, MARGIN, LETTER = 1240, 74, 26, 12, 20, 6.7
 
 
 def read_crates():
-    """Each crate of the repository, and those of the repository that it uses."""
-    uses = {}
+    """Each crate of the repository with its line, and with those of the repository that it uses."""
+    lines = {}
     with open(f"{TOP}/crates.txt", encoding="utf-8") as file:
         for line in file:
             if line.strip() and not line.startswith("#"):
-                name, used = line.split(":", 1)
-                uses[name.split()[0]] = used.split()
-    return {name: [it for it in used if it in uses] for name, used in uses.items()}
+                lines[line.split(":")[0].split()[0]] = line
+    lines = dict(sorted(lines.items()))
+    return lines, {name: [it for it in line.split(":", 1)[1].split() if it in lines] for name, line in lines.items()}
+
+
+def list_by_layers(lines, uses):
+    """The text of crates.txt: its lines by layers, each with a comment."""
+    text = [HEAD]
+    rows = [[name for name in row if not BESIDE.fullmatch(name)] for row in layers_of(uses)]
+    for number, row in reversed([*enumerate(rows, 1)]):
+        text += [f"\n# layer {number}\n" if row else "", *(lines[name] for name in row)]
+    text += ["\n# beside them: tests, what tests are made of, lists, runs of commands, benchmarks\n"]
+    text += [lines[name] for name in lines if BESIDE.fullmatch(name)]
+    return "".join(text)
 
 
 def reached(uses):
@@ -199,14 +213,16 @@ def picture(uses):
 
 
 def main():
-    drawn, path = picture(read_crates()), f"{HERE}/crates.svg"
+    lines, uses = read_crates()
+    made = {f"{HERE}/crates.svg": picture(uses), f"{TOP}/crates.txt": list_by_layers(lines, uses)}
     if sys.argv[1:] == ["--check"]:
-        same = os.path.exists(path) and open(path, encoding="utf-8").read() == drawn
+        same = all(os.path.exists(path) and open(path, encoding="utf-8").read() == text for path, text in made.items())
         print("crates.svg is in step with crates.txt" if same
-              else "crates.svg is not what crates.txt gives: run docs/pictures/crates.py")
+              else "crates.svg or the layers of crates.txt are not what crates.txt gives: run docs/pictures/crates.py")
         sys.exit(0 if same else 1)
-    with open(path, "w", encoding="utf-8") as file:
-        file.write(drawn)
+    for path, text in made.items():
+        with open(path, "w", encoding="utf-8") as file:
+            file.write(text)
 
 
 main()
