@@ -1,10 +1,11 @@
 -- What is made of tables is what the meaning loads.
-use Rattle.std.proofs.Common.{◌≡◌, ◌≤◌, ◌+◌, ◌-◌, ◌∙◌, ℕ, zero, suc, Bool, true, false, List, [], ◌∷◌, ◌++◌, Option, None, Some, IsSome, length, map, replicate, refl, sym, ap, arith, inl, inr}
+use Rattle.std.proofs.Common.{◌≡◌, ◌≤◌, ◌+◌, ◌-◌, ◌^◌, ◌∙◌, ℕ, zero, suc, Bool, true, false, List, [], ◌∷◌, ◌++◌, Option, None, Some, IsSome, length, map, replicate, refl, sym, ap, arith, inl, inr}
 use Rattle.std.specs.Prelude.{◌&&◌, nat_le, nat_lt, option_map, slice_get, if◌then◌else◌}
 use Rattle.std.specs.List.{range_with_len}
 use Rattle.std.specs.Option.{option_or}
 use Rattle.std.proofs.lemmas.Bool.{and_parts, cases_lt, le-ltb, lt-ltb, ltb-true}
-use Rattle.std.proofs.lemmas.List.FromFn.{map-range_with_len_more}
+use Rattle.std.proofs.lemmas.List.{length-append, length-replicate}
+use Rattle.std.proofs.lemmas.List.FromFn.{length-map-range_with_len, map-range_with_len_more}
 use Rattle.std.proofs.lemmas.Option.{slice_get-get_or}
 use Rattle.guest_operands.specs.declared.space.Access.{Access}
 use Rattle.guest_operands.specs.declared.space.Access.TheVariants.{Read, Write, Run}
@@ -102,6 +103,19 @@ pub all_values : (c : ClassTable) (bias n : ℕ) (values : List ℕ) → n ≡ l
     → values ≡ bytes_at c bias
 unfolding bytes_at
 all_values c bias n values e all = all ∙ ap (λ k. map (byte_at c bias) (range_with_len 0 k)) e
+
+-- a block is no longer than its initial image and the segment together
+pub few_padded : (values block : List ℕ) (size : ℕ) → length values ≤ 2 ^ 25 → size ≤ 2 ^ 20
+    → block ≡ values ++ replicate (size - length values) 0 → length block ≤ 2 ^ 26
+few_padded values block size few small padded =
+    let long = length-append values (replicate (size - length values) 0) in
+    omega (arith, few, small, ap length padded, long, length-replicate {A = ℕ} (size - length values) 0)
+
+-- they are no more than the class has
+pub few_values : (c : ClassTable) (bias n limit : ℕ) (values : List ℕ) → n ≤ limit → values ≡ map (byte_at c bias) (range_with_len 0 n)
+    → length values ≤ limit
+few_values c bias n limit values small all =
+    omega (arith, small, ap length all ∙ length-map-range_with_len (byte_at c bias) 0 n)
 
 pub more_values : (c : ClassTable) (bias n v : ℕ) (values : List ℕ) → values ≡ map (byte_at c bias) (range_with_len 0 n) → v ≡ byte_at c bias n
     → values ++ (v ∷ []) ≡ map (byte_at c bias) (range_with_len 0 (n + 1))
