@@ -12,4 +12,4 @@ pub returns : goal.returns
 returns c = λ l is keeps.
     let some = eqb-false (length c.args.writable.now.bytes) 0 (sym c.is_empty.ensures ∙ c.if-is_empty.false) in
     some_data l c.args.bias keeps c.args.writable.now c.place-start.result c.in_ok-bytes.bytes is (omega (arith, some)) c.place-start.ensures
-    (c.in_ok-bytes.ensures ∙ ap (map Value) c.in_ok-values.ensures)
+    (c.in_ok-bytes.ensures ∙ ap (map Value) c.in_ok-values.ensures.values)
