@@ -44,9 +44,7 @@ use inputs::{
 };
 use ports::HostStore;
 use samples::Samples;
-use std::alloc::Global;
 use std::env;
-use std::rt::Files;
 use std::sync::Wait;
 use std::thread::Threads;
 use tally::Tally;
@@ -95,18 +93,13 @@ fn try_kind<R: Threads + Wait + Print + Sync>(
     Ok(bench.tally.print(rt, name)?)
 }
 
-/// The samples among the host's files.
-fn fetched_samples<R: Files + Sync>(rt: &R, alloc: Global) -> Result<Samples> {
-    let mut store = HostStore::new(rt, alloc);
-    Samples::fetch(alloc, &mut store)
-}
-
 fn main(rt: HostRuntime) -> Result<()> {
     let alloc = rt.alloc();
     let mut words = env::args(&rt)?.skip(1);
     let count: u64 = words.next().context("how many inputs")?.parse()?;
     let seed: u64 = words.next().context("which seed")?.parse()?;
-    let samples = fetched_samples(&rt, alloc)?;
+    let mut store = HostStore::new(&rt, alloc);
+    let samples = Samples::fetch(alloc, &mut store)?;
     let mut bench = Bench::new(alloc)?;
     lay_objects(&mut bench, &samples)?;
     println!(rt; "seed {seed}")?;

@@ -4,52 +4,30 @@ use elf_records::symbol::{STT_FUNC, STT_TLS};
 use object_builder::{Section, Symbol, object_of, rela};
 use ports::{HostStore, MemorySink, Sink, Store};
 use std::alloc::{AllocError, Global};
-use std::process::Abort;
 use std::test::Fail;
 use terminal_notes::{COMMANDS, KeptSink, append_printable, note_of, object_note, object_refusal};
 
-/// Checks what a terminal shows of a name.
-fn check_name(rt: &impl Abort, alloc: Global, name: &[u8], text: &str) -> Result<(), AllocError> {
-    let mut shown = Vec::new(alloc);
-    append_printable(&mut shown, name)?;
-    assert!(rt; shown.as_slice() == text.as_bytes(), "{text}");
-    Ok(())
+fn printed(alloc: Global, name: &[u8]) -> Result<String, Fail> {
+    let mut text = Vec::new(alloc);
+    append_printable(&mut text, name)?;
+    Ok(String::from_utf8(text)?)
 }
 
 #[test]
 fn a_name_shows_no_byte_that_moves_a_cursor(rt: HostRuntime) -> Result<(), Fail> {
-    check_name(&rt, rt.alloc(), b"", "")?;
-    check_name(&rt, rt.alloc(), b" a~b\\", " a~b\\")?;
-    check_name(&rt, rt.alloc(), b"\x1f\x7f\n\0", "\\x1f\\x7f\\x0a\\x00")?;
-    check_name(
-        &rt,
-        rt.alloc(),
-        b"\xc3\xa9\x1b[2J\xff",
-        "\\xc3\\xa9\\x1b[2J\\xff",
-    )?;
-    Ok(())
-}
-
-/// Checks how many bytes a terminal shows of a name that has this many.
-fn check_length(
-    rt: &impl Abort,
-    alloc: Global,
-    length: usize,
-    wanted: usize,
-) -> Result<(), AllocError> {
-    let name = vec![in alloc; b'a'; length]?;
-    let mut shown = Vec::new(alloc);
-    append_printable(&mut shown, name.as_slice())?;
-    assert!(rt; shown.len() == wanted);
-    Ok(())
-}
-
-#[test]
-fn a_long_name_is_cut(rt: HostRuntime) -> Result<(), Fail> {
-    check_length(&rt, rt.alloc(), 79, 79)?;
-    check_length(&rt, rt.alloc(), 80, 80)?;
-    check_length(&rt, rt.alloc(), 81, 82)?;
-    check_length(&rt, rt.alloc(), 4_096, 82)?;
+    for (name, text) in [
+        (b"x".as_slice(), "x"),
+        (b"", ""),
+        (b" a~b\\", " a~b\\"),
+        (b"\x1f\x7f\n\0", "\\x1f\\x7f\\x0a\\x00"),
+        (b"\xc3\xa9\x1b[2J\xff", "\\xc3\\xa9\\x1b[2J\\xff"),
+    ] {
+        assert!(rt; printed(rt.alloc(), name)?.as_str() == text);
+    }
+    for (length, printed_length) in [(79, 79), (80, 80), (81, 82), (4_096, 82)] {
+        let name = vec![in rt.alloc(); b'a'; length]?;
+        assert!(rt; printed(rt.alloc(), name.as_slice())?.len() == printed_length);
+    }
     Ok(())
 }
 
@@ -77,45 +55,48 @@ fn noted(alloc: Global, line: &str) -> Result<String, Fail> {
     }
 }
 
-/// Each line: the line of a refusal, and after a `|` the note that belongs to it.
-const REFUSALS: &str = "\
-object b.o section 2 entry 0 RelocRange|tlsld: b.o: section .rela, symbol x\\x1b
-object b.o section 2 entry 0 RelocTarget|tlsld: b.o: section .rela
-object b.o section 2 entry 1 RelocRange|tlsld: b.o: section .rela
-object b.o section 4 entry 1 SymbolRange|tlsld: b.o: section .symtab, symbol f
-object b.o section 3 entry 0 SectionAlign|tlsld: b.o: section .tdata
-object b.o section 0 entry 0 NotElf|no note
-object b.o section 99 entry 0 SectionAlign|no note
-object b.o section 4294967295 entry 4294967295 SymbolName|no note
-object b.o section 4294967296 entry 0 SymbolName|no refusal
-object b.o section 02 entry 0 RelocRange|no refusal
-object b.o section 2 entry 0 Undefined|no refusal
-object  b.o section 2 entry 0 RelocRange|no refusal
-link b.o section 2 entry 0 RelocRange|no refusal
-|no refusal
-";
-
-/// Checks the note of one line.
-fn check_note(rt: &impl Abort, alloc: Global, row: &str) -> Result<(), Fail> {
-    let mut parts = row.split('|');
-    let line = format!(in alloc; "{}\n", parts.next().unwrap_or(""))?;
-    let found = noted(alloc, line.as_str())?;
-    assert!(rt; found.lines().next() == parts.next(), "{row}");
-    Ok(())
-}
-
 #[test]
 fn a_refused_object_is_shown_by_its_names(rt: HostRuntime) -> Result<(), Fail> {
-    for row in REFUSALS.lines() {
-        check_note(&rt, rt.alloc(), row)?;
+    for (line, note) in [
+        (
+            "object b.o section 2 entry 0 RelocRange\n",
+            "tlsld: b.o: section .rela, symbol x\\x1b\n",
+        ),
+        (
+            "object b.o section 2 entry 0 RelocTarget\n",
+            "tlsld: b.o: section .rela\n",
+        ),
+        (
+            "object b.o section 2 entry 1 RelocRange\n",
+            "tlsld: b.o: section .rela\n",
+        ),
+        (
+            "object b.o section 4 entry 1 SymbolRange\n",
+            "tlsld: b.o: section .symtab, symbol f\n",
+        ),
+        (
+            "object b.o section 3 entry 0 SectionAlign\n",
+            "tlsld: b.o: section .tdata\n",
+        ),
+        ("object b.o section 0 entry 0 NotElf\n", "no note"),
+        ("object b.o section 99 entry 0 SectionAlign\n", "no note"),
+        (
+            "object b.o section 4294967295 entry 4294967295 SymbolName\n",
+            "no note",
+        ),
+        (
+            "object b.o section 4294967296 entry 0 SymbolName\n",
+            "no refusal",
+        ),
+        ("object b.o section 2 entry 0 RelocRange", "no refusal"),
+        ("object b.o section 02 entry 0 RelocRange\n", "no refusal"),
+        ("object b.o section 2 entry 0 Undefined\n", "no refusal"),
+        ("object  b.o section 2 entry 0 RelocRange\n", "no refusal"),
+        ("link b.o section 2 entry 0 RelocRange\n", "no refusal"),
+        ("", "no refusal"),
+    ] {
+        assert!(rt; noted(rt.alloc(), line)?.as_str() == note, "{line}");
     }
-    Ok(())
-}
-
-#[test]
-fn half_a_line_is_no_refusal(rt: HostRuntime) -> Result<(), Fail> {
-    let found = noted(rt.alloc(), "object b.o section 2 entry 0 RelocRange")?;
-    assert!(rt; found.as_str() == "no refusal");
     Ok(())
 }
 
@@ -131,42 +112,19 @@ fn told(rt: &HostRuntime, status: u8, line: &str, name: &str) -> Result<String, 
     }
 }
 
-const LINE: &str = "object none section 2 entry 0 RelocRange\n";
-
 #[test]
-fn a_missing_file_is_named(rt: HostRuntime) -> Result<(), Fail> {
-    let found = told(&rt, 3, LINE, "none")?;
-    assert!(rt; found.as_str() == "tlsld: none: No such file or directory (os error 2)\n");
-    Ok(())
-}
-
-#[test]
-fn a_folder_is_named(rt: HostRuntime) -> Result<(), Fail> {
-    let found = told(&rt, 3, LINE, "/")?;
-    assert!(rt; found.as_str() == "tlsld: /: is a directory\n");
-    Ok(())
-}
-
-#[test]
-fn a_file_that_can_be_read_has_no_note(rt: HostRuntime) -> Result<(), Fail> {
-    let found = told(&rt, 3, LINE, "/dev/null")?;
-    assert!(rt; found.as_str() == "no note");
-    Ok(())
-}
-
-#[test]
-fn other_statuses_have_no_note(rt: HostRuntime) -> Result<(), Fail> {
+fn a_status_has_its_note(rt: HostRuntime) -> Result<(), Fail> {
+    assert!(rt; told(&rt, 2, "usage\n", "none")?.as_bytes() == COMMANDS);
+    assert!(rt;
+        told(&rt, 3, "store fault\n", "none")?.as_str()
+            == "tlsld: none: No such file or directory (os error 2)\n"
+    );
+    assert!(rt; told(&rt, 3, "store fault\n", "/")?.as_str() == "tlsld: /: is a directory\n");
+    assert!(rt; told(&rt, 3, "store fault\n", "/dev/null")?.as_str() == "no note");
+    let line = "object none section 2 entry 0 RelocRange\n";
     for status in [0, 1, 4, 5, 6, 7, 8, 9] {
-        let found = told(&rt, status, LINE, "none")?;
-        assert!(rt; found.as_str() == "no note");
+        assert!(rt; told(&rt, status, line, "none")?.as_str() == "no note");
     }
-    Ok(())
-}
-
-#[test]
-fn usage_lists_the_commands(rt: HostRuntime) -> Result<(), Fail> {
-    let found = told(&rt, 2, "usage\n", "none")?;
-    assert!(rt; found.as_bytes() == COMMANDS);
     Ok(())
 }
 
