@@ -383,7 +383,7 @@ def wrong_text(maker, command, folder, count):
     if word in ("run", "race"):
         found = len(re.findall(rb"^t\d+ l\d+ g", said, re.M))
         faults = said.count(b" fault ")
-        if word == "race" and maker is opens:
+        if word == "race" and maker in (opens, instances):
             # another thread may have closed the module meanwhile
             faults -= said.count(b" fault unloaded")
         return None if found == count and not faults else f"{found} lines of {count}, faults {faults}"
