@@ -6,7 +6,7 @@ mod Ranges
 mod Relocated
 mod Rising
 mod Sharing
-mod TlsKept
+pub mod TlsKept
 mod Untouched
 mod Windows
 mod WordBytes
