@@ -45,7 +45,7 @@ pub with_names-append : (names xs ys : List (List ℕ)) → with_names names (xs
 with_names-append names [] ys = refl
 with_names-append names (x ∷ xs) ys = with_names-append (with_name names x) xs ys
 
-symmetric : (x y : List ℕ) → bytes_eq x y ≡ bytes_eq y x
+pub symmetric : (x y : List ℕ) → bytes_eq x y ≡ bytes_eq y x
 symmetric x y = by (bytes_eq x y) refl (bytes_eq y x) refl
   where
     by : (s : Bool) → bytes_eq x y ≡ s → (t : Bool) → bytes_eq y x ≡ t → s ≡ t
@@ -55,7 +55,7 @@ symmetric x y = by (bytes_eq x y) refl (bytes_eq y x) refl
     by false e true f = sym e ∙ (bytes_eq-Decides x y).1 (sym ((bytes_eq-Decides y x).0 f))
 
 -- two tests, one after the other
-filter_twice : (P Q R : List ℕ → Bool) → ((y : List ℕ) → R y ≡ (Q y && P y)) → (ys : List (List ℕ)) → filter R ys ≡ filter P (filter Q ys)
+pub filter_twice : (P Q R : List ℕ → Bool) → ((y : List ℕ) → R y ≡ (Q y && P y)) → (ys : List (List ℕ)) → filter R ys ≡ filter P (filter Q ys)
 filter_twice P Q R h [] = refl
 filter_twice P Q R h (y ∷ ys) =
     ap (λ b. cond b (y ∷ filter R ys) (filter R ys)) (h y)
@@ -64,7 +64,7 @@ filter_twice P Q R h (y ∷ ys) =
       | false ↦ filter_twice P Q R h ys
     ]
 
-filter_all : (ys : List (List ℕ)) → filter (λ y. true) ys ≡ ys
+pub filter_all : (ys : List (List ℕ)) → filter (λ y. true) ys ≡ ys
 filter_all [] = refl
 filter_all (y ∷ ys) = ap (λ r. y ∷ r) (filter_all ys)
 
@@ -72,7 +72,7 @@ abbrev is_among : List (List ℕ) → List ℕ → Bool
 is_among names name = list_any (bytes_eq name) names
 
 -- what is equal to one that was seen was seen
-new_unlike_seen : (seen : List (List ℕ)) (x : List ℕ) → is_among seen x ≡ true → (y : List ℕ) → not (is_among seen y) ≡ (not (bytes_eq x y) && not (is_among seen y))
+pub new_unlike_seen : (seen : List (List ℕ)) (x : List ℕ) → is_among seen x ≡ true → (y : List ℕ) → not (is_among seen y) ≡ (not (bytes_eq x y) && not (is_among seen y))
 new_unlike_seen seen x there y = by (bytes_eq x y) refl
   where
     by : (b : Bool) → bytes_eq x y ≡ b → not (is_among seen y) ≡ (not b && not (is_among seen y))
@@ -82,14 +82,14 @@ new_unlike_seen seen x there y = by (bytes_eq x y) refl
         ap not also
     by false e = refl
 
-neither : (a b : Bool) → not (a || (b || false)) ≡ (not b && not a)
+pub neither : (a b : Bool) → not (a || (b || false)) ≡ (not b && not a)
 neither true true = refl
 neither true false = refl
 neither false true = refl
 neither false false = refl
 
 -- what is none of some and not one more
-new_past : (seen : List (List ℕ)) (x y : List ℕ) → not (is_among (seen ++ x ∷ []) y) ≡ (not (bytes_eq x y) && not (is_among seen y))
+pub new_past : (seen : List (List ℕ)) (x y : List ℕ) → not (is_among (seen ++ x ∷ []) y) ≡ (not (bytes_eq x y) && not (is_among seen y))
 new_past seen x y =
     ap not (list_any-append (bytes_eq y) seen (x ∷ [])) ∙ neither (is_among seen y) (bytes_eq y x)
     ∙ ap (λ b. not b && not (is_among seen y)) (symmetric y x)
