@@ -21,11 +21,9 @@ use Rattle.tls_symbols.specs.Definitions.{definition_of}
 use Rattle.tls_symbols.proofs.Search.{range_first}
 use Rattle.dynamic_symbols.specs.Names.{defined_at, distinct, imported_at, imported_from, imported_in, is_definition, is_import}
 use Rattle.dynamic_symbols.specs.Found.{with_name, with_names}
+use Rattle.tls_symbols.proofs.Numbered.{same_names}
 
 -- ** what a set of names that are lent keeps
-
-abbrev pub same_names : Bor (List ℕ) → Bor (List ℕ) → Bool
-same_names x y = bytes_eq x.now y.now
 
 any_now : (k : Bor (List ℕ)) (ks : List (Bor (List ℕ))) → list_any (bytes_eq k.now) (map (λ x. x.now) ks) ≡ list_any (same_names k) ks
 any_now k [] = refl

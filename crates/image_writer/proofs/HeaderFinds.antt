@@ -19,7 +19,8 @@ use Rattle.image_writer.specs.declared.outline.PartPlace.{PartPlace}
 use Rattle.image_writer.specs.Outlined.{Outlined, part}
 use Rattle.image_writer.specs.Page.{base_of, flags_of, file_header, load_header, dynamic_header, tls_header, relro_header}
 use Rattle.image_writer.specs.Loadable.{IsLoadable, is_written, one_if_some}
-use Rattle.image_writer.proofs.HeaderCounts.{leading_is, many_agree, last_agree, last_none, last_is}
+use Rattle.image_writer.proofs.HeaderCounts.{leading_is, many_agree, last_agree, last_none}
+use Rattle.image_faults.proofs.Counts.{last_more as last_is}
 use Rattle.image_writer.proofs.HeaderReads.{AreRead}
 
 -- the address at which the image begins

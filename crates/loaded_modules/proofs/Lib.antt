@@ -1,5 +1,5 @@
 mod FreshBlocks
-mod Kept
+pub mod Kept
 mod Left
 mod PartReads
 mod Ranges

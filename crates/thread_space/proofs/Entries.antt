@@ -1,11 +1,10 @@
 -- Functions begin at low addresses, and images are moved by little.
-use Rattle.std.proofs.Common.{◌≡◌, ◌∙◌, ◌+◌, ◌-◌, ◌^◌, ◌<◌, ◌≤◌, ◌==◌, ◌&&◌, ℕ, zero, suc, Bool, true, false, List, [], ◌∷◌, ◌++◌, length, Bor, Option, Some, None, refl, sym, ap, subst, inl, inr, arith}
-use Rattle.std.specs.Prelude.{if◌then◌else◌, not, option_map, slice_range, drop, take}
+use Rattle.std.proofs.Common.{◌≡◌, ◌∙◌, ◌+◌, ◌-◌, ◌^◌, ◌<◌, ◌≤◌, ◌==◌, ◌&&◌, ℕ, zero, suc, Bool, true, false, List, [], ◌∷◌, ◌++◌, length, Some, None, refl, sym, ap, subst, inl, inr, arith}
+use Rattle.std.specs.Prelude.{if◌then◌else◌, not, slice_range, drop, take}
 use Rattle.std.specs.List.{list_any, slice_get}
-use Rattle.std.specs.Slice.{IsItemAt}
 use Rattle.std.proofs.lemmas.Bool.{cases_Bool, ltb-true}
 use Rattle.std.proofs.lemmas.List.{length-take, take_more}
-use Rattle.std.proofs.lemmas.Option.{cond_some, get_or_from_slice_get, option_and_then_some, slice_get_past, slice_get_read, slice_get_within}
+use Rattle.std.proofs.lemmas.Option.{cond_some, get_or_from_slice_get, option_and_then_some, slice_get_within}
 use Rattle.elf_records.specs.declared.file_header.TheConstants.{ET_EXEC}
 use Rattle.image_rules.specs.declared.rule.Rule.TheVariants.{Segment as SegmentRule}
 use Rattle.image_faults.specs.Faults.{Breaks, IsImage}
@@ -94,19 +93,10 @@ entry_low image (b, (is, spells)) name place says =
 
 -- ** images by their numbers
 
-pub at_none : (m : JobImages) (number : ℕ) → number ≡ 0 → None ≡ image_at m number
-unfolding image_at
-at_none m zero is = refl
-at_none m (suc n) is = absurd (cc is)
-
 pub at_some : (m : JobImages) (number : ℕ) → (number ≡ 0 → ⊥) → slice_get m.images (number - 1) ≡ image_at m number
 unfolding image_at
 at_some m zero is = absurd (is refl)
 at_some m (suc n) is = ap (slice_get m.images) (omega arith)
-
-pub seen : {X : Type 0} (xs : List X) (i : ℕ) (r : Option (Bor X)) → IsItemAt xs i r → option_map (λ (b : Bor X). b.now) r ≡ slice_get xs i
-seen xs i None is = sym (slice_get_past xs i is.3)
-seen xs i (Some b) is = sym (slice_get_read xs (length xs) i b.now refl is.3.0 is.1)
 
 -- ** images one by one
 

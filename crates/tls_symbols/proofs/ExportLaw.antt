@@ -38,7 +38,7 @@ same_test false false to from = refl
 or_left : (s t : Bool) → s ≡ true → (s || t) ≡ true
 or_left s t e = rw e refl
 
-or_right : (s t : Bool) → t ≡ true → (s || t) ≡ true
+pub or_right : (s t : Bool) → t ≡ true → (s || t) ≡ true
 or_right true t e = refl
 or_right false t e = e
 
