@@ -17,7 +17,7 @@ use Rattle.tls_symbols.proofs.Within.{Dropped, dropped_is, find_found, find_noth
 use Rattle.dynamic_symbols.specs.Laws.{IsShared, NamesAreDistinct, SymbolsAreShared, SymbolsHaveTheNames}
 use Rattle.dynamic_symbols.specs.Names.{defined_at, defined_in, defined_names, defined_symbols, is_definition, name_of}
 use Rattle.dynamic_symbols.proofs.Lists.{all_cons, all_distinct, all_first, all_flat_at, all_flat_range, all_nil, all_rest, distinct_names}
-use Rattle.tls_symbols.proofs.ExportLaw.{both, definition_defines, not_local}
+use Rattle.tls_symbols.proofs.ExportLaw.{both, not_local}
 
 -- ** the definition of a name
 
@@ -61,6 +61,14 @@ module _ (objects : List (List ℕ)) (name : List ℕ) (binding : SymbolBinding)
           → found_or o x (first_from binding name (o + 1) more) ≡ Some found → Defines objects name found
       by_symbol (Some x) here rest is = subst (Defines objects name) (some_same _ _ is) (defined_here o x b at.within at.here here)
       by_symbol None here rest is = rest at.rest is
+
+definition_defines : (objects : List (List ℕ)) (name : List ℕ) (found : SymbolRef) → definition_of objects name ≡ Some found → Defines objects name found
+unfolding definition_of
+definition_defines objects name found is = by_strong (first_from Global name 0 objects) refl is
+  where
+    by_strong : (strong : Option SymbolRef) → first_from Global name 0 objects ≡ strong → or_weak strong (first_from Weak name 0 objects) ≡ Some found → Defines objects name found
+    by_strong (Some x) here is = first_defines objects name Global refl objects 0 found refl (here ∙ is)
+    by_strong None here is = first_defines objects name Weak refl objects 0 found refl is
 
 -- ** a name that a symbol defines has one
 

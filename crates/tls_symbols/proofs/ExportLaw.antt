@@ -91,7 +91,7 @@ module _ (objects : List (List ℕ)) (name : List ℕ) (binding : SymbolBinding)
       by_symbol (Some x) here rest is = subst (Defines objects name) (some_same _ _ is) (defined_here o x b at.within at.here here)
       by_symbol None here rest is = rest at.rest is
 
-pub definition_defines : (objects : List (List ℕ)) (name : List ℕ) (found : SymbolRef) → definition_of objects name ≡ Some found → Defines objects name found
+definition_defines : (objects : List (List ℕ)) (name : List ℕ) (found : SymbolRef) → definition_of objects name ≡ Some found → Defines objects name found
 unfolding definition_of
 definition_defines objects name found is = by_strong (first_from Global name 0 objects) refl is
   where
