@@ -5,7 +5,7 @@ use Rattle.elf_records.specs.declared.symbol.SymbolBinding.TheVariants.{Local, G
 use Rattle.elf_object.specs.declared.symbol.SymbolPlace.{SymbolPlace}
 use Rattle.elf_object.specs.declared.symbol.SymbolPlace.TheVariants.{Undefined, Absolute, InSection}
 use Rattle.elf_records.specs.declared.symbol.SymbolType.{SymbolType}
-use Rattle.elf_records.specs.declared.symbol.SymbolType.TheVariants as type
+use Rattle.elf_records.specs.declared.symbol.SymbolType.TheVariants as types
 use Rattle.elf_object.specs.Classes.{IsTls}
 use Rattle.elf_object.specs.Faults.{IsObject}
 use Rattle.elf_object.specs.Lawful.{IsPlaced, IsShared as IsSharedIn}
@@ -69,19 +69,19 @@ module _ (l : Linking) (given : IsGiven l) (found : SymbolRef) (shares : IsShare
   outside : is_tls_place b (symbol_place b e) ≡ false → is_tls (symbol_type b e) ≡ false
   outside other = of_type (symbol_type b e) refl
     where
-      of_place : (place : SymbolPlace) → symbol_place b e ≡ place → symbol_type b e ≡ type.Tls
+      of_place : (place : SymbolPlace) → symbol_place b e ≡ place → symbol_type b e ≡ types.Tls
           → is_tls_place b place ≡ true
       of_place Undefined at typed = absurd (known at)
       of_place Absolute at typed = absurd (is_shared.relative at)
       of_place (InSection s) at typed = tls_section (section_class b s) (is_placed.thread_local s typed at)
 
       of_type : (kind : SymbolType) → symbol_type b e ≡ kind → is_tls kind ≡ false
-      of_type type.NoType typed = refl
-      of_type type.Object typed = refl
-      of_type type.Func typed = refl
-      of_type type.Section typed = refl
-      of_type type.File typed = refl
-      of_type type.Tls typed = let bad = of_place (symbol_place b e) refl typed in absurd (cc)
+      of_type types.NoType typed = refl
+      of_type types.Object typed = refl
+      of_type types.Func typed = refl
+      of_type types.Section typed = refl
+      of_type types.File typed = refl
+      of_type types.Tls typed = let bad = of_place (symbol_place b e) refl typed in absurd (cc)
 
   pub placed_in : IsPlacedIn l found
   placed_in = record {
