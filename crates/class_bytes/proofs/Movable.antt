@@ -1,6 +1,6 @@
 -- Objects that link make images that may be moved.
-use Rattle.std.proofs.Common.{◌≡◌, ◌≢◌, ◌<◌, ◌^◌, ◌&&◌, ◌∙◌, ℕ, pos, negsuc, zero, suc, true, false, List, [], Option, None, Some, length, refl, ap, subst, arith}
-use Rattle.std.specs.Prelude.{◌<ℤ◌, ◌≤ℤ◌, is_none, slice_get}
+use Rattle.std.proofs.Common.{◌≡◌, ◌≢◌, ◌<◌, ◌^◌, ◌&&◌, ◌∙◌, ℕ, pos, negsuc, true, false, List, [], Option, None, Some, length, refl, ap, subst, arith}
+use Rattle.std.specs.Prelude.{◌<ℤ◌, ◌≤ℤ◌, is_none}
 use Rattle.std.specs.List.{Contains}
 use Rattle.std.proofs.lemmas.Int.{by_lt_z, ints}
 use Rattle.std.proofs.lemmas.List.Elements.{All-contains}
@@ -8,10 +8,10 @@ use Rattle.std.proofs.lemmas.Option.{slice_get-get_or}
 use Rattle.elf_object.specs.declared.relocation.Relocation.{Relocation}
 use Rattle.elf_object.specs.Lawful.{IsLawful}
 use Rattle.elf_object.specs.LawsOfRelocations.{lawful}
-use Rattle.elf_object.specs.Lent.{kept_relocation_table, relocations, relocations_in}
+use Rattle.elf_object.specs.Lent.{kept_relocation_table, relocations}
 use Rattle.elf_records.specs.declared.relocation.RelocationKind.{RelocationKind}
 use Rattle.elf_records.specs.declared.relocation.RelocationKind.TheVariants.{Nothing, Pc32, Plt32}
-use Rattle.link_core.proofs.GotRelocationsSites.{held, passes}
+use Rattle.link_core.proofs.GotRelocationsSites.{has_table, held, passes}
 use Rattle.link_core.proofs.TogetherNames.{runtime_getter}
 use Rattle.link_core.specs.Faults.{IsSound}
 use Rattle.link_core.specs.Laws.{HasNoStray}
@@ -52,12 +52,6 @@ addend_of : (second : Option Second) (getter : ℕ → Type 0) (xs : List Reloca
 addend_of None getter xs start f r is entry = absurd is
 addend_of (Some second) getter xs start f r is entry =
     subst (λ (y : Relocation). y.addend ≡ negsuc 3) (same_entry xs f is.0 r is.1 entry) is.2.addend_is
-
--- a section that has relocations has a table of them
-has_table : (b : List ℕ) (r e : ℕ) (x : Relocation) → slice_get (relocations_in b r) e ≡ Some x → 0 < r
-unfolding relocations_in
-has_table b zero e x is = absurd (cc)
-has_table b (suc r) e x is = omega arith
 
 module _ (l : Linking) (given : IsGiven l) (fits : FitsKind l.objects l.kind) (resolved : AreResolved l.objects l.startup) (stray : HasNoStray l)
     (o s : ℕ) (r : Relocation) (there : o < length l.objects) (has : Contains (relocations (object l o) s) r) where

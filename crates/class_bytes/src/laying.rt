@@ -7,13 +7,11 @@ ghost use Rattle.link_needs.specs.Linking.{Linking, layout, object};
 ghost use Rattle.class_bytes.specs.Laying.{HasRange, IsOfClass, class_cells, laid_before, section_cells};
 ghost use Rattle.object_faults.specs.declared.class.SectionClass.{SectionClass};
 ghost use Rattle.tls_layout.specs.Laws.{extent_for};
-ghost use Rattle.tls_layout.specs.Places.{IsLawful};
-ghost use Rattle.tls_layout.specs.Sections.{is_class};
 
 use elf_object::SectionClass;
 use link_needs::Inputs;
 use std::alloc::{AllocError, Global};
-use tls_layout::{Extent, Placement};
+use tls_layout::{Extent, is_class};
 
 /// What a table holds for the bytes of a link's sections of one class.
 pub trait Cells {
@@ -46,19 +44,6 @@ pub trait Cells {
             ≡ table.old.items ++ section_cells (cell self.now) (linking self.now) object section) };
 }
 
-/// The address range of a class's sections.
-fn extent_of(placement: &Placement, class: SectionClass) -> Extent
-    ensures extent { result ≡ extent_for class placement.now }
-    ensures lawful { IsLawful placement.now }
-{
-    match class {
-        SectionClass::Executable => placement.executable(),
-        SectionClass::ReadOnly => placement.read_only(),
-        SectionClass::Tls { .. } => placement.tls_image(),
-        SectionClass::Writable { .. } => placement.writable(),
-    }
-}
-
 /// The address range of a class's sections, in a link.
 #[tactic(auto, using(crate::proofs::Laid::extent_low, crate::proofs::Laid::extent_rises))]
 pub fn class_extent(inputs: &Inputs, class: SectionClass) -> Extent
@@ -67,22 +52,7 @@ pub fn class_extent(inputs: &Inputs, class: SectionClass) -> Extent
     ensures low { result.end ≤ 2 ^ 25 }
     ensures objects { All IsObject inputs.now.objects }
 {
-    extent_of(&inputs.placement, class)
-}
-
-/// Whether a section is in a class.
-fn is_of(class: SectionClass, kept: Option<SectionClass>) -> bool
-    ensures { result ≡ is_class class kept }
-{
-    match (class, kept) {
-        (SectionClass::Executable, Some(SectionClass::Executable)) => true,
-        (SectionClass::ReadOnly, Some(SectionClass::ReadOnly)) => true,
-        (SectionClass::Tls { initial }, Some(SectionClass::Tls { initial: other })) => initial
-            == other,
-        (SectionClass::Writable { initial }, Some(SectionClass::Writable { initial: other })) =>
-            initial == other,
-        _ => false,
-    }
+    inputs.placement.extent(class)
 }
 
 /// Fills a table with gaps up to a length, unless it is that long.
@@ -120,7 +90,7 @@ fn lay_section<C: Cells>(
     let Some(part) = inputs.object(number).section(section) else {
         return Ok(());
     };
-    if !is_of(class, part.class) {
+    if !is_class(class, part.class) {
         return Ok(());
     }
     let start = class_extent(inputs, class).start;

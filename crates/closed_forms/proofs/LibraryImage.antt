@@ -3,7 +3,7 @@ use Rattle.std.proofs.Common.{false, [], ◌∷◌, Some, None}
 use Rattle.std.specs.Prelude.{codes}
 use Rattle.image_file.specs.Spelled.{Spelled}
 use Rattle.image_file.specs.declared.part.PartClass.TheVariants.{ReadOnly}
-use Rattle.image_file.specs.declared.symbol.SymbolType.TheVariants.{Tls}
+use Rattle.elf_records.specs.declared.symbol.SymbolType.TheVariants.{Tls}
 use Rattle.image_rules.specs.declared.places.FileKind.TheVariants.{Module as ModuleFile}
 use Rattle.closed_jobs.specs.Worlds.{file}
 use Rattle.closed_jobs.proofs.Images.{defined, part, reserved}

@@ -3,10 +3,10 @@ use Rattle.std.proofs.Common.{ℕ, true, false, List}
 use Rattle.image_file.specs.Spelled.{Part}
 use Rattle.image_file.specs.declared.part.PartClass.{PartClass}
 use Rattle.image_file.specs.declared.symbol.ImageSymbol.{ImageSymbol}
-use Rattle.image_file.specs.declared.symbol.SymbolBinding.TheVariants.{Local, Global}
-use Rattle.image_file.specs.declared.symbol.SymbolType.{SymbolType}
-use Rattle.image_file.specs.declared.symbol.SymbolType.TheVariants.{NoType}
-use Rattle.image_file.specs.declared.symbol.Visibility.TheVariants.{Default}
+use Rattle.elf_records.specs.declared.symbol.SymbolBinding.TheVariants.{Local, Global}
+use Rattle.elf_records.specs.declared.symbol.SymbolType.{SymbolType}
+use Rattle.elf_records.specs.declared.symbol.SymbolType.TheVariants.{NoType}
+use Rattle.elf_records.specs.declared.symbol.Visibility.TheVariants.{Default}
 use Rattle.closed_jobs.specs.Worlds.{file}
 
 -- a part with the bytes of these lines of digits

@@ -14,13 +14,13 @@ use Rattle.closed_jobs.proofs.Linked.{linked}
 use Rattle.closed_jobs.proofs.Opened.{meant}
 use Rattle.closed_jobs.proofs.Ran.{ran}
 
-ran-is : (kinds : List ImageKind) (images : List Spelled) (fuel : ℕ) (lines : List (List ThreadLine)) (order : List ℕ)
+pub ran-is : (kinds : List ImageKind) (images : List Spelled) (fuel : ℕ) (lines : List (List ThreadLine)) (order : List ℕ)
     → job_world (job_loads (record { kinds = kinds; images = images })) fuel lines order
     ≡ ran kinds images fuel lines order
 unfolding ran
 ran-is kinds images fuel lines order = refl
 
-meant-is : (ls : List Linking) (fuel : ℕ) (lines : List (List ThreadLine)) (order : List ℕ)
+pub meant-is : (ls : List Linking) (fuel : ℕ) (lines : List (List ThreadLine)) (order : List ℕ)
     → meant_world (meaning_of ls) fuel lines order ≡ meant ls fuel lines order
 unfolding meant
 meant-is ls fuel lines order = refl

@@ -1,9 +1,8 @@
 -- An unclean job, from what is computed with everything open.
-use Rattle.std.proofs.Common.{◌≡◌, ◌∙◌, ℕ, List, Some, map, refl, ap}
+use Rattle.std.proofs.Common.{◌≡◌, ◌∙◌, ℕ, List, Some, map, ap}
 use Rattle.image_file.specs.Spelled.{Spelled}
 use Rattle.job_text.specs.declared.thread_lines.ThreadLine.{ThreadLine}
 use Rattle.link_core.specs.Images.{image_of}
-use Rattle.link_faults.specs.declared.image_kind.ImageKind.{ImageKind}
 use Rattle.link_needs.specs.Linking.{Linking}
 use Rattle.thread_blocks.specs.JobLoads.{job_loads}
 use Rattle.thread_blocks.specs.JobWorlds.{job_world}
@@ -14,17 +13,7 @@ use Rattle.closed_jobs.specs.Worlds.{Says, said_in}
 use Rattle.closed_jobs.proofs.Opened.{meant}
 use Rattle.closed_jobs.proofs.Ran.{ran}
 use Rattle.closed_tokens.specs.Unclean.{IsUnclean}
-
-ran-is : (kinds : List ImageKind) (images : List Spelled) (fuel : ℕ) (lines : List (List ThreadLine)) (order : List ℕ)
-    → job_world (job_loads (record { kinds = kinds; images = images })) fuel lines order
-    ≡ ran kinds images fuel lines order
-unfolding ran
-ran-is kinds images fuel lines order = refl
-
-meant-is : (ls : List Linking) (fuel : ℕ) (lines : List (List ThreadLine)) (order : List ℕ)
-    → meant_world (meaning_of ls) fuel lines order ≡ meant ls fuel lines order
-unfolding meant
-meant-is ls fuel lines order = refl
+use Rattle.closed_jobs.proofs.Joined.{meant-is, ran-is}
 
 pub is-unclean : (ls : List Linking) (images : List Spelled) (fuel : ℕ) (lines : List (List ThreadLine))
     (order : List ℕ) (means : Says) (first : UncleanStep) (does : Says) → map image_of ls ≡ images

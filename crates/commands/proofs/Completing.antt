@@ -24,7 +24,8 @@ use Rattle.job_link.specs.declared.writable.WritableSections.{WritableSections}
 use Rattle.job_link.specs.declared.writable.WritableSections.TheVariants.{Kept, Refused}
 use Rattle.job_link.specs.Given.{Allows, Given, AreGiven, IsSound}
 use Rattle.job_link.specs.Linked.{AllLink}
-use Rattle.job_link.specs.Mentions.{bytes_at, mentions_of, object_names, once}
+use Rattle.job_link.specs.Mentions.{bytes_at, mentions_of, object_names}
+use Rattle.dynamic_symbols.specs.Names.{distinct}
 use Rattle.job_text.specs.declared.fault.JobFault.{JobFault}
 use Rattle.job_text.specs.declared.images.Image.{Image}
 use Rattle.job_text.specs.Images.{image_number, is_named}
@@ -66,7 +67,7 @@ module _ (image : Option (List ℕ)) (E : Ending) (relax : Bool) (w : WritableSe
   unfolding object_names
   fine object i =
       faultless (bytes_at fs object)
-      (sound_at (file_at fs object) (of_all (λ other. HasFile (file_at fs other) IsSound) (once (mentions_of good.job)) object good.objects
+      (sound_at (file_at fs object) (of_all (λ other. HasFile (file_at fs other) IsSound) (distinct (mentions_of good.job)) object good.objects
       (in_once (mentions_of good.job) object i)))
 
   all_link : (images : List Given) → AreGiven (bytes_at fs) good.job images → AllLink images relax
@@ -155,7 +156,7 @@ all_allowed : (fs : Files) (relax : Bool) (name : List ℕ) (race : IsGoodRace f
     → Allows Refused (bytes_at fs object)
 unfolding object_names
 all_allowed fs relax name race object i =
-    allowed_at (file_at fs object) (of_all (λ other. HasFile (file_at fs other) (Allows Refused)) (once (mentions_of race.good.job)) object race.dataless
+    allowed_at (file_at fs object) (of_all (λ other. HasFile (file_at fs other) (Allows Refused)) (distinct (mentions_of race.good.job)) object race.dataless
     (in_once (mentions_of race.good.job) object i))
 
 pub command_done : (fs : Files) (after : Option Files) (command : Command) (status : ℕ) (text : List ℕ) → IsGood fs command → CommandSays fs after command status text

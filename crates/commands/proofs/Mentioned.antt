@@ -7,7 +7,8 @@ use Rattle.std.proofs.lemmas.Option.{slice_get_within}
 use Rattle.std.proofs.lemmas.Slice.Eq.{bytes_eq-Decides}
 use Rattle.job_link.specs.declared.writable.WritableSections.{WritableSections}
 use Rattle.job_link.specs.Given.{Given, AreGiven, IsFileFault, IsTaken}
-use Rattle.job_link.specs.Mentions.{AreFilesOf, Fetched, bytes_at, bytes_in, mentioned, mentions_of, object_names, once}
+use Rattle.job_link.specs.Mentions.{AreFilesOf, Fetched, bytes_at, bytes_in, mentioned, mentions_of, object_names}
+use Rattle.dynamic_symbols.specs.Names.{distinct}
 use Rattle.job_text.specs.declared.images.Image.{Image}
 use Rattle.job_text.specs.Jobs.{JobParts}
 use Rattle.object_rules.specs.declared.fault.ObjectFault.TheVariants.{At}
@@ -25,14 +26,14 @@ not_same : (x y : Name) → bytes_eq x y ≡ false → x ≡ y → ⊥
 not_same x y e s = let t = (bytes_eq-Decides x y).1 s in cc
 
 -- each name is among those that come once
-pub in_once : (names : List Name) (x : Name) → In names x → In (once names) x
+pub in_once : (names : List Name) (x : Name) → In names x → In (distinct names) x
 in_once [] x i = absurd i
 in_once (n ∷ ns) x (inl e) = inl e
 in_once (n ∷ ns) x (inr i) = by_test (bytes_eq n x) refl (in_once ns x i)
   where
-    by_test : (b : Bool) → bytes_eq n x ≡ b → In (once ns) x → In (once (n ∷ ns)) x
+    by_test : (b : Bool) → bytes_eq n x ≡ b → In (distinct ns) x → In (distinct (n ∷ ns)) x
     by_test true e later = inl (same n x true e refl)
-    by_test false e later = inr (in_filter (λ other. not (bytes_eq n other)) (once ns) x later (ap not e))
+    by_test false e later = inr (in_filter (λ other. not (bytes_eq n other)) (distinct ns) x later (ap not e))
 
 -- the bytes of a fetched name
 found : (fs : Files) (names : List Name) (name : Name) → In names name → bytes_in (map (λ n. (n, bytes_at fs n)) names) name ≡ bytes_at fs name
@@ -50,7 +51,7 @@ module _ (fs : Files) (job : JobParts) (files : Fetched) (are : AreFilesOf fs (o
   -- by a mention
   of_mention : (name : Name) → In (mentions_of job) name → bytes_in files name ≡ bytes_at fs name
   unfolding object_names
-  of_mention name i = rw are.files_are (found fs (once (mentions_of job)) name (in_once (mentions_of job) name i))
+  of_mention name i = rw are.files_are (found fs (distinct (mentions_of job)) name (in_once (mentions_of job) name i))
 
   is_mentioned : (k : ℕ) (image : Image) → slice_get job.images k ≡ Some image → In (mentioned job) image
   is_mentioned k image e =

@@ -21,11 +21,9 @@ use Rattle.tls_symbols.specs.Definitions.{definition_of}
 use Rattle.tls_symbols.proofs.Search.{range_first}
 use Rattle.dynamic_symbols.specs.Names.{defined_at, distinct, imported_at, imported_from, imported_in, is_definition, is_import}
 use Rattle.dynamic_symbols.specs.Found.{with_name, with_names}
+use Rattle.tls_symbols.proofs.Numbered.{same_names}
 
 -- ** what a set of names that are lent keeps
-
-abbrev pub same_names : Bor (List ℕ) → Bor (List ℕ) → Bool
-same_names x y = bytes_eq x.now y.now
 
 any_now : (k : Bor (List ℕ)) (ks : List (Bor (List ℕ))) → list_any (bytes_eq k.now) (map (λ x. x.now) ks) ≡ list_any (same_names k) ks
 any_now k [] = refl
@@ -45,7 +43,7 @@ pub with_names-append : (names xs ys : List (List ℕ)) → with_names names (xs
 with_names-append names [] ys = refl
 with_names-append names (x ∷ xs) ys = with_names-append (with_name names x) xs ys
 
-symmetric : (x y : List ℕ) → bytes_eq x y ≡ bytes_eq y x
+pub symmetric : (x y : List ℕ) → bytes_eq x y ≡ bytes_eq y x
 symmetric x y = by (bytes_eq x y) refl (bytes_eq y x) refl
   where
     by : (s : Bool) → bytes_eq x y ≡ s → (t : Bool) → bytes_eq y x ≡ t → s ≡ t
@@ -55,7 +53,7 @@ symmetric x y = by (bytes_eq x y) refl (bytes_eq y x) refl
     by false e true f = sym e ∙ (bytes_eq-Decides x y).1 (sym ((bytes_eq-Decides y x).0 f))
 
 -- two tests, one after the other
-filter_twice : (P Q R : List ℕ → Bool) → ((y : List ℕ) → R y ≡ (Q y && P y)) → (ys : List (List ℕ)) → filter R ys ≡ filter P (filter Q ys)
+pub filter_twice : (P Q R : List ℕ → Bool) → ((y : List ℕ) → R y ≡ (Q y && P y)) → (ys : List (List ℕ)) → filter R ys ≡ filter P (filter Q ys)
 filter_twice P Q R h [] = refl
 filter_twice P Q R h (y ∷ ys) =
     ap (λ b. cond b (y ∷ filter R ys) (filter R ys)) (h y)
@@ -64,7 +62,7 @@ filter_twice P Q R h (y ∷ ys) =
       | false ↦ filter_twice P Q R h ys
     ]
 
-filter_all : (ys : List (List ℕ)) → filter (λ y. true) ys ≡ ys
+pub filter_all : (ys : List (List ℕ)) → filter (λ y. true) ys ≡ ys
 filter_all [] = refl
 filter_all (y ∷ ys) = ap (λ r. y ∷ r) (filter_all ys)
 
@@ -72,7 +70,7 @@ abbrev is_among : List (List ℕ) → List ℕ → Bool
 is_among names name = list_any (bytes_eq name) names
 
 -- what is equal to one that was seen was seen
-new_unlike_seen : (seen : List (List ℕ)) (x : List ℕ) → is_among seen x ≡ true → (y : List ℕ) → not (is_among seen y) ≡ (not (bytes_eq x y) && not (is_among seen y))
+pub new_unlike_seen : (seen : List (List ℕ)) (x : List ℕ) → is_among seen x ≡ true → (y : List ℕ) → not (is_among seen y) ≡ (not (bytes_eq x y) && not (is_among seen y))
 new_unlike_seen seen x there y = by (bytes_eq x y) refl
   where
     by : (b : Bool) → bytes_eq x y ≡ b → not (is_among seen y) ≡ (not b && not (is_among seen y))
@@ -82,14 +80,14 @@ new_unlike_seen seen x there y = by (bytes_eq x y) refl
         ap not also
     by false e = refl
 
-neither : (a b : Bool) → not (a || (b || false)) ≡ (not b && not a)
+pub neither : (a b : Bool) → not (a || (b || false)) ≡ (not b && not a)
 neither true true = refl
 neither true false = refl
 neither false true = refl
 neither false false = refl
 
 -- what is none of some and not one more
-new_past : (seen : List (List ℕ)) (x y : List ℕ) → not (is_among (seen ++ x ∷ []) y) ≡ (not (bytes_eq x y) && not (is_among seen y))
+pub new_past : (seen : List (List ℕ)) (x y : List ℕ) → not (is_among (seen ++ x ∷ []) y) ≡ (not (bytes_eq x y) && not (is_among seen y))
 new_past seen x y =
     ap not (list_any-append (bytes_eq y) seen (x ∷ [])) ∙ neither (is_among seen y) (bytes_eq y x)
     ∙ ap (λ b. not b && not (is_among seen y)) (symmetric y x)

@@ -6,8 +6,8 @@ use Rattle.std.specs.Str.{bytes_eq}
 use Rattle.std.proofs.lemmas.Bool.{cases_lt}
 use Rattle.std.proofs.lemmas.List.{length-drop}
 use Rattle.std.proofs.lemmas.Slice.Eq.{bytes_eq-Decides}
-use Rattle.elf_object.specs.declared.symbol.SymbolBinding.{SymbolBinding}
-use Rattle.elf_object.specs.declared.symbol.SymbolBinding.TheVariants.{Local, Global, Weak}
+use Rattle.elf_records.specs.declared.symbol.SymbolBinding.{SymbolBinding}
+use Rattle.elf_records.specs.declared.symbol.SymbolBinding.TheVariants.{Local, Global, Weak}
 use Rattle.elf_object.specs.Lent.{symbol_binding, symbol_name, symbol_place}
 use Rattle.elf_object.specs.Parts.{symbol_count}
 use Rattle.link_faults.specs.declared.symbol_ref.SymbolRef.{SymbolRef}
@@ -17,10 +17,7 @@ use Rattle.tls_symbols.proofs.Within.{Dropped, dropped_is, find_found, find_noth
 use Rattle.dynamic_symbols.specs.Laws.{IsShared, NamesAreDistinct, SymbolsAreShared, SymbolsHaveTheNames}
 use Rattle.dynamic_symbols.specs.Names.{defined_at, defined_in, defined_names, defined_symbols, is_definition, name_of}
 use Rattle.dynamic_symbols.proofs.Lists.{all_cons, all_distinct, all_first, all_flat_at, all_flat_range, all_nil, all_rest, distinct_names}
-
-both : (s t : Bool) → (s && t) ≡ true → (s ≡ true) × (t ≡ true)
-both true t e = (refl, e)
-both false t e = cc
+use Rattle.tls_symbols.proofs.ExportLaw.{both, not_local}
 
 -- ** the definition of a name
 
@@ -28,15 +25,6 @@ both false t e = cc
 record Defines (objects : List (List ℕ)) (name : List ℕ) (found : SymbolRef) : Type 0 where
   shares : IsShared objects found
   named : name ≡ name_of objects found
-
-not_local : (x y : SymbolBinding) → same_binding Local x ≡ false → same_binding x y ≡ true → same_binding Local y ≡ false
-not_local Local y other same = cc
-not_local Global Local other same = cc
-not_local Global Global other same = refl
-not_local Global Weak other same = refl
-not_local Weak Local other same = cc
-not_local Weak Global other same = refl
-not_local Weak Weak other same = refl
 
 some_same : (x y : SymbolRef) → Some x ≡ Some y → x ≡ y
 some_same x y e = cc

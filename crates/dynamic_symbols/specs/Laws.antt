@@ -2,13 +2,14 @@
 use Rattle.std.specs.Prelude.{◌≡◌, ◌≢◌, ◌≤◌, ℕ, true, false, List, None, map}
 use Rattle.std.specs.List.{All, AllPairs}
 use Rattle.elf_object.specs.declared.relocation.Relocation.{Relocation}
-use Rattle.elf_object.specs.declared.symbol.SymbolBinding.TheVariants.{Local}
+use Rattle.elf_records.specs.declared.symbol.SymbolBinding.TheVariants.{Local}
 use Rattle.elf_object.specs.Faults.{IsObject}
 use Rattle.elf_object.specs.Lent.{symbol_binding, symbol_place}
 use Rattle.sequence_forms.specs.declared.places.Site.{Site}
 use Rattle.sequence_match.specs.Faults.{AreSites}
 use Rattle.link_faults.specs.declared.symbol_ref.SymbolRef.{SymbolRef}
-use Rattle.tls_symbols.specs.Bindings.{binding_of, get_address, object_at}
+use Rattle.tls_symbols.specs.Bindings.{binding_of, object_at}
+use Rattle.elf_records.specs.Symbols.{get_address}
 use Rattle.tls_symbols.specs.Definitions.{definition_of, is_defined, same_binding, IsWithin}
 use Rattle.dynamic_symbols.specs.Names.{defined_names, defined_symbols, imports, name_of}
 use Rattle.sequence_match.specs.Sites.{HaveSymbols}

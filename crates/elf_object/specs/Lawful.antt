@@ -2,7 +2,7 @@
 use Rattle.std.specs.Prelude.{◌≡◌, ◌≢◌, ◌+◌, ◌<◌, ◌≤◌, ◌^◌, ℕ, Bool, true, List, length, Some, IsSome, if◌then◌else◌}
 use Rattle.object_faults.specs.declared.class.SectionClass.{SectionClass}
 use Rattle.object_faults.specs.declared.class.SectionClass.TheVariants.{Executable, Tls, Writable}
-use Rattle.elf_object.specs.declared.symbol.SymbolType.TheVariants.{Func, File, Tls as ThreadLocal}
+use Rattle.elf_records.specs.declared.symbol.SymbolType.TheVariants.{Func, File, Tls as ThreadLocal}
 use Rattle.elf_object.specs.declared.symbol.SymbolPlace.TheVariants.{Absolute, InSection}
 use Rattle.elf_records.specs.declared.relocation.RelocationKind.TheVariants.{Nothing}
 use Rattle.elf_object.specs.declared.relocation.Relocation.{Relocation}

@@ -7,14 +7,15 @@ use Rattle.elf_records.specs.Records.{symbol_binding as binding_number, symbol_k
 use Rattle.object_rules.specs.declared.fault.FaultKind.TheVariants.{SymbolSection, SymbolRange, SymbolKind}
 use Rattle.object_faults.specs.declared.class.SectionClass.{SectionClass}
 use Rattle.object_faults.specs.declared.class.SectionClass.TheVariants.{Executable, ReadOnly, Tls, Writable}
-use Rattle.elf_object.specs.declared.symbol.SymbolBinding.TheVariants.{Local, Global, Weak}
-use Rattle.elf_object.specs.declared.symbol.SymbolType.TheVariants.{NoType, Object, Func, Section, File}
-use Rattle.elf_object.specs.declared.symbol.SymbolType.TheVariants.{Tls as ThreadLocal}
+use Rattle.elf_records.specs.declared.symbol.SymbolBinding.TheVariants.{Local, Global, Weak}
+use Rattle.elf_records.specs.declared.symbol.SymbolType.TheVariants.{NoType, Object, Func, Section, File}
+use Rattle.elf_records.specs.declared.symbol.SymbolType.TheVariants.{Tls as ThreadLocal}
 use Rattle.elf_object.specs.declared.symbol.SymbolPlace.TheVariants.{Undefined, Absolute, InSection}
 use Rattle.elf_object.specs.Parts.{header, section, symbol, symbol_table, symbol_count, IsSection}
 use Rattle.elf_object.specs.Classes.{kept_class, IsKeptSection, IsTls}
 use Rattle.elf_object.specs.Lent.{section_class, section_size, symbol_binding, symbol_type, symbol_place}
-use Rattle.elf_object.specs.Lent.{symbol_value, symbol_size, place_numbered, type_numbered}
+use Rattle.elf_object.specs.Lent.{symbol_value, symbol_size, place_numbered}
+use Rattle.elf_records.specs.Symbols.{type_numbered}
 use Rattle.elf_object.specs.Lawful.{IsPlaced, IsShared}
 use Rattle.elf_object.specs.Faults.{Stands, IsObject, IsSymbol}
 

@@ -7,16 +7,15 @@ use Rattle.elf_records.specs.Strings.{text_at}
 use Rattle.elf_records.specs.Records.{rela_at, rela_symbol, rela_kind, symbol_binding as binding_number}
 use Rattle.elf_records.specs.Records.{symbol_kind as type_number, symbol_visibility as visibility_number}
 use Rattle.elf_records.specs.declared.section_header.TheConstants.{SHT_NULL, SHT_RELA, SHT_NOBITS}
-use Rattle.elf_records.specs.declared.symbol.TheConstants.{SHN_UNDEF, SHN_ABS, STB_LOCAL, STB_GLOBAL, STT_NOTYPE}
-use Rattle.elf_records.specs.declared.symbol.TheConstants.{STT_OBJECT, STT_FUNC, STT_SECTION, STT_FILE, STV_DEFAULT}
-use Rattle.elf_records.specs.declared.symbol.TheConstants.{STV_INTERNAL, STV_HIDDEN}
+use Rattle.elf_records.specs.declared.symbol.TheConstants.{SHN_UNDEF, SHN_ABS}
+use Rattle.elf_records.specs.Symbols.{binding_numbered, type_numbered, visibility_numbered}
 use Rattle.object_faults.specs.declared.class.SectionClass.{SectionClass}
-use Rattle.elf_object.specs.declared.symbol.SymbolBinding.{SymbolBinding}
-use Rattle.elf_object.specs.declared.symbol.SymbolBinding.TheVariants.{Local, Global, Weak}
-use Rattle.elf_object.specs.declared.symbol.SymbolType.{SymbolType}
-use Rattle.elf_object.specs.declared.symbol.SymbolType.TheVariants.{NoType, Object, Func, Section, File, Tls}
-use Rattle.elf_object.specs.declared.symbol.Visibility.{Visibility}
-use Rattle.elf_object.specs.declared.symbol.Visibility.TheVariants.{Default, Internal, Hidden, Protected}
+use Rattle.elf_records.specs.declared.symbol.SymbolBinding.{SymbolBinding}
+use Rattle.elf_records.specs.declared.symbol.SymbolBinding.TheVariants.{Local}
+use Rattle.elf_records.specs.declared.symbol.SymbolType.{SymbolType}
+use Rattle.elf_records.specs.declared.symbol.SymbolType.TheVariants.{NoType}
+use Rattle.elf_records.specs.declared.symbol.Visibility.{Visibility}
+use Rattle.elf_records.specs.declared.symbol.Visibility.TheVariants.{Default}
 use Rattle.elf_object.specs.declared.symbol.SymbolPlace.{SymbolPlace}
 use Rattle.elf_object.specs.declared.symbol.SymbolPlace.TheVariants.{Undefined, Absolute, InSection}
 use Rattle.elf_records.specs.declared.relocation.RelocationKind.TheVariants.{Nothing}
@@ -27,23 +26,7 @@ use Rattle.elf_object.specs.Parts.{header, section, is_section, symbol, symbol_t
 use Rattle.elf_object.specs.Classes.{kept_class}
 use Rattle.elf_object.specs.Relocations.{relocation_kind}
 
--- the binding, the type, the visibility and the place that numbers of the file stand for
-abbrev pub binding_numbered : ℕ → SymbolBinding
-binding_numbered n = if n == STB_LOCAL then Local else if n == STB_GLOBAL then Global else Weak
-
-abbrev pub type_numbered : ℕ → SymbolType
-type_numbered n =
-    if n == STT_NOTYPE then NoType else
-    if n == STT_OBJECT then Object else
-    if n == STT_FUNC then Func else
-    if n == STT_SECTION then Section else
-    if n == STT_FILE then File else
-    Tls
-
-abbrev pub visibility_numbered : ℕ → Visibility
-visibility_numbered n = if n == STV_DEFAULT then Default else if n == STV_INTERNAL then Internal else if n ==
-    STV_HIDDEN then Hidden else Protected
-
+-- the place that a section number of the file stands for
 abbrev pub place_numbered : ℕ → SymbolPlace
 place_numbered n = if n == SHN_UNDEF then Undefined else if n == SHN_ABS then Absolute else InSection n
 

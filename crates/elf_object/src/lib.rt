@@ -31,9 +31,10 @@ mod relocation;
 mod relocs;
 mod symbol;
 
+pub use elf_records::{SymbolBinding, SymbolType, Visibility};
 pub use object::Object;
 pub use object_faults::{FaultKind, ObjectFault, RelocationKind, SectionClass};
 pub use part::{SectionPart, SymbolPart};
 pub use relocation::Relocation;
 pub use relocs::Relocs;
-pub use symbol::{SymbolBinding, SymbolPlace, SymbolType, Visibility};
+pub use symbol::SymbolPlace;

@@ -14,7 +14,7 @@ ghost use Rattle.elf_object.specs.Faults.{IsObject, IsFault, IsFirstAt};
 use crate::part::{SectionPart, SymbolPart, class_in, section_part, symbol_part};
 use crate::part_names::{section_name, short_symbol_name, symbol_name};
 use crate::relocs::{Relocs, count_in, relocs_in, table_of, target_of};
-use crate::symbol::SymbolBinding;
+use elf_records::SymbolBinding;
 use object_faults::{FaultFree, ObjectFault, SectionClass, Tables, fault_free};
 use std::alloc::Global;
 use std::marker::Model;

@@ -4,10 +4,9 @@ ghost use Rattle.std.specs.Prelude.{◌≡◌, ◌<◌, OnSome};
 ghost use Rattle.elf_object.specs.Parts.{symbol_count, IsSection};
 ghost use Rattle.elf_object.specs.Lent.{IsSectionPart, IsSymbolPart, section_bytes, section_class, section_alignment};
 
-use crate::symbol::{
-    SymbolBinding, SymbolPlace, SymbolType, Visibility, binding_numbered, place_numbered,
-    type_numbered, visibility_numbered,
-};
+use crate::symbol::{SymbolPlace, place_numbered};
+use elf_records::symbol::{binding_numbered, type_numbered, visibility_numbered};
+use elf_records::{SymbolBinding, SymbolType, Visibility};
 use object_faults::{SectionClass, Tables, has_bytes, kept_class};
 
 /// A section of an object. Its bytes are in the file.

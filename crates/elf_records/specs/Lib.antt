@@ -7,3 +7,4 @@ pub mod RelocationRows
 pub mod Relocations
 pub mod StringLaws
 pub mod Strings
+pub mod Symbols

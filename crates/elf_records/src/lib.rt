@@ -53,4 +53,6 @@ pub use program_header::{Segment, read_segment, write_segment};
 pub use relocation::{Rela, RelocationKind, read_rela, rela_numbered, write_rela};
 pub use relocation_row::RelocationRow;
 pub use section_header::{SectionHeader, read_section, section_numbered, write_section};
-pub use symbol::{SymbolEntry, read_symbol, symbol_numbered, write_symbol};
+pub use symbol::{
+    SymbolBinding, SymbolEntry, SymbolType, Visibility, read_symbol, symbol_numbered, write_symbol,
+};

@@ -3,6 +3,7 @@
 ghost use Rattle.std.specs.Prelude.{◌≡◌, ◌+◌, ◌*◌, ◌<◌, ◌≤◌, length, take, drop};
 ghost use Rattle.elf_records.specs.Fields.{IsReadAt, splice};
 ghost use Rattle.elf_records.specs.Records.{symbol_at, symbol_binding, symbol_bytes, symbol_kind, symbol_visibility};
+ghost use Rattle.elf_records.specs.Symbols.{binding_numbered, is_tls, is_visible, type_numbered, visibility_numbered};
 
 use crate::field::{fits, put_u8, put_u16, put_u32, put_u64, u8_at, u16_at, u32_at, u64_at};
 
@@ -53,6 +54,96 @@ pub const SHN_ABS: u16 = 0xfff1;
 pub const SHN_COMMON: u16 = 0xfff2;
 /// The number stands in a section of type `SHT_SYMTAB_SHNDX`.
 pub const SHN_XINDEX: u16 = 0xffff;
+
+/// The name of the run time's function that returns the address of a thread-local variable (Drepper, "ELF
+/// Handling For Thread-Local Storage").
+pub const GET_ADDRESS: &[u8] = b"__tls_get_addr";
+
+/// Which objects see a symbol.
+#[derive(Clone, Copy, PartialEq, Eq, Debug)]
+pub enum SymbolBinding {
+    /// Only its own object.
+    Local,
+    /// All objects. A name has one such definition.
+    Global,
+    /// All objects. A GLOBAL definition of the name takes precedence.
+    Weak,
+}
+
+/// What a symbol names.
+#[derive(Clone, Copy, PartialEq, Eq, Debug)]
+pub enum SymbolType {
+    NoType,
+    Object,
+    Func,
+    Section,
+    File,
+    Tls,
+}
+
+/// Whether other images see a symbol.
+#[derive(Clone, Copy, PartialEq, Eq, Debug)]
+pub enum Visibility {
+    Default,
+    Internal,
+    Hidden,
+    Protected,
+}
+
+impl SymbolType {
+    /// Whether each thread has a copy of what the symbol names.
+    pub fn is_tls(self) -> bool
+        ensures { result ≡ is_tls self }
+    {
+        matches!(self, SymbolType::Tls)
+    }
+}
+
+impl Visibility {
+    /// Whether code of other images may name the symbol.
+    pub fn is_visible(self) -> bool
+        ensures { result ≡ is_visible self }
+    {
+        matches!(self, Visibility::Default | Visibility::Protected)
+    }
+}
+
+/// The binding with this number in the file.
+pub fn binding_numbered(number: u8) -> SymbolBinding
+    ensures { result ≡ binding_numbered number }
+{
+    match number {
+        STB_LOCAL => SymbolBinding::Local,
+        STB_GLOBAL => SymbolBinding::Global,
+        _ => SymbolBinding::Weak,
+    }
+}
+
+/// The type with this number in the file.
+pub fn type_numbered(number: u8) -> SymbolType
+    ensures { result ≡ type_numbered number }
+{
+    match number {
+        STT_NOTYPE => SymbolType::NoType,
+        STT_OBJECT => SymbolType::Object,
+        STT_FUNC => SymbolType::Func,
+        STT_SECTION => SymbolType::Section,
+        STT_FILE => SymbolType::File,
+        _ => SymbolType::Tls,
+    }
+}
+
+/// The visibility with this number in the file.
+pub fn visibility_numbered(number: u8) -> Visibility
+    ensures { result ≡ visibility_numbered number }
+{
+    match number {
+        STV_DEFAULT => Visibility::Default,
+        STV_INTERNAL => Visibility::Internal,
+        STV_HIDDEN => Visibility::Hidden,
+        _ => Visibility::Protected,
+    }
+}
 
 /// An entry of a symbol table.
 #[derive(Clone, Copy, PartialEq, Eq, Debug)]

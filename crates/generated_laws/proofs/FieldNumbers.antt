@@ -1,7 +1,7 @@
 -- The numbers that fields are made of are small, and so what they hold fits.
-use Rattle.std.proofs.Common.{◌≡◌, ◌+◌, ◌-◌, ◌≤◌, ◌^◌, ◌==◌, ℕ, ℤ, zero, suc, Bool, true, false, List, [], ◌∷◌}
+use Rattle.std.proofs.Common.{◌≡◌, ◌+◌, ◌-◌, ◌≤◌, ◌^◌, ◌==◌, ℕ, ℤ, Bool, true, false, List, [], ◌∷◌}
 use Rattle.std.proofs.Common.{Option, Some, None, FitsSigned, IsSome, refl, arith}
-use Rattle.std.specs.Prelude.{pos, negsuc, neg_ℤ, nat_lt, cond, fold, ◌+ℤ◌, ◌-ℤ◌, IsNone, unwrap_or}
+use Rattle.std.specs.Prelude.{pos, neg_ℤ, fold, ◌+ℤ◌, ◌-ℤ◌, IsNone, unwrap_or}
 use Rattle.std.specs.Prelude.{if◌then◌else◌}
 use Rattle.std.specs.Int.{w32}
 use Rattle.std.specs.Int.Signed.{mag}
@@ -30,25 +30,9 @@ use Rattle.link_needs.specs.Given.{FitsTable, IsGiven}
 use Rattle.link_needs.specs.Linking.{Linking, block_offset, layout, object, offset, place}
 use Rattle.link_needs.specs.Needs.{entries, entry_by, got_size, got_start, need_address, stub_start}
 use Rattle.link_needs.proofs.PlanLemmas.{table_small}
+use Rattle.link_core.proofs.LengthsRaw.{neg_mag, sum_mag}
 
 -- ** differences
-
--- how large a sum is
-difference_mag : (b : Bool) (x y : ℕ) → mag (cond b (negsuc (y - suc x)) (pos (x - y))) ≤ x + y
-difference_mag true x y = omega arith
-difference_mag false x y = omega arith
-
-sum_mag : (x y : ℤ) → mag (x +ℤ y) ≤ mag x + mag y + 2
-sum_mag (pos a) (pos b) = omega arith
-sum_mag (pos a) (negsuc b) =
-    let h : mag (pos a +ℤ negsuc b) ≤ a + suc b = difference_mag (nat_lt a (suc b)) a (suc b) in omega (arith, h)
-sum_mag (negsuc a) (pos b) =
-    let h : mag (negsuc a +ℤ pos b) ≤ b + suc a = difference_mag (nat_lt b (suc a)) b (suc a) in omega (arith, h)
-sum_mag (negsuc a) (negsuc b) = omega arith
-
-neg_mag : (b : ℕ) → mag (neg_ℤ (pos b)) ≤ b
-neg_mag zero = omega arith
-neg_mag (suc b) = omega arith
 
 -- small numbers lie near each other: their difference fits a field
 pub difference_fits : (x y : ℕ) (a : ℤ) → x ≤ 2 ^ 29 → y ≤ 2 ^ 29 → mag a ≤ 3

@@ -7,7 +7,7 @@ use Rattle.std.specs.Prelude.{codes, if◌then◌else◌}
 use Rattle.elf_records.specs.declared.relocation.RelocationKind.{RelocationKind}
 use Rattle.elf_records.specs.declared.relocation.RelocationKind.TheVariants.{Plt32, TlsGd, TlsLd, DtpOff32, GotTpOff}
 use Rattle.elf_object.specs.declared.relocation.Relocation.{Relocation}
-use Rattle.elf_object.specs.declared.symbol.SymbolBinding.TheVariants.{Global}
+use Rattle.elf_records.specs.declared.symbol.SymbolBinding.TheVariants.{Global}
 use Rattle.elf_object.specs.declared.symbol.SymbolPlace.TheVariants.{InSection}
 use Rattle.generated_job.specs.Generated.{general_shape, initial_executable_shape, local_shape, module_shape, shape_of}
 use Rattle.generated_job.specs.Shapes.{Shape}

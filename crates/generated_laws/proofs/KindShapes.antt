@@ -7,7 +7,7 @@ use Rattle.std.proofs.lemmas.Fmt.{decimal_injective, length-decimal-le}
 use Rattle.std.proofs.lemmas.List.{append_cancel_left}
 use Rattle.elf_object.specs.declared.relocation.Relocation.{Relocation}
 use Rattle.elf_records.specs.Laws.{length-bytes_of}
-use Rattle.tls_symbols.specs.Bindings.{get_address}
+use Rattle.elf_records.specs.Symbols.{get_address}
 use Rattle.dynamic_symbols.proofs.Lists.{all_cons, all_nil}
 use Rattle.generated_job.specs.Generated.{function_name, general_shape, initial_executable_shape, local_shape, module_shape, shape_of, value_of, variable_name}
 use Rattle.generated_laws.proofs.KindPlain.{IsPlain, IsWelcome, Suits}

@@ -5,10 +5,11 @@ use Rattle.std.specs.Str.{bytes_eq}
 use Rattle.std.proofs.lemmas.Bool.{false_from_ne_true}
 use Rattle.std.proofs.lemmas.Slice.Eq.{bytes_eq-Decides}
 use Rattle.elf_object.specs.declared.relocation.Relocation.{Relocation}
-use Rattle.elf_object.specs.declared.symbol.SymbolBinding.{SymbolBinding}
-use Rattle.elf_object.specs.declared.symbol.SymbolBinding.TheVariants.{Global}
+use Rattle.elf_records.specs.declared.symbol.SymbolBinding.{SymbolBinding}
+use Rattle.elf_records.specs.declared.symbol.SymbolBinding.TheVariants.{Global}
 use Rattle.link_faults.specs.declared.binding.Binding.TheVariants.{Here, Runtime}
-use Rattle.tls_symbols.specs.Bindings.{binding_of, bound_to, get_address, is_tls_symbol, object_at}
+use Rattle.tls_symbols.specs.Bindings.{binding_of, bound_to, is_tls_symbol, object_at}
+use Rattle.elf_records.specs.Symbols.{get_address}
 use Rattle.tls_symbols.specs.Definitions.{definition_of, first_from, first_in}
 use Rattle.tls_symbols.proofs.Numbered.{same_name}
 use Rattle.generated_job.specs.Shapes.{Shape}

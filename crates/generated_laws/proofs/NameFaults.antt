@@ -5,7 +5,8 @@ use Rattle.elf_object.specs.declared.relocation.Relocation.{Relocation}
 use Rattle.elf_object.specs.Parts.{symbol_count}
 use Rattle.link_faults.specs.declared.fault.LinkFaultKind.TheVariants.{Undefined, Duplicate, NotTls}
 use Rattle.tls_symbols.proofs.FirstFaults.{impossible}
-use Rattle.tls_symbols.specs.Bindings.{binding_of, get_address, object_at}
+use Rattle.tls_symbols.specs.Bindings.{binding_of, object_at}
+use Rattle.elf_records.specs.Symbols.{get_address}
 use Rattle.tls_symbols.specs.Faults.{AreResolved, Stands, is_duplicate, is_faulty, is_mismatched, names_symbol}
 use Rattle.generated_job.specs.Shapes.{Shape}
 use Rattle.generated_laws.proofs.KindPlain.{ReadAsShapes, Suits, none_charged}

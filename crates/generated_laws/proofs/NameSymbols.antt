@@ -3,12 +3,12 @@ use Rattle.std.proofs.Common.{◌≡◌, ◌-◌, ◌<◌, ◌∙◌, ℕ, Bool,
 use Rattle.std.specs.Prelude.{if◌then◌else◌}
 use Rattle.std.specs.List.{find, range_with_len}
 use Rattle.std.specs.Str.{bytes_eq}
-use Rattle.elf_object.specs.declared.symbol.SymbolBinding.{SymbolBinding}
-use Rattle.elf_object.specs.declared.symbol.SymbolBinding.TheVariants.{Global, Weak}
+use Rattle.elf_records.specs.declared.symbol.SymbolBinding.{SymbolBinding}
+use Rattle.elf_records.specs.declared.symbol.SymbolBinding.TheVariants.{Global, Weak}
 use Rattle.elf_object.specs.declared.symbol.SymbolPlace.TheVariants.{Undefined, InSection}
 use Rattle.elf_object.specs.Lent.{symbol_binding, symbol_name, symbol_place}
 use Rattle.elf_object.specs.Parts.{symbol_count}
-use Rattle.tls_symbols.specs.Bindings.{get_address}
+use Rattle.elf_records.specs.Symbols.{get_address}
 use Rattle.tls_symbols.specs.Definitions.{defines, first_in}
 use Rattle.generated_job.specs.Shapes.{Shape}
 use Rattle.generated_laws.specs.Reading.{ReadsAs, known_of}

@@ -15,7 +15,7 @@ use Rattle.elf_object.specs.Lent.{symbol_name, symbol_binding, symbol_type, symb
 use Rattle.elf_object.specs.Lent.{symbol_value, symbol_size}
 use Rattle.elf_object.specs.Parts.{symbol, symbol_count}
 use Rattle.elf_object.specs.declared.relocation.Relocation.{Relocation}
-use Rattle.elf_object.specs.declared.symbol.Visibility.TheVariants.{Default}
+use Rattle.elf_records.specs.declared.symbol.Visibility.TheVariants.{Default}
 use Rattle.generated_job.specs.Shapes.{Shape, object_bytes, sections_of, symbols_of, symbol_of, names_of, getter_name}
 use Rattle.generated_job.specs.Shapes.{relocations_at, variable_name_at, getter_name_at}
 use Rattle.generated_laws.specs.Reading.{IsNameText, IsSmall, Known, ReadsAs, known_of, known_at, relocation_of, reserved}

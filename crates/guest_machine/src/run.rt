@@ -27,7 +27,7 @@ fn returned(answer: Result<u64, Cause>, place: u64) -> Stop
 }
 
 /// Whether the machine stops for a look at this address.
-fn is_look(place: u64) -> bool
+pub fn is_look(place: u64) -> bool
     ensures { result ≡ is_look place }
 {
     place == GET_ADDRESS || place == DESCRIPTOR

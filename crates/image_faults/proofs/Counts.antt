@@ -21,7 +21,7 @@ pub leading_more : (p : ℕ → Bool) (n : ℕ) → leading p n ≡ n → p n �
 unfolding leading
 leading_more p n all passes = rw add-one (lead_of (leading p n) n (p n) all passes)
 
-below_or_at : (n m : ℕ) → n < suc m → (n < m) ⊎ (n ≡ m)
+pub below_or_at : (n m : ℕ) → n < suc m → (n < m) ⊎ (n ≡ m)
 below_or_at n m h = grind arith
 
 -- all numbers so far pass, and the next does not: it is how many lead, however far one looks

@@ -26,7 +26,7 @@ no_relocations b other =
       inside = omega arith;
     }
 
-count_of_size : (b : List ℕ) → 24 * relocation_count b ≤ relocations_size b
+pub count_of_size : (b : List ℕ) → 24 * relocation_count b ≤ relocations_size b
 unfolding relocation_count
 count_of_size b = whole (relocations_size b)
   where

@@ -9,10 +9,8 @@ ghost use Rattle.image_faults.specs.Faults.{IsFirstAt};
 use crate::headers::Headers;
 use crate::searches::{READ_WRITE, has_relro, written_below};
 use elf_records::Segment;
+use elf_records::alignment::PAGE;
 use elf_records::program_header::{PF_R, PF_X};
-
-/// Bytes of a page.
-const PAGE: u64 = 4_096;
 
 /// How many addresses an image may span.
 const RANGE: u128 = 1 << 26;

@@ -1,6 +1,6 @@
 -- What the bytes of a file spell: the image that they stand for (gABI, "Program Header", "Symbol Table",
 -- "Relocation").
-use Rattle.std.specs.Prelude.{◌+◌, ◌==◌, ℕ, Bool, not, List, slice_range, Option, Some, None, unwrap_or}
+use Rattle.std.specs.Prelude.{◌+◌, ◌==◌, ℕ, Bool, true, false, not, List, slice_range, Option, Some, None, unwrap_or}
 use Rattle.std.specs.Prelude.{if◌then◌else◌}
 use denote.Bor.{Bor}
 use Rattle.elf_records.specs.declared.symbol.SymbolEntry.{SymbolEntry}
@@ -9,9 +9,8 @@ use Rattle.elf_records.specs.declared.relocation.Rela.{Rela}
 unfoldable pub use Rattle.elf_records.specs.Strings.{text_at}
 use Rattle.elf_records.specs.Records.{rela_symbol, rela_kind, symbol_binding, symbol_kind, symbol_visibility}
 use Rattle.elf_records.specs.declared.program_header.TheConstants.{PF_X, PF_R}
-use Rattle.elf_records.specs.declared.symbol.TheConstants.{SHN_UNDEF, STB_GLOBAL, STB_WEAK, STT_NOTYPE, STT_OBJECT}
-use Rattle.elf_records.specs.declared.symbol.TheConstants.{STT_FUNC, STT_SECTION, STT_FILE, STV_DEFAULT, STV_INTERNAL}
-use Rattle.elf_records.specs.declared.symbol.TheConstants.{STV_HIDDEN}
+use Rattle.elf_records.specs.declared.symbol.TheConstants.{SHN_UNDEF}
+use Rattle.elf_records.specs.Symbols.{binding_numbered, type_numbered, visibility_numbered}
 use Rattle.image_rules.specs.declared.places.FileKind.{FileKind}
 use Rattle.image_faults.specs.declared.loader_kind.LoaderKind.TheVariants.{Relative}
 use Rattle.image_faults.specs.Parts.{segment, loads, tls}
@@ -23,12 +22,6 @@ use Rattle.image_file.specs.declared.part.PartClass.{PartClass}
 use Rattle.image_file.specs.declared.part.PartClass.TheVariants.{Executable, ReadOnly, Writable}
 use Rattle.image_file.specs.declared.part.ImagePart.{ImagePart}
 use Rattle.image_file.specs.declared.part.TlsPart.{TlsPart}
-use Rattle.image_file.specs.declared.symbol.SymbolBinding.{SymbolBinding}
-use Rattle.image_file.specs.declared.symbol.SymbolBinding.TheVariants.{Local, Global, Weak}
-use Rattle.image_file.specs.declared.symbol.SymbolType.{SymbolType}
-use Rattle.image_file.specs.declared.symbol.SymbolType.TheVariants.{NoType, Object, Func, Section, File, Tls}
-use Rattle.image_file.specs.declared.symbol.Visibility.{Visibility}
-use Rattle.image_file.specs.declared.symbol.Visibility.TheVariants.{Default, Internal, Hidden, Protected}
 use Rattle.image_file.specs.declared.symbol.ImageSymbol.{ImageSymbol}
 use Rattle.image_file.specs.declared.relocation.ImageRelocation.{ImageRelocation}
 use Rattle.image_file.specs.Tabled.{tabled}
@@ -63,10 +56,18 @@ part b i = record {
   bytes = slice_range b (segment b i).offset ((segment b i).offset + (segment b i).filesz);
 }
 
--- what is lent of a part, without the loan
+abbrev pub is_writable : PartClass → Bool
+is_writable Executable = false
+is_writable ReadOnly = false
+is_writable Writable = true
+
+-- a part that is borrowed, without the borrow
+abbrev pub lent_part : ImagePart → Part
+lent_part lent = record { class = lent.class; address = lent.address; bytes = lent.bytes.now }
+
 abbrev pub part_seen : Option ImagePart → Option Part
 part_seen None = None
-part_seen (Some lent) = Some (record { class = lent.class; address = lent.address; bytes = lent.bytes.now })
+part_seen (Some lent) = Some (lent_part lent)
 
 -- the TLS segment, by its header
 abbrev pub tls_part : Segment → TlsPart
@@ -75,23 +76,6 @@ tls_part s = record { address = s.vaddr; initial = s.filesz; size = s.memsz; ali
 abbrev pub tls_of : Option Segment → Option TlsPart
 tls_of None = None
 tls_of (Some s) = Some (tls_part s)
-
--- the binding, the type and the visibility with these numbers
-abbrev pub binding_numbered : ℕ → SymbolBinding
-binding_numbered n = if n == STB_GLOBAL then Global else if n == STB_WEAK then Weak else Local
-
-abbrev pub type_numbered : ℕ → SymbolType
-type_numbered n =
-    if n == STT_NOTYPE then NoType else
-    if n == STT_OBJECT then Object else
-    if n == STT_FUNC then Func else
-    if n == STT_SECTION then Section else
-    if n == STT_FILE then File else
-    Tls
-
-abbrev pub visibility_numbered : ℕ → Visibility
-visibility_numbered n = if n == STV_DEFAULT then Default else if n == STV_INTERNAL then Internal else if n ==
-    STV_HIDDEN then Hidden else Protected
 
 -- the symbol of an entry, without its name
 unfoldable pub symbol_of : SymbolEntry → ImageSymbol

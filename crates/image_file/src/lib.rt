@@ -22,8 +22,9 @@ mod part;
 mod relocation;
 mod symbol;
 
+pub use elf_records::{SymbolBinding, SymbolType, Visibility};
 pub use image::{Image, image_is_spelled, images_cross_threads, read, read_owned};
 pub use image_faults::{FaultKind, FileKind, ImageFault, LoaderKind};
 pub use part::{ImagePart, PartClass, TlsPart};
 pub use relocation::ImageRelocation;
-pub use symbol::{ImageSymbol, SymbolBinding, SymbolType, Visibility};
+pub use symbol::ImageSymbol;

@@ -1,7 +1,7 @@
 //! The parts of an image that are loaded, and its TLS segment.
 
 ghost use Rattle.std.specs.Prelude.{◌≡◌};
-ghost use Rattle.image_file.specs.Spelled.{class_numbered};
+ghost use Rattle.image_file.specs.Spelled.{class_numbered, is_writable};
 
 use elf_records::program_header::{PF_R, PF_X};
 
@@ -14,6 +14,15 @@ pub enum PartClass {
     ReadOnly,
     /// It is read and written.
     Writable,
+}
+
+impl PartClass {
+    /// Whether programs may write the part.
+    pub fn is_writable(self) -> bool
+        ensures { result ≡ is_writable self }
+    {
+        matches!(self, PartClass::Writable)
+    }
 }
 
 /// A part of an image, as it is loaded.

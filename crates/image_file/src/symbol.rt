@@ -1,44 +1,10 @@
 //! A symbol of an image (gABI, "Symbol Table").
 
 ghost use Rattle.std.specs.Prelude.{◌≡◌};
-ghost use Rattle.image_file.specs.Spelled.{binding_numbered, type_numbered, visibility_numbered, symbol_of};
+ghost use Rattle.image_file.specs.Spelled.{symbol_of};
 
-use elf_records::SymbolEntry;
-use elf_records::symbol::{
-    SHN_UNDEF, STB_GLOBAL, STB_WEAK, STT_FILE, STT_FUNC, STT_NOTYPE, STT_OBJECT, STT_SECTION,
-    STV_DEFAULT, STV_HIDDEN, STV_INTERNAL,
-};
-
-/// The binding of a symbol.
-#[derive(Clone, Copy, PartialEq, Eq, Debug)]
-pub enum SymbolBinding {
-    /// Not shared: the reserved symbol, number 0.
-    Local,
-    /// There is one definition.
-    Global,
-    /// A GLOBAL definition of the name takes precedence.
-    Weak,
-}
-
-/// What a symbol stands for.
-#[derive(Clone, Copy, PartialEq, Eq, Debug)]
-pub enum SymbolType {
-    NoType,
-    Object,
-    Func,
-    Section,
-    File,
-    Tls,
-}
-
-/// Whether other images see a symbol.
-#[derive(Clone, Copy, PartialEq, Eq, Debug)]
-pub enum Visibility {
-    Default,
-    Internal,
-    Hidden,
-    Protected,
-}
+use elf_records::symbol::{SHN_UNDEF, binding_numbered, type_numbered, visibility_numbered};
+use elf_records::{SymbolBinding, SymbolEntry, SymbolType, Visibility};
 
 /// A symbol of an image, without its name.
 #[derive(Clone, Copy, PartialEq, Eq, Debug)]
@@ -52,43 +18,6 @@ pub struct ImageSymbol {
     pub value: u64,
     /// Its size in bytes.
     pub size: u64,
-}
-
-/// The binding with this number.
-fn binding_numbered(number: u8) -> SymbolBinding
-    ensures { result ≡ binding_numbered number }
-{
-    match number {
-        STB_GLOBAL => SymbolBinding::Global,
-        STB_WEAK => SymbolBinding::Weak,
-        _ => SymbolBinding::Local,
-    }
-}
-
-/// The type with this number.
-fn type_numbered(number: u8) -> SymbolType
-    ensures { result ≡ type_numbered number }
-{
-    match number {
-        STT_NOTYPE => SymbolType::NoType,
-        STT_OBJECT => SymbolType::Object,
-        STT_FUNC => SymbolType::Func,
-        STT_SECTION => SymbolType::Section,
-        STT_FILE => SymbolType::File,
-        _ => SymbolType::Tls,
-    }
-}
-
-/// The visibility with this number.
-fn visibility_numbered(number: u8) -> Visibility
-    ensures { result ≡ visibility_numbered number }
-{
-    match number {
-        STV_DEFAULT => Visibility::Default,
-        STV_INTERNAL => Visibility::Internal,
-        STV_HIDDEN => Visibility::Hidden,
-        _ => Visibility::Protected,
-    }
 }
 
 /// The symbol of an entry of the symbol table.

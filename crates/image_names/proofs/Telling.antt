@@ -10,7 +10,8 @@ use Rattle.image_file.specs.declared.symbol.ImageSymbol.{ImageSymbol}
 use Rattle.image_file.specs.Spelled.{Part, Spelled}
 use Rattle.image_names.specs.declared.meaning.Meaning.{Meaning}
 use Rattle.image_names.specs.declared.meaning.Meaning.TheVariants.{Function, Other, Variable}
-use Rattle.image_names.specs.Functions.{entry_in, function_place, is_tls, runs_at}
+use Rattle.image_names.specs.Functions.{entry_in, function_place, runs_at}
+use Rattle.elf_records.specs.Symbols.{is_tls}
 use Rattle.image_names.specs.Meanings.{Meanings, TellsWith, first_from, function_of, meaning_at, meaning_in, meaning_of, noted, or_else, same_names, told, variable_of}
 use Rattle.image_names.specs.Variables.{variable_in, variable_place}
 use Rattle.image_names.proofs.Finding.{left_at}

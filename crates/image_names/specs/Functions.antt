@@ -4,17 +4,11 @@ use Rattle.std.specs.Prelude.{Option, Some, None, nat_le, nat_lt, option_and_the
 use Rattle.std.specs.Prelude.{if◌then◌else◌}
 use Rattle.std.specs.List.{list_any, position_from}
 use Rattle.std.specs.Str.{bytes_eq}
-use Rattle.image_file.specs.declared.part.ImagePart.{ImagePart}
 use Rattle.image_file.specs.declared.part.PartClass.{PartClass}
 use Rattle.image_file.specs.declared.part.PartClass.TheVariants.{Executable, ReadOnly, Writable}
 use Rattle.image_file.specs.declared.symbol.ImageSymbol.{ImageSymbol}
-use Rattle.image_file.specs.declared.symbol.SymbolType.{SymbolType}
-use Rattle.image_file.specs.declared.symbol.SymbolType.TheVariants.{Tls}
+use Rattle.elf_records.specs.Symbols.{is_tls}
 use Rattle.image_file.specs.Spelled.{Part, Spelled}
-
--- a part that is borrowed, without the borrow
-abbrev pub lent_part : ImagePart → Part
-lent_part lent = record { class = lent.class; address = lent.address; bytes = lent.bytes.now }
 
 -- code can be executed, but not read
 abbrev pub is_code : PartClass → Bool
@@ -26,10 +20,6 @@ is_code Writable = false
 abbrev pub runs_at : ℕ → Part → Bool
 runs_at address part =
     is_code part.class && (nat_le part.address address && nat_lt address (part.address + length part.bytes))
-
-abbrev pub is_tls : SymbolType → Bool
-is_tls Tls = true
-is_tls kind = false
 
 -- a symbol's address, if it is defined, is not thread-local, and names an executable byte
 abbrev pub function_place : List Part → ImageSymbol → Option ℕ

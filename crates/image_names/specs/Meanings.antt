@@ -12,7 +12,8 @@ use Rattle.image_file.specs.Spelled.{Part, Spelled}
 use Rattle.image_names.specs.declared.meaning.Meaning.{Meaning}
 use Rattle.image_names.specs.declared.meaning.Meaning.TheVariants.{Function, Other, Variable}
 use Rattle.image_names.specs.declared.variable.Variable.{Variable as TlsVariable}
-use Rattle.image_names.specs.Functions.{is_tls, runs_at}
+use Rattle.image_names.specs.Functions.{runs_at}
+use Rattle.elf_records.specs.Symbols.{is_tls}
 
 -- the meaning of a defined symbol
 abbrev pub defined_meaning : List Part → ImageSymbol → Meaning

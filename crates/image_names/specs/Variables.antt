@@ -8,7 +8,7 @@ use Rattle.std.specs.Str.{bytes_eq}
 use Rattle.image_file.specs.declared.symbol.ImageSymbol.{ImageSymbol}
 use Rattle.image_file.specs.Spelled.{Spelled}
 use Rattle.image_names.specs.declared.variable.Variable.{Variable}
-use Rattle.image_names.specs.Functions.{is_tls}
+use Rattle.elf_records.specs.Symbols.{is_tls}
 
 -- the thread-local variable of a symbol, if it is defined and thread-local
 abbrev pub variable_place : ImageSymbol → Option Variable

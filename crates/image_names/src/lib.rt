@@ -38,6 +38,6 @@ mod names;
 mod table;
 mod variable;
 
-pub use meaning::{is_executed, is_tls};
+pub use meaning::is_executed;
 pub use names::ImageNames;
 pub use variable::Variable;

@@ -2,11 +2,12 @@
 
 ghost use Rattle.std.specs.Prelude.{◌≡◌};
 ghost use Rattle.std.specs.List.{list_any};
-ghost use Rattle.image_names.specs.Functions.{is_code, is_tls, lent_part, runs_at};
+ghost use Rattle.image_names.specs.Functions.{is_code, runs_at};
+ghost use Rattle.image_file.specs.Spelled.{lent_part};
 ghost use Rattle.image_names.specs.Meanings.{defined_meaning, function_of, meaning_of, variable_of};
 
 use crate::variable::Variable;
-use image_file::{Image, ImagePart, ImageSymbol, PartClass, SymbolType};
+use image_file::{Image, ImagePart, ImageSymbol, PartClass};
 
 /// What a symbol is.
 #[derive(Clone, Copy, PartialEq, Eq, Debug)]
@@ -56,7 +57,7 @@ pub fn meaning_of(image: &Image, symbol: ImageSymbol) -> Meaning
 fn defined_meaning(image: &Image, symbol: ImageSymbol) -> Meaning
     ensures { result ≡ defined_meaning image.now.parts symbol }
 {
-    if is_tls(symbol.kind) {
+    if symbol.kind.is_tls() {
         Meaning::Variable(Variable {
             offset: symbol.value,
         })
@@ -64,16 +65,6 @@ fn defined_meaning(image: &Image, symbol: ImageSymbol) -> Meaning
         Meaning::Function(symbol.value)
     } else {
         Meaning::Other
-    }
-}
-
-/// Whether a symbol of this type is a thread-local variable.
-pub fn is_tls(kind: SymbolType) -> bool
-    ensures { result ≡ is_tls kind }
-{
-    match kind {
-        SymbolType::Tls => true,
-        _ => false,
     }
 }
 

@@ -11,7 +11,7 @@ use Rattle.image_faults.specs.declared.loader_kind.LoaderKind.TheVariants.{Threa
 use Rattle.image_faults.specs.Counts.{how_many, behind_last}
 use Rattle.image_file.specs.declared.part.PartClass.TheVariants.{Executable, ReadOnly, Writable}
 use Rattle.image_file.specs.declared.part.TlsPart.{TlsPart}
-use Rattle.image_file.specs.declared.symbol.SymbolType.TheVariants.{Func, Tls}
+use Rattle.elf_records.specs.declared.symbol.SymbolType.TheVariants.{Func, Tls}
 use Rattle.image_file.specs.declared.relocation.ImageRelocation.{ImageRelocation}
 use Rattle.image_file.specs.Tabled.{tabled}
 use Rattle.image_writer.specs.Contents.{Contents}

@@ -4,7 +4,6 @@ use Rattle.std.specs.Prelude.{Option, slice_get, option_to_list, option_and_then
 use Rattle.std.specs.List.{flat_map, zip}
 use Rattle.std.specs.Fmt.{decimal, signed_decimal, digits, padded_integral, format_spec}
 use Rattle.image_rules.specs.declared.places.FileKind.{FileKind}
-use Rattle.image_file.specs.declared.part.ImagePart.{ImagePart}
 use Rattle.image_file.specs.declared.part.TlsPart.{TlsPart}
 use Rattle.image_file.specs.declared.symbol.ImageSymbol.{ImageSymbol}
 use Rattle.image_file.specs.declared.relocation.ImageRelocation.{ImageRelocation}
@@ -18,10 +17,6 @@ hex16 n = padded_integral (format_spec 32 0 4 16 (2 ^ 64 - 1)) false [] (digits 
 -- the kind of the image
 unfoldable pub kind_line : FileKind → List ℕ
 kind_line kind = codes "kind " ++ kind_word kind ++ codes "\n"
-
--- a part that is borrowed, without the borrow
-abbrev pub lent_part : ImagePart → Part
-lent_part lent = record { class = lent.class; address = lent.address; bytes = lent.bytes.now }
 
 -- a part: what may be done with it, its address, its length
 unfoldable pub part_line : Part → List ℕ

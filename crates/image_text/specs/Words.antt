@@ -11,8 +11,8 @@ use Rattle.image_faults.specs.declared.loader_kind.LoaderKind.{LoaderKind}
 use Rattle.image_faults.specs.declared.loader_kind.LoaderKind.TheVariants as loader
 use Rattle.image_file.specs.declared.part.PartClass.{PartClass}
 use Rattle.image_file.specs.declared.part.PartClass.TheVariants.{Executable, ReadOnly, Writable}
-use Rattle.image_file.specs.declared.symbol.SymbolType.{SymbolType}
-use Rattle.image_file.specs.declared.symbol.SymbolType.TheVariants.{NoType, Object, Func, Section, File, Tls}
+use Rattle.elf_records.specs.declared.symbol.SymbolType.{SymbolType}
+use Rattle.elf_records.specs.declared.symbol.SymbolType.TheVariants.{NoType, Object, Func, Section, File, Tls}
 
 -- the kind of an image
 abbrev pub kind_word : FileKind → List ℕ

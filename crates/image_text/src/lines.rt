@@ -2,7 +2,8 @@
 
 ghost use Rattle.std.specs.Prelude.{◌≡◌, ◌++◌, OnOk};
 ghost use Rattle.image_text.specs.Words.{kind_word, class_word, import_word, type_number, loader_number};
-ghost use Rattle.image_text.specs.Shown.{kind_line, lent_part, part_line, tls_line, relro_line, symbol_line};
+ghost use Rattle.image_text.specs.Shown.{kind_line, part_line, tls_line, relro_line, symbol_line};
+ghost use Rattle.image_file.specs.Spelled.{lent_part};
 ghost use Rattle.image_text.specs.Shown.{relocation_line, flag_line};
 
 use elf_records::relocation::{

@@ -18,7 +18,8 @@ use Rattle.image_writer.proofs.Positive.{entry_right}
 use Rattle.image_writer.proofs.Seen.{seen}
 use Rattle.image_writer.proofs.SameArray.{SameHeaders, same_relocation_count}
 use Rattle.image_writer.proofs.SameTables.{same_symbol_count}
-use Rattle.image_writer.proofs.SameRules.{AreRight, entry_there, symbol_there, relocation_there, past_back, outside_tls_back}
+use Rattle.image_writer.proofs.SameRules.{entry_there, symbol_there, relocation_there, past_back, outside_tls_back}
+use Rattle.image_faults.specs.Places.{AreRightTables as AreRight}
 use Rattle.image_writer.proofs.SameHeaders.{file_headed, same_headers, same_part_bytes, same_tls}
 use Rattle.image_writer.proofs.SameSpelled.{same_spelled}
 

@@ -1,5 +1,6 @@
 -- Facts that hold or not: of numbers, and of facts made of such.
 use Rattle.std.proofs.Common.{◌≡◌, ◌≢◌, ◌<◌, ◌≤◌, ◌⊎◌, ℕ, zero, suc, inl, inr, subst, arith}
+use Rattle.image_faults.proofs.Counts.{below_or_at}
 
 -- it holds, or it doesn't
 abbrev pub Dec : Type 0 → Type 0
@@ -80,10 +81,6 @@ dec_seven p q r s t u v =
     dec_map (λ all. (all.0, all.1.0, all.1.1, all.1.2, all.1.3, all.1.4, all.1.5))
     (λ all. (all.0, (all.1, all.2, all.3, all.4, all.5, all.6)))
     (dec_both p (dec_six q r s t u v))
-
--- a number below the next one is below this one, or is it
-below_or_at : (n m : ℕ) → n < suc m → (n < m) ⊎ (n ≡ m)
-below_or_at n m h = grind arith
 
 -- some number below n
 pub dec_below : (P : ℕ → Type 0) (n : ℕ) → ((i : ℕ) → Dec (P i)) → Dec ((i : ℕ) × (i < n) × P i)

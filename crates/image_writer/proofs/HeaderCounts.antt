@@ -1,7 +1,8 @@
 -- Numbers that pass a test: how many lead, how many there are and which is the last, where the tests are known.
-use Rattle.std.proofs.Common.{◌≡◌, ◌+◌, ◌<◌, ◌≤◌, ◌⊎◌, ℕ, zero, suc, Bool, true, false, refl, inl, inr, arith, add-one, nat_lt, if◌then◌else◌}
+use Rattle.std.proofs.Common.{◌≡◌, ◌+◌, ◌<◌, ◌≤◌, ◌⊎◌, ℕ, zero, suc, Bool, true, false, refl, inl, inr, arith, nat_lt, if◌then◌else◌}
 use Rattle.std.proofs.lemmas.Bool.Decides.{nat_tests}
 use Rattle.image_faults.specs.Counts.{leading, how_many, behind_last}
+use Rattle.image_faults.proofs.Counts.{below_or_at}
 
 -- a step of `leading`: one more that passes, behind none that fails
 lead_of : (r n : ℕ) (q : Bool) → r ≡ n → q ≡ true → (if nat_lt r n then r else (if q then suc n else n)) ≡ suc n
@@ -14,10 +15,6 @@ stop_of r n q same fails = grind (arith, nat_tests)
 -- what was found stays
 stay_of : (r n m : ℕ) → r < n → (if nat_lt r n then r else m) ≡ r
 stay_of r n m below = grind (arith, nat_tests)
-
--- below the next number: below this one, or this one
-below_or_at : (n m : ℕ) → n < suc m → (n < m) ⊎ (n ≡ m)
-below_or_at n m h = grind arith
 
 -- all numbers below n pass
 leading_all : (p : ℕ → Bool) (n : ℕ) → ((i : ℕ) → i < n → p i ≡ true) → leading p n ≡ n
@@ -96,8 +93,3 @@ pub last_none : (p : ℕ → Bool) (n : ℕ) → ((i : ℕ) → i < n → p i �
 unfolding behind_last
 last_none p zero none = refl
 last_none p (suc n) none = rw (none n (omega arith), last_none p n (λ i lt. none i (omega arith))) refl
-
--- the last number passes
-pub last_is : (p : ℕ → Bool) (n : ℕ) → p n ≡ true → behind_last p (n + 1) ≡ n + 1
-unfolding behind_last
-last_is p n passes = rw (add-one, passes) refl

@@ -14,12 +14,13 @@ use Rattle.image_faults.specs.Places.{got}
 use Rattle.image_file.specs.declared.part.PartClass.{PartClass}
 use Rattle.image_file.specs.declared.part.PartClass.TheVariants.{Executable, ReadOnly, Writable}
 use Rattle.image_file.specs.declared.part.TlsPart.{TlsPart}
-use Rattle.image_file.specs.Spelled.{tls_of, tls_part}
+use Rattle.image_file.specs.Spelled.{tls_of, tls_part, is_writable}
 use Rattle.image_writer.specs.declared.outline.PartPlace.{PartPlace}
 use Rattle.image_writer.specs.Outlined.{Outlined, part}
 use Rattle.image_writer.specs.Page.{base_of, flags_of, file_header, load_header, dynamic_header, tls_header, relro_header}
-use Rattle.image_writer.specs.Loadable.{IsLoadable, is_writable, is_written, one_if_some}
-use Rattle.image_writer.proofs.HeaderCounts.{leading_is, many_agree, last_agree, last_none, last_is}
+use Rattle.image_writer.specs.Loadable.{IsLoadable, is_written, one_if_some}
+use Rattle.image_writer.proofs.HeaderCounts.{leading_is, many_agree, last_agree, last_none}
+use Rattle.image_faults.proofs.Counts.{last_more as last_is}
 use Rattle.image_writer.proofs.HeaderReads.{AreRead}
 
 -- the address at which the image begins

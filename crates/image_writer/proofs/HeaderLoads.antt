@@ -11,7 +11,8 @@ use Rattle.image_file.specs.declared.part.PartClass.TheVariants.{Executable, Rea
 use Rattle.image_writer.specs.declared.outline.PartPlace.{PartPlace}
 use Rattle.image_writer.specs.Outlined.{Outlined, part, last_part}
 use Rattle.image_writer.specs.Page.{base_of, file_offset, flags_of, load_header, dynamic_header}
-use Rattle.image_writer.specs.Loadable.{IsLoadable, is_writable, is_written}
+use Rattle.image_writer.specs.Loadable.{IsLoadable, is_written}
+use Rattle.image_file.specs.Spelled.{is_writable}
 use Rattle.image_writer.proofs.HeaderCounts.{many_below}
 use Rattle.image_writer.proofs.HeaderReads.{AreRead}
 use Rattle.image_writer.proofs.HeaderFinds.{base_read, loads_read, flags_read, has_relro_read, many_read, kind_of_dynamic}

@@ -4,7 +4,6 @@ use Rattle.std.specs.List.{slice_get}
 use Rattle.std.proofs.lemmas.List.{append-nil, length-map, length-replicate, get_or-map, map-append, take_more}
 use Rattle.std.proofs.lemmas.Option.{get_or_from_slice_get}
 use Rattle.std.proofs.lemmas.Option.{slice_get_within}
-use Rattle.image_file.specs.declared.part.ImagePart.{ImagePart}
 use Rattle.image_writer.specs.declared.outline.PartPlace.{PartPlace}
 use Rattle.image_writer.proofs.Places.{base_low, part_ends}
 use Rattle.image_writer.proofs.Puts.{put_next}
@@ -163,10 +162,6 @@ parts_rise s loadable =
       | inl none ↦ absurd (omega arith)
       | inr apart ↦ omega (arith, apart, ap (λ p. p.address) here, ap end_of before)
     ])
-
--- a part that is lent, without the loan
-abbrev pub seen : ImagePart → Part
-seen lent = record { class = lent.class; address = lent.address; bytes = lent.bytes.now }
 
 -- nothing is lent past the last part alone
 pub none-past : (ps : List Part) (i : ℕ) → slice_get ps i ≡ None → length ps ≤ i

@@ -15,10 +15,10 @@ use Rattle.image_faults.specs.Places.{got}
 use Rattle.image_faults.specs.Faults.{IsImage}
 use Rattle.image_file.specs.declared.part.PartClass.TheVariants.{ReadOnly}
 use Rattle.image_file.specs.declared.part.TlsPart.{TlsPart}
-use Rattle.image_file.specs.Spelled.{class_numbered, tls_of, tls_part, spelled}
+use Rattle.image_file.specs.Spelled.{class_numbered, tls_of, tls_part, spelled, is_writable}
 use Rattle.image_writer.specs.declared.outline.PartPlace.{PartPlace}
 use Rattle.image_writer.specs.Outlined.{Outlined, outline_of, part, last_part, end_of}
-use Rattle.image_writer.specs.Loadable.{IsLoadable, IsRightPart, IsRightTlsPart, HoldsInitial, is_writable, is_written, one_if_some}
+use Rattle.image_writer.specs.Loadable.{IsLoadable, IsRightPart, IsRightTlsPart, HoldsInitial, is_written, one_if_some}
 use Rattle.image_writer.proofs.Counted.{lead_passes, many_at_most, many_alike, last_alike, last_found}
 use Rattle.image_writer.proofs.Positive.{field_right, load_right, dynamic_right, rest_right}
 use Rattle.image_writer.proofs.Seen.{IsSeen, place, seen}

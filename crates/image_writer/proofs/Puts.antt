@@ -1,27 +1,13 @@
 -- What writes to parts of a slice leave, as splices; and what one record behind another leaves.
 use Rattle.std.proofs.Common.{ℕ, suc, ◌+◌, ◌-◌, ◌*◌, ◌<◌, ◌≤◌, ◌≡◌, List, [], ◌∷◌, ◌++◌, length, map, take, drop, get_or, refl, sym, ap, ◌∙◌, arith, length-append, length-drop, mul-suc}
 use Rattle.std.specs.List.{flat_map}
-use Rattle.std.proofs.lemmas.List.{append-nil, drop-drop, drop_all, take_rest, length-take-le, take-append-drop, take_more}
+use Rattle.std.proofs.lemmas.List.{append-nil, drop-drop, length-take-le, take-append-drop, take_more}
 use Rattle.std.proofs.lemmas.List.Concat.{flat_map-append}
 use Rattle.std.proofs.lemmas.List.FromFn.{map-range_with_len_more}
 use borrow.Rule.Slice.PartMut.{put_mid}
 use Rattle.image_file.specs.Tabled.{tabled}
 use Rattle.elf_records.specs.Fields.{splice}
 use Rattle.elf_records.specs.Laws.{splice_more}
-
--- after a write to the start of `&mut bytes[at..]`
-pub put_mid-rest : (at n : ℕ) (new bytes now : List ℕ) → length new ≡ n → at + n ≤ length bytes
-    → now ≡ new ++ drop n (take (length bytes - at) (drop at bytes))
-    → put_mid at (length bytes - at) bytes now ≡ splice at new bytes
-unfolding splice
-put_mid-rest at n new bytes now size inside wrote =
-    let rest = take_rest bytes at in
-    let behind : drop n (drop at bytes) ≡ drop (at + n) bytes = drop-drop n at bytes in
-    let full : length bytes ≤ at + (length bytes - at) = omega arith in
-    let none : drop (length bytes - at) (drop at bytes) ≡ [] = drop-drop (length bytes - at) at bytes
-    ∙ drop_all (at + (length bytes - at)) bytes full in
-    rw (none, wrote, rest, behind, size) (ap (λ r. take at bytes ++ r)
-    (append-nil (new ++ drop (at + n) bytes)))
 
 -- after a write to all of `bytes[at..at + n]`
 pub put_mid-part : (at n : ℕ) (new bytes now : List ℕ) → length new ≡ n → now ≡ new

@@ -27,6 +27,7 @@ use Rattle.image_writer.proofs.SameArray.{SameHeaders, tag_there, tag_back, tabl
 use Rattle.image_writer.proofs.SameArray.{same_relocations_size}
 use Rattle.image_writer.proofs.SameTables.{same_bucket_count, same_symbol_count, same_strings_place, same_string_byte, same_string_part}
 use Rattle.image_writer.proofs.SameTables.{same_symbol_entry, same_rela_entry}
+use Rattle.image_faults.specs.Places.{AreRightTables as AreRight}
 
 -- a table at an address that is the same, of a size that is the same
 table_moved : (f b : List ℕ) → SameHeaders f b → (v w m n : ℕ) → v ≡ w → m ≡ n → HoldsTable b w n → HoldsTable f v m
@@ -124,13 +125,6 @@ ends_there f b same right at ends = (
   ap (λ p. slice_index f (p + ends.0)) (same_strings_place f b same right)
       ∙ same_string_byte f b same right ends.0 ends.2 ∙ ends.3,
 )
-
--- the tables of an image that was read
-pub record AreRight (b : List ℕ) : Type 0 where
-  pub hash : IsRightEntry Hash b
-  pub strings : IsRightEntry Strings b
-  pub symbols : IsRightEntry Symbols b
-  pub relocations : IsRightEntry Relocations b
 
 -- a symbol that is right in one is right in the other
 pub symbol_there : (f b : List ℕ) → SameHeaders f b → AreRight b → (k : ℕ) → k < symbol_count b → IsRightSymbol b k → IsRightSymbol f k

@@ -19,7 +19,7 @@ use Rattle.image_writer.proofs.SameBytes.{HoldSame, range_is_part}
 use Rattle.image_writer.proofs.SameLists.{same_tabled}
 use Rattle.image_writer.proofs.SameArray.{SameHeaders, same_has_tag, same_flags_entry, same_relocation_count}
 use Rattle.image_writer.proofs.SameTables.{same_symbol_count, same_strings, same_symbol_entry, same_rela_entry}
-use Rattle.image_writer.proofs.SameRules.{AreRight}
+use Rattle.image_faults.specs.Places.{AreRightTables as AreRight}
 
 -- an entry of the flags' place has this tag in both or in neither
 flags_tag : (f b : List ℕ) → SameHeaders f b → (tag : ℕ) → has_tag f (flags_entry f) tag ≡ has_tag b (flags_entry b) tag

@@ -16,6 +16,7 @@ use Rattle.image_faults.specs.Relocations.{rela}
 use Rattle.image_file.specs.Spelled.{strings}
 use Rattle.image_writer.proofs.SameBytes.{same_number, same_part, same_byte, same_symbol, same_rela, same_range}
 use Rattle.image_writer.proofs.SameArray.{SameHeaders, same_value, same_place, same_strings_size}
+use Rattle.image_faults.proofs.TablesInside.{count_of_size}
 
 -- a table in the last LOAD begins no earlier than this in the file
 table_from : (b : List ℕ) (address n : ℕ) → HoldsTable b address n → (last b).offset ≤ place b address
@@ -127,14 +128,6 @@ same_symbol_entry f b same right k within =
 size_named : (p q : Bool) (n : ℕ) → 0 < (if p && q then n else 0) → p ≡ true
 size_named true q n some = refl
 size_named false q n some = absurd (omega arith)
-
--- how many relocations there are, by their size
-count_of_size : (b : List ℕ) → 24 * relocation_count b ≤ relocations_size b
-unfolding relocation_count
-count_of_size b = whole (relocations_size b)
-  where
-    whole : (n : ℕ) → 24 * (n / 24) ≤ n
-    whole n = omega arith
 
 -- a test that passes says that the entry is there
 tag_of_test : (n a t k : ℕ) → (nat_le n a && (t == k)) ≡ true → (n ≤ a) × (t ≡ k)

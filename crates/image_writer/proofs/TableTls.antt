@@ -18,7 +18,7 @@ use Rattle.image_faults.specs.Symbols.{IsPastTls}
 use Rattle.image_faults.specs.Relocations.{IsOutsideTls, IsOwnOutside, LacksOwnTls, rela}
 use Rattle.image_faults.specs.Faults.{Breaks, BreaksTable, Keeps}
 use Rattle.image_file.specs.declared.part.TlsPart.{TlsPart}
-use Rattle.image_file.specs.declared.symbol.SymbolType.TheVariants.{Tls}
+use Rattle.elf_records.specs.declared.symbol.SymbolType.TheVariants.{Tls}
 use Rattle.image_file.specs.declared.relocation.ImageRelocation.{ImageRelocation}
 use Rattle.image_file.specs.Spelled.{tls_of}
 use Rattle.image_writer.specs.Outlined.{outline_of}

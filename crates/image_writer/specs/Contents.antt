@@ -4,9 +4,9 @@ use Rattle.std.specs.Int.{next_multiple_of}
 use Rattle.image_rules.specs.declared.places.FileKind.{FileKind}
 use Rattle.image_file.specs.declared.part.TlsPart.{TlsPart}
 use Rattle.image_file.specs.declared.symbol.ImageSymbol.{ImageSymbol}
-use Rattle.image_file.specs.declared.symbol.SymbolBinding.TheVariants.{Local}
-use Rattle.image_file.specs.declared.symbol.SymbolType.TheVariants.{NoType}
-use Rattle.image_file.specs.declared.symbol.Visibility.TheVariants.{Default}
+use Rattle.elf_records.specs.declared.symbol.SymbolBinding.TheVariants.{Local}
+use Rattle.elf_records.specs.declared.symbol.SymbolType.TheVariants.{NoType}
+use Rattle.elf_records.specs.declared.symbol.Visibility.TheVariants.{Default}
 use Rattle.image_file.specs.declared.relocation.ImageRelocation.{ImageRelocation}
 use Rattle.image_file.specs.Spelled.{Part}
 use Rattle.elf_records.specs.Fields.{part_at}

@@ -1,13 +1,14 @@
 -- What a linker must ensure of the contents of an image.
 use Rattle.std.specs.Prelude.{◌≡◌, ◌≢◌, ◌+◌, ◌<◌, ◌≤◌, ◌⊎◌, ◌≤ℤ◌, ℕ, ℤ, pos, true, false, List, [], ◌∷◌}
-use Rattle.std.specs.Prelude.{Option, Some, None, All, IsSome, length, codes}
+use Rattle.std.specs.Prelude.{Option, Some, None, All, IsSome, length}
 use Rattle.image_rules.specs.declared.places.FileKind.TheVariants as file
 use Rattle.image_faults.specs.declared.loader_kind.LoaderKind.{LoaderKind}
 use Rattle.image_faults.specs.declared.loader_kind.LoaderKind.TheVariants.{JumpSlot, Relative, Module, ModuleOffset}
 use Rattle.image_faults.specs.declared.loader_kind.LoaderKind.TheVariants.{ThreadOffset, Descriptor}
 use Rattle.image_file.specs.declared.part.TlsPart.{TlsPart}
-use Rattle.image_file.specs.declared.symbol.SymbolBinding.TheVariants.{Local}
-use Rattle.image_file.specs.declared.symbol.SymbolType.TheVariants.{Tls}
+use Rattle.elf_records.specs.declared.symbol.SymbolBinding.TheVariants.{Local}
+use Rattle.elf_records.specs.declared.symbol.SymbolType.TheVariants.{Tls}
+use Rattle.elf_records.specs.Symbols.{get_address}
 use Rattle.image_file.specs.declared.relocation.ImageRelocation.{ImageRelocation}
 use Rattle.image_writer.specs.Outlined.{outline_of, end_of, part}
 use Rattle.image_writer.specs.Contents.{Contents, symbol, name}
@@ -30,7 +31,7 @@ abbrev pub IsImport : Contents → ℕ → Type 0
 IsImport c k = (k ≢ 0) × ((symbol c k).is_defined ≡ false) × ((symbol c k).kind ≡ Tls)
 
 abbrev pub IsRuntime : Contents → ℕ → Type 0
-IsRuntime c k = ((symbol c k).is_defined ≡ false) × (name c k ≡ codes "__tls_get_addr")
+IsRuntime c k = ((symbol c k).is_defined ≡ false) × (name c k ≡ get_address)
 
 -- the symbol that a relocation may name; number 0 stands for the image itself
 abbrev pub MayName : Contents → LoaderKind → ℕ → Type 0

@@ -1,21 +1,16 @@
 -- When a page of headers can describe an image: what holds of the parts, the GOT and the TLS segment (gABI, "Program
 -- Header"; "ELF Handling For Thread-Local Storage", "Program Headers").
-use Rattle.std.specs.Prelude.{◌≡◌, ◌+◌, ◌-◌, ◌%◌, ◌^◌, ◌<◌, ◌≤◌, ◌⊎◌, ℕ, Bool, true, false, Option, Some, None, length}
+use Rattle.std.specs.Prelude.{◌≡◌, ◌+◌, ◌-◌, ◌%◌, ◌^◌, ◌<◌, ◌≤◌, ◌⊎◌, ℕ, Bool, Option, Some, None, length}
 use Rattle.std.specs.Prelude.{IfSome, is_some, if◌then◌else◌}
 use Rattle.image_faults.specs.Counts.{how_many, behind_last}
 use Rattle.image_faults.specs.Segments.{IsAlignment}
-use Rattle.image_file.specs.declared.part.PartClass.{PartClass}
-use Rattle.image_file.specs.declared.part.PartClass.TheVariants.{Executable, ReadOnly, Writable}
+use Rattle.image_file.specs.declared.part.PartClass.TheVariants.{ReadOnly}
+use Rattle.image_file.specs.Spelled.{is_writable}
 use Rattle.image_file.specs.declared.part.TlsPart.{TlsPart}
 use Rattle.image_writer.specs.Outlined.{Outlined, end_of, last_part, part}
 use Rattle.image_writer.specs.Page.{base_of}
 
 -- part i may be written
-abbrev pub is_writable : PartClass → Bool
-is_writable Executable = false
-is_writable ReadOnly = false
-is_writable Writable = true
-
 abbrev pub is_written : Outlined → ℕ → Bool
 is_written o i = is_writable (part o i).class
 

@@ -24,12 +24,12 @@ use Rattle.image_rules.specs.declared.places.FileKind.TheVariants.{Exe, Pie, Mod
 use Rattle.image_faults.specs.declared.loader_kind.LoaderKind.{LoaderKind}
 use Rattle.image_faults.specs.declared.loader_kind.LoaderKind.TheVariants as loader
 use Rattle.image_file.specs.declared.part.PartClass.TheVariants.{ReadOnly}
-use Rattle.image_file.specs.declared.symbol.SymbolBinding.{SymbolBinding}
-use Rattle.image_file.specs.declared.symbol.SymbolBinding.TheVariants.{Local, Global, Weak}
-use Rattle.image_file.specs.declared.symbol.SymbolType.{SymbolType}
-use Rattle.image_file.specs.declared.symbol.SymbolType.TheVariants.{NoType, Object, Func, Section, File, Tls}
-use Rattle.image_file.specs.declared.symbol.Visibility.{Visibility}
-use Rattle.image_file.specs.declared.symbol.Visibility.TheVariants.{Default, Internal, Hidden, Protected}
+use Rattle.elf_records.specs.declared.symbol.SymbolBinding.{SymbolBinding}
+use Rattle.elf_records.specs.declared.symbol.SymbolBinding.TheVariants.{Local, Global, Weak}
+use Rattle.elf_records.specs.declared.symbol.SymbolType.{SymbolType}
+use Rattle.elf_records.specs.declared.symbol.SymbolType.TheVariants.{NoType, Object, Func, Section, File, Tls}
+use Rattle.elf_records.specs.declared.symbol.Visibility.{Visibility}
+use Rattle.elf_records.specs.declared.symbol.Visibility.TheVariants.{Default, Internal, Hidden, Protected}
 use Rattle.image_file.specs.declared.symbol.ImageSymbol.{ImageSymbol}
 use Rattle.image_file.specs.declared.relocation.ImageRelocation.{ImageRelocation}
 use Rattle.image_file.specs.Spelled.{Part, Spelled}

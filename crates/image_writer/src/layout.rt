@@ -5,7 +5,8 @@ ghost use Rattle.image_writer.specs.Tables.{array_size, strings, flags_entries};
 ghost use Rattle.image_writer.specs.Told.{told, next_page, places_end, layout_of, tables_size};
 
 use crate::draft::{Draft, NamedSymbol};
-use crate::page::{PAGE_SIZE, base_of};
+use crate::page::base_of;
+use elf_records::alignment::PAGE;
 use elf_records::dynamic::{DF_1_PIE, DF_STATIC_TLS, DT_FLAGS, DT_FLAGS_1};
 use elf_records::{DynamicEntry, Rela, SymbolEntry};
 use image_file::FileKind;
@@ -127,5 +128,5 @@ pub fn next_page(draft: &Draft<'_>) -> u64
     requires { next_page draft.now < 2 ^ 64 }
     ensures { result ≡ next_page draft.now }
 {
-    places_end(draft).next_multiple_of(PAGE_SIZE)
+    places_end(draft).next_multiple_of(PAGE)
 }

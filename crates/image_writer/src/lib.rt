@@ -51,5 +51,5 @@ mod written;
 pub use draft::{Draft, NamedSymbol};
 pub use made::image_of;
 pub use outline::{Outline, PartPlace};
-pub use page::{PAGE_SIZE, file_offset};
+pub use page::file_offset;
 pub use written::{into_file, write};

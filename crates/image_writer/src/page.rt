@@ -12,13 +12,11 @@ ghost use Rattle.image_writer.specs.Page.{tls_headers, relro_header, relro_heade
 
 use crate::outline::{Outline, PartPlace};
 use crate::put::put_zeros;
+use elf_records::alignment::PAGE;
 use elf_records::file_header::{ELF_IDENT, EM_X86_64, ET_DYN, ET_EXEC, EV_CURRENT};
 use elf_records::program_header::{PF_R, PF_W, PF_X, PT_DYNAMIC, PT_GNU_RELRO, PT_LOAD, PT_TLS};
 use elf_records::{Header, Segment, write_header, write_segment};
 use image_file::{FileKind, PartClass};
-
-/// How many bytes a page has. Each part begins at a multiple of it, in memory and in the file.
-pub const PAGE_SIZE: u64 = 4_096;
 
 /// The address at which a program at fixed addresses begins.
 const EXE_BASE: u64 = 0x40_0000;
@@ -43,7 +41,7 @@ pub fn file_offset(kind: FileKind, address: u64) -> u64
     requires below { address + 4096 < 2 ^ 64 }
     ensures { result ≡ file_offset kind address }
 {
-    address + PAGE_SIZE - base_of(kind)
+    address + PAGE - base_of(kind)
 }
 
 /// What may be done with a part, as the flags of a program header.
@@ -106,7 +104,7 @@ fn load_header(kind: FileKind, part: &PartPlace) -> Segment
         paddr: part.address,
         filesz: part.size,
         memsz: part.size,
-        align: PAGE_SIZE,
+        align: PAGE,
     }
 }
 
@@ -231,12 +229,12 @@ fn header_count(outline: &Outline<'_>) -> usize
 pub fn put_page(outline: &Outline<'_>, out: &mut [u8], at: usize)
     requires loadable { IsLoadable (outlined outline.now) }
     requires tls { HoldsTls (outlined outline.now) }
-    requires room { at + PAGE_SIZE ≤ length out.old }
+    requires room { at + PAGE ≤ length out.old }
     ensures { out.new ≡ splice at (page (outlined outline.now)) out.old }
 {
     let count = header_count(outline);
     write_header(&header_of(outline.kind, count as u16), out, at as u64);
     put_headers(outline, out, at + HEADER_SIZE);
     let told = HEADER_SIZE + SEGMENT_SIZE * count;
-    put_zeros(out, at + told, PAGE_SIZE as usize - told);
+    put_zeros(out, at + told, PAGE as usize - told);
 }

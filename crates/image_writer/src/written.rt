@@ -11,8 +11,9 @@ ghost use Rattle.image_writer.specs.Page.{base_of, file_offset, page};
 ghost use Rattle.image_writer.specs.Written.{laid, written};
 
 use crate::outline::{Outline, PartPlace};
-use crate::page::{PAGE_SIZE, base_of, file_offset, put_page};
+use crate::page::{base_of, file_offset, put_page};
 use crate::put::{grow, put_bytes, put_zeros};
+use elf_records::alignment::PAGE;
 use image_file::{Image, ImagePart, image_is_spelled};
 use std::alloc::{AllocError, Global};
 
@@ -114,14 +115,14 @@ fn put_image(image: &Image, outline: &Outline<'_>, out: &mut [u8], at: usize)
     ensures { out.new ≡ splice at (written image.now) out.old }
 {
     put_page(outline, out, at);
-    put_parts(image, out, at + PAGE_SIZE as usize);
+    put_parts(image, out, at + PAGE as usize);
 }
 
 /// Puts zeros between parts that stand at their offsets already.
 fn put_gaps(outline: &Outline<'_>, out: &mut [u8])
     requires loadable { IsLoadable (outlined outline.now) }
     requires room { file_offset outline.now.kind (end_of (last_part (outlined outline.now))) ≤ length out.old }
-    ensures { out.new ≡ splice PAGE_SIZE (laid (base_of outline.now.kind)
+    ensures { out.new ≡ splice PAGE (laid (base_of outline.now.kind)
         (map (part_in outline.now.kind out.old) outline.now.parts.now)) out.old }
 {
     let mut end = base_of(outline.kind);

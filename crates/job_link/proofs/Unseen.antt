@@ -8,13 +8,13 @@ use Rattle.std.specs.List.{cons_option, filter_map, flat_map, list_any}
 use Rattle.std.specs.Str.{bytes_eq}
 use Rattle.std.proofs.lemmas.List.{get_or_default, map-append, take-append-drop}
 use Rattle.std.proofs.lemmas.List.{take_more}
-use Rattle.std.proofs.lemmas.List.Folds.{list_any-append}
-use Rattle.std.proofs.lemmas.Slice.Eq.{bytes_eq-Decides}
 use Rattle.job_text.specs.declared.images.Image.{Image}
 use Rattle.job_text.specs.Jobs.{JobParts}
 use Rattle.indexmap.specs.IndexSet.{insert_key}
-use Rattle.job_link.specs.Mentions.{mentions_of, object_names, once}
+use Rattle.job_link.specs.Mentions.{mentions_of, object_names}
+use Rattle.dynamic_symbols.specs.Names.{distinct}
 use Rattle.job_link.specs.Walks.{is_among, names_in, texts, unseen}
+use Rattle.dynamic_symbols.proofs.Adding.{filter_all, filter_twice, new_past, new_unlike_seen as like_seen}
 
 -- ** those that were not seen
 
@@ -31,59 +31,6 @@ unseen-append s (x ∷ xs) ys = by (is_among s x) (λ t. unseen-append t xs ys)
     by false more =
         ap (λ r. x ∷ r) (more (s ++ x ∷ []))
         ∙ ap (λ t. x ∷ (unseen (s ++ x ∷ []) xs ++ unseen t ys)) (append_assoc s (x ∷ []) (unseen (s ++ x ∷ []) xs))
-
--- two tests, one after the other
-filter_twice : (P Q R : List ℕ → Bool) → ((y : List ℕ) → R y ≡ (Q y && P y)) → (ys : List (List ℕ))
-    → filter R ys ≡ filter P (filter Q ys)
-filter_twice P Q R h [] = refl
-filter_twice P Q R h (y ∷ ys) =
-    ap (λ b. cond b (y ∷ filter R ys) (filter R ys)) (h y)
-    ∙ elim (Q y) as (λ b.
-    cond (b && P y) (y ∷ filter R ys) (filter R ys) ≡ filter P (cond b (y ∷ filter Q ys) (filter Q ys))) [
-      | true ↦ ap (λ r. cond (P y) (y ∷ r) r) (filter_twice P Q R h ys)
-      | false ↦ filter_twice P Q R h ys
-    ]
-
--- all pass
-filter_all : (ys : List (List ℕ)) → filter (λ y. true) ys ≡ ys
-filter_all [] = refl
-filter_all (y ∷ ys) = ap (λ r. y ∷ r) (filter_all ys)
-
--- two names are equal whichever is first
-symmetric : (x y : List ℕ) → bytes_eq x y ≡ bytes_eq y x
-symmetric x y = by (bytes_eq x y) refl (bytes_eq y x) refl
-  where
-    by : (s : Bool) → bytes_eq x y ≡ s → (t : Bool) → bytes_eq y x ≡ t → s ≡ t
-    by true e true f = refl
-    by false e false f = refl
-    by true e false f = sym ((bytes_eq-Decides y x).1 (sym ((bytes_eq-Decides x y).0 e))) ∙ f
-    by false e true f = sym e ∙ (bytes_eq-Decides x y).1 (sym ((bytes_eq-Decides y x).0 f))
-
--- what is equal to one that was seen was seen
-like_seen : (seen : List (List ℕ)) (x : List ℕ) → is_among seen x ≡ true → (y : List ℕ)
-    → not (is_among seen y) ≡ (not (bytes_eq x y) && not (is_among seen y))
-like_seen seen x there y = by (bytes_eq x y) refl
-  where
-    by : (b : Bool) → bytes_eq x y ≡ b → not (is_among seen y) ≡ (not b && not (is_among seen y))
-    by true e =
-        let same : x ≡ y = (bytes_eq-Decides x y).0 e in
-        let also : is_among seen y ≡ true = ap (is_among seen) (sym same) ∙ there in
-        ap not also
-    by false e = refl
-
--- not one of two, whichever is asked first
-neither : (a b : Bool) → not (a || (b || false)) ≡ (not b && not a)
-neither true true = refl
-neither true false = refl
-neither false true = refl
-neither false false = refl
-
--- what is none of some and not one more
-new_past : (seen : List (List ℕ)) (x y : List ℕ)
-    → not (is_among (seen ++ x ∷ []) y) ≡ (not (bytes_eq x y) && not (is_among seen y))
-new_past seen x y =
-    ap not (list_any-append (bytes_eq y) seen (x ∷ [])) ∙ neither (is_among seen y) (bytes_eq y x)
-    ∙ ap (λ b. not b && not (is_among seen y)) (symmetric y x)
 
 -- those that were not seen
 abbrev new_in : List (List ℕ) → List (List ℕ) → List (List ℕ)
@@ -108,19 +55,19 @@ new_in-one_more seen x =
     (new_past seen x)
 
 -- they are those of all, each once, that were not seen
-unseen_once : (seen xs : List (List ℕ)) → unseen seen xs ≡ new_in seen (once xs)
+unseen_once : (seen xs : List (List ℕ)) → unseen seen xs ≡ new_in seen (distinct xs)
 unseen_once seen [] = refl
 unseen_once seen (x ∷ xs) = by (is_among seen x) refl (λ s. unseen_once s xs)
   where
-    by : (b : Bool) → is_among seen x ≡ b → ((s : List (List ℕ)) → unseen s xs ≡ new_in s (once xs))
+    by : (b : Bool) → is_among seen x ≡ b → ((s : List (List ℕ)) → unseen s xs ≡ new_in s (distinct xs))
         → (if b then unseen seen xs else x ∷ unseen (seen ++ x ∷ []) xs)
-        ≡ cond (not b) (x ∷ new_in seen (unlike x (once xs))) (new_in seen (unlike x (once xs)))
-    by true e more = more seen ∙ new_in-unlike seen x e (once xs)
-    by false e more = ap (λ r. x ∷ r) (more (seen ++ x ∷ []) ∙ new_in-one_more seen x (once xs))
+        ≡ cond (not b) (x ∷ new_in seen (unlike x (distinct xs))) (new_in seen (unlike x (distinct xs)))
+    by true e more = more seen ∙ new_in-unlike seen x e (distinct xs)
+    by false e more = ap (λ r. x ∷ r) (more (seen ++ x ∷ []) ∙ new_in-one_more seen x (distinct xs))
 
 -- so where none was seen they are each once
-pub all_once : (xs : List (List ℕ)) → unseen [] xs ≡ once xs
-all_once xs = unseen_once [] xs ∙ filter_all (once xs)
+pub all_once : (xs : List (List ℕ)) → unseen [] xs ≡ distinct xs
+all_once xs = unseen_once [] xs ∙ filter_all (distinct xs)
 
 -- names that were seen, and more of them that were not
 pub seen_next : (s now new xs more : List (List ℕ)) → now ≡ s ++ unseen s xs → new ≡ now ++ unseen now more
@@ -210,4 +157,4 @@ mentions_are job = refl
 -- each of them once
 pub object_names_are : (job : JobParts) → object_names job ≡ unseen [] (names_in job job.mentions)
 unfolding object_names
-object_names_are job = ap once (mentions_are job) ∙ sym (all_once (names_in job job.mentions))
+object_names_are job = ap distinct (mentions_are job) ∙ sym (all_once (names_in job job.mentions))

@@ -1,5 +1,5 @@
 -- The objects that a job names, in the order in which its lines mention them, and their bytes.
-use Rattle.std.specs.Prelude.{◌≡◌, ◌-◌, ℕ, not, List, [], ◌∷◌, filter, map, slice_get, unwrap_or}
+use Rattle.std.specs.Prelude.{◌≡◌, ◌-◌, ℕ, List, [], ◌∷◌, map, slice_get, unwrap_or}
 use Rattle.std.specs.Prelude.{IsSome}
 use Rattle.std.specs.List.{All, filter_map, find, flat_map}
 use Rattle.std.specs.Option.{option_map}
@@ -7,6 +7,7 @@ use Rattle.std.specs.Str.{bytes_eq}
 use Rattle.job_text.specs.declared.images.Image.{Image}
 use Rattle.job_text.specs.Jobs.{JobParts}
 use Rattle.ports.specs.Files.{Files, file_at}
+use Rattle.dynamic_symbols.specs.Names.{distinct}
 
 -- the images in the order of their lines
 abbrev pub mentioned : JobParts → List Image
@@ -16,14 +17,9 @@ mentioned job = filter_map (λ (number : ℕ). slice_get job.images (number - 1)
 unfoldable pub mentions_of : JobParts → List (List ℕ)
 mentions_of job = flat_map (λ (image : Image). image.objects) (mentioned job)
 
--- each of these names once, at its first occurrence
-abbrev pub once : List (List ℕ) → List (List ℕ)
-once [] = []
-once (name ∷ names) = name ∷ filter (λ other. not (bytes_eq name other)) (once names)
-
 -- the names of a job's objects, each once, in the order of their first mentions
 unfoldable pub object_names : JobParts → List (List ℕ)
-object_names job = once (mentions_of job)
+object_names job = distinct (mentions_of job)
 
 -- ** their bytes
 

@@ -11,8 +11,7 @@ use Rattle.thread_blocks.specs.Instances.{Loads}
 use Rattle.thread_blocks.specs.JobLoads.{job_loads}
 use Rattle.thread_blocks.specs.TurnsAlike.{AllFronts}
 use Rattle.lawful_points.specs.Raced.{IsRacer}
-use Rattle.shared_modules.specs.Laws.{own_from}
-use Rattle.shared_modules.specs.Stable.{IsStable, stays}
+use Rattle.shared_modules.specs.Stable.{IsStable, other_last, stays}
 use Rattle.shared_modules.specs.Views.{Knows, flag, rising, times}
 use Rattle.job_race.specs.Rows.{AllRaced}
 
@@ -24,14 +23,6 @@ fronts_stay (front ∷ fronts) whole more are = (
   (are.0.0 ++ more, ap (λ (events : List Event). events ++ more) are.0.1 ∙ append_assoc front are.0.0 more),
   fronts_stay fronts whole more are.1,
 )
-
--- an event of another thread is none of a thread's own
-other_last : (thread at : ℕ) (front : List Event) (e : Event) → (e.thread == thread) ≡ false
-    → own_from thread at (front ++ e ∷ []) ≡ own_from thread at front
-other_last thread at [] e other = ap (λ b. if b then record { at = at; event = e } ∷ [] else []) other
-other_last thread at (x ∷ xs) e other = ap
-    (λ rest. if x.thread == thread then record { at = at; event = x } ∷ rest else rest)
-    (other_last thread (at + 1) xs e other)
 
 -- one thread, and an event of another
 racer_stays : (l : Loads ℕ) (fuel thread : ℕ) (own : List ThreadLine) (said : List ShownLine) (front : List Event)

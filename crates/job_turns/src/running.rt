@@ -13,7 +13,7 @@ ghost use Rattle.job_turns.specs.Running.{AnswersLook, Resumes, RunsOn, RunsPart
 
 use guest_arithmetic::Plain;
 use guest_machine::laws::plain_is_clean;
-use guest_machine::{DESCRIPTOR, GET_ADDRESS, Machine, Stop};
+use guest_machine::{DESCRIPTOR, Machine, Stop, is_look};
 use guest_memory::Bytes;
 use loaded_modules::Instance;
 use std::alloc::AllocError;
@@ -169,8 +169,7 @@ fn answer_at_once(space: &mut ThreadSpace, machine: &mut Machine<Plain>) -> Opti
 fn is_asking(machine: &Machine<Plain>, limit: u64) -> bool
     ensures { result ≡ (is_look machine.now.state.place && nat_lt machine.now.taken limit) }
 {
-    let place = machine.place();
-    (place == GET_ADDRESS || place == DESCRIPTOR) && machine.taken() < limit
+    is_look(machine.place()) && machine.taken() < limit
 }
 
 /// Runs up to a stop, and answers it if that needs no look.

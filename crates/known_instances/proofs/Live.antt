@@ -23,7 +23,7 @@ use Rattle.known_instances.proofs.Startup.{startup_kept}
 -- ** what holds of each loaded image holds of each live instance
 
 -- of a list of modules, from an image on
-all_from : (P : Instance → Type 0) (infos : List ImageInfo) (image : ℕ) (ms : List Module)
+pub all_from : (P : Instance → Type 0) (infos : List ImageInfo) (image : ℕ) (ms : List Module)
     → ((a : ℕ) (x : Instance) → loaded_instance infos (image + a) (get_or ms a no_module) ≡ Some x → P x)
     → All P (instances_from infos image ms)
 all_from P infos image [] each = All-nil P

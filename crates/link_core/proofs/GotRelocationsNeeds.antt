@@ -8,7 +8,7 @@ use Rattle.std.proofs.lemmas.List.Elements.{All-head, All-nil, All-tail}
 use Rattle.elf_records.specs.declared.relocation.RelocationKind.{RelocationKind}
 use Rattle.elf_records.specs.declared.relocation.RelocationKind.TheVariants.{TlsGd, GotTpOff, GotPc32TlsDesc, TpOff32}
 use Rattle.elf_object.specs.declared.relocation.Relocation.{Relocation}
-use Rattle.elf_object.specs.declared.symbol.SymbolBinding.TheVariants.{Local}
+use Rattle.elf_records.specs.declared.symbol.SymbolBinding.TheVariants.{Local}
 use Rattle.elf_object.specs.Lent.{symbol_binding, symbol_name}
 use Rattle.elf_object.specs.Object.{section_count}
 use Rattle.elf_object.specs.Parts.{symbol_count}
@@ -21,7 +21,8 @@ use Rattle.link_faults.specs.declared.image_kind.ImageKind.{ImageKind}
 use Rattle.link_faults.specs.declared.binding.Binding.{Binding}
 use Rattle.link_faults.specs.declared.binding.Binding.TheVariants.{Here, Startup, Runtime}
 use Rattle.link_faults.specs.declared.symbol_ref.SymbolRef.{SymbolRef}
-use Rattle.tls_symbols.specs.Bindings.{binding_of, bound_to, first_export, get_address, here_or, may_import, object_at}
+use Rattle.tls_symbols.specs.Bindings.{binding_of, bound_to, first_export, here_or, may_import, object_at}
+use Rattle.elf_records.specs.Symbols.{get_address}
 use Rattle.tls_symbols.specs.Bindings.{of_startup}
 use Rattle.tls_symbols.specs.Definitions.{definition_of, same_binding}
 use Rattle.std.specs.Str.{bytes_eq}
@@ -160,7 +161,7 @@ new_kind DescLea DescIe = inr (refl, inr refl)
 new_kind form c = tt
 
 -- what may be reached in another image is bound alike by each such type
-bound_alike : (objects : List (List ℕ)) (startup : List (List (List ℕ))) (o : ℕ) (x y : Relocation)
+pub bound_alike : (objects : List (List ℕ)) (startup : List (List (List ℕ))) (o : ℕ) (x y : Relocation)
     → may_import x.kind ≡ may_import y.kind → x.symbol ≡ y.symbol
     → binding_of objects startup o x ≡ binding_of objects startup o y
 unfolding bound_to
@@ -277,7 +278,7 @@ needs_suit l given sound =
 
 -- ** those of the entries
 
-distinct_suits : (P : Need → Type 0) (xs : List Need) → All P xs → All P (distinct xs)
+pub distinct_suits : (P : Need → Type 0) (xs : List Need) → All P xs → All P (distinct xs)
 distinct_suits P [] all = all
 distinct_suits P (x ∷ xs) all =
     All-cons P x (filter (λ y. not (same_need x y)) (distinct xs)) (All-head P x xs all)

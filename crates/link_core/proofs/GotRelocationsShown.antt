@@ -5,12 +5,12 @@ use Rattle.std.specs.Prelude.{cond, slice_index_or, unwrap_or}
 use Rattle.std.specs.List.{position_from}
 use Rattle.std.specs.Str.{bytes_eq}
 use Rattle.std.proofs.lemmas.List.{get_or-append-add, get_or_append_left, get_or-map, length-append, length-map}
-use Rattle.image_file.specs.declared.symbol.SymbolType.TheVariants.{NoType, Tls}
+use Rattle.elf_records.specs.declared.symbol.SymbolType.TheVariants.{NoType, Tls}
 use Rattle.image_writer.specs.Contents.{null_symbol, symbol, name}
 use Rattle.image_writer.specs.Linkable.{IsImport, IsRuntime}
 use Rattle.got_pairs.specs.declared.entry.DynamicSymbol.TheVariants.{Imported, Runtime}
 use Rattle.dynamic_symbols.specs.Names.{name_of}
-use Rattle.tls_symbols.specs.Bindings.{get_address}
+use Rattle.elf_records.specs.Symbols.{get_address}
 use Rattle.link_needs.specs.Linking.{Linking}
 use Rattle.link_needs.specs.Needs.{uses_runtime}
 use Rattle.link_tables.specs.Dynamic.{defined, foreign, imports, names, number_of, own_symbols, runtime_names}

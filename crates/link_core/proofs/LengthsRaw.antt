@@ -83,11 +83,11 @@ got_length l = needs_length l (entries l)
 -- ** the stub
 
 -- how large a sum is
-difference_mag : (b : Bool) (x y : ℕ) → mag (cond b (negsuc (y - suc x)) (pos (x - y))) ≤ x + y
+pub difference_mag : (b : Bool) (x y : ℕ) → mag (cond b (negsuc (y - suc x)) (pos (x - y))) ≤ x + y
 difference_mag true x y = omega arith
 difference_mag false x y = omega arith
 
-sum_mag : (x y : ℤ) → mag (x +ℤ y) ≤ mag x + mag y + 2
+pub sum_mag : (x y : ℤ) → mag (x +ℤ y) ≤ mag x + mag y + 2
 sum_mag (pos a) (pos b) = omega arith
 sum_mag (pos a) (negsuc b) =
     let h : mag (pos a +ℤ negsuc b) ≤ a + suc b = difference_mag (nat_lt a (suc b)) a (suc b) in omega (arith, h)
@@ -95,7 +95,7 @@ sum_mag (negsuc a) (pos b) =
     let h : mag (negsuc a +ℤ pos b) ≤ b + suc a = difference_mag (nat_lt b (suc a)) b (suc a) in omega (arith, h)
 sum_mag (negsuc a) (negsuc b) = omega arith
 
-neg_mag : (b : ℕ) → mag (neg_ℤ (pos b)) ≤ b
+pub neg_mag : (b : ℕ) → mag (neg_ℤ (pos b)) ≤ b
 neg_mag zero = omega arith
 neg_mag (suc b) = omega arith
 

@@ -1,4 +1,3 @@
-pub mod DraftLemmas
 pub mod Few
 pub mod FewEntries
 pub mod FewLists

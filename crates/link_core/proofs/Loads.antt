@@ -15,7 +15,8 @@ use Rattle.image_rules.specs.declared.places.FileKind.{FileKind}
 use Rattle.image_writer.specs.declared.outline.PartPlace.{PartPlace}
 use Rattle.image_writer.specs.Contents.{part_in, tables_address}
 use Rattle.image_writer.specs.Outlined.{Outlined, end_of, last_part, no_part, outline_of, place_of}
-use Rattle.image_writer.specs.Loadable.{IsLoadable, HoldsTls, is_writable, one_if_some}
+use Rattle.image_writer.specs.Loadable.{IsLoadable, HoldsTls, one_if_some}
+use Rattle.image_file.specs.Spelled.{is_writable}
 use Rattle.image_writer.specs.Page.{base_of as page_base, file_offset}
 use Rattle.image_writer.specs.Tables.{array_size, finished, tables, tables_part}
 use Rattle.image_writer.proofs.SameBytes.{part_length}

@@ -6,7 +6,7 @@ use Rattle.std.proofs.lemmas.List.{get_or-append_right, get_or_at}
 use Rattle.std.specs.List.{All}
 use Rattle.image_faults.specs.Counts.{how_many, behind_last}
 use Rattle.image_writer.specs.declared.outline.PartPlace.{PartPlace}
-use Rattle.image_writer.specs.Loadable.{is_writable}
+use Rattle.image_file.specs.Spelled.{is_writable}
 use Rattle.image_writer.specs.Outlined.{no_part}
 
 -- one where a test passes

@@ -7,7 +7,7 @@ use Rattle.object_faults.specs.declared.class.SectionClass.TheVariants as class
 use Rattle.image_file.specs.declared.part.PartClass.{PartClass}
 use Rattle.image_file.specs.declared.part.PartClass.TheVariants.{Executable, ReadOnly, Writable}
 use Rattle.image_writer.specs.declared.outline.PartPlace.{PartPlace}
-use Rattle.image_writer.specs.Loadable.{is_writable}
+use Rattle.image_file.specs.Spelled.{is_writable}
 use Rattle.link_faults.specs.ImageKinds.{base_of}
 use Rattle.tls_layout.specs.declared.extent.Extent.{Extent}
 use Rattle.tls_layout.specs.Places.{executable, read_only, room, tls_image, writable, zero_data, IsLawful}

@@ -6,7 +6,7 @@ use Rattle.std.specs.List.{flat_map}
 use Rattle.std.proofs.lemmas.List.{length-map}
 use Rattle.std.proofs.lemmas.List.Sums.{sum_by-cons}
 use Rattle.dynamic_symbols.specs.Names.{name_of, name_size, size_of}
-use Rattle.image_file.specs.declared.symbol.SymbolType.TheVariants as type_in_image
+use Rattle.elf_records.specs.declared.symbol.SymbolType.TheVariants.{Tls}
 use Rattle.image_writer.specs.Contents.{Contents}
 use Rattle.image_writer.specs.Tables.{array_size, has_relocations, is_pie, name_bytes, strings, tables}
 use Rattle.image_writer.proofs.TableSizes.{tables_long}
@@ -65,7 +65,7 @@ pub symbols_short : (l : Linking) → FitsLimits l → 24 * length (symbols l) +
 unfolding symbols names name_size
 symbols_short l limits =
     let own = own_symbols l in
-    let others = map (λ (name : List ℕ). foreign type_in_image.Tls) (imports l) in
+    let others = map (λ (name : List ℕ). foreign Tls) (imports l) in
     let short = limits.short in
     omega (
       arith,
@@ -73,7 +73,7 @@ symbols_short l limits =
       length-append (map (defined l) own) (others ++ runtime_symbols (uses_runtime l)),
       length-append others (runtime_symbols (uses_runtime l)),
       length-map own (defined l),
-      length-map (imports l) (λ (name : List ℕ). foreign type_in_image.Tls),
+      length-map (imports l) (λ (name : List ℕ). foreign Tls),
       length_of-append (map (name_of l.objects) own) (imports l ++ runtime_names (uses_runtime l)),
       length_of-append (imports l) (runtime_names (uses_runtime l)),
       size_of_own l.objects own,

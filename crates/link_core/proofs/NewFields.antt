@@ -9,7 +9,7 @@ use Rattle.std.proofs.lemmas.Bool.{lt-ltb}
 use Rattle.std.proofs.lemmas.Int.{ints}
 use Rattle.std.proofs.lemmas.List.Elements.{All-contains}
 use Rattle.elf_object.specs.declared.relocation.Relocation.{Relocation}
-use Rattle.elf_object.specs.declared.symbol.SymbolBinding.TheVariants.{Local}
+use Rattle.elf_records.specs.declared.symbol.SymbolBinding.TheVariants.{Local}
 use Rattle.elf_object.specs.Lent.{symbol_binding, symbol_name}
 use Rattle.elf_records.specs.declared.relocation.RelocationKind.{RelocationKind}
 use Rattle.elf_records.specs.declared.relocation.RelocationKind.TheVariants.{GotTpOff, TpOff32}
@@ -46,7 +46,8 @@ use Rattle.tls_layout.specs.Places.{tls_alignment, tls_size}
 use Rattle.tls_relocs.specs.declared.fields.Field.{Field}
 use Rattle.tls_relocs.specs.declared.fields.Field.TheVariants.{Word32}
 use Rattle.tls_relocs.specs.Values.{modulo, signed_field, stored_field}
-use Rattle.tls_symbols.specs.Bindings.{binding_of, bound_to, first_export, get_address, here_or, may_import, name_binding}
+use Rattle.tls_symbols.specs.Bindings.{binding_of, bound_to, first_export, here_or, may_import, name_binding}
+use Rattle.elf_records.specs.Symbols.{get_address}
 use Rattle.tls_symbols.specs.Bindings.{object_at, of_startup}
 use Rattle.tls_symbols.specs.Definitions.{definition_of, same_binding}
 use Rattle.link_core.proofs.Few.{table_fits}
@@ -111,7 +112,7 @@ which l form (Some bound) new e = of_kind form bound l.kind l.relax new e
 -- ** bindings
 
 -- a symbol of the image itself is bound so whatever the type of the relocation
-here_alike : (objects : List (List ℕ)) (startup : List (List (List ℕ))) (o : ℕ) (x y : Relocation)
+pub here_alike : (objects : List (List ℕ)) (startup : List (List (List ℕ))) (o : ℕ) (x y : Relocation)
     (found : SymbolRef) → x.symbol ≡ y.symbol → binding_of objects startup o x ≡ Some (Here found)
     → binding_of objects startup o y ≡ Some (Here found)
 unfolding bound_to
@@ -174,7 +175,7 @@ entry_low l (Some need) small = of_start (start_of (entries l) need) refl
     of_start None e = omega arith
     of_start (Some at) e = omega (arith, within (entries l) need (Some at) e, small)
 
-distance_field : (l : Linking) (o : ℕ) (r : Relocation) (kind : RelocationKind) (bound : Option Binding)
+pub distance_field : (l : Linking) (o : ℕ) (r : Relocation) (kind : RelocationKind) (bound : Option Binding)
     (found : SymbolRef) (p : ℕ) → kind ≡ TpOff32 → bound ≡ Some (Here found)
     → stored_field kind (own_number l kind bound) r.addend p (other_number l o r kind)
     ≡ signed_field ((pos (offset l found) +ℤ r.addend) -ℤ pos (block_offset l))

@@ -21,7 +21,7 @@ use Rattle.link_core.proofs.RelativesFields.{IsField, all_from, apart_from}
 use Rattle.link_core.proofs.RelativesParts.{class_part, held_in}
 
 -- each is the relocation of a field
-are_fields : (l : Linking) → IsGiven l → All (IsField l 0) (relatives l)
+pub are_fields : (l : Linking) → IsGiven l → All (IsField l 0) (relatives l)
 unfolding relatives
 are_fields l given = of_test (is_moved l.kind)
   where

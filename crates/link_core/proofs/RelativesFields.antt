@@ -58,7 +58,7 @@ sections_far l o t p u x y first next other =
 
 -- ** one relocation
 
-absolute_is : (kind : RelocationKind) → is_absolute kind ≡ true → kind ≡ Absolute64
+pub absolute_is : (kind : RelocationKind) → is_absolute kind ≡ true → kind ≡ Absolute64
 absolute_is Absolute64 e = refl
 absolute_is kind e = cc
 

@@ -48,7 +48,7 @@ unfolding relocations_in
 no_table b t none = let zero : kept_relocation_table b t ≡ 0 = omega arith in rw zero refl
 
 -- two that share a byte are one
-shared : (xs : List Relocation) (x y : Relocation) (k : ℕ) → AreApart xs → Contains xs x → Contains xs y
+pub shared : (xs : List Relocation) (x y : Relocation) (k : ℕ) → AreApart xs → Contains xs x → Contains xs y
     → Covers x k → Covers y k → y ≡ x
 shared xs x y k apart first next covers again = elim (cases_lt first.0 next.0) [
   | inl less ↦ absurd (apart first.0 next.0 k x y (entry x first) (entry y next) less covers again)

@@ -45,11 +45,11 @@ use Rattle.link_core.proofs.TogetherFound.{covers_is}
 
 -- ** choices
 
-kept_is : (choice : Choice) → is_kept choice ≡ true → choice ≡ Keep
+pub kept_is : (choice : Choice) → is_kept choice ≡ true → choice ≡ Keep
 kept_is Keep e = refl
 kept_is choice e = absurd (cc)
 
-kept_not : (choice : Choice) → is_kept choice ≡ false → choice ≢ Keep
+pub kept_not : (choice : Choice) → is_kept choice ≡ false → choice ≢ Keep
 kept_not Keep e = absurd (cc)
 kept_not choice e = λ h. cc
 

@@ -7,12 +7,12 @@ use Rattle.std.proofs.lemmas.Bool.Decides.{nat_tests}
 use Rattle.std.proofs.lemmas.List.Elements.{All-append, All-cons, All-map, All-nil, All-weaker}
 use Rattle.object_faults.specs.declared.class.SectionClass.{SectionClass}
 use Rattle.object_faults.specs.declared.class.SectionClass.TheVariants.{Tls as ThreadLocal}
-use Rattle.elf_object.specs.declared.symbol.SymbolBinding.{SymbolBinding}
-use Rattle.elf_object.specs.declared.symbol.SymbolBinding.TheVariants as of_object
+use Rattle.elf_records.specs.declared.symbol.SymbolBinding.{SymbolBinding}
+use Rattle.elf_records.specs.declared.symbol.SymbolBinding.TheVariants.{Local}
 use Rattle.elf_object.specs.declared.symbol.SymbolPlace.{SymbolPlace}
 use Rattle.elf_object.specs.declared.symbol.SymbolPlace.TheVariants.{Undefined, Absolute, InSection}
-use Rattle.elf_object.specs.declared.symbol.SymbolType.{SymbolType}
-use Rattle.elf_object.specs.declared.symbol.SymbolType.TheVariants as type_in_object
+use Rattle.elf_records.specs.declared.symbol.SymbolType.{SymbolType}
+use Rattle.elf_records.specs.declared.symbol.SymbolType.TheVariants.{NoType, Tls}
 use Rattle.elf_object.specs.Classes.{IsTls}
 use Rattle.elf_object.specs.Faults.{IsObject}
 use Rattle.elf_object.specs.Lawful.{IsPlaced, IsShared as IsSharedIn}
@@ -22,17 +22,13 @@ use Rattle.dynamic_symbols.specs.Laws.{IsShared}
 use Rattle.dynamic_symbols.proofs.Named.{symbols_shared}
 use Rattle.image_file.specs.declared.part.TlsPart.{TlsPart}
 use Rattle.image_file.specs.declared.symbol.ImageSymbol.{ImageSymbol}
-use Rattle.image_file.specs.declared.symbol.SymbolBinding.TheVariants as of_image
-use Rattle.image_file.specs.declared.symbol.SymbolType as type_of_image
-use Rattle.image_file.specs.declared.symbol.SymbolType.TheVariants as type_in_image
 use Rattle.image_writer.specs.Linkable.{tls_size as size_of}
 use Rattle.tls_layout.specs.Places.{tls_alignment, tls_image, tls_size, initial_tls}
 use Rattle.tls_layout.specs.Sections.{Layout}
 use Rattle.tls_symbols.specs.Bindings.{is_tls_class, is_tls_place}
 use Rattle.tls_symbols.specs.Definitions.{same_binding}
 use Rattle.link_needs.specs.Linking.{Linking, address, layout, object, offset, offset_in}
-use Rattle.link_tables.specs.Dynamic.{binding_shown, defined, foreign, imports, own_symbols, runtime_symbols, symbols}
-use Rattle.link_tables.specs.Dynamic.{type_shown}
+use Rattle.link_tables.specs.Dynamic.{defined, foreign, imports, own_symbols, runtime_symbols, symbols}
 use Rattle.link_needs.specs.Given.{FitsTable, IsGiven}
 use Rattle.link_core.specs.Images.{tls_part}
 use Rattle.link_needs.specs.Needs.{uses_runtime}
@@ -40,22 +36,12 @@ use Rattle.link_core.proofs.GotRelocationsSites.{in_section}
 
 -- a symbol that is shared, and lies in a TLS segment of n bytes if it is thread-local here
 pub record IsRight (n : ℕ) (s : ImageSymbol) : Type 0 where
-  pub shared : s.binding ≢ of_image.Local
-  pub inside : s.kind ≡ type_in_image.Tls → s.is_defined ≡ true → s.value ≤ n
+  pub shared : s.binding ≢ Local
+  pub inside : s.kind ≡ Tls → s.is_defined ≡ true → s.value ≤ n
 
--- ** words of objects and of images
-
-not_local : (y : SymbolBinding) → same_binding of_object.Local y ≡ false → y ≢ of_object.Local
-not_local of_object.Local other = absurd (cc)
+not_local : (y : SymbolBinding) → same_binding Local y ≡ false → y ≢ Local
+not_local Local other = absurd (cc)
 not_local y other = λ h. cc
-
-shown_shared : (y : SymbolBinding) → same_binding of_object.Local y ≡ false → binding_shown y ≢ of_image.Local
-shown_shared of_object.Local other = absurd (cc)
-shown_shared y other = λ h. cc
-
-shown_tls : (x : SymbolType) → type_shown x ≡ type_in_image.Tls → x ≡ type_in_object.Tls
-shown_tls type_in_object.Tls h = refl
-shown_tls kind h = absurd (cc)
 
 tls_class : (class : Option SectionClass) → IsTls class → is_tls_class class ≡ true
 tls_class (Some (ThreadLocal initial)) h = refl
@@ -84,8 +70,8 @@ module _ (l : Linking) (given : IsGiven l) (limits : FitsTable l) (o e : ℕ)
 
   -- a symbol that an image shows as thread-local
   shown_inside : (place : SymbolPlace) (address : ℕ) → symbol_place (object l o) e ≡ place
-      → (if is_tls_place (object l o) place then type_in_image.Tls
-      else type_shown (symbol_type (object l o) e)) ≡ type_in_image.Tls
+      → (if is_tls_place (object l o) place then Tls
+      else symbol_type (object l o) e) ≡ Tls
       → (if is_tls_place (object l o) place
       then offset_in (layout l) o place (symbol_value (object l o) e) else address)
       ≤ tls_size (layout l).sections
@@ -94,25 +80,24 @@ module _ (l : Linking) (given : IsGiven l) (limits : FitsTable l) (o e : ℕ)
   shown_inside (InSection s) address at shows = by (is_tls_class (section_class (object l o) s)) refl shows
     where
       by : (t : Bool) → is_tls_class (section_class (object l o) s) ≡ t
-          → (if t then type_in_image.Tls else type_shown (symbol_type (object l o) e)) ≡ type_in_image.Tls
+          → (if t then Tls else symbol_type (object l o) e) ≡ Tls
           → (if t then offset_in (layout l) o (InSection s) (symbol_value (object l o) e) else address)
           ≤ tls_size (layout l).sections
       by true is shows = in_segment s at is
       by false is shows =
-          let typed = shown_tls (symbol_type (object l o) e) shows in
-          absurd (cc (is, tls_class (section_class (object l o) s) (is_placed.thread_local s typed at)))
+          absurd (cc (is, tls_class (section_class (object l o) s) (is_placed.thread_local s shows at)))
 
   defined_right : IsRight (tls_size (layout l).sections) (defined l (record { object = o; symbol = e }))
   unfolding defined offset
   defined_right = record {
-    shared = shown_shared (symbol_binding (object l o) e) found.shared;
+    shared = not_local (symbol_binding (object l o) e) found.shared;
     inside = λ shows is.
         shown_inside (symbol_place (object l o) e) (address l (record { object = o; symbol = e })) refl shows;
   }
 
 -- ** all symbols
 
-foreign_right : (n : ℕ) (kind : type_of_image.SymbolType) → IsRight n (foreign kind)
+foreign_right : (n : ℕ) (kind : SymbolType) → IsRight n (foreign kind)
 foreign_right n kind = record { shared = λ h. cc; inside = λ shows is. absurd (cc) }
 
 own_right : (l : Linking) → IsGiven l → FitsTable l
@@ -124,21 +109,21 @@ own_right l given limits =
     (λ found is. defined_right l given limits found.object found.symbol is) (own_symbols l) (symbols_shared l.objects))
 
 imports_right : (n : ℕ) (names : List (List ℕ))
-    → All (IsRight n) (map (λ (name : List ℕ). foreign type_in_image.Tls) names)
+    → All (IsRight n) (map (λ (name : List ℕ). foreign Tls) names)
 imports_right n names =
-    All-map (IsRight n) (λ (name : List ℕ). foreign type_in_image.Tls) names
-    (λ k d h. foreign_right n type_in_image.Tls)
+    All-map (IsRight n) (λ (name : List ℕ). foreign Tls) names
+    (λ k d h. foreign_right n Tls)
 
 runtime_right : (n : ℕ) (uses : Bool) → All (IsRight n) (runtime_symbols uses)
 runtime_right n true =
-    All-cons (IsRight n) (foreign type_in_image.NoType) [] (foreign_right n type_in_image.NoType) (All-nil (IsRight n))
+    All-cons (IsRight n) (foreign NoType) [] (foreign_right n NoType) (All-nil (IsRight n))
 runtime_right n false = All-nil (IsRight n)
 
 pub symbols_right : (l : Linking) → IsGiven l → FitsTable l → All (IsRight (tls_size (layout l).sections)) (symbols l)
 unfolding symbols
 symbols_right l given limits =
     let n = tls_size (layout l).sections in
-    let imported : List ImageSymbol = map (λ (name : List ℕ). foreign type_in_image.Tls) (imports l) in
+    let imported : List ImageSymbol = map (λ (name : List ℕ). foreign Tls) (imports l) in
     let called : List ImageSymbol = runtime_symbols (uses_runtime l) in
     All-append (IsRight n) (map (defined l) (own_symbols l)) (imported ++ called) (own_right l given limits)
     (All-append (IsRight n) imported called (imports_right n (imports l)) (runtime_right n (uses_runtime l)))

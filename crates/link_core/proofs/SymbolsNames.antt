@@ -12,7 +12,8 @@ use Rattle.elf_object.specs.Lent.{section_bytes, symbol_name}
 use Rattle.elf_object.specs.Parts.{section, symbol, symbol_table}
 use Rattle.sequence_forms.specs.declared.places.Site.{Site}
 use Rattle.link_faults.specs.declared.symbol_ref.SymbolRef.{SymbolRef}
-use Rattle.tls_symbols.specs.Bindings.{get_address, object_at}
+use Rattle.tls_symbols.specs.Bindings.{object_at}
+use Rattle.elf_records.specs.Symbols.{get_address}
 use Rattle.dynamic_symbols.specs.Names.{imported_at, imported_from, imported_in, imports, is_import, name_of}
 use Rattle.dynamic_symbols.proofs.Lists.{all_distinct, all_flat}
 use Rattle.link_needs.specs.Linking.{Linking}

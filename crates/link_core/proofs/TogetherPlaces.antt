@@ -68,7 +68,7 @@ goes_wide bound Nothing h = absurd (cc)
 goes_wide bound TlsDescCall h = absurd (cc)
 goes_wide bound kind h = omega arith
 
-second : (a b : Bool) → (a && b) ≡ true → b ≡ true
+pub second : (a b : Bool) → (a && b) ≡ true → b ≡ true
 second true b e = e
 second false b e = absurd (cc)
 

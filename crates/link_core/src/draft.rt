@@ -1,9 +1,7 @@
 //! The parts of an image, and the image that they make.
 
 ghost use Rattle.std.specs.Prelude.{◌≡◌, ◌<◌, ◌++◌, IfOk, OnOk, length};
-ghost use Rattle.std.specs.List.{list_any};
-ghost use Rattle.sequence_forms.specs.declared.places.Site.{Site};
-ghost use Rattle.link_tables.specs.Dynamic.{is_flagged, is_initial};
+ghost use Rattle.link_tables.specs.Dynamic.{is_flagged};
 ghost use Rattle.link_needs.specs.Linking.{layout};
 ghost use Rattle.link_core.specs.Images.{file_kind, filled, got_number, got_places, section_places};
 ghost use Rattle.link_core.specs.Images.{stub_places, tls_part};
@@ -12,7 +10,6 @@ use image_file::{FileKind, PartClass, TlsPart};
 use image_writer::PartPlace;
 use link_faults::ImageKind;
 use link_needs::{Inputs, Plan};
-use sequence_match::{Form, Site};
 use std::alloc::{AllocError, Global};
 use tls_layout::{Extent, Placement};
 
@@ -104,25 +101,10 @@ pub fn tls_part(placement: &Placement) -> Option<TlsPart>
     })
 }
 
-/// Whether an object has code that reaches variables at a fixed distance from the thread pointer.
-fn has_initial(own: &[Site]) -> bool
-    ensures { result ≡ list_any (λ (site : Site). is_initial site.form) own.now }
-{
-    own.iter()
-        .any(|site| matches!(site.form, Form::IeMov | Form::IeAdd))
-}
-
-/// Whether one of these objects has such code.
-fn any_initial(sites: &[Vec<Site>]) -> bool
-    ensures { result ≡ list_any (λ own. list_any (λ (site : Site). is_initial site.form) own.items) sites.now }
-{
-    sites.iter().any(|own| has_initial(own.as_slice()))
-}
-
 /// Whether the image is a module that reaches thread-local data at a fixed distance from the thread pointer.
-#[tactic(auto, using(crate::proofs::DraftLemmas::any_seen), unfolding(link_tables::specs::Dynamic::is_flagged))]
+#[tactic(auto, unfolding(link_tables::specs::Dynamic::is_flagged))]
 pub fn is_flagged(inputs: &Inputs) -> bool
     ensures { result ≡ is_flagged inputs.now }
 {
-    inputs.kind.is_module() && any_initial(inputs.sites)
+    inputs.kind.is_module() && inputs.has_initial()
 }

@@ -1,6 +1,7 @@
 -- Sections that have a place are kept, and what lies in them is small.
-use Rattle.std.proofs.Common.{◌≡◌, ◌<◌, ◌≤◌, ◌^◌, ℕ, List, length, Option, Some, None, refl, sym, ap, subst, ◌∙◌, arith}
+use Rattle.std.proofs.Common.{◌≡◌, ◌<◌, ◌≤◌, ◌^◌, ◌||◌, ℕ, Bool, List, [], ◌∷◌, map, length, Option, Some, None, refl, sym, ap, subst, ◌∙◌, arith}
 use Rattle.std.specs.Prelude.{IsSome}
+use Rattle.std.specs.List.{list_any}
 use Rattle.object_faults.specs.declared.class.SectionClass.{SectionClass}
 use Rattle.elf_object.specs.declared.part.SymbolPart.{SymbolPart}
 use Rattle.elf_object.specs.declared.symbol.SymbolPlace.TheVariants.{InSection}
@@ -98,3 +99,9 @@ module _ (l : Linking) (o e : ℕ) (b : List ℕ) (part : SymbolPart) (there : o
   part_at_offset some =
       rw value_is (value_at_offset l.kind l.objects o e s there (subst IsObject is object)
       (subst (λ b. IsPlaced b e) is placed) here (tls_offset_of (layout l) o s) refl some)
+
+-- one of the elements passes as they are seen
+pub any_seen : {X Y : Type 0} (v : X → Y) (t : Y → Bool) (xs : List X)
+    → list_any t (map v xs) ≡ list_any (λ x. t (v x)) xs
+any_seen v t [] = refl
+any_seen v t (x ∷ xs) = ap (λ (b : Bool). t (v x) || b) (any_seen v t xs)

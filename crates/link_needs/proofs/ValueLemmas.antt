@@ -12,14 +12,15 @@ use Rattle.elf_records.specs.declared.relocation_row.TableEntry.{TableEntry}
 use Rattle.elf_records.specs.declared.relocation_row.TableEntry.TheVariants.{NoEntry}
 use Rattle.elf_records.specs.RelocationRows.{is_entry, row}
 use Rattle.elf_object.specs.declared.relocation.Relocation.{Relocation}
-use Rattle.elf_object.specs.declared.symbol.SymbolBinding.TheVariants.{Local}
+use Rattle.elf_records.specs.declared.symbol.SymbolBinding.TheVariants.{Local}
 use Rattle.elf_object.specs.Parts.{symbol_count}
 use Rattle.elf_object.specs.Lent.{symbol_binding, symbol_name}
 use Rattle.link_faults.specs.Bindings.{is_here}
 use Rattle.link_faults.specs.declared.binding.Binding.{Binding}
 use Rattle.link_faults.specs.declared.binding.Binding.TheVariants.{Here, Startup, Runtime}
 use Rattle.link_faults.specs.declared.symbol_ref.SymbolRef.{SymbolRef}
-use Rattle.tls_symbols.specs.Bindings.{bound_to, first_export, get_address, here_or, may_import, name_binding}
+use Rattle.tls_symbols.specs.Bindings.{bound_to, first_export, here_or, may_import, name_binding}
+use Rattle.elf_records.specs.Symbols.{get_address}
 use Rattle.tls_symbols.specs.Bindings.{of_startup}
 use Rattle.tls_symbols.specs.Definitions.{definition_of, same_binding}
 use Rattle.link_needs.specs.Linking.{Linking, binding, object}

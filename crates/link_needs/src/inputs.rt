@@ -1,7 +1,10 @@
 //! What a link is given, and what its symbols are bound to and where they are.
 
 ghost use Rattle.std.specs.Prelude.{◌≡◌, ◌<◌, ◌≤◌, ◌^◌, ℕ, IfSome, IsSome, length, unwrap_or};
+ghost use Rattle.std.specs.List.{list_any};
 ghost use Rattle.elf_object.specs.Parts.{symbol_count};
+ghost use Rattle.sequence_forms.specs.declared.places.Site.{Site};
+ghost use Rattle.sequence_forms.specs.Forms.{is_initial};
 ghost use Rattle.tls_layout.specs.Places.{address_of, tls_offset_of};
 ghost use Rattle.tls_symbols.specs.Bindings.{IsBindingWithin, bound_to, may_import, object_at};
 ghost use Rattle.tls_symbols.specs.Definitions.{IsWithin};
@@ -56,7 +59,29 @@ impl<'l, 's, 'a> Model for Inputs<'l, 's, 'a> {
         inputs.bindings.objects inputs.placement inputs.block_offset };
 }
 
+/// Whether an object has code that finds a variable at a fixed distance from the thread pointer.
+fn has_initial(own: &[Site]) -> bool
+    ensures { result ≡ list_any (λ (site : Site). is_initial site.form) own.now }
+{
+    own.iter().any(|site| site.form.is_initial())
+}
+
+/// Whether one of these objects has such code.
+fn any_initial(sites: &[Vec<Site>]) -> bool
+    ensures { result ≡ list_any (λ own. list_any (λ (site : Site). is_initial site.form) own.items) sites.now }
+{
+    sites.iter().any(|own| has_initial(own.as_slice()))
+}
+
 impl<'l, 's, 'a> Inputs<'l, 's, 'a> {
+    /// Whether code of an object finds a variable at a fixed distance from the thread pointer.
+    #[tactic(auto, using(crate::proofs::InputsLemmas::any_seen))]
+    pub fn has_initial(&self) -> bool
+        ensures { result ≡ list_any (λ own. list_any (λ (site : Site). is_initial site.form) own) self.now.sites }
+    {
+        any_initial(self.sites)
+    }
+
     /// The object at this index in the list.
     pub fn object(&self, number: usize) -> &'l Object<'a>
         requires { number < length self.now.objects }

@@ -65,12 +65,12 @@ pub record IsPlaced (b : List ℕ) (t : ℕ) : Type 0 where
   pub class_is : section_class b t ≡ Some class
   pub other : class ≢ Tls false
 
-none_listed : (b : List ℕ) (at n : ℕ) → n ≡ 0 → length (relocations_from b at 0 n) ≡ 0
+pub none_listed : (b : List ℕ) (at n : ℕ) → n ≡ 0 → length (relocations_from b at 0 n) ≡ 0
 unfolding relocations_from
 none_listed b at n none = rw none refl
 
 -- where it has bytes, its table has entries
-some_bytes : (b : List ℕ) (r : ℕ) → 0 < length (relocations_from b (section b r).offset 0 (entry_count (section b r)))
+pub some_bytes : (b : List ℕ) (r : ℕ) → 0 < length (relocations_from b (section b r).offset 0 (entry_count (section b r)))
     → (section b r).size ≢ 0
 some_bytes b r some none =
     let empty : entry_count (section b r) ≡ 0 = rw none refl in

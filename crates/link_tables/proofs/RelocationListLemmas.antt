@@ -25,6 +25,7 @@ use Rattle.link_needs.specs.Needs.{entries, got_size, got_start}
 use Rattle.link_tables.specs.Dynamic.{entry_relocations, imports, need_relocations, own_symbols}
 use Rattle.link_tables.specs.Faults.{FitsLimits}
 use Rattle.link_needs.specs.Given.{FitsTable}
+use Rattle.tls_layout.proofs.Bounds.{base_small as base_low}
 
 -- ** symbols
 
@@ -49,12 +50,6 @@ found_lent name k (x ∷ xs) =
     ap (λ (rest : Option ℕ). cond (bytes_eq name x.now) (Some k) rest) (found_lent name (k + 1) xs)
 
 -- ** the table
-
-base_low : (kind : ImageKind) → base_of kind ≤ 2 ^ 22
-base_low Exe = omega arith
-base_low Pie = omega arith
-base_low Start = omega arith
-base_low Late = omega arith
 
 pub table_low : (l : Linking) → FitsTable l → got_start l + got_size l ≤ 2 ^ 26
 unfolding room

@@ -7,12 +7,10 @@ use Rattle.std.specs.List.{flat_map, list_any, position_from, range_with_len}
 use Rattle.std.specs.Str.{bytes_eq}
 pub use Rattle.elf_records.specs.RelocationRows.{is_absolute}
 use Rattle.elf_object.specs.declared.relocation.Relocation.{Relocation}
-use Rattle.elf_object.specs.declared.symbol.SymbolBinding.{SymbolBinding}
-use Rattle.elf_object.specs.declared.symbol.SymbolBinding.TheVariants as of_object
-use Rattle.elf_object.specs.declared.symbol.SymbolType.{SymbolType}
-use Rattle.elf_object.specs.declared.symbol.SymbolType.TheVariants as type_in_object
-use Rattle.elf_object.specs.declared.symbol.Visibility.{Visibility}
-use Rattle.elf_object.specs.declared.symbol.Visibility.TheVariants as seen_in_object
+use Rattle.elf_records.specs.declared.symbol.SymbolBinding.TheVariants.{Global}
+use Rattle.elf_records.specs.declared.symbol.SymbolType.{SymbolType}
+use Rattle.elf_records.specs.declared.symbol.SymbolType.TheVariants.{NoType, Tls}
+use Rattle.elf_records.specs.declared.symbol.Visibility.TheVariants.{Default}
 use Rattle.elf_object.specs.Lent.{relocations, symbol_binding, symbol_size, symbol_type, symbol_visibility}
 use Rattle.elf_object.specs.Object.{section_count}
 use Rattle.dynamic_symbols.specs.Names.{defined_symbols, imports as imports_of, name_of}
@@ -30,44 +28,18 @@ use Rattle.image_faults.specs.declared.loader_kind.LoaderKind.{LoaderKind}
 use Rattle.image_faults.specs.declared.loader_kind.LoaderKind.TheVariants as loader
 use Rattle.image_file.specs.declared.relocation.ImageRelocation.{ImageRelocation}
 use Rattle.image_file.specs.declared.symbol.ImageSymbol.{ImageSymbol}
-use Rattle.image_file.specs.declared.symbol.SymbolBinding as binding_in_image
-use Rattle.image_file.specs.declared.symbol.SymbolBinding.TheVariants as of_image
-use Rattle.image_file.specs.declared.symbol.SymbolType as type_of_image
-use Rattle.image_file.specs.declared.symbol.SymbolType.TheVariants as type_in_image
-use Rattle.image_file.specs.declared.symbol.Visibility as visibility_of_image
-use Rattle.image_file.specs.declared.symbol.Visibility.TheVariants as seen_in_image
 use Rattle.link_faults.specs.ImageKinds.{is_moved, is_module}
-use Rattle.sequence_forms.specs.declared.forms.Form.{Form}
-use Rattle.sequence_forms.specs.declared.forms.Form.TheVariants.{IeMov, IeAdd}
 use Rattle.sequence_forms.specs.declared.places.Site.{Site}
+use Rattle.sequence_forms.specs.Forms.{is_initial}
 use Rattle.tls_relocs.specs.Values.{modulo}
 use Rattle.link_faults.specs.declared.symbol_ref.SymbolRef.{SymbolRef}
-use Rattle.tls_symbols.specs.Bindings.{get_address, is_tls_symbol}
+use Rattle.tls_symbols.specs.Bindings.{is_tls_symbol}
+use Rattle.elf_records.specs.Symbols.{get_address}
 use Rattle.link_needs.specs.Linking.{Linking, address, binding, block_offset, object, offset, place}
 use Rattle.link_needs.specs.Needs.{entries, got_start, sorted_by, uses_runtime}
 use Rattle.link_needs.specs.Values.{own_number}
 
 -- ** symbols
-
--- a symbol's binding, visibility and type, as they are written in an image
-abbrev pub binding_shown : SymbolBinding → binding_in_image.SymbolBinding
-binding_shown of_object.Local = of_image.Local
-binding_shown of_object.Global = of_image.Global
-binding_shown of_object.Weak = of_image.Weak
-
-abbrev pub visibility_shown : Visibility → visibility_of_image.Visibility
-visibility_shown seen_in_object.Default = seen_in_image.Default
-visibility_shown seen_in_object.Internal = seen_in_image.Internal
-visibility_shown seen_in_object.Hidden = seen_in_image.Hidden
-visibility_shown seen_in_object.Protected = seen_in_image.Protected
-
-abbrev pub type_shown : SymbolType → type_of_image.SymbolType
-type_shown type_in_object.NoType = type_in_image.NoType
-type_shown type_in_object.Object = type_in_image.Object
-type_shown type_in_object.Func = type_in_image.Func
-type_shown type_in_object.Section = type_in_image.Section
-type_shown type_in_object.File = type_in_image.File
-type_shown type_in_object.Tls = type_in_image.Tls
 
 -- a symbol that the image defines; the value of a thread-local one is its offset in the TLS segment, and its type is
 -- TLS, whatever its object says
@@ -75,20 +47,20 @@ unfoldable pub defined : Linking → SymbolRef → ImageSymbol
 defined l found =
     let b = object l found.object in
     record {
-      binding = binding_shown (symbol_binding b found.symbol);
-      kind = (if is_tls_symbol b found.symbol then type_in_image.Tls else type_shown (symbol_type b found.symbol));
-      visibility = visibility_shown (symbol_visibility b found.symbol);
+      binding = symbol_binding b found.symbol;
+      kind = (if is_tls_symbol b found.symbol then Tls else symbol_type b found.symbol);
+      visibility = symbol_visibility b found.symbol;
       is_defined = true;
       value = (if is_tls_symbol b found.symbol then offset l found else address l found);
       size = symbol_size b found.symbol;
     }
 
 -- a symbol of another image
-abbrev pub foreign : type_of_image.SymbolType → ImageSymbol
+abbrev pub foreign : SymbolType → ImageSymbol
 foreign kind = record {
-  binding = of_image.Global;
+  binding = Global;
   kind = kind;
-  visibility = seen_in_image.Default;
+  visibility = Default;
   is_defined = false;
   value = 0;
   size = 0;
@@ -102,7 +74,7 @@ imports l = imports_of l.objects l.startup l.sites
 
 -- the function of the run time, if it is called through its word
 abbrev pub runtime_symbols : Bool → List ImageSymbol
-runtime_symbols uses = if uses then foreign type_in_image.NoType ∷ [] else []
+runtime_symbols uses = if uses then foreign NoType ∷ [] else []
 
 abbrev pub runtime_names : Bool → List (List ℕ)
 runtime_names uses = if uses then get_address ∷ [] else []
@@ -111,7 +83,7 @@ runtime_names uses = if uses then get_address ∷ [] else []
 unfoldable pub symbols : Linking → List ImageSymbol
 symbols l =
     map (defined l) (own_symbols l)
-    ++ (map (λ (name : List ℕ). foreign type_in_image.Tls) (imports l) ++ runtime_symbols (uses_runtime l))
+    ++ (map (λ (name : List ℕ). foreign Tls) (imports l) ++ runtime_symbols (uses_runtime l))
 
 unfoldable pub names : Linking → List (List ℕ)
 names l = map (name_of l.objects) (own_symbols l) ++ (imports l ++ runtime_names (uses_runtime l))
@@ -189,11 +161,6 @@ unfoldable pub image_relocations : Linking → List ImageRelocation
 image_relocations l = relatives l ++ got_relocations l
 
 -- ** the flag of a module that reaches thread-local data at a fixed distance from the thread pointer
-
-abbrev pub is_initial : Form → Bool
-is_initial IeMov = true
-is_initial IeAdd = true
-is_initial form = false
 
 unfoldable pub is_flagged : Linking → Bool
 is_flagged l = is_module l.kind && list_any (λ own. list_any (λ (site : Site). is_initial site.form) own) l.sites

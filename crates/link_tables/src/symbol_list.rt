@@ -4,60 +4,21 @@ ghost use Rattle.std.specs.Prelude.{◌≡◌, ◌++◌, ℕ, List, IfOk, OnOk, 
 ghost use Rattle.std.specs.List.{All};
 ghost use Rattle.tls_symbols.specs.Definitions.{IsWithin};
 ghost use Rattle.dynamic_symbols.specs.Names.{name_of};
-ghost use Rattle.image_file.specs.declared.symbol.SymbolType.TheVariants as type_in_image;
-ghost use Rattle.link_tables.specs.Dynamic.{binding_shown, defined, foreign, names, runtime_names, runtime_symbols};
-ghost use Rattle.link_tables.specs.Dynamic.{symbols, type_shown, visibility_shown};
+ghost use Rattle.elf_records.specs.declared.symbol.SymbolType.TheVariants.{Tls};
+ghost use Rattle.link_tables.specs.Dynamic.{defined, foreign, names, runtime_names, runtime_symbols, symbols};
 ghost use Rattle.link_tables.specs.Faults.{names_in, symbols_in};
 ghost use Rattle.link_needs.specs.Linking.{address, offset};
 
 use crate::tables::Tables;
+use elf_records::symbol::GET_ADDRESS;
+use elf_records::{SymbolBinding, SymbolType, Visibility};
 use got_pairs::Need;
-use image_file::{ImageSymbol, SymbolBinding, SymbolType, Visibility};
+use image_file::ImageSymbol;
 use image_writer::NamedSymbol;
 use link_faults::SymbolRef;
 use link_needs::Inputs;
 use std::alloc::{AllocError, Global};
 use tls_symbols::is_tls_place;
-
-/// The name of the run time's function.
-const GET_ADDRESS: &[u8] = b"__tls_get_addr";
-
-/// A symbol's binding, as it is written in an image.
-fn binding_shown(binding: elf_object::SymbolBinding) -> SymbolBinding
-    ensures { result ≡ binding_shown binding }
-{
-    match binding {
-        elf_object::SymbolBinding::Local => SymbolBinding::Local,
-        elf_object::SymbolBinding::Global => SymbolBinding::Global,
-        elf_object::SymbolBinding::Weak => SymbolBinding::Weak,
-    }
-}
-
-/// A symbol's visibility, as it is written in an image.
-fn visibility_shown(visibility: elf_object::Visibility) -> Visibility
-    ensures { result ≡ visibility_shown visibility }
-{
-    match visibility {
-        elf_object::Visibility::Default => Visibility::Default,
-        elf_object::Visibility::Internal => Visibility::Internal,
-        elf_object::Visibility::Hidden => Visibility::Hidden,
-        elf_object::Visibility::Protected => Visibility::Protected,
-    }
-}
-
-/// A symbol's type, as it is written in an image.
-fn type_shown(kind: elf_object::SymbolType) -> SymbolType
-    ensures { result ≡ type_shown kind }
-{
-    match kind {
-        elf_object::SymbolType::NoType => SymbolType::NoType,
-        elf_object::SymbolType::Object => SymbolType::Object,
-        elf_object::SymbolType::Func => SymbolType::Func,
-        elf_object::SymbolType::Section => SymbolType::Section,
-        elf_object::SymbolType::File => SymbolType::File,
-        elf_object::SymbolType::Tls => SymbolType::Tls,
-    }
-}
 
 /// A symbol of another image.
 fn foreign(kind: SymbolType) -> ImageSymbol
@@ -74,13 +35,13 @@ fn foreign(kind: SymbolType) -> ImageSymbol
 }
 
 /// A symbol's type in the image. It is TLS for a thread-local symbol, whatever type its object says.
-fn kind_of(is_thread_local: bool, kind: elf_object::SymbolType) -> SymbolType
-    ensures { result ≡ (if is_thread_local then type_in_image.Tls else type_shown kind) }
+fn kind_of(is_thread_local: bool, kind: SymbolType) -> SymbolType
+    ensures { result ≡ (if is_thread_local then Tls else kind) }
 {
     if is_thread_local {
         SymbolType::Tls
     } else {
-        type_shown(kind)
+        kind
     }
 }
 
@@ -108,9 +69,9 @@ fn defined(inputs: &Inputs, found: SymbolRef) -> ImageSymbol
     };
     let is_thread_local = is_tls_place(object, part.place);
     ImageSymbol {
-        binding: binding_shown(part.binding),
+        binding: part.binding,
         kind: kind_of(is_thread_local, part.kind),
-        visibility: visibility_shown(part.visibility),
+        visibility: part.visibility,
         is_defined: true,
         value: value_of(inputs, is_thread_local, found),
         size: part.size,
@@ -162,7 +123,7 @@ fn push_own<'a>(
 fn push_imports<'a>(names: &[&'a [u8]], all: &mut Vec<NamedSymbol<'a>>) -> Result<(), AllocError>
     ensures symbols { OnOk result (symbols_in all.new.items
         ≡ symbols_in all.old.items
-        ++ map (λ (name : List ℕ). foreign type_in_image.Tls) (map (λ name. name.now) names.now)) }
+        ++ map (λ (name : List ℕ). foreign Tls) (map (λ name. name.now) names.now)) }
     ensures names { OnOk result (names_in all.new.items ≡ names_in all.old.items ++ map (λ name. name.now) names.now) }
 {
     for name in names {

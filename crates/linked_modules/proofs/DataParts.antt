@@ -6,8 +6,8 @@ use Rattle.std.specs.List.{All, find, range_with_len}
 use Rattle.std.proofs.lemmas.Bool.{true≢false}
 use Rattle.std.proofs.lemmas.Bool.Decides.{nat_tests}
 use Rattle.std.proofs.lemmas.List.Elements.{All-head, All-tail}
-use Rattle.image_file.specs.Spelled.{Part, Spelled}
-use Rattle.module_data.specs.Parts.{data_part, has_writable, is_data_part, is_number, is_writable}
+use Rattle.image_file.specs.Spelled.{Part, Spelled, is_writable}
+use Rattle.module_data.specs.Parts.{data_part, has_writable, is_data_part, is_number}
 
 abbrev pub IsStill : Part → Type 0
 IsStill part = is_writable part.class ≡ false

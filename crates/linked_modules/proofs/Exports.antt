@@ -7,14 +7,15 @@ use Rattle.std.specs.Str.{bytes_eq}
 use Rattle.std.proofs.lemmas.Bool.Decides.{nat_tests}
 use Rattle.std.proofs.lemmas.List.FromFn.{get_or-range_with_len, length-range_with_len}
 use Rattle.std.proofs.lemmas.Slice.Eq.{bytes_eq-Decides}
-use Rattle.elf_object.specs.declared.symbol.SymbolBinding.TheVariants.{Local}
+use Rattle.elf_records.specs.declared.symbol.SymbolBinding.TheVariants.{Local}
 use Rattle.elf_object.specs.declared.symbol.SymbolPlace.{SymbolPlace}
 use Rattle.elf_object.specs.declared.symbol.SymbolPlace.TheVariants.{Undefined, Absolute, InSection}
 use Rattle.elf_object.specs.Lent.{symbol_binding, symbol_name, symbol_place, symbol_visibility}
 use Rattle.elf_object.specs.Parts.{symbol_count}
 use Rattle.link_faults.specs.declared.symbol_ref.SymbolRef.{SymbolRef}
 use Rattle.tls_symbols.specs.Bindings.{exported_at, exported_from, exported_in, exported_names, is_exported, is_symbol}
-use Rattle.tls_symbols.specs.Bindings.{is_its_definition, is_tls_place, is_tls_symbol, is_visible, object_at}
+use Rattle.tls_symbols.specs.Bindings.{is_its_definition, is_tls_place, is_tls_symbol, object_at}
+use Rattle.elf_records.specs.Symbols.{is_visible}
 use Rattle.tls_symbols.specs.Definitions.{definition_of, is_defined, same_binding}
 use Rattle.tls_symbols.proofs.Within.{dropped_is}
 use Rattle.dynamic_symbols.specs.Names.{defined_at, defined_in, defined_names, defined_symbols, is_definition}

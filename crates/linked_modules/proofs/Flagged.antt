@@ -10,7 +10,7 @@ use Rattle.elf_object.specs.Object.{section_count}
 use Rattle.sequence_forms.specs.declared.forms.Form.{Form}
 use Rattle.sequence_forms.specs.declared.forms.Form.TheVariants.{Gd, Ld, IeMov, IeAdd, GdInd, LdInd, DescLea, DescCall}
 use Rattle.sequence_forms.specs.declared.places.Site.{Site}
-use Rattle.sequence_forms.specs.Forms.{row}
+use Rattle.sequence_forms.specs.Forms.{is_initial, row}
 use Rattle.sequence_match.specs.Sites.{first_of}
 use Rattle.image_faults.specs.declared.loader_kind.LoaderKind.TheVariants.{ThreadOffset}
 use Rattle.image_file.specs.declared.relocation.ImageRelocation.{ImageRelocation}
@@ -35,7 +35,7 @@ use Rattle.link_needs.specs.Needs.{address_fields, address_needs, as_list, calls
 use Rattle.link_needs.specs.Needs.{needs, object_needs, object_needs_from, own_word, reaching, relocation_need}
 use Rattle.link_needs.specs.Needs.{section_needs, site_needs, site_needs_from, target_by, sorted_by}
 use Rattle.link_core.specs.Dynamic.{entry_relocations, field_relocations, got_relocations, image_relocations}
-use Rattle.link_core.specs.Dynamic.{is_absolute, is_flagged, is_initial, need_relocations, object_relocations}
+use Rattle.link_core.specs.Dynamic.{is_absolute, is_flagged, need_relocations, object_relocations}
 use Rattle.link_core.specs.Dynamic.{object_relocations_from, relative, relatives, section_relocations, sum_of}
 use Rattle.link_core.proofs.GotRelocationsRows.{all_rows}
 use Rattle.link_core.proofs.RelativesApart.{all_sorted}

@@ -8,7 +8,7 @@ use Rattle.image_faults.specs.declared.loader_kind.LoaderKind.{LoaderKind}
 use Rattle.image_faults.specs.declared.loader_kind.LoaderKind.TheVariants as loader
 use Rattle.image_file.specs.declared.relocation.ImageRelocation.{ImageRelocation}
 use Rattle.image_file.specs.declared.symbol.ImageSymbol.{ImageSymbol}
-use Rattle.image_file.specs.declared.symbol.SymbolType.TheVariants.{Tls}
+use Rattle.elf_records.specs.declared.symbol.SymbolType.TheVariants.{Tls}
 use Rattle.image_writer.specs.Contents.{Contents, null_symbol}
 use Rattle.image_writer.specs.Linkable.{IsImport, IsRightRelocation, MayName}
 use Rattle.image_writer.specs.Tables.{finished}

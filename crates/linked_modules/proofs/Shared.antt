@@ -6,33 +6,25 @@ use Rattle.std.specs.List.{list_any}
 use Rattle.std.specs.Option.{option_or}
 use Rattle.std.specs.Str.{bytes_eq}
 use Rattle.std.proofs.lemmas.Slice.Eq.{bytes_eq-Decides}
-use Rattle.elf_object.specs.declared.symbol.Visibility.{Visibility}
-use Rattle.elf_object.specs.declared.symbol.Visibility.TheVariants.{Default, Internal, Hidden, Protected}
 use Rattle.elf_object.specs.Lent.{symbol_name, symbol_visibility}
 use Rattle.elf_object.specs.Parts.{symbol_count}
 use Rattle.image_file.specs.declared.symbol.ImageSymbol.{ImageSymbol}
 use Rattle.image_writer.specs.Tables.{finished}
 use Rattle.link_faults.specs.declared.symbol_ref.SymbolRef.{SymbolRef}
-use Rattle.tls_symbols.specs.Bindings.{exported_names, is_exported, is_tls_symbol, is_visible}
+use Rattle.tls_symbols.specs.Bindings.{exported_names, is_exported, is_tls_symbol}
+use Rattle.elf_records.specs.Symbols.{is_visible}
 use Rattle.dynamic_symbols.specs.Names.{name_of}
 use Rattle.link_needs.specs.Linking.{Linking, object}
-use Rattle.link_core.specs.Dynamic.{defined, names, own_symbols, symbols, visibility_shown}
+use Rattle.link_core.specs.Dynamic.{defined, names, own_symbols, symbols}
 use Rattle.link_core.specs.Images.{contents, image_of}
 use Rattle.loaded_modules.specs.declared.exports.Export.{Export}
 use Rattle.loaded_modules.specs.Images.{is_late}
 use Rattle.loaded_modules.specs.Loader.{export_in, is_shared, shared_among, shared_from, shared_offset}
-use Rattle.loaded_modules.specs.Loader.{is_visible as is_seen}
 use Rattle.linked_modules.specs.Together.{exports_among}
 use Rattle.linked_modules.proofs.Exports.{all_exported, is_own, seen}
 use Rattle.linked_modules.proofs.Listed.{IsAmong, all_named}
 
 -- ** one image
-
-shown_seen : (visibility : Visibility) → is_visible visibility ≡ true → is_seen (visibility_shown visibility) ≡ true
-shown_seen Default is = refl
-shown_seen Internal is = absurd (cc)
-shown_seen Hidden is = absurd (cc)
-shown_seen Protected is = refl
 
 module _ (l : Linking) where
   -- a symbol of the image that shares a name
@@ -43,7 +35,7 @@ module _ (l : Linking) where
       → is_visible (symbol_visibility (object l o) e) ≡ true
       → is_shared (defined l (record { object = o; symbol = e })) ≡ true
   unfolding defined
-  defined_shared o e tls visible = rw (tls, shown_seen (symbol_visibility (object l o) e) visible) refl
+  defined_shared o e tls visible = rw (tls, visible) refl
 
   among_own : (name : List ℕ) (own : List SymbolRef) (more : List ImageSymbol) (others : List (List ℕ))
       → list_any (shares name) own ≡ true

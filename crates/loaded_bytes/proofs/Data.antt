@@ -12,7 +12,7 @@ use Rattle.std.proofs.lemmas.List.Folds.{find-append}
 use Rattle.guest_operands.specs.Ranges.{Range}
 use Rattle.image_file.specs.declared.part.PartClass.{PartClass}
 use Rattle.image_file.specs.declared.part.PartClass.TheVariants.{Executable, ReadOnly, Writable}
-use Rattle.image_file.specs.Spelled.{Part}
+use Rattle.image_file.specs.Spelled.{Part, is_writable}
 use Rattle.image_writer.specs.declared.outline.PartPlace.{PartPlace}
 use Rattle.image_writer.specs.Contents.{part_in}
 use Rattle.image_writer.specs.Tables.{finished, tables_part}
@@ -25,7 +25,7 @@ use Rattle.loaded_modules.specs.declared.instance.Instance.{Instance}
 use Rattle.object_faults.specs.declared.class.SectionClass.TheVariants as class
 use Rattle.relocated_parts.proofs.Fold.{left_long}
 use Rattle.thread_blocks.specs.JobLoads.{instance_part, job_loads, parts_from, parts_of}
-use Rattle.thread_blocks.specs.Loading.{is_loaders, is_written}
+use Rattle.thread_blocks.specs.Loading.{is_loaders}
 use Rattle.tls_layout.specs.declared.extent.Extent.{Extent}
 use Rattle.tls_layout.specs.Laws.{extent_for}
 use Rattle.tls_layout.specs.Places.{executable, read_only, tls_image, writable}
@@ -75,7 +75,7 @@ module _ (ls : List Linking) (l : Linking) (x : Instance) where
   made = part_in (file_kind l.kind) (file l)
 
   -- a class that is not written
-  none_filled : (n : ℕ) (kind : PartClass) (extent : Extent) → is_written kind ≡ false
+  none_filled : (n : ℕ) (kind : PartClass) (extent : Extent) → is_writable kind ≡ false
       → Found n (map (part_in (file_kind l.kind) (file l)) (filled kind extent)) ≡ None
   none_filled n kind extent still = of_test (nat_lt extent.start extent.end)
     where

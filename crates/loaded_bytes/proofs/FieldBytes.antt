@@ -1,11 +1,10 @@
 -- The field of a relocation at a byte of a section, and bytes that no relocation of the image writes.
-use Rattle.std.proofs.Common.{◌≡◌, ◌+◌, ◌-◌, ◌<◌, ◌≤◌, ◌==◌, ◌&&◌, ◌∙◌, ℕ, Bool, true, false, not, List}
-use Rattle.std.proofs.Common.{Option, Some, None, length, inl, inr, refl, sym, ap, arith, if◌then◌else◌}
-use Rattle.std.specs.Prelude.{◌^◌, ◌+ℤ◌, ℤ, pos, nat_le, nat_lt, slice_get, slice_index_or, unwrap_or}
+use Rattle.std.proofs.Common.{◌≡◌, ◌+◌, ◌-◌, ◌<◌, ◌≤◌, ◌==◌, ◌&&◌, ◌∙◌, ℕ, Bool, true, false, not}
+use Rattle.std.proofs.Common.{Option, Some, None, length, refl, sym, ap, arith, if◌then◌else◌}
+use Rattle.std.specs.Prelude.{◌^◌, ◌+ℤ◌, ℤ, pos, nat_le, nat_lt, slice_index_or, unwrap_or}
 use Rattle.std.specs.List.{Contains, find}
-use Rattle.std.proofs.lemmas.Bool.{cases_lt, le-leb, lt-ltb}
+use Rattle.std.proofs.lemmas.Bool.{le-leb, lt-ltb}
 use Rattle.std.proofs.lemmas.Bool.Decides.{nat_tests}
-use Rattle.std.proofs.lemmas.Option.{same_Some, slice_get-get_or}
 use Rattle.elf_object.specs.declared.relocation.Relocation.{Relocation}
 use Rattle.elf_object.specs.Lent.{relocations, section_bytes}
 use Rattle.elf_object.specs.Relocations.{field_width}
@@ -28,7 +27,6 @@ use Rattle.link_needs.specs.Needs.{is_kept}
 use Rattle.link_needs.specs.Values.{field, goes, is_replaced, is_rewriting, other_number, own_number}
 use Rattle.relocated_parts.specs.Left.{is_written_at}
 use Rattle.sequence_match.proofs.Sections.{fields_apart}
-use Rattle.sequence_match.specs.Code.{AreApart}
 use Rattle.sequence_match.specs.Sites.{Covers}
 use Rattle.tls_relocs.specs.declared.fields.Field.TheVariants.{Empty, Word64}
 use Rattle.tls_relocs.specs.Fields.{field_bytes}
@@ -36,38 +34,15 @@ use Rattle.tls_relocs.specs.Values.{modulo, stored_field}
 use Rattle.whole_meaning.specs.Spots.{bias_of}
 use Rattle.loaded_bytes.specs.Bytes.{field_byte, loaded_byte, loaded_field}
 use Rattle.loaded_bytes.proofs.Finds.{found_is, none_found, none_passes}
+use Rattle.link_core.proofs.StandingFields.{shared}
+use Rattle.link_core.proofs.RelativesFields.{absolute_is}
 
 -- ** tests
-
-pub written_from : (address : ℕ) (r : ImageRelocation) → is_written_at address r ≡ true
-    → (r.place ≤ address) × (address < r.place + width r.kind)
-written_from address r e = grind (arith, nat_tests)
 
 pub written_so : (address : ℕ) (r : ImageRelocation) → r.place ≤ address → address < r.place + width r.kind
     → is_written_at address r ≡ true
 written_so address r low high =
     rw (le-leb r.place address low, lt-ltb address (r.place + width r.kind) high) refl
-
-pub absolute_is : (kind : RelocationKind) → is_absolute kind ≡ true → kind ≡ Absolute64
-absolute_is Absolute64 e = refl
-absolute_is kind e = cc
-
--- two fields that share a byte are one
-pub shared : (xs : List Relocation) (x y : Relocation) (k : ℕ) → AreApart xs → Contains xs x → Contains xs y
-    → Covers x k → Covers y k → y ≡ x
-shared xs x y k apart first next covers again = elim (cases_lt first.0 next.0) [
-  | inl less ↦ absurd (apart first.0 next.0 k x y (entry x first) (entry y next) less covers again)
-  | inr most ↦ elim (cases_lt next.0 first.0) [
-    | inl less ↦ absurd (apart next.0 first.0 k y x (entry y next) (entry x first) less again covers)
-    | inr least ↦
-        let here : next.0 ≡ first.0 = omega arith in
-        let there : Some y ≡ Some x = sym (entry y next) ∙ ap (slice_get xs) here ∙ entry x first in
-        same_Some y x there
-  ]
-]
-  where
-    entry : (z : Relocation) (has : Contains xs z) → slice_get xs has.0 ≡ Some z
-    entry z has = slice_get-get_or xs has.0 z has.1 ∙ ap Some has.2
 
 -- an address of 8 bytes in an image that is not moved
 absolute_field : (kind : RelocationKind) (s : ℕ) (a : ℤ) (p g b : ℕ) → is_absolute kind ≡ true → b ≡ 0

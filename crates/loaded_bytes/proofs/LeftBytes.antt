@@ -50,7 +50,9 @@ use Rattle.loaded_bytes.specs.Bytes.{byte_at, byte_of_spot, loaded_field}
 use Rattle.loaded_bytes.proofs.Biases.{moved_digit, same_bias}
 use Rattle.loaded_bytes.proofs.Classes.{class_before, class_below, rank, same_rank}
 use Rattle.loaded_bytes.proofs.ClassFile.{filed_byte}
-use Rattle.loaded_bytes.proofs.FieldBytes.{absolute_is, loaded_is, not_replaced, same_byte, written_from}
+use Rattle.loaded_bytes.proofs.FieldBytes.{loaded_is, not_replaced, same_byte}
+use Rattle.link_core.proofs.RelativesFields.{absolute_is}
+use Rattle.relocated_parts.proofs.Fold.{written_here as written_from}
 use Rattle.loaded_bytes.proofs.FieldBytes.{written_so}
 use Rattle.loaded_bytes.proofs.Finds.{found_is, none_found, none_passes}
 use Rattle.loaded_bytes.proofs.Origins.{Origin, all_origins, has_relative}

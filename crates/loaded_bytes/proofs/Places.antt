@@ -9,7 +9,7 @@ use Rattle.guest_operands.specs.declared.space.Access.{Access}
 use Rattle.guest_operands.specs.Ranges.{Range, allows, byte_in, grants, holds}
 use Rattle.image_file.specs.declared.part.PartClass.{PartClass}
 use Rattle.image_file.specs.declared.part.PartClass.TheVariants.{Executable, ReadOnly, Writable}
-use Rattle.image_file.specs.Spelled.{Part}
+use Rattle.image_file.specs.Spelled.{Part, is_writable}
 use Rattle.image_writer.specs.declared.outline.PartPlace.{PartPlace}
 use Rattle.image_writer.specs.Outlined as outlined
 use Rattle.link_core.proofs.Linkable.{linkable}
@@ -22,24 +22,21 @@ use Rattle.relocated_parts.proofs.Fold.{left_long}
 use Rattle.relocated_parts.proofs.Parts.{lies_at, one_part, part_within}
 use Rattle.relocated_parts.specs.Laws.{end_of}
 use Rattle.thread_blocks.specs.JobLoads.{instance_part, job_loads, parts_from, parts_of, tables_in, written_from}
-use Rattle.thread_blocks.specs.Loading.{is_code, is_written}
+use Rattle.thread_blocks.specs.Loading.{is_code}
 use Rattle.whole_meaning.specs.Spots.{bias_of}
 use Rattle.loaded_bytes.specs.Laws.{IsInstanceOf, images_of}
 use Rattle.loaded_bytes.specs.Places.{IsApart, IsOwn, PlacesAreOwn}
 use Rattle.loaded_bytes.proofs.Biases.{image_base, image_bias}
 use Rattle.loaded_bytes.proofs.Ranges.{still}
 use Rattle.loaded_bytes.proofs.Still.{fixed_is, image_is}
+use Rattle.link_core.proofs.TogetherPlaces.{second as second_of}
 
 pub holds_so : (start place n : ℕ) → (nat_le start place && nat_lt (place - start) n) ≡ true
     → (start ≤ place) × (place - start < n)
 holds_so start place n e = grind (arith, nat_tests)
 
-second_of : (a b : Bool) → (a && b) ≡ true → b ≡ true
-second_of true b e = e
-second_of false b e = absurd (cc)
-
 -- a part that is written is not run
-no_code : (kind : PartClass) (t : Bool) → (is_written kind && t) ≡ true → is_code kind ≡ false
+no_code : (kind : PartClass) (t : Bool) → (is_writable kind && t) ≡ true → is_code kind ≡ false
 no_code Executable t e = absurd (cc)
 no_code ReadOnly t e = refl
 no_code Writable t e = refl
@@ -122,7 +119,7 @@ module _ (ls : List Linking) (l : Linking) (x : Instance) (is : IsInstanceOf ls 
   tables_own : (n : ℕ) (ps : List Part) → AllInside ps → All OwnRange (written_from ps (Ranges n ps))
   tables_own n [] all = All-nil OwnRange
   tables_own n (p ∷ ps) all =
-      of_test (is_written p.class) (tables_own (suc n) ps (rest p ps all))
+      of_test (is_writable p.class) (tables_own (suc n) ps (rest p ps all))
     where
       of_test : (t : Bool) → All OwnRange (written_from ps (Ranges (suc n) ps))
           → All OwnRange (if t then part_range n p ∷ written_from ps (Ranges (suc n) ps)

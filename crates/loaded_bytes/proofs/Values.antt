@@ -1,8 +1,8 @@
 -- Outside code a loaded byte is what the meaning of a job has there: each field that has one holds its value at the
 -- instance's place.
-use Rattle.std.proofs.Common.{◌≡◌, ◌≢◌, ◌+◌, ◌-◌, ◌<◌, ◌^◌, ◌&&◌, ◌∙◌, ℕ, ℤ, pos, zero, suc, Bool, true, false, not, List, []}
+use Rattle.std.proofs.Common.{◌≡◌, ◌≢◌, ◌+◌, ◌-◌, ◌<◌, ◌^◌, ◌&&◌, ◌∙◌, ℕ, ℤ, pos, suc, Bool, true, false, not, List, []}
 use Rattle.std.proofs.Common.{◌∷◌, Option, Some, None, length, refl, sym, ap, arith, if◌then◌else◌}
-use Rattle.std.specs.Prelude.{◌+ℤ◌, ◌-ℤ◌, is_none, nat_le, nat_lt, slice_get, slice_index_or, unwrap_or}
+use Rattle.std.specs.Prelude.{◌+ℤ◌, ◌-ℤ◌, is_none, nat_le, nat_lt, slice_index_or, unwrap_or}
 use Rattle.std.specs.List.{Contains, find}
 use Rattle.std.proofs.lemmas.Bool.Decides.{nat_tests}
 use Rattle.std.proofs.lemmas.List.Elements.{All-contains}
@@ -11,12 +11,12 @@ use Rattle.class_bytes.proofs.Words.{moved_distance}
 use Rattle.elf_object.specs.declared.relocation.Relocation.{Relocation}
 use Rattle.elf_object.specs.Lawful.{IsLawful}
 use Rattle.elf_object.specs.LawsOfRelocations.{lawful}
-use Rattle.elf_object.specs.Lent.{kept_relocation_table, relocations, relocations_in, section_bytes, section_class}
+use Rattle.elf_object.specs.Lent.{kept_relocation_table, relocations, section_bytes, section_class}
 use Rattle.elf_object.specs.Relocations.{IsOfCode, field_width}
 use Rattle.elf_records.specs.declared.relocation.RelocationKind.{RelocationKind}
 use Rattle.elf_records.specs.declared.relocation.RelocationKind.TheVariants.{Nothing, Absolute64, Pc32, Absolute32}
 use Rattle.elf_records.specs.declared.relocation.RelocationKind.TheVariants.{Absolute32Signed, Plt32, TpOff32}
-use Rattle.link_core.proofs.GotRelocationsSites.{held, passes}
+use Rattle.link_core.proofs.GotRelocationsSites.{has_table, held, passes}
 use Rattle.link_core.proofs.LengthsInside.{form_some, is_code, is_object}
 use Rattle.link_core.proofs.TogetherNames.{runtime_getter}
 use Rattle.link_core.specs.Dynamic.{is_absolute}
@@ -51,12 +51,6 @@ use Rattle.loaded_bytes.proofs.Zeros.{no_site}
 
 impossible : {X : Type 0} → false ≡ true → X
 impossible e = absurd (cc)
-
--- a section that has relocations has a table of them
-has_table : (b : List ℕ) (r e : ℕ) (x : Relocation) → slice_get (relocations_in b r) e ≡ Some x → 0 < r
-unfolding relocations_in
-has_table b zero e x is = absurd (cc)
-has_table b (suc r) e x is = omega arith
 
 -- the types that may stand outside code
 data_kind : (kind : RelocationKind) → (IsOfCode kind → ⊥) → kind ≢ Nothing

@@ -24,19 +24,9 @@ use Rattle.object_rules.specs.declared.fault.FaultKind.TheVariants.{RelocTarget}
 use Rattle.sequence_forms.specs.declared.places.Site.{Site}
 use Rattle.sequence_match.specs.Faults.{IsSite}
 use Rattle.loaded_bytes.proofs.Finds.{none_found}
+use Rattle.link_tables.proofs.RelativesTables.{some_bytes}
 
 -- ** no relocation
-
-none_listed : (b : List ℕ) (at n : ℕ) → n ≡ 0 → length (relocations_from b at 0 n) ≡ 0
-unfolding relocations_from
-none_listed b at n none = rw none refl
-
--- where a table has entries it has bytes
-some_bytes : (b : List ℕ) (r : ℕ) → 0 < length (relocations_from b (section b r).offset 0 (entry_count (section b r)))
-    → (section b r).size ≢ 0
-some_bytes b r some none =
-    let empty : entry_count (section b r) ≡ 0 = rw none refl in
-    omega (arith, none_listed b (section b r).offset (entry_count (section b r)) empty)
 
 zero_kind : (b : List ℕ) (t : ℕ) → section_class b t ≡ Some (Writable false) → (section b t).kind ≡ 8
 zero_kind b t e =

@@ -1,12 +1,12 @@
 mod FreshBlocks
-mod Kept
+pub mod Kept
 mod Left
 mod PartReads
 mod Ranges
 mod Relocated
 mod Rising
 mod Sharing
-mod TlsKept
+pub mod TlsKept
 mod Untouched
 mod Windows
 mod WordBytes

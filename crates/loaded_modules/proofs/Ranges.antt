@@ -18,7 +18,7 @@ use Rattle.image_file.specs.Spelled.{Part, Spelled, part, parts, spelled}
 use Rattle.image_file.specs.Tabled.{length-tabled, tabled_at}
 use Rattle.loaded_modules.specs.Laws.{InstancesApart, LieApart}
 use Rattle.loaded_modules.specs.Loader.{bias}
-use Rattle.loaded_modules.proofs.Rising.{not_past}
+use Rattle.loaded_modules.proofs.TlsKept.{at_most as not_past}
 
 -- the address at which a moved image begins, and any
 abbrev begins : Bool → ℕ

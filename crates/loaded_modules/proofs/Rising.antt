@@ -2,7 +2,6 @@
 use Rattle.std.proofs.Common.{◌≡◌, ◌∙◌, ◌+◌, ◌-◌, ◌<◌, ◌≤◌, ℕ, zero, suc, List, Some, sym, ap, subst, inl, inr, arith, nat_lt, true, false}
 use Rattle.std.proofs.lemmas.Bool.Decides.{nat_tests}
 use Rattle.std.specs.List.{slice_get}
-use Rattle.std.proofs.lemmas.Bool.{cases_lt}
 use Rattle.std.proofs.lemmas.Option.{slice_get_within}
 use Rattle.image_rules.specs.declared.rule.Rule.TheVariants.{Table}
 use Rattle.image_rules.specs.declared.rule.TableRule.TheVariants.{Relocation}
@@ -14,12 +13,7 @@ use Rattle.image_file.specs.declared.relocation.ImageRelocation.{ImageRelocation
 use Rattle.image_file.specs.Spelled.{Spelled, relocation_of, relocations, spelled}
 use Rattle.image_file.specs.Tabled.{length-tabled, tabled_at}
 use Rattle.loaded_modules.specs.Places.{AllBelow, NoneBelow}
-
-pub not_past : (m n : ℕ) → ((m ≤ n → ⊥) → ⊥) → m ≤ n
-not_past m n h = elim (cases_lt n m) [
-  | inl more ↦ absurd (h (λ within. omega (arith, more, within)))
-  | inr within ↦ within
-]
+use Rattle.loaded_modules.proofs.TlsKept.{at_most as not_past}
 
 back : (k : ℕ) → suc k - 1 ≡ k
 back k = omega arith

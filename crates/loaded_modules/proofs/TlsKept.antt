@@ -27,7 +27,7 @@ both_of : (n k t : ℕ) → (nat_lt n k && (t == PT_TLS)) ≡ true → (n < k) �
 both_of n k t h = grind (arith, nat_tests)
 
 -- what is not doubted of two numbers holds
-at_most : (m n : ℕ) → ((m ≤ n → ⊥) → ⊥) → m ≤ n
+pub at_most : (m n : ℕ) → ((m ≤ n → ⊥) → ⊥) → m ≤ n
 at_most m n h = elim (cases_lt n m) [
   | inl more ↦ absurd (h (λ within. omega (arith, more, within)))
   | inr within ↦ within

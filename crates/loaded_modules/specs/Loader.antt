@@ -1,7 +1,7 @@
 -- What a loader makes of an image: where it lies, the words of its relocations (psABI, "Relocation Types";
 -- Drepper, "ELF Handling For Thread-Local Storage", section 4.4), and the TLS block that each thread begins with
 -- (gABI, "Program Loading").
-use Rattle.std.specs.Prelude.{◌+◌, ◌-◌, ◌*◌, ◌%◌, ◌^◌, ◌==◌, ◌&&◌, ℕ, Bool, true, false, suc, List, [], ◌∷◌, ◌++◌}
+use Rattle.std.specs.Prelude.{◌+◌, ◌-◌, ◌*◌, ◌%◌, ◌^◌, ◌==◌, ◌&&◌, ℕ, Bool, suc, List, [], ◌∷◌, ◌++◌}
 use Rattle.std.specs.Prelude.{drop, fold, length, replicate, nat_le, Option, Some, None, slice_get, slice_range}
 use Rattle.std.specs.Prelude.{ℤ, option_map, unwrap_or, if◌then◌else◌}
 use Rattle.std.specs.Int.{w64, cast_unsigned}
@@ -15,10 +15,7 @@ use Rattle.image_faults.specs.declared.loader_kind.LoaderKind.TheVariants.{Threa
 use Rattle.image_file.specs.declared.part.TlsPart.{TlsPart}
 use Rattle.image_file.specs.declared.relocation.ImageRelocation.{ImageRelocation}
 use Rattle.image_file.specs.declared.symbol.ImageSymbol.{ImageSymbol}
-use Rattle.image_file.specs.declared.symbol.SymbolType.{SymbolType}
-use Rattle.image_file.specs.declared.symbol.SymbolType.TheVariants.{Tls}
-use Rattle.image_file.specs.declared.symbol.Visibility.{Visibility}
-use Rattle.image_file.specs.declared.symbol.Visibility.TheVariants.{Default, Internal, Hidden, Protected}
+use Rattle.elf_records.specs.Symbols.{is_tls, is_visible}
 use Rattle.image_file.specs.Spelled.{Part, Spelled}
 use Rattle.image_rules.specs.declared.places.FileKind.{FileKind}
 use Rattle.image_rules.specs.declared.places.FileKind.TheVariants.{Exe, Pie, Module as ModuleFile}
@@ -38,16 +35,6 @@ bias Pie instance = 2 ^ 32 + instance * 2 ^ 26
 bias ModuleFile instance = 2 ^ 32 + instance * 2 ^ 26
 
 -- ---- thread-local symbols of startup images
-
-abbrev pub is_tls : SymbolType → Bool
-is_tls Tls = true
-is_tls kind = false
-
-abbrev pub is_visible : Visibility → Bool
-is_visible Default = true
-is_visible Internal = false
-is_visible Hidden = false
-is_visible Protected = true
 
 -- a symbol that other images may name
 abbrev pub is_shared : ImageSymbol → Bool

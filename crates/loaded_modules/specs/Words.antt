@@ -1,7 +1,6 @@
 -- The words of a relocation in code, and a window of a part's bytes.
 use Rattle.std.specs.Prelude.{◌≡◌, ◌≤◌, ◌<◌, ◌+◌, ℕ, List, [], ◌++◌, length, slice_index_or, Option, Some, None}
 use Rattle.elf_records.specs.Fields.{bytes_of}
-use Rattle.image_file.specs.declared.part.ImagePart.{ImagePart}
 use Rattle.image_file.specs.declared.relocation.ImageRelocation.{ImageRelocation}
 use Rattle.image_file.specs.Spelled.{Part, Spelled}
 use Rattle.loaded_modules.specs.declared.instance.Instance.{Instance}
@@ -16,10 +15,6 @@ second_bytes (Some word) = bytes_of 8 word
 
 abbrev pub words_bytes : Words → List ℕ
 words_bytes words = bytes_of 8 words.first ++ second_bytes words.second
-
--- a part that is borrowed, without the borrow
-abbrev pub lent_part : ImagePart → Part
-lent_part lent = record { class = lent.class; address = lent.address; bytes = lent.bytes.now }
 
 -- the window holds the bytes of the whole from an offset on
 pub record IsWindow (whole : List ℕ) (from : ℕ) (window : List ℕ) : Type 0 where

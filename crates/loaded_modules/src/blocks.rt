@@ -2,11 +2,10 @@
 
 ghost use Rattle.std.specs.Prelude.{◌≡◌, ◌≤◌, Some, length, replicate};
 ghost use Rattle.std.specs.List.{find};
-ghost use Rattle.image_file.specs.Spelled.{part_seen};
+ghost use Rattle.image_file.specs.Spelled.{part_seen, lent_part};
 ghost use Rattle.loaded_modules.specs.Ends.{IsTls};
 ghost use Rattle.loaded_modules.specs.Images.{image_at, size_at};
 ghost use Rattle.loaded_modules.specs.Loader.{block_of, fresh_block, holds};
-ghost use Rattle.loaded_modules.specs.Words.{lent_part};
 
 use crate::infos::tls_of;
 use crate::instance::Instance;

@@ -7,7 +7,7 @@ ghost use Rattle.std.specs.Str.{bytes_eq};
 ghost use Rattle.loaded_modules.specs.Exported.{found, shared_at};
 ghost use Rattle.loaded_modules.specs.Loader.{export_here, export_in, is_shared, shared_from, shared_offset};
 
-use image_file::{Image, ImageSymbol, SymbolType, Visibility};
+use image_file::{Image, ImageSymbol};
 use link_faults::ImageKind;
 use std::alloc::{AllocError, Global};
 use std::collections::HashMap;
@@ -25,12 +25,7 @@ pub struct Export {
 fn is_shared(symbol: ImageSymbol) -> bool
     ensures { result ≡ is_shared symbol }
 {
-    symbol.is_defined
-        && matches!(symbol.kind, SymbolType::Tls)
-        && matches!(
-            symbol.visibility,
-            Visibility::Default | Visibility::Protected
-        )
+    symbol.is_defined && symbol.kind.is_tls() && symbol.visibility.is_visible()
 }
 
 /// The symbols that startup images share, by their names: for each name the first.

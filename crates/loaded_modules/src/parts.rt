@@ -3,7 +3,8 @@
 ghost use Rattle.std.specs.Prelude.{◌≡◌, ◌<◌, ◌≤◌, ◌+◌, ℕ, List, Some, length, slice_get, slice_range};
 ghost use Rattle.loaded_modules.specs.Images.{image_at};
 ghost use Rattle.loaded_modules.specs.Loader.{bias_of, loaded_part, part_bytes, parts_of, target_of};
-ghost use Rattle.loaded_modules.specs.Words.{lent_part, with_numbered, IsWindow};
+ghost use Rattle.loaded_modules.specs.Words.{with_numbered, IsWindow};
+ghost use Rattle.image_file.specs.Spelled.{lent_part};
 
 use crate::instance::Instance;
 use crate::modules::Modules;

@@ -4,7 +4,8 @@
 ghost use Rattle.std.specs.Prelude.{◌≡◌, ◌<◌, ◌≤◌, ◌+◌, ◌^◌, ℕ, List, length};
 ghost use Rattle.elf_records.specs.Fields.{bytes_of, splice};
 ghost use Rattle.loaded_modules.specs.Loader.{bias, lies_in, own_target, with_written, written_bytes};
-ghost use Rattle.loaded_modules.specs.Words.{lent_part, words_bytes, IsWindow};
+ghost use Rattle.loaded_modules.specs.Words.{words_bytes, IsWindow};
+ghost use Rattle.image_file.specs.Spelled.{lent_part};
 
 use crate::instance::Instance;
 use crate::{TLS_DESCRIPTOR, TLS_GET_ADDR};

@@ -13,22 +13,19 @@ use Rattle.dynamic_symbols.proofs.Lists.{all_first, all_rest}
 use Rattle.dynamic_symbols.proofs.Named.{symbols_named}
 use Rattle.dynamic_symbols.specs.Laws.{IsShared}
 use Rattle.dynamic_symbols.specs.Names.{name_of}
-use Rattle.elf_object.specs.declared.symbol.Visibility.{Visibility}
-use Rattle.elf_object.specs.declared.symbol.Visibility.TheVariants.{Default, Internal, Hidden, Protected}
 use Rattle.elf_object.specs.Lent.{symbol_type, symbol_visibility}
 use Rattle.image_file.specs.declared.symbol.ImageSymbol.{ImageSymbol}
-use Rattle.image_file.specs.declared.symbol.SymbolType.{SymbolType}
-use Rattle.image_file.specs.declared.symbol.SymbolType.TheVariants as type_in_image
-use Rattle.image_names.specs.Functions.{is_tls as is_variable}
+use Rattle.elf_records.specs.declared.symbol.SymbolType.TheVariants.{Tls}
 use Rattle.image_writer.specs.Tables.{finished}
-use Rattle.link_core.specs.Dynamic.{defined, names, own_symbols, symbols, type_shown, visibility_shown}
+use Rattle.link_core.specs.Dynamic.{defined, names, own_symbols, symbols}
 use Rattle.link_core.specs.Images.{contents, image_of}
 use Rattle.link_faults.specs.declared.symbol_ref.SymbolRef.{SymbolRef}
 use Rattle.link_needs.specs.Given.{IsGiven}
 use Rattle.link_needs.specs.Linking.{Linking, object, offset}
-use Rattle.loaded_modules.specs.Loader.{is_shared, is_tls, is_visible as is_seen, shared_among, shared_offset}
+use Rattle.loaded_modules.specs.Loader.{is_shared, shared_among, shared_offset}
 use Rattle.tls_symbols.proofs.ExportLaw.{exports_by_name}
-use Rattle.tls_symbols.specs.Bindings.{exported_names, is_tls_symbol, is_visible}
+use Rattle.tls_symbols.specs.Bindings.{exported_names, is_tls_symbol}
+use Rattle.elf_records.specs.Symbols.{is_tls, is_visible}
 use Rattle.tls_symbols.specs.Definitions.{definition_of}
 use Rattle.tls_symbols.specs.Laws.{is_exported_by}
 use Rattle.loaded_names.proofs.Defined.{IsOwn, definition_listed, definition_shared, symbols_own}
@@ -36,16 +33,6 @@ use Rattle.loaded_names.proofs.Named.{IsForeign, other_names, other_symbols, oth
 use Rattle.loaded_names.proofs.Symbols.{placed_in}
 
 -- ** a symbol
-
-same_visible : (visibility : Visibility) → is_seen (visibility_shown visibility) ≡ is_visible visibility
-same_visible Default = refl
-same_visible Internal = refl
-same_visible Hidden = refl
-same_visible Protected = refl
-
-same_variable : (kind : SymbolType) → is_tls kind ≡ is_variable kind
-same_variable type_in_image.Tls = refl
-same_variable kind = refl
 
 module _ (l : Linking) where
   -- what a loader finds of a definition
@@ -60,15 +47,14 @@ module _ (l : Linking) where
     same_shared found shares = of_tls (is_tls_symbol (object l found.object) found.symbol) refl
       where
         of_tls : (t : Bool) → is_tls_symbol (object l found.object) found.symbol ≡ t
-            → (is_tls (if t then type_in_image.Tls else type_shown (symbol_type (object l found.object) found.symbol))
-            && is_seen (visibility_shown (symbol_visibility (object l found.object) found.symbol)))
+            → (is_tls (if t then Tls else symbol_type (object l found.object) found.symbol)
+            && is_visible (symbol_visibility (object l found.object) found.symbol))
             ≡ (t && is_visible (symbol_visibility (object l found.object) found.symbol))
-        of_tls true is = same_visible (symbol_visibility (object l found.object) found.symbol)
+        of_tls true is = refl
         of_tls false other =
-            and_left (is_tls (type_shown (symbol_type (object l found.object) found.symbol)))
-            (is_seen (visibility_shown (symbol_visibility (object l found.object) found.symbol)))
-            (same_variable (type_shown (symbol_type (object l found.object) found.symbol))
-            ∙ (placed_in l given found shares).not_tls other)
+            and_left (is_tls (symbol_type (object l found.object) found.symbol))
+            (is_visible (symbol_visibility (object l found.object) found.symbol))
+            ((placed_in l given found shares).not_tls other)
 
     value_is : (found : SymbolRef) → is_exported_by l.objects (Some found) ≡ true
         → (defined l found).value ≡ offset l found

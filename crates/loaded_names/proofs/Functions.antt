@@ -11,10 +11,11 @@ use Rattle.elf_object.specs.declared.symbol.SymbolPlace.{SymbolPlace}
 use Rattle.elf_object.specs.declared.symbol.SymbolPlace.TheVariants.{Undefined, Absolute, InSection}
 use Rattle.elf_object.specs.Lent.{section_class, symbol_place, symbol_type, symbol_value}
 use Rattle.dynamic_symbols.specs.Laws.{IsShared}
-use Rattle.image_file.specs.declared.symbol.SymbolType.TheVariants as type_in_image
+use Rattle.elf_records.specs.declared.symbol.SymbolType.TheVariants.{Tls}
 use Rattle.image_file.specs.Spelled.{Spelled}
-use Rattle.image_names.specs.Functions.{entry_in, function_place, is_tls, runs_at}
-use Rattle.link_core.specs.Dynamic.{defined, type_shown}
+use Rattle.image_names.specs.Functions.{entry_in, function_place, runs_at}
+use Rattle.elf_records.specs.Symbols.{is_tls}
+use Rattle.link_core.specs.Dynamic.{defined}
 use Rattle.link_core.specs.Faults.{Links}
 use Rattle.link_core.specs.Images.{image_of}
 use Rattle.link_faults.specs.declared.symbol_ref.SymbolRef.{SymbolRef}
@@ -93,7 +94,7 @@ module _ (l : Linking) (given : IsGiven l) (links : Links l) (found : SymbolRef)
   -- what an image's symbol tells, of a variable of threads or of another definition
   abbrev shown : Bool → ℕ → Option ℕ
   shown tls at =
-      let kind = if tls then type_in_image.Tls else type_shown (symbol_type (object l found.object) found.symbol) in
+      let kind = if tls then Tls else symbol_type (object l found.object) found.symbol in
       let value = if tls then offset l found else at in
       if not (is_tls kind) && list_any (runs_at value) (image_of l).parts then Some value else None
 
@@ -101,7 +102,7 @@ module _ (l : Linking) (given : IsGiven l) (links : Links l) (found : SymbolRef)
   behind_code : (at : ℕ) → at ≤ room (layout l).kind (layout l).sections → code.end ≤ at → shown false at ≡ None
   behind_code at low behind =
       rw (code_runs l given links at low, none_before code.start code.end at behind)
-      (no_other (not (is_tls (type_shown (symbol_type b e)))))
+      (no_other (not (is_tls (symbol_type b e))))
     where
       no_other : (t : Bool) → (if t && false then Some at else None) ≡ None
       no_other true = refl
@@ -109,7 +110,7 @@ module _ (l : Linking) (given : IsGiven l) (links : Links l) (found : SymbolRef)
 
   -- code is of no type of thread-local storage
   not_tls : (s : ℕ) → symbol_place b e ≡ InSection s → section_class b s ≡ Some class.Executable
-      → is_tls (type_shown (symbol_type b e)) ≡ false
+      → is_tls (symbol_type b e) ≡ false
   not_tls s at class_is =
       is.not_tls (ap (is_tls_place b) at ∙ ap is_tls_class class_is)
 

@@ -8,7 +8,7 @@ use Rattle.std.specs.Str.{bytes_eq}
 use Rattle.std.proofs.lemmas.List.Elements.{All-head, All-tail}
 use Rattle.std.proofs.lemmas.Option.{get_or_from_slice_get, same_Some, slice_get_within}
 use Rattle.elf_object.specs.declared.relocation.Relocation.{Relocation}
-use Rattle.elf_object.specs.declared.symbol.SymbolBinding.TheVariants.{Local}
+use Rattle.elf_records.specs.declared.symbol.SymbolBinding.TheVariants.{Local}
 use Rattle.elf_object.specs.Lent.{symbol_binding, symbol_name}
 use Rattle.job_text.specs.LateImages.{LateLast, is_late}
 use Rattle.link_core.specs.Images.{image_of}
@@ -19,7 +19,8 @@ use Rattle.link_needs.specs.Given.{IsGiven}
 use Rattle.link_needs.specs.Linking.{Linking, binding, object, offset}
 use Rattle.linked_modules.specs.Together.{exports_among}
 use Rattle.loaded_modules.specs.Loader.{export_in, export_of, shared_from, shared_offset}
-use Rattle.tls_symbols.specs.Bindings.{binding_of, bound_to, exported_names, first_export, get_address, here_or, may_import}
+use Rattle.tls_symbols.specs.Bindings.{binding_of, bound_to, exported_names, first_export, here_or, may_import}
+use Rattle.elf_records.specs.Symbols.{get_address}
 use Rattle.tls_symbols.specs.Bindings.{name_binding, of_startup}
 use Rattle.tls_symbols.specs.Definitions.{definition_of, same_binding}
 use Rattle.thread_blocks.specs.Turns.{at_number}

@@ -1,53 +1,25 @@
 -- Sizes and alignments of blocks, and who wants surplus.
-use Rattle.std.proofs.Common.{◌≡◌, ◌==◌, ◌∙◌, ◌||◌, ◌&&◌, ℕ, Bool, true, false, List, [], ◌∷◌, map, refl, sym, ap, arith}
-use Rattle.std.specs.List.{list_any}
+use Rattle.std.proofs.Common.{◌≡◌, ◌==◌, ◌∙◌, ℕ, Bool, true, false, List, [], ◌∷◌, map, refl, sym, ap, arith}
 use Rattle.std.proofs.lemmas.Bool.Decides.{nat_tests}
 use Rattle.image_writer.specs.Tables.{finished}
 use Rattle.link_core.specs.Dynamic.{is_flagged}
-use Rattle.link_core.specs.Dynamic as linker
 use Rattle.link_core.specs.Images.{contents, image_of, tls_part}
-use Rattle.link_faults.specs.ImageKinds.{is_module}
 use Rattle.link_needs.specs.Linking.{Linking, layout}
 use Rattle.loaded_modules.specs.Images.{block_alignment, block_size, infos, infos_of, last_offset}
 use Rattle.loaded_modules.specs.Images as loaded
 use Rattle.module_table.specs.declared.modules.ImageInfo.{ImageInfo}
 use Rattle.module_table.specs.Laws.{startup_end}
-use Rattle.sequence_forms.specs.declared.forms.Form.{Form}
-use Rattle.sequence_forms.specs.declared.forms.Form.TheVariants.{Gd, Ld, IeMov, IeAdd, GdInd, LdInd, DescLea, DescCall}
-use Rattle.sequence_forms.specs.declared.places.Site.{Site}
 use Rattle.thread_blocks.specs.JobLoads.{job_loads}
 use Rattle.tls_layout.specs.Places.{tls_alignment, tls_size}
 use Rattle.tls_layout.specs.Sections.{Layout}
-use Rattle.whole_meaning.specs.Loads.{info_of, is_initial, wants_surplus}
+use Rattle.whole_meaning.specs.Loads.{info_of, wants_surplus}
 use Rattle.loaded_names.specs.Laws.{InfosAreLoaded}
 
 -- ** surplus
 
-same_form : (form : Form) → linker.is_initial form ≡ is_initial form
-same_form Gd = refl
-same_form Ld = refl
-same_form IeMov = refl
-same_form IeAdd = refl
-same_form GdInd = refl
-same_form LdInd = refl
-same_form DescLea = refl
-same_form DescCall = refl
-
--- tests that agree on each element
-any_alike : {X : Type 0} (test other : X → Bool) (xs : List X) → ((x : X) → test x ≡ other x)
-    → list_any test xs ≡ list_any other xs
-any_alike test other [] same = refl
-any_alike test other (x ∷ xs) same =
-    ap (λ t. t || list_any test xs) (same x) ∙ ap (λ t. other x || t) (any_alike test other xs same)
-
 surplus_is : (l : Linking) → is_flagged l ≡ wants_surplus l
 unfolding is_flagged wants_surplus
-surplus_is l =
-    ap (λ t. is_module l.kind && t)
-    (any_alike (λ own. list_any (λ (site : Site). linker.is_initial site.form) own)
-    (λ own. list_any (λ (site : Site). is_initial site.form) own) l.sites
-    (λ own. any_alike (λ (site : Site). linker.is_initial site.form) (λ (site : Site). is_initial site.form) own
-    (λ site. same_form site.form)))
+surplus_is l = refl
 
 -- ** blocks
 

@@ -9,7 +9,7 @@ use Rattle.std.proofs.lemmas.List.Elements.{All-append, All-cons, All-map, All-n
 use Rattle.std.proofs.lemmas.Option.{get_or_from_slice_get, slice_get_within}
 use Rattle.std.proofs.lemmas.Slice.Eq.{bytes_eq-Decides}
 use Rattle.image_file.specs.declared.symbol.ImageSymbol.{ImageSymbol}
-use Rattle.image_file.specs.declared.symbol.SymbolType.TheVariants as type_in_image
+use Rattle.elf_records.specs.declared.symbol.SymbolType.TheVariants.{NoType, Tls}
 use Rattle.image_file.specs.Spelled.{Spelled}
 use Rattle.image_writer.specs.Contents.{null_symbol}
 use Rattle.image_writer.specs.Tables.{finished}
@@ -31,11 +31,11 @@ use Rattle.loaded_names.proofs.First.{first_behind, first_here, first_named, one
 abbrev pub IsForeign : ImageSymbol → Type 0
 IsForeign symbol = symbol.is_defined ≡ false
 
-imports_foreign : (names : List (List ℕ)) → All IsForeign (map (λ (name : List ℕ). foreign type_in_image.Tls) names)
-imports_foreign names = All-map IsForeign (λ (name : List ℕ). foreign type_in_image.Tls) names (λ k d below. refl)
+imports_foreign : (names : List (List ℕ)) → All IsForeign (map (λ (name : List ℕ). foreign Tls) names)
+imports_foreign names = All-map IsForeign (λ (name : List ℕ). foreign Tls) names (λ k d below. refl)
 
 runtime_foreign : (uses : Bool) → All IsForeign (runtime_symbols uses)
-runtime_foreign true = All-cons IsForeign (foreign type_in_image.NoType) [] refl (All-nil IsForeign)
+runtime_foreign true = All-cons IsForeign (foreign NoType) [] refl (All-nil IsForeign)
 runtime_foreign false = All-nil IsForeign
 
 -- what is read of a symbol, which is nothing of another image's
@@ -110,11 +110,11 @@ module _ (l : Linking) (name : List ℕ) where
   other_names = imports l ++ runtime_names (uses_runtime l)
 
   abbrev pub other_symbols : List ImageSymbol
-  other_symbols = map (λ (name : List ℕ). foreign type_in_image.Tls) (imports l) ++ runtime_symbols (uses_runtime l)
+  other_symbols = map (λ (name : List ℕ). foreign Tls) (imports l) ++ runtime_symbols (uses_runtime l)
 
   pub others_foreign : All IsForeign other_symbols
   others_foreign =
-      All-append IsForeign (map (λ (name : List ℕ). foreign type_in_image.Tls) (imports l))
+      All-append IsForeign (map (λ (name : List ℕ). foreign Tls) (imports l))
       (runtime_symbols (uses_runtime l)) (imports_foreign (imports l)) (runtime_foreign (uses_runtime l))
 
   abbrev is_listed : Bool

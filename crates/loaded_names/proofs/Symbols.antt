@@ -1,11 +1,11 @@
 -- A definition stands in a section that linking keeps, and its type is that of thread-local storage in such a section alone.
 use Rattle.std.proofs.Common.{◌≡◌, ◌≢◌, ◌≤◌, ℕ, true, false, List, [], IsSome, refl, subst, arith}
-use Rattle.elf_object.specs.declared.symbol.SymbolBinding.{SymbolBinding}
-use Rattle.elf_object.specs.declared.symbol.SymbolBinding.TheVariants.{Local, Global, Weak}
+use Rattle.elf_records.specs.declared.symbol.SymbolBinding.{SymbolBinding}
+use Rattle.elf_records.specs.declared.symbol.SymbolBinding.TheVariants.{Local, Global, Weak}
 use Rattle.elf_object.specs.declared.symbol.SymbolPlace.{SymbolPlace}
 use Rattle.elf_object.specs.declared.symbol.SymbolPlace.TheVariants.{Undefined, Absolute, InSection}
-use Rattle.elf_object.specs.declared.symbol.SymbolType.{SymbolType}
-use Rattle.elf_object.specs.declared.symbol.SymbolType.TheVariants as type_in_object
+use Rattle.elf_records.specs.declared.symbol.SymbolType.{SymbolType}
+use Rattle.elf_records.specs.declared.symbol.SymbolType.TheVariants as types
 use Rattle.elf_object.specs.Classes.{IsTls}
 use Rattle.elf_object.specs.Faults.{IsObject}
 use Rattle.elf_object.specs.Lawful.{IsPlaced, IsShared as IsSharedIn}
@@ -15,8 +15,7 @@ use Rattle.object_faults.specs.declared.class.SectionClass.{SectionClass}
 use Rattle.object_faults.specs.declared.class.SectionClass.TheVariants.{Executable, ReadOnly, Tls, Writable}
 use Rattle.std.specs.Prelude.{Option, Some, None}
 use Rattle.dynamic_symbols.specs.Laws.{IsShared}
-use Rattle.image_names.specs.Functions.{is_tls}
-use Rattle.link_core.specs.Dynamic.{type_shown}
+use Rattle.elf_records.specs.Symbols.{is_tls}
 use Rattle.link_faults.specs.declared.symbol_ref.SymbolRef.{SymbolRef}
 use Rattle.link_needs.specs.Given.{IsGiven}
 use Rattle.link_needs.specs.Linking.{Linking, object}
@@ -46,7 +45,7 @@ pub record IsPlacedIn (l : Linking) (found : SymbolRef) : Type 0 where
       → symbol_value (object l found.object) found.symbol ≤ section_size (object l found.object) s
   -- outside thread-local storage it is shown as no variable of threads
   pub not_tls : is_tls_place (object l found.object) (symbol_place (object l found.object) found.symbol) ≡ false
-      → is_tls (type_shown (symbol_type (object l found.object) found.symbol)) ≡ false
+      → is_tls (symbol_type (object l found.object) found.symbol) ≡ false
 
 module _ (l : Linking) (given : IsGiven l) (found : SymbolRef) (shares : IsShared l.objects found) where
   abbrev e : ℕ
@@ -67,22 +66,22 @@ module _ (l : Linking) (given : IsGiven l) (found : SymbolRef) (shares : IsShare
   known : symbol_place b e ≢ Undefined
   known at = let bad : is_defined Undefined ≡ true = subst (λ place. is_defined place ≡ true) at shares.defined in cc
 
-  outside : is_tls_place b (symbol_place b e) ≡ false → is_tls (type_shown (symbol_type b e)) ≡ false
+  outside : is_tls_place b (symbol_place b e) ≡ false → is_tls (symbol_type b e) ≡ false
   outside other = of_type (symbol_type b e) refl
     where
-      of_place : (place : SymbolPlace) → symbol_place b e ≡ place → symbol_type b e ≡ type_in_object.Tls
+      of_place : (place : SymbolPlace) → symbol_place b e ≡ place → symbol_type b e ≡ types.Tls
           → is_tls_place b place ≡ true
       of_place Undefined at typed = absurd (known at)
       of_place Absolute at typed = absurd (is_shared.relative at)
       of_place (InSection s) at typed = tls_section (section_class b s) (is_placed.thread_local s typed at)
 
-      of_type : (type : SymbolType) → symbol_type b e ≡ type → is_tls (type_shown type) ≡ false
-      of_type type_in_object.NoType typed = refl
-      of_type type_in_object.Object typed = refl
-      of_type type_in_object.Func typed = refl
-      of_type type_in_object.Section typed = refl
-      of_type type_in_object.File typed = refl
-      of_type type_in_object.Tls typed = let bad = of_place (symbol_place b e) refl typed in absurd (cc)
+      of_type : (kind : SymbolType) → symbol_type b e ≡ kind → is_tls kind ≡ false
+      of_type types.NoType typed = refl
+      of_type types.Object typed = refl
+      of_type types.Func typed = refl
+      of_type types.Section typed = refl
+      of_type types.File typed = refl
+      of_type types.Tls typed = let bad = of_place (symbol_place b e) refl typed in absurd (cc)
 
   pub placed_in : IsPlacedIn l found
   placed_in = record {

@@ -3,12 +3,12 @@ use Rattle.std.proofs.Common.{◌≡◌, ◌∙◌, ℕ, Bool, true, false, List
 use Rattle.std.specs.Prelude.{option_and_then, option_map, if◌then◌else◌}
 use Rattle.dynamic_symbols.specs.Laws.{IsShared}
 use Rattle.elf_object.specs.Lent.{symbol_type}
-use Rattle.image_file.specs.declared.symbol.SymbolType.TheVariants as type_in_image
+use Rattle.elf_records.specs.declared.symbol.SymbolType.TheVariants.{Tls}
 use Rattle.image_file.specs.Spelled.{Spelled}
 use Rattle.image_names.specs.declared.variable.Variable.{Variable}
-use Rattle.image_names.specs.Functions.{is_tls}
+use Rattle.elf_records.specs.Symbols.{is_tls}
 use Rattle.image_names.specs.Variables.{variable_in, variable_place}
-use Rattle.link_core.specs.Dynamic.{defined, type_shown}
+use Rattle.link_core.specs.Dynamic.{defined}
 use Rattle.link_core.specs.Images.{image_of}
 use Rattle.link_faults.specs.declared.symbol_ref.SymbolRef.{SymbolRef}
 use Rattle.link_needs.specs.Given.{IsGiven}
@@ -37,7 +37,7 @@ module _ (l : Linking) (given : IsGiven l) where
     where
       of_test : (t : Bool) → is_tls_symbol (object l found.object) found.symbol ≡ t
           → offset_in (if is_tls
-          (if t then type_in_image.Tls else type_shown (symbol_type (object l found.object) found.symbol))
+          (if t then Tls else symbol_type (object l found.object) found.symbol)
           then Some (record { offset = (if t then offset l found else address l found) })
           else None)
           ≡ (if t then Some (offset l found) else None)

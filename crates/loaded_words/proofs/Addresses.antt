@@ -5,7 +5,7 @@ use Rattle.std.specs.Prelude.{nat_lt, unwrap_or, if◌then◌else◌}
 use Rattle.std.specs.Str.{bytes_eq}
 use Rattle.std.proofs.lemmas.Bool.Decides.{nat_tests}
 use Rattle.elf_object.specs.declared.relocation.Relocation.{Relocation}
-use Rattle.elf_object.specs.declared.symbol.SymbolBinding.TheVariants.{Local, Global, Weak}
+use Rattle.elf_records.specs.declared.symbol.SymbolBinding.TheVariants.{Local, Global, Weak}
 use Rattle.elf_object.specs.declared.symbol.SymbolPlace.{SymbolPlace}
 use Rattle.elf_object.specs.declared.symbol.SymbolPlace.TheVariants.{Undefined, Absolute, InSection}
 use Rattle.elf_object.specs.Faults.{IsObject, Stands}
@@ -26,8 +26,10 @@ use Rattle.loaded_names.proofs.Defined.{definition_shared}
 use Rattle.loaded_names.proofs.Symbols.{placed_in}
 use Rattle.object_rules.specs.declared.fault.FaultKind.TheVariants.{SymbolSection}
 use Rattle.tls_layout.specs.Places.{IsLawful as IsWithinLimits, address_of}
-use Rattle.tls_symbols.specs.Bindings.{binding_of, bound_to, first_export, get_address, here_or, may_import, name_binding, of_startup}
+use Rattle.tls_symbols.specs.Bindings.{binding_of, bound_to, first_export, here_or, may_import, name_binding, of_startup}
+use Rattle.elf_records.specs.Symbols.{get_address}
 use Rattle.tls_symbols.specs.Definitions.{definition_of, same_binding}
+use Rattle.link_core.proofs.GotRelocationsSites.{has_value}
 
 -- ** a LOCAL symbol is defined
 
@@ -75,10 +77,6 @@ local_defined b object e some below local none =
     (is_symbol b e some below, inr (inl (local_is b e some local, undefined_is b e some none)))
 
 -- ** a symbol of a section that is kept
-
-has_value : {X : Type 0} (o : Option X) → IsSome o → (x : X) × (o ≡ Some x)
-has_value None h = absurd (cc)
-has_value (Some x) h = (x, refl)
 
 module _ (l : Linking) (given : IsGiven l) (limits : IsWithinLimits (layout l)) where
   start_low : (o s : ℕ) (at : Option ℕ) → address_of (layout l) o s ≡ at → unwrap_or at 0 ≤ 2 ^ 25

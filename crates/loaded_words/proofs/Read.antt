@@ -1,5 +1,5 @@
 -- What the entries of a table have in them: the name of an import is listed, and an address is one of 64 bits.
-use Rattle.std.proofs.Common.{◌≡◌, ◌≢◌, ◌∙◌, ◌+◌, ◌<◌, ◌^◌, ◌&&◌, ℕ, zero, suc, Bool, true, false, not, List}
+use Rattle.std.proofs.Common.{◌≡◌, ◌≢◌, ◌∙◌, ◌+◌, ◌<◌, ◌^◌, ◌&&◌, ℕ, zero, suc, Bool, true, false, List}
 use Rattle.std.proofs.Common.{[], ◌∷◌, Option, Some, None, length, filter, refl, sym, ap, subst, arith}
 use Rattle.std.specs.Prelude.{option_and_then, option_map, slice_index_or, if◌then◌else◌}
 use Rattle.std.specs.List.{All, Contains, flat_map, list_any, range_with_len}
@@ -24,8 +24,7 @@ use Rattle.got_pairs.specs.declared.need.Need.TheVariants.{ModulePair, SymbolPai
 use Rattle.got_pairs.specs.declared.need.Need.TheVariants.{AddressWord, RuntimeWord}
 use Rattle.got_pairs.specs.declared.need.Target.{Target}
 use Rattle.got_pairs.specs.declared.need.Target.TheVariants as target
-use Rattle.got_pairs.specs.Needs.{by_group, distinct, entries as entries_of, group_of, groups, of_group, same_group}
-use Rattle.got_pairs.specs.Needs.{same_need}
+use Rattle.got_pairs.specs.Needs.{by_group, entries as entries_of, group_of, groups, of_group, same_group}
 use Rattle.link_core.proofs.RelativesApart.{all_sorted}
 use Rattle.link_core.specs.Dynamic.{imports}
 use Rattle.link_faults.specs.declared.binding.Binding.{Binding}
@@ -50,6 +49,7 @@ use Rattle.tls_layout.specs.Places.{IsLawful as IsWithinLimits}
 use Rattle.tls_symbols.proofs.BoundAlike.{bound_alike}
 use Rattle.tls_symbols.specs.Bindings.{may_import}
 use Rattle.loaded_words.proofs.Addresses.{bound_low}
+use Rattle.link_core.proofs.GotRelocationsNeeds.{distinct_suits as distinct_read}
 
 -- ** what is read of an entry
 
@@ -289,12 +289,6 @@ needs_read l given limits =
         subst P (sym (start o)) (object_read l given limits o there)
 
 -- ** those of the entries
-
-distinct_read : (P : Need → Type 0) (xs : List Need) → All P xs → All P (distinct xs)
-distinct_read P [] all = all
-distinct_read P (x ∷ xs) all =
-    All-cons P x (filter (λ y. not (same_need x y)) (distinct xs)) (All-head P x xs all)
-    (All-filter (λ y. not (same_need x y)) P (distinct xs) (distinct_read P xs (All-tail P x xs all)))
 
 entries_all : (P : Need → Type 0) (xs : List Need) → All P xs → All P (entries_of xs)
 unfolding entries_of

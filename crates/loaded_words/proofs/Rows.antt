@@ -26,7 +26,8 @@ use Rattle.link_faults.specs.declared.image_kind.ImageKind.TheVariants.{Exe, Pie
 use Rattle.link_faults.specs.declared.symbol_ref.SymbolRef.{SymbolRef}
 use Rattle.link_needs.specs.Linking.{Linking, block_offset}
 use Rattle.relocated_parts.specs.Left.{is_written_at}
-use Rattle.loaded_words.proofs.Tests.{none_found, written_from}
+use Rattle.loaded_words.proofs.Tests.{none_found}
+use Rattle.relocated_parts.proofs.Fold.{written_here as written_from}
 
 -- ** those of an entry lie in it
 

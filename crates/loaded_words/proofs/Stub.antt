@@ -48,7 +48,8 @@ use Rattle.loaded_bytes.specs.Laws.{IsInstanceOf, images_of}
 use Rattle.loaded_bytes.proofs.Biases.{image_bias}
 use Rattle.loaded_bytes.proofs.Still.{fixed_is, image_is}
 use Rattle.loaded_bytes.proofs.Ranges.{found_in_part, still}
-use Rattle.loaded_words.proofs.Tests.{none_found, written_from}
+use Rattle.loaded_words.proofs.Tests.{none_found}
+use Rattle.relocated_parts.proofs.Fold.{written_here as written_from}
 use Rattle.loaded_words.proofs.Words.{no_relative}
 
 module _ (l : Linking) (has : has_stub l ≡ true) where

@@ -5,7 +5,7 @@ use Rattle.std.specs.Prelude.{slice_get}
 use Rattle.std.specs.List.{list_any}
 use Rattle.std.proofs.lemmas.Bool.{le-leb}
 use Rattle.std.proofs.lemmas.Option.{same_Some}
-use Rattle.image_file.specs.Spelled.{Part, Spelled}
+use Rattle.image_file.specs.Spelled.{Part, Spelled, is_writable}
 use Rattle.link_core.proofs.Few.{table_fits}
 use Rattle.link_core.proofs.LengthsRaw.{got_length}
 use Rattle.link_core.proofs.StandingParts.{got_index, got_is_part, got_part}
@@ -17,7 +17,6 @@ use Rattle.loaded_modules.specs.Images.{JobImages}
 use Rattle.loaded_modules.specs.Loader.{bias, part_bytes}
 use Rattle.relocated_parts.proofs.Fold.{left_long}
 use Rattle.thread_blocks.specs.JobLoads.{instance_part, job_loads, parts_from, tables_in, written_from}
-use Rattle.thread_blocks.specs.Loading.{is_written}
 use Rattle.thread_blocks.specs.RunTime.{has_words}
 use Rattle.whole_meaning.specs.Spots.{bias_of}
 use Rattle.loaded_bytes.specs.Laws.{images_of}
@@ -31,18 +30,18 @@ or_true false b e = e
 
 module _ (m : JobImages) (image : Spelled) (x : Instance) (address : ℕ) (part : Part) where
   -- a part that is written is among them
-  among : (n number i : ℕ) (parts : List Part) → number ≡ n + i → slice_get parts i ≡ Some part → is_written part.class ≡ true
+  among : (n number i : ℕ) (parts : List Part) → number ≡ n + i → slice_get parts i ≡ Some part → is_writable part.class ≡ true
       → has_words address (instance_part m image x number part) ≡ true
       → list_any (has_words address) (written_from parts (parts_from m image x n parts)) ≡ true
   among n number i [] e at written has = cc
   among n number zero (p ∷ parts) e at written has =
       let same : p ≡ part = same_Some p part at in
-      let test : is_written p.class ≡ true = ap (λ (q : Part). is_written q.class) same ∙ written in
+      let test : is_writable p.class ≡ true = ap (λ (q : Part). is_writable q.class) same ∙ written in
       rw test
       (ap (λ b. b || list_any (has_words address) (written_from parts (parts_from m image x (suc n) parts)))
       (ap (λ (q : Part). has_words address (instance_part m image x n q)) same ∙ has))
   among n number (suc i) (p ∷ parts) e at written has =
-      of_test (is_written p.class) (among (suc n) number i parts (omega (arith, e)) at written has)
+      of_test (is_writable p.class) (among (suc n) number i parts (omega (arith, e)) at written has)
     where
       of_test : (t : Bool) → list_any (has_words address) (written_from parts (parts_from m image x (suc n) parts)) ≡ true
           → list_any (has_words address)

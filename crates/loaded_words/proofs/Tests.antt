@@ -1,21 +1,7 @@
--- Whether a relocation writes at an address, and what a search for one gives.
-use Rattle.std.proofs.Common.{◌≡◌, ◌+◌, ◌<◌, ◌≤◌, ℕ, suc, Bool, true, false, List, [], ◌∷◌, Some, None, refl, arith}
+-- What a search gives where nothing is to be found.
+use Rattle.std.proofs.Common.{◌≡◌, ◌+◌, ◌<◌, ◌≤◌, suc, Bool, true, false, List, [], ◌∷◌, Some, None, refl, arith}
 use Rattle.std.proofs.Common.{if◌then◌else◌}
 use Rattle.std.specs.List.{Contains, find}
-use Rattle.std.proofs.lemmas.Bool.{le-leb, lt-ltb}
-use Rattle.std.proofs.lemmas.Bool.Decides.{nat_tests}
-use Rattle.image_file.specs.declared.relocation.ImageRelocation.{ImageRelocation}
-use Rattle.image_writer.specs.Linkable.{width}
-use Rattle.relocated_parts.specs.Left.{is_written_at}
-
-pub written_from : (address : ℕ) (r : ImageRelocation) → is_written_at address r ≡ true
-    → (r.place ≤ address) × (address < r.place + width r.kind)
-written_from address r e = grind (arith, nat_tests)
-
-pub written_so : (address : ℕ) (r : ImageRelocation) → r.place ≤ address → address < r.place + width r.kind
-    → is_written_at address r ≡ true
-written_so address r low high =
-    rw (le-leb r.place address low, lt-ltb address (r.place + width r.kind) high) refl
 
 pub none_found : {X : Type 0} (p : X → Bool) (xs : List X) → ((x : X) → Contains xs x → p x ≡ true → ⊥) → find p xs ≡ None
 none_found p [] none = refl

@@ -2,9 +2,9 @@
 use Rattle.std.proofs.Common.{◌≡◌, ◌∙◌, ◌+◌, ◌-◌, ◌*◌, ◌<◌, ◌≤◌, ℕ, zero, suc, Bool, true, false, List, [], ◌∷◌, ◌++◌}
 use Rattle.std.proofs.Common.{Some, None, length, refl, sym, ap, arith, if◌then◌else◌}
 use Rattle.std.specs.Prelude.{slice_get}
-use Rattle.std.specs.List.{All, find, flat_map}
+use Rattle.std.specs.List.{find, flat_map}
 use Rattle.std.specs.Option.{option_or}
-use Rattle.std.proofs.lemmas.List.Elements.{All-contains, All-nil}
+use Rattle.std.proofs.lemmas.List.Elements.{All-contains}
 use Rattle.std.proofs.lemmas.List.Folds.{find-append}
 use Rattle.std.proofs.lemmas.Option.{same_Some, slice_get_within}
 use Rattle.elf_records.specs.Fields.{bytes_of}
@@ -20,16 +20,15 @@ use Rattle.image_file.specs.declared.relocation.ImageRelocation.{ImageRelocation
 use Rattle.image_writer.specs.Tables.{finished}
 use Rattle.link_core.proofs.Few.{table_fits}
 use Rattle.link_core.proofs.LengthsRaw.{need_length}
-use Rattle.link_core.proofs.Relatives.{relatives_below}
-use Rattle.link_core.proofs.RelativesApart.{all_sorted, width_of}
-use Rattle.link_core.proofs.RelativesFields.{IsField, all_from}
+use Rattle.link_core.proofs.Relatives.{are_fields, relatives_below}
+use Rattle.link_core.proofs.RelativesApart.{width_of}
+use Rattle.link_core.proofs.RelativesFields.{IsField}
 use Rattle.link_core.specs.Bytes.{need_bytes}
-use Rattle.link_core.specs.Dynamic.{got_relocations, image_relocations, need_relocations, object_relocations_from, relatives}
+use Rattle.link_core.specs.Dynamic.{got_relocations, image_relocations, need_relocations, relatives}
 use Rattle.link_core.specs.Images.{contents, image_of}
-use Rattle.link_faults.specs.ImageKinds.{is_moved}
 use Rattle.link_needs.specs.Given.{FitsTable, IsGiven}
 use Rattle.link_needs.specs.Linking.{Linking, block_offset}
-use Rattle.link_needs.specs.Needs.{entries, got_start, sorted_by}
+use Rattle.link_needs.specs.Needs.{entries, got_start}
 use Rattle.loaded_modules.specs.declared.instance.Instance.{Instance}
 use Rattle.loaded_modules.specs.Images.{JobImages}
 use Rattle.relocated_parts.proofs.Words.{digits}
@@ -45,22 +44,12 @@ use Rattle.loaded_words.proofs.Names.{entry_fits}
 use Rattle.loaded_words.proofs.Placed.{placed}
 use Rattle.loaded_words.proofs.Rows.{row_found}
 use Rattle.loaded_words.proofs.Table.{found}
-use Rattle.loaded_words.proofs.Tests.{none_found, written_from}
+use Rattle.loaded_words.proofs.Tests.{none_found}
+use Rattle.relocated_parts.proofs.Fold.{written_here as written_from}
 use Rattle.loaded_words.specs.Laws.{HasWord, IsPlaced, WordsAreLoaded}
 use Rattle.loaded_words.specs.Words.{loaded_words}
 
 -- ** which relocation writes in an entry
-
-are_fields : (l : Linking) → IsGiven l → All (IsField l 0) (relatives l)
-unfolding relatives
-are_fields l given = of_test (is_moved l.kind)
-  where
-    of_test : (t : Bool) → All (IsField l 0)
-        (if t then sorted_by (λ r. r.place) (object_relocations_from l 0 l.objects) else [])
-    of_test true =
-        all_sorted (λ r. r.place) (IsField l 0) (object_relocations_from l 0 l.objects)
-        (all_from l given 0 l.objects refl)
-    of_test false = All-nil (IsField l 0)
 
 pub no_relative : (l : Linking) → IsGiven l → FitsTable l → (address : ℕ) → got_start l ≤ address
     → find (is_written_at address) (relatives l) ≡ None

@@ -20,7 +20,7 @@ use Rattle.loaded_modules.specs.declared.exports.Export.{Export}
 use Rattle.loaded_modules.specs.Images.{JobImages}
 use Rattle.loaded_modules.specs.Loader.{export_of, export_target, name_of, target_of}
 use Rattle.relocated_parts.specs.Left.{byte_by, digit_of_two, first_word, is_written_at, second_word, written_byte}
-use Rattle.loaded_words.proofs.Tests.{written_so}
+use Rattle.loaded_bytes.proofs.FieldBytes.{written_so}
 use Rattle.loaded_words.specs.Words.{Variable, exported}
 
 -- ** bytes of two words

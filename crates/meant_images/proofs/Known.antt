@@ -1,9 +1,7 @@
 -- What is known of the images of a job, and what is ready of the image of a number.
 use Rattle.std.proofs.Common.{◌≡◌, ◌∙◌, ◌<◌, ◌≤◌, ◌-◌, ℕ, zero, suc, List, [], ◌∷◌, All, Bor, length, map, get_or, Option, Some, None, IfSome, refl, sym, ap, arith}
 use Rattle.std.specs.Prelude.{option_map, slice_get}
-use Rattle.std.specs.Slice.{IsItemAt}
 use Rattle.std.proofs.lemmas.List.{length-map}
-use Rattle.std.proofs.lemmas.Option.{slice_get_past, slice_get_read}
 use Rattle.job_text.specs.LateImages.{LateLast, is_late}
 use Rattle.link_faults.specs.declared.image_kind.ImageKind.TheVariants.{Exe}
 use Rattle.link_needs.specs.Linking.{Linking}
@@ -37,11 +35,6 @@ are_infos ls some few late each =
 pub place_of : {X : Type 0} (xs : List X) (n : ℕ) (x : X) → at_number xs n ≡ Some x → slice_get xs (n - 1) ≡ Some x
 place_of xs zero x at = absurd (cc at)
 place_of xs (suc i) x at = ap (slice_get xs) (omega arith) ∙ at
-
--- what a read of a slice gives
-pub seen : {X : Type 0} (xs : List X) (i : ℕ) (r : Option (Bor X)) → IsItemAt xs i r → option_map (λ (b : Bor X). b.now) r ≡ slice_get xs i
-seen xs i None is = sym (slice_get_past xs i is.3)
-seen xs i (Some b) is = sym (slice_get_read xs (length xs) i b.now refl is.3.0 is.1)
 
 -- what is read of the tables
 pub table_is : (ls : List Linking) (ts : List Tables) (i : ℕ) (l : Linking) (r : Option (Bor Tables))

@@ -1,24 +1,21 @@
 //! What is known of an image before it is loaded: its functions and variables by name, its blocks, and its room.
 
 ghost use Rattle.std.specs.Prelude.{◌≡◌, ◌^◌, ◌<◌, ◌≤◌, IfSome};
-ghost use Rattle.std.specs.List.{list_any};
 ghost use Rattle.elf_object.specs.Lent.{section_class};
 ghost use Rattle.link_needs.specs.Linking.{layout};
 ghost use Rattle.module_table.specs.Modules.{IsInfo};
-ghost use Rattle.sequence_forms.specs.declared.places.Site.{Site};
 ghost use Rattle.tls_layout.specs.Sections.{is_class};
 ghost use Rattle.tls_layout.specs.Places.{executable};
 ghost use Rattle.tls_symbols.specs.Bindings.{is_tls_class};
 ghost use Rattle.tls_symbols.specs.Definitions.{IsWithin};
 ghost use Rattle.whole_meaning.specs.Bytes.{below, function_at, function_of, variable_at, variable_of};
-ghost use Rattle.whole_meaning.specs.Loads.{info_of, is_initial, wants_surplus};
+ghost use Rattle.whole_meaning.specs.Loads.{info_of, wants_surplus};
 ghost use Rattle.whole_meaning.specs.Spots.{in_room};
 
 use elf_object::{Object, SectionClass, SymbolPlace};
 use link_faults::SymbolRef;
 use link_needs::Inputs;
 use module_table::ImageInfo;
-use sequence_match::{Form, Site};
 use tls_symbols::is_tls_place;
 
 /// The size of an instance's address range.
@@ -108,27 +105,12 @@ pub fn variable(inputs: &Inputs, name: &[u8]) -> Option<u64>
     variable_at(inputs, found)
 }
 
-/// Whether an object has code that reaches a variable at a fixed distance from the thread pointer.
-fn has_initial(own: &[Site]) -> bool
-    ensures { result ≡ list_any (λ (site : Site). is_initial site.form) own.now }
-{
-    own.iter()
-        .any(|site| matches!(site.form, Form::IeMov | Form::IeAdd))
-}
-
-/// Whether one of the objects has such code.
-fn any_initial(sites: &[Vec<Site>]) -> bool
-    ensures { result ≡ list_any (λ own. list_any (λ (site : Site). is_initial site.form) own.items) sites.now }
-{
-    sites.iter().any(|own| has_initial(own.as_slice()))
-}
-
 /// Whether the image is a module that needs its blocks below the thread pointer.
-#[tactic(auto, using(link_core::proofs::DraftLemmas::any_seen), unfolding(whole_meaning::specs::Loads::wants_surplus))]
+#[tactic(auto, unfolding(whole_meaning::specs::Loads::wants_surplus))]
 fn wants_surplus(inputs: &Inputs) -> bool
     ensures { result ≡ wants_surplus inputs.now }
 {
-    inputs.kind.is_module() && any_initial(inputs.sites)
+    inputs.kind.is_module() && inputs.has_initial()
 }
 
 /// When an image is loaded, and its TLS segment.

@@ -2,7 +2,6 @@
 
 ghost use Rattle.std.specs.Prelude.{◌≡◌, ◌≤◌, ◌<◌, ◌==◌, ◌-◌, ◌^◌, IfOk, IfSome, length, option_map};
 ghost use Rattle.std.specs.List.{find, list_any};
-ghost use Rattle.guest_machine.specs.Run.{is_look};
 ghost use Rattle.thread_blocks.specs.Held.{block_bytes};
 ghost use Rattle.thread_blocks.specs.MachineTurns.{stack_start};
 ghost use Rattle.whole_meaning.specs.Loads.{meaning_of};
@@ -13,18 +12,11 @@ ghost use Rattle.meant_space.specs.Spaces.{with_hidden};
 use crate::owned;
 use crate::space::MeantSpace;
 use crate::words::stack_start;
-use guest_machine::{DESCRIPTOR, GET_ADDRESS};
+use guest_machine::is_look;
 use job_meaning::Byte;
 use loaded_modules::Instance;
 use std::alloc::AllocError;
 use whole_meaning::{Mark, Sequence};
-
-/// Whether this is one of the two addresses of the run time, `__tls_get_addr` and the descriptor's function.
-fn is_look(place: u64) -> bool
-    ensures { result ≡ is_look place }
-{
-    place == GET_ADDRESS || place == DESCRIPTOR
-}
 
 impl<'m> MeantSpace<'m> {
     /// The live instance with this number.

@@ -1,6 +1,6 @@
 mod Held
 mod LastBytes
-mod Low
+pub mod Low
 mod Refilled
 mod Searching
-mod Written
+pub mod Written

@@ -1,8 +1,7 @@
 -- Addresses are small: those of parts, and how far an image is moved.
-use Rattle.std.proofs.Common.{◌≡◌, ◌∙◌, ◌+◌, ◌^◌, ◌<◌, ◌≤◌, ◌==◌, ℕ, Bool, true, false, List, Option, Some, None, sym, ap, subst, inl, inr, arith}
+use Rattle.std.proofs.Common.{◌≡◌, ◌∙◌, ◌+◌, ◌^◌, ◌<◌, ◌≤◌, ◌==◌, ℕ, Bool, true, false, List, Option, Some, None, sym, ap, subst, inl, arith}
 use Rattle.std.specs.Prelude.{if◌then◌else◌}
 use Rattle.std.specs.List.{slice_get}
-use Rattle.std.proofs.lemmas.Bool.{cases_lt}
 use Rattle.std.proofs.lemmas.Option.{slice_get_within}
 use Rattle.elf_records.specs.declared.file_header.TheConstants.{ET_EXEC}
 use Rattle.image_rules.specs.declared.places.FileKind.{FileKind}
@@ -16,16 +15,11 @@ use Rattle.image_file.specs.Tabled.{length-tabled, tabled_at}
 use Rattle.loaded_modules.specs.declared.instance.Instance.{Instance}
 use Rattle.loaded_modules.specs.Images.{JobImages, image_at}
 use Rattle.loaded_modules.specs.Loader.{bias, bias_in, bias_of}
+use Rattle.loaded_modules.proofs.TlsKept.{at_most}
 
 -- ** parts
 
-at_most : (m n : ℕ) → ((m ≤ n → ⊥) → ⊥) → m ≤ n
-at_most m n h = elim (cases_lt n m) [
-  | inl more ↦ absurd (h (λ within. omega (arith, more, within)))
-  | inr within ↦ within
-]
-
-base_low : (t : Bool) → (if t then 0x400000 else 0) ≤ 0x400000
+pub base_low : (t : Bool) → (if t then 0x400000 else 0) ≤ 0x400000
 base_low true = omega arith
 base_low false = omega arith
 
@@ -38,7 +32,7 @@ load_low b image i within =
     let low = at_most (segment b i).vaddr (base b + 2 ^ 26) (λ no. image SegmentRule i (inl (within, λ right. no (fits b i right)))) in
     omega (arith, low, base_low ((header b).e_type == ET_EXEC))
 
-inside : (x y : Part) → Some x ≡ Some y → x ≡ y
+pub inside : (x y : Part) → Some x ≡ Some y → x ≡ y
 inside x y e = cc
 
 found_low : (b : List ℕ) → IsImage b → (i : ℕ) (p : Part) → slice_get (parts b) i ≡ Some p → p.address < 2 ^ 32
@@ -54,13 +48,13 @@ part_low image (b, (is, spells)) i p at = found_low b is i p (ap (λ (s : Spelle
 
 -- ** moves
 
-move_low : (kind : FileKind) (n : ℕ) → n < 2 ^ 32 → bias kind n < 2 ^ 59
+pub move_low : (kind : FileKind) (n : ℕ) → n < 2 ^ 32 → bias kind n < 2 ^ 59
 unfolding bias
 move_low Exe n small = omega arith
 move_low Pie n small = omega (arith, small)
 move_low Module n small = omega (arith, small)
 
-in_low : (x : Instance) (image : Option Spelled) → x.number < 2 ^ 32 → bias_in x image < 2 ^ 59
+pub in_low : (x : Instance) (image : Option Spelled) → x.number < 2 ^ 32 → bias_in x image < 2 ^ 59
 in_low x None small = omega arith
 in_low x (Some image) small = move_low image.kind x.number small
 

@@ -16,12 +16,12 @@ use Rattle.module_data.proofs.LastBytes.{all_put, put, last_byte}
 
 -- ** one piece
 
-get_same : (d : List Piece) (i : ℕ) (p : Piece) → i < length d → slice_get (slice_set d i p) i ≡ Some p
+pub get_same : (d : List Piece) (i : ℕ) (p : Piece) → i < length d → slice_get (slice_set d i p) i ≡ Some p
 get_same [] i p h = absurd (omega (arith, h))
 get_same (q ∷ d) zero p h = refl
 get_same (q ∷ d) (suc i) p h = get_same d i p (omega (arith, h))
 
-get_other : (d : List Piece) (i j : ℕ) (p : Piece) → (j ≡ i → ⊥) → slice_get (slice_set d i p) j ≡ slice_get d j
+pub get_other : (d : List Piece) (i j : ℕ) (p : Piece) → (j ≡ i → ⊥) → slice_get (slice_set d i p) j ≡ slice_get d j
 get_other [] i j p apart = refl
 get_other (q ∷ d) zero zero p apart = absurd (apart refl)
 get_other (q ∷ d) zero (suc j) p apart = refl
@@ -33,7 +33,7 @@ not_both true = refl
 not_both false = refl
 
 -- the piece is the instance's, or another's
-own : (n : ℕ) (bytes : List ℕ) → 1 ≤ n → bytes_of_instance n (record { instance = n; bytes = bytes }) ≡ Some bytes
+pub own : (n : ℕ) (bytes : List ℕ) → 1 ≤ n → bytes_of_instance n (record { instance = n; bytes = bytes }) ≡ Some bytes
 own n bytes low =
     let more : nat_lt 0 n ≡ true = grind (arith, nat_tests) in
     let same : (n == n) ≡ true = eq-eqb n n refl in
@@ -47,7 +47,7 @@ others n instance bytes apart =
 
 -- ** a program that begins
 
-first_at : (m : JobImages) (number : ℕ) → number ≤ length m.images → slice_get (first_data m) number ≡ Some (first_piece m number)
+pub first_at : (m : JobImages) (number : ℕ) → number ≤ length m.images → slice_get (first_data m) number ≡ Some (first_piece m number)
 unfolding first_data
 first_at m number within =
     let n = length m.images + 1 in

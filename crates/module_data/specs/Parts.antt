@@ -1,21 +1,14 @@
 -- Which part of an image is data, and what an instance has there before any write.
-use Rattle.std.specs.Prelude.{◌==◌, ◌&&◌, ℕ, Bool, true, false, not, List, [], length}
+use Rattle.std.specs.Prelude.{◌==◌, ◌&&◌, ℕ, Bool, false, not, List, [], length}
 use Rattle.std.specs.Prelude.{Option, Some, None, option_map, option_and_then, slice_get}
 use Rattle.std.specs.List.{find, range_with_len}
-use Rattle.image_file.specs.declared.part.PartClass.{PartClass}
-use Rattle.image_file.specs.declared.part.PartClass.TheVariants.{Executable, ReadOnly, Writable}
-use Rattle.image_file.specs.Spelled.{Part, Spelled}
+use Rattle.image_file.specs.Spelled.{Part, Spelled, is_writable}
 use Rattle.loaded_modules.specs.declared.instance.Instance.{Instance}
 use Rattle.loaded_modules.specs.Images.{JobImages, image_at}
 use Rattle.loaded_modules.specs.Laws.{start_of}
 use Rattle.loaded_modules.specs.Loader.{loaded_part}
 
 -- ---- which part
-
-abbrev pub is_writable : PartClass → Bool
-is_writable Executable = false
-is_writable ReadOnly = false
-is_writable Writable = true
 
 abbrev pub has_writable : Option Part → Bool
 has_writable None = false

@@ -2,16 +2,10 @@
 
 ghost use Rattle.std.specs.Prelude.{◌≡◌, ◌<◌, ◌^◌, IfSome, option_map, slice_get};
 ghost use Rattle.loaded_modules.specs.Loader.{bias_of};
-ghost use Rattle.module_data.specs.Parts.{data_number, data_part, data_start, is_data_part, is_number, is_writable};
+ghost use Rattle.module_data.specs.Parts.{data_number, data_part, data_start, is_data_part, is_number};
 
-use image_file::{Image, PartClass, image_is_spelled};
+use image_file::{Image, image_is_spelled};
 use loaded_modules::{Instance, Modules};
-
-fn is_writable(class: PartClass) -> bool
-    ensures { result ≡ is_writable class }
-{
-    matches!(class, PartClass::Writable)
-}
 
 fn is_number(part: Option<u64>, number: u64) -> bool
     ensures { result ≡ is_number part number }
@@ -28,7 +22,7 @@ fn is_data_part(image: &Image, number: u64) -> bool
     ensures { result ≡ is_data_part image.now number }
 {
     match image.part(number) {
-        Some(part) => is_writable(part.class) && !is_number(image.got(), number),
+        Some(part) => part.class.is_writable() && !is_number(image.got(), number),
         None => false,
     }
 }

@@ -9,7 +9,7 @@ use Rattle.job_text.specs.Threads.{of_thread}
 use Rattle.loaded_modules.specs.Images.{JobImages, infos, last_offset}
 use Rattle.module_table.specs.declared.events.Event.{Event}
 use Rattle.module_table.specs.History.{IsLegal}
-use Rattle.module_table.specs.Past.{past, start}
+use Rattle.module_table.specs.Past.{past}
 use Rattle.lawful_points.specs.Orders.{is_over}
 use Rattle.lawful_points.specs.Raced.{first_of}
 use Rattle.thread_blocks.specs.Held.{looked_at}
@@ -21,7 +21,7 @@ use Rattle.thread_blocks.specs.Turns.{Idle, Mid, IsFinished, Phase, Thread}
 use Rattle.thread_space.specs.Kept.{HasSeen, Kept, blocks_of}
 use Rattle.thread_space.specs.Steps.{IsNew}
 use Rattle.thread_space.proofs.Owners.{owned_again}
-use Rattle.thread_space.proofs.StartKept.{start_kept}
+use Rattle.thread_space.proofs.StartKept.{begins, start_kept}
 use Rattle.thread_vector.specs.Holding.{IsLeftBy}
 use Rattle.thread_vector.specs.Vectors.{fresh, held}
 use Rattle.job_turns.specs.declared.asking.Ask.TheVariants.{Done}
@@ -30,10 +30,6 @@ use Rattle.job_turns.specs.Standing.{IsFirstRun, IsGoing, IsIdle, PhaseIs, Run, 
 use Rattle.job_turns.proofs.Lists.{at_drop, none_drop}
 
 -- ** a runner before its first turn
-
-begins : (m : JobImages) → past (infos m) (last_offset m) [] ≡ start (infos m) (last_offset m)
-unfolding past
-begins m = refl
 
 module _ (m : JobImages) (legal : IsLegal (infos m) (last_offset m) []) (thread : ℕ) (k : Kept) (new : IsNew thread m k) where
   left_now : IsLeftBy k.vector.images k.vector.past

@@ -33,7 +33,7 @@ wide Descriptor = omega arith
 
 -- ** what a relocation writes at an address
 
-written_here : (address : ℕ) (r : ImageRelocation) → is_written_at address r ≡ true
+pub written_here : (address : ℕ) (r : ImageRelocation) → is_written_at address r ≡ true
     → (r.place ≤ address) × (address < r.place + width r.kind)
 written_here address r e = grind (arith, nat_tests)
 

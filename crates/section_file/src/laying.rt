@@ -6,15 +6,14 @@ ghost use Rattle.link_faults.specs.ImageKinds.{base_of};
 ghost use Rattle.section_file.specs.Files.{end_mark, offset_of as file_offset, placed_class, placed_from};
 ghost use Rattle.section_file.specs.Files.{placed_object, placed_section, sections_file};
 ghost use Rattle.section_file.specs.Laying.{with_section, with_sections};
-ghost use Rattle.tls_layout.specs.Laws.{extent_for};
-ghost use Rattle.tls_layout.specs.Places.{address_of, IsLawful};
-ghost use Rattle.tls_layout.specs.Sections.{is_class, layout_of};
+ghost use Rattle.tls_layout.specs.Places.{address_of};
+ghost use Rattle.tls_layout.specs.Sections.{layout_of};
 ghost use Rattle.tls_relocs.specs.Laid.{zeros as zeros_of};
 
 use elf_object::{Object, SectionClass};
 use link_faults::ImageKind;
 use std::alloc::{AllocError, Global};
-use tls_layout::{Extent, PAGE, Placement};
+use tls_layout::{PAGE, Placement, is_class};
 
 /// The classes that have addresses, in address order.
 const CODE: SectionClass = SectionClass::Executable;
@@ -50,21 +49,6 @@ fn push(file: &mut Vec<u8>, offset: u64, bytes: &[u8], zeros: usize) -> Result<(
     file.resize(file.len() + zeros, 0)
 }
 
-/// Whether a section has this class.
-fn is_of(class: SectionClass, kept: Option<SectionClass>) -> bool
-    ensures { result ≡ is_class class kept }
-{
-    match (class, kept) {
-        (SectionClass::Executable, Some(SectionClass::Executable)) => true,
-        (SectionClass::ReadOnly, Some(SectionClass::ReadOnly)) => true,
-        (SectionClass::Tls { initial }, Some(SectionClass::Tls { initial: other })) => initial
-            == other,
-        (SectionClass::Writable { initial }, Some(SectionClass::Writable { initial: other })) =>
-            initial == other,
-        _ => false,
-    }
-}
-
 /// The offset of a section in the file. Callers ask only for sections with an address; for others
 /// it is that of address 0.
 #[tactic(auto, using(tls_layout::proofs::Bounds::address_bounds))]
@@ -97,7 +81,7 @@ fn push_section(
     let Some(part) = object.section(section) else {
         return Ok(());
     };
-    if !is_of(class, part.class) || part.size == 0 {
+    if !is_class(class, part.class) || part.size == 0 {
         return Ok(());
     }
     let zeros = part.size as usize - part.bytes.len();
@@ -147,19 +131,6 @@ fn push_objects(
     Ok(())
 }
 
-/// Where the sections of a class lie.
-fn extent_of(placement: &Placement, class: SectionClass) -> Extent
-    ensures extent { result ≡ extent_for class placement.now }
-    ensures lawful { IsLawful placement.now }
-{
-    match class {
-        SectionClass::Executable => placement.executable(),
-        SectionClass::ReadOnly => placement.read_only(),
-        SectionClass::Tls { .. } => placement.tls_image(),
-        SectionClass::Writable { .. } => placement.writable(),
-    }
-}
-
 /// Fills the file up to where a class ends. Its last section may have no bytes, and its alignment moves the end; only a
 /// section that programs write always has bytes.
 fn push_end(
@@ -171,7 +142,7 @@ fn push_end(
     requires kind { placement.now.kind ≡ kind }
     ensures { OnOk result (file.new.items ≡ with_sections file.old.items (end_mark placement.now class)) }
 {
-    let extent = extent_of(placement, class);
+    let extent = placement.extent(class);
     match class {
         SectionClass::Writable { .. } => Ok(()),
         _ if extent.start < extent.end => push(file, offset_of(kind, extent.end), &[], 0),

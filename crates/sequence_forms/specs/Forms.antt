@@ -1,6 +1,6 @@
 -- The code sequences that reach thread-local storage ("ELF Handling For Thread-Local Storage"; psABI, "Thread-Local
 -- Storage"): the bytes of each form, and their relocations.
-use Rattle.std.specs.Prelude.{◌≡◌, ◌+◌, ◌/◌, ◌%◌, ◌==◌, ◌||◌, ◌&&◌, ℕ, ℤ, negsuc, Bool, true, List, [], ◌∷◌}
+use Rattle.std.specs.Prelude.{◌≡◌, ◌+◌, ◌/◌, ◌%◌, ◌==◌, ◌||◌, ◌&&◌, ℕ, ℤ, negsuc, Bool, true, false, List, [], ◌∷◌}
 use Rattle.std.specs.Prelude.{Option, Some, None, nat_lt, slice_index, if◌then◌else◌}
 use Rattle.elf_records.specs.declared.relocation.RelocationKind.{RelocationKind}
 use Rattle.elf_records.specs.declared.relocation.RelocationKind.TheVariants.{TlsGd, TlsLd, GotTpOff, GotPc32TlsDesc}
@@ -109,3 +109,9 @@ pub record IsRow (sequence : Sequence) (given : Row) : Type 0 where
   pub first_at_is : given.first_at ≡ sequence.first_at
   pub addend_is : given.addend ≡ sequence.addend
   pub second_is : given.second ≡ sequence.second
+
+-- whether the form finds a variable at a fixed distance from the thread pointer
+abbrev pub is_initial : Form → Bool
+is_initial IeMov = true
+is_initial IeAdd = true
+is_initial form = false

@@ -1,7 +1,7 @@
 //! The table of forms: the bytes of each, and their relocations.
 
 ghost use Rattle.std.specs.Prelude.{◌≡◌, Some, None};
-ghost use Rattle.sequence_forms.specs.Forms.{IsRow, fits, row, row_of, to_end};
+ghost use Rattle.sequence_forms.specs.Forms.{IsRow, fits, is_initial, row, row_of, to_end};
 
 use Cell::*;
 use RelocationKind::{GotPc32TlsDesc, GotTpOff, TlsDescCall, TlsGd, TlsLd};
@@ -141,6 +141,13 @@ fn alone(cells: &'static [Cell], first: RelocationKind) -> Row
 }
 
 impl Form {
+    /// Whether the form finds a variable at a fixed distance from the thread pointer (initial exec).
+    pub fn is_initial(self) -> bool
+        ensures { result ≡ is_initial self }
+    {
+        matches!(self, Form::IeMov | Form::IeAdd)
+    }
+
     /// The form's row: what an assembler makes of the instructions next to it.
     #[tactic(auto, unfolding(crate::specs::Forms::row))]
     pub fn row(self) -> Row

@@ -1,5 +1,5 @@
 -- The sites of an object, and what is wrong with one that has a thread-local access that is not a site.
-use Rattle.std.specs.Prelude.{◌≡◌, ◌≢◌, ◌<◌, ℕ, List, [], Option, Some, codes}
+use Rattle.std.specs.Prelude.{◌≡◌, ◌≢◌, ◌<◌, ℕ, List, [], Option, Some}
 use Rattle.std.specs.List.{All, AllPairs, Contains}
 use Rattle.object_faults.specs.declared.class.SectionClass.{SectionClass}
 use Rattle.object_faults.specs.declared.class.SectionClass.TheVariants.{Executable}
@@ -12,6 +12,7 @@ use Rattle.elf_records.specs.declared.relocation.RelocationKind.TheVariants.{Not
 use Rattle.elf_records.specs.declared.relocation_row.SequencePart.{SequencePart}
 use Rattle.elf_records.specs.declared.relocation_row.SequencePart.TheVariants.{First}
 use Rattle.elf_records.specs.RelocationRows.{row as kind_row}
+use Rattle.elf_records.specs.Symbols.{get_address}
 use Rattle.elf_object.specs.declared.relocation.Relocation.{Relocation}
 use Rattle.elf_object.specs.declared.symbol.SymbolPlace.TheVariants.{Undefined}
 use Rattle.elf_object.specs.Parts.{symbol_count}
@@ -34,7 +35,7 @@ code_of b s = bytes_of_code (section_class b s) (section_bytes b s)
 -- symbol n is `__tls_get_addr`, and the object does not define it
 abbrev pub IsGetter : List ℕ → ℕ → Type 0
 IsGetter b n =
-    (n < symbol_count b) × (symbol_place b n ≡ Undefined) × (symbol_name b n ≡ codes "__tls_get_addr")
+    (n < symbol_count b) × (symbol_place b n ≡ Undefined) × (symbol_name b n ≡ get_address)
 
 -- a sequence of the object
 abbrev pub IsSite : List ℕ → Site → Type 0

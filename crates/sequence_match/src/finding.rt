@@ -20,11 +20,9 @@ use crate::matching::{
 };
 use crate::near::rise;
 use elf_object::{FaultKind, Object, ObjectFault, Relocation, SectionClass, SymbolPlace};
+use elf_records::symbol::GET_ADDRESS;
 use sequence_forms::Site;
 use std::alloc::{AllocError, Global};
-
-/// The run time's function for thread-local addresses.
-const GETTER: &[u8; 14] = b"__tls_get_addr";
 
 /// A kind of fault that this module checks.
 #[derive(Clone, Copy)]
@@ -72,8 +70,8 @@ fn is_getter(object: &Object, number: u32) -> bool
         return false;
     };
     match part.place {
-        SymbolPlace::Undefined => match object.short_symbol_name(number, GETTER.len()) {
-            Some(name) => name == GETTER.as_slice(),
+        SymbolPlace::Undefined => match object.short_symbol_name(number, GET_ADDRESS.len()) {
+            Some(name) => name == GET_ADDRESS,
             None => false,
         },
         _ => false,

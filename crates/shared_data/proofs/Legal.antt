@@ -1,6 +1,6 @@
 -- The events of a job are legal, whatever its threads hold.
 use Rattle.std.proofs.Common.{◌≡◌, ℕ, true, false, List, Option, Some, None, refl, subst}
-use Rattle.std.specs.Prelude.{is_none, option_and_then}
+use Rattle.std.specs.Prelude.{option_and_then}
 use Rattle.job_text.specs.declared.thread_lines.Action.{Action}
 use Rattle.job_text.specs.declared.thread_lines.Action.TheVariants.{Call, Open, Close, Peek}
 use Rattle.module_table.specs.declared.events.Event.{Event}
@@ -12,11 +12,7 @@ use Rattle.thread_blocks.specs.Lines.{Line, event_at, event_by, unless_refused}
 use Rattle.thread_blocks.specs.Turns.{Thread, event_of, next_line, with_event}
 use Rattle.shared_data.proofs.Begins.{AreOwn}
 use Rattle.shared_data.proofs.Numbers.{image_one, numbers_own}
-
-is_event : {R : Type 0} (refusal : Option R) (e found : Event) → unless_refused refusal e ≡ Some found
-    → (is_none refusal ≡ true) × (e ≡ found)
-is_event None e found same = (refl, cc)
-is_event (Some refusal) e found same = cc
+use Rattle.thread_blocks.proofs.Histories.{is_event}
 
 open_accepted : (p : Past) (e found : Event) → e.opens ≡ true
     → unless_refused (open_refusal p e.image) e ≡ Some found → accepts p found ≡ true

@@ -26,7 +26,7 @@ stays threads fact stable history seen knows known =
 
 -- ---- a thread's own events
 
-other_last : (thread at : ℕ) (front : List Event) (e : Event) → (e.thread == thread) ≡ false
+pub other_last : (thread at : ℕ) (front : List Event) (e : Event) → (e.thread == thread) ≡ false
     → own_from thread at (front ++ e ∷ []) ≡ own_from thread at front
 other_last thread at [] e other = ap (λ b. if b then record { at = at; event = e } ∷ [] else []) other
 other_last thread at (x ∷ xs) e other = ap

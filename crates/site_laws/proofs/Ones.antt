@@ -42,7 +42,7 @@ two a b rest d e first second =
     (front.0, subst (AreRead (e ∷ []) rest) (sym front.1) (one b rest e second))
 
 -- what opens where bytes are read
-reads : List ℕ → Option Decoded
+pub reads : List ℕ → Option Decoded
 unfolding
     end_branch_at escaped_at row_at operated_at body_at instruction_at decoded numbered_body operation_of operand_body
     signed_of rex_at prefixes_at numbers_at register_of number_of condition_of fixed_row_of row_of escaped_row_of arithmetic_of shift_of group_action

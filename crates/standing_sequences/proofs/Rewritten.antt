@@ -17,7 +17,6 @@ use Rattle.link_needs.specs.Needs.{is_kept, new_relocation}
 use Rattle.link_needs.specs.Values.{field}
 use Rattle.relax_sites.proofs.Tables.{field_end, row_length}
 use Rattle.relax_sites.specs.declared.choices.Choice.{Choice}
-use Rattle.relax_sites.specs.declared.choices.Choice.TheVariants.{Keep}
 use Rattle.relax_sites.specs.declared.rows.NewField.{NewField}
 use Rattle.relax_sites.specs.Rows.{form_length, new_bytes, new_field}
 use Rattle.sequence_forms.specs.declared.places.Site.{Site}
@@ -33,10 +32,7 @@ use Rattle.standing_sequences.proofs.Choosing.{listed_changes, listed_own, match
 use Rattle.standing_sequences.proofs.Covering.{own_site, rewritten_found}
 use Rattle.standing_sequences.proofs.Kept.{image_byte, limits}
 use Rattle.standing_sequences.proofs.Values.{field_long}
-
-kept_not : (choice : Choice) → is_kept choice ≡ false → choice ≢ Keep
-kept_not Keep e = absurd (cc)
-kept_not choice e = λ h. cc
+use Rattle.link_core.proofs.StandingSites.{kept_not}
 
 module _ (l : Linking) (linked : IsLinked l) (o t address : ℕ) (at : IsSectionAt l o t address) (site : Site)
     (is : IsSequence l o t site) (c : Choice) (m : Matches l o site c) where

@@ -1,8 +1,7 @@
 -- What holds of each live instance where a front of a legal history was seen.
-use Rattle.std.proofs.Common.{◌≡◌, ◌∙◌, ◌+◌, ◌-◌, ◌*◌, ◌<◌, ◌≤◌, ◌^◌, ◌==◌, ℕ, suc, true, false, List, [], ◌∷◌, ◌++◌, ◌&&◌, length, get_or, Option, Some, None, refl, sym, ap, subst, inl, inr, arith, true≢false}
-use Rattle.std.specs.Prelude.{All, IfSome, option_to_list, nat_le, nat_lt, take}
+use Rattle.std.proofs.Common.{◌≡◌, ◌∙◌, ◌+◌, ◌-◌, ◌*◌, ◌<◌, ◌≤◌, ◌^◌, ◌==◌, ℕ, suc, true, false, List, ◌∷◌, ◌++◌, ◌&&◌, length, get_or, Option, Some, None, refl, sym, ap, subst, inl, inr, arith, true≢false}
+use Rattle.std.specs.Prelude.{All, IfSome, nat_le, nat_lt, take}
 use Rattle.std.proofs.lemmas.Bool.{and_parts, cases_Bool, eq-eqb, false_from_ne_true, leb-false, leb-true, ltb-true}
-use Rattle.std.proofs.lemmas.List.Elements.{All-nil, All-cons}
 use Rattle.loaded_modules.specs.declared.instance.Instance.{Instance}
 use Rattle.loaded_modules.specs.Images.{infos}
 use Rattle.module_table.specs.declared.modules.ImageInfo.{ImageInfo}
@@ -13,7 +12,7 @@ use Rattle.module_table.specs.Laws.{Block, startup_end}
 use Rattle.module_table.specs.Modules.{is_loaded, no_module}
 use Rattle.module_table.specs.Past.{module_of, past, start}
 use Rattle.module_table.proofs.LawsOfBlocks.{instances_apart}
-use Rattle.thread_blocks.specs.Instances.{Loads, block_start, instances, instances_from, instances_in, loaded_instance, numbered_instance}
+use Rattle.thread_blocks.specs.Instances.{Loads, block_start, instances, instances_in, loaded_instance, numbered_instance}
 use Rattle.thread_blocks.specs.MachineTurns.{pointer_of}
 use Rattle.thread_blocks.specs.TurnsAlike.{IsFront}
 use Rattle.known_instances.specs.Known.{known_in}
@@ -21,22 +20,9 @@ use Rattle.known_instances.proofs.Found.{instance_for, loaded_as}
 use Rattle.known_instances.proofs.Known.{known_is, legal_front, number_low, numbered_at_image}
 use Rattle.known_instances.proofs.Placed.{IsImage, is_image, placed_in}
 use Rattle.static_blocks.proofs.Sizes.{end_most, end_past, end_rises}
+use Rattle.known_instances.proofs.Live.{all_from}
 
 -- ** what holds of each loaded image holds of each live instance
-
-all_from : (P : Instance → Type 0) (infos : List ImageInfo) (image : ℕ) (ms : List Module)
-    → ((a : ℕ) (x : Instance) → loaded_instance infos (image + a) (get_or ms a no_module) ≡ Some x → P x)
-    → All P (instances_from infos image ms)
-all_from P infos image [] each = All-nil P
-all_from P infos image (m ∷ ms) each =
-    first (loaded_instance infos image m) refl (all_from P infos (suc image) ms
-    (λ a x e. each (suc a) x (ap (λ (i : ℕ). loaded_instance infos i (get_or ms a no_module)) (omega arith) ∙ e)))
-  where
-    first : (o : Option Instance) → loaded_instance infos image m ≡ o → All P (instances_from infos (suc image) ms)
-        → All P (option_to_list o ++ instances_from infos (suc image) ms)
-    first None e rest = rest
-    first (Some x) e rest = All-cons P x (instances_from infos (suc image) ms)
-        (each 0 x (ap (λ (i : ℕ). loaded_instance infos i m) (omega arith) ∙ e)) rest
 
 -- ** a live instance
 

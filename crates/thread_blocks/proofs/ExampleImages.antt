@@ -2,9 +2,9 @@
 use Rattle.std.proofs.Common.{[], ◌∷◌, Some, None, true, false}
 use Rattle.image_file.specs.Spelled.{Spelled}
 use Rattle.image_file.specs.declared.part.PartClass.TheVariants.{Executable, ReadOnly}
-use Rattle.image_file.specs.declared.symbol.SymbolBinding.TheVariants.{Local, Global}
-use Rattle.image_file.specs.declared.symbol.SymbolType.TheVariants.{NoType, Func, Tls}
-use Rattle.image_file.specs.declared.symbol.Visibility.TheVariants.{Default}
+use Rattle.elf_records.specs.declared.symbol.SymbolBinding.TheVariants.{Local, Global}
+use Rattle.elf_records.specs.declared.symbol.SymbolType.TheVariants.{NoType, Func, Tls}
+use Rattle.elf_records.specs.declared.symbol.Visibility.TheVariants.{Default}
 use Rattle.image_rules.specs.declared.places.FileKind.TheVariants.{Exe as ExeFile}
 
 -- a program of one function, which reads its one thread-local variable, 42

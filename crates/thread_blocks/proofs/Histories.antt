@@ -14,7 +14,7 @@ use Rattle.thread_blocks.specs.RunTime.{Runs, thread_turns}
 use Rattle.thread_blocks.specs.Turns.{Thread, at_number, event_of, next_line, whole_order, with_event}
 
 -- an event that is not refused
-is_event : {R : Type 0} (refusal : Option R) (e found : Event) → unless_refused refusal e ≡ Some found
+pub is_event : {R : Type 0} (refusal : Option R) (e found : Event) → unless_refused refusal e ≡ Some found
     → (is_none refusal ≡ true) × (e ≡ found)
 is_event None e found same = (refl, cc)
 is_event (Some refusal) e found same = cc

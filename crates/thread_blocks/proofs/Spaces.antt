@@ -9,7 +9,8 @@ use Rattle.guest_machine.specs.Ranges.{Range, grants, byte_in, with_byte, range_
 use Rattle.guest_machine.specs.Run.{run, machine, machine_of}
 use Rattle.guest_machine.specs.Use.{After}
 use Rattle.guest_arithmetic.specs.Values.{Operations}
-use Rattle.thread_blocks.specs.Spaces.{Space, stack_range, ranges_of, address_space_of, put_byte, unless_shut, space_accesses, open_everywhere, no_field, NoneWritable, IsImage, after_of, outcome_image, IsRunImage, FoundAlike, SameRange, SameSpace}
+use Rattle.thread_blocks.specs.Spaces.{Space, stack_range, ranges_of, address_space_of, put_byte, space_accesses, open_everywhere, no_field, NoneWritable, IsImage, after_of, outcome_image, IsRunImage, FoundAlike, SameRange, SameSpace}
+use Rattle.guest_operands.specs.Access.{unless_shut}
 use Rattle.thread_blocks.proofs.Image.{machine_image, run_image}
 
 -- ** a space as its ranges

@@ -5,9 +5,9 @@ use Rattle.guest_operands.specs.declared.stop.Stop.TheVariants.{Returned, Addres
 use Rattle.image_faults.specs.declared.loader_kind.LoaderKind.TheVariants.{ThreadOffset, Descriptor}
 use Rattle.image_file.specs.Spelled.{Spelled}
 use Rattle.image_file.specs.declared.part.PartClass.TheVariants.{Executable, ReadOnly, Writable}
-use Rattle.image_file.specs.declared.symbol.SymbolBinding.TheVariants.{Local, Global}
-use Rattle.image_file.specs.declared.symbol.SymbolType.TheVariants.{NoType, Func, Tls}
-use Rattle.image_file.specs.declared.symbol.Visibility.TheVariants.{Default}
+use Rattle.elf_records.specs.declared.symbol.SymbolBinding.TheVariants.{Local, Global}
+use Rattle.elf_records.specs.declared.symbol.SymbolType.TheVariants.{NoType, Func, Tls}
+use Rattle.elf_records.specs.declared.symbol.Visibility.TheVariants.{Default}
 use Rattle.image_rules.specs.declared.places.FileKind.TheVariants.{Exe as ExeFile, Pie as PieFile, Module as ModuleFile}
 use Rattle.job_text.specs.declared.thread_lines.Action.TheVariants.{Call, Open, Close, Peek}
 use Rattle.link_faults.specs.declared.image_kind.ImageKind.TheVariants.{Exe, Pie, Start, Late}

@@ -3,7 +3,7 @@
 use Rattle.std.specs.Prelude.{◌+◌, ◌&&◌, ℕ, not, suc, List, [], ◌∷◌, Option, Some, None, option_and_then, option_map, if◌then◌else◌}
 use Rattle.std.specs.List.{filter, find}
 use Rattle.guest_machine.specs.Ranges.{Range}
-use Rattle.image_file.specs.Spelled.{Part, Spelled}
+use Rattle.image_file.specs.Spelled.{Part, Spelled, is_writable}
 use Rattle.loaded_modules.specs.declared.instance.Instance.{Instance}
 use Rattle.loaded_modules.specs.Images.{JobImages, image_at, infos, last_offset}
 use Rattle.loaded_modules.specs.Loader.{bias, fresh_block, part_bytes}
@@ -11,7 +11,7 @@ use Rattle.thread_blocks.specs.Instances.{Loads}
 use Rattle.image_names.specs.declared.variable.Variable.{Variable}
 use Rattle.image_names.specs.Functions.{entry_in}
 use Rattle.image_names.specs.Variables.{variable_in}
-use Rattle.thread_blocks.specs.Loading.{is_code, is_loaders, is_written}
+use Rattle.thread_blocks.specs.Loading.{is_code, is_loaders}
 
 -- part i of an image, in an instance
 abbrev pub instance_part : JobImages → Spelled → Instance → ℕ → Part → Range ℕ
@@ -19,7 +19,7 @@ instance_part m image x i part = record {
   start = part.address + bias image.kind x.number;
   bytes = part_bytes m image x part;
   readable = not (is_code part.class);
-  writable = is_written part.class && not (is_loaders image.got i);
+  writable = is_writable part.class && not (is_loaders image.got i);
   runnable = is_code part.class;
 }
 
@@ -39,7 +39,7 @@ abbrev pub written_from : List Part → List (Range ℕ) → List (Range ℕ)
 written_from [] ranges = []
 written_from (part ∷ parts) [] = []
 written_from (part ∷ parts) (range ∷ ranges) =
-    if is_written part.class then range ∷ written_from parts ranges else written_from parts ranges
+    if is_writable part.class then range ∷ written_from parts ranges else written_from parts ranges
 
 abbrev pub tables_in : JobImages → Instance → Option Spelled → List (Range ℕ)
 tables_in m x None = []

@@ -2,12 +2,13 @@
 use Rattle.std.specs.Prelude.{◌≡◌, ℕ, ◌-◌, Bool, true, false, List, [], ◌∷◌, ◌++◌, slice_set, Option, Some, None, Result, Ok, Err, ok_or, option_and_then, if◌then◌else◌}
 use Rattle.guest_operands.specs.declared.space.Access.TheVariants.{Read, Write, Run}
 use Rattle.guest_operands.specs.declared.stop.Stop.{Stop}
-use Rattle.guest_machine.specs.Access.{Refusal, Refused, Shut, Accesses, reached}
+use Rattle.guest_machine.specs.Access.{Refused, Accesses, reached}
 use Rattle.guest_machine.specs.Follow.{All2}
 use Rattle.guest_machine.specs.Ranges.{Range, AddressSpace, grants, byte_in, with_byte}
 use Rattle.guest_machine.specs.Run.{Next, Goes, Ends, Looks, Outcome, Ended, Waits, Stepping}
 use Rattle.guest_machine.specs.Use.{After, left}
 use Rattle.guest_arithmetic.specs.Values.{Operations}
+use Rattle.guest_operands.specs.Access.{unless_shut}
 
 -- E: an event, B: a byte
 pub record Space (E B : Type 0) : Type 0 where
@@ -36,11 +37,6 @@ put_byte start space place byte =
     if grants Write (stack_range start space.stack) place
     then record space { stack = slice_set space.stack (place - start) byte }
     else record space { own = with_byte space.own place byte }
-
--- an access, unless the address is the linker's own
-abbrev pub unless_shut : {A : Type 0} → Bool → Result A Refusal → Result A Refusal
-unless_shut true access = Err Shut
-unless_shut false access = access
 
 -- the accesses that such a memory offers; shut: the addresses that are the linker's own after these events
 unfoldable pub space_accesses : {W F E B : Type 0} → Operations W F B → ℕ → (List E → List (Range B))

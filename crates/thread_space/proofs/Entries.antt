@@ -1,14 +1,11 @@
 -- Functions begin at low addresses, and images are moved by little.
-use Rattle.std.proofs.Common.{◌≡◌, ◌∙◌, ◌+◌, ◌-◌, ◌^◌, ◌<◌, ◌≤◌, ◌==◌, ◌&&◌, ℕ, zero, suc, Bool, true, false, List, [], ◌∷◌, ◌++◌, length, Bor, Option, Some, None, refl, sym, ap, subst, inl, inr, arith}
-use Rattle.std.specs.Prelude.{if◌then◌else◌, not, option_map, slice_range, drop, take}
+use Rattle.std.proofs.Common.{◌≡◌, ◌∙◌, ◌+◌, ◌-◌, ◌^◌, ◌<◌, ◌≤◌, ◌==◌, ◌&&◌, ℕ, zero, suc, Bool, true, false, List, [], ◌∷◌, ◌++◌, length, Some, None, refl, sym, ap, subst, inl, inr, arith}
+use Rattle.std.specs.Prelude.{if◌then◌else◌, not, slice_range, drop, take}
 use Rattle.std.specs.List.{list_any, slice_get}
-use Rattle.std.specs.Slice.{IsItemAt}
-use Rattle.std.proofs.lemmas.Bool.{cases_Bool, cases_lt, ltb-true}
+use Rattle.std.proofs.lemmas.Bool.{cases_Bool, ltb-true}
 use Rattle.std.proofs.lemmas.List.{length-take, take_more}
-use Rattle.std.proofs.lemmas.Option.{cond_some, get_or_from_slice_get, option_and_then_some, slice_get_past, slice_get_read, slice_get_within}
+use Rattle.std.proofs.lemmas.Option.{cond_some, get_or_from_slice_get, option_and_then_some, slice_get_within}
 use Rattle.elf_records.specs.declared.file_header.TheConstants.{ET_EXEC}
-use Rattle.image_rules.specs.declared.places.FileKind.{FileKind}
-use Rattle.image_rules.specs.declared.places.FileKind.TheVariants.{Exe, Pie, Module}
 use Rattle.image_rules.specs.declared.rule.Rule.TheVariants.{Segment as SegmentRule}
 use Rattle.image_faults.specs.Faults.{Breaks, IsImage}
 use Rattle.image_faults.specs.Parts.{base, header, loads, segment}
@@ -16,22 +13,13 @@ use Rattle.image_faults.specs.Segments.{IsRightLoad}
 use Rattle.image_file.specs.declared.symbol.ImageSymbol.{ImageSymbol}
 use Rattle.image_file.specs.Spelled.{Part, Spelled, part, parts, spelled}
 use Rattle.image_file.specs.Tabled.{length-tabled, tabled_at}
-use Rattle.image_names.specs.Functions.{entry_in, function_place, is_code, is_tls, runs_at}
-use Rattle.loaded_modules.specs.declared.instance.Instance.{Instance}
+use Rattle.image_names.specs.Functions.{entry_in, function_place, is_code, runs_at}
+use Rattle.elf_records.specs.Symbols.{is_tls}
 use Rattle.loaded_modules.specs.Images.{JobImages, image_at}
-use Rattle.loaded_modules.specs.Loader.{bias, bias_in, bias_of}
+use Rattle.loaded_modules.proofs.TlsKept.{at_most}
+use Rattle.module_data.proofs.Low.{base_low, inside}
 
 -- ** parts
-
-at_most : (m n : ℕ) → ((m ≤ n → ⊥) → ⊥) → m ≤ n
-at_most m n h = elim (cases_lt n m) [
-  | inl more ↦ absurd (h (λ within. omega (arith, more, within)))
-  | inr within ↦ within
-]
-
-base_low : (t : Bool) → (if t then 0x400000 else 0) ≤ 0x400000
-base_low true = omega arith
-base_low false = omega arith
 
 fits : (b : List ℕ) (i : ℕ) → IsRightLoad b i → (segment b i).vaddr + (segment b i).filesz ≤ base b + 2 ^ 26
 fits b i right = omega (arith, right.3.1, right.2.0)
@@ -48,9 +36,6 @@ short xs from size = omega (arith, length-take (from + size - from) (drop from x
 part_ends : (b : List ℕ) → IsImage b → (i : ℕ) → i < loads b → (part b i).address + length (part b i).bytes ≤ 2 ^ 32
 unfolding part
 part_ends b image i within = omega (arith, load_ends b image i within, short b (segment b i).offset (segment b i).filesz)
-
-inside : (x y : Part) → Some x ≡ Some y → x ≡ y
-inside x y e = cc
 
 found_ends : (b : List ℕ) → IsImage b → (i : ℕ) (p : Part) → slice_get (parts b) i ≡ Some p → p.address + length p.bytes ≤ 2 ^ 32
 found_ends b image i p is =
@@ -106,35 +91,12 @@ entry_low image (b, (is, spells)) name place says =
 
 -- ** moves
 
-move_low : (kind : FileKind) (n : ℕ) → n < 2 ^ 32 → bias kind n < 2 ^ 59
-unfolding bias
-move_low Exe n small = omega arith
-move_low Pie n small = omega (arith, small)
-move_low Module n small = omega (arith, small)
-
-in_low : (x : Instance) (image : Option Spelled) → x.number < 2 ^ 32 → bias_in x image < 2 ^ 59
-in_low x None small = omega arith
-in_low x (Some image) small = move_low image.kind x.number small
-
-pub bias_low : (m : JobImages) (x : Instance) → x.number < 2 ^ 32 → bias_of m x < 2 ^ 59
-unfolding bias_of
-bias_low m x small = in_low x (image_at m x.image) small
-
 -- ** images by their numbers
-
-pub at_none : (m : JobImages) (number : ℕ) → number ≡ 0 → None ≡ image_at m number
-unfolding image_at
-at_none m zero is = refl
-at_none m (suc n) is = absurd (cc is)
 
 pub at_some : (m : JobImages) (number : ℕ) → (number ≡ 0 → ⊥) → slice_get m.images (number - 1) ≡ image_at m number
 unfolding image_at
 at_some m zero is = absurd (is refl)
 at_some m (suc n) is = ap (slice_get m.images) (omega arith)
-
-pub seen : {X : Type 0} (xs : List X) (i : ℕ) (r : Option (Bor X)) → IsItemAt xs i r → option_map (λ (b : Bor X). b.now) r ≡ slice_get xs i
-seen xs i None is = sym (slice_get_past xs i is.3)
-seen xs i (Some b) is = sym (slice_get_read xs (length xs) i b.now refl is.3.0 is.1)
 
 -- ** images one by one
 

@@ -24,7 +24,8 @@ use Rattle.thread_space.proofs.BytesHeld.{bytes_held, data_kept}
 use Rattle.thread_space.proofs.Live.{live_is, loaded_live, same_number}
 use Rattle.thread_space.proofs.Looks.{held_each, look_block, none_fresh, or_none, seen_live}
 use Rattle.thread_space.proofs.Owners.{data_behind, no_blocks, shared_no_blocks}
-use Rattle.thread_space.proofs.PiecesHeld.{loaded_other, loaded_own}
+use Rattle.thread_space.proofs.PiecesHeld.{loaded_own}
+use Rattle.module_data.proofs.Written.{loads_leave_others as loaded_other}
 use Rattle.thread_space.proofs.SharedIs.{range_is}
 use Rattle.thread_vector.specs.Holding.{IsLeftBy}
 use Rattle.thread_vector.specs.Vectors.{Vector, caught_up, held, loaded_as}

@@ -1,13 +1,11 @@
 -- The parts of an instance lie low: two words that lie in one end below 2^64.
-use Rattle.std.proofs.Common.{◌≡◌, ◌∙◌, ◌+◌, ◌-◌, ◌^◌, ◌<◌, ◌≤◌, ◌==◌, ℕ, Bool, true, false, List, [], ◌∷◌, drop, fold, length, Option, Some, None, refl, sym, ap, subst, inl, inr, arith}
+use Rattle.std.proofs.Common.{◌≡◌, ◌∙◌, ◌+◌, ◌-◌, ◌^◌, ◌<◌, ◌≤◌, ◌==◌, ℕ, Bool, true, false, List, [], ◌∷◌, drop, fold, length, Some, refl, sym, ap, subst, inl, arith}
 use Rattle.std.specs.Prelude.{◌&&◌, if◌then◌else◌, nat_le, slice_get, slice_range}
-use Rattle.std.proofs.lemmas.Bool.{cases_lt, false≢true, leb-true}
+use Rattle.std.proofs.lemmas.Bool.{false≢true, leb-true}
 use Rattle.std.proofs.lemmas.List.{length-take}
 use Rattle.std.proofs.lemmas.Option.{slice_get_within}
 use Rattle.elf_records.specs.Laws.{length-splice}
 use Rattle.elf_records.specs.declared.file_header.TheConstants.{ET_EXEC}
-use Rattle.image_rules.specs.declared.places.FileKind.{FileKind}
-use Rattle.image_rules.specs.declared.places.FileKind.TheVariants.{Exe, Module, Pie}
 use Rattle.image_rules.specs.declared.rule.Rule.TheVariants.{Segment as SegmentRule}
 use Rattle.image_faults.specs.Faults.{Breaks, IsImage}
 use Rattle.image_faults.specs.Parts.{base, header, loads, segment}
@@ -17,9 +15,11 @@ use Rattle.image_file.specs.Spelled.{Part, Spelled, part, parts, spelled}
 use Rattle.image_file.specs.Tabled.{length-tabled, tabled_at}
 use Rattle.loaded_modules.specs.declared.instance.Instance.{Instance}
 use Rattle.loaded_modules.specs.Images.{JobImages, image_at}
-use Rattle.loaded_modules.specs.Loader.{bias, bias_in, bias_of, lies_in, loaded_part, part_bytes, relocation_bytes, with_relocation, with_written}
+use Rattle.loaded_modules.specs.Loader.{bias_of, lies_in, loaded_part, part_bytes, relocation_bytes, with_relocation, with_written}
 use Rattle.thread_space.specs.Places.{behind}
 use Rattle.thread_space.proofs.PartBytes.{behind_some, part_here}
+use Rattle.loaded_modules.proofs.TlsKept.{at_most}
+use Rattle.module_data.proofs.Low.{base_low, inside as same_part}
 
 -- ** the part of an image
 
@@ -49,16 +49,6 @@ length-part_bytes m image x part = fold_long m image x part image.relocations pa
 
 -- ** where parts end
 
-at_most : (m n : ℕ) → ((m ≤ n → ⊥) → ⊥) → m ≤ n
-at_most m n h = elim (cases_lt n m) [
-  | inl more ↦ absurd (h (λ within. omega (arith, more, within)))
-  | inr within ↦ within
-]
-
-base_low : (t : Bool) → (if t then 0x400000 else 0) ≤ 0x400000
-base_low true = omega arith
-base_low false = omega arith
-
 fits : (b : List ℕ) (i : ℕ) → IsRightLoad b i → (segment b i).vaddr + (segment b i).filesz ≤ base b + 2 ^ 26
 fits b i right = omega (arith, right.2.0, right.3.1)
 
@@ -70,9 +60,6 @@ load_low b image i within =
 
 range_long : (xs : List ℕ) (from n : ℕ) → length (slice_range xs from (from + n)) ≤ n
 range_long xs from n = let e : from + n - from ≡ n = omega arith in rw e (omega (arith, length-take n (drop from xs)))
-
-same_part : (x y : Part) → Some x ≡ Some y → x ≡ y
-same_part x y e = cc
 
 found_low : (b : List ℕ) → IsImage b → (i : ℕ) (p : Part) → slice_get (parts b) i ≡ Some p → p.address + length p.bytes < 2 ^ 27
 unfolding part
@@ -87,20 +74,6 @@ pub part_low : (image : Spelled) → (b : List ℕ) × (IsImage b × (image ≡ 
 part_low image (b, (is, spells)) i p at = found_low b is i p (ap (λ (s : Spelled). slice_get s.parts i) (sym spells) ∙ at)
 
 -- ** moves
-
-move_low : (kind : FileKind) (n : ℕ) → n < 2 ^ 32 → bias kind n < 2 ^ 59
-unfolding bias
-move_low Exe n small = omega arith
-move_low Pie n small = omega (arith, small)
-move_low Module n small = omega (arith, small)
-
-in_low : (x : Instance) (image : Option Spelled) → x.number < 2 ^ 32 → bias_in x image < 2 ^ 59
-in_low x None small = omega arith
-in_low x (Some image) small = move_low image.kind x.number small
-
-pub bias_low : (m : JobImages) (x : Instance) → x.number < 2 ^ 32 → bias_of m x < 2 ^ 59
-unfolding bias_of
-bias_low m x small = in_low x (image_at m x.image) small
 
 -- ** two words
 

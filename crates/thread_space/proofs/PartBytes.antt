@@ -12,12 +12,12 @@ use Rattle.guest_operands.specs.declared.space.Access.TheVariants.{Read, Run, Wr
 use Rattle.guest_operands.specs.Ranges.{Range, byte_in}
 use Rattle.image_file.specs.declared.part.PartClass.{PartClass}
 use Rattle.image_file.specs.declared.part.PartClass.TheVariants.{Executable, ReadOnly, Writable}
-use Rattle.image_file.specs.Spelled.{Part, Spelled}
+use Rattle.image_file.specs.Spelled.{Part, Spelled, is_writable}
 use Rattle.loaded_modules.specs.declared.instance.Instance.{Instance}
 use Rattle.loaded_modules.specs.Images.{JobImages, image_at}
 use Rattle.loaded_modules.specs.Loader.{bias, bias_of, loaded_part, part_bytes}
 use Rattle.thread_blocks.specs.JobLoads.{instance_part, job_loads, parts_from, written_from}
-use Rattle.thread_blocks.specs.Loading.{is_code, is_loaders, is_written}
+use Rattle.thread_blocks.specs.Loading.{is_code, is_loaders}
 use Rattle.thread_blocks.specs.RunTime.{has_words}
 use Rattle.thread_space.specs.OfParts.{allows_fixed, byte_of_part, fixed_ranges, part_has_words}
 use Rattle.thread_space.specs.Places.{behind}
@@ -26,7 +26,7 @@ use Rattle.thread_space.proofs.Sought.{looked}
 -- ** one range before others
 
 pub by_class : (access : Access) (class : PartClass) (is_loaders : Bool) (start place : ℕ) (bytes : List ℕ) (rest : List (Range ℕ))
-    → byte_in access (fixed_ranges (record { start = start; bytes = bytes; readable = not (is_code class); writable = is_written class && not is_loaders; runnable = is_code class } ∷ rest)) place
+    → byte_in access (fixed_ranges (record { start = start; bytes = bytes; readable = not (is_code class); writable = is_writable class && not is_loaders; runnable = is_code class } ∷ rest)) place
     ≡ option_or (cond (allows_fixed access class is_loaders) (option_and_then (slice_get bytes) (behind start place)) None)
     (byte_in access (fixed_ranges rest) place)
 by_class Read Executable b start place bytes rest = refl
@@ -87,7 +87,7 @@ module _ (m : JobImages) (image : Spelled) (x : Instance) where
   words_next address i within =
       let part = get_or image.parts i (record { class = Executable; address = 0; bytes = [] }) in
       rw (add-one, slice_get-get_or image.parts i (record { class = Executable; address = 0; bytes = [] }) within, drop-cons image.parts i (record { class = Executable; address = 0; bytes = [] }))
-      (by_written (is_written part.class) (instance_part m image x i part) (written_from (drop (suc i) image.parts) (parts_from m image x (suc i) (drop (suc i) image.parts))))
+      (by_written (is_writable part.class) (instance_part m image x i part) (written_from (drop (suc i) image.parts) (parts_from m image x (suc i) (drop (suc i) image.parts))))
     where
       by_written : (b : Bool) (range : Range ℕ) (rest : List (Range ℕ))
           → list_any (has_words address) (cond b (range ∷ rest) rest) ≡ ((b && has_words address range) || list_any (has_words address) rest)
@@ -191,7 +191,7 @@ module _ (m : JobImages) (image : Spelled) (x : Instance) (i : ℕ) (there : ima
       by_test true = refl
       by_test false = refl
 
-  pub words_read : (address at : ℕ) (part : Part) → slice_get image.parts i ≡ Some part → is_written part.class ≡ true
+  pub words_read : (address at : ℕ) (part : Part) → slice_get image.parts i ≡ Some part → is_writable part.class ≡ true
       → behind (part.address + bias_of m x) address ≡ Some at
       → nat_le (at + 16) (length (loaded_part m x i)) ≡ part_has_words m image x i address (slice_get image.parts i)
   words_read address at part is written begins =
@@ -200,4 +200,4 @@ module _ (m : JobImages) (image : Spelled) (x : Instance) (i : ℕ) (there : ima
   pub no_words_read : (address : ℕ) (part : Part) → slice_get image.parts i ≡ Some part
       → behind (part.address + bias_of m x) address ≡ None → false ≡ part_has_words m image x i address (slice_get image.parts i)
   no_words_read address part is begins =
-      rw is (before_is (is_written part.class) (part.address + bias image.kind x.number) address (length (part_bytes m image x part)) (rw bias_here at begins))
+      rw is (before_is (is_writable part.class) (part.address + bias image.kind x.number) address (length (part_bytes m image x part)) (rw bias_here at begins))

@@ -7,21 +7,16 @@ use Rattle.std.proofs.lemmas.Option.{same_Some, none-some}
 use Rattle.guest_machine.specs.Ranges.{Range}
 use Rattle.image_file.specs.declared.part.PartClass.{PartClass}
 use Rattle.image_file.specs.declared.part.PartClass.TheVariants.{Executable, ReadOnly, Writable}
-use Rattle.image_file.specs.Spelled.{Part, Spelled}
+use Rattle.image_file.specs.Spelled.{Part, Spelled, is_writable}
 use Rattle.loaded_modules.specs.declared.instance.Instance.{Instance}
 use Rattle.loaded_modules.specs.Images.{JobImages, image_at}
 use Rattle.loaded_modules.specs.Laws.{start_of}
 use Rattle.loaded_modules.specs.Loader.{bias, loaded_part, part_bytes}
-use Rattle.module_data.specs.Parts.{bytes_at, data_part, data_start, fresh_data, is_data_part, is_number, is_writable, start_in}
+use Rattle.module_data.specs.Parts.{bytes_at, data_part, data_start, fresh_data, is_data_part, is_number, start_in}
 use Rattle.thread_blocks.specs.JobLoads.{instance_part, job_loads, parts_from, parts_of}
-use Rattle.thread_blocks.specs.Loading.{is_loaders, is_written}
+use Rattle.thread_blocks.specs.Loading.{is_loaders}
 
 -- ** which part
-
-written_same : (class : PartClass) → is_written class ≡ is_writable class
-written_same Executable = refl
-written_same ReadOnly = refl
-written_same Writable = refl
 
 number_same : (got : Option ℕ) (i : ℕ) → is_loaders got i ≡ is_number got i
 number_same None i = refl
@@ -35,7 +30,7 @@ module _ (m : JobImages) (x : Instance) (image : Spelled) where
   tests_same : (i : ℕ) (part : Part) → slice_get image.parts i ≡ Some part
       → (instance_part m image x i part).writable ≡ is_data_part image i
   unfolding is_data_part
-  tests_same i part is = rw (is, written_same part.class, number_same image.got i) refl
+  tests_same i part is = rw (is, number_same image.got i) refl
 
   -- the first of those from part i on
   first_of_two : (b c : Bool) (i : ℕ) (range : Range ℕ) (more : Option (Range ℕ)) (rest : Option ℕ) → b ≡ c
@@ -77,7 +72,7 @@ passes p (x ∷ xs) i found = elim (cases_Bool (p x)) [
 
 -- a part of a class that is written is read, and not run
 as_written : (m : JobImages) (image : Spelled) (x : Instance) (i : ℕ) (part : Part) (class : PartClass) → part.class ≡ class
-    → (is_written class && not (is_loaders image.got i)) ≡ true
+    → (is_writable class && not (is_loaders image.got i)) ≡ true
     → instance_part m image x i part ≡ written_range (part_bytes m image x part) (start_of image.kind x.number part)
 as_written m image x i part Executable is t = absurd (true≢false (sym t))
 as_written m image x i part ReadOnly is t = absurd (true≢false (sym t))

@@ -27,7 +27,7 @@ use Rattle.thread_vector.specs.Vectors.{Vector, fresh, held}
 use Rattle.thread_vector.proofs.Facts.{facts}
 use Rattle.thread_vector.proofs.Stepping.{fresh_at}
 
-begins : (m : JobImages) → past (infos m) (last_offset m) [] ≡ start (infos m) (last_offset m)
+pub begins : (m : JobImages) → past (infos m) (last_offset m) [] ≡ start (infos m) (last_offset m)
 unfolding past
 begins m = refl
 

@@ -5,18 +5,18 @@ use Rattle.guest_operands.specs.declared.space.Access.{Access}
 use Rattle.guest_operands.specs.declared.space.Access.TheVariants.{Read, Run, Write}
 use Rattle.guest_operands.specs.Ranges.{Range}
 use Rattle.image_file.specs.declared.part.PartClass.{PartClass}
-use Rattle.image_file.specs.Spelled.{Part, Spelled}
+use Rattle.image_file.specs.Spelled.{Part, Spelled, is_writable}
 use Rattle.loaded_modules.specs.declared.instance.Instance.{Instance}
 use Rattle.loaded_modules.specs.Images.{JobImages}
 use Rattle.loaded_modules.specs.Loader.{bias, part_bytes}
 use Rattle.thread_blocks.specs.JobLoads.{instance_part}
-use Rattle.thread_blocks.specs.Loading.{is_code, is_loaders, is_written}
+use Rattle.thread_blocks.specs.Loading.{is_code, is_loaders}
 use Rattle.thread_blocks.specs.RunTime.{has_words}
 use Rattle.thread_space.specs.Places.{behind}
 
 -- the accesses that a part allows, if no thread writes it
 abbrev pub allows_fixed : Access → PartClass → Bool → Bool
-allows_fixed Read class is_loaders = not (is_code class) && not (is_written class && not is_loaders)
+allows_fixed Read class is_loaders = not (is_code class) && not (is_writable class && not is_loaders)
 allows_fixed Write class is_loaders = false
 allows_fixed Run class is_loaders = is_code class
 
@@ -41,4 +41,4 @@ module _ (m : JobImages) (image : Spelled) (x : Instance) (i : ℕ) where
   -- whether the part is written, and holds the 16 bytes from an address on
   abbrev pub part_has_words : ℕ → Option Part → Bool
   part_has_words address None = false
-  part_has_words address (Some part) = is_written part.class && has_words address (instance_part m image x i part)
+  part_has_words address (Some part) = is_writable part.class && has_words address (instance_part m image x i part)

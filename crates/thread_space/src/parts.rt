@@ -7,7 +7,7 @@ ghost use Rattle.loaded_modules.specs.Images.{image_at};
 ghost use Rattle.loaded_modules.specs.Loader.{bias_of, loaded_part};
 ghost use Rattle.thread_blocks.specs.Instances.{fixed_of};
 ghost use Rattle.thread_blocks.specs.JobLoads.{job_loads, parts_from, written_from};
-ghost use Rattle.thread_blocks.specs.Loading.{is_code, is_loaders, is_written};
+ghost use Rattle.thread_blocks.specs.Loading.{is_code, is_loaders};
 ghost use Rattle.thread_blocks.specs.RunTime.{has_words};
 ghost use Rattle.thread_space.specs.Kept.{live_in};
 ghost use Rattle.thread_space.specs.OfParts.{allows_fixed, byte_of_part, fixed_ranges, is_near, part_has_words};
@@ -31,12 +31,6 @@ pub(crate) fn is_code(class: PartClass) -> bool
     matches!(class, PartClass::Executable)
 }
 
-fn is_written(class: PartClass) -> bool
-    ensures { result ≡ is_written class }
-{
-    matches!(class, PartClass::Writable)
-}
-
 /// Whether a part is the one that only the loader writes.
 fn is_loaders(got: Option<u64>, number: u64) -> bool
     ensures { result ≡ is_loaders got number }
@@ -52,7 +46,7 @@ fn allows_fixed(access: Access, class: PartClass, is_loaders: bool) -> bool
     ensures { result ≡ allows_fixed access class is_loaders }
 {
     match access {
-        Access::Read => !is_code(class) && !(is_written(class) && !is_loaders),
+        Access::Read => !is_code(class) && !(class.is_writable() && !is_loaders),
         Access::Write => false,
         Access::Run => is_code(class),
     }
@@ -203,7 +197,7 @@ impl<'m> ThreadSpace<'m> {
         let Some(part) = image.part(number) else {
             return false;
         };
-        if !is_written(part.class) {
+        if !part.class.is_writable() {
             return false;
         }
         match behind_part(part.address, self.bias(instance), address) {

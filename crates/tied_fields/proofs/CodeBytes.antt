@@ -32,7 +32,8 @@ use Rattle.link_needs.specs.Needs.{is_kept}
 use Rattle.link_needs.specs.Values.{is_replaced}
 use Rattle.loaded_bytes.proofs.Classes.{class_below}
 use Rattle.loaded_bytes.proofs.Elsewhere.{elsewhere}
-use Rattle.loaded_bytes.proofs.FieldBytes.{loaded_is, shared}
+use Rattle.loaded_bytes.proofs.FieldBytes.{loaded_is}
+use Rattle.link_core.proofs.StandingFields.{shared}
 use Rattle.loaded_bytes.proofs.Finds.{found_is, none_found, none_passes}
 use Rattle.loaded_bytes.proofs.Meant.{byte_there, held, in_range}
 use Rattle.loaded_bytes.proofs.Sections.{sections_stand}
@@ -62,14 +63,11 @@ use Rattle.whole_meaning.specs.Loads.{code_range, constant_range, loads_of, mean
 use Rattle.whole_meaning.specs.Spots.{Spot, begin_of, bias_of, in_room, moved_spot, spot_in}
 use Rattle.tied_fields.proofs.Marks.{IsAt, at_spot, mark_is}
 use Rattle.tied_fields.proofs.Fields.{bound, covered_so, covers_so, not_of_sequence, stays}
+use Rattle.link_core.proofs.TogetherPlaces.{second as second_part}
 
 first_part : (a b : Bool) → (a && b) ≡ true → a ≡ true
 first_part true b e = refl
 first_part false b e = e
-
-second_part : (a b : Bool) → (a && b) ≡ true → b ≡ true
-second_part true b e = e
-second_part false b e = absurd (cc)
 
 both : (a b : Bool) → a ≡ true → b ≡ true → (a && b) ≡ true
 both true b e f = f

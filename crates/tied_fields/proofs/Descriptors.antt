@@ -9,7 +9,7 @@ use Rattle.std.specs.Str.{bytes_eq}
 use Rattle.std.proofs.lemmas.List.Elements.{All-contains}
 use Rattle.std.proofs.lemmas.Option.{same_Some}
 use Rattle.elf_object.specs.declared.relocation.Relocation.{Relocation}
-use Rattle.elf_object.specs.declared.symbol.SymbolBinding.TheVariants.{Local}
+use Rattle.elf_records.specs.declared.symbol.SymbolBinding.TheVariants.{Local}
 use Rattle.elf_object.specs.Laws.{symbols_few}
 use Rattle.elf_object.specs.Lent.{symbol_binding, symbol_name}
 use Rattle.elf_object.specs.Parts.{symbol_count}
@@ -31,7 +31,8 @@ use Rattle.sequence_match.proofs.SitesSymbols.{sites_symbols}
 use Rattle.sequence_match.specs.Sites.{first_of}
 use Rattle.thread_blocks.specs.Turns.{at_number}
 use Rattle.tls_symbols.proofs.Within.{binding_within, definition_within}
-use Rattle.tls_symbols.specs.Bindings.{bound_to, IsBindingWithin, binding_of, first_export, get_address, here_or, may_import}
+use Rattle.tls_symbols.specs.Bindings.{bound_to, IsBindingWithin, binding_of, first_export, here_or, may_import}
+use Rattle.elf_records.specs.Symbols.{get_address}
 use Rattle.tls_symbols.specs.Bindings.{object_at}
 use Rattle.tls_symbols.specs.Bindings.{of_startup}
 use Rattle.tls_symbols.specs.Definitions.{IsWithin, definition_of, same_binding}

@@ -26,7 +26,8 @@ use Rattle.link_core.specs.Laws.{HasNoStray}
 use Rattle.link_needs.specs.Given.{IsGiven}
 use Rattle.link_needs.specs.Linking.{Linking, binding, object, place, sites_at}
 use Rattle.link_needs.specs.Values.{field, is_replaced}
-use Rattle.loaded_bytes.proofs.FieldBytes.{loaded_is, shared}
+use Rattle.loaded_bytes.proofs.FieldBytes.{loaded_is}
+use Rattle.link_core.proofs.StandingFields.{shared}
 use Rattle.loaded_bytes.proofs.Finds.{found_is, none_found, none_passes}
 use Rattle.loaded_bytes.proofs.Meant.{same_lists}
 use Rattle.loaded_bytes.proofs.Sections.{sections_stand}

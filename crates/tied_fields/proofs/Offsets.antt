@@ -9,7 +9,7 @@ use Rattle.std.proofs.lemmas.Option.{same_Some}
 use Rattle.amd64_subset.specs.Spelling.{field_of}
 use Rattle.elf_object.specs.declared.relocation.Relocation.{Relocation}
 use Rattle.elf_object.specs.Lent.{relocations, symbol_binding, symbol_name}
-use Rattle.elf_object.specs.declared.symbol.SymbolBinding.TheVariants.{Local}
+use Rattle.elf_records.specs.declared.symbol.SymbolBinding.TheVariants.{Local}
 use Rattle.elf_object.specs.Relocations.{field_width}
 use Rattle.elf_records.specs.declared.relocation.RelocationKind.TheVariants.{DtpOff32}
 use Rattle.known_instances.specs.Known.{known_in}
@@ -40,7 +40,8 @@ use Rattle.tied_meaning.specs.Ties.{HasFourBytes}
 use Rattle.tls_relocs.specs.declared.fields.Field.{Field}
 use Rattle.tls_relocs.specs.Fields.{field_bytes}
 use Rattle.tls_relocs.specs.Values.{signed_field, stored_field}
-use Rattle.tls_symbols.specs.Bindings.{binding_of, bound_to, first_export, get_address, here_or, may_import, object_at}
+use Rattle.tls_symbols.specs.Bindings.{binding_of, bound_to, first_export, here_or, may_import, object_at}
+use Rattle.elf_records.specs.Symbols.{get_address}
 use Rattle.tls_symbols.specs.Bindings.{of_startup}
 use Rattle.tls_symbols.specs.Definitions.{definition_of, same_binding}
 use Rattle.whole_meaning.specs.declared.marks.Mark.TheVariants.{Offset}

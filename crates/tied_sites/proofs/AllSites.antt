@@ -23,7 +23,8 @@ use Rattle.tied_sites.proofs.Places.{IsOf, site_of}
 use Rattle.tied_sites.proofs.Standing.{IsRelied}
 use Rattle.tied_sites.specs.Laws.{DescriptorSitesStand, GeneralSitesStand, InitialSitesStand, LocalSitesStand}
 use Rattle.tied_sites.specs.Laws.{SitesStand}
-use Rattle.tied_sites.specs.Laws.{IsGeneral, IsInitial, IsLocal, IsMeant, IsOfDescriptor, StandsInJob}
+use Rattle.tied_sites.specs.Laws.{IsInitial, IsLocal, IsMeant, IsOfDescriptor, StandsInJob}
+use Rattle.whole_meaning.specs.Laws.{IsGeneral}
 
 of_descriptor : (form : Form) → IsOfDescriptor form → is_of_descriptor form ≡ true
 of_descriptor DescLea h = refl

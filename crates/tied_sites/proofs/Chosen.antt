@@ -21,18 +21,12 @@ use Rattle.link_needs.specs.Linking.{Linking, binding, choice, sites_at}
 use Rattle.link_needs.specs.Needs.{as_list, calls, is_kept, need_by, new_relocation, reaching}
 use Rattle.link_needs.specs.Needs.{relocation_need, site_needs, target_by}
 use Rattle.link_needs.specs.Values.{is_rewriting}
-use Rattle.relax_sites.specs.declared.choices.Choice.{Choice}
-use Rattle.relax_sites.specs.declared.choices.Choice.TheVariants.{Keep}
 use Rattle.relax_sites.specs.declared.rows.NewField.{NewField}
 use Rattle.relax_sites.specs.Rows.{new_field}
 use Rattle.sequence_forms.specs.declared.forms.Form.{Form}
 use Rattle.sequence_forms.specs.declared.places.Site.{Site}
 use Rattle.sequence_forms.specs.Forms.{row}
 use Rattle.sequence_match.specs.Sites.{first_of}
-
-pub kept_is : (choice : Choice) → is_kept choice ≡ true → choice ≡ Keep
-kept_is Keep e = refl
-kept_is choice e = absurd (cc)
 
 -- ** where programs are rewritten
 

@@ -35,7 +35,7 @@ use Rattle.tied_sites.proofs.Pairs.{pair_is}
 use Rattle.tied_sites.proofs.Places.{IsHere}
 use Rattle.tied_sites.proofs.Standing.{IsRelied, Name, name, stands_kept, variable, with_variable}
 use Rattle.tied_sites.proofs.Own.{other_written, own_written}
-use Rattle.tied_sites.specs.Laws.{IsGeneral}
+use Rattle.whole_meaning.specs.Laws.{IsGeneral}
 
 gd_first : (row Gd).first ≡ TlsGd
 unfolding row

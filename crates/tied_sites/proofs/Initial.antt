@@ -24,7 +24,7 @@ use Rattle.relax_sites.specs.Rows.{form_length}
 use Rattle.sequence_forms.specs.declared.forms.Form.{Form}
 use Rattle.sequence_forms.specs.declared.forms.Form.TheVariants.{IeMov, IeAdd}
 use Rattle.sequence_forms.specs.declared.places.Site.{Site}
-use Rattle.sequence_forms.specs.Forms.{row}
+use Rattle.sequence_forms.specs.Forms.{is_initial, row}
 use Rattle.sequence_match.specs.Sites.{first_of}
 use Rattle.site_laws.specs.Laws.{second_in}
 use Rattle.thread_blocks.specs.JobLoads.{job_loads}
@@ -32,7 +32,7 @@ use Rattle.tied_meaning.specs.Numbers.{Setting}
 use Rattle.tied_meaning.specs.Sites.{HasWord, LoadsDistance, Stands, first_length}
 use Rattle.whole_meaning.specs.Code.{defined_in, no_variable, sequence_with, variable_by, variable_for}
 use Rattle.whole_meaning.specs.declared.sequences.Sequence.{Sequence}
-use Rattle.whole_meaning.specs.Loads.{is_initial, wants_surplus}
+use Rattle.whole_meaning.specs.Loads.{wants_surplus}
 use Rattle.whole_meaning.specs.Spots.{bias_of}
 use Rattle.tied_sites.proofs.Cells.{kept_stands, loaded}
 use Rattle.tied_sites.proofs.Chosen.{choice_is, kept_entry, needs_word}

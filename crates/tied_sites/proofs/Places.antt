@@ -1,7 +1,7 @@
 -- The site that a sequence of an instance is, and where its bytes stand.
 use Rattle.std.proofs.Common.{◌≡◌, ◌≢◌, ◌∙◌, ◌+◌, ◌-◌, ◌<◌, ◌≤◌, ◌&&◌, ◌==◌, ℕ, Bool, true, false, List, Option, Some}
 use Rattle.std.proofs.Common.{None}
-use Rattle.std.proofs.Common.{IsSome, length, refl, sym, ap, subst, arith, if◌then◌else◌}
+use Rattle.std.proofs.Common.{length, refl, sym, ap, subst, arith, if◌then◌else◌}
 use Rattle.std.specs.Prelude.{nat_lt, option_and_then, option_map, unwrap_or}
 use Rattle.std.specs.List.{Contains, find}
 use Rattle.std.proofs.lemmas.Bool.Decides.{nat_tests}
@@ -31,6 +31,7 @@ use Rattle.tls_layout.specs.Places.{address_of}
 use Rattle.whole_meaning.specs.Code.{no_variable, sequence_in, sequence_of, sequence_with, starts_at, variable_for}
 use Rattle.whole_meaning.specs.declared.sequences.Sequence.{Sequence}
 use Rattle.whole_meaning.specs.Spots.{Spot, begin_of, bias_of, spot_in}
+use Rattle.link_core.proofs.GotRelocationsSites.{has_value}
 
 -- a site of object o of the image, whose section begins at the address, stands at the place of an instance that is so
 -- far moved
@@ -47,10 +48,6 @@ pub record IsOf (ls : List Linking) (l : Linking) (x : Instance) (place : ℕ) (
   pub here : IsHere l (bias_of l.kind x.number) o address site place
   pub is : s ≡ sequence_with ls x.image x.number place site
       (unwrap_or (variable_for ls x.image x.number l o site site.form) no_variable)
-
-has_value : {X : Type 0} (o : Option X) → IsSome o → (x : X) × (o ≡ Some x)
-has_value None h = absurd (cc)
-has_value (Some x) h = (x, refl)
 
 -- a section of code has an address
 code_section : (l : Linking) (o t : ℕ) → o < length l.objects → section_class (object l o) t ≡ Some Executable

@@ -30,6 +30,7 @@ use Rattle.tls_layout.proofs.Together.{page_up-least}
 use Rattle.tls_layout.specs.Places.{address_of}
 use Rattle.tls_relocs.specs.Values.{signed_field, stored_field}
 use Rattle.tied_sites.proofs.Numbers.{Holds, less_held}
+use Rattle.link_core.proofs.NewFields.{distance_field as offset_field}
 
 -- from the end of a field of four bytes at a place to a number, modulo 2^64
 abbrev pub from_end : ℕ → ℕ → ℕ
@@ -68,14 +69,6 @@ call_field : (l : Linking) (o : ℕ) (r : Relocation) (kind : RelocationKind) (b
 call_field l o r Plt32 bound p is e = rw e refl
 call_field l o r Pc32 bound p is e = rw e refl
 call_field l o r _ bound p is e = absurd is
-
-offset_field : (l : Linking) (o : ℕ) (r : Relocation) (kind : RelocationKind) (bound : Option Binding)
-    (found : SymbolRef)
-    (p : ℕ) → kind ≡ TpOff32 → bound ≡ Some (Here found)
-    → stored_field kind (own_number l kind bound) r.addend p (other_number l o r kind)
-    ≡ signed_field ((pos (offset l found) +ℤ r.addend) -ℤ pos (block_offset l))
-offset_field l o r TpOff32 bound found p is e = rw e refl
-offset_field l o r kind bound found p is e = absurd (cc)
 
 module _ (l : Linking) (given : IsGiven l) (limits : FitsTable l) where
   -- where an entry is

@@ -16,7 +16,6 @@ use Rattle.loaded_bytes.specs.Laws.{IsInstanceOf, images_of}
 use Rattle.loaded_modules.specs.declared.instance.Instance.{Instance}
 use Rattle.relax_sites.proofs.Tables.{field_end, row_length}
 use Rattle.relax_sites.specs.declared.choices.Choice.{Choice}
-use Rattle.relax_sites.specs.declared.choices.Choice.TheVariants.{Keep}
 use Rattle.relax_sites.specs.declared.rows.NewField.{NewField}
 use Rattle.relax_sites.specs.Rows.{field_of_zeros, form_length, new_bytes, new_field}
 use Rattle.sequence_forms.specs.declared.places.Site.{Site}
@@ -31,10 +30,7 @@ use Rattle.whole_meaning.specs.Spots.{bias_of}
 use Rattle.tied_sites.proofs.Bytes.{rewritten_byte}
 use Rattle.tied_sites.proofs.Codes.{code_stands}
 use Rattle.tied_sites.proofs.Places.{IsHere, byte_here, usable_here}
-
-pub kept_not : (choice : Choice) → is_kept choice ≡ false → choice ≢ Keep
-kept_not Keep e = absurd (cc)
-kept_not choice e = λ h. cc
+use Rattle.link_core.proofs.StandingSites.{kept_not}
 
 -- the four bytes of a site's new field; zeros where it has none
 abbrev pub four_of : Linking → ℕ → Site → Option NewField → List ℕ

@@ -28,7 +28,8 @@ use Rattle.loaded_words.specs.Laws.{IsKnown}
 use Rattle.module_table.specs.declared.events.Event.{Event}
 use Rattle.thread_blocks.specs.Turns.{at_number}
 use Rattle.tls_symbols.proofs.Within.{definition_within}
-use Rattle.tls_symbols.specs.Bindings.{is_tls_symbol, is_visible}
+use Rattle.tls_symbols.specs.Bindings.{is_tls_symbol}
+use Rattle.elf_records.specs.Symbols.{is_visible}
 use Rattle.tls_symbols.specs.Definitions.{IsWithin, definition_of}
 use Rattle.tls_symbols.specs.Laws.{is_exported_by}
 use Rattle.tied_sites.proofs.Counted.{early_image, starts}

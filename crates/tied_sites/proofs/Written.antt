@@ -39,7 +39,8 @@ use Rattle.tied_sites.proofs.Numbers.{Holds}
 use Rattle.tied_sites.proofs.Places.{IsHere, usable_here}
 use Rattle.tied_sites.proofs.Reaches.{entry_held, entry_low, from_end, leads, offset_held}
 use Rattle.tied_sites.proofs.Rows.{four_of, row_stands}
-use Rattle.tied_sites.proofs.Variables.{here_alike, import_alike}
+use Rattle.link_core.proofs.GotRelocationsNeeds.{bound_alike as import_alike}
+use Rattle.link_core.proofs.NewFields.{here_alike}
 use Rattle.tied_sites.specs.Instances.{IsCounted}
 
 module _ (ls : List Linking) (l : Linking) (x : Instance) (is : IsInstanceOf ls l x) (counted : IsCounted ls l x)

@@ -9,20 +9,15 @@ use Rattle.loaded_modules.specs.declared.instance.Instance.{Instance}
 use Rattle.loaded_words.specs.Laws.{IsKnown}
 use Rattle.module_table.specs.declared.events.Event.{Event}
 use Rattle.sequence_forms.specs.declared.forms.Form.{Form}
-use Rattle.sequence_forms.specs.declared.forms.Form.TheVariants.{Gd, Ld, IeMov, IeAdd, GdInd, LdInd, DescLea, DescCall}
+use Rattle.sequence_forms.specs.declared.forms.Form.TheVariants.{Ld, IeMov, IeAdd, LdInd, DescLea, DescCall}
 use Rattle.thread_blocks.specs.JobLoads.{job_loads}
 use Rattle.tied_fields.specs.Settings.{setting_of}
 use Rattle.tied_meaning.specs.Sites.{Stands}
 use Rattle.whole_meaning.specs.declared.sequences.Sequence.{Sequence}
 use Rattle.whole_meaning.specs.Loads.{meaning_of}
+use Rattle.whole_meaning.specs.Laws.{IsGeneral}
 
 -- ** forms
-
--- general dynamic
-abbrev pub IsGeneral : Form → Type 0
-IsGeneral Gd = Unit {0}
-IsGeneral GdInd = Unit {0}
-IsGeneral form = ⊥
 
 -- local dynamic
 abbrev pub IsLocal : Form → Type 0

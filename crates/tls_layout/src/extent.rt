@@ -3,15 +3,14 @@
 ghost use Rattle.std.specs.Prelude.{◌≡◌, ◌+◌, ◌<◌, ◌≤◌, ◌^◌};
 ghost use Rattle.tls_layout.specs.Rounding.{round_up as rounded_up, page_up as page_after};
 
+use elf_records::alignment::PAGE;
+
 /// Addresses from `start` up to `end`, without `end`.
 #[derive(Clone, Copy, PartialEq, Eq, Debug)]
 pub struct Extent {
     pub start: u64,
     pub end: u64,
 }
-
-/// How many bytes a page has.
-pub const PAGE: u64 = 4096;
 
 /// The least multiple of an alignment at or above an address or offset.
 #[tactic(auto, unfolding(crate::specs::Rounding::round_up))]

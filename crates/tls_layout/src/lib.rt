@@ -49,6 +49,8 @@ mod sections;
 mod statics;
 mod tls_places;
 
-pub use extent::{Extent, PAGE, page_up, round_up};
+pub use elf_records::alignment::PAGE;
+pub use extent::{Extent, page_up, round_up};
 pub use placement::{Placement, place};
+pub use sections::is_class;
 pub use statics::{TlsSize, static_offsets};

@@ -3,6 +3,7 @@
 ghost use Rattle.std.specs.Prelude.{◌≡◌, ◌+◌, ◌<◌, ◌≤◌, ◌^◌, IfOk, IfErr, Some, None, slice_index_or};
 ghost use Rattle.elf_object.specs.Lawful.{IsPower};
 ghost use Rattle.link_faults.specs.ImageKinds.{base_of};
+ghost use Rattle.tls_layout.specs.Laws.{extent_for};
 ghost use Rattle.tls_layout.specs.Sections.{layout_of};
 ghost use Rattle.tls_layout.specs.Places.{class_of, address_of, tls_offset_of, executable as executable_of};
 ghost use Rattle.tls_layout.specs.Places.{read_only as read_only_of, tls_image as tls_image_of};
@@ -133,6 +134,19 @@ impl Placement {
         ensures lawful { IsLawful self.now }
     {
         self.extents.writable
+    }
+
+    /// Where the sections of a class lie.
+    pub fn extent(&self, class: SectionClass) -> Extent
+        ensures extent { result ≡ extent_for class self.now }
+        ensures lawful { IsLawful self.now }
+    {
+        match class {
+            SectionClass::Executable => self.executable(),
+            SectionClass::ReadOnly => self.read_only(),
+            SectionClass::Tls { .. } => self.tls_image(),
+            SectionClass::Writable { .. } => self.writable(),
+        }
     }
 
     /// Where the room begins, in which no section of an object lies: on the first page after all of them.

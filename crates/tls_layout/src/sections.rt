@@ -1,7 +1,7 @@
 //! A section, as a layout uses it.
 
 ghost use Rattle.std.specs.Prelude.{◌≡◌};
-ghost use Rattle.tls_layout.specs.Sections.{seen_as, is_in, is_tls_class};
+ghost use Rattle.tls_layout.specs.Sections.{seen_as, is_class, is_in, is_tls_class};
 
 use elf_object::{SectionClass, SectionPart};
 
@@ -23,6 +23,21 @@ pub struct Section {
     pub size: u64,
     /// Its place is a multiple of this.
     pub alignment: u64,
+}
+
+/// Whether a section that linking keeps in `kept` has this class.
+pub fn is_class(class: SectionClass, kept: Option<SectionClass>) -> bool
+    ensures { result ≡ is_class class kept }
+{
+    match (class, kept) {
+        (SectionClass::Executable, Some(SectionClass::Executable)) => true,
+        (SectionClass::ReadOnly, Some(SectionClass::ReadOnly)) => true,
+        (SectionClass::Tls { initial }, Some(SectionClass::Tls { initial: other })) => initial
+            == other,
+        (SectionClass::Writable { initial }, Some(SectionClass::Writable { initial: other })) =>
+            initial == other,
+        _ => false,
+    }
 }
 
 impl Section {
@@ -50,15 +65,7 @@ impl Section {
     pub fn is_in(&self, class: SectionClass) -> bool
         ensures { result ≡ is_in class self.now }
     {
-        match (class, self.class) {
-            (SectionClass::Executable, Some(SectionClass::Executable)) => true,
-            (SectionClass::ReadOnly, Some(SectionClass::ReadOnly)) => true,
-            (SectionClass::Tls { initial }, Some(SectionClass::Tls { initial: other })) => initial
-                == other,
-            (SectionClass::Writable { initial }, Some(SectionClass::Writable { initial: other })) =>
-                initial == other,
-            _ => false,
-        }
+        is_class(class, self.class)
     }
 
     /// Whether the section is thread-local.

@@ -8,12 +8,13 @@ use Rattle.std.proofs.lemmas.Bool.Decides.{nat_tests}
 use Rattle.std.proofs.lemmas.List.{length-drop}
 use Rattle.std.proofs.lemmas.List.Folds.{list_any-append}
 use Rattle.std.proofs.lemmas.Slice.Eq.{bytes_eq-Decides}
-use Rattle.elf_object.specs.declared.symbol.SymbolBinding.{SymbolBinding}
-use Rattle.elf_object.specs.declared.symbol.SymbolBinding.TheVariants.{Local, Global, Weak}
+use Rattle.elf_records.specs.declared.symbol.SymbolBinding.{SymbolBinding}
+use Rattle.elf_records.specs.declared.symbol.SymbolBinding.TheVariants.{Local, Global, Weak}
 use Rattle.elf_object.specs.Lent.{symbol_binding, symbol_name, symbol_place, symbol_visibility}
 use Rattle.elf_object.specs.Parts.{symbol_count}
 use Rattle.link_faults.specs.declared.symbol_ref.SymbolRef.{SymbolRef}
-use Rattle.tls_symbols.specs.Bindings.{exported_at, exported_from, exported_in, exported_names, is_exported, is_symbol, is_tls_symbol, is_visible, object_at}
+use Rattle.tls_symbols.specs.Bindings.{exported_at, exported_from, exported_in, exported_names, is_exported, is_symbol, is_tls_symbol, object_at}
+use Rattle.elf_records.specs.Symbols.{is_visible}
 use Rattle.tls_symbols.specs.Definitions.{defines, definition_of, first_from, first_in, found_or, is_defined, or_weak, same_binding}
 use Rattle.tls_symbols.specs.Laws.{is_exported_by, ExportsAreByName}
 use Rattle.tls_symbols.proofs.Within.{Dropped, dropped_is, find_found}
@@ -24,7 +25,7 @@ either : (s t : Bool) → (s || t) ≡ true → (s ≡ true) ⊎ (t ≡ true)
 either true t e = inl refl
 either false t e = inr e
 
-both : (s t : Bool) → (s && t) ≡ true → (s ≡ true) × (t ≡ true)
+pub both : (s t : Bool) → (s && t) ≡ true → (s ≡ true) × (t ≡ true)
 both true t e = (refl, e)
 both false t e = cc
 
@@ -37,7 +38,7 @@ same_test false false to from = refl
 or_left : (s t : Bool) → s ≡ true → (s || t) ≡ true
 or_left s t e = rw e refl
 
-or_right : (s t : Bool) → t ≡ true → (s || t) ≡ true
+pub or_right : (s t : Bool) → t ≡ true → (s || t) ≡ true
 or_right true t e = refl
 or_right false t e = e
 
@@ -51,7 +52,7 @@ pub record Defines (objects : List (List ℕ)) (name : List ℕ) (found : Symbol
   pub shared : same_binding Local (symbol_binding (object_at objects found.object) found.symbol) ≡ false
   pub named : name ≡ symbol_name (object_at objects found.object) found.symbol
 
-not_local : (x y : SymbolBinding) → same_binding Local x ≡ false → same_binding x y ≡ true → same_binding Local y ≡ false
+pub not_local : (x y : SymbolBinding) → same_binding Local x ≡ false → same_binding x y ≡ true → same_binding Local y ≡ false
 not_local Local y other same = cc
 not_local Global Local other same = cc
 not_local Global Global other same = refl

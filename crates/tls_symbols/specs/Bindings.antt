@@ -1,7 +1,7 @@
 -- What a symbol is bound to (gABI, "Symbol Table"; Drepper, "ELF Handling For Thread-Local Storage", section 4: which
 -- ways to reach a variable allow another module's).
 use Rattle.std.specs.Prelude.{◌+◌, ◌-◌, ◌&&◌, ◌++◌, ℕ, Bool, true, false, not, List, [], ◌∷◌, Option, Some, None}
-use Rattle.std.specs.Prelude.{codes, slice_index_or, nat_eq, if◌then◌else◌}
+use Rattle.std.specs.Prelude.{slice_index_or, nat_eq, if◌then◌else◌}
 use Rattle.std.specs.List.{flat_map, list_any, range_with_len}
 use Rattle.std.specs.Str.{bytes_eq}
 use Rattle.object_faults.specs.declared.class.SectionClass.{SectionClass}
@@ -9,11 +9,10 @@ use Rattle.object_faults.specs.declared.class.SectionClass.TheVariants.{Tls}
 use Rattle.elf_records.specs.declared.relocation.RelocationKind.{RelocationKind}
 pub use Rattle.elf_records.specs.RelocationRows.{may_import}
 use Rattle.elf_object.specs.declared.relocation.Relocation.{Relocation}
-use Rattle.elf_object.specs.declared.symbol.SymbolBinding.TheVariants.{Local}
+use Rattle.elf_records.specs.declared.symbol.SymbolBinding.TheVariants.{Local}
 use Rattle.elf_object.specs.declared.symbol.SymbolPlace.{SymbolPlace}
 use Rattle.elf_object.specs.declared.symbol.SymbolPlace.TheVariants.{InSection}
-use Rattle.elf_object.specs.declared.symbol.Visibility.{Visibility}
-use Rattle.elf_object.specs.declared.symbol.Visibility.TheVariants.{Default, Protected}
+use Rattle.elf_records.specs.Symbols.{get_address, is_visible}
 use Rattle.elf_object.specs.Lent.{section_class, symbol_binding, symbol_name, symbol_place, symbol_visibility}
 use Rattle.elf_object.specs.Parts.{symbol_count}
 use Rattle.link_faults.specs.declared.binding.Binding.{Binding}
@@ -22,10 +21,6 @@ use Rattle.link_faults.specs.declared.symbol_ref.SymbolRef.{SymbolRef}
 use Rattle.tls_symbols.specs.declared.imports.Imports.{Imports}
 use Rattle.tls_symbols.specs.declared.imports.Imports.TheVariants.{Yes, No}
 use Rattle.tls_symbols.specs.Definitions.{definition_of, same_binding, IsWithin}
-
--- the function of the run time, which no object defines (Drepper, section 3.4)
-abbrev pub get_address : List ℕ
-get_address = codes "__tls_get_addr"
 
 -- the bytes of object o
 abbrev pub object_at : List (List ℕ) → ℕ → List ℕ
@@ -46,12 +41,6 @@ abbrev pub is_tls_symbol : List ℕ → ℕ → Bool
 is_tls_symbol b e = is_tls_place b (symbol_place b e)
 
 -- ** what an image exports
-
--- whether other images see a symbol (gABI, st_other)
-abbrev pub is_visible : Visibility → Bool
-is_visible Default = true
-is_visible Protected = true
-is_visible _ = false
 
 abbrev pub is_same : SymbolRef → SymbolRef → Bool
 is_same x y = nat_eq x.object y.object && nat_eq x.symbol y.symbol

@@ -6,7 +6,7 @@ use Rattle.elf_records.specs.declared.relocation.RelocationKind.{RelocationKind}
 use Rattle.elf_records.specs.declared.relocation.RelocationKind.TheVariants.{Nothing}
 pub use Rattle.elf_records.specs.RelocationRows.{is_tls_kind, names_symbol}
 use Rattle.elf_object.specs.declared.relocation.Relocation.{Relocation}
-use Rattle.elf_object.specs.declared.symbol.SymbolBinding.TheVariants.{Local, Global}
+use Rattle.elf_records.specs.declared.symbol.SymbolBinding.TheVariants.{Local, Global}
 use Rattle.elf_object.specs.Lent.{relocations, relocation_target, symbol_binding, symbol_name, symbol_place}
 use Rattle.elf_object.specs.Object.{section_count}
 use Rattle.elf_object.specs.Parts.{symbol_count, symbol_table}
@@ -17,7 +17,8 @@ use Rattle.link_faults.specs.declared.fault.LinkFaultKind.{LinkFaultKind}
 use Rattle.link_faults.specs.declared.fault.LinkFaultKind.TheVariants.{Undefined, Duplicate, NotTls}
 use Rattle.link_faults.specs.declared.binding.Binding.{Binding}
 use Rattle.tls_symbols.specs.Definitions.{definition_of, is_defined, same_binding}
-use Rattle.tls_symbols.specs.Bindings.{binding_of, get_address, is_symbol, is_tls_binding, object_at}
+use Rattle.tls_symbols.specs.Bindings.{binding_of, is_symbol, is_tls_binding, object_at}
+use Rattle.elf_records.specs.Symbols.{get_address}
 
 -- ** the faults of a relocation
 

@@ -4,7 +4,8 @@ use Rattle.std.specs.List.{list_any}
 use Rattle.std.specs.Str.{bytes_eq}
 use Rattle.elf_object.specs.Lent.{symbol_visibility}
 use Rattle.link_faults.specs.declared.symbol_ref.SymbolRef.{SymbolRef}
-use Rattle.tls_symbols.specs.Bindings.{exported_names, is_tls_symbol, is_visible, object_at}
+use Rattle.tls_symbols.specs.Bindings.{exported_names, is_tls_symbol, object_at}
+use Rattle.elf_records.specs.Symbols.{is_visible}
 use Rattle.tls_symbols.specs.Definitions.{definition_of}
 
 -- whether a name with this definition is exported: the definition is thread-local and visible to other images

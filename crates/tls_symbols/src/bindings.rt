@@ -2,7 +2,7 @@
 
 ghost use Rattle.std.specs.Prelude.{◌≡◌, ◌<◌, ◌-◌, ◌^◌, IfErr, IfOk, IfSome, MatchOption, OnOk, false, length, map};
 ghost use Rattle.elf_object.specs.Lent.{symbol_binding, symbol_name};
-ghost use Rattle.elf_object.specs.declared.symbol.SymbolBinding.TheVariants.{Local};
+ghost use Rattle.elf_records.specs.declared.symbol.SymbolBinding.TheVariants.{Local};
 ghost use Rattle.elf_object.specs.Parts.{symbol_count};
 ghost use Rattle.tls_symbols.specs.Bindings.{binding_of, bound_to, may, object_at, IsBindingWithin};
 ghost use Rattle.tls_symbols.specs.Definitions.{definition_of, same_binding, IsWithin};

@@ -4,7 +4,7 @@ ghost use Rattle.std.specs.Prelude.{◌≡◌, ◌-◌, ◌<◌, MatchOption, fa
 ghost use Rattle.std.specs.List.{find, range_with_len};
 ghost use Rattle.elf_object.specs.Lent.{symbol_binding, symbol_name};
 ghost use Rattle.elf_object.specs.Parts.{symbol_count, symbol_table};
-ghost use Rattle.elf_object.specs.declared.symbol.SymbolBinding.TheVariants.{Local};
+ghost use Rattle.elf_records.specs.declared.symbol.SymbolBinding.TheVariants.{Local};
 ghost use Rattle.tls_symbols.specs.Bindings.{is_symbol, object_at};
 ghost use Rattle.tls_symbols.specs.Definitions.{same_binding};
 ghost use Rattle.tls_symbols.specs.Faults.{is_duplicate, IsFirstDuplicate, NoDuplicate};

@@ -3,7 +3,7 @@
 ghost use Rattle.std.specs.Prelude.{◌≡◌, ◌++◌, ◌<◌, IfOk, OnOk, length, map};
 ghost use Rattle.elf_object.specs.Lent.{symbol_name};
 ghost use Rattle.elf_object.specs.Parts.{symbol_count};
-ghost use Rattle.tls_symbols.specs.Bindings.{exported_at, exported_in, exported_names, is_exported, is_visible};
+ghost use Rattle.tls_symbols.specs.Bindings.{exported_at, exported_in, exported_names, is_exported};
 ghost use Rattle.tls_symbols.specs.Bindings.{object_at};
 ghost use Rattle.tls_symbols.specs.Known.{IsKnown};
 
@@ -11,15 +11,8 @@ use crate::duplicates::is_symbol;
 use crate::export_list::Exports;
 use crate::image_names::{ImageNames, know_names, symbol_definition};
 use crate::tls_place::is_tls_place;
-use elf_object::{Object, SymbolBinding, Visibility};
+use elf_object::{Object, SymbolBinding};
 use std::alloc::{AllocError, Global};
-
-/// Whether other images see a symbol of this visibility.
-fn is_visible(visibility: Visibility) -> bool
-    ensures { result ≡ is_visible visibility }
-{
-    matches!(visibility, Visibility::Default | Visibility::Protected)
-}
 
 /// Whether the image exports a name through this symbol: the name binds to the symbol, and it is thread-local and
 /// visible.
@@ -34,7 +27,7 @@ fn is_exported(names: &ImageNames, index: usize, object: &Object, symbol: u32) -
         Some(part) if part.binding != SymbolBinding::Local => {
             is_symbol(symbol_definition(names, index, symbol), index, symbol)
                 && is_tls_place(object, part.place)
-                && is_visible(part.visibility)
+                && part.visibility.is_visible()
         }
         _ => false,
     }

@@ -3,7 +3,7 @@
 ghost use Rattle.std.specs.Prelude.{◌≡◌, ◌<◌, ◌-◌, ◌^◌, ◌&&◌, false, IfOk, IfSome, MatchOption, length, map};
 ghost use Rattle.elf_object.specs.Lent.{symbol_binding, symbol_place};
 ghost use Rattle.elf_object.specs.Parts.{symbol_count};
-ghost use Rattle.elf_object.specs.declared.symbol.SymbolBinding.TheVariants.{Local};
+ghost use Rattle.elf_records.specs.declared.symbol.SymbolBinding.TheVariants.{Local};
 ghost use Rattle.tls_symbols.specs.Definitions.{is_defined, same_binding};
 ghost use Rattle.tls_symbols.specs.Numbers.{NotesDefinitions, NotesExports, TellsExports, own_numbers, with_first};
 ghost use Rattle.tls_symbols.specs.Numbers.{AllListed, AllNumbered, AreListed, AreNumbered, TellsDefinitions};

@@ -3,18 +3,16 @@
 ghost use Rattle.std.specs.Prelude.{◌≡◌, ◌<◌, length, map, min, slice_index_or, sum_by, IfOk, OnOk};
 ghost use Rattle.elf_object.specs.Lent.{symbol_binding};
 ghost use Rattle.elf_object.specs.Parts.{symbol_count};
-ghost use Rattle.tls_symbols.specs.Bindings.{get_address};
+ghost use Rattle.elf_records.specs.Symbols.{get_address};
 ghost use Rattle.tls_symbols.specs.Numbers.{AllListed, AllNumbered, AreListed, AreNumbered, Grows, IsNumberOf};
 ghost use Rattle.tls_symbols.specs.Numbers.{IsNamed, IsNumbered};
 
 use crate::export_list::Exports;
 use crate::tls_place::is_tls_place;
 use elf_object::{Object, SymbolBinding, SymbolPart};
+use elf_records::symbol::GET_ADDRESS;
 use indexmap::IndexSet;
 use std::alloc::{AllocError, Global};
-
-/// The function of the run time.
-const GET_ADDRESS: &[u8] = b"__tls_get_addr";
 
 /// What is kept of a symbol.
 #[derive(Clone, Copy)]

@@ -13,9 +13,8 @@ use Rattle.module_table.specs.declared.modules.ImageInfo.{ImageInfo}
 use Rattle.module_table.specs.Laws.{startup_end}
 use Rattle.object_faults.specs.declared.class.SectionClass.{SectionClass}
 use Rattle.object_faults.specs.declared.class.SectionClass.TheVariants.{Executable, ReadOnly, Tls, Writable}
-use Rattle.sequence_forms.specs.declared.forms.Form.{Form}
-use Rattle.sequence_forms.specs.declared.forms.Form.TheVariants.{IeMov, IeAdd}
 use Rattle.sequence_forms.specs.declared.places.Site.{Site}
+use Rattle.sequence_forms.specs.Forms.{is_initial}
 use Rattle.thread_blocks.specs.Instances.{Loads}
 use Rattle.thread_blocks.specs.Turns.{at_number}
 use Rattle.tls_layout.specs.Laws.{extent_for}
@@ -28,13 +27,7 @@ use Rattle.whole_meaning.specs.Spots.{bias_of, in_room}
 
 -- ** what is known of an image from the start
 
--- its code finds a variable at a fixed distance from the thread pointer
-abbrev pub is_initial : Form → Bool
-is_initial IeMov = true
-is_initial IeAdd = true
-is_initial form = false
-
--- a module whose code does so needs its blocks below the thread pointer
+-- a module whose code finds a variable at a fixed distance from the thread pointer needs its blocks below it
 unfoldable pub wants_surplus : Linking → Bool
 wants_surplus l = is_module l.kind && list_any (λ own. list_any (λ (site : Site). is_initial site.form) own) l.sites
 

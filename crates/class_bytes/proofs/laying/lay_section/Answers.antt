@@ -10,16 +10,16 @@ use Rattle.class_bytes.proofs.Laid.{section_laid, section_skipped}
 use Rattle.class_bytes.proofs.laying.lay_section.Goals as goal
 use Rattle.section_file.proofs.Rising.{class_is}
 
-pub returns-then-not-is_of : goal.returns-then-not-is_of
-returns-then-not-is_of g c =
+pub returns-then-not-is_class : goal.returns-then-not-is_class
+returns-then-not-is_class g c =
     let l = c.args.inputs.now in
     let s = c.args.section in
     let cells = c.args.cells.now in
     let known = c.in-Some.ensures.part.class_is ∙ ap (λ b. section_class b s) c.object.ensures in
-    let no : c.is_of.result ≡ false = search rules in
+    let no : c.is_class.result ≡ false = search rules in
     c.requires.before
     ∙ section_skipped (g.C.Cells.cell cells) l c.args.class (g.C.Cells.gap_cell cells) c.args.number s c.requires.object c.requires.section
-    (sym (ap (is_class c.args.class) known) ∙ sym c.is_of.ensures ∙ no)
+    (sym (ap (is_class c.args.class) known) ∙ sym c.is_class.ensures ∙ no)
 
 pub returns : goal.returns
 returns g c =
@@ -30,7 +30,7 @@ returns g c =
     let cells = c.args.cells.now in
     let t = c.args.table.now.items in
     let known = c.in-Some.ensures.part.class_is ∙ ap (λ b. section_class b s) c.object.ensures in
-    let so = sym (ap (is_class class) known) ∙ sym c.is_of.ensures ∙ c.if-not-is_of.false in
+    let so = sym (ap (is_class class) known) ∙ sym c.is_class.ensures ∙ c.if-not-is_class.false in
     let is : IsOfClass l class o s = record {
       object_there = c.requires.object;
       section_there = c.requires.section;

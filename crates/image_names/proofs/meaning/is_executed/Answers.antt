@@ -1,6 +1,7 @@
 use Rattle.std.proofs.Common.{sym}
 use Rattle.std.specs.List.{list_any}
-use Rattle.image_names.specs.Functions.{lent_part, runs_at}
+use Rattle.image_names.specs.Functions.{runs_at}
+use Rattle.image_file.specs.Spelled.{lent_part}
 use Rattle.image_names.proofs.Finding.{any_here, any_on, none_on}
 use Rattle.image_names.proofs.meaning.is_executed.Goals as goal
 use Rattle.image_names.proofs.meaning.is_executed.Goals.{in-Some+else-runs_at, in_default}

@@ -1,6 +1,6 @@
 use Rattle.elf_records.specs.Fields.{bytes_of}
 use Rattle.elf_records.specs.Laws.{length-bytes_of}
-use Rattle.image_writer.proofs.Puts.{put_mid-rest}
+use Rattle.elf_records.proofs.Written.{put_mid-rest}
 use Rattle.image_writer.proofs.put.put_word.Goals as goal
 
 pub returns : goal.returns

@@ -2,10 +2,10 @@ use Rattle.std.proofs.Common.{◌+◌, ◌-◌, ◌≤◌, ◌++◌, length, rep
 use Rattle.std.proofs.lemmas.List.{take_all}
 use Rattle.std.proofs.lemmas.Option.{slice_get_within}
 use Rattle.elf_records.specs.Fields.{splice}
-use Rattle.image_file.specs.Spelled.{part_seen}
+use Rattle.image_file.specs.Spelled.{lent_part, part_seen}
 use Rattle.image_writer.specs.Page.{base_of}
 use Rattle.image_writer.specs.Written.{laid}
-use Rattle.image_writer.proofs.Laying.{seen, part_place, parts_rise, put_next_part, reach-next, none-past}
+use Rattle.image_writer.proofs.Laying.{part_place, parts_rise, put_next_part, reach-next, none-past}
 use Rattle.image_writer.proofs.Puts.{splice_none}
 use Rattle.image_writer.proofs.written.put_parts.Goals as goal
 
@@ -15,35 +15,35 @@ loop-number-init c = (splice_none c.args.at c.args.out.now, c.base_of-base.ensur
 pub overflow_sub-end : goal.overflow_sub-end
 overflow_sub-end c =
     let is = sym c.part.ensures ∙ ap part_seen c.in-Some.is in
-    let facts = part_place c.args.image.now c.loop-number.number (seen c.in-Some.part) c.base_of-base.result c.loop-number.end
+    let facts = part_place c.args.image.now c.loop-number.number (lent_part c.in-Some.part) c.base_of-base.result c.loop-number.end
     c.requires.loadable is (c.base_of-base.ensures ∙ ap base_of c.kind.ensures) c.loop-number.invariant.1 in
     facts.0
 
 pub overflow_add-at : goal.overflow_add-at
 overflow_add-at c =
     let is = sym c.part.ensures ∙ ap part_seen c.in-Some.is in
-    let facts = part_place c.args.image.now c.loop-number.number (seen c.in-Some.part) c.base_of-base.result c.loop-number.end
+    let facts = part_place c.args.image.now c.loop-number.number (lent_part c.in-Some.part) c.base_of-base.result c.loop-number.end
     c.requires.loadable is (c.base_of-base.ensures ∙ ap base_of c.kind.ensures) c.loop-number.invariant.1 in
     omega (arith, facts.3, c.requires.room)
 
 pub put_part-requires-clause-rising : goal.put_part-requires-clause-rising
 put_part-requires-clause-rising c =
     let is = sym c.part.ensures ∙ ap part_seen c.in-Some.is in
-    let facts = part_place c.args.image.now c.loop-number.number (seen c.in-Some.part) c.base_of-base.result c.loop-number.end
+    let facts = part_place c.args.image.now c.loop-number.number (lent_part c.in-Some.part) c.base_of-base.result c.loop-number.end
     c.requires.loadable is (c.base_of-base.ensures ∙ ap base_of c.kind.ensures) c.loop-number.invariant.1 in
     facts.1
 
 pub put_part-requires-clause-room : goal.put_part-requires-clause-room
 put_part-requires-clause-room c =
     let is = sym c.part.ensures ∙ ap part_seen c.in-Some.is in
-    let facts = part_place c.args.image.now c.loop-number.number (seen c.in-Some.part) c.base_of-base.result c.loop-number.end
+    let facts = part_place c.args.image.now c.loop-number.number (lent_part c.in-Some.part) c.base_of-base.result c.loop-number.end
     c.requires.loadable is (c.base_of-base.ensures ∙ ap base_of c.kind.ensures) c.loop-number.invariant.1 in
     omega (arith, facts.3, c.requires.room)
 
 pub overflow_add-end : goal.overflow_add-end
 overflow_add-end c =
     let is = sym c.part.ensures ∙ ap part_seen c.in-Some.is in
-    let facts = part_place c.args.image.now c.loop-number.number (seen c.in-Some.part) c.base_of-base.result c.loop-number.end
+    let facts = part_place c.args.image.now c.loop-number.number (lent_part c.in-Some.part) c.base_of-base.result c.loop-number.end
     c.requires.loadable is (c.base_of-base.ensures ∙ ap base_of c.kind.ensures) c.loop-number.invariant.1 in
     omega (arith, facts.2)
 
@@ -57,7 +57,7 @@ pub loop-number-preserved : goal.loop-number-preserved
 loop-number-preserved c =
     let image = c.args.image.now in
     let i = c.loop-number.number in
-    let p = seen c.in-Some.part in
+    let p = lent_part c.in-Some.part in
     let is = sym c.part.ensures ∙ ap part_seen c.in-Some.is in
     let below = slice_get_within image.parts i p is in
     let base = c.base_of-base.ensures ∙ ap base_of c.kind.ensures in (

@@ -1,6 +1,6 @@
 use Rattle.std.proofs.Common.{sym}
 use Rattle.loaded_modules.specs.Loader.{holds}
-use Rattle.loaded_modules.specs.Words.{lent_part}
+use Rattle.image_file.specs.Spelled.{lent_part}
 use Rattle.loaded_modules.proofs.Left.{find_here, find_on, find_past}
 use Rattle.loaded_modules.proofs.blocks.initial_part.Goals as goal
 use Rattle.loaded_modules.proofs.blocks.initial_part.Goals.{in-Some+else-holds, in_default}

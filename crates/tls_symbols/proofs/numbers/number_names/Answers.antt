@@ -1,5 +1,5 @@
 use Rattle.std.proofs.Common.{map}
-use Rattle.tls_symbols.specs.Bindings.{get_address}
+use Rattle.elf_records.specs.Symbols.{get_address}
 use Rattle.tls_symbols.proofs.Numbered.{lists_grow}
 use Rattle.tls_symbols.proofs.numbers.number_names.Goals as goal
 

@@ -1,6 +1,6 @@
 use Rattle.std.proofs.Common.{◌∙◌, ◌+◌, List, ℕ, arith, length, ap}
 use Rattle.std.specs.Prelude.{slice_range}
-use Rattle.loaded_modules.specs.Words.{lent_part}
+use Rattle.image_file.specs.Spelled.{lent_part}
 use Rattle.loaded_modules.proofs.PartReads.{length_some, nothing_read, part_none, part_nowhere, part_some}
 use Rattle.loaded_modules.proofs.modules.Modules.copy_bytes.Goals as goal
 

@@ -1,5 +1,5 @@
 use Rattle.std.proofs.Common.{◌∙◌, arith, length, ap, take, replicate}
-use Rattle.loaded_modules.specs.Words.{lent_part}
+use Rattle.image_file.specs.Spelled.{lent_part}
 use Rattle.loaded_modules.proofs.FreshBlocks.{block_is, length-front, placed}
 use Rattle.loaded_modules.proofs.modules.Modules.fill_tls.Goals as goal
 

@@ -1,5 +1,5 @@
 use Rattle.std.proofs.Common.{ap, length}
-use Rattle.loaded_modules.specs.Words.{lent_part}
+use Rattle.image_file.specs.Spelled.{lent_part}
 use Rattle.loaded_modules.proofs.PartReads.{length_some, part_none, part_nowhere}
 use Rattle.loaded_modules.proofs.modules.Modules.part_size.Goals as goal
 

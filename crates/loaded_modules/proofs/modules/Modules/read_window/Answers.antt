@@ -1,5 +1,6 @@
 use Rattle.std.proofs.Common.{◌∙◌, ◌+◌, arith, length, subst, List, ℕ}
-use Rattle.loaded_modules.specs.Words.{lent_part, IsWindow}
+use Rattle.loaded_modules.specs.Words.{IsWindow}
+use Rattle.image_file.specs.Spelled.{lent_part}
 use Rattle.loaded_modules.proofs.Relocated.{length-relocated, relocated, relocated_all, relocated_on, is_window, window_is}
 use Rattle.loaded_modules.proofs.Untouched.{untouched}
 use Rattle.loaded_modules.proofs.modules.Modules.read_window.Goals as goal

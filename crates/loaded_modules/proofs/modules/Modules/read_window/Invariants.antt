@@ -1,6 +1,7 @@
 -- What the relocations so far make of the part, and that the window shows it.
 use Rattle.std.proofs.Common.{◌≡◌, length}
-use Rattle.loaded_modules.specs.Words.{lent_part, IsWindow}
+use Rattle.loaded_modules.specs.Words.{IsWindow}
+use Rattle.image_file.specs.Spelled.{lent_part}
 use Rattle.loaded_modules.proofs.Relocated.{relocated}
 use Rattle.loaded_modules.proofs.modules.Modules.read_window.Given as goal
 

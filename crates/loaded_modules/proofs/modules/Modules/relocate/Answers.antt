@@ -3,7 +3,8 @@ use Rattle.image_file.specs.declared.relocation.ImageRelocation.{ImageRelocation
 use Rattle.image_rules.specs.declared.places.FileKind.{FileKind}
 use Rattle.loaded_modules.specs.declared.relocating.Target.{Target}
 use Rattle.loaded_modules.specs.Loader.{relocation_bytes, with_written, written_bytes}
-use Rattle.loaded_modules.specs.Words.{lent_part, with_numbered, words_bytes, IsWindow}
+use Rattle.loaded_modules.specs.Words.{with_numbered, words_bytes, IsWindow}
+use Rattle.image_file.specs.Spelled.{lent_part}
 use Rattle.loaded_modules.proofs.modules.Modules.relocate.Goals as goal
 
 pub returns-in-Some-clause-shows : goal.returns-in-Some-clause-shows

@@ -3,7 +3,8 @@ use Rattle.std.specs.Prelude.{slice_get}
 use Rattle.link_needs.specs.Linking.{Linking}
 use Rattle.meant_images.specs.Images.{AreTables}
 use Rattle.meant_images.specs.declared.images.Tables.{Tables}
-use Rattle.meant_images.proofs.Known.{place_of, seen, table_is}
+use Rattle.meant_images.proofs.Known.{place_of, table_is}
+use Rattle.loaded_modules.proofs.Kept.{seen}
 use Rattle.meant_images.proofs.images.MeantImages.tables.Goals as goal
 
 pub returns-clause-each : goal.returns-clause-each

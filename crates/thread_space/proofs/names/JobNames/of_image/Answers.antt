@@ -1,6 +1,8 @@
 use Rattle.std.proofs.Common.{◌-◌, ◌∙◌, ap}
 use Rattle.std.specs.List.{slice_get}
-use Rattle.thread_space.proofs.Entries.{at_none, at_some, seen}
+use Rattle.thread_space.proofs.Entries.{at_some}
+use Rattle.loaded_modules.proofs.Kept.{seen}
+use Rattle.loaded_modules.proofs.Kept.{at_none}
 use Rattle.thread_space.proofs.names.JobNames.of_image.Goals as goal
 
 pub returns-then-number-eq0 : goal.returns-then-number-eq0

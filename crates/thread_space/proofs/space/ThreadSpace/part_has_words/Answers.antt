@@ -1,9 +1,8 @@
 -- The words lie in the part.
 use Rattle.std.proofs.Common.{◌≡◌, ◌∙◌, ◌+◌, ◌^◌, ◌<◌, ◌≤◌, length, Some, None, true, ap, sym, slice_get, arith}
 use Rattle.std.specs.Prelude.{nat_le}
-use Rattle.image_file.specs.Spelled.{Part, part_seen}
+use Rattle.image_file.specs.Spelled.{Part, part_seen, is_writable}
 use Rattle.loaded_modules.specs.Loader.{bias_of, loaded_part}
-use Rattle.thread_blocks.specs.Loading.{is_written}
 use Rattle.thread_space.specs.Places.{behind}
 use Rattle.std.proofs.lemmas.Bool.{leb-true}
 use Rattle.thread_space.proofs.LowParts.{words_low}
@@ -14,7 +13,7 @@ pub returns-in-Some-behind_part-clause-found : goal.returns-in-Some-behind_part-
 returns-in-Some-behind_part-clause-found c =
     let part : Part = record { class = c.in-Some.part.class; address = c.in-Some.part.address; bytes = c.in-Some.part.bytes.now } in
     let is : slice_get c.args.image.now.parts c.args.number ≡ Some part = sym c.part.ensures ∙ ap part_seen c.in-Some.is in
-    let written : is_written part.class ≡ true = cc in
+    let written : is_writable part.class ≡ true = cc in
     let begins : behind (part.address + bias_of c.args.self.now.vector.images c.args.instance.now) c.args.address ≡ Some c.in-Some-behind_part.at = cc in
     c.has_room.ensures ∙ ap (nat_le (c.in-Some-behind_part.at + 16)) c.part_size.ensures
     ∙ words_read c.args.self.now.vector.images c.args.image.now c.args.instance.now c.args.number c.requires.there

@@ -1,0 +1,42 @@
+-- What the numbers of a symbol table entry stand for (gABI, "Symbol Table").
+use Rattle.std.specs.Prelude.{◌==◌, ℕ, Bool, true, false, List, codes, if◌then◌else◌}
+use Rattle.elf_records.specs.declared.symbol.SymbolBinding.{SymbolBinding}
+use Rattle.elf_records.specs.declared.symbol.SymbolBinding.TheVariants.{Local, Global, Weak}
+use Rattle.elf_records.specs.declared.symbol.SymbolType.{SymbolType}
+use Rattle.elf_records.specs.declared.symbol.SymbolType.TheVariants.{NoType, Object, Func, Section, File, Tls}
+use Rattle.elf_records.specs.declared.symbol.TheConstants.{STB_LOCAL, STB_GLOBAL, STT_NOTYPE, STT_OBJECT, STT_FUNC}
+use Rattle.elf_records.specs.declared.symbol.TheConstants.{STT_SECTION, STT_FILE, STV_DEFAULT, STV_INTERNAL, STV_HIDDEN}
+use Rattle.elf_records.specs.declared.symbol.Visibility.{Visibility}
+use Rattle.elf_records.specs.declared.symbol.Visibility.TheVariants.{Default, Internal, Hidden, Protected}
+
+-- the name of the function of the run time, which no object defines (Drepper, section 3.4)
+abbrev pub get_address : List ℕ
+get_address = codes "__tls_get_addr"
+
+-- the binding, the type and the visibility with these numbers
+abbrev pub binding_numbered : ℕ → SymbolBinding
+binding_numbered n = if n == STB_LOCAL then Local else if n == STB_GLOBAL then Global else Weak
+
+abbrev pub type_numbered : ℕ → SymbolType
+type_numbered n =
+    if n == STT_NOTYPE then NoType else
+    if n == STT_OBJECT then Object else
+    if n == STT_FUNC then Func else
+    if n == STT_SECTION then Section else
+    if n == STT_FILE then File else
+    Tls
+
+abbrev pub visibility_numbered : ℕ → Visibility
+visibility_numbered n = if n == STV_DEFAULT then Default else if n == STV_INTERNAL then Internal else if n ==
+    STV_HIDDEN then Hidden else Protected
+
+abbrev pub is_tls : SymbolType → Bool
+is_tls Tls = true
+is_tls kind = false
+
+-- whether code of other images may name a symbol
+abbrev pub is_visible : Visibility → Bool
+is_visible Default = true
+is_visible Internal = false
+is_visible Hidden = false
+is_visible Protected = true
