@@ -1,19 +1,24 @@
 -- What a turn of a runner needs and leaves, from what the registry answers: the events that the thread has not seen, with
 -- its own event cut off.
 use Rattle.std.proofs.Common.{◌≡◌, ◌+◌, ◌≤◌, ◌++◌, ℕ, true, List, [], ◌∷◌, length, take, drop, Option, Some, None, Result, Ok, Err, refl, sym, ap, subst, ◌∙◌, length-append, arith}
-use Rattle.std.specs.Prelude.{IfOk, OnOk}
+use Rattle.std.specs.Prelude.{IfOk, OnOk, option_map}
 use Rattle.std.proofs.lemmas.Bool.{and_parts}
 use Rattle.std.proofs.Math.Seq.{drop-append_seam, take-append_seam, take-length}
 use Rattle.loaded_modules.specs.Images.{infos, last_offset}
 use Rattle.module_data.specs.Pieces.{Piece}
 use Rattle.module_table.specs.declared.events.Event.{Event}
-use Rattle.module_table.specs.History.{History, IsLegal, close_answer, closed_of, left, open_answer, opened_of, unless}
+use Rattle.module_table.specs.declared.events.CloseRefusal.{CloseRefusal}
+use Rattle.module_table.specs.declared.events.CloseRefusal.TheVariants.{Permanent, NotOpen, OutOfMemory as NoRoomToClose}
+use Rattle.module_table.specs.declared.events.OpenRefusal.{OpenRefusal}
+use Rattle.module_table.specs.declared.events.OpenRefusal.TheVariants.{Unknown, Full, StaticFull, OutOfMemory as NoRoomToOpen}
+use Rattle.module_table.specs.History.{CloseRefused, History, IsLegal, OpenRefused, close_answer, closed_of, left, open_answer, opened_of, unless}
 use Rattle.module_table.specs.Past.{after, close_refusal, is_legal, open_refusal, past, start}
 use Rattle.module_table.specs.Walks.{is_legal-append, seen-past}
+use Rattle.thread_blocks.specs.Lines.{refused_close, refused_open}
 use Rattle.thread_blocks.specs.Turns.{with_event}
 use Rattle.job_turns.specs.declared.asking.Ask.{Ask}
 use Rattle.job_turns.specs.declared.asking.LineAnswer.{LineAnswer}
-use Rattle.job_turns.specs.Asking.{answer_to, closed_at, opened_at}
+use Rattle.job_turns.specs.Asking.{IsClosesAnswer, IsOpensAnswer, answer_to, closed_at, opened_at}
 use Rattle.job_turns.specs.Standing.{Run, TakesTurn, ask_of}
 use Rattle.job_turns.specs.Turning.{AddsAsked, CanTurn, Turned, event_asked}
 use Rattle.job_turns.proofs.OneTurn.{rest_is, rest_leaves, seen_front}
@@ -30,6 +35,34 @@ pub close_same : (h : History) (image : ℕ)
     → unless (close_refusal (left h) image) (closed_at (left h) image) ≡ close_answer h image
 unfolding left close_answer closed_of
 close_same h image = rw (seen-past h.infos h.last_offset h.events) refl
+
+-- as a line is handed it
+module _ {A R S : Type 0} (f : R → S) where
+  pub handed_ok : (refusal : Option R) (a b : A) → unless refusal a ≡ Ok b → unless (option_map f refusal) a ≡ Ok b
+  handed_ok None a b same = let e : a ≡ b = cc in rw e refl
+  handed_ok (Some refusal) a b same = absurd cc
+
+  pub handed_err : (refusal : Option R) (a : A) (r : R) → unless refusal a ≡ Err r
+      → unless (option_map f refusal) a ≡ Err (f r)
+  handed_err None a r same = absurd cc
+  handed_err (Some refusal) a r same = let e : refusal ≡ r = cc in rw e refl
+
+pub open_refused_as : (h : History) (image : ℕ) (refusal : OpenRefusal) → IsOpensAnswer refusal
+    → OpenRefused h image refusal
+    → unless (option_map refused_open (open_refusal (left h) image)) (opened_at (left h) image)
+    ≡ Err (refused_open refusal)
+open_refused_as h image Unknown is_answer is = handed_err refused_open _ _ Unknown (open_same h image ∙ is)
+open_refused_as h image Full is_answer is = handed_err refused_open _ _ Full (open_same h image ∙ is)
+open_refused_as h image StaticFull is_answer is = handed_err refused_open _ _ StaticFull (open_same h image ∙ is)
+open_refused_as h image NoRoomToOpen is_answer is = absurd is_answer
+
+pub close_refused_as : (h : History) (image : ℕ) (refusal : CloseRefusal) → IsClosesAnswer refusal
+    → CloseRefused h image refusal
+    → unless (option_map refused_close (close_refusal (left h) image)) (closed_at (left h) image)
+    ≡ Err (refused_close refusal)
+close_refused_as h image Permanent is_answer is = handed_err refused_close _ _ Permanent (close_same h image ∙ is)
+close_refused_as h image NotOpen is_answer is = handed_err refused_close _ _ NotOpen (close_same h image ∙ is)
+close_refused_as h image NoRoomToClose is_answer is = absurd is_answer
 
 -- ---- the events that are new to a runner
 

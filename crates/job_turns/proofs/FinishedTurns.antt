@@ -20,7 +20,7 @@ use Rattle.thread_space.specs.Kept.{Kept, blocks_of, shared_of}
 use Rattle.job_turns.specs.Standing.{IsIdle, PhaseIs, Run, StandsFor, Waiting, ask_now, ask_of}
 use Rattle.thread_space.proofs.Owners.{blocks_are_blocks, blocks_no_data, owned_again, shared_is_data, shared_no_blocks}
 use Rattle.thread_vector.specs.Vectors.{Vector}
-use Rattle.job_turns.proofs.Lists.{none_drop}
+use Rattle.thread_turns.proofs.Lists.{none_drop}
 
 -- ---- nothing is left
 

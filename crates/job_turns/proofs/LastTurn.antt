@@ -1,5 +1,5 @@
 -- After the last turn: what the threads said, the whole order, and whose images the events name.
-use Rattle.std.proofs.Common.{◌≡◌, ◌+◌, ◌*◌, ◌≤◌, ◌<◌, ℕ, Bool, true, false, List, [], ◌∷◌, length, map, Option, Some, None, Result, Ok, Err, refl, sym, ap, ◌∙◌, inl, inr, arith}
+use Rattle.std.proofs.Common.{◌≡◌, ◌++◌, ◌+◌, ◌*◌, ◌≤◌, ◌<◌, ℕ, Bool, true, false, List, [], ◌∷◌, length, map, Option, Some, None, Result, Ok, Err, refl, sym, ap, ◌∙◌, inl, inr, arith}
 use Rattle.std.specs.Prelude.{All, IfOk, if◌then◌else◌, nat_lt, not}
 use Rattle.std.proofs.lemmas.Bool.{and_parts, cases_Bool}
 use Rattle.std.proofs.lemmas.List.{length-map}
@@ -29,11 +29,14 @@ use Rattle.thread_blocks.specs.MachineTurns.{shown}
 use Rattle.thread_blocks.specs.Turns.{finishing}
 use Rattle.transcript_text.specs.Texts.{Shown}
 use Rattle.job_turns.specs.Standing.{Run}
-use Rattle.job_turns.specs.Progress.{IsFirst, Progress, Stands, StandsForSome, TakesTurns}
+use Rattle.job_turns.specs.Progress.{IsFirst, Runners, Stands, StandsForSome, is_over}
+use Rattle.job_turns.specs.Turning.{TurnedIn}
 use Rattle.job_turns.specs.Transcripts.{transcript_of}
 use Rattle.job_turns.proofs.FirstTurn.{first_stands}
-use Rattle.job_turns.proofs.Lists.{same_images, set-length}
-use Rattle.job_turns.proofs.Orders.{takes_both}
+use Rattle.thread_turns.proofs.Lists.{same_images, set-length}
+use Rattle.job_turns.proofs.Orders.{turns_stand}
+use Rattle.thread_turns.specs.Orders.{TakesTurns}
+use Rattle.thread_turns.proofs.Orders.{takes_both}
 
 -- ---- the transcript
 
@@ -41,7 +44,7 @@ map-map : {X Y Z : Type 0} (f : Y → Z) (g : X → Y) (xs : List X) → map f (
 map-map f g [] = refl
 map-map f g (x ∷ xs) = ap (λ ys. f (g x) ∷ ys) (map-map f g xs)
 
-pub stands_shown : (m : JobImages) (fuel : ℕ) (w : Shared ℕ Bool ℕ Line) (x : Progress) → Stands m fuel w x
+pub stands_shown : (m : JobImages) (fuel : ℕ) (w : Shared ℕ Bool ℕ Line) (x : Runners) → Stands m fuel w x
     → Tells w (transcript_of x)
 stands_shown m fuel w x stands = record {
   events = stands.events_are;
@@ -52,7 +55,7 @@ stands_shown m fuel w x stands = record {
 
 -- ---- before the first turn it stands for the threads of its job
 
-pub first_some : (m : JobImages) (job : JobParts) (x : Progress) → IsFirst m job x → StandsForSome x
+pub first_some : (m : JobImages) (job : JobParts) (x : Runners) → IsFirst m job x → StandsForSome x
 first_some m job x first = record {
   images = m;
   fuel = job.fuel;
@@ -130,13 +133,15 @@ module _ (m : JobImages) (images : List Image) (are : m.kinds ≡ map (λ image.
 
 -- ---- all of it
 
-module _ (m : JobImages) (job : JobParts) (x y z : Progress) (first : IsFirst m job x) (takes : TakesTurns x job.order y)
-    (finishes : TakesTurns y (finishing (4 * job.fuel) 1 job.lines) z) where
+module _ (m : JobImages) (job : JobParts) (x y z : Runners) (first : IsFirst m job x)
+    (takes : TakesTurns is_over TurnedIn x job.order y)
+    (finishes : TakesTurns is_over TurnedIn y (finishing (4 * job.fuel) 1 job.lines) z) where
   whole_world : Stands m job.fuel (job_world (job_loads m) job.fuel job.lines job.order) z
   unfolding job_world
   whole_world =
-      (takes_both x y z job.order (finishing (4 * job.fuel) 1 job.lines) takes finishes).turns m job.fuel
-      (job_start (job_loads m) job.lines) (first_stands m job x first)
+      turns_stand m job.fuel (job.order ++ finishing (4 * job.fuel) 1 job.lines) (job_start (job_loads m) job.lines) x z
+      (first_stands m job x first)
+      (takes_both is_over TurnedIn x y z job.order (finishing (4 * job.fuel) 1 job.lines) takes finishes)
 
   pub all_shown : {X : Type 0} (result : Result Shown X) → IfOk result (λ shown. shown ≡ transcript_of z)
       → IfOk result (λ shown. Tells (job_world (job_loads m) job.fuel job.lines job.order) shown)

@@ -7,7 +7,6 @@ pub mod FirstTurn
 pub mod HeldWith
 pub mod LastTurn
 pub mod LinesBegun
-pub mod Lists
 pub mod Numbers
 pub mod OneTurn
 pub mod OpensBegun

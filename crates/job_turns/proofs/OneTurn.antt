@@ -22,10 +22,11 @@ use Rattle.job_turns.specs.declared.asking.Ask.TheVariants.{Done, Look, Opens, C
 use Rattle.job_turns.specs.Asking.{ask_by, ask_next}
 use Rattle.thread_space.specs.Kept.{HasSeen, Kept, shared_of}
 use Rattle.job_turns.specs.Standing.{PhaseIs, Run, StandsAfter, StandsFor, TakesTurn, Waiting, ask_now, ask_of}
-use Rattle.job_turns.specs.Progress.{IsRunner, Progress, Stands, is_done, is_over, is_thread_over, job_order}
+use Rattle.job_turns.specs.Progress.{IsRunner, Runners, Stands, is_done, is_over, job_order}
+use Rattle.thread_turns.specs.Orders.{is_over as is_none_left, is_thread_over}
 use Rattle.job_turns.specs.Turning.{Turned, event_asked}
 use Rattle.job_turns.proofs.FinishedTurns.{done_adds_none, done_shared, done_stands, done_turn}
-use Rattle.job_turns.proofs.Lists.{at_drop, beside, none_beside, none_drop, set_same}
+use Rattle.thread_turns.proofs.Lists.{at_drop, beside, none_beside, none_drop, set_same}
 use Rattle.job_turns.proofs.Standings.{Behind, stands_then}
 
 -- ---- nothing left to do
@@ -36,7 +37,7 @@ is_done_done (Look line) done = cc
 is_done_done (Opens line image) done = cc
 is_done_done (Closes line image) done = cc
 
-module _ (m : JobImages) (fuel : ℕ) (w : Shared ℕ Bool ℕ Line) (x : Progress) (stands : Stands m fuel w x) where
+module _ (m : JobImages) (fuel : ℕ) (w : Shared ℕ Bool ℕ Line) (x : Runners) (stands : Stands m fuel w x) where
   abbrev turned_by : ℕ → Option (Thread Runs Line Event) → Shared ℕ Bool ℕ Line
   turned_by thread t =
       shared_turn (λ n. thread_turns (job_loads m) n fuel) (λ n. event_by (job_loads m) n) w thread t
@@ -45,14 +46,14 @@ module _ (m : JobImages) (fuel : ℕ) (w : Shared ℕ Bool ℕ Line) (x : Progre
   left_now = past (infos m) (last_offset m) w.events
 
   abbrev shared_now : List (Owned ℕ)
-  shared_now = shared_of m left_now x.pieces
+  shared_now = shared_of m left_now x.shared.pieces
 
   module _ (k : ℕ) (r : Run) (t : Thread Runs Line Event) (at_r : slice_get x.runs k ≡ Some r) (at_t : slice_get w.threads k ≡ Some t) where
     runner : IsRunner m fuel (suc k) w.events r t
     runner = stands.each k r t at_r at_t
 
     module _ (done : ask_of r ≡ Done) where
-      done_behind : Behind m fuel w x stands None k x.history x.pieces r (without_data (with_data shared_now t)) shared_now
+      done_behind : Behind m fuel w x stands None k x.shared.registry x.shared.pieces r (without_data (with_data shared_now t)) shared_now
       done_behind = record {
         infos_are = refl;
         last_is = refl;
@@ -64,7 +65,7 @@ module _ (m : JobImages) (fuel : ℕ) (w : Shared ℕ Bool ℕ Line) (x : Progre
           thread_is = runner.thread_is;
           images_are = runner.images_are;
           fuel_is = runner.fuel_is;
-          stands = done_stands r t runner.stands done (thread_turns (job_loads m) (suc k) fuel) w.events m left_now x.pieces;
+          stands = done_stands r t runner.stands done (thread_turns (job_loads m) (suc k) fuel) w.events m left_now x.shared.pieces;
           front = runner.front;
           rest = runner.rest;
           events_are = runner.events_are;
@@ -78,28 +79,28 @@ module _ (m : JobImages) (fuel : ℕ) (w : Shared ℕ Bool ℕ Line) (x : Progre
           let turns = thread_turns (job_loads m) (suc k) fuel in
           rw (
             stands.shared_is,
-            done_turn r t runner.stands done turns w.events m left_now x.pieces,
-            done_adds_none r t runner.stands done turns w.events m left_now x.pieces (event_by (job_loads m) (suc k)),
-            done_shared r t runner.stands done turns w.events m left_now x.pieces,
+            done_turn r t runner.stands done turns w.events m left_now x.shared.pieces,
+            done_adds_none r t runner.stands done turns w.events m left_now x.shared.pieces (event_by (job_loads m) (suc k)),
+            done_shared r t runner.stands done turns w.events m left_now x.shared.pieces,
           ) refl
 
       done_stays : Stands m fuel (turned_by (suc k) (Some t)) x
       done_stays =
-          let same : record { history = x.history; pieces = x.pieces; runs = slice_set x.runs k r } ≡ x =
-          ap (λ runs. record { history = x.history; pieces = x.pieces; runs = runs }) (set_same x.runs k r at_r) in
+          let same : record { shared = x.shared; runs = slice_set x.runs k r } ≡ x =
+          ap (λ runs. record { shared = x.shared; runs = runs }) (set_same x.runs k r at_r) in
           rw done_world
           (subst (λ y. Stands m fuel (record { threads = slice_set w.threads k (without_data (with_data shared_now t)); events = w.events; shared = shared_now }) y)
           same
-          (stands_then m fuel w x stands None k x.history x.pieces r (without_data (with_data shared_now t)) shared_now done_behind))
+          (stands_then m fuel w x stands None k x.shared.registry x.shared.pieces r (without_data (with_data shared_now t)) shared_now done_behind))
 
-  over_stays_at : (k : ℕ) (r : Option Run) → slice_get x.runs k ≡ r → is_over r ≡ true
+  over_stays_at : (k : ℕ) (r : Option Run) → slice_get x.runs k ≡ r → is_none_left is_over r ≡ true
       → Stands m fuel (turned_by (suc k) (slice_get w.threads k)) x
   over_stays_at k None at over = rw (none_beside x.runs w.threads k stands.count at) stands
   over_stays_at k (Some r) at over =
       let found = beside x.runs w.threads k r stands.count at in
       rw found.1 (done_stays k r found.0 at found.1 (is_done_done (ask_of r) over))
 
-  pub over_stays : (thread : ℕ) → is_thread_over x.runs thread ≡ true
+  pub over_stays : (thread : ℕ) → is_thread_over is_over x.runs thread ≡ true
       → Stands m fuel (job_order m fuel (thread ∷ []) w) x
   over_stays zero over = stands
   over_stays (suc k) over = over_stays_at k (slice_get x.runs k) refl over
@@ -176,28 +177,28 @@ rest_leaves r events front rest are has_seen =
     rw are (past-append (infos r.kept.vector.images) (last_offset r.kept.vector.images) front rest
     ∙ ap (λ p. after p rest) has_seen)
 
-module _ (m : JobImages) (fuel : ℕ) (w : Shared ℕ Bool ℕ Line) (x : Progress) (stands : Stands m fuel w x)
+module _ (m : JobImages) (fuel : ℕ) (w : Shared ℕ Bool ℕ Line) (x : Runners) (stands : Stands m fuel w x)
     (k : ℕ) (r : Run) (t : Thread Runs Line Event) (is : IsRunner m fuel (suc k) w.events r t)
-    (h : History) (d : List Piece) (r' : Run) (turned : Turned x.history x.pieces r h d r') where
+    (h : History) (d : List Piece) (r' : Run) (turned : Turned x.shared.registry x.shared.pieces r h d r') where
   abbrev adds : Option Event
   adds = event_of (event_by (job_loads m) (suc k)) t w.events
 
   abbrev then : Thread Runs Line Event
   then = turn (thread_turns (job_loads m) (suc k) fuel) (with_data w.shared t) w.events
 
-  history_leaves : left x.history ≡ past (infos m) (last_offset m) w.events
+  history_leaves : left x.shared.registry ≡ past (infos m) (last_offset m) w.events
   unfolding left
   history_leaves = rw (stands.infos_are, stands.last_is, stands.events_are) refl
 
-  rest_taken : drop r.kept.vector.past.seen x.history.events ≡ is.rest
-  rest_taken = rest_is r x.history.events is.front is.rest (stands.events_are ∙ is.events_are) is.has_seen
+  rest_taken : drop r.kept.vector.past.seen x.shared.registry.events ≡ is.rest
+  rest_taken = rest_is r x.shared.registry.events is.front is.rest (stands.events_are ∙ is.events_are) is.has_seen
 
   leaves : past (infos m) (last_offset m) w.events ≡ after r.kept.vector.past is.rest
   leaves = rw (← is.images_are) (rest_leaves r w.events is.front is.rest is.events_are is.has_seen)
 
   after_turn : StandsAfter r' d (with_event w.events adds) then
-  after_turn = takes_as m fuel (suc k) r r' is.rest w.events x.pieces d t w.shared is.images_are is.thread_is is.fuel_is
-      is.stands (subst (λ rest. TakesTurn r rest x.pieces r' d) rest_taken turned.takes) leaves stands.shared_is
+  after_turn = takes_as m fuel (suc k) r r' is.rest w.events x.shared.pieces d t w.shared is.images_are is.thread_is is.fuel_is
+      is.stands (subst (λ rest. TakesTurn r rest x.shared.pieces r' d) rest_taken turned.takes) leaves stands.shared_is
 
   images_then : r'.kept.vector.images ≡ m
   images_then = turned.takes.same.images ∙ is.images_are
@@ -230,13 +231,13 @@ module _ (m : JobImages) (fuel : ℕ) (w : Shared ℕ Bool ℕ Line) (x : Progre
   }
 
   turn_stands : Stands m fuel (turned_by m fuel w x stands (suc k) (Some t))
-      (record { history = h; pieces = d; runs = slice_set x.runs k r' })
+      (record { shared = record { registry = h; pieces = d }; runs = slice_set x.runs k r' })
   turn_stands = stands_then m fuel w x stands adds k h d r' (without_data then) (data_in (owned_by (held_in then.phase))) behind
 
-pub turned_stands : (m : JobImages) (fuel : ℕ) (w : Shared ℕ Bool ℕ Line) (x : Progress) (k : ℕ) (r : Run)
-    (h : History) (d : List Piece) (r' : Run) → slice_get x.runs k ≡ Some r → Turned x.history x.pieces r h d r'
+pub turned_stands : (m : JobImages) (fuel : ℕ) (w : Shared ℕ Bool ℕ Line) (x : Runners) (k : ℕ) (r : Run)
+    (h : History) (d : List Piece) (r' : Run) → slice_get x.runs k ≡ Some r → Turned x.shared.registry x.shared.pieces r h d r'
     → Stands m fuel w x
-    → Stands m fuel (job_order m fuel (suc k ∷ []) w) (record { history = h; pieces = d; runs = slice_set x.runs k r' })
+    → Stands m fuel (job_order m fuel (suc k ∷ []) w) (record { shared = record { registry = h; pieces = d }; runs = slice_set x.runs k r' })
 turned_stands m fuel w x k r h d r' at turned stands =
     let found = beside x.runs w.threads k r stands.count at in
     rw found.1

@@ -13,8 +13,8 @@ use Rattle.thread_blocks.specs.RunTime.{Runs}
 use Rattle.thread_blocks.specs.Turns.{Thread, with_event}
 use Rattle.thread_space.specs.Kept.{shared_of}
 use Rattle.job_turns.specs.Standing.{Run}
-use Rattle.job_turns.specs.Progress.{IsRunner, Progress, Stands}
-use Rattle.job_turns.proofs.Lists.{each_set, set-length}
+use Rattle.job_turns.specs.Progress.{IsRunner, Runners, Stands}
+use Rattle.thread_turns.proofs.Lists.{each_set, set-length}
 
 -- an event after a front of a history comes after its rest
 pub front_grows : {E : Type 0} (events front rest : List E) (e : Option E) → events ≡ front ++ rest
@@ -35,25 +35,25 @@ runner_grows m fuel thread events e r t is = record {
   has_seen = is.has_seen;
 }
 
-module _ (m : JobImages) (fuel : ℕ) (w : Shared ℕ Bool ℕ Line) (x : Progress) (stands : Stands m fuel w x) (e : Option Event) where
+module _ (m : JobImages) (fuel : ℕ) (w : Shared ℕ Bool ℕ Line) (x : Runners) (stands : Stands m fuel w x) (e : Option Event) where
   abbrev events_then : List Event
   events_then = with_event w.events e
 
   -- what is behind the turn of thread k
   pub record Behind (k : ℕ) (h : History) (d : List Piece) (r : Run) (t : Thread Runs Line Event) (shared : List (Owned ℕ)) : Type 0 where
-    pub infos_are : h.infos ≡ x.history.infos
-    pub last_is : h.last_offset ≡ x.history.last_offset
+    pub infos_are : h.infos ≡ x.shared.registry.infos
+    pub last_is : h.last_offset ≡ x.shared.registry.last_offset
     pub events_are : h.events ≡ events_then
     pub legal : IsLegal h.infos h.last_offset h.events
-    pub pieces_are : length d ≡ length x.pieces
+    pub pieces_are : length d ≡ length x.shared.pieces
     pub shared_is : shared ≡ shared_of m (past (infos m) (last_offset m) events_then) d
     pub runner : IsRunner m fuel (suc k) events_then r t
 
   abbrev world_then : ℕ → Thread Runs Line Event → List (Owned ℕ) → Shared ℕ Bool ℕ Line
   world_then k t shared = record { threads = slice_set w.threads k t; events = events_then; shared = shared }
 
-  abbrev then : ℕ → History → List Piece → Run → Progress
-  then k h d r = record { history = h; pieces = d; runs = slice_set x.runs k r }
+  abbrev then : ℕ → History → List Piece → Run → Runners
+  then k h d r = record { shared = record { registry = h; pieces = d }; runs = slice_set x.runs k r }
 
   pub stands_then : (k : ℕ) (h : History) (d : List Piece) (r : Run) (t : Thread Runs Line Event) (shared : List (Owned ℕ))
       → Behind k h d r t shared → Stands m fuel (world_then k t shared) (then k h d r)

@@ -1,13 +1,18 @@
 -- What a thread asks for at its next turn, and the answer of the history's keeper.
-use Rattle.std.specs.Prelude.{ℕ, not, Option, Some, None}
+use Rattle.std.specs.Prelude.{ℕ, not, Option, Some, None, option_map}
 use Rattle.job_text.specs.declared.thread_lines.Action.{Action}
 use Rattle.job_text.specs.declared.thread_lines.Action.TheVariants.{Call, Open, Close, Peek}
 use Rattle.job_text.specs.declared.thread_lines.ThreadLine.{ThreadLine}
+use Rattle.module_table.specs.declared.events.CloseRefusal.{CloseRefusal}
+use Rattle.module_table.specs.declared.events.CloseRefusal.TheVariants.{OutOfMemory as NoRoomToClose}
 use Rattle.module_table.specs.declared.events.Closed.{Closed}
+use Rattle.module_table.specs.declared.events.OpenRefusal.{OpenRefusal}
+use Rattle.module_table.specs.declared.events.OpenRefusal.TheVariants.{OutOfMemory as NoRoomToOpen}
 use Rattle.module_table.specs.declared.events.Opened.{Opened}
 use Rattle.module_table.specs.History.{unless}
 use Rattle.module_table.specs.Modules.{is_loaded}
 use Rattle.module_table.specs.Past.{Past, close_refusal, module_of, open_refusal, opened, released}
+use Rattle.thread_blocks.specs.Lines.{refused_close, refused_open}
 use Rattle.job_turns.specs.declared.asking.Ask.{Ask}
 use Rattle.job_turns.specs.declared.asking.Ask.TheVariants.{Done, Look, Opens, Closes}
 use Rattle.job_turns.specs.declared.asking.LineAnswer.{LineAnswer}
@@ -38,5 +43,17 @@ closed_at p image = record { at = p.seen; gone = not (is_loaded (module_of (rele
 abbrev pub answer_to : Past → Ask → Option LineAnswer
 answer_to p Done = None
 answer_to p (Look line) = None
-answer_to p (Opens line image) = Some (answer.Opened (unless (open_refusal p image) (opened_at p image)))
-answer_to p (Closes line image) = Some (answer.Closed (unless (close_refusal p image) (closed_at p image)))
+answer_to p (Opens line image) =
+    Some (answer.Opened (unless (option_map refused_open (open_refusal p image)) (opened_at p image)))
+answer_to p (Closes line image) =
+    Some (answer.Closed (unless (option_map refused_close (close_refusal p image)) (closed_at p image)))
+
+-- ---- a refusal is an answer, but for want of memory
+
+abbrev pub IsOpensAnswer : OpenRefusal → Type 0
+IsOpensAnswer NoRoomToOpen = ⊥
+IsOpensAnswer refusal = Unit {0}
+
+abbrev pub IsClosesAnswer : CloseRefusal → Type 0
+IsClosesAnswer NoRoomToClose = ⊥
+IsClosesAnswer refusal = Unit {0}

@@ -9,6 +9,7 @@ use Rattle.thread_blocks.specs.Lines.{event_at, unless_refused}
 use Rattle.thread_blocks.specs.Turns.{with_event}
 use Rattle.job_turns.specs.declared.asking.Ask.{Ask}
 use Rattle.job_turns.specs.declared.asking.Ask.TheVariants.{Done, Look, Opens, Closes}
+use Rattle.job_turns.specs.declared.turning.Common.{Common}
 use Rattle.thread_space.specs.Kept.{HasSeen}
 use Rattle.job_turns.specs.Standing.{Run, TakesTurn, ask_of}
 
@@ -41,3 +42,10 @@ pub record Turned (h : History) (d : List Piece) (r : Run) (h' : History) (d' : 
   pub adds : AddsAsked r.kept.vector.thread (ask_of r) h h'
   pub pieces_are : length d' ≡ length d
   pub takes : TakesTurn r (drop r.kept.vector.past.seen h.events) d r' d'
+
+-- the same of what all threads share
+abbrev pub CanTurnIn : Common → Run → Type 0
+CanTurnIn s r = CanTurn s.registry s.pieces r
+
+abbrev pub TurnedIn : Common → Run → Common → Run → Type 0
+TurnedIn s r s' r' = Turned s.registry s.pieces r s'.registry s'.pieces r'

@@ -6,8 +6,8 @@ ghost use Rattle.job_turns.specs.declared.asking.Ask.TheVariants.{Opens, Closes}
 ghost use Rattle.job_turns.specs.Asking.{answer_to};
 ghost use Rattle.job_turns.specs.Turning.{AddsAsked};
 
-use crate::asking::{Ask, LineAnswer};
-use module_table::{CloseRefusal, OpenRefusal, Registry};
+use crate::asking::{Ask, LineAnswer, refused_close, refused_open};
+use module_table::Registry;
 use std::alloc::AllocError;
 
 /// The answer to an open. The only error is out of memory.
@@ -23,8 +23,7 @@ fn open(
 {
     match registry.open(thread, line, image) {
         Ok(opened) => Ok(Some(LineAnswer::Opened(Ok(opened)))),
-        Err(OpenRefusal::OutOfMemory) => Err(AllocError),
-        Err(refusal) => Ok(Some(LineAnswer::Opened(Err(refusal)))),
+        Err(refusal) => Ok(Some(LineAnswer::Opened(Err(refused_open(refusal)?)))),
     }
 }
 
@@ -41,8 +40,7 @@ fn close(
 {
     match registry.close(thread, line, image) {
         Ok(closed) => Ok(Some(LineAnswer::Closed(Ok(closed)))),
-        Err(CloseRefusal::OutOfMemory) => Err(AllocError),
-        Err(refusal) => Ok(Some(LineAnswer::Closed(Err(refusal)))),
+        Err(refusal) => Ok(Some(LineAnswer::Closed(Err(refused_close(refusal)?)))),
     }
 }
 

@@ -1,6 +1,12 @@
 //! What a thread asks for at its next turn, and the answer.
 
+ghost use Rattle.std.specs.Prelude.{◌≡◌, IfOk};
+ghost use Rattle.thread_blocks.specs.Lines.{refused_close, refused_open};
+ghost use Rattle.job_turns.specs.Asking.{IsClosesAnswer, IsOpensAnswer};
+
 use module_table::{CloseRefusal, Closed, OpenRefusal, Opened};
+use std::alloc::AllocError;
+use transcript_text::LineRefusal;
 
 /// What a thread does at its next turn, so that the keeper of the history can answer it.
 #[derive(Clone, Copy, PartialEq, Eq, Debug)]
@@ -15,9 +21,34 @@ pub enum Ask {
     Closes(u32, u32),
 }
 
-/// The registry's answer to an open or a close.
+/// The registry's answer to an open or a close, as a line is handed it.
 #[derive(Clone, Copy, PartialEq, Eq, Debug)]
 pub enum LineAnswer {
-    Opened(Result<Opened, OpenRefusal>),
-    Closed(Result<Closed, CloseRefusal>),
+    Opened(Result<Opened, LineRefusal>),
+    Closed(Result<Closed, LineRefusal>),
+}
+
+/// Why an open was refused. Want of memory is no answer.
+pub fn refused_open(refusal: OpenRefusal) -> Result<LineRefusal, AllocError>
+    ensures shown { IfOk result (λ shown. shown ≡ refused_open refusal) }
+    ensures answers { IfOk result (λ shown. IsOpensAnswer refusal) }
+{
+    match refusal {
+        OpenRefusal::Unknown => Ok(LineRefusal::Unknown),
+        OpenRefusal::Full => Ok(LineRefusal::Full),
+        OpenRefusal::StaticFull => Ok(LineRefusal::StaticFull),
+        OpenRefusal::OutOfMemory => Err(AllocError),
+    }
+}
+
+/// Why a close was refused. Want of memory is no answer.
+pub fn refused_close(refusal: CloseRefusal) -> Result<LineRefusal, AllocError>
+    ensures shown { IfOk result (λ shown. shown ≡ refused_close refusal) }
+    ensures answers { IfOk result (λ shown. IsClosesAnswer refusal) }
+{
+    match refusal {
+        CloseRefusal::Permanent => Ok(LineRefusal::Permanent),
+        CloseRefusal::NotOpen => Ok(LineRefusal::NotOpen),
+        CloseRefusal::OutOfMemory => Err(AllocError),
+    }
 }

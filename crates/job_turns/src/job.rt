@@ -5,7 +5,7 @@ ghost use Rattle.thread_blocks.specs.JobLoads.{job_loads};
 ghost use Rattle.thread_blocks.specs.JobWorlds.{Tells, job_world};
 ghost use Rattle.transcript_text.specs.Texts.{IsImageNumber};
 
-use crate::threads::Threads;
+use crate::threads::{first_threads, transcript};
 use job_text::Job;
 use loaded_modules::Modules;
 use std::alloc::{AllocError, Global};
@@ -22,8 +22,8 @@ pub fn run_job(alloc: Global, job: &Job, modules: &Modules) -> Result<Transcript
         All (λ event. IsImageNumber job.now.images event.image) transcript.events) }
 {
     let names = JobNames::new(alloc, modules)?;
-    let mut threads = Threads::new(alloc, job, modules, &names)?;
+    let mut threads = first_threads(alloc, job, modules, &names)?;
     threads.take_order(job.order())?;
     threads.finish(job)?;
-    threads.transcript(alloc)
+    transcript(alloc, threads)
 }

@@ -22,7 +22,7 @@
 //! loaded images. The definition is a fold over the whole order. Its threads are lists of ranges and states of a
 //! machine, and each turn hands the shared data on to the next. The code keeps something else: a [`Runner`] for each
 //! thread, with its memory ([`thread_space`]), one registry for the history ([`module_table`]), and one copy of the
-//! data of all images ([`module_data`]).
+//! data of all images ([`module_data`]). [`thread_turns`] takes the turns.
 //!
 //! **A runner** has the lines of one thread. Its turn ([`Runner::turn_with`]) is a look and the steps after it
 //! (`taking`): the first look of a line (`lines`), or one in the middle of a call that asked for a block, and then the
@@ -45,8 +45,7 @@
 //! 2. the thread gets the events that it has not seen, without its own, and the answer (`specs/Turning`);
 //! 3. all other runners have seen no more than before, and the longer history still begins with what they saw.
 //!
-//! The definition gives a thread `4 * fuel + 2` turns for each of its lines, which is more than it can need. The code
-//! stops when nothing is left to do, since a turn of a finished thread changes nothing (`proofs/FinishedTurns`).
+//! A turn of a finished thread changes nothing (`proofs/FinishedTurns`).
 #![tactic(auto)]
 
 mod alone;
@@ -62,6 +61,6 @@ mod threads;
 mod turning;
 
 pub use alone::has_data;
-pub use asking::{Ask, LineAnswer};
+pub use asking::{Ask, LineAnswer, refused_close, refused_open};
 pub use job::run_job;
 pub use runner::Runner;

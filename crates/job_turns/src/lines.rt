@@ -1,6 +1,6 @@
 //! The first look of a thread's line.
 
-ghost use Rattle.std.specs.Prelude.{◌≡◌, ◌≤◌, ◌<◌, ◌+◌, ◌-◌, ◌^◌, ℕ, true, None, Some, Result, IfOk, OnOk, length};
+ghost use Rattle.std.specs.Prelude.{◌≡◌, ◌≤◌, ◌<◌, ◌+◌, ◌-◌, ◌^◌, ℕ, true, None, Some, Result, IfOk, OnOk, length, option_map};
 ghost use Rattle.guest_arithmetic.specs.Plain.{plain_operations};
 ghost use Rattle.loaded_modules.specs.Images.{infos};
 ghost use Rattle.module_table.specs.History.{unless};
@@ -20,7 +20,7 @@ use guest_arithmetic::Plain;
 use guest_machine::Machine;
 use job_text::{Action, ThreadLine};
 use loaded_modules::Instance;
-use module_table::{CloseRefusal, Closed, Event, OpenRefusal, Opened};
+use module_table::{Closed, Event, Opened};
 use std::alloc::{AllocError, Global};
 use thread_space::{JobNames, ThreadSpace, end_of_stack, thread_pointer};
 use transcript_text::{Bytes, LineRefusal, Outcome};
@@ -92,25 +92,6 @@ fn see(space: &mut ThreadSpace, event: Event) -> Result<(), AllocError>
     Ok(())
 }
 
-fn refused_open(refusal: OpenRefusal) -> LineRefusal
-    ensures { result ≡ refused_open refusal }
-{
-    match refusal {
-        OpenRefusal::Unknown => LineRefusal::Unknown,
-        OpenRefusal::Full | OpenRefusal::OutOfMemory => LineRefusal::Full,
-        OpenRefusal::StaticFull => LineRefusal::StaticFull,
-    }
-}
-
-fn refused_close(refusal: CloseRefusal) -> LineRefusal
-    ensures { result ≡ refused_close refusal }
-{
-    match refusal {
-        CloseRefusal::Permanent => LineRefusal::Permanent,
-        CloseRefusal::NotOpen | CloseRefusal::OutOfMemory => LineRefusal::NotOpen,
-    }
-}
-
 /// Fills the data of an image, unless it was loaded before.
 fn load_new(space: &mut ThreadSpace, was: bool, image: u32) -> Result<(), AllocError>
     ensures { OnOk result (LoadsNew was
@@ -157,9 +138,9 @@ fn open(
     space: &mut ThreadSpace,
     number: u32,
     line: &ThreadLine,
-    answer: Result<Opened, OpenRefusal>,
+    answer: Result<Opened, LineRefusal>,
 ) -> Result<Started, AllocError>
-    requires answer { answer ≡ unless (open_refusal space.old.vector.past line.now.image)
+    requires answer { answer ≡ unless (option_map refused_open (open_refusal space.old.vector.past line.now.image))
         (opened_at space.old.vector.past line.now.image) }
     requires room { space.old.vector.past.seen + 1 < 2 ^ 62 }
     requires startups { HasStartups space.old.vector }
@@ -169,7 +150,7 @@ fn open(
 {
     match answer {
         Ok(opened) => open_accepted(space, number, line, opened.instance),
-        Err(refusal) => Ok(refused(refused_open(refusal))),
+        Err(refusal) => Ok(refused(refusal)),
     }
 }
 
@@ -200,9 +181,9 @@ fn close(
     space: &mut ThreadSpace,
     number: u32,
     line: &ThreadLine,
-    answer: Result<Closed, CloseRefusal>,
+    answer: Result<Closed, LineRefusal>,
 ) -> Result<Started, AllocError>
-    requires answer { answer ≡ unless (close_refusal space.old.vector.past line.now.image)
+    requires answer { answer ≡ unless (option_map refused_close (close_refusal space.old.vector.past line.now.image))
         (closed_at space.old.vector.past line.now.image) }
     requires room { space.old.vector.past.seen + 1 < 2 ^ 62 }
     requires startups { HasStartups space.old.vector }
@@ -211,7 +192,7 @@ fn close(
 {
     match answer {
         Ok(_) => close_accepted(space, number, line),
-        Err(refusal) => Ok(refused(refused_close(refusal))),
+        Err(refusal) => Ok(refused(refusal)),
     }
 }
 
@@ -284,22 +265,22 @@ fn peek(
 // ** lines
 
 /// The registry's answer to an open.
-fn open_answer(answer: Option<LineAnswer>) -> Result<Opened, OpenRefusal>
-    ensures { (said : Result Opened OpenRefusal) → answer ≡ Some (LineAnswer.Opened said) → result ≡ said }
+fn open_answer(answer: Option<LineAnswer>) -> Result<Opened, LineRefusal>
+    ensures { (said : Result Opened LineRefusal) → answer ≡ Some (LineAnswer.Opened said) → result ≡ said }
 {
     match answer {
         Some(LineAnswer::Opened(said)) => said,
-        _ => Err(OpenRefusal::Unknown),
+        _ => Err(LineRefusal::Unknown),
     }
 }
 
 /// The registry's answer to a close.
-fn close_answer(answer: Option<LineAnswer>) -> Result<Closed, CloseRefusal>
-    ensures { (said : Result Closed CloseRefusal) → answer ≡ Some (LineAnswer.Closed said) → result ≡ said }
+fn close_answer(answer: Option<LineAnswer>) -> Result<Closed, LineRefusal>
+    ensures { (said : Result Closed LineRefusal) → answer ≡ Some (LineAnswer.Closed said) → result ≡ said }
 {
     match answer {
         Some(LineAnswer::Closed(said)) => said,
-        _ => Err(CloseRefusal::NotOpen),
+        _ => Err(LineRefusal::NotOpen),
     }
 }
 

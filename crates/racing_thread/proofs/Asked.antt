@@ -19,7 +19,7 @@ use Rattle.thread_blocks.specs.Turns.{Begun, Ending, Idle, Mid, Phase, Says, Cal
 use Rattle.thread_space.specs.Kept.{Kept}
 use Rattle.job_turns.specs.Asking.{ask_by, ask_next}
 use Rattle.job_turns.specs.Standing.{PhaseIs, Run, StandsFor, Waiting, ask_now, ask_of}
-use Rattle.job_turns.proofs.Lists.{at_drop, none_drop}
+use Rattle.thread_turns.proofs.Lists.{at_drop, none_drop}
 use Rattle.racing_thread.specs.Tallies.{is_registry, is_registry_line}
 use Rattle.racing_thread.proofs.Marking.{Goes, asks_registry}
 

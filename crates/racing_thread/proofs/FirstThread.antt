@@ -27,7 +27,7 @@ use Rattle.thread_vector.specs.Vectors.{fresh, held}
 use Rattle.job_turns.specs.declared.asking.Ask.TheVariants.{Done}
 use Rattle.job_turns.specs.Asking.{ask_by, ask_next}
 use Rattle.job_turns.specs.Standing.{IsFirstRun, IsGoing, IsIdle, PhaseIs, Run, StandsFor, Waiting, ask_now, ask_of}
-use Rattle.job_turns.proofs.Lists.{at_drop, none_drop}
+use Rattle.thread_turns.proofs.Lists.{at_drop, none_drop}
 
 -- ** a runner before its first turn
 

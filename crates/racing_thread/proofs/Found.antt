@@ -1,5 +1,5 @@
 -- What the calls of the shared history tell, as a turn has it.
-use Rattle.std.proofs.Common.{◌≡◌, ◌∙◌, ◌+◌, ◌++◌, ◌<◌, ℕ, Bool, true, false, List, [], ◌∷◌, length, drop, Option, Some, None, Result, Ok, Err, refl, sym, ap, subst, arith, append-nil, length-append}
+use Rattle.std.proofs.Common.{◌≡◌, ◌∙◌, ◌+◌, ◌++◌, ◌<◌, ℕ, Bool, true, false, List, [], ◌∷◌, length, drop, Option, Some, None, Ok, Err, refl, sym, ap, subst, arith, append-nil, length-append}
 use Rattle.std.specs.Prelude.{if◌then◌else◌}
 use Rattle.std.proofs.lemmas.Bool.{and_parts, le-ltb, lt-ltb}
 use Rattle.std.proofs.Math.Seq.{drop-append_seam}
@@ -16,11 +16,11 @@ use Rattle.module_table.specs.Walks.{is_legal-append}
 use Rattle.shared_modules.specs.declared.board.Images.{Images}
 use Rattle.shared_modules.specs.Passes.{PassView, IsAccepted, IsCaught, IsCloseRefused, IsClosed, IsLoaded, IsOpenRefused, IsOpened, IsRefused, IsTold}
 use Rattle.shared_modules.specs.Views.{Knows, history_at}
-use Rattle.thread_blocks.specs.Lines.{event_at, unless_refused}
+use Rattle.thread_blocks.specs.Lines.{event_at, refused_close, refused_open, unless_refused}
 use Rattle.job_turns.specs.declared.asking.Ask.TheVariants.{Opens, Closes}
 use Rattle.job_turns.specs.declared.asking.LineAnswer.TheVariants as answer
-use Rattle.job_turns.specs.Asking.{closed_at, opened_at}
-use Rattle.job_turns.proofs.CutTurns.{close_same, open_same}
+use Rattle.job_turns.specs.Asking.{IsClosesAnswer, IsOpensAnswer, closed_at, opened_at}
+use Rattle.job_turns.proofs.CutTurns.{close_same, handed_err, handed_ok, open_same}
 use Rattle.racing_thread.specs.Answers.{Answers, Finds, Looks, left_by}
 use Rattle.racing_thread.specs.Tallies.{Tally, look_tally}
 
@@ -161,18 +161,18 @@ module _ (p : PassView) (before : List Event) (all : before ≡ p.seen) (q : Pas
 
 -- a refusal that is not want of memory
 module _ (p : PassView) (image : ℕ) (q : PassView) (before after : List Event) where
-  pub open_refused : (refusal : OpenRefusal) → (refusal ≡ NoRoomToOpen → ⊥) → IsOpenRefused p image q before after refusal
+  pub open_refused : (refusal : OpenRefusal) → IsOpensAnswer refusal → IsOpenRefused p image q before after refusal
       → IsRefused p (λ h. open_answer h image ≡ Err refusal) q before after
   open_refused Unknown other is = is
   open_refused Full other is = is
   open_refused StaticFull other is = is
-  open_refused NoRoomToOpen other is = absurd (other refl)
+  open_refused NoRoomToOpen other is = absurd other
 
-  pub close_refused : (refusal : CloseRefusal) → (refusal ≡ NoRoomToClose → ⊥) → IsCloseRefused p image q before after refusal
+  pub close_refused : (refusal : CloseRefusal) → IsClosesAnswer refusal → IsCloseRefused p image q before after refusal
       → IsRefused p (λ h. close_answer h image ≡ Err refusal) q before after
   close_refused Permanent other is = is
   close_refused NotOpen other is = is
-  close_refused NoRoomToClose other is = absurd (other refl)
+  close_refused NoRoomToClose other is = absurd other
 
 module _ (p : PassView) (history : List Event) (image : ℕ) where
   abbrev h : History
@@ -196,19 +196,21 @@ module _ (p : PassView) (before : List Event) (all : before ≡ p.seen) (q : Pas
       let none = unless_ok (open_refusal (left_by p after) image) (opened_at (left_by p after) image) opened found in
       record {
         finds = accepted_finds p before all q after (event_at thread line true image) says is;
-        answer_is = ap (λ (r : Result Opened OpenRefusal). Some (answer.Opened r)) (sym found);
+        answer_is = ap (λ r. Some (answer.Opened r))
+            (sym (handed_ok refused_open (open_refusal (left_by p after) image) (opened_at (left_by p after) image) opened found));
         own_is = ap (λ (r : Option OpenRefusal). unless_refused r (event_at thread line true image)) (sym none);
       }
 
   pub not_opens : (refusal : OpenRefusal) → IsRefused p (λ h. open_answer h image ≡ Err refusal) q before after
-      → Answers thread (Opens line image) p after q (Some (answer.Opened (Err refusal))) None
+      → Answers thread (Opens line image) p after q (Some (answer.Opened (Err (refused_open refusal)))) None
   not_opens refusal is =
       let says = λ (h : History). open_answer h image ≡ Err refusal in
       let found = open_is p after image ∙ refused_answer p before all q after says is in
       let some = unless_err (open_refusal (left_by p after) image) (opened_at (left_by p after) image) refusal found in
       record {
         finds = refused_finds p before all q after says is;
-        answer_is = ap (λ (r : Result Opened OpenRefusal). Some (answer.Opened r)) (sym found);
+        answer_is = ap (λ r. Some (answer.Opened r))
+            (sym (handed_err refused_open (open_refusal (left_by p after) image) (opened_at (left_by p after) image) refusal found));
         own_is = ap (λ (r : Option OpenRefusal). unless_refused r (event_at thread line true image)) (sym some);
       }
 
@@ -220,18 +222,20 @@ module _ (p : PassView) (before : List Event) (all : before ≡ p.seen) (q : Pas
       let none = unless_ok (close_refusal (left_by p after) image) (closed_at (left_by p after) image) closed found in
       record {
         finds = accepted_finds p before all q after (event_at thread line false image) says is;
-        answer_is = ap (λ (r : Result Closed CloseRefusal). Some (answer.Closed r)) (sym found);
+        answer_is = ap (λ r. Some (answer.Closed r))
+            (sym (handed_ok refused_close (close_refusal (left_by p after) image) (closed_at (left_by p after) image) closed found));
         own_is = ap (λ (r : Option CloseRefusal). unless_refused r (event_at thread line false image)) (sym none);
       }
 
   pub not_closes : (refusal : CloseRefusal) → IsRefused p (λ h. close_answer h image ≡ Err refusal) q before after
-      → Answers thread (Closes line image) p after q (Some (answer.Closed (Err refusal))) None
+      → Answers thread (Closes line image) p after q (Some (answer.Closed (Err (refused_close refusal)))) None
   not_closes refusal is =
       let says = λ (h : History). close_answer h image ≡ Err refusal in
       let found = close_is p after image ∙ refused_answer p before all q after says is in
       let some = unless_err (close_refusal (left_by p after) image) (closed_at (left_by p after) image) refusal found in
       record {
         finds = refused_finds p before all q after says is;
-        answer_is = ap (λ (r : Result Closed CloseRefusal). Some (answer.Closed r)) (sym found);
+        answer_is = ap (λ r. Some (answer.Closed r))
+            (sym (handed_err refused_close (close_refusal (left_by p after) image) (closed_at (left_by p after) image) refusal found));
         own_is = ap (λ (r : Option CloseRefusal). unless_refused r (event_at thread line false image)) (sym some);
       }

@@ -5,8 +5,8 @@ ghost use Rattle.shared_modules.specs.Passes.{IsSamePass};
 ghost use Rattle.job_turns.specs.declared.asking.Ask.TheVariants.{Opens, Closes};
 ghost use Rattle.racing_thread.specs.Answers.{Answers, Looks};
 
-use job_turns::{Ask, LineAnswer};
-use module_table::{CloseRefusal, Event, OpenRefusal};
+use job_turns::{Ask, LineAnswer, refused_close, refused_open};
+use module_table::Event;
 use shared_modules::{Pass, Shared};
 use std::alloc::AllocError;
 use std::sync::Wait;
@@ -64,13 +64,10 @@ fn open<R: Wait>(
                 image,
             }),
         }),
-        Err(refusal) => match refusal {
-            OpenRefusal::OutOfMemory => Err(AllocError),
-            _ => Ok(Answered {
-                answer: Some(LineAnswer::Opened(Err(refusal))),
-                own: None,
-            }),
-        },
+        Err(refusal) => Ok(Answered {
+            answer: Some(LineAnswer::Opened(Err(refused_open(refusal)?))),
+            own: None,
+        }),
     }
 }
 
@@ -101,13 +98,10 @@ fn close<R: Wait>(
                 image,
             }),
         }),
-        Err(refusal) => match refusal {
-            CloseRefusal::OutOfMemory => Err(AllocError),
-            _ => Ok(Answered {
-                answer: Some(LineAnswer::Closed(Err(refusal))),
-                own: None,
-            }),
-        },
+        Err(refusal) => Ok(Answered {
+            answer: Some(LineAnswer::Closed(Err(refused_close(refusal)?))),
+            own: None,
+        }),
     }
 }
 

@@ -1,4 +1,8 @@
 -- What the shared history tells of an close, as a turn has it.
+use Rattle.std.proofs.Common.{Err, None, Some, subst, sym}
+use Rattle.job_turns.specs.declared.asking.Ask.TheVariants.{Closes}
+use Rattle.job_turns.specs.declared.asking.LineAnswer.TheVariants.{Closed}
+use Rattle.racing_thread.specs.Answers.{Answers}
 use Rattle.racing_thread.proofs.Found.{closes, not_closes, close_refused}
 use Rattle.racing_thread.proofs.looks.close.Goals as goal
 
@@ -7,11 +11,12 @@ returns-in-Ok-clause-closes g c =
     closes c.args.pass.now c.args.events.now.items c.requires.all c.close.new.pass c.close.new.into.items c.args.thread
     c.args.line c.args.image c.in-Ok.closed c.in-Ok.ensures.closed
 
-pub returns-in_default : goal.returns-in_default
-returns-in_default g c = record {
-  closes = not_closes c.args.pass.now c.args.events.now.items c.requires.all c.close.new.pass c.close.new.into.items
-      c.args.thread c.args.line c.args.image c.in-Err.refusal
-      (close_refused c.args.pass.now c.args.image c.close.new.pass c.args.events.now.items c.close.new.into.items
-      c.in-Err.refusal c.in_default.not-OutOfMemory c.in-Err.ensures.refused);
-  same = c.close.ensures.same;
-}
+pub returns-in_ok-refused_close-in-Err-clause-closes : goal.returns-in_ok-refused_close-in-Err-clause-closes
+returns-in_ok-refused_close-in-Err-clause-closes g c =
+    let refused = c.in_ok-refused_close-in-Err in
+    subst (λ shown. Answers c.args.thread (Closes c.args.line c.args.image) c.args.pass.now c.close.new.into.items
+    c.close.new.pass (Some (Closed (Err shown))) None) (sym refused.ensures.shown)
+    (not_closes c.args.pass.now c.args.events.now.items c.requires.all c.close.new.pass c.close.new.into.items c.args.thread
+    c.args.line c.args.image c.in-Err.refusal
+    (close_refused c.args.pass.now c.args.image c.close.new.pass c.args.events.now.items c.close.new.into.items
+    c.in-Err.refusal refused.ensures.answers c.in-Err.ensures.refused))

@@ -2,14 +2,14 @@ use Rattle.std.proofs.Common.{◌≡◌, ◌+◌, ◌∙◌, ℕ, List, [], ◌�
 use Rattle.std.proofs.lemmas.List.{length-append}
 use Rattle.std.specs.Prelude.{slice_get}
 use Rattle.job_turns.specs.Standing.{IsFirstRun, Run}
-use Rattle.job_turns.proofs.Lists.{each_push}
-use Rattle.job_turns.proofs.threads.Threads.new.Goals as goal
+use Rattle.thread_turns.proofs.Lists.{each_push}
+use Rattle.job_turns.proofs.threads.first_threads.Goals as goal
 
 pub loop-thread-preserved : goal.loop-thread-preserved
 loop-thread-preserved c =
     let m = c.args.modules.now in
     let job = c.args.job.now in
-    let before = c.loop-thread.runners.items in
+    let before = c.loop-thread.threads.items in
     let r = c.in_ok-new.field-0 in
     let long = ap length c.in_ok-push.ensures.items ∙ length-append before (r ∷ []) in
     let first = subst (λ images. IsFirstRun c.loop-thread.thread images job r) c.requires c.in_ok-new.ensures in

@@ -1,6 +1,6 @@
 use Rattle.std.proofs.Common.{◌≡◌, map, take, []}
 use Rattle.job_turns.specs.Standing.{Run}
-use Rattle.job_turns.proofs.threads.Threads.transcript.Given as goal
+use Rattle.job_turns.proofs.threads.transcript.Given as goal
 
 -- the threads so far, and no event
 abbrev pub invariant-loop-runner : goal.invariant-loop-runner
@@ -10,5 +10,5 @@ invariant-loop-runner l =
 -- all threads, and the events so far
 abbrev pub invariant-loop-event : goal.invariant-loop-event
 invariant-loop-event l =
-    (l.transcript.threads ≡ map (λ (r : Run). r.said) l.fn.self.runs)
+    (l.transcript.threads ≡ map (λ (r : Run). r.said) l.fn.all.threads.items)
     × (l.transcript.events ≡ take l.event-index l.event-items)

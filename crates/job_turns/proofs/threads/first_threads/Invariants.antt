@@ -1,10 +1,10 @@
 use Rattle.std.proofs.Common.{◌≡◌, ◌+◌, ℕ, length, Some}
 use Rattle.std.specs.Prelude.{slice_get}
 use Rattle.job_turns.specs.Standing.{IsFirstRun, Run}
-use Rattle.job_turns.proofs.threads.Threads.new.Given as goal
+use Rattle.job_turns.proofs.threads.first_threads.Given as goal
 
 -- the threads so far
 abbrev pub invariant-loop-thread : goal.invariant-loop-thread
 invariant-loop-thread l =
-    (length l.runners.items + 1 ≡ l.thread)
-    × ((k : ℕ) (r : Run) → slice_get l.runners.items k ≡ Some r → IsFirstRun (k + 1) l.modules l.job r)
+    (length l.threads.items + 1 ≡ l.thread)
+    × ((k : ℕ) (r : Run) → slice_get l.threads.items k ≡ Some r → IsFirstRun (k + 1) l.modules l.job r)
