@@ -11,6 +11,7 @@ ghost use Rattle.loaded_modules.specs.Words.{lent_part};
 use crate::infos::tls_of;
 use crate::instance::Instance;
 use crate::modules::Modules;
+use crate::parts::LoadedImage;
 use crate::relocating::lies_in;
 use image_file::{Image, ImagePart, TlsPart};
 
@@ -55,7 +56,12 @@ impl Modules {
         if let Some(part) = initial_part(image, tls) {
             let from = tls.address - part.address;
             let initial = &mut into[..tls.initial as usize];
-            self.read_window(image, instance, part, from, initial);
+            let loaded = LoadedImage {
+                modules: self,
+                image,
+                instance,
+            };
+            loaded.read_window(part, from, initial);
         }
     }
 
