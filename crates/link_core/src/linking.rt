@@ -85,7 +85,7 @@ fn laid(alloc: Global, plan: &Plan) -> Result<Vec<u8>, AllocError>
     ensures { IfOk result (λ file. file.items ≡ sections_file (layout plan.now) plan.now.objects) }
 {
     let inputs = &plan.inputs;
-    lay_sections(alloc, &inputs.placement, inputs.kind, inputs.objects)
+    lay_sections(alloc, &inputs.placement, inputs.objects)
 }
 
 /// The image of a link.

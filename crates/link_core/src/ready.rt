@@ -145,8 +145,8 @@ fn planned<'l, 's, 'a>(
     Ok(ReadyLink { tables })
 }
 
-/// A ready link of objects with these bindings and this placement. The error is the first fault of those that remain,
-/// except `Overflow`.
+/// A ready link of objects with these bindings, which the image's kind admits. The error is the first fault of those
+/// that remain, except `Overflow`.
 fn within_limits<'l, 's, 'a>(
     alloc: Global,
     objects: &'l [Object<'a>],
@@ -154,7 +154,6 @@ fn within_limits<'l, 's, 'a>(
     kind: ImageKind,
     relax: bool,
     bindings: Bindings<'l, 's, 'a>,
-    placement: Placement,
 ) -> Result<ReadyLink<'l, 's, 'a>, LinkFault>
     requires few { length bindings.startup < 2 ^ 32 - 1 }
     requires each { length sites.now ≡ length objects.now }
@@ -163,12 +162,11 @@ fn within_limits<'l, 's, 'a>(
     requires objects { bindings.objects ≡ objects.now }
     requires resolved { AreResolved objects.now bindings.startup }
     requires kind { FitsKind objects.now kind }
-    requires places { placement ≡ layout_of kind objects.now }
-    requires lawful { IsLawful placement }
     ensures ready { IfOk result (λ ready. ready ≡ link_of objects.now sites.now kind bindings.entry.startup relax) }
     ensures sound { OnOk result (IsSound (link_of objects.now sites.now kind bindings.entry.startup relax)) }
     ensures fault { IfErr result (IsLinkFault (link_of objects.now sites.now kind bindings.entry.startup relax)) }
 {
+    let placement = place(alloc, objects, kind)?;
     let names = named(alloc, objects, sites, kind, relax, &bindings)?;
     let block_offset = storage(alloc, objects, &bindings, kind, &placement)?;
     let inputs = Inputs {
@@ -204,8 +202,7 @@ pub fn prepare<'l, 's, 'a>(
 {
     let bindings = resolve(alloc, objects, startup)?;
     ask_kind(objects, kind)?;
-    let placement = place(alloc, objects, kind)?;
-    within_limits(alloc, objects, sites, kind, relax, bindings, placement)
+    within_limits(alloc, objects, sites, kind, relax, bindings)
 }
 
 /// A link without the names of its dynamic tables.

@@ -10,6 +10,7 @@ ghost use Rattle.loaded_modules.specs.Loader.{block_of, fresh_block, holds};
 use crate::infos::tls_of;
 use crate::instance::Instance;
 use crate::modules::Modules;
+use crate::parts::LoadedImage;
 use crate::relocating::lies_in;
 use image_file::{Image, ImagePart, TlsPart};
 
@@ -54,7 +55,12 @@ impl Modules {
         if let Some(part) = initial_part(image, tls) {
             let from = tls.address - part.address;
             let initial = &mut into[..tls.initial as usize];
-            self.read_window(image, instance, part, from, initial);
+            let loaded = LoadedImage {
+                modules: self,
+                image,
+                instance,
+            };
+            loaded.read_window(part, from, initial);
         }
     }
 

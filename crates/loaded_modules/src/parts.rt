@@ -12,22 +12,33 @@ use crate::relocating::{Target, bias, own_target, relocate, words_of};
 use crate::searches::relocations_below;
 use image_file::{Image, ImagePart, ImageRelocation};
 
-impl Modules {
-    /// The target of a relocation in an instance of the image.
+/// An image as one load of it has it, with all images of the job: its relocations may name symbols of others.
+#[derive(Clone, Copy)]
+pub(crate) struct LoadedImage<'m, 'i, 'l> {
+    pub(crate) modules: &'m Modules,
+    pub(crate) image: &'i Image,
+    pub(crate) instance: &'l Instance,
+}
+
+impl LoadedImage<'_, '_, '_> {
+    /// The target of a relocation.
     #[tactic(auto, unfolding(crate::specs::Loader::target_of))]
-    fn target(&self, image: &Image, instance: &Instance, relocation: ImageRelocation) -> Target
-        requires there { image_at self.now instance.now.image ≡ Some image.now }
-        requires symbol { relocation.symbol < length image.now.names }
-        ensures { result ≡ target_of self.now image.now instance.now relocation }
+    fn target(&self, relocation: ImageRelocation) -> Target
+        requires there { image_at self.now.modules.now self.now.instance.now.image ≡ Some self.now.image.now }
+        requires symbol { relocation.symbol < length self.now.image.now.names }
+        ensures { result ≡ target_of self.now.modules.now self.now.image.now self.now.instance.now relocation }
     {
         if relocation.symbol == 0 {
-            return own_target(instance, relocation);
+            return own_target(self.instance, relocation);
         }
-        match self.import(instance.image, image, relocation.symbol) {
+        match self
+            .modules
+            .import(self.instance.image, self.image, relocation.symbol)
+        {
             Some(export) => Target {
                 id: u64::from(export.image),
                 offset: export.offset,
-                distance: self.static_offset(export.image),
+                distance: self.modules.static_offset(export.image),
             },
             None => Target {
                 id: 0,
@@ -39,56 +50,45 @@ impl Modules {
 
     /// Writes the words of the relocation with this number, as far as they lie in a window of a part. The window
     /// begins `from` bytes past the part's start.
-    fn relocate(
-        &self,
-        image: &Image,
-        instance: &Instance,
-        part: ImagePart,
-        number: u64,
-        from: u64,
-        window: &mut [u8],
-    )
-        requires there { image_at self.now instance.now.image ≡ Some image.now }
+    fn relocate(&self, part: ImagePart, number: u64, from: u64, window: &mut [u8])
+        requires there { image_at self.now.modules.now self.now.instance.now.image ≡ Some self.now.image.now }
         requires inside { from + length window.old ≤ length part.bytes.now }
         ensures len { length window.new ≡ length window.old }
         ensures shows { (bytes : List ℕ) → length bytes ≡ length part.entry.bytes.now → IsWindow bytes from window.old
-            → IsWindow (with_numbered self.now image.now instance.now (lent_part part.entry) bytes
-            (slice_get image.now.relocations number)) from window.new }
+            → IsWindow
+            (with_numbered self.now.modules.now self.now.image.now self.now.instance.now (lent_part part.entry) bytes
+            (slice_get self.now.image.now.relocations number)) from window.new }
     {
-        let _symbols = image.symbol_count();
-        if let Some(relocation) = image.relocation(number) {
-            let target = self.target(image, instance, relocation);
-            let words = words_of(image.kind(), instance, target, relocation);
+        let _symbols = self.image.symbol_count();
+        if let Some(relocation) = self.image.relocation(number) {
+            let target = self.target(relocation);
+            let words = words_of(self.image.kind(), self.instance, target, relocation);
             relocate(window, from, part, relocation.place, words);
         }
     }
 
-    /// Reads a window of a part of an instance.
-    pub(crate) fn read_window(
-        &self,
-        image: &Image,
-        instance: &Instance,
-        part: ImagePart,
-        from: u64,
-        window: &mut [u8],
-    )
-        requires there { image_at self.now instance.now.image ≡ Some image.now }
+    /// Reads a window of a part.
+    pub(crate) fn read_window(&self, part: ImagePart, from: u64, window: &mut [u8])
+        requires there { image_at self.now.modules.now self.now.instance.now.image ≡ Some self.now.image.now }
         requires inside { from + length window.old ≤ length part.bytes.now }
         ensures len { length window.new ≡ length window.old }
-        ensures shows { window.new ≡ slice_range (part_bytes self.now image.now instance.now (lent_part part.entry))
+        ensures shows { window.new ≡ slice_range
+            (part_bytes self.now.modules.now self.now.image.now self.now.instance.now (lent_part part.entry))
             from (from + length window.old) }
     {
         let end = from as usize + window.len();
         window.copy_from_slice(&part.bytes[from as usize..end]);
         // A relocation writes at most 16 bytes, and their places rise: the others do not reach the window.
         let start = u128::from(part.address) + u128::from(from);
-        let first = relocations_below(image, start.saturating_sub(15));
-        let last = relocations_below(image, start + window.len() as u128);
+        let first = relocations_below(self.image, start.saturating_sub(15));
+        let last = relocations_below(self.image, start + window.len() as u128);
         for number in first..last {
-            self.relocate(image, instance, part, number, from, window);
+            self.relocate(part, number, from, window);
         }
     }
+}
 
+impl Modules {
     /// How far the image of an instance is moved: its load bias, which is added to each address of its file.
     #[tactic(auto, unfolding(crate::specs::Loader::bias_of))]
     pub fn bias(&self, instance: &Instance) -> u64
@@ -133,7 +133,12 @@ impl Modules {
     {
         if let Some(image) = self.image(instance.image) {
             if let Some(part) = image.part(part) {
-                self.read_window(image, instance, part, from, into);
+                let loaded = LoadedImage {
+                    modules: self,
+                    image,
+                    instance,
+                };
+                loaded.read_window(part, from, into);
             }
         }
     }

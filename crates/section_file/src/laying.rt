@@ -52,21 +52,19 @@ fn push(file: &mut Vec<u8>, offset: u64, bytes: &[u8], zeros: usize) -> Result<(
 /// The offset of a section in the file. Callers ask only for sections with an address; for others
 /// it is that of address 0.
 #[tactic(auto, using(tls_layout::proofs::Bounds::address_bounds))]
-fn section_offset(placement: &Placement, kind: ImageKind, number: usize, section: u32) -> u64
-    requires kind { placement.now.kind ≡ kind }
+fn section_offset(placement: &Placement, number: usize, section: u32) -> u64
     ensures offset { result ≡ file_offset placement.now (unwrap_or (address_of placement.now number section) 0) }
     ensures near { result ≤ 2 ^ 26 }
 {
     match placement.address(number, section) {
-        Some(address) => offset_of(kind, address),
-        None => PAGE.saturating_sub(kind.base()),
+        Some(address) => offset_of(placement.kind(), address),
+        None => PAGE.saturating_sub(placement.kind().base()),
     }
 }
 
 /// Lays down a section of an object, if it is of the class and has bytes.
 fn push_section(
     placement: &Placement,
-    kind: ImageKind,
     class: SectionClass,
     number: usize,
     object: &Object,
@@ -74,7 +72,6 @@ fn push_section(
     file: &mut Vec<u8>,
 ) -> Result<(), AllocError>
     requires there { section < section_count object.now }
-    requires kind { placement.now.kind ≡ kind }
     ensures { OnOk result (file.new.items
         ≡ with_sections file.old.items (placed_section placement.now class number object.now section)) }
 {
@@ -87,7 +84,7 @@ fn push_section(
     let zeros = part.size as usize - part.bytes.len();
     push(
         file,
-        section_offset(placement, kind, number, section),
+        section_offset(placement, number, section),
         part.bytes,
         zeros,
     )
@@ -97,18 +94,16 @@ fn push_section(
 #[tactic(auto, using(crate::proofs::Laid::one_by_one), unfolding(crate::specs::Files::placed_object))]
 fn push_object(
     placement: &Placement,
-    kind: ImageKind,
     class: SectionClass,
     number: usize,
     object: &Object,
     file: &mut Vec<u8>,
 ) -> Result<(), AllocError>
-    requires kind { placement.now.kind ≡ kind }
     ensures { OnOk result (file.new.items
         ≡ with_sections file.old.items (placed_object placement.now class number object.now)) }
 {
     for section in 0..object.section_count() {
-        push_section(placement, kind, class, number, object, section, file)?;
+        push_section(placement, class, number, object, section, file)?;
     }
     Ok(())
 }
@@ -116,17 +111,15 @@ fn push_object(
 /// Lays down the sections of objects that are of the class.
 fn push_objects(
     placement: &Placement,
-    kind: ImageKind,
     class: SectionClass,
     objects: &[Object],
     file: &mut Vec<u8>,
 ) -> Result<(), AllocError>
-    requires kind { placement.now.kind ≡ kind }
     ensures { OnOk result (file.new.items
         ≡ with_sections file.old.items (placed_from placement.now class 0 objects.now)) }
 {
     for (number, object) in objects.iter().enumerate() {
-        push_object(placement, kind, class, number, object, file)?;
+        push_object(placement, class, number, object, file)?;
     }
     Ok(())
 }
@@ -135,17 +128,20 @@ fn push_objects(
 /// section that programs write always has bytes.
 fn push_end(
     placement: &Placement,
-    kind: ImageKind,
     class: SectionClass,
     file: &mut Vec<u8>,
 ) -> Result<(), AllocError>
-    requires kind { placement.now.kind ≡ kind }
     ensures { OnOk result (file.new.items ≡ with_sections file.old.items (end_mark placement.now class)) }
 {
     let extent = placement.extent(class);
     match class {
         SectionClass::Writable { .. } => Ok(()),
-        _ if extent.start < extent.end => push(file, offset_of(kind, extent.end), &[], 0),
+        _ if extent.start < extent.end => push(
+            file,
+            offset_of(placement.kind(), extent.end),
+            &[],
+            0,
+        ),
         _ => Ok(()),
     }
 }
@@ -154,27 +150,27 @@ fn push_end(
 #[tactic(auto, using(crate::proofs::Laid::sections_append))]
 fn push_class(
     placement: &Placement,
-    kind: ImageKind,
     class: SectionClass,
     objects: &[Object],
     file: &mut Vec<u8>,
 ) -> Result<(), AllocError>
-    requires kind { placement.now.kind ≡ kind }
     ensures { OnOk result (file.new.items
         ≡ with_sections file.old.items (placed_class placement.now objects.now class)) }
 {
-    push_objects(placement, kind, class, objects, file)?;
-    push_end(placement, kind, class, file)
+    push_objects(placement, class, objects, file)?;
+    push_end(placement, class, file)
 }
 
 /// The first page, where headers will stand; memory for the whole file is reserved.
 #[tactic(auto, using(tls_layout::proofs::Bounds::room_above))]
-fn first_page(alloc: Global, placement: &Placement, kind: ImageKind) -> Result<Vec<u8>, AllocError>
-    requires kind { placement.now.kind ≡ kind }
+fn first_page(alloc: Global, placement: &Placement) -> Result<Vec<u8>, AllocError>
     ensures len { IfOk result (λ file. length file.items ≡ 4096) }
     ensures zeros { IfOk result (λ file. file.items ≡ zeros_of (length file.items)) }
 {
-    let mut file = Vec::with_capacity(alloc, offset_of(kind, placement.room()) as usize)?;
+    let mut file = Vec::with_capacity(
+        alloc,
+        offset_of(placement.kind(), placement.room()) as usize,
+    )?;
     file.resize(PAGE as usize, 0)?;
     Ok(file)
 }
@@ -183,17 +179,16 @@ fn first_page(alloc: Global, placement: &Placement, kind: ImageKind) -> Result<V
 pub fn lay_sections(
     alloc: Global,
     placement: &Placement,
-    kind: ImageKind,
     objects: &[Object],
 ) -> Result<Vec<u8>, AllocError>
-    requires { placement.now ≡ layout_of kind objects.now }
+    requires { placement.now ≡ layout_of placement.now.kind objects.now }
     ensures { IfOk result (λ file. file.items ≡ sections_file placement.now objects.now) }
 {
-    let mut file = first_page(alloc, placement, kind)?;
-    push_class(placement, kind, CODE, objects, &mut file)?;
-    push_class(placement, kind, CONSTANTS, objects, &mut file)?;
-    push_class(placement, kind, INITIAL_TLS, objects, &mut file)?;
-    push_class(placement, kind, INITIAL_DATA, objects, &mut file)?;
-    push_class(placement, kind, ZERO_DATA, objects, &mut file)?;
+    let mut file = first_page(alloc, placement)?;
+    push_class(placement, CODE, objects, &mut file)?;
+    push_class(placement, CONSTANTS, objects, &mut file)?;
+    push_class(placement, INITIAL_TLS, objects, &mut file)?;
+    push_class(placement, INITIAL_DATA, objects, &mut file)?;
+    push_class(placement, ZERO_DATA, objects, &mut file)?;
     Ok(file)
 }

@@ -1,5 +1,6 @@
 //! Calls of two passes in turn, with the expected answers.
 
+ghost use Rattle.std.specs.Prelude.{◌≡◌};
 ghost use Rattle.shared_tests.specs.Races.{IsReady};
 
 use crate::start::{halve, started};
@@ -10,47 +11,62 @@ use std::process::Abort;
 use std::sync::Wait;
 use std::test::Fail;
 
-/// A pass's first thread opens or closes an image. The text has the answer, and then how many events
-/// the pass had not seen.
+/// The event that a thread opens an image.
+pub(crate) fn opening(thread: u32, line: u32, image: u32) -> Event
+    ensures { result.thread ≡ thread }
+{
+    Event {
+        thread,
+        line,
+        opens: true,
+        image,
+    }
+}
+
+/// The event that a thread closes an image.
+pub(crate) fn closing(thread: u32, line: u32, image: u32) -> Event
+    ensures { result.thread ≡ thread }
+{
+    Event {
+        opens: false,
+        ..opening(thread, line, image)
+    }
+}
+
+/// A pass's first of 32 threads opens or closes an image, as the event says. The text has the answer, and then how many
+/// events the pass had not seen.
 fn call<R: Wait>(
     rt: &R,
     alloc: Global,
     shared: &Shared,
     pass: &mut Pass,
-    thread: u32,
-    count: u32,
-    line: u32,
-    opens: bool,
-    image: u32,
+    event: Event,
 ) -> Result<String, AllocError>
-    requires { IsReady thread count shared.now pass.old }
-    ensures { IsReady thread count shared.now pass.new }
+    requires { IsReady event.thread 32 shared.now pass.old }
+    ensures { IsReady event.thread 32 shared.now pass.new }
 {
     let mut events: Vec<Event> = Vec::new(alloc);
-    if opens {
-        let answer = shared.open(rt, pass, thread, line, image, &mut events);
+    if event.opens {
+        let answer = shared.open(rt, pass, event.thread, event.line, event.image, &mut events);
         return format!(in alloc; "{answer:?} {}", events.len());
     }
-    let answer = shared.close(rt, pass, thread, line, image, &mut events);
+    let answer = shared.close(rt, pass, event.thread, event.line, event.image, &mut events);
     format!(in alloc; "{answer:?} {}", events.len())
 }
 
-/// A pass's first of 32 threads opens or closes an image; checks the answer.
+/// Likewise, and checks the answer.
 fn ask<R: Wait + Abort>(
     rt: &R,
     alloc: Global,
     shared: &Shared,
     pass: &mut Pass,
-    thread: u32,
-    line: u32,
-    opens: bool,
-    image: u32,
+    event: Event,
     want: &str,
 ) -> Result<(), Fail>
-    requires { IsReady thread 32 shared.now pass.old }
-    ensures { IsReady thread 32 shared.now pass.new }
+    requires { IsReady event.thread 32 shared.now pass.old }
+    ensures { IsReady event.thread 32 shared.now pass.new }
 {
-    let answer = call(rt, alloc, shared, pass, thread, 32, line, opens, image)?;
+    let answer = call(rt, alloc, shared, pass, event)?;
     let found = answer.as_str();
     assert!(rt; found == want, "found {found}, want {want}");
     Ok(())
@@ -68,13 +84,13 @@ fn a_pass_finds_what_the_other_did(rt: HostRuntime) -> Result<(), Fail> {
     let alloc = rt.alloc();
     let (shared, pass) = started(alloc)?;
     let (mut left, mut right) = halve(&shared, pass, 1, 64);
-    ask(&rt, alloc, &shared, &mut left, 1, 1, true, 2, opened)?;
+    ask(&rt, alloc, &shared, &mut left, opening(1, 1, 2), opened)?;
     assert!(rt; shared.newer(&mut right) && !shared.newer(&mut left));
-    ask(&rt, alloc, &shared, &mut right, 33, 1, true, 9, unknown)?;
+    ask(&rt, alloc, &shared, &mut right, opening(33, 1, 9), unknown)?;
     assert!(rt; !shared.newer(&mut right) && right.seen() == 1);
-    ask(&rt, alloc, &shared, &mut right, 33, 2, false, 2, closed)?;
-    ask(&rt, alloc, &shared, &mut left, 1, 2, false, 2, not_open)?;
-    ask(&rt, alloc, &shared, &mut left, 1, 3, false, 1, permanent)?;
+    ask(&rt, alloc, &shared, &mut right, closing(33, 2, 2), closed)?;
+    ask(&rt, alloc, &shared, &mut left, closing(1, 2, 2), not_open)?;
+    ask(&rt, alloc, &shared, &mut left, closing(1, 3, 1), permanent)?;
     let mut events = Vec::new(alloc);
     shared.catch_up(&rt, &mut right, &mut events)?;
     let pass = shared.join(left, right);

@@ -5,6 +5,7 @@
 ghost use Rattle.std.specs.Prelude.{IfOk};
 ghost use Rattle.shared_tests.specs.Races.{IsReady};
 
+use crate::calls::{closing, opening};
 use crate::race::open_and_close;
 use crate::start::{halve, started};
 use module_table::{Event, OpenRefusal, Opened};
@@ -15,23 +16,13 @@ use std::process::Abort;
 use std::sync::Wait;
 use std::test::Fail;
 
-/// An event of thread 33 for image 2.
-fn event(line: u32, opens: bool) -> Event {
-    Event {
-        thread: 33,
-        line,
-        opens,
-        image: 2,
-    }
-}
-
 /// Whether a list has what the second pass did: it opened and closed image 2, twice.
 fn is_lacked(events: &[Event]) -> bool {
     let lacked = [
-        event(1, true),
-        event(2, false),
-        event(1, true),
-        event(2, false),
+        opening(33, 1, 2),
+        closing(33, 2, 2),
+        opening(33, 1, 2),
+        closing(33, 2, 2),
     ];
     events == lacked.as_slice()
 }

@@ -104,6 +104,13 @@ impl Placement {
         entry(&self.tls.offsets, index)
     }
 
+    /// The kind of the image.
+    pub fn kind(&self) -> ImageKind
+        ensures { result ≡ self.now.kind }
+    {
+        self.kind
+    }
+
     /// Where code lies.
     pub fn executable(&self) -> Extent
         ensures extent { result ≡ executable_of self.now.kind self.now.sections }

@@ -9,7 +9,7 @@ use Rattle.link_core.proofs.StepFaults.{same_storage, storage_fault}
 use Rattle.link_core.proofs.ready.within_limits.Goals as goal
 
 pub named-requires-clause-lawful : goal.named-requires-clause-lawful
-named-requires-clause-lawful c = subst IsLawful c.requires.places c.requires.lawful
+named-requires-clause-lawful c = subst IsLawful c.in_ok-placement.ensures.places c.in_ok-placement.ensures.lawful
 
 pub returns-in_err-block_offset-clause-fault : goal.returns-in_err-block_offset-clause-fault
 returns-in_err-block_offset-clause-fault c =
@@ -19,18 +19,18 @@ returns-in_err-block_offset-clause-fault c =
     rw (p.1, p.2)
     (storage_fault l c.requires.resolved c.requires.kind c.in_ok-names.ensures.prepared.limits _
     (same_storage l c.args.bindings.objects c.args.bindings.startup _ c.requires.objects refl
-    (ap (λ (p : Layout). tls_size p.sections) c.requires.places) _ c.in_err-block_offset.ensures.fault))
+    (ap (λ (p : Layout). tls_size p.sections) c.in_ok-placement.ensures.places) _ c.in_err-block_offset.ensures.fault))
 
 pub invariant_of-inputs : goal.invariant_of-inputs
 unfolding block_offset
 invariant_of-inputs c = record {
   given = c.in_ok-names.ensures.prepared.given;
   objects_are = c.requires.objects;
-  placed = c.requires.places;
-  lawful = c.requires.lawful;
+  placed = c.in_ok-placement.ensures.places;
+  lawful = c.in_ok-placement.ensures.lawful;
   distance_is =
       c.in_ok-block_offset.ensures.offset
-      ∙ ap (λ (p : Layout). round_up (tls_size p.sections) (tls_alignment p.sections)) c.requires.places;
+      ∙ ap (λ (p : Layout). round_up (tls_size p.sections) (tls_alignment p.sections)) c.in_ok-placement.ensures.places;
 }
 
 pub returns-clause-sound : goal.returns-clause-sound
@@ -43,7 +43,7 @@ returns-clause-sound c = record {
       (layout (link_of c.args.objects.now c.args.sites.now c.args.kind c.args.bindings.startup c.args.relax)).sections))
       c.requires.objects
       (subst (λ n. FitsStorage c.args.bindings.objects c.args.bindings.startup c.args.kind n)
-      (ap (λ (p : Layout). tls_size p.sections) c.requires.places) c.in_ok-block_offset.ensures.fits);
+      (ap (λ (p : Layout). tls_size p.sections) c.in_ok-placement.ensures.places) c.in_ok-block_offset.ensures.fits);
 }
 
 pub planned-requires-clause-sound : goal.planned-requires-clause-sound
@@ -56,7 +56,7 @@ planned-requires-clause-sound c = record {
       (layout (link_of c.args.objects.now c.args.sites.now c.args.kind c.args.bindings.startup c.args.relax)).sections))
       c.requires.objects
       (subst (λ n. FitsStorage c.args.bindings.objects c.args.bindings.startup c.args.kind n)
-      (ap (λ (p : Layout). tls_size p.sections) c.requires.places) c.in_ok-block_offset.ensures.fits);
+      (ap (λ (p : Layout). tls_size p.sections) c.in_ok-placement.ensures.places) c.in_ok-block_offset.ensures.fits);
 }
 
 pub planned-requires-clause-prepared : goal.planned-requires-clause-prepared

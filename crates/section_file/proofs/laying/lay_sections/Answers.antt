@@ -17,4 +17,4 @@ returns c =
     ∙ ap (λ file. with_sections file (placed_class p objects ReadOnly)) c.in_ok-push_class.ensures)))
     ∙ classes_laid p objects page
     ∙ subst (λ q. with_sections page (placed q objects) ≡ sections_file q objects) (sym c.requires)
-    (all_laid c.args.kind objects page c.in_ok-file.ensures.len c.in_ok-file.ensures.zeros)
+    (all_laid c.args.placement.now.kind objects page c.in_ok-file.ensures.len c.in_ok-file.ensures.zeros)

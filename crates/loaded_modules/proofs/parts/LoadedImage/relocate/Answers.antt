@@ -3,16 +3,16 @@ use Rattle.image_file.specs.declared.relocation.ImageRelocation.{ImageRelocation
 use Rattle.image_rules.specs.declared.places.FileKind.{FileKind}
 use Rattle.loaded_modules.specs.declared.relocating.Target.{Target}
 use Rattle.loaded_modules.specs.Loader.{relocation_bytes, with_written, written_bytes}
-use Rattle.loaded_modules.specs.Words.{with_numbered, words_bytes, IsWindow}
 use Rattle.image_file.specs.Spelled.{lent_part}
-use Rattle.loaded_modules.proofs.modules.Modules.relocate.Goals as goal
+use Rattle.loaded_modules.specs.Words.{with_numbered, words_bytes, IsWindow}
+use Rattle.loaded_modules.proofs.parts.LoadedImage.relocate.Goals as goal
 
 pub returns-in-Some-clause-shows : goal.returns-in-Some-clause-shows
 unfolding relocation_bytes
 returns-in-Some-clause-shows c = λ bytes same shows.
-    let m = c.args.self.now in
-    let image = c.args.image.now in
-    let x = c.args.instance.now in
+    let m = c.args.self.now.modules.now in
+    let image = c.args.self.now.image.now in
+    let x = c.args.self.now.instance.now in
     let part = lent_part c.args.part in
     let r = c.in-Some.relocation in
     let words : words_bytes c.words_of-words.result ≡ relocation_bytes m image x r =

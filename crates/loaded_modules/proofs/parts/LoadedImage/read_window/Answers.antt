@@ -3,15 +3,15 @@ use Rattle.loaded_modules.specs.Words.{IsWindow}
 use Rattle.image_file.specs.Spelled.{lent_part}
 use Rattle.loaded_modules.proofs.Relocated.{length-relocated, relocated, relocated_all, relocated_on, is_window, window_is}
 use Rattle.loaded_modules.proofs.Untouched.{untouched}
-use Rattle.loaded_modules.proofs.modules.Modules.read_window.Goals as goal
+use Rattle.loaded_modules.proofs.parts.LoadedImage.read_window.Goals as goal
 use Rattle.std.specs.List.{slice_get}
 use Rattle.std.proofs.Common.{refl, inl, inr}
 
 pub loop-number-preserved : goal.loop-number-preserved
 loop-number-preserved c =
-    let m = c.args.self.now in
-    let image = c.args.image.now in
-    let x = c.args.instance.now in
+    let m = c.args.self.now.modules.now in
+    let image = c.args.self.now.image.now in
+    let x = c.args.self.now.instance.now in
     let part = lent_part c.args.part in
     let n = c.loop-number.number in (
       subst (λ (b : List ℕ). IsWindow b c.args.from c.relocate.new.window)
@@ -22,9 +22,9 @@ loop-number-preserved c =
 
 pub loop-number-init : goal.loop-number-init
 loop-number-init c =
-    let m = c.args.self.now in
-    let image = c.args.image.now in
-    let x = c.args.instance.now in
+    let m = c.args.self.now.modules.now in
+    let image = c.args.self.now.image.now in
+    let x = c.args.self.now.instance.now in
     let part = lent_part c.args.part in
     let w = c.copy_from_slice.new.self in
     let first = c.relocations_below-first.result in
@@ -38,9 +38,9 @@ loop-number-init c =
 
 pub returns-clause-shows : goal.returns-clause-shows
 returns-clause-shows c =
-    let m = c.args.self.now in
-    let image = c.args.image.now in
-    let x = c.args.instance.now in
+    let m = c.args.self.now.modules.now in
+    let image = c.args.self.now.image.now in
+    let x = c.args.self.now.instance.now in
     let part = lent_part c.args.part in
     let n = c.loop-number.number in
     let w = c.loop-number.window in
