@@ -1,5 +1,8 @@
 -- The sequences that are found, one relocation after another, then one section after another.
-use Rattle.std.proofs.Common.{◌≡◌, ◌≢◌, ◌+◌, ◌<◌, ◌⊎◌, ◌∙◌, ◌++◌, ◌∷◌, ℕ, List, [], Option, Some, None, length, get_or, sym, ap, subst, inl, inr, below_more, arith}
+use Rattle.std.proofs.Common.{◌≡◌, ◌≢◌, ◌+◌, ◌-◌, ◌<◌, ◌⊎◌, ◌∙◌, ◌++◌, ◌∷◌, ℕ, List, [], Option, Some, None, length, get_or, sym, ap, subst, inl, inr, below_more, arith}
+use Rattle.std.specs.Prelude.{IfSome}
+use Rattle.std.specs.Borrow.{Bor}
+use Rattle.std.specs.Slice.{IsGetResult}
 use Rattle.std.specs.List.{All, AllPairs, Contains}
 use Rattle.std.proofs.lemmas.List.Elements.{All-push, Contains-append_left, Contains-push}
 use Rattle.std.proofs.lemmas.List.Quantifiers.{all_pairs_push}
@@ -11,7 +14,7 @@ use Rattle.sequence_forms.specs.declared.forms.Form.{Form}
 use Rattle.sequence_forms.specs.declared.forms.Second.{Second}
 use Rattle.sequence_match.specs.declared.matching.Code.{Code}
 use Rattle.sequence_forms.specs.declared.places.Site.{Site}
-use Rattle.sequence_match.specs.Code.{IsFound, IsNoFirst, IsSiteIn, Names}
+use Rattle.sequence_match.specs.Code.{HasSite, IsFound, IsNoFirst, IsSiteIn, Names}
 use Rattle.sequence_match.specs.Faults.{StandsAt}
 use Rattle.elf_object.specs.Faults.{IsFirstAt}
 use Rattle.sequence_match.specs.Finding.{AreSitesIn, IsLeastBelow, IsLooseIn}
@@ -102,6 +105,15 @@ module _ (code : Code) (n : ℕ) (sites : List Site) (below : SitesBelow code n 
         (λ k d inside. let h = below.only k d inside in
         other_start code.bytes.now code.relocations.now (Names code.getters.now) h.1.0 n (get_or sites k d) p h.1.1 h.1.2 found.2);
   }
+
+-- the last one that was found
+pub last_found : (code : Code) (n : ℕ) (sites : List Site) (r : Option (Bor Site)) → SitesBelow code n sites → IsGetResult sites 0 (length sites - 1) r
+    → IfSome r (λ site. HasSite code site.now)
+last_found code n sites None below h = tt
+last_found code n sites (Some site) below h =
+    let found = below.only (length sites - 1) site.now (omega (arith, h.3.0)) in
+    let P : Site → Type 0 = λ x. HasSite code x in
+    subst P (sym h.1) (found.1.0, found.1.2)
 
 pub sites_all : (code : Code) (n : ℕ) (sites : List Site) → n ≡ length code.relocations.now → SitesBelow code n sites → AreSitesIn code sites
 sites_all code n sites all below = record {

@@ -8,7 +8,7 @@ use Rattle.elf_records.specs.declared.relocation.RelocationKind.TheVariants.{Not
 use Rattle.elf_object.specs.declared.relocation.Relocation.{Relocation}
 use Rattle.elf_object.specs.Relocations.{field_width}
 use Rattle.sequence_match.specs.declared.index.Reach.TheVariants.{OfField}
-use Rattle.sequence_match.specs.Code.{AreApart, CoversIn, IsEarliest, ReachesAt, Rise}
+use Rattle.sequence_match.specs.Code.{AreApart, CoversIn, IsEarliest, IsLastField, ReachesAt, Rise}
 use Rattle.sequence_match.specs.Sites.{Covers, IsEntry}
 use Rattle.sequence_match.proofs.Entries.{same_entry}
 use Rattle.sequence_match.proofs.Found.{below_or_at}
@@ -106,31 +106,34 @@ module _ (xs : List Relocation) (P : Relocation → Type 0) (end : ℕ) where
             never (subst P (same_entry xs (end - 1 - step) y x (subst I same at) entry) p)
       ]
 
-  -- and of none below one that stands far below
-  pub none_left : (step place : ℕ) (x : Relocation) → Rise xs → step < end → IsEntry xs (end - 1 - step) x
-      → ((f : ℕ) (y : Relocation) → end ≤ f + step → IsEntry xs f y → P y → ⊥)
-      → x.offset + 8 ≤ place → ((y : Relocation) → y.offset + 8 ≤ place → P y → ⊥) → (f : ℕ) (y : Relocation) → IsEntry xs f y → P y → ⊥
-  none_left step place x rise less entry seen far never f y at p =
+  -- and of none below one under which it holds of none
+  pub none_left : (step : ℕ) (x : Relocation) → step < end → IsEntry xs (end - 1 - step) x
+      → ((f : ℕ) (y : Relocation) → end ≤ f + step → IsEntry xs f y → P y → ⊥) → (P x → ⊥)
+      → ((f : ℕ) (y : Relocation) → f < end - 1 - step → IsEntry xs f y → P y → ⊥) → (f : ℕ) (y : Relocation) → IsEntry xs f y → P y → ⊥
+  none_left step x less entry seen here lower f y at p =
       elim (here_or_below (end - 1 - step) f) [
         | inl above ↦ seen f y (omega (arith, above, less)) at p
         | inr (inl same) ↦
             let I : ℕ → Type 0 = λ n. IsEntry xs n y in
-            let eq = ap (λ z. z.offset) (same_entry xs (end - 1 - step) y x (subst I same at) entry) in
-            never y (omega (arith, eq, far)) p
-        | inr (inr below) ↦ never y (omega (arith, later_above xs rise f (end - 1 - step) y x below at entry, far)) p
+            here (subst P (same_entry xs (end - 1 - step) y x (subst I same at) entry) p)
+        | inr (inr below) ↦ lower f y below at p
       ]
 
 pub above_not : (place : ℕ) (x : Relocation) → place < x.offset → Covers x place → ⊥
 above_not place x above covers = omega (arith, above, covers.0)
 
-pub far_not : (place : ℕ) (x : Relocation) → x.offset + 8 ≤ place → Covers x place → ⊥
-far_not place x far covers = omega (arith, far, covers.1, width_most x.kind)
-
 pub above_not_any : (from to : ℕ) (x : Relocation) → to - 1 < x.offset → CoversIn x from to → ⊥
 above_not_any from to x above h = omega (arith, above, h.3.0, h.2)
 
-pub far_not_any : (from to : ℕ) (x : Relocation) → x.offset + 8 ≤ from → CoversIn x from to → ⊥
-far_not_any from to x far h = omega (arith, far, h.3.1, h.1, width_most x.kind)
+-- no field below one that stands below a place reaches it
+pub none_lower : (xs : List Relocation) (place n k : ℕ) (x : Relocation) → Rise xs → AreApart xs → IsEntry xs n x → IsLastField x place → place ≤ k
+    → (f : ℕ) (y : Relocation) → f < n → IsEntry xs f y → Covers y k → ⊥
+none_lower xs place n k x rise apart entry last above f y less at covers =
+    let lower = later_above xs rise f n y x less at entry in
+    elim last.1 [
+      | inl field ↦ apart f n x.offset y x at entry less (omega (arith, lower), omega (arith, last.0, above, covers.1)) (omega arith, omega (arith, field))
+      | inr far ↦ omega (arith, lower, far, above, covers.1, width_most y.kind)
+    ]
 
 -- of two whose fields cover a place, none is before the other
 pub first_over : (xs : List Relocation) (place e : ℕ) (x : Relocation) → AreApart xs → IsEntry xs e x → Covers x place

@@ -1,5 +1,5 @@
 -- Which forms a type of relocation opens, and that it opens one sequence at most.
-use Rattle.std.proofs.Common.{◌≡◌, ◌≢◌, ◌+◌, ◌⊎◌, ◌∙◌, ℕ, List, Option, Some, None, refl, subst, sym, ap, inl, inr, arith}
+use Rattle.std.proofs.Common.{◌≡◌, ◌≢◌, ◌+◌, ◌⊎◌, ◌∙◌, ℕ, List, Option, Some, None, length, refl, subst, sym, ap, inl, inr, arith}
 use Rattle.std.specs.Prelude.{MatchOption}
 use Rattle.elf_records.specs.declared.relocation.RelocationKind.{RelocationKind}
 use Rattle.elf_records.specs.declared.relocation.RelocationKind.TheVariants.{TlsGd, TlsLd, GotTpOff, GotPc32TlsDesc, TlsDescCall}
@@ -8,8 +8,8 @@ use Rattle.sequence_forms.specs.declared.forms.Form.{Form}
 use Rattle.sequence_forms.specs.declared.forms.Form.TheVariants.{Gd, Ld, IeMov, IeAdd, GdInd, LdInd, DescLea, DescCall}
 use Rattle.sequence_match.specs.declared.matching.Code.{Code}
 use Rattle.sequence_forms.specs.declared.places.Site.{Site}
-use Rattle.sequence_match.specs.Code.{IsFound, HasNoSiteOf, IsNoFirst}
-use Rattle.sequence_forms.specs.Forms.{row}
+use Rattle.sequence_match.specs.Code.{HasNoSiteOf, IsAt, IsNoFirst, IsSiteIn}
+use Rattle.sequence_forms.specs.Forms.{row, register}
 use Rattle.sequence_match.specs.Sites.{IsEntry, Opens, IsSiteOf}
 use Rattle.sequence_match.proofs.Entries.{same_entry}
 
@@ -56,9 +56,20 @@ among_of code xs getter e x site entry is =
     let P : RelocationKind → Type 0 = λ kind. IsAmong site.form kind in
     subst P (sym (opened code xs getter e x site entry is).0.kind_is) (is_among site.form)
 
+-- the sequence of a form that starts there, by its first relocation
+abbrev pub site_from : Code → Form → Relocation → ℕ → Site
+site_from code form x start = record {
+  section = code.section;
+  start = start;
+  len = length (row form).cells;
+  form = form;
+  symbol = x.symbol;
+  reg = register form code.bytes.now start;
+}
+
 module _ (code : Code) (e : ℕ) (x : Relocation) (entry : IsEntry code.relocations.now e x) where
   -- where two forms have none, and the type opens no other, there is none
-  pub none_of_two : (f g : Form) (r : Option Site) (P : Site → Type 0)
+  pub none_of_two : (f g : Form) (r : Option Form) (P : Form → Type 0)
       → ((site : Site) → IsAmong site.form x.kind → (site.form ≡ f) ⊎ (site.form ≡ g))
       → MatchOption r (HasNoSiteOf code f e × HasNoSiteOf code g e) P → MatchOption r (IsNoFirst code e) P
   none_of_two f g None P among h = λ site is.
@@ -66,13 +77,24 @@ module _ (code : Code) (e : ℕ) (x : Relocation) (entry : IsEntry code.relocati
         | inl same ↦ h.0 site same is
         | inr same ↦ h.1 site same is
       ]
-  none_of_two f g (Some site) P among h = h
+  none_of_two f g (Some form) P among h = h
 
-  pub none_of_one : (f : Form) (r : Option Site) → ((site : Site) → IsAmong site.form x.kind → site.form ≡ f)
-      → MatchOption r (HasNoSiteOf code f e) (IsFound code f e)
-      → MatchOption r (IsNoFirst code e) (λ site. IsFound code site.form e site)
-  none_of_one f None among h = λ site is. h site (among site (among_of code.bytes.now code.relocations.now _ e x site entry is)) is
-  none_of_one f (Some site) among h = (refl, h.1, h.2)
+  pub none_of_one : (f : Form) (r : Option Form) (P : Form → Type 0) → ((site : Site) → IsAmong site.form x.kind → site.form ≡ f)
+      → MatchOption r (HasNoSiteOf code f e) P → MatchOption r (IsNoFirst code e) P
+  none_of_one f None P among h = λ site is. h site (among site (among_of code.bytes.now code.relocations.now _ e x site entry is)) is
+  none_of_one f (Some form) P among h = h
+
+  -- a sequence that starts so far before the relocation is opened by it
+  pub site_is_at : (form : Form) (start : ℕ) → x.kind ≡ (row form).first → x.offset ≡ start + (row form).first_at → IsAt code form e x start
+      → IsSiteIn code e (site_from code form x start)
+  site_is_at form start kind offset at = record {
+    spelled = at.spelled;
+    first = (x, entry, record { kind_is = kind; offset_is = offset; addend_is = at.addend_is }, refl);
+    earliest = λ f y less there same place. at.earliest f y less there (same ∙ sym kind) (place ∙ sym offset);
+    second = at.second;
+    len_is = refl;
+    reg_is = refl;
+  }
 
 -- the offset of the first relocation, by its type
 abbrev pub place_of : RelocationKind → ℕ

@@ -1,6 +1,6 @@
 -- What matching uses of the code of one section: its relocations by their places, and which
 -- symbols are `__tls_get_addr`.
-use Rattle.std.specs.Prelude.{◌≡◌, ◌+◌, ◌*◌, ◌<◌, ◌≤◌, ◌^◌, ℕ, Bool, false, List, length, Option, Some, None}
+use Rattle.std.specs.Prelude.{◌≡◌, ◌+◌, ◌-◌, ◌*◌, ◌⊎◌, ◌<◌, ◌≤◌, ◌^◌, ℕ, Bool, false, List, length, Option, Some, None}
 use Rattle.std.specs.Prelude.{IsTrue, IfSome, slice_index, slice_index_or}
 use Rattle.std.specs.List.{All, AllPairs, AllWithin, Contains, slice_get}
 use Rattle.std.specs.List.Sorted.{IsNonDecreasingBy}
@@ -17,7 +17,6 @@ use Rattle.sequence_match.specs.declared.index.Reach.{Reach}
 use Rattle.sequence_match.specs.declared.index.Reach.TheVariants.{OfField, OfCall}
 use Rattle.sequence_match.specs.declared.matching.Code.{Code}
 use Rattle.sequence_match.specs.declared.matching.Indexes.{Indexes}
-use Rattle.sequence_match.specs.declared.matching.Opening.{Opening}
 use Rattle.sequence_forms.specs.declared.forms.Cell.{Cell}
 use Rattle.sequence_forms.specs.declared.forms.Form.{Form}
 use Rattle.sequence_forms.specs.declared.forms.Second.{Second}
@@ -127,6 +126,10 @@ AreBare xs from to = (k : ℕ) → from ≤ k → k < to → IsBare xs k
 abbrev pub CoversIn : Relocation → ℕ → ℕ → Type 0
 CoversIn x from to = (k : ℕ) × (from ≤ k) × (k < to) × Covers x k
 
+-- the relocation stands below a place and has a field, or stands farther below than a field is wide
+abbrev pub IsLastField : Relocation → ℕ → Type 0
+IsLastField x place = (x.offset < place) × ((0 < field_width x.kind) ⊎ (8 ≤ place - x.offset))
+
 -- the bytes from start on fit the cells
 abbrev pub AreBytes : List ℕ → List Cell → ℕ → Type 0
 AreBytes code cells start =
@@ -156,11 +159,15 @@ IsSiteIn code e site = IsSiteOf code.bytes.now code.relocations.now (Names code.
 abbrev pub IsFound : Code → Form → ℕ → Site → Type 0
 IsFound code form e site = (site.form ≡ form) × (site.section ≡ code.section) × IsSiteIn code e site
 
--- a relocation opens a sequence, which has its place
-abbrev pub IsOpening : Code → Opening → Type 0
-IsOpening code opening = IsFound code opening.site.form opening.entry opening.site
+-- a sequence of the code
+abbrev pub HasSite : Code → Site → Type 0
+HasSite code site = (e : ℕ) × IsSiteIn code e site
 
--- relocation number e is not the first of a sequence of this form
+-- relocation number e opens a sequence of this form
+abbrev pub IsOpened : Code → Form → ℕ → Type 0
+IsOpened code form e = (site : Site) × (site.form ≡ form) × IsSiteIn code e site
+
+-- it opens none of this form
 abbrev pub HasNoSiteOf : Code → Form → ℕ → Type 0
 HasNoSiteOf code form e = (site : Site) → site.form ≡ form → IsSiteIn code e site → ⊥
 

@@ -16,7 +16,7 @@ use Rattle.sequence_match.specs.declared.finding.Spot.{Spot}
 use Rattle.sequence_match.specs.declared.finding.Survey.{Survey}
 use Rattle.sequence_match.specs.declared.matching.Code.{Code}
 use Rattle.sequence_forms.specs.declared.places.Site.{Site}
-use Rattle.sequence_match.specs.Code.{IsSiteIn, Names}
+use Rattle.sequence_match.specs.Code.{HasSite, Names}
 use Rattle.sequence_match.specs.Faults.{AreSites, Before, IsGetter, IsLoose, IsSite, IsStray, Nowhere, Stands, StandsOf}
 
 -- the kind of fault
@@ -34,7 +34,7 @@ is_use getters x = is_of_sequence x.kind || slice_index_or getters x.symbol fals
 
 -- a sequence of the code, with the number of its section
 abbrev pub IsOf : Code → Site → Type 0
-IsOf code site = (site.section ≡ code.section) × ((e : ℕ) × IsSiteIn code e site)
+IsOf code site = (site.section ≡ code.section) × HasSite code site
 
 -- relocation number e of the code belongs in a sequence and opens none
 abbrev pub IsLooseIn : Code → ℕ → Type 0

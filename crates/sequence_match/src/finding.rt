@@ -8,7 +8,7 @@ ghost use Rattle.object_rules.specs.declared.fault.FaultKind.TheVariants.{Sequen
 ghost use Rattle.object_rules.specs.declared.fault.ObjectFault.TheVariants.{At};
 ghost use Rattle.elf_object.specs.Faults.{Earlier, IsFirstAt, IsObject};
 ghost use Rattle.elf_object.specs.Lent.{relocations as relocations_in_file};
-ghost use Rattle.sequence_match.specs.Code.{AreOrdered, IsOpening, IsReady};
+ghost use Rattle.sequence_match.specs.Code.{AreOrdered, HasSite, IsNoFirst, IsReady};
 ghost use Rattle.sequence_match.specs.Faults.{AreSites, IsFault, IsGetter, Nowhere, StandsOf};
 ghost use Rattle.sequence_match.specs.Faults.{code_of as bytes_of};
 ghost use Rattle.sequence_match.specs.Finding.{AreFindings, AreFindingsIn, AreGetters, AreSitesIn, IsFirstBelow, IsLeastBelow};
@@ -16,7 +16,7 @@ ghost use Rattle.sequence_match.specs.Finding.{IsLooseIn, IsLower, IsStrayIn, Is
 
 use crate::index::{Reach, index};
 use crate::matching::{
-    Code, Indexes, Opening, is_loose, is_of_sequence, is_stray, names_getter, site_of,
+    Code, Indexes, form_of, is_loose, is_of_sequence, is_stray, names_getter, site_at,
 };
 use crate::near::rise;
 use elf_object::{FaultKind, Object, ObjectFault, Relocation, SectionClass, SymbolPlace};
@@ -146,9 +146,9 @@ impl Asked {
     }
 }
 
-/// The first relocation up to this one that is a `Loose`. `loose` is the first one before it.
+/// The first relocation up to this one, which opens no sequence, that is a `Loose`. `loose` is the first one before it.
 fn loose_up_to(code: &Code, entry: u32, loose: Option<u32>) -> Option<u32>
-    requires ready { IsReady code.now }
+    requires none { IsNoFirst code.now entry }
     requires entry { entry < length code.now.relocations.now }
     requires before { IsLeastBelow (IsLooseIn code.now) entry loose }
     ensures { IsLeastBelow (IsLooseIn code.now) (entry + 1) result }
@@ -162,10 +162,10 @@ fn loose_up_to(code: &Code, entry: u32, loose: Option<u32>) -> Option<u32>
 
 /// The first relocation up to this one that is a `Stray`. `stray` is the first one before it, and `known` the last
 /// sequence that was opened before it.
-fn stray_up_to(code: &Code, entry: u32, known: Option<Opening>, stray: Option<u32>) -> Option<u32>
+fn stray_up_to(code: &Code, entry: u32, known: Option<&Site>, stray: Option<u32>) -> Option<u32>
     requires ready { IsReady code.now }
     requires entry { entry < length code.now.relocations.now }
-    requires known { IfSome known (IsOpening code.now) }
+    requires known { IfSome known (λ site. HasSite code.now site.now) }
     requires before { IsLeastBelow (IsStrayIn code.now) entry stray }
     ensures { IsLeastBelow (IsStrayIn code.now) (entry + 1) result }
 {
@@ -187,14 +187,10 @@ fn openings_in(alloc: Global, code: &Code) -> Result<Findings, AllocError>
     let mut sites = Vec::with_capacity(alloc, code.relocations.len())?;
     let mut loose = None;
     let mut stray = None;
-    let mut known = None;
     for entry in 0..code.relocations.len() as u32 {
-        stray = stray_up_to(code, entry, known, stray);
-        match site_of(code, entry) {
-            Some(site) => {
-                sites.push(site)?;
-                known = Some(Opening { entry, site });
-            }
+        stray = stray_up_to(code, entry, sites.last(), stray);
+        match form_of(code, entry) {
+            Some(form) => sites.push(site_at(code, form, entry))?,
             None => loose = loose_up_to(code, entry, loose),
         }
     }

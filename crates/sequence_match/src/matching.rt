@@ -1,8 +1,8 @@
 //! Matches one relocation, and the bytes around it, with the table.
 
 ghost use Rattle.std.specs.Prelude.{◌≡◌, ◌↔◌, ◌+◌, ◌<◌, ◌≤◌, ◌^◌, ℕ, IsTrue, IfSome, MatchOption, length, Some};
-ghost use Rattle.sequence_match.specs.Code.{AreBare, AreBytes, HasNoSiteOf, IsAt, IsEarliest, IsFound, IsIndex, IsNoFirst};
-ghost use Rattle.sequence_match.specs.Code.{IsOpening, IsReady, IsSecondIn, Names, ReachesAt, behind_at, behind_end};
+ghost use Rattle.sequence_match.specs.Code.{AreBare, AreBytes, HasNoSiteOf, HasSite, IsAt, IsEarliest, IsFound, IsIndex};
+ghost use Rattle.sequence_match.specs.Code.{IsNoFirst, IsOpened, IsReady, IsSecondIn, Names, ReachesAt, behind_at, behind_end};
 ghost use Rattle.elf_object.specs.Faults.{IsFirstAt};
 ghost use Rattle.sequence_match.specs.declared.index.Reach.TheVariants.{OfField, OfCall};
 ghost use Rattle.sequence_forms.specs.declared.forms.Form.{Form};
@@ -36,13 +36,6 @@ pub struct Code<'a> {
     pub getters: &'a [bool],
     /// `None` if the relocations rise by offset as they stand, so that neighbours serve as an index.
     pub indexes: Option<Indexes<'a>>,
-}
-
-/// A relocation, and the sequence that it opens.
-#[derive(Clone, Copy)]
-pub struct Opening {
-    pub entry: u32,
-    pub site: Site,
 }
 
 impl Code<'_> {
@@ -115,6 +108,7 @@ fn are_ends_bare(code: &Code, from: u64, to: u64, near: u32) -> bool
 }
 
 /// Whether no field covers a byte from `from` up to `to`, a few bytes on. `near` is as for `field_over`.
+#[inline(always)]
 fn is_bare(code: &Code, from: u64, to: u64, near: u32) -> bool
     requires ready { IsReady code.now }
     requires inside { to ≤ length code.now.bytes.now }
@@ -131,6 +125,7 @@ fn is_bare(code: &Code, from: u64, to: u64, near: u32) -> bool
 }
 
 /// Whether the bytes from `start` on fit the cells.
+#[inline(always)]
 fn are_bytes(bytes: &[u8], cells: &[Cell], start: usize) -> bool
     requires inside { start + length cells.now ≤ length bytes.now }
     ensures { IsTrue result ↔ AreBytes bytes.now cells.now start }
@@ -304,52 +299,38 @@ fn is_site_at(code: &Code, form: Form, entry: u32, first: &Relocation, start: u6
         && is_earliest(code, entry, first)
 }
 
-/// The sequence of a form whose first relocation is number `entry`, which has the form's type. It is compiled for each
+/// The form, if relocation number `entry`, which has the form's type, opens a sequence of it. It is compiled for each
 /// form by itself, with the row as a constant.
 #[inline(always)]
-fn site_of_form(code: &Code, form: Form, entry: u32, first: &Relocation) -> Option<Site>
+fn form_if(code: &Code, form: Form, entry: u32, first: &Relocation) -> Option<Form>
     requires ready { IsReady code.now }
     requires entry { IsEntry code.now.relocations.now entry first.now }
     requires kind { first.now.kind ≡ (row form).first }
-    ensures { MatchOption result (HasNoSiteOf code.now form entry) (IsFound code.now form entry) }
+    ensures { MatchOption result (HasNoSiteOf code.now form entry) (λ found. IsOpened code.now found entry) }
 {
     let row = form.row();
     if first.offset < row.first_at {
         return None;
     }
-    let start = first.offset - row.first_at;
-    if !is_site_at(code, form, entry, first, start) {
+    if !is_site_at(code, form, entry, first, first.offset - row.first_at) {
         return None;
     }
-    Some(Site {
-        section: code.section,
-        start,
-        len: row.cells.len() as u64,
-        form,
-        symbol: first.symbol,
-        reg: register(form, code.bytes, start as usize),
-    })
+    Some(form)
 }
 
-/// The sequence of one of two forms.
+/// The one of two forms.
 #[inline(always)]
-fn site_of_forms(
-    code: &Code,
-    form: Form,
-    other: Form,
-    entry: u32,
-    first: &Relocation,
-) -> Option<Site>
+fn form_of_two(code: &Code, form: Form, other: Form, entry: u32, first: &Relocation) -> Option<Form>
     requires ready { IsReady code.now }
     requires entry { IsEntry code.now.relocations.now entry first.now }
     requires kind { first.now.kind ≡ (row form).first }
     requires other_kind { first.now.kind ≡ (row other).first }
     ensures { MatchOption result (HasNoSiteOf code.now form entry × HasNoSiteOf code.now other entry)
-        (λ site. IsFound code.now site.form entry site) }
+        (λ found. IsOpened code.now found entry) }
 {
-    match site_of_form(code, form, entry, first) {
-        Some(site) => Some(site),
-        None => site_of_form(code, other, entry, first),
+    match form_if(code, form, entry, first) {
+        Some(found) => Some(found),
+        None => form_if(code, other, entry, first),
     }
 }
 
@@ -362,32 +343,51 @@ fn relocation_at<'a>(code: &Code<'a>, entry: u32) -> &'a Relocation
     &code.relocations[entry as usize]
 }
 
-/// The sequence whose first relocation is number `entry`.
+/// The form of the sequence that relocation number `entry` opens.
 #[tactic(auto, unfolding(sequence_forms::specs::Forms::row))]
 #[inline(always)]
-fn site_opened_by(code: &Code, entry: u32, first: &Relocation) -> Option<Site>
+fn form_opened_by(code: &Code, entry: u32, first: &Relocation) -> Option<Form>
     requires ready { IsReady code.now }
     requires entry { IsEntry code.now.relocations.now entry first.now }
-    ensures { MatchOption result (IsNoFirst code.now entry) (λ site. IsFound code.now site.form entry site) }
+    ensures { MatchOption result (IsNoFirst code.now entry) (λ form. IsOpened code.now form entry) }
 {
     match first.kind {
-        RelocationKind::TlsGd => site_of_forms(code, Form::Gd, Form::GdInd, entry, first),
-        RelocationKind::TlsLd => site_of_forms(code, Form::Ld, Form::LdInd, entry, first),
-        RelocationKind::GotTpOff => site_of_forms(code, Form::IeMov, Form::IeAdd, entry, first),
-        RelocationKind::GotPc32TlsDesc => site_of_form(code, Form::DescLea, entry, first),
-        RelocationKind::TlsDescCall => site_of_form(code, Form::DescCall, entry, first),
+        RelocationKind::TlsGd => form_of_two(code, Form::Gd, Form::GdInd, entry, first),
+        RelocationKind::TlsLd => form_of_two(code, Form::Ld, Form::LdInd, entry, first),
+        RelocationKind::GotTpOff => form_of_two(code, Form::IeMov, Form::IeAdd, entry, first),
+        RelocationKind::GotPc32TlsDesc => form_if(code, Form::DescLea, entry, first),
+        RelocationKind::TlsDescCall => form_if(code, Form::DescCall, entry, first),
         _ => None,
     }
 }
 
-/// The sequence whose first relocation is number `entry`.
+/// The form of the sequence that relocation number `entry` opens.
 #[inline(always)]
-pub fn site_of(code: &Code, entry: u32) -> Option<Site>
+pub fn form_of(code: &Code, entry: u32) -> Option<Form>
     requires ready { IsReady code.now }
     requires entry { entry < length code.now.relocations.now }
-    ensures { MatchOption result (IsNoFirst code.now entry) (λ site. IsFound code.now site.form entry site) }
+    ensures { MatchOption result (IsNoFirst code.now entry) (λ form. IsOpened code.now form entry) }
 {
-    site_opened_by(code, entry, relocation_at(code, entry))
+    form_opened_by(code, entry, relocation_at(code, entry))
+}
+
+/// The sequence of this form that relocation number `entry` opens.
+pub fn site_at(code: &Code, form: Form, entry: u32) -> Site
+    requires entry { entry < length code.now.relocations.now }
+    requires opened { IsOpened code.now form entry }
+    ensures { IsFound code.now result.form entry result }
+{
+    let first = relocation_at(code, entry);
+    let row = form.row();
+    let start = first.offset - row.first_at;
+    Site {
+        section: code.section,
+        start,
+        len: row.cells.len() as u64,
+        form,
+        symbol: first.symbol,
+        reg: register(form, code.bytes, start as usize),
+    }
 }
 
 /// Whether a type stands only in sequences, as the first relocation.
@@ -397,21 +397,14 @@ pub fn is_of_sequence(kind: RelocationKind) -> bool
     matches!(kind.row().part, SequencePart::First)
 }
 
-/// Whether a relocation is of such a type, and is not the first one of a sequence.
+/// Whether a relocation that opens no sequence is of such a type.
 pub fn is_loose(code: &Code, entry: u32) -> bool
-    requires ready { IsReady code.now }
     requires entry { entry < length code.now.relocations.now }
+    requires none { IsNoFirst code.now entry }
     ensures { IsTrue result
         ↔ IsLoose code.now.bytes.now code.now.relocations.now (Names code.now.getters.now) entry }
 {
-    let relocation = relocation_at(code, entry);
-    if !is_of_sequence(relocation.kind) {
-        return false;
-    }
-    match site_of(code, entry) {
-        Some(_) => false,
-        None => true,
-    }
+    is_of_sequence(relocation_at(code, entry).kind)
 }
 
 /// Whether relocation number `entry` is the second one of this form's sequence at `start`, as which it fits: the
@@ -426,8 +419,8 @@ fn is_second_at(code: &Code, form: Form, entry: u32, start: u64, place: u64) -> 
     let Some(first) = code.field_over(place, entry) else {
         return false;
     };
-    match site_of(code, first) {
-        Some(site) => is_at(&site, form, start),
+    match form_of(code, first) {
+        Some(found) => is_at(&site_at(code, found, first), form, start),
         None => false,
     }
 }
@@ -483,44 +476,38 @@ fn is_second(code: &Code, entry: u32) -> bool
 }
 
 /// Whether a relocation is the second one of a given sequence.
-fn is_second_of(code: &Code, entry: u32, opening: &Opening) -> bool
-    requires ready { IsReady code.now }
+fn is_second_of(code: &Code, entry: u32, site: &Site) -> bool
     requires entry { entry < length code.now.relocations.now }
-    requires opening { IsOpening code.now opening.now }
+    requires site { HasSite code.now site.now }
     ensures { IsTrue result
-        ↔ IsSecond (row opening.now.site.form).second (Names code.now.getters.now) code.now.relocations.now
-        opening.now.site.start entry }
+        ↔ IsSecond (row site.now.form).second (Names code.now.getters.now) code.now.relocations.now
+        site.now.start entry }
 {
     let _length = code.bytes.len();
-    let Some(second) = opening.site.form.row().second else {
+    let Some(second) = site.form.row().second else {
         return false;
     };
-    calls(
-        second,
-        code.getters,
-        opening.site.start,
-        relocation_at(code, entry),
-    )
+    calls(second, code.getters, site.start, relocation_at(code, entry))
 }
 
 /// Whether a relocation is the second one of a sequence. `known` is a sequence to try first.
-fn is_second_by(code: &Code, entry: u32, known: Option<Opening>) -> bool
+fn is_second_by(code: &Code, entry: u32, known: Option<&Site>) -> bool
     requires ready { IsReady code.now }
     requires entry { entry < length code.now.relocations.now }
-    requires known { IfSome known (IsOpening code.now) }
+    requires known { IfSome known (λ site. HasSite code.now site.now) }
     ensures { IsTrue result ↔ ((form : Form) × IsSecondIn code.now form entry) }
 {
     match known {
-        Some(opening) if is_second_of(code, entry, &opening) => true,
+        Some(site) if is_second_of(code, entry, site) => true,
         _ => is_second(code, entry),
     }
 }
 
 /// Whether a relocation names the undefined `__tls_get_addr` and is not the second one of a sequence. `known` is a
 /// sequence that was found already, best the one that opens before it.
-pub fn is_stray(code: &Code, entry: u32, known: Option<Opening>) -> bool
+pub fn is_stray(code: &Code, entry: u32, known: Option<&Site>) -> bool
     requires ready { IsReady code.now }
-    requires known { IfSome known (IsOpening code.now) }
+    requires known { IfSome known (λ site. HasSite code.now site.now) }
     requires entry { entry < length code.now.relocations.now }
     ensures { IsTrue result
         ↔ IsStray code.now.bytes.now code.now.relocations.now (Names code.now.getters.now) entry }

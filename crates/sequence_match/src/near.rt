@@ -4,7 +4,7 @@
 ghost use Rattle.std.specs.Prelude.{◌↔◌, ◌+◌, ◌<◌, ◌≤◌, ◌^◌, IsTrue, length};
 ghost use Rattle.std.specs.List.{AllWithin};
 ghost use Rattle.elf_object.specs.Faults.{IsFirstAt};
-ghost use Rattle.sequence_match.specs.Code.{AreApart, AreBare, CoversIn, ReachesAt, Rise};
+ghost use Rattle.sequence_match.specs.Code.{AreApart, AreBare, CoversIn, IsLastField, ReachesAt, Rise};
 ghost use Rattle.sequence_match.specs.Sites.{Covers};
 ghost use Rattle.sequence_match.specs.declared.index.Reach.TheVariants.{OfField};
 
@@ -26,6 +26,7 @@ pub fn rise(relocations: &[Relocation]) -> bool
 }
 
 /// A number from which on all relocations stand above a place: the first such number from `near` on.
+#[inline(always)]
 fn first_above(relocations: &[Relocation], place: u64, near: u32) -> u32
     requires rise { Rise relocations.now }
     requires few { length relocations.now ≤ 2 ^ 20 }
@@ -42,21 +43,26 @@ fn first_above(relocations: &[Relocation], place: u64, near: u32) -> u32
 }
 
 /// Whether the field of a relocation covers a place.
+#[inline(always)]
 fn covers(relocation: &Relocation, place: u64) -> bool
     ensures { IsTrue result ↔ Covers relocation.now place }
 {
     relocation.offset <= place && place - relocation.offset < relocation.kind.width()
 }
 
-/// Whether a relocation stands so far below a place that no field from there reaches it.
-fn is_far(relocation: &Relocation, place: u64) -> bool
-    ensures { IsTrue result ↔ (relocation.now.offset + 8 ≤ place) }
+/// Whether no field of a lower relocation reaches a place: this one stands below the place and has a field itself, or
+/// stands far below.
+#[inline(always)]
+fn is_last_below(relocation: &Relocation, place: u64) -> bool
+    ensures { IsTrue result ↔ IsLastField relocation.now place }
 {
-    WIDEST <= place.saturating_sub(relocation.offset)
+    relocation.offset < place
+        && (relocation.kind.width() > 0 || WIDEST <= place - relocation.offset)
 }
 
 /// The relocation whose field covers a place. All from number `end` on stand above it. It reads only relocations from
-/// `end` down to the first that is at least [`WIDEST`] bytes below the place.
+/// `end` down to the first below the place that has a field, or that is at least [`WIDEST`] bytes below.
+#[inline(always)]
 fn field_below(relocations: &[Relocation], place: u64, end: u32) -> Option<u32>
     requires rise { Rise relocations.now }
     requires apart { AreApart relocations.now }
@@ -70,7 +76,7 @@ fn field_below(relocations: &[Relocation], place: u64, end: u32) -> Option<u32>
         if covers(relocation, place) {
             return Some(entry);
         }
-        if is_far(relocation, place) {
+        if is_last_below(relocation, place) {
             return None;
         }
     }
@@ -78,6 +84,7 @@ fn field_below(relocations: &[Relocation], place: u64, end: u32) -> Option<u32>
 }
 
 /// The relocation whose field covers a place. The search begins near number `near`.
+#[inline(always)]
 pub fn field_near(relocations: &[Relocation], place: u64, near: u32) -> Option<u32>
     requires rise { Rise relocations.now }
     requires apart { AreApart relocations.now }
@@ -88,6 +95,7 @@ pub fn field_near(relocations: &[Relocation], place: u64, near: u32) -> Option<u
 }
 
 /// Whether the field of a relocation covers a byte from `from` up to `to`.
+#[inline(always)]
 fn covers_any(relocation: &Relocation, from: u64, to: u64) -> bool
     requires { from < to }
     ensures { IsTrue result ↔ CoversIn relocation.now from to }
@@ -99,8 +107,10 @@ fn covers_any(relocation: &Relocation, from: u64, to: u64) -> bool
 }
 
 /// Whether no field covers a byte from `from` up to `to`. All relocations from number `end` on are at `to` or above.
+#[inline(always)]
 fn is_bare_below(relocations: &[Relocation], from: u64, to: u64, end: u32) -> bool
     requires rise { Rise relocations.now }
+    requires apart { AreApart relocations.now }
     requires some { from < to }
     requires end { end ≤ length relocations.now }
     requires above { AllWithin (λ x. to ≤ x.offset) relocations.now end (length relocations.now) }
@@ -111,7 +121,7 @@ fn is_bare_below(relocations: &[Relocation], from: u64, to: u64, end: u32) -> bo
         if covers_any(relocation, from, to) {
             return false;
         }
-        if is_far(relocation, from) {
+        if is_last_below(relocation, from) {
             return true;
         }
     }
@@ -119,8 +129,10 @@ fn is_bare_below(relocations: &[Relocation], from: u64, to: u64, end: u32) -> bo
 }
 
 /// Whether no field covers a byte from `from` up to `to`. The search begins near number `near`.
+#[inline(always)]
 pub fn is_bare_near(relocations: &[Relocation], from: u64, to: u64, near: u32) -> bool
     requires rise { Rise relocations.now }
+    requires apart { AreApart relocations.now }
     requires few { length relocations.now ≤ 2 ^ 20 }
     requires some { from < to }
     ensures { IsTrue result ↔ AreBare relocations.now from to }

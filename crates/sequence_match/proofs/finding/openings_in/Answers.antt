@@ -1,12 +1,18 @@
-use Rattle.std.proofs.Common.{◌+◌, ◌≡◌, ◌<◌, ◌∙◌, ℕ, List, Option, IfSome, length, sym, ap, subst, arith}
+use Rattle.std.proofs.Common.{◌+◌, ◌-◌, ◌≡◌, ◌<◌, ◌∙◌, ℕ, List, Option, length, sym, ap, subst, arith}
+use Rattle.std.specs.Slice.{IsGetResult}
 use Rattle.object_rules.specs.declared.fault.FaultKind.TheVariants.{Sequence, StrayCall}
-use Rattle.sequence_match.specs.declared.matching.Opening.{Opening}
 use Rattle.sequence_forms.specs.declared.places.Site.{Site}
-use Rattle.sequence_match.specs.Code.{IsOpening, Names}
+use Rattle.sequence_match.specs.Code.{Names}
 use Rattle.sequence_match.specs.Finding.{IsLeastBelow, IsLooseIn, IsStrayIn}
-use Rattle.sequence_match.proofs.Found.{SitesBelow, found_not_loose, least_all, least_more, sites_all, sites_more, sites_same, stands_within}
+use Rattle.sequence_match.proofs.Found.{SitesBelow, found_not_loose, last_found, least_all, least_more, sites_all, sites_more, sites_same, stands_within}
 use Rattle.sequence_match.proofs.finding.openings_in.Goals as goal
 use Rattle.sequence_match.proofs.finding.openings_in.Goals.{in-Some+in_ok-push-in-Some, in-None}
+
+pub stray_up_to-stray-requires-clause-known : goal.stray_up_to-stray-requires-clause-known
+stray_up_to-stray-requires-clause-known c =
+    let L : List Site → Type 0 = λ sites. IsGetResult sites 0 (length sites - 1) c.last.result in
+    last_found c.args.code.now c.loop-entry.entry c.loop-entry.sites.items c.last.result c.loop-entry.invariant.sites
+    (subst L c.deref.ensures.value c.last.ensures.item)
 
 pub loop-entry-preserved : goal.loop-entry-preserved
 loop-entry-preserved c =
@@ -14,22 +20,19 @@ loop-entry-preserved c =
     let n = c.loop-entry.entry in
     let P : List Site → Type 0 = λ sites. SitesBelow code (n + 1) sites in
     let Q : Option ℕ → Type 0 = λ loose. IsLeastBelow (IsLooseIn code) (n + 1) loose in
-    let K : Option Opening → Type 0 = λ known. IfSome known (IsOpening code) in
-    elim c.match-site_of.branch [
+    elim c.match-form_of.branch [
       | in-Some+in_ok-push-in-Some w ↦ record {
         sites = subst P (sym (ap (λ v. v.items) w.sites-is ∙ w.in_ok-push-in-Some.ensures.items))
-            (sites_more code n c.loop-entry.sites.items c.loop-entry.invariant.sites w.in-Some.site w.in-Some.ensures);
+            (sites_more code n c.loop-entry.sites.items c.loop-entry.invariant.sites w.site_at.result w.site_at.ensures);
         loose = subst Q (sym w.loose-is) (least_more (IsLooseIn code) n c.loop-entry.loose c.loop-entry.invariant.loose
-            (found_not_loose code n w.in-Some.site w.in-Some.ensures));
+            (found_not_loose code n w.site_at.result w.site_at.ensures));
         stray = c.stray_up_to-stray.ensures;
-        known = subst K (sym w.known-is) w.in-Some.ensures;
       }
       | in-None w ↦ record {
         sites = subst P (sym (ap (λ v. v.items) w.sites-is))
             (sites_same code n c.loop-entry.sites.items c.loop-entry.invariant.sites w.in-None.ensures);
         loose = subst Q (sym w.loose-is) w.loose_up_to-loose.ensures;
         stray = c.stray_up_to-stray.ensures;
-        known = subst K (sym w.known-is) c.loop-entry.invariant.known;
       }
     ]
 

@@ -1,5 +1,3 @@
-use Rattle.std.proofs.Common.{IfSome}
-use Rattle.sequence_match.specs.Code.{IsOpening}
 use Rattle.sequence_match.specs.Finding.{IsLeastBelow, IsLooseIn, IsStrayIn}
 use Rattle.sequence_match.proofs.Found.{SitesBelow}
 use Rattle.sequence_match.proofs.finding.openings_in.Given as goal
@@ -9,5 +7,4 @@ invariant-loop-entry l = record {
   sites : SitesBelow l.code l.entry l.sites.items;
   loose : IsLeastBelow (IsLooseIn l.code) l.entry l.loose;
   stray : IsLeastBelow (IsStrayIn l.code) l.entry l.stray;
-  known : IfSome l.known (IsOpening l.code);
 }

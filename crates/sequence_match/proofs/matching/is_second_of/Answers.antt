@@ -6,7 +6,7 @@ use Rattle.sequence_match.proofs.matching.is_second_of.Goals as goal
 
 pub calls-requires : goal.calls-requires
 calls-requires c =
-    let form = c.args.opening.now.site.form in
+    let form = c.args.site.now.form in
     let S : Option Second → Type 0 = λ o. IfSome o (λ s. s.at < length (row form).cells) in
     let inside = subst S (sym c.row.ensures.second_is ∙ c.in-Some.is) (second_inside form) in
-    omega (arith, c.requires.opening.2.spelled.inside, inside)
+    omega (arith, c.requires.site.1.spelled.inside, inside)

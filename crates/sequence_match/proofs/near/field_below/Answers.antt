@@ -3,7 +3,7 @@ use Rattle.std.proofs.lemmas.Option.{slice_get-get_or}
 use Rattle.elf_records.specs.declared.relocation.RelocationKind.TheVariants.{Nothing}
 use Rattle.elf_object.specs.declared.relocation.Relocation.{Relocation}
 use Rattle.sequence_match.specs.Sites.{Covers}
-use Rattle.sequence_match.proofs.Nearby.{above_not, far_not, first_over, none_left, none_seen, one_seen}
+use Rattle.sequence_match.proofs.Nearby.{above_not, first_over, none_left, none_lower, none_seen, one_seen}
 use Rattle.sequence_match.proofs.Seconds.{none_where_false}
 use Rattle.sequence_match.proofs.near.field_below.Goals as goal
 
@@ -29,15 +29,17 @@ returns-then-covers c =
     let entry = slice_get-get_or xs n nothing (omega (arith, c.requires.end, less)) in
     first_over xs c.args.place n (get_or xs n nothing) c.requires.apart entry (c.covers.ensures.0 (search rules))
 
-pub returns-then-is_far : goal.returns-then-is_far
-returns-then-is_far c = λ f h.
+pub returns-then-is_last_below : goal.returns-then-is_last_below
+returns-then-is_last_below c = λ f h.
     let xs = c.args.relocations.now in
     let n : ℕ = c.args.end - 1 - c.loop-step.step in
     let nothing : Relocation = record { offset = 0; kind = Nothing; symbol = 0; addend = pos 0 } in
     let less : c.loop-step.step < c.args.end = omega arith in
     let entry = slice_get-get_or xs n nothing (omega (arith, c.requires.end, less)) in
-    none_left xs (λ y. Covers y c.args.place) c.args.end c.loop-step.step c.args.place (get_or xs n nothing) c.requires.rise less entry c.loop-step.invariant
-    (c.is_far.ensures.0 (search rules)) (far_not c.args.place) f h.0 h.1 h.2
+    let last = c.is_last_below.ensures.0 (search rules) in
+    none_left xs (λ y. Covers y c.args.place) c.args.end c.loop-step.step (get_or xs n nothing) less entry c.loop-step.invariant
+    (none_where_false _ _ c.covers.ensures c.if-covers.false)
+    (none_lower xs c.args.place n c.args.place (get_or xs n nothing) c.requires.rise c.requires.apart entry last (omega arith)) f h.0 h.1 h.2
 
 pub returns : goal.returns
 returns c = λ f h. c.loop-step.invariant f h.0 (omega arith) h.1 h.2

@@ -3,7 +3,7 @@ use Rattle.std.proofs.lemmas.Option.{slice_get-get_or}
 use Rattle.elf_records.specs.declared.relocation.RelocationKind.TheVariants.{Nothing}
 use Rattle.elf_object.specs.declared.relocation.Relocation.{Relocation}
 use Rattle.sequence_match.specs.Code.{CoversIn}
-use Rattle.sequence_match.proofs.Nearby.{above_not_any, far_not_any, none_left, none_seen, one_seen}
+use Rattle.sequence_match.proofs.Nearby.{above_not_any, none_left, none_lower, none_seen, one_seen}
 use Rattle.sequence_match.proofs.Seconds.{none_where_false}
 use Rattle.sequence_match.proofs.near.is_bare_below.Goals as goal
 
@@ -35,16 +35,19 @@ returns-then-covers_any c = (
       absurd (bare here.0 here.1 here.2 n (get_or xs n nothing) entry here.3),
 )
 
-pub returns-then-is_far : goal.returns-then-is_far
-returns-then-is_far c = (
+pub returns-then-is_last_below : goal.returns-then-is_last_below
+returns-then-is_last_below c = (
   λ t k low high f y at covers.
       let xs = c.args.relocations.now in
       let n : ℕ = c.args.end - 1 - c.loop-step.step in
       let nothing : Relocation = record { offset = 0; kind = Nothing; symbol = 0; addend = pos 0 } in
       let less : c.loop-step.step < c.args.end = omega arith in
       let entry = slice_get-get_or xs n nothing (omega (arith, c.requires.end, less)) in
-      none_left xs (λ y. CoversIn y c.args.from c.args.to) c.args.end c.loop-step.step c.args.from (get_or xs n nothing) c.requires.rise less entry
-      c.loop-step.invariant (c.is_far.ensures.0 (search rules)) (far_not_any c.args.from c.args.to) f y at (k, low, high, covers),
+      let last = c.is_last_below.ensures.0 (search rules) in
+      none_left xs (λ y. CoversIn y c.args.from c.args.to) c.args.end c.loop-step.step (get_or xs n nothing) less entry c.loop-step.invariant
+      (none_where_false _ _ c.covers_any.ensures c.if-covers_any.false)
+      (λ g z lower there h. none_lower xs c.args.from n h.0 (get_or xs n nothing) c.requires.rise c.requires.apart entry last h.1 g z lower there h.3)
+      f y at (k, low, high, covers),
   λ h. (search rules),
 )
 
