@@ -15,8 +15,8 @@
 //! measures time and memory.
 #![tactic(auto)]
 
-use anyhow::{Context, Result};
-use command_trials::{Bench, Plan, Program, Samples, try_kind};
+use anyhow::Result;
+use command_trials::{Program, try_words};
 use commands::tlsld;
 use ports::{HostStore, MemorySink, MemoryStore};
 use std::alloc::Global;
@@ -43,16 +43,7 @@ impl Program for Commands {
 
 fn main(rt: HostRuntime) -> Result<()> {
     let alloc = rt.alloc();
-    let mut words = env::args(&rt)?.skip(1);
-    let count: u64 = words.next().context("how many inputs")?.parse()?;
-    let seed: u64 = words.next().context("which seed")?.parse()?;
-    let plan = Plan { count, seed };
+    let words: Vec<String> = env::args(&rt)?.skip(1).collect(alloc)?;
     let mut store = HostStore::new(&rt, alloc);
-    let samples = Samples::fetch(alloc, &mut store)?;
-    let mut bench = Bench::new(alloc, Commands)?;
-    println!(rt; "seed {seed}")?;
-    for name in words {
-        try_kind(&rt, &mut bench, &samples, name.as_str(), plan)?;
-    }
-    Ok(())
+    Ok(try_words(&rt, alloc, Commands, &mut store, &words)?)
 }

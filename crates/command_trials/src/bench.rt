@@ -1,57 +1,19 @@
 //! Files in memory, and what commands over them answer.
 
+ghost use Rattle.std.specs.Thread.{IsSync};
+
+use crate::alarm::{Alarm, ensure};
 use crate::causes::{DONE, SINK, number_of, refusal_of};
 use crate::tally::Tally;
-use anyhow::{Context, Result, ensure};
 use ports::{MemorySink, MemoryStore};
 use std::alloc::{AllocError, Global};
 use std::str;
 use std::sync::Wait;
 use std::thread::Threads;
 
-/// What a command answered.
-#[derive(Drop)]
-pub(crate) struct Answer {
-    pub(crate) status: u8,
-    out: MemorySink,
-}
-
-impl Answer {
-    /// What it printed.
-    pub(crate) fn text(&self) -> Result<&str> {
-        str::from_utf8(self.out.bytes()).context("no text was printed")
-    }
-
-    /// Whether it is the output that was asked for.
-    pub(crate) fn is_done(&self) -> bool {
-        self.status == DONE
-    }
-
-    /// Whether another answer is the same.
-    pub(crate) fn is_same(&self, other: &Answer) -> bool {
-        self.status == other.status && self.out.bytes() == other.out.bytes()
-    }
-
-    /// Whether what it printed begins so. An image's names are bytes, so what `show` and `sites` print may be no text.
-    pub(crate) fn begins_with(&self, start: &[u8]) -> bool {
-        self.out.bytes().get(..start.len()) == Some(start)
-    }
-
-    /// The number of the cause that it names, where these are the words that it answers.
-    fn cause(&self, words: &str) -> Result<usize> {
-        let status = self.status;
-        let found = match status {
-            DONE => number_of(DONE, words.split(' ').next().unwrap_or("")),
-            SINK => Some(0),
-            _ => refusal_of(status, self.text()?),
-        };
-        found.context(format_args!("status {status} and no line of it"))
-    }
-}
-
 /// Commands that are tried.
-pub trait Program {
-    /// What a command of these words puts, and the status that it ends with, as `commands::tlsld`.
+pub trait Program: Drop {
+    /// Runs the command of these words over files, and returns the status that it ends with, as `commands::tlsld` does.
     fn answer<R: Threads + Wait + Sync>(
         &self,
         rt: &R,
@@ -59,71 +21,142 @@ pub trait Program {
         words: &[String],
         files: &mut MemoryStore,
         out: &mut MemorySink,
-    ) -> u8;
+    ) -> u8
+        requires sync { IsSync R.row };
 }
 
-/// Commands, files in memory, and the counts of what was answered.
+/// An answer: its number among those to one input, and its status.
+#[derive(Clone, Copy)]
+pub(crate) struct Answer {
+    number: usize,
+    pub(crate) status: u8,
+}
+
+impl Answer {
+    /// Whether it is the output that was asked for.
+    pub(crate) fn is_done(self) -> bool {
+        self.status == DONE
+    }
+}
+
+/// Commands, the files that they read, and what they answered.
 #[derive(Drop)]
-pub struct Bench<P> {
+pub(crate) struct Bench<P> {
     program: P,
     pub(crate) alloc: Global,
     pub(crate) files: MemoryStore,
     pub(crate) tally: Tally,
+    /// What was printed of the input that is tried.
+    outputs: Vec<MemorySink>,
 }
 
-/// The words of a command.
-fn words_of(alloc: Global, text: &str) -> Result<Vec<String>, AllocError> {
-    let mut words = Vec::new(alloc);
-    for word in text.split(' ') {
-        words.push(String::from_str(alloc, word)?)?;
+/// Words of a command, each on its own.
+fn owned(alloc: Global, words: &[&str]) -> Result<Vec<String>, AllocError> {
+    let mut all = Vec::new(alloc);
+    for word in words {
+        all.push(String::from_str(alloc, word)?)?;
     }
-    Ok(words)
+    Ok(all)
 }
 
-impl<P: Program + Drop> Bench<P> {
+/// What was printed into the output of this number.
+fn bytes_at(outputs: &[MemorySink], number: usize) -> &[u8] {
+    match outputs.get(number) {
+        Some(out) => out.bytes(),
+        None => &[],
+    }
+}
+
+impl<P: Program> Bench<P> {
     /// A bench without files.
-    pub fn new(alloc: Global, program: P) -> Result<Bench<P>, AllocError> {
+    pub(crate) fn new(alloc: Global, program: P) -> Result<Bench<P>, AllocError> {
+        let tally = Tally::new(alloc)?;
         Ok(Bench {
             program,
             alloc,
             files: MemoryStore::new(alloc),
-            tally: Tally::new(alloc)?,
+            tally,
+            outputs: Vec::new(alloc),
         })
     }
 
-    /// What a command answers, where the sink fails once it took so many bytes, if it is to fail.
+    /// Forgets what was answered to the input before.
+    pub(crate) fn begin(&mut self) {
+        self.outputs.clear();
+    }
+
+    /// Runs a command.
+    fn run<R: Threads + Wait + Sync>(
+        &mut self,
+        rt: &R,
+        words: &[&str],
+        out: &mut MemorySink,
+    ) -> Result<u8, AllocError> {
+        let words = owned(self.alloc, words)?;
+        Ok(
+            self.program
+                .answer(rt, self.alloc, &words, &mut self.files, out),
+        )
+    }
+
+    /// What a command answers.
     fn answer<R: Threads + Wait + Sync>(
         &mut self,
         rt: &R,
-        words: &str,
-        taken: Option<u64>,
-    ) -> Result<Answer> {
-        let words = words_of(self.alloc, words)?;
+        words: &[&str],
+    ) -> Result<Answer, AllocError> {
         let mut out = MemorySink::new(self.alloc);
-        if let Some(count) = taken {
-            out.fail_part(1, count);
+        let status = self.run(rt, words, &mut out)?;
+        let number = self.outputs.len();
+        self.outputs.push(out)?;
+        Ok(Answer { number, status })
+    }
+
+    /// What an answer printed. An image's names are bytes, so what `show` and `sites` print may be no text.
+    pub(crate) fn bytes(&self, answer: Answer) -> &[u8] {
+        bytes_at(&self.outputs, answer.number)
+    }
+
+    /// What an answer printed, if that is text, else nothing.
+    pub(crate) fn text(&self, answer: Answer) -> &str {
+        str::from_utf8(self.bytes(answer)).unwrap_or("")
+    }
+
+    /// Whether two commands answered the same.
+    pub(crate) fn are_same(&self, first: Answer, second: Answer) -> bool {
+        first.status == second.status && self.bytes(first) == self.bytes(second)
+    }
+
+    /// The number of the cause that an answer to these words names.
+    fn cause(&self, answer: Answer, words: &[&str]) -> Option<usize> {
+        match answer.status {
+            DONE => number_of(DONE, words.first()?),
+            SINK => Some(0),
+            status => refusal_of(status, self.text(answer)),
         }
-        let status =
-            self.program
-                .answer(rt, self.alloc, words.as_slice(), &mut self.files, &mut out);
-        Ok(Answer { status, out })
     }
 
     /// Counts what a command answers, which must have a cause. It may be the first answer to an input.
     fn counted<R: Threads + Wait + Sync>(
         &mut self,
         rt: &R,
-        words: &str,
+        words: &[&str],
         is_first: bool,
-    ) -> Result<Answer> {
-        let answer = self.answer(rt, words, None)?;
-        let cause = answer.cause(words).context(format_args!("{words}"))?;
-        self.tally.count(answer.status, cause, is_first);
+    ) -> Result<Answer, Alarm> {
+        let answer = self.answer(rt, words)?;
+        let cause = self.cause(answer, words);
+        ensure(cause.is_some(), "an answer names no cause")?;
+        self.tally
+            .count(answer.status, cause.unwrap_or(0), is_first);
         Ok(answer)
     }
 
     /// What a command answers; it is counted, and must have a cause.
-    pub(crate) fn ask<R: Threads + Wait + Sync>(&mut self, rt: &R, words: &str) -> Result<Answer> {
+    pub(crate) fn ask<R: Threads + Wait + Sync>(
+        &mut self,
+        rt: &R,
+        words: &[&str],
+    ) -> Result<Answer, Alarm> {
         self.counted(rt, words, false)
     }
 
@@ -131,24 +164,38 @@ impl<P: Program + Drop> Bench<P> {
     pub(crate) fn ask_first<R: Threads + Wait + Sync>(
         &mut self,
         rt: &R,
-        words: &str,
-    ) -> Result<Answer> {
+        words: &[&str],
+    ) -> Result<Answer, Alarm> {
+        self.begin();
         self.counted(rt, words, true)
     }
 
-    /// What a command answers whose sink fails once it took so many bytes: a front of its text must be there.
+    /// Puts an input onto the bench, and notes its size.
+    pub(crate) fn lay_input(&mut self, name: &str, bytes: &[u8]) -> Result<(), AllocError> {
+        self.tally.note_size(bytes.len());
+        self.files.add(name, bytes)
+    }
+
+    /// Counts what the lines of a transcript say.
+    pub(crate) fn count_lines(&mut self, run: Answer) -> Result<(), Alarm> {
+        let transcript = bytes_at(&self.outputs, run.number);
+        self.tally
+            .count_lines(str::from_utf8(transcript).unwrap_or(""))
+    }
+
+    /// Asks a command whose sink fails once it took so many bytes: a front of its whole text must be there.
     pub(crate) fn ask_cut<R: Threads + Wait + Sync>(
         &mut self,
         rt: &R,
-        words: &str,
-        whole: &Answer,
+        words: &[&str],
+        whole: Answer,
         taken: u64,
-    ) -> Result<()> {
-        let answer = self.answer(rt, words, Some(taken))?;
-        self.tally.count(answer.status, 0, false);
-        ensure!(answer.status == SINK, "{words}: the sink failed");
-        let is_front = whole.text()?.starts_with(answer.text()?);
-        ensure!(is_front, "{words}: no front of the text was put");
-        Ok(())
+    ) -> Result<(), Alarm> {
+        let mut out = MemorySink::new(self.alloc);
+        out.fail_part(1, taken);
+        let status = self.run(rt, words, &mut out)?;
+        self.tally.count(status, 0, false);
+        let is_front = self.bytes(whole).starts_with(out.bytes());
+        ensure(status == SINK && is_front, "a failing sink has no front")
     }
 }

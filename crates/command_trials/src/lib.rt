@@ -20,6 +20,7 @@
 //! it ends and that nothing in it is undefined. What is tried stands in a crate above, which has the inputs.
 #![tactic(auto)]
 
+mod alarm;
 mod bench;
 mod causes;
 mod inputs;
@@ -28,6 +29,6 @@ mod samples;
 mod tally;
 mod trial;
 
-pub use bench::{Bench, Program};
-pub use plan::{Plan, try_kind};
-pub use samples::Samples;
+pub use alarm::Alarm;
+pub use bench::Program;
+pub use plan::try_words;

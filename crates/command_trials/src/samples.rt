@@ -1,6 +1,6 @@
 //! What is changed: objects and jobs among the crate's data, and images that are linked of them.
 
-use anyhow::{Context, Result};
+use crate::alarm::Alarm;
 use job_changes::Generator;
 use ports::{MemoryStore, Store};
 use std::alloc::Global;
@@ -53,34 +53,34 @@ pub(crate) const OBJECTS: [&str; 41] = [
 
 /// The jobs.
 pub(crate) const JOBS: [&str; 24] = [
-    "forms",
-    "forms_anywhere",
-    "late",
-    "startup",
-    "descriptors",
-    "table",
-    "surplus",
-    "shared_data",
-    "several",
-    "descriptor",
-    "local",
-    "initial",
-    "indirect",
-    "loop",
-    "load",
-    "flag",
-    "inside",
-    "field",
-    "linker",
-    "undefined",
-    "base",
-    "descriptor_added",
-    "writable",
-    "distance",
+    "jobs/forms",
+    "jobs/forms_anywhere",
+    "jobs/late",
+    "jobs/startup",
+    "jobs/descriptors",
+    "jobs/table",
+    "jobs/surplus",
+    "jobs/shared_data",
+    "jobs/several",
+    "jobs/descriptor",
+    "jobs/local",
+    "jobs/initial",
+    "jobs/indirect",
+    "jobs/loop",
+    "jobs/load",
+    "jobs/flag",
+    "jobs/inside",
+    "jobs/field",
+    "jobs/linker",
+    "jobs/undefined",
+    "jobs/base",
+    "jobs/descriptor_added",
+    "jobs/writable",
+    "jobs/distance",
 ];
 
 /// A job whose image has 2^20 bytes of data, and the object that has them. It takes long, so it seldom comes.
-const LARGE_JOB: &str = "large";
+const LARGE_JOB: &str = "jobs/large";
 
 pub(crate) const LARGE_OBJECT: &str = "space.o";
 
@@ -92,34 +92,23 @@ pub(crate) const IMAGES: [&str; 3] = ["app", "lib", "plug"];
 
 /// Objects and jobs as they are before any change.
 #[derive(Drop)]
-pub struct Samples {
+pub(crate) struct Samples {
     files: MemoryStore,
 }
 
-/// Copies a file of the host's into memory.
-fn lay<S: Store>(
+/// Copies files of a store into memory.
+fn lay_all<S: Store>(
     alloc: Global,
     store: &mut S,
     files: &mut MemoryStore,
-    name: &str,
-    path: &str,
-) -> Result<()> {
-    let mut bytes = Vec::new(alloc);
-    store
-        .fetch(path, &mut bytes)
-        .context(format_args!("reading {path}"))?;
-    Ok(files.add(name, bytes.as_slice())?)
-}
-
-/// Copies a job into memory.
-fn lay_job<S: Store>(
-    alloc: Global,
-    store: &mut S,
-    files: &mut MemoryStore,
-    name: &str,
-) -> Result<()> {
-    let path = format!(in alloc; "jobs/{name}")?;
-    lay(alloc, store, files, name, path.as_str())
+    names: &[&str],
+) -> Result<(), Alarm> {
+    for name in names {
+        let mut bytes = Vec::new(alloc);
+        store.fetch(name, &mut bytes)?;
+        files.add(name, &bytes)?;
+    }
+    Ok(())
 }
 
 /// The name of a job by chance.
@@ -132,26 +121,21 @@ pub(crate) fn any_job(generator: &mut Generator) -> &'static str {
 
 impl Samples {
     /// The samples, from a store that has the crate's data.
-    pub fn fetch<S: Store>(alloc: Global, store: &mut S) -> Result<Samples> {
+    pub(crate) fn fetch<S: Store>(alloc: Global, store: &mut S) -> Result<Samples, Alarm> {
         let mut files = MemoryStore::new(alloc);
-        for name in OBJECTS {
-            lay(alloc, store, &mut files, name, name)?;
-        }
-        lay(alloc, store, &mut files, LARGE_OBJECT, LARGE_OBJECT)?;
-        for name in JOBS {
-            lay_job(alloc, store, &mut files, name)?;
-        }
-        lay_job(alloc, store, &mut files, LARGE_JOB)?;
+        lay_all(alloc, store, &mut files, &OBJECTS)?;
+        lay_all(alloc, store, &mut files, &JOBS)?;
+        lay_all(alloc, store, &mut files, &[LARGE_JOB, LARGE_OBJECT])?;
         Ok(Samples { files })
     }
 
     /// The bytes of an object or a job.
-    pub(crate) fn bytes(&self, name: &str) -> Result<&[u8]> {
-        self.files.get(name).context(format_args!("no {name}"))
+    pub(crate) fn bytes(&self, name: &str) -> &[u8] {
+        self.files.get(name).unwrap_or(&[])
     }
 
     /// The text of a job.
-    pub(crate) fn text(&self, name: &str) -> Result<&str> {
-        str::from_utf8(self.bytes(name)?).context(format_args!("{name} is no text"))
+    pub(crate) fn text(&self, name: &str) -> &str {
+        str::from_utf8(self.bytes(name)).unwrap_or("")
     }
 }

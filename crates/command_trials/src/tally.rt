@@ -1,7 +1,7 @@
 //! How many inputs and answers there were, by their causes.
 
+use crate::alarm::{Alarm, ensure};
 use crate::causes::{DONE, LINES, MOST, STATUSES, causes_of, number_of, outcome_of};
-use anyhow::{Context, Result};
 use std::alloc::{AllocError, Global};
 use std::io;
 
@@ -58,12 +58,11 @@ impl Tally {
     }
 
     /// Counts what the lines of a transcript say.
-    pub(crate) fn count_lines(&mut self, transcript: &str) -> Result<()> {
-        for line in transcript.lines() {
-            if line.starts_with('t') {
-                let number = outcome_of(line).context(format_args!("a line says {line}"))?;
-                self.count(LINES, number, false);
-            }
+    pub(crate) fn count_lines(&mut self, transcript: &str) -> Result<(), Alarm> {
+        for line in transcript.lines().filter(|line| line.starts_with('t')) {
+            let number = outcome_of(line);
+            ensure(number.is_some(), "a line says what no line can")?;
+            self.count(LINES, number.unwrap_or(0), false);
         }
         Ok(())
     }

@@ -1,6 +1,6 @@
 -- Lines that get a limit, one after another.
 use Rattle.std.proofs.Common.{◌≡◌, ◌≢◌, ◌∙◌, ◌+◌, ◌<◌, ◌≤◌, ◌⊎◌, ◌||◌, ℕ, Bool, true, false, Some, List, [], take, length, refl, sym, ap, subst, arith, inl, inr}
-use Rattle.std.specs.Prelude.{IfSome, IsSomeAnd, slice_index_or}
+use Rattle.std.specs.Prelude.{IfSome, IsSomeAnd, slice_index_or, unwrap_or}
 use Rattle.std.specs.List.{list_any}
 use Rattle.std.proofs.lemmas.Bool.{cases_eq}
 use Rattle.std.proofs.lemmas.List.Folds.{list_any_more}
@@ -13,8 +13,8 @@ within_or_more false most line word is within = inr (subst (λ o. IfSome o (IsWi
 
 pub more_is_beyond : (more : Bool) (most : ℕ) (line word : List ℕ) → fuel_in (words_of line) ≡ Some word → (more ≡ true → IsBeyond most word)
     → Some more ≡ Some true → AsksBeyond most line
-more_is_beyond true most line word is beyond e = subst (λ o. IsSomeAnd o (IsBeyond most)) (sym is) (beyond refl)
-more_is_beyond false most line word is beyond ()
+more_is_beyond more most line word is beyond e =
+    subst (λ o. IsSomeAnd o (IsBeyond most)) (sym is) (beyond (ap (λ o. unwrap_or o false) e))
 
 -- lines at first, before a step and after it
 module _ (most : ℕ) (first now next : List (List ℕ)) (n : ℕ) where
