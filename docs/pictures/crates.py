@@ -27,7 +27,7 @@ AREAS = [
     ("linking", "#def3e0", "#2e8540", r"(link|tls|relax|sequence|got|section|site)_.*|dynamic_symbols|job_link"),
     ("others", "#f4f4f4", "#777777", r".*"),
 ]
-BESIDE = re.compile(r".*_(tests|benchmark|listing|fuzz|runs)|object_builder|input_changes")
+BESIDE = re.compile(r".*_(tests|benchmark|listing|fuzz|runs|trials)|object_builder|(input|job)_changes")
 
 HEAD = "# NAME: the crates that it stands on, of this repository or of the kit\n"
 

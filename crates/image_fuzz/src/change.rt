@@ -2,7 +2,7 @@
 
 ghost use Rattle.std.specs.Prelude.{◌<◌};
 
-use input_changes::Generator;
+use job_changes::Generator;
 
 /// Bytes of the header and of ten program headers.
 const HEADERS: u64 = 64 + 10 * 56;

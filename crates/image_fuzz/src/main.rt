@@ -17,7 +17,7 @@ mod writing;
 use anyhow::{Context, Result, ensure};
 use change::change;
 use image_file::read;
-use input_changes::Generator;
+use job_changes::Generator;
 use outcome::{Outcome, outcome_of};
 use std::alloc::Global;
 use std::{env, fs};

@@ -1,3 +1,1 @@
 mod Differing
-mod Limits
-mod Lines

@@ -1,4 +1,1 @@
 pub mod Differing
-pub mod Fuel
-pub mod Lines
-pub mod Sequence

@@ -4,7 +4,7 @@ ghost use Rattle.std.specs.Prelude.{◌+◌, ◌≤◌, length};
 ghost use Rattle.input_changes.specs.Differing.{differing};
 
 use crate::fields::Field;
-use crate::generator::Generator;
+use job_changes::Generator;
 use crate::lengths::{change_any_byte, change_byte, change_length};
 use crate::tables::{ENTRY_SIZE, RELOCATION, SYMBOL, Table, header};
 use std::alloc::AllocError;

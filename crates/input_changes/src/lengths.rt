@@ -4,7 +4,7 @@ ghost use Rattle.std.specs.Prelude.{◌≡◌, ◌+◌, ◌≤◌, length};
 ghost use Rattle.input_changes.specs.Differing.{differing};
 
 use crate::fields::set_byte;
-use crate::generator::Generator;
+use job_changes::Generator;
 use crate::numbers::other_byte;
 use std::alloc::AllocError;
 

@@ -1,4 +1,4 @@
-//! Changed objects, images and jobs, made from a seed.
+//! Changed objects and images, made from a seed.
 //!
 //! A reader is tried by inputs that are nearly right: a file of random bytes is refused by its first four, and tells
 //! nothing of what stands behind. So a change here is one that knows what a file is made of. It takes a field of a
@@ -16,26 +16,22 @@
 //!   length.
 //! - Of an **image** ([`change_image`]) the fields of its header and segments, of its dynamic array, symbols and
 //!   relocations; names, its length, and any byte.
-//! - Of a **job** ([`JobLines`]) its lines, dropped, doubled, moved and exchanged, and their words, which become words
-//!   of other lines, numbers at limits, names that are too long, and words that no line knows.
+//! - **Jobs** are changed by [X.
 //!
 //! A table is found as a reader finds it, by the fields that name its place. Where an earlier change has moved it away
 //! there is nothing to change, and the call leaves the bytes alone. So no change needs a file that is whole.
 //!
-//! All changes are drawn from one fixed sequence of numbers ([`Generator`]), so a seed names them.
+//! **The rule of changes** (`specs/Differing`): a change writes at most 128 bytes, and adds at most 2^16 + 24.
+//!
+//! All changes are drawn from one fixed sequence of numbers (`job_changes::Generator`), so a seed names them.
 #![tactic(auto)]
 
 mod fields;
-mod generator;
 mod images;
-mod job_lines;
-mod job_words;
 mod lengths;
 mod numbers;
 mod objects;
 mod tables;
 
-pub use generator::Generator;
 pub use images::change_image;
-pub use job_lines::JobLines;
 pub use objects::change_object;

@@ -1,6 +1,6 @@
 //! Other numbers in place of one.
 
-use crate::generator::Generator;
+use job_changes::Generator;
 
 /// Numbers at which readers test.
 const LIMITS: [u64; 36] = [

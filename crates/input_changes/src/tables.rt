@@ -4,7 +4,7 @@ ghost use Rattle.std.specs.Prelude.{◌≡◌, ◌≤◌};
 ghost use Rattle.input_changes.specs.Differing.{differing};
 
 use crate::fields::Field;
-use crate::generator::Generator;
+use job_changes::Generator;
 use crate::numbers::other_number;
 
 /// The fields of a symbol, in an object and in an image.

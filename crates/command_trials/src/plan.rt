@@ -1,0 +1,122 @@
+//! So many changed inputs of a kind, one after another.
+
+use crate::alarm::Alarm;
+use crate::bench::{Bench, Program};
+use crate::inputs::{
+    lay_objects, linked_images, try_changed_image, try_changed_job, try_changed_object,
+};
+use crate::samples::Samples;
+use crate::tally::Tally;
+use job_changes::Generator;
+use ports::Store;
+use std::alloc::Global;
+use std::sync::Wait;
+use std::thread::Threads;
+
+/// A kind of input.
+#[derive(Clone, Copy)]
+enum Kind {
+    Jobs,
+    Objects,
+    Images,
+}
+
+/// How many inputs are tried, and from which seed.
+#[derive(Clone, Copy)]
+struct Plan {
+    count: u64,
+    seed: u64,
+}
+
+/// The plan of these words: a count and a seed.
+fn plan_of(words: &[String]) -> Option<Plan> {
+    let count = words.first()?.parse().ok()?;
+    let seed = words.get(1)?.parse().ok()?;
+    Some(Plan { count, seed })
+}
+
+/// The kind of that name.
+fn kind_of(name: &str) -> Result<Kind, Alarm> {
+    match name {
+        "jobs" => Ok(Kind::Jobs),
+        "objects" => Ok(Kind::Objects),
+        "images" => Ok(Kind::Images),
+        _ => Err(Alarm::Words),
+    }
+}
+
+/// Tries changed inputs of a kind. An alarm's input is printed.
+fn try_inputs<R: Threads + Wait + Print + Sync, P: Program>(
+    rt: &R,
+    bench: &mut Bench<P>,
+    samples: &Samples,
+    kind: Kind,
+    plan: Plan,
+) -> Result<(), Alarm> {
+    let seed = plan.seed;
+    let mut generator = Generator::new(seed);
+    let images = linked_images(rt, bench, samples)?;
+    bench.tally = Tally::new(bench.alloc)?;
+    for number in 0..plan.count {
+        let tried = match kind {
+            Kind::Jobs => try_changed_job(rt, bench, &mut generator, samples),
+            Kind::Objects => try_changed_object(rt, bench, &mut generator, samples),
+            Kind::Images => try_changed_image(rt, bench, &mut generator, &images),
+        };
+        if let Err(alarm) = tried {
+            println!(rt; "input {number} of seed {seed}: {alarm}")?;
+            return Err(alarm);
+        }
+    }
+    Ok(())
+}
+
+/// Tries changed inputs of the kind of this name, and prints the counts.
+fn try_kind<R: Threads + Wait + Print + Sync, P: Program>(
+    rt: &R,
+    bench: &mut Bench<P>,
+    samples: &Samples,
+    name: &str,
+    plan: Plan,
+) -> Result<(), Alarm> {
+    let kind = kind_of(name)?;
+    lay_objects(bench, samples)?;
+    try_inputs(rt, bench, samples, kind, plan)?;
+    bench.tally.print(rt, name)?;
+    Ok(())
+}
+
+/// Tries changed inputs of each of these kinds.
+fn try_kinds<R: Threads + Wait + Print + Sync, P: Program>(
+    rt: &R,
+    bench: &mut Bench<P>,
+    samples: &Samples,
+    names: &[String],
+    plan: Plan,
+) -> Result<(), Alarm> {
+    for name in names {
+        try_kind(rt, bench, samples, name.as_str(), plan)?;
+    }
+    Ok(())
+}
+
+/// Tries changed inputs, by words: how many of each kind, a seed, and kinds, which are `jobs`, `objects` and `images`.
+/// `store` has what is changed. Prints the counts of each kind. The error says what is wrong with the first answer that
+/// is otherwise than it must be, and the line before it names the input.
+pub fn try_words<R: Threads + Wait + Print + Sync, P: Program, S: Store>(
+    rt: &R,
+    alloc: Global,
+    program: P,
+    store: &mut S,
+    words: &[String],
+) -> Result<(), Alarm> {
+    let Some(plan) = plan_of(words) else {
+        return Err(Alarm::Words);
+    };
+    let samples = Samples::fetch(alloc, store)?;
+    let mut bench = Bench::new(alloc, program)?;
+    let seed = plan.seed;
+    println!(rt; "seed {seed}")?;
+    let names = words.get(2..).unwrap_or(&[]);
+    try_kinds(rt, &mut bench, &samples, names, plan)
+}
