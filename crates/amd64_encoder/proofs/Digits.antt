@@ -32,25 +32,6 @@ low_digit h m l m-low l-low = omega arith
 
 -- ---- registers
 
-pub number-lt : (r : Register) → number_of r < 16
-unfolding number_of
-number-lt Rax = omega arith
-number-lt Rcx = omega arith
-number-lt Rdx = omega arith
-number-lt Rbx = omega arith
-number-lt Rsp = omega arith
-number-lt Rbp = omega arith
-number-lt Rsi = omega arith
-number-lt Rdi = omega arith
-number-lt R8 = omega arith
-number-lt R9 = omega arith
-number-lt R10 = omega arith
-number-lt R11 = omega arith
-number-lt R12 = omega arith
-number-lt R13 = omega arith
-number-lt R14 = omega arith
-number-lt R15 = omega arith
-
 pub extended_again : (r : Register) → extended (low_bits r) (is_high r) ≡ r
 unfolding register_of number_of
 extended_again Rax = refl
@@ -69,25 +50,6 @@ extended_again R12 = refl
 extended_again R13 = refl
 extended_again R14 = refl
 extended_again R15 = refl
-
-pub register_again : (r : Register) → register_of (number_of r) ≡ r
-unfolding register_of number_of
-register_again Rax = refl
-register_again Rcx = refl
-register_again Rdx = refl
-register_again Rbx = refl
-register_again Rsp = refl
-register_again Rbp = refl
-register_again Rsi = refl
-register_again Rdi = refl
-register_again R8 = refl
-register_again R9 = refl
-register_again R10 = refl
-register_again R11 = refl
-register_again R12 = refl
-register_again R13 = refl
-register_again R14 = refl
-register_again R15 = refl
 
 -- an index but %rsp is none of those that stand for no index
 pub index_stands : (r : Register) → r ≢ Rsp → (eqb (low_bits r) 4 && not (is_high r)) ≡ false
@@ -138,12 +100,6 @@ scale_again scale.One = refl
 scale_again scale.Two = refl
 scale_again scale.Four = refl
 scale_again scale.Eight = refl
-
-pub scale_number-lt : (s : Scale) → scale_number s < 4
-scale_number-lt scale.One = omega arith
-scale_number-lt scale.Two = omega arith
-scale_number-lt scale.Four = omega arith
-scale_number-lt scale.Eight = omega arith
 
 -- ---- REX
 

@@ -71,8 +71,3 @@ objects_named E F relax w fs job b is ends status text says =
     (named_more E F relax w status status text text (λ P high own. own) job (λ ls. ends ls status text) fs true says)
 
 -- ** a job that has no image of the name
-
-pub missing_says : (E : Ending) (relax : Bool) (w : WritableSections) (fs : Files) (job : JobParts) (b : Bool) (f : CommandFault) → IsMissing b f
-    → Comes items (NamedSays E relax w fs job b) (Err f)
-missing_says E relax w fs job true f never = absurd never
-missing_says E relax w fs job false f is = subst (λ v. Comes items (NamedSays E relax w fs job false) (Err v)) (sym is) (refl, refl)

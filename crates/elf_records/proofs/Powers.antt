@@ -69,6 +69,3 @@ alignment_small n power = rw power.2 (powers power.0 power.1)
 
 pub alignment_bits : (n : ℕ) → IsAlignment n → count_ones n ≡ 1
 alignment_bits n power = rw power.2 (bits_of_power power.0)
-
-pub alignment_above : (n : ℕ) → IsAlignment n → 0 < n
-alignment_above n power = rw power.2 (pow_above power.0)

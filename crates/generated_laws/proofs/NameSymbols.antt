@@ -111,7 +111,3 @@ module _ (b : List ℕ) (s : Shape) (reads : ReadsAs b s) (name : List ℕ) wher
       first_of_three Global (bytes_eq name s.function) (bytes_eq name s.variable)
       (rw (has.function_binding, has.function_place, has.function_name) refl)
       (rw (has.variable_binding, has.variable_place, has.variable_name) refl) (λ getter. rw (getter.binding, getter.place) refl)
-
-  pub weak_in : first_in Weak name b ≡ None
-  weak_in =
-      first_of_three Weak false false (rw has.function_binding refl) (rw has.variable_binding refl) (λ getter. rw getter.binding refl)

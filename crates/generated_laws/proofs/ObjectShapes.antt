@@ -200,6 +200,3 @@ of_shape P n i general initial local = of_tests (i % 3 == 1) (i % 3 == 2)
     of_tests true q = general
     of_tests false true = initial
     of_tests false false = local
-
-pub shape_small : (n i : ℕ) → i ≤ 1000 → IsSmall (shape_of n i)
-shape_small n i few = of_shape IsSmall n i (general_small n i few) (initial_small n i few) (local_small n i few)

@@ -100,11 +100,6 @@ module _ (l : Linking) where
         let P : List (List ℕ) → Type 0 = λ objects. IsLawful (layout_of l.kind objects) in
         subst P (sym are) (lawful l.kind (program_bytes n) (program_tiny n read) (omega (arith, program_length n)))
 
-    pub program_tls_some : 1 ≤ n → 0 < tls_size (layout l).sections
-    program_tls_some some =
-        let P : List (List ℕ) → Type 0 = λ objects. 0 < tls_size (layout_of l.kind objects).sections in
-        subst P (sym are) (tls_some (program_bytes n) (program_tiny n read) (omega (arith, program_length n)))
-
     pub program_read : (o : ℕ) → o < length l.objects → ReadsAs (object l o) (shape_of n (1 + o))
     program_read o below =
         let P : List (List ℕ) → Type 0 = λ objects. ReadsAs (slice_index_or objects o []) (shape_of n (1 + o)) in
@@ -116,11 +111,6 @@ module _ (l : Linking) where
     module_lawful =
         let P : List (List ℕ) → Type 0 = λ objects. IsLawful (layout_of l.kind objects) in
         subst P (sym are) (lawful l.kind module_bytes (module_objects_tiny read) (omega arith))
-
-    pub module_tls_some : 0 < tls_size (layout l).sections
-    module_tls_some =
-        let P : List (List ℕ) → Type 0 = λ objects. 0 < tls_size (layout_of l.kind objects).sections in
-        subst P (sym are) (tls_some module_bytes (module_objects_tiny read) (omega arith))
 
     pub module_read : (o : ℕ) → o < length l.objects → ReadsAs (object l o) module_shape
     module_read o below =

@@ -13,10 +13,3 @@ unless-ok false r a e = e
 
 module _ {W F B W' F' B' : Type 0} (same : Alike W F B W' F' B') {M M' : Type 0} (acc : Accesses M B) (acc' : Accesses M' B') (Same : M → M' → Type 0)
     (kept : IsKept same acc acc' Same) (shut : M → ℕ → Bool) (stays : (m : M) (place at : ℕ) (b : B) → shut (acc.put m place b) at ≡ shut m at) where
-  pub closed_kept : IsKept same (closed shut acc) acc' Same
-  closed_kept = record {
-    byte = λ m m' h place. reaches-unless same.byte (shut m place) (acc.byte m place) (acc'.byte m' place) (kept.byte m m' h place);
-    writes = λ m m' h place. reaches-unless (λ a b. Unit {0}) (shut m place) (acc.writes m place) (acc'.writes m' place) (kept.writes m m' h place);
-    put = λ m m' h place b b' k allowed. kept.put m m' h place b b' k (unless-ok (shut m place) (acc.writes m place) tt allowed);
-    still = λ m place at b. rw (stays m place at b, kept.still m place at b) refl;
-  }

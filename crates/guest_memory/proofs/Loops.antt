@@ -22,23 +22,6 @@ map-nil None = refl
 map-nil (Some bs) = refl
 
 module _ {B : Type 0} (ranges : List (Range B)) (place size : ℕ) where
-  pub read-start : (bytes : List B) → IsReadTo ranges place size bytes place 0
-  read-start bytes =
-      let all : size - 0 ≡ size = omega arith in
-      rw all (map-nil (bytes_in ranges place size))
-
-  pub read-more : (bytes : List B) (at k : ℕ) (b : B) → k < size → k < length bytes → byte_in Read ranges at ≡ Some b
-      → IsReadTo ranges place size bytes at k → IsReadTo ranges place size (set bytes k b) (next_place at) (k + 1)
-  read-more bytes at k b below room found so_far =
-      let more : size - k ≡ suc (size - (k + 1)) = omega arith in
-      (rw (more, found) at so_far)
-      ∙ (rw (take_more_set bytes k b room) (before-map (take k bytes) b (bytes_in ranges (next_place at) (size - (k + 1)))))
-
-  pub read-none : (bytes : List B) (at k : ℕ) → k < size → byte_in Read ranges at ≡ None → IsReadTo ranges place size bytes at k → bytes_in ranges place size ≡ None
-  read-none bytes at k below none so_far =
-      let more : size - k ≡ suc (size - (k + 1)) = omega arith in
-      (rw (more, none) at so_far)
-
   pub read-all : (bytes : List B) (at k : ℕ) → k ≡ size → IsReadTo ranges place size bytes at k → bytes_in ranges place size ≡ Some (take size bytes)
   read-all bytes at k end so_far =
       let none : size - k ≡ 0 = omega arith in
@@ -49,9 +32,6 @@ abbrev pub IsWritableTo : {B : Type 0} → List (Range B) → ℕ → ℕ → �
 IsWritableTo ranges place size at k = all_writable ranges place size ≡ all_writable ranges at (size - k)
 
 module _ {B : Type 0} (ranges : List (Range B)) (place size : ℕ) where
-  pub writable-start : IsWritableTo ranges place size place 0
-  writable-start = let all : size - 0 ≡ size = omega arith in rw all refl
-
   pub writable-more : (at k : ℕ) → k < size → is_some (byte_in Write ranges at) ≡ true
       → IsWritableTo ranges place size at k → IsWritableTo ranges place size (next_place at) (k + 1)
   writable-more at k below found so_far =
@@ -75,9 +55,6 @@ IsStoredTo ops old place size word now at k =
     put_all (range_accesses ops) now at (bytes_from ops word k (size - k)) ≡ put_all (range_accesses ops) old place (bytes_from ops word 0 size)
 
 module _ {W F B : Type 0} (ops : Operations W F B) (old : AddressSpace B) (place size : ℕ) (word : W) where
-  pub store-start : IsStoredTo ops old place size word old place 0
-  store-start = let all : size - 0 ≡ size = omega arith in rw all refl
-
   pub store-more : (now next : AddressSpace B) (at k : ℕ) → k < size → next ≡ record now { ranges = with_byte now.ranges at (ops.byte_of word k) }
       → IsStoredTo ops old place size word now at k → IsStoredTo ops old place size word next (next_place at) (k + 1)
   unfolding range_accesses

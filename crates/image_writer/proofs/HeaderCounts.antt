@@ -82,12 +82,6 @@ last_found : (p : ℕ → Bool) (m n g : ℕ) (b : Bool) → p n ≡ b → (if b
 last_found p m n g true is found earlier = let same : g ≡ n = omega arith in rw same is
 last_found p m n g false is found earlier = earlier found
 
--- the last one that passes does pass
-pub last_passes : (p : ℕ → Bool) (n g : ℕ) → behind_last p n ≡ g + 1 → p g ≡ true
-unfolding behind_last
-last_passes p zero g found = absurd (omega arith)
-last_passes p (suc n) g found = last_found p (behind_last p n) n g (p n) refl found (λ h. last_passes p n g h)
-
 -- no number below n passes
 pub last_none : (p : ℕ → Bool) (n : ℕ) → ((i : ℕ) → i < n → p i ≡ false) → behind_last p n ≡ 0
 unfolding behind_last

@@ -100,12 +100,6 @@ pub header_in : (b : List ℕ) → IsImage b → 64 ≤ length b
 unfolding Breaks
 header_in b image = stable (64 ≤ length b) (dec_le _ _) (λ short. image Length 0 (refl, omega (arith, short)))
 
--- the file holds the program headers
-pub headers_in : (b : List ℕ) → IsImage b → 64 + 56 * count b ≤ length b
-unfolding Breaks
-headers_in b image =
-    stable (64 + 56 * count b ≤ length b) (dec_le _ _) (λ short. image Extent 0 (refl, inl (omega (arith, short))))
-
 -- the file holds the bytes of each segment
 pub segment_in : (b : List ℕ) → IsImage b → (i : ℕ) → i < count b → (segment b i).offset + (segment b i).filesz ≤ length b
 unfolding Breaks

@@ -29,9 +29,6 @@ held_with seen state stack xs = record {
 }
 
 module _ (l : Loads Byte) (thread : ℕ) (seen : List Event) (state : State Word Flag) (stack : List Byte) (xs : List (Owned Byte)) where
-  pub owned_with : owned_by (held_with seen state stack xs) ≡ xs
-  owned_with = owned_again xs
-
   pub looked_with : (now : List Event) → looked l thread now (held_with seen state stack xs) ≡ held_with now state stack (looked_at l thread now xs)
   looked_with now = ap (λ ys. held_with now state stack (looked_at l thread now ys)) (owned_again xs)
 

@@ -161,7 +161,3 @@ module _ (state : State Word Flag) (k : Kept) (none : k.lent ≡ None) (why : Op
 pub stops : (stop : Stop) (state : State Word Flag) (k : Kept) (meant : List Event → Result (After Word Flag Memory) Stop)
     → ((seen : List Event) → meant seen ≡ Err stop) → Makes (Err stop) state k state k meant
 stops stop state k meant is = record { shape = refl; stays = (refl, refl); makes = λ seen has. is seen }
-
-pub linker_with_made : (result : Result (Unit {0}) Stop) (after : After Word Flag Memory) → linker_with (made result after) ≡ linker_with result
-linker_with_made (Ok done) after = refl
-linker_with_made (Err stop) after = cc

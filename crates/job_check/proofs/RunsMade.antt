@@ -43,9 +43,6 @@ pub record Reaches (count : ℕ) (state : State Word Flag) (k : Kept) (left : �
   pub same : (seen : List Event) → HasSeen k seen
       → run (meant_steps (meaning_of k'.images) k'.thread) left (held_at seen state' k') ≡ run (meant_steps (meaning_of k.images) k.thread) count (held_at seen state k)
 
-pub reaches_start : (count : ℕ) (state : State Word Flag) (k : Kept) → Reaches count state k count state k
-reaches_start count state k = record { keeps = keeps_same k; same = λ seen has. refl }
-
 module _ (count : ℕ) (first : State Word Flag) (start : Kept) (state : State Word Flag) (k : Kept) where
   pub ended : (left : ℕ) (ran : Ran) (state' : State Word Flag) (k' : Kept) → Reaches count first start left state k → KeepsJob k k'
       → ((seen : List Event) → HasSeen k seen → run (meant_steps (meaning_of k.images) k.thread) left (held_at seen state k) ≡ ran_as ran (held_at seen state' k'))

@@ -21,29 +21,6 @@ use Rattle.job_race.specs.Rows.{AllRaced, CanRace, CountsLooks, HasRow}
 
 -- ---- one thread, and none
 
-pub one_row : (m : JobImages) (job : JobParts) (thread : ℕ) (old new : PassView) (said : List ShownLine)
-    (events : List Event) (row : Shown) → HasRaced m job thread old new said events → 1 ≤ thread
-    → thread ≤ length job.lines → row ≡ record { threads = said ∷ []; events = events }
-    → HasRow m job thread 1 old new row
-one_row m job thread old new said events row raced low there is =
-    subst (HasRow m job thread 1 old new) (sym is) (record {
-      long = omega (arith, there, low);
-      each = (raced.racer, tt);
-      events = raced.events_are;
-      counted = record { loads = omega (arith, raced.loads_are); turns = omega (arith, raced.turns_are) };
-    })
-
-pub no_row : (m : JobImages) (job : JobParts) (first count : ℕ) (shared : SharedView) (p : PassView) (row : Shown)
-    → CanRace m first count shared p → length job.lines < first → row ≡ record { threads = []; events = [] }
-    → HasRow m job first count p p row
-no_row m job first count shared p row can past is =
-    subst (HasRow m job first count p p) (sym is) (record {
-      long = omega (arith, past);
-      each = tt;
-      events = sym can.fresh;
-      counted = record { loads = omega arith; turns = omega arith };
-    })
-
 -- ---- all threads
 
 lines_at : {X : Type 0} (all : List (List X)) (k : ℕ) (own : List X) → slice_get all k ≡ Some own
@@ -99,14 +76,6 @@ module _ {X Y : Type 0} (m : JobImages) (job : JobParts) (old new : PassView) (r
   pub told_raced : length job.lines ≤ 64 → IfOk result (IsRaced (job_loads m) job.fuel job.lines)
   told_raced few = told_row (HasRow m job 1 64 old new) (IsRaced (job_loads m) job.fuel job.lines) row result
       (λ shown known. all_raced m job old new shown few known) all is
-
-  pub told_history : IfOk result (λ shown. shown.events ≡ new.seen)
-  told_history = told_row (HasRow m job 1 64 old new) (λ shown. shown.events ≡ new.seen) row result
-      (λ shown known. known.events) all is
-
-  pub told_looks : IfOk result (λ shown. CountsLooks job.lines shown old new)
-  told_looks = told_row (HasRow m job 1 64 old new) (λ shown. CountsLooks job.lines shown old new) row result
-      (λ shown known. known.counted) all is
 
   pub told_named : m.kinds ≡ map (λ image. image.kind) job.images → IsLegal (infos m) (last_offset m) new.seen
       → IfOk result (λ shown. All (λ event. IsImageNumber job.images event.image) shown.events)

@@ -47,23 +47,6 @@ module _ {A R S : Type 0} (f : R → S) where
   handed_err None a r same = absurd cc
   handed_err (Some refusal) a r same = let e : refusal ≡ r = cc in rw e refl
 
-pub open_refused_as : (h : History) (image : ℕ) (refusal : OpenRefusal) → IsOpensAnswer refusal
-    → OpenRefused h image refusal
-    → unless (option_map refused_open (open_refusal (left h) image)) (opened_at (left h) image)
-    ≡ Err (refused_open refusal)
-open_refused_as h image Unknown is_answer is = handed_err refused_open _ _ Unknown (open_same h image ∙ is)
-open_refused_as h image Full is_answer is = handed_err refused_open _ _ Full (open_same h image ∙ is)
-open_refused_as h image StaticFull is_answer is = handed_err refused_open _ _ StaticFull (open_same h image ∙ is)
-open_refused_as h image NoRoomToOpen is_answer is = absurd is_answer
-
-pub close_refused_as : (h : History) (image : ℕ) (refusal : CloseRefusal) → IsClosesAnswer refusal
-    → CloseRefused h image refusal
-    → unless (option_map refused_close (close_refusal (left h) image)) (closed_at (left h) image)
-    ≡ Err (refused_close refusal)
-close_refused_as h image Permanent is_answer is = handed_err refused_close _ _ Permanent (close_same h image ∙ is)
-close_refused_as h image NotOpen is_answer is = handed_err refused_close _ _ NotOpen (close_same h image ∙ is)
-close_refused_as h image NoRoomToClose is_answer is = absurd is_answer
-
 -- ---- the events that are new to a runner
 
 with_event-length : {E : Type 0} (xs : List E) (e : Option E) → length xs ≤ length (with_event xs e)

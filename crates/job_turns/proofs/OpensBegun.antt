@@ -42,10 +42,6 @@ use Rattle.thread_space.proofs.Looks.{see_kept}
 
 -- ** answers
 
-pub refused_by : {A R : Type 0} (o : Option R) (answer : A) (refusal : R) → Err refusal ≡ unless o answer → o ≡ Some refusal
-refused_by None answer refusal is = absurd (cc is)
-refused_by (Some why) answer refusal is = cc
-
 pub accepted_by : {A R : Type 0} (o : Option R) (answer said : A) → Ok said ≡ unless o answer → (o ≡ None) × (said ≡ answer)
 accepted_by None answer said is = (refl, cc)
 accepted_by (Some why) answer said is = absurd (cc is)

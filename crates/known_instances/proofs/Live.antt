@@ -52,14 +52,6 @@ module _ (q : Loads ℕ) (history : List Event) (legal : IsLegal q.infos q.last_
     pub known : known_in q history x.number ≡ Some x
     pub low : x.number < 2 ^ 12
 
-  -- and so it is with all live instances
-  pub each_known : (seen : List Event) → IsFront seen history → All (IsKnown seen) (instances q seen)
-  each_known seen front = all_live (IsKnown seen) seen front (λ x e. record {
-    numbered = e;
-    known = known_is q history legal seen x.number x front e;
-    low = number_low q history legal seen x.number x front e;
-  })
-
   -- what starts with the program is found under its number, and has it as its id
   pub startup : (seen : List Event) (number : ℕ) → IsFront seen history → 0 < number → number ≤ startup_count q.infos
       → (x : Instance) × ((numbered_instance q seen number ≡ Some x) × (x.id ≡ number))

@@ -24,10 +24,6 @@ pub on_ok_then : {V E P Q : Type 0} (r : Result V E) → (P → Q) → OnOk r P 
 on_ok_then (Ok v) f p = f p
 on_ok_then (Err e) f p = tt
 
-pub if_err_then : {V E : Type 0} {P Q : E → Type 0} (r : Result V E) → ((e : E) → P e → Q e) → IfErr r P → IfErr r Q
-if_err_then (Ok v) f p = tt
-if_err_then (Err e) f p = f e p
-
 -- an entry, and then those behind it
 pub entries_step : (g : Need → Entry) (f : Entry → List ℕ) (file : List ℕ) (n : ℕ) (ks : List Need) (entry : Entry)
     → Some entry ≡ option_map g (slice_get ks n)

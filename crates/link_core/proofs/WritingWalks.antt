@@ -41,17 +41,6 @@ module _ (l : Linking) (o s : ℕ) (from : ℕ) (to : Option ℕ) (part : List �
         ≡ part_with_held l from o (object l o) part s (Some address) = rw (held.0, held.1) refl in
         same ∙ start_of (Some address) is
 
--- the address of a section that begins in a part
-pub start_known : (p : Layout) (from : ℕ) (to : Option ℕ) (at : Option ℕ) (address : ℕ) → Some address ≡ start_at p from to at
-    → at ≡ Some address
-start_known p from to None address is = absurd (cc)
-start_known p from to (Some other) address is =
-    of_test (nat_le from (offset_of p other) && is_before (offset_of p other) to) is
-  where
-    of_test : (t : Bool) → Some address ≡ (if t then Some other else None) → Some other ≡ Some address
-    of_test true e = sym e
-    of_test false e = absurd (cc)
-
 module _ (l : Linking) (from : ℕ) (to : Option ℕ) where
   -- the fields of a table, and then those of the tables behind it
   pub tables_step : (o : ℕ) (part : List ℕ) (t n : ℕ) → t < n

@@ -30,8 +30,3 @@ module _ (whole : List ℕ) (from place : ℕ) (words : Words) (window : List �
       subst (λ (b : List ℕ). IsWindow b from window)
       (splice_more place (place + 8) (bytes_of 8 words.first) (bytes_of 8 word) whole (let one = length-bytes_of 8 words.first in omega (arith, one)) (omega (arith, inside))
       ∙ ap (λ o. splice place (bytes_of 8 words.first ++ second_bytes o) whole) (sym is))
-
-  pub one_shown : words.second ≡ None → IsWindow (splice place (bytes_of 8 words.first) whole) from window → IsWindow (splice place (words_bytes words) whole) from window
-  one_shown is =
-      subst (λ (b : List ℕ). IsWindow b from window)
-      (ap (λ (b : List ℕ). splice place b whole) (sym (append-nil (bytes_of 8 words.first)) ∙ ap (λ o. bytes_of 8 words.first ++ second_bytes o) (sym is)))

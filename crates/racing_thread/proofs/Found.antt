@@ -63,12 +63,6 @@ module _ (p : PassView) (before : List Event) (all : before ≡ p.seen) where
         turns_are = (let none : p.turns ≡ p.turns + 0 = omega arith in none) ∙ ap (λ (t : Tally). p.turns + t.turns) (sym cost);
       }
 
-  pub stays_level : (q : PassView) → IsLoaded p q → q.told ≡ q.seen
-      → IsLegal p.shared.images.infos p.shared.images.last_offset p.seen → Looks p before q
-  stays_level q is whole legal =
-      subst (Looks p before) (sym is.rest)
-      (still q.told (whole ∙ ap (λ (x : PassView). x.seen) is.rest) legal)
-
   -- there was, and now it is seen
   caught_all : (told : List Event) (q : PassView) (after : List Event) → length p.seen < length told
       → IsCaught (loaded p told) q.seen q → IsTold (loaded p told) q.seen before after → Looks p after q
@@ -89,16 +83,6 @@ module _ (p : PassView) (before : List Event) (all : before ≡ p.seen) where
         loads_are = loads ∙ (two ∙ ap (λ (t : Tally). p.loads + t.loads) (sym cost));
         turns_are = turns ∙ ap (λ (t : Tally). p.turns + t.turns) (sym cost);
       }
-
-  pub catches_up : (m q : PassView) (after : List Event) → IsLoaded p m → length m.seen < length m.told
-      → IsCaught m q.seen q → IsTold m q.seen before after → Looks p after q
-  catches_up m q after is more caught lacked =
-      let told = m.told in
-      let same : m ≡ loaded p told = is.rest in
-      caught_all told q after
-      (subst (λ (x : PassView). length x.seen < length told) same more)
-      (subst (λ (x : PassView). IsCaught x q.seen q) same caught)
-      (subst (λ (x : PassView). IsTold x q.seen before after) same lacked)
 
 -- ** an open and a close
 

@@ -122,9 +122,6 @@ map_or : (o r : Option (Owned ℕ)) → option_map (λ y. y.range.bytes) (option
 map_or None r = refl
 map_or (Some y) r = refl
 
-pub block-append : (n : ℕ) (xs ys : List (Owned ℕ)) → block_bytes n (xs ++ ys) ≡ option_or (block_bytes n xs) (block_bytes n ys)
-block-append n xs ys = ap (option_map (λ y. y.range.bytes)) (find-append (λ y. is_block_of n y.owner) xs ys) ∙ map_or _ _
-
 pub data-append : (n : ℕ) (xs ys : List (Owned ℕ)) → data_bytes n (xs ++ ys) ≡ option_or (data_bytes n xs) (data_bytes n ys)
 data-append n xs ys = ap (option_map (λ y. y.range.bytes)) (find-append (λ y. is_data_of n y.owner) xs ys) ∙ map_or _ _
 

@@ -42,33 +42,6 @@ pub record AreSoFar (images : JobImages) (slots : List Piece) (count : ℕ) : Ty
   pub none : (slot_of slots 0).instance ≡ None
   pub each : (image : ℕ) → 1 ≤ image → image < count → IsFirst images image (slot_of slots image)
 
-pub so_far_first : (images : JobImages) (piece : Piece) → piece.instance ≡ None → length piece.bytes ≡ SURPLUS → AreSoFar images (piece ∷ []) 1
-so_far_first images piece none long = record { some = omega arith; few = omega arith; long = refl; surplus = long; none = none; each = λ image low high. absurd (omega arith) }
-
-pub so_far_more : (images : JobImages) (slots : List Piece) (piece : Piece) (count : ℕ) → AreSoFar images slots count → count < 65 → IsFirst images count piece → AreSoFar images (slots ++ piece ∷ []) (count + 1)
-so_far_more images slots piece count are l is =
-    let before : (k : ℕ) → k < count → slot_of (slots ++ piece ∷ []) k ≡ slot_of slots k = λ k h. get_or_append_left slots (piece ∷ []) no_piece k (omega (arith, are.long)) in
-    let first : slot_of (slots ++ piece ∷ []) 0 ≡ slot_of slots 0 = before 0 (omega (arith, are.some)) in
-    record {
-      some = omega arith;
-      few = omega arith;
-      long = length-append slots (piece ∷ []) ∙ omega (arith, are.long);
-      surplus = ap (λ (x : Piece). length x.bytes) first ∙ are.surplus;
-      none = ap (λ (x : Piece). x.instance) first ∙ are.none;
-      each = λ image low high. elim (cases_eq image count) [
-        | inl e ↦ rw (e, get_or_push slots piece no_piece count are.long) is
-        | inr ne ↦ rw (before image (omega arith)) (are.each image low (omega arith))
-      ];
-    }
-
-pub so_far_all : (images : JobImages) (slots : List Piece) (count : ℕ) → AreSoFar images slots count → 65 ≤ count → AreFirst images slots
-so_far_all images slots count are h = let e : count ≡ 65 = omega (arith, are.few) in record {
-  long = are.long ∙ e;
-  surplus = are.surplus;
-  none = are.none;
-  each = λ image low high. are.each image low (omega arith);
-}
-
 -- ---- images before any event
 
 abbrev first_of : Option ImageInfo → ℕ → Module

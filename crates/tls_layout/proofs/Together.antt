@@ -39,12 +39,6 @@ page_limit Late n le = page_up-least n 4096 le
 
 -- ---- no places
 
-pub replicate_none : (n : ℕ) → HaveNone (replicate n None)
-replicate_none n k = elim (cases_lt k n) [
-  | inl below ↦ get_or-replicate n k None None below
-  | inr past ↦ get_or_past (replicate n None) k None (omega (arith, length-replicate {A = Option ℕ} n None))
-]
-
 -- ---- offsets
 
 past_section : (sections : List Section) (k : ℕ) → length sections ≤ k → section_at sections k ≡ dropped

@@ -16,9 +16,6 @@ pub same_name : (name : List ℕ) → bytes_eq name name ≡ true
 same_name [] = refl
 same_name (x ∷ xs) = grind (arith, nat_tests, same_name xs)
 
-pub grows_refl : (names : Names) → Grows names names
-grows_refl names = record { keeps = λ name n h. h }
-
 pub grows_then : (a b c : Names) → Grows a b → Grows b c → Grows a c
 grows_then a b c first next = record { keeps = λ name n h. next.keeps name n (first.keeps name n h) }
 
