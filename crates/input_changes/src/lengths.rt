@@ -4,8 +4,8 @@ ghost use Rattle.std.specs.Prelude.{◌≡◌, ◌+◌, ◌≤◌, length};
 ghost use Rattle.input_changes.specs.Differing.{differing};
 
 use crate::fields::set_byte;
-use job_changes::Generator;
 use crate::numbers::other_byte;
+use job_changes::Generator;
 use std::alloc::AllocError;
 
 /// Changes the byte at a place, if the file goes so far.

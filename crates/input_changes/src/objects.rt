@@ -4,9 +4,9 @@ ghost use Rattle.std.specs.Prelude.{◌≡◌, ◌+◌, ◌^◌, ◌≤◌, leng
 ghost use Rattle.input_changes.specs.Differing.{differing};
 
 use crate::fields::Field;
-use job_changes::Generator;
 use crate::lengths::{change_any_byte, change_byte, change_length};
 use crate::tables::{ENTRY_SIZE, PLACE, RELOCATION, SYMBOL, Table, header};
+use job_changes::Generator;
 use std::alloc::AllocError;
 
 /// The fields of the file's header that say what the file is.

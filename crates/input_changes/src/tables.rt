@@ -4,8 +4,8 @@ ghost use Rattle.std.specs.Prelude.{◌≡◌, ◌≤◌};
 ghost use Rattle.input_changes.specs.Differing.{differing};
 
 use crate::fields::Field;
-use job_changes::Generator;
 use crate::numbers::other_number;
+use job_changes::Generator;
 
 /// The fields of a symbol, in an object and in an image.
 pub(crate) const SYMBOL: [Field; 6] = [
