@@ -24,6 +24,7 @@ use Rattle.thread_blocks.specs.Instances.{instances, instances_in, left_by}
 use Rattle.thread_blocks.specs.JobWorlds.{blocks_in, data_in, numbered_lines}
 use Rattle.thread_blocks.specs.Lines.{Line}
 use Rattle.thread_blocks.specs.Turns.{Thread, ready}
+use Rattle.thread_turns.proofs.Ready.{lines_at, ready-length, ready_at}
 use Rattle.whole_meaning.specs.Jobs.{first_data, job_start, ready_from}
 use Rattle.whole_meaning.specs.Loads.{info_of, loads_of, meaning_of}
 use Rattle.whole_meaning.specs.Meanings.{Meaning}
@@ -31,7 +32,7 @@ use Rattle.whole_meaning.specs.Threads.{Meant, meant_ready, ops}
 use Rattle.meant_space.specs.declared.space.Wanted.TheVariants.{Fixed}
 use Rattle.job_check.specs.Histories.{IsHistory, IsLeftBy, infos_of, last_of}
 use Rattle.meant_space.specs.Kept.{Kept}
-use Rattle.job_check.specs.Progress.{IsFirst, IsRunOf, Progress, Stands, StandsForSome}
+use Rattle.job_check.specs.Progress.{IsFirst, IsRunOf, MeantThreads, Stands, StandsForSome}
 use Rattle.meant_space.specs.Spaces.{fills, reaches, with_held}
 use Rattle.job_check.specs.Standing.{IsFirstKept, IsFirstRun, IsIdle, Run, StandsFor}
 use Rattle.job_check.proofs.Looks.{held_with, live_is, looked_with}
@@ -97,44 +98,6 @@ module _ (ls : List Linking) where
   all_data xs i items past are so_far =
       so_far ∙ ap (flat_map data_made) (take_all i xs past ∙ are ∙ sym (first_live ls))
 
--- ** the threads of the definition
-
-ready-length : (m : Meaning) (thread : ℕ) (lines : List (List ThreadLine)) → length (ready_from m thread lines) ≡ length lines
-ready-length m thread [] = refl
-ready-length m thread (own ∷ lines) = ap suc (ready-length m (suc thread) lines)
-
-record IsReady (m : Meaning) (thread : ℕ) (lines : List (List ThreadLine)) (k : ℕ) (t : Thread Meant Line Event) : Type 0 where
-  pub own : List ThreadLine
-  pub own_is : slice_get lines k ≡ Some own
-  pub is : t ≡ ready (meant_ready m (thread + k)) (numbered_lines 1 own)
-
-ready_at : (m : Meaning) (thread : ℕ) (lines : List (List ThreadLine)) (k : ℕ) (t : Thread Meant Line Event)
-    → slice_get (ready_from m thread lines) k ≡ Some t → IsReady m thread lines k t
-ready_at m thread [] k t at = absurd cc
-ready_at m thread (own ∷ lines) zero t at =
-    let same : t ≡ ready (meant_ready m thread) (numbered_lines 1 own) = cc in
-    let sum : thread ≡ thread + 0 = omega arith in
-    record {
-      own = own;
-      own_is = refl;
-      is = same ∙ ap (λ n. ready (meant_ready m n) (numbered_lines 1 own)) sum;
-    }
-ready_at m thread (own ∷ lines) (suc k) t at =
-    let later = ready_at m (suc thread) lines k t at in
-    let sum : suc thread + k ≡ thread + suc k = omega arith in
-    record {
-      own = later.own;
-      own_is = later.own_is;
-      is = later.is ∙ ap (λ n. ready (meant_ready m n) (numbered_lines 1 later.own)) sum;
-    }
-
--- the lines of a thread, in two spellings
-lines_at : {X : Type 0} (all : List (List X)) (k : ℕ) (own : List X) → slice_get all k ≡ Some own → of_thread all (suc k) ≡ own
-lines_at all k own at =
-    let positive : nat_lt 0 (suc k) ≡ true = grind arith in
-    let index : suc k - 1 ≡ k = omega arith in
-    rw (positive, index) (get_or_from_slice_get all k own [] at)
-
 -- ** a thread before its first line
 
 module _ (ls : List Linking) (thread : ℕ) where
@@ -186,13 +149,14 @@ module _ (ls : List Linking) (thread : ℕ) where
 
 -- ** all of them
 
-module _ (ls : List Linking) (job : JobParts) (x : Progress) (first : IsFirst ls job x) where
+module _ (ls : List Linking) (job : JobParts) (x : MeantThreads) (first : IsFirst ls job x) where
   first_each : (k : ℕ) (r : Run) (t : Thread Meant Line Event) → slice_get x.runs k ≡ Some r
       → slice_get (ready_from (meaning_of ls) 1 job.lines) k ≡ Some t → IsRunOf ls job.fuel (suc k) r t
   first_each k r t at_r at_t =
       let one : k + 1 ≡ suc k = omega arith in
       let run = subst (λ n. IsFirstRun n ls job r) one (first.each k r at_r) in
-      let is = ready_at (meaning_of ls) 1 job.lines k t at_t in
+      let is = ready_at (meant_ready (meaning_of ls)) (ready_from (meaning_of ls)) (λ n. refl) (λ n own lines. refl) 1
+      job.lines k t at_t in
       let number : 1 + k ≡ suc k = omega arith in
       let kept = first_thread ls (suc k) r.kept run.kept in
       record {
@@ -211,7 +175,8 @@ module _ (ls : List Linking) (job : JobParts) (x : Progress) (first : IsFirst ls
     shared_is = sym first.shared_is;
     are_data = rw first.shared_is (after_are_data (meaning_of ls).loads 0 (λ x. true) (λ x. true) [] (instances (meaning_of ls).loads []));
     no_blocks = rw first.shared_is (after_no_blocks (meaning_of ls).loads 0 (λ x. true) (λ x. true) [] (instances (meaning_of ls).loads []));
-    count = first.count ∙ sym (ready-length (meaning_of ls) 1 job.lines);
+    count = first.count ∙ sym (ready-length (meant_ready (meaning_of ls)) (ready_from (meaning_of ls)) (λ n. refl)
+        (λ n own lines. refl) 1 job.lines);
     each = first_each;
   }
 

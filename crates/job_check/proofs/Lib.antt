@@ -3,7 +3,6 @@ mod FirstTurn
 mod Histories
 mod LinesBegun
 mod Listed
-mod Lists
 mod Looks
 mod Memories
 mod OneTurn

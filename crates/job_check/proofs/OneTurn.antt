@@ -23,9 +23,11 @@ use Rattle.whole_meaning.specs.Threads.{Meant, meant_turns}
 use Rattle.job_check.specs.declared.thread.Waiting.{Waiting}
 use Rattle.job_check.specs.Histories.{IsHistory, infos_of, last_of}
 use Rattle.meant_space.specs.Kept.{Kept, held_at}
-use Rattle.job_check.specs.Progress.{IsRunOf, Progress, Stands, is_over, is_thread_over, meant_order}
-use Rattle.job_check.specs.Standing.{PhaseIs, Run, StandsAfter, TakesTurn, is_done, is_done_with}
-use Rattle.job_check.proofs.Lists.{beside, each_set, none_beside, set-length, set_same}
+use Rattle.thread_turns.specs.Orders.{is_over, is_thread_over}
+use Rattle.job_check.specs.declared.thread.Common.{Common}
+use Rattle.job_check.specs.Progress.{IsRunOf, MeantThreads, Stands, Turned, meant_order}
+use Rattle.job_check.specs.Standing.{PhaseIs, Run, StandsAfter, is_done, is_done_with}
+use Rattle.thread_turns.proofs.Lists.{beside, each_set, none_beside, set-length, set_same}
 use Rattle.job_check.proofs.Looks.{held_with}
 use Rattle.job_check.proofs.OwnedApart.{blocks_before, blocks_of_data, data_behind, data_twice, owned_again}
 
@@ -81,13 +83,14 @@ turn_legal ls thread t events legal =
 
 -- ** what is behind a turn of thread k
 
-module _ (ls : List Linking) (fuel : ℕ) (w : Shared Word Flag Byte Line) (x : Progress) (stands : Stands ls fuel w x) (e : Option Event)
+module _ (ls : List Linking) (fuel : ℕ) (w : Shared Word Flag Byte Line) (x : MeantThreads) (stands : Stands ls fuel w x) (e : Option Event)
     (legal : IsHistory ls (with_event w.events e)) where
-  pub stands_then : (k : ℕ) (p : Past) (d : List (Owned Byte)) (r : Run) (t : Thread Meant Line Event)
-      → left_by (loads_of ls) (with_event w.events e) ≡ p → data_in d ≡ d → blocks_in d ≡ [] → IsRunOf ls fuel (suc k) r t
-      → Stands ls fuel (record { threads = slice_set w.threads k t; events = with_event w.events e; shared = d })
-      (record { past = p; shared = d; runs = slice_set x.runs k r })
-  stands_then k p d r t leaves are_data no_blocks is = record {
+  pub stands_then : (k : ℕ) (s : Common) (r : Run) (t : Thread Meant Line Event)
+      → left_by (loads_of ls) (with_event w.events e) ≡ s.table → data_in s.ranges.items ≡ s.ranges.items
+      → blocks_in s.ranges.items ≡ [] → IsRunOf ls fuel (suc k) r t
+      → Stands ls fuel (record { threads = slice_set w.threads k t; events = with_event w.events e; shared = s.ranges.items })
+      (record { shared = s; runs = slice_set x.runs k r })
+  stands_then k s r t leaves are_data no_blocks is = record {
     legal = legal;
     leaves = leaves;
     shared_is = refl;
@@ -144,7 +147,7 @@ module _ (k : Kept) (d : List (Owned Byte)) (blocks : blocks_in k.own ≡ k.own)
   data_held (Idle h) is = ap (λ y. data_in (owned_by (put y))) is.holds ∙ data_again is.seen is.state
   data_held (Mid steps points h) is = absurd is
 
-module _ (ls : List Linking) (fuel : ℕ) (w : Shared Word Flag Byte Line) (x : Progress) (stands : Stands ls fuel w x) where
+module _ (ls : List Linking) (fuel : ℕ) (w : Shared Word Flag Byte Line) (x : MeantThreads) (stands : Stands ls fuel w x) where
   abbrev turned_by : ℕ → Option (Thread Meant Line Event) → Shared Word Flag Byte Line
   turned_by thread t =
       shared_turn (λ n. meant_turns (meaning_of ls) n fuel) (λ n. event_by (meaning_of ls).loads n) w thread t
@@ -183,7 +186,7 @@ module _ (ls : List Linking) (fuel : ℕ) (w : Shared Word Flag Byte Line) (x : 
         ≡ record { threads = slice_set w.threads k (without_data handed); events = w.events; shared = data_in (owned_by (held_in handed.phase)) }
     done_world = rw (done_turn, no_event) refl
 
-    data_same : data_in (owned_by (held_in handed.phase)) ≡ x.shared
+    data_same : data_in (owned_by (held_in handed.phase)) ≡ x.shared.ranges.items
     data_same = data_held r.kept w.shared run.stands.blocks run.stands.no_data shared_data shared_no_blocks t.phase idle ∙ stands.shared_is
 
     done_run : IsRunOf ls fuel (suc k) r (without_data handed)
@@ -204,35 +207,35 @@ module _ (ls : List Linking) (fuel : ℕ) (w : Shared Word Flag Byte Line) (x : 
 
     done_stays : Stands ls fuel (turned_by (suc k) (Some t)) x
     done_stays =
-        let same : record { past = x.past; shared = x.shared; runs = slice_set x.runs k r } ≡ x =
-        ap (λ runs. record { past = x.past; shared = x.shared; runs = runs }) (set_same x.runs k r at_r) in
+        let same : record { shared = x.shared; runs = slice_set x.runs k r } ≡ x =
+        ap (λ runs. record { shared = x.shared; runs = runs }) (set_same x.runs k r at_r) in
         rw (done_world, data_same)
-        (subst (λ y. Stands ls fuel (record { threads = slice_set w.threads k (without_data handed); events = w.events; shared = x.shared }) y) same
-        (stands_then ls fuel w x stands None stands.legal k x.past x.shared r (without_data handed) stands.leaves stands.are_data
+        (subst (λ y. Stands ls fuel (record { threads = slice_set w.threads k (without_data handed); events = w.events; shared = x.shared.ranges.items }) y) same
+        (stands_then ls fuel w x stands None stands.legal k x.shared r (without_data handed) stands.leaves stands.are_data
         stands.no_blocks done_run))
 
-  over_stays_at : (k : ℕ) (r : Option Run) → slice_get x.runs k ≡ r → is_over r ≡ true
+  over_stays_at : (k : ℕ) (r : Option Run) → slice_get x.runs k ≡ r → is_over is_done r ≡ true
       → Stands ls fuel (turned_by (suc k) (slice_get w.threads k)) x
   over_stays_at k None at over = rw (none_beside x.runs w.threads k stands.count at) stands
   over_stays_at k (Some r) at over =
       let found = beside x.runs w.threads k r stands.count at in
       rw found.1 (done_stays k r found.0 at found.1 over)
 
-  pub over_stays : (thread : ℕ) → is_thread_over x.runs thread ≡ true → Stands ls fuel (meant_order ls fuel (thread ∷ []) w) x
+  pub over_stays : (thread : ℕ) → is_thread_over is_done x.runs thread ≡ true → Stands ls fuel (meant_order ls fuel (thread ∷ []) w) x
   over_stays zero over = stands
   over_stays (suc k) over = over_stays_at k (slice_get x.runs k) refl over
 
   -- ** a turn of a thread that has something left
 
-  module _ (k : ℕ) (r : Run) (t : Thread Meant Line Event) (is : IsRunOf ls fuel (suc k) r t) (p : Past) (d : List (Owned Byte)) (r' : Run)
-      (takes : TakesTurn r x.past x.shared r' p d) where
+  module _ (k : ℕ) (r : Run) (t : Thread Meant Line Event) (is : IsRunOf ls fuel (suc k) r t) (s : Common) (r' : Run)
+      (takes : Turned x.shared r s r') where
     abbrev adds : Option Event
     adds = event_of (event_by (meaning_of ls).loads (suc k)) t w.events
 
     abbrev then : Thread Meant Line Event
     then = turn (meant_turns (meaning_of ls) (suc k) fuel) (with_data w.shared t) w.events
 
-    after_turn : StandsAfter r' p d (with_event w.events adds) then
+    after_turn : StandsAfter r' s.table s.ranges.items (with_event w.events adds) then
     after_turn =
         rw (stands.shared_is, ← is.images_are, ← is.thread_is, ← is.fuel_is)
         (takes.turns t w.events is.stands (rw is.images_are stands.leaves))
@@ -240,11 +243,11 @@ module _ (ls : List Linking) (fuel : ℕ) (w : Shared Word Flag Byte Line) (x : 
     images_then : r'.kept.images ≡ ls
     images_then = takes.same.images ∙ is.images_are
 
-    turn_stands : Stands ls fuel (turned_by (suc k) (Some t)) (record { past = p; shared = d; runs = slice_set x.runs k r' })
+    turn_stands : Stands ls fuel (turned_by (suc k) (Some t)) (record { shared = s; runs = slice_set x.runs k r' })
     turn_stands =
         rw after_turn.shared
-        (stands_then ls fuel w x stands adds (turn_legal ls (suc k) t w.events stands.legal) k p d r' (without_data then)
-        (subst (λ images. left_by (loads_of images) (with_event w.events adds) ≡ p) images_then after_turn.leaves)
+        (stands_then ls fuel w x stands adds (turn_legal ls (suc k) t w.events stands.legal) k s r' (without_data then)
+        (subst (λ images. left_by (loads_of images) (with_event w.events adds) ≡ s.table) images_then after_turn.leaves)
         (subst (λ xs. data_in xs ≡ xs) after_turn.shared (data_twice (owned_by (held_in then.phase))))
         (subst (λ xs. blocks_in xs ≡ []) after_turn.shared (blocks_of_data (owned_by (held_in then.phase))))
         (record {
@@ -254,9 +257,9 @@ module _ (ls : List Linking) (fuel : ℕ) (w : Shared Word Flag Byte Line) (x : 
           stands = after_turn.stands;
         }))
 
-pub turned_stands : (ls : List Linking) (fuel : ℕ) (w : Shared Word Flag Byte Line) (x : Progress) (k : ℕ) (r : Run) (p : Past)
-    (d : List (Owned Byte)) (r' : Run) → slice_get x.runs k ≡ Some r → TakesTurn r x.past x.shared r' p d → Stands ls fuel w x
-    → Stands ls fuel (meant_order ls fuel (suc k ∷ []) w) (record { past = p; shared = d; runs = slice_set x.runs k r' })
-turned_stands ls fuel w x k r p d r' at takes stands =
+pub turned_stands : (ls : List Linking) (fuel : ℕ) (w : Shared Word Flag Byte Line) (x : MeantThreads) (k : ℕ) (r : Run) (s : Common)
+    (r' : Run) → slice_get x.runs k ≡ Some r → Turned x.shared r s r' → Stands ls fuel w x
+    → Stands ls fuel (meant_order ls fuel (suc k ∷ []) w) (record { shared = s; runs = slice_set x.runs k r' })
+turned_stands ls fuel w x k r s r' at takes stands =
     let found = beside x.runs w.threads k r stands.count at in
-    rw found.1 (turn_stands ls fuel w x stands k r found.0 (stands.each k r found.0 at found.1) p d r' takes)
+    rw found.1 (turn_stands ls fuel w x stands k r found.0 (stands.each k r found.0 at found.1) s r' takes)

@@ -1,5 +1,5 @@
 -- After the last turn.
-use Rattle.std.proofs.Common.{◌≡◌, ◌∙◌, ◌*◌, ◌+◌, ℕ, zero, suc, List, [], ◌∷◌, Some, length, map, refl, sym, subst, arith}
+use Rattle.std.proofs.Common.{◌≡◌, ◌∙◌, ◌++◌, ◌*◌, ◌+◌, ℕ, zero, suc, List, [], ◌∷◌, Some, length, map, refl, sym, subst, arith}
 use Rattle.std.specs.Prelude.{slice_get}
 use Rattle.job_meaning.specs.declared.values.Flag.{Flag}
 use Rattle.job_meaning.specs.declared.values.Byte.{Byte}
@@ -13,10 +13,12 @@ use Rattle.thread_blocks.specs.Turns.{Thread, finishing}
 use Rattle.whole_meaning.specs.Jobs.{first_from, first_in, job_start, lines_of, meant_world, verdict_of}
 use Rattle.whole_meaning.specs.Loads.{meaning_of}
 use Rattle.whole_meaning.specs.Threads.{Meant}
-use Rattle.job_check.specs.Progress.{IsFirst, Progress, Stands, TakesTurns, first_unclean}
-use Rattle.job_check.specs.Standing.{Run}
+use Rattle.thread_turns.specs.Orders.{TakesTurns}
+use Rattle.thread_turns.proofs.Orders.{takes_both}
+use Rattle.job_check.specs.Progress.{IsFirst, MeantThreads, Stands, Turned, first_unclean}
+use Rattle.job_check.specs.Standing.{Run, is_done}
 use Rattle.job_check.proofs.FirstTurn.{first_stands}
-use Rattle.job_check.proofs.Orders.{takes_both}
+use Rattle.job_check.proofs.Orders.{turns_stand}
 
 verdict_from : (n : ℕ) (runs : List Run) (threads : List (Thread Meant Line Event)) → length runs ≡ length threads
     → ((k : ℕ) (r : Run) (t : Thread Meant Line Event) → slice_get runs k ≡ Some r → slice_get threads k ≡ Some t
@@ -33,7 +35,7 @@ verdict_from n (r ∷ runs) (t ∷ threads) long each =
     subst (λ i. first_in i 1 b.said ≡ a.unclean) sum (each (suc k) a b at_a at_b))) in
     rw (first, rest) refl
 
-pub stands_verdict : (ls : List Linking) (fuel : ℕ) (w : Shared Word Flag Byte Line) (x : Progress) → Stands ls fuel w x
+pub stands_verdict : (ls : List Linking) (fuel : ℕ) (w : Shared Word Flag Byte Line) (x : MeantThreads) → Stands ls fuel w x
     → first_unclean x.runs ≡ verdict_of (lines_of w)
 unfolding verdict_of
 stands_verdict ls fuel w x stands = sym (verdict_from 1 x.runs w.threads stands.count (λ k r t at_r at_t.
@@ -43,13 +45,15 @@ stands_verdict ls fuel w x stands = sym (verdict_from 1 x.runs w.threads stands.
 
 -- ** all of it
 
-module _ (ls : List Linking) (job : JobParts) (x y z : Progress) (first : IsFirst ls job x) (takes : TakesTurns x job.order y)
-    (finishes : TakesTurns y (finishing (4 * job.fuel) 1 job.lines) z) where
+module _ (ls : List Linking) (job : JobParts) (x y z : MeantThreads) (first : IsFirst ls job x)
+    (takes : TakesTurns is_done Turned x job.order y)
+    (finishes : TakesTurns is_done Turned y (finishing (4 * job.fuel) 1 job.lines) z) where
   whole_world : Stands ls job.fuel (meant_world (meaning_of ls) job.fuel job.lines job.order) z
   unfolding meant_world
   whole_world =
-      (takes_both x y z job.order (finishing (4 * job.fuel) 1 job.lines) takes finishes).turns ls job.fuel
-      (job_start (meaning_of ls) job.lines) (first_stands ls job x first)
+      turns_stand ls job.fuel (job.order ++ finishing (4 * job.fuel) 1 job.lines) (job_start (meaning_of ls) job.lines) x z
+      (first_stands ls job x first)
+      (takes_both is_done Turned x y z job.order (finishing (4 * job.fuel) 1 job.lines) takes finishes)
 
   pub whole_verdict : first_unclean z.runs ≡ verdict_of (lines_of (meant_world (meaning_of ls) job.fuel job.lines job.order))
   whole_verdict = stands_verdict ls job.fuel (meant_world (meaning_of ls) job.fuel job.lines job.order) z whole_world

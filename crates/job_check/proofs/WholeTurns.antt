@@ -30,7 +30,7 @@ use Rattle.job_check.specs.Lines.{HasLeft}
 use Rattle.meant_space.specs.Spaces.{with_held}
 use Rattle.job_check.specs.Standing.{BeginsLine, IsIdle, IsMid, IsSameThread, PhaseIs, ResumesLine, Run, StandsAfter, TakesTurn, emptied, is_done_with, run_after}
 use Rattle.job_check.specs.Taking.{BeginsTo, ResumesTo}
-use Rattle.job_check.proofs.Lists.{at_drop}
+use Rattle.thread_turns.proofs.Lists.{at_drop}
 use Rattle.job_check.proofs.Looks.{held_with, live_is, look_is}
 use Rattle.job_check.proofs.OwnedApart.{owned_again}
 use Rattle.job_check.proofs.TurnsTaken.{took_stands}

@@ -1,6 +1,6 @@
 -- How far the threads of a job have come: what the code keeps between two turns, and the definition's threads that it
 -- stands for.
-use Rattle.std.specs.Prelude.{◌≡◌, ◌+◌, ℕ, suc, Bool, true, List, [], ◌∷◌, length, slice_get, Option, Some, None}
+use Rattle.std.specs.Prelude.{◌≡◌, ◌+◌, ℕ, suc, List, [], ◌∷◌, length, slice_get, Option, Some, None}
 use Rattle.std.specs.Option.{option_or}
 use Rattle.job_meaning.specs.declared.values.Byte.{Byte}
 use Rattle.job_meaning.specs.declared.values.Flag.{Flag}
@@ -8,34 +8,23 @@ use Rattle.job_meaning.specs.declared.values.Word.{Word}
 use Rattle.job_text.specs.Jobs.{JobParts}
 use Rattle.link_needs.specs.Linking.{Linking}
 use Rattle.module_table.specs.declared.events.Event.{Event}
-use Rattle.module_table.specs.Past.{Past, start}
-use Rattle.thread_blocks.specs.Held.{Owned}
+use Rattle.module_table.specs.Past.{start}
 use Rattle.thread_blocks.specs.Instances.{left_by}
 use Rattle.thread_blocks.specs.JobWorlds.{Shared, blocks_in, data_in, shared_order}
 use Rattle.thread_blocks.specs.Lines.{Line, event_by}
-use Rattle.thread_blocks.specs.Turns.{Thread, at_number}
+use Rattle.thread_blocks.specs.Turns.{Thread}
+use Rattle.thread_turns.specs.Orders.{Progress}
 use Rattle.whole_meaning.specs.declared.unclean.UncleanStep.{UncleanStep}
 use Rattle.whole_meaning.specs.Jobs.{first_data}
 use Rattle.whole_meaning.specs.Loads.{loads_of, meaning_of}
 use Rattle.whole_meaning.specs.Threads.{Meant, meant_turns}
-use Rattle.job_check.specs.Histories.{IsHistory, infos_of, last_of}
-use Rattle.job_check.specs.Standing.{IsFirstRun, Run, StandsFor, is_done}
+use Rattle.job_check.specs.declared.thread.Common.{Common}
+use Rattle.job_check.specs.Histories.{IsHistory, IsLeftBy, infos_of, last_of}
+use Rattle.job_check.specs.Standing.{IsFirstRun, Run, StandsFor, TakesTurn}
 
--- the state that the history leaves, the data of all instances, and each thread, thread 1 first
-pub record Progress : Type 0 where
-  pub past : Past
-  pub shared : List (Owned Byte)
-  pub runs : List Run
-
--- ** which threads are over
-
--- the thread has nothing left to do, or there is no such thread
-abbrev pub is_over : Option Run → Bool
-is_over None = true
-is_over (Some r) = is_done r
-
-abbrev pub is_thread_over : List Run → ℕ → Bool
-is_thread_over runs thread = is_over (at_number runs thread)
+-- the state that the history leaves and the data of all instances, and each thread
+abbrev pub MeantThreads : Type 0
+MeantThreads = Progress Common Run
 
 -- ** what it stands for
 
@@ -46,22 +35,25 @@ pub record IsRunOf (ls : List Linking) (fuel thread : ℕ) (r : Run) (t : Thread
   pub fuel_is : r.fuel ≡ fuel
   pub stands : StandsFor r t
 
-pub record Stands (ls : List Linking) (fuel : ℕ) (w : Shared Word Flag Byte Line) (x : Progress) : Type 0 where
+pub record Stands (ls : List Linking) (fuel : ℕ) (w : Shared Word Flag Byte Line) (x : MeantThreads) : Type 0 where
   pub legal : IsHistory ls w.events
-  pub leaves : left_by (loads_of ls) w.events ≡ x.past
-  pub shared_is : w.shared ≡ x.shared
-  pub are_data : data_in x.shared ≡ x.shared
-  pub no_blocks : blocks_in x.shared ≡ []
+  pub leaves : left_by (loads_of ls) w.events ≡ x.shared.table
+  pub shared_is : w.shared ≡ x.shared.ranges.items
+  pub are_data : data_in x.shared.ranges.items ≡ x.shared.ranges.items
+  pub no_blocks : blocks_in x.shared.ranges.items ≡ []
   pub count : length x.runs ≡ length w.threads
   pub each : (k : ℕ) (r : Run) (t : Thread Meant Line Event) → slice_get x.runs k ≡ Some r
       → slice_get w.threads k ≡ Some t → IsRunOf ls fuel (suc k) r t
 
 -- the progress stands for the threads of some job
-pub record StandsForSome (x : Progress) : Type 0 where
+pub record StandsForSome (x : MeantThreads) : Type 0 where
   pub images : List Linking
   pub fuel : ℕ
   pub world : Shared Word Flag Byte Line
   pub stands : Stands images fuel world x
+
+abbrev pub Share : Common → List Run → Type 0
+Share s runs = StandsForSome (record { shared = s; runs = runs })
 
 -- ** turns
 
@@ -69,18 +61,21 @@ abbrev pub meant_order : List Linking → ℕ → List ℕ → Shared Word Flag 
 meant_order ls fuel order w = let m = meaning_of ls in
     shared_order (λ thread. meant_turns m thread fuel) (λ thread. event_by m.loads thread) order w
 
--- whatever threads the old progress stood for, the new one stands for them after turns in this order
-pub record TakesTurns (old : Progress) (order : List ℕ) (new : Progress) : Type 0 where
-  pub turns : (ls : List Linking) (fuel : ℕ) (w : Shared Word Flag Byte Line) → Stands ls fuel w old
-      → Stands ls fuel (meant_order ls fuel order w) new
+-- some history of the thread's images leaves the state
+abbrev pub CanTurn : Common → Run → Type 0
+CanTurn s r = IsLeftBy r.kept.images s.table
+
+-- what a thread's turn leaves
+abbrev pub Turned : Common → Run → Common → Run → Type 0
+Turned s r s' r' = TakesTurn r s.table s.ranges.items r' s'.table s'.ranges.items
 
 -- ** before the first turn
 
 -- the progress before the first turn of a job over these images
-pub record IsFirst (ls : List Linking) (job : JobParts) (x : Progress) : Type 0 where
+pub record IsFirst (ls : List Linking) (job : JobParts) (x : MeantThreads) : Type 0 where
   pub legal : IsHistory ls []
-  pub past_is : x.past ≡ start (infos_of ls) (last_of ls)
-  pub shared_is : x.shared ≡ first_data (meaning_of ls)
+  pub past_is : x.shared.table ≡ start (infos_of ls) (last_of ls)
+  pub shared_is : x.shared.ranges.items ≡ first_data (meaning_of ls)
   pub count : length x.runs ≡ length job.lines
   pub each : (k : ℕ) (r : Run) → slice_get x.runs k ≡ Some r → IsFirstRun (k + 1) ls job r
 

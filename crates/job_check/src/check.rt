@@ -4,7 +4,7 @@ ghost use Rattle.std.specs.Prelude.{◌≡◌, IfOk};
 ghost use Rattle.whole_meaning.specs.Jobs.{lines_of, meant_world, verdict_of};
 ghost use Rattle.whole_meaning.specs.Loads.{meaning_of};
 
-use crate::turns::Turns;
+use crate::turns::{first_threads, verdict};
 use job_text::Job;
 use meant_images::MeantImages;
 use std::alloc::{AllocError, Global};
@@ -20,8 +20,8 @@ pub fn check_job(
     ensures { IfOk result (λ verdict. verdict
         ≡ verdict_of (lines_of (meant_world (meaning_of images.now) job.now.fuel job.now.lines job.now.order))) }
 {
-    let mut turns = Turns::new(alloc, job, images)?;
-    turns.take_order(job.order())?;
-    turns.finish(job)?;
-    Ok(turns.verdict())
+    let mut threads = first_threads(alloc, job, images)?;
+    threads.take_order(job.order())?;
+    threads.finish(job)?;
+    Ok(verdict(&threads.threads))
 }

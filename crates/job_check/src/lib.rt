@@ -26,10 +26,9 @@
 //! A call makes at most `fuel` steps (`running`). The step after the last one is tried in a copy too, for its cause.
 //!
 //! **A turn** (`thread`) is one look at the history of opens and closes, and the steps up to the next look. A thread
-//! looks when a line begins (`lines`), and in the middle of a call. `turns` takes the turns in the job's order, and
-//! passes the data that threads share from one thread to the next. Then the definition gives each thread more turns
-//! than it can need. The code stops when a thread has nothing left to do, since further turns of it change nothing
-//! (`proofs/OneTurn`).
+//! looks when a line begins (`lines`), and in the middle of a call. [`thread_turns`] takes the turns in the job's order,
+//! over the data that threads share, and then those that bring each thread to its end. Further turns of a thread that
+//! has nothing left to do would change nothing (`proofs/OneTurn`).
 //!
 //! **Each clause** is an equation between the definition's thread and what the code keeps of it (`meant_space`). It
 //! holds for every history that leaves the same live instances. `Stands` (`specs/Progress`) says it of all threads at

@@ -4,6 +4,7 @@ ghost use Rattle.std.specs.Prelude.{◌≡◌, ◌≤◌, ◌<◌, ◌+◌, ◌^
 ghost use Rattle.module_table.specs.Past.{start};
 ghost use Rattle.thread_blocks.specs.Instances.{instances_in};
 ghost use Rattle.job_check.specs.Histories.{IsHistory, IsLeftBy, infos_of, last_of};
+ghost use Rattle.job_check.specs.Progress.{CanTurn, Share, Turned};
 ghost use Rattle.job_check.specs.Standing.{BeginsLine, IsFirstRun, ResumesLine, TakesTurn, is_done, run_after};
 ghost use Rattle.job_check.specs.Taking.{BeginsTo, ResumesTo, RunsTo};
 
@@ -20,7 +21,11 @@ use module_table::ModuleTable;
 use std::alloc::{AllocError, Global};
 use std::marker::Model;
 use std::mem;
+use thread_turns::TurnTaker;
 use whole_meaning::UncleanStep;
+
+/// More events than any memory holds.
+const MOST_EVENTS: u64 = 1 << 61;
 
 /// A call that waits for its next look.
 #[derive(Clone, Copy, Debug)]
@@ -206,6 +211,37 @@ fn resume_line<'j, 'm>(
     Ok(ended(script, begun, space, unclean, taken))
 }
 
+/// What all threads share: the state that the history leaves, and the data of all instances.
+#[derive(Drop)]
+pub(crate) struct Common {
+    pub(crate) table: ModuleTable,
+    pub(crate) ranges: Vec<OwnedRange>,
+}
+
+impl<'j, 'm> TurnTaker<Common> for MeantThread<'j, 'm> {
+    ghost is_done = { is_done };
+
+    ghost can_turn = { CanTurn };
+
+    ghost turned = { Turned };
+
+    ghost fit = { Share };
+
+    fn is_done(&self) -> bool {
+        match &self.call {
+            Some(_) => false,
+            None => self.lines.len() <= self.begun,
+        }
+    }
+
+    fn turn(self, shared: &mut Common) -> Result<Self, AllocError> {
+        if shared.table.seen() >= MOST_EVENTS {
+            return Err(AllocError);
+        }
+        self.take_turn(&mut shared.table, &mut shared.ranges)
+    }
+}
+
 impl<'j, 'm> MeantThread<'j, 'm> {
     /// A thread of a job, numbered from 1 to 64, before its first line. Fails only when memory runs out; 2^31 lines
     /// count as that, where a job that was read has at most 65,536.
@@ -241,16 +277,6 @@ impl<'j, 'm> MeantThread<'j, 'm> {
         })
     }
 
-    /// Whether the thread has nothing left to do.
-    pub(crate) fn is_done(&self) -> bool
-        ensures { result ≡ is_done self.now }
-    {
-        match &self.call {
-            Some(_) => false,
-            None => self.lines.len() <= self.begun,
-        }
-    }
-
     /// The thread's first unclean step so far.
     pub(crate) fn unclean(&self) -> Option<UncleanStep>
         ensures { result ≡ self.now.unclean }
@@ -261,7 +287,7 @@ impl<'j, 'm> MeantThread<'j, 'm> {
     /// Takes the thread's next turn: a look at the whole history, and the steps up to the next look. During the turn
     /// the thread has the data that all threads share. An accepted open or close enters the history. Fails only when
     /// memory runs out: the thread is dropped then, and no clause says what is left of the data.
-    pub(crate) fn turn(
+    fn take_turn(
         self,
         table: &mut ModuleTable,
         shared: &mut Vec<OwnedRange>,

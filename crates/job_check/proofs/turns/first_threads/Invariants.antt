@@ -1,7 +1,7 @@
 use Rattle.std.proofs.Common.{◌≡◌, ◌+◌, ℕ, length, Some}
 use Rattle.std.specs.Prelude.{slice_get}
 use Rattle.job_check.specs.Standing.{IsFirstRun, Run}
-use Rattle.job_check.proofs.turns.Turns.new.Given as goal
+use Rattle.job_check.proofs.turns.first_threads.Given as goal
 
 -- the threads so far
 abbrev pub invariant-loop-thread : goal.invariant-loop-thread

@@ -10,7 +10,7 @@ use Rattle.meant_space.specs.Spaces.{HaveOwnNumbers}
 use Rattle.job_check.specs.Standing.{BeginsLine, ResumesLine, Run, TakesTurn, is_done}
 use Rattle.job_check.proofs.Listed.{live_apart}
 use Rattle.job_check.proofs.WholeTurns.{begins_line, going_within, held_images, held_lent, held_live, held_now, resumes_line}
-use Rattle.job_check.proofs.thread.MeantThread.turn.Goals as goal
+use Rattle.job_check.proofs.thread.MeantThread.take_turn.Goals as goal
 
 pub hold-requires : goal.hold-requires
 hold-requires c =

@@ -3,8 +3,8 @@ use Rattle.std.proofs.lemmas.List.{length-append}
 use Rattle.std.specs.Prelude.{slice_get}
 use Rattle.job_check.specs.Standing.{IsFirstRun, Run}
 use Rattle.job_check.proofs.FirstTurn.{none_legal, start_is}
-use Rattle.job_check.proofs.Lists.{each_push}
-use Rattle.job_check.proofs.turns.Turns.new.Goals as goal
+use Rattle.thread_turns.proofs.Lists.{each_push}
+use Rattle.job_check.proofs.turns.first_threads.Goals as goal
 
 pub first_data-requires-clause-legal : goal.first_data-requires-clause-legal
 first_data-requires-clause-legal c =
@@ -23,7 +23,7 @@ returns c = record {
   past_is = c.in_ok-table.ensures
       ∙ start_is c.args.images.now c.infos.result.now c.static_offset-last_offset.result c.count.result c.infos.ensures.value
       c.static_offset-last_offset.ensures.value c.count.ensures.value;
-  shared_is = c.in_ok-shared.ensures;
+  shared_is = c.in_ok-ranges.ensures;
   count = omega (arith, c.loop-thread.invariant.0, c.threads-thread-end.ensures.value, c.loop-thread-test.false, c.loop-thread.auto.thread-end (omega arith));
   each = c.loop-thread.invariant.1;
 }
