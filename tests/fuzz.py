@@ -1,7 +1,7 @@
 #!/usr/bin/env python3
 """fuzz.py [PROGRAM] [COUNT] [SEED] [KIND..]: changes so many jobs, objects and images, and runs every command over them in memory.
 
-PROGRAM is crates/command_fuzz as it was built, and its first lines say what it tests. COUNT inputs of each kind, 1,000,000 if it is
+PROGRAM is crates/command_fuzz as it was built; crates/command_trials says what it tests. COUNT inputs of each kind, 1,000,000 if it is
 not given, are made in slices of 10,000, each by a process with a seed of its own: SEED, SEED + 1, and on. JOBS processes run at
 once, two if that is not in the environment. For each kind the rows of all slices are added up, and printed with the greatest memory
 of a process and the greatest time of a slice. The status is 1 if a slice ends with an error, which is printed and names the seed and
@@ -36,7 +36,8 @@ class Sum:
         self.longest = max(self.longest, seconds)
         self.memory = max(self.memory, memory)
         if ended.returncode:
-            self.failures.append(f"seed {seed}: status {ended.returncode}: {ended.stderr.strip()[-600:]}")
+            last = ended.stdout.splitlines()[-1:]
+            self.failures.append(f"seed {seed}: status {ended.returncode}: {' '.join(last)} {ended.stderr.strip()[-600:]}")
             return
         for line in ended.stdout.splitlines():
             words = line.split()

@@ -1,9 +1,9 @@
 //! Changes jobs, objects and images, and runs every command over them in memory: `command_fuzz COUNT SEED KIND..`,
 //! where KIND is `jobs`, `objects` or `images`, makes COUNT inputs of each kind. Each is a sample among the crate's data
-//! with one to three changes (`input_changes`), drawn from the seed, so that each run with these words is the same.
+//! with one to three changes (`job_changes`, `input_changes`), drawn from the seed, so that each run with these words is the same.
 //!
 //! What is tested of the answers stands in `command_trials`. The first answer that is otherwise ends the run with an
-//! error, which names the input. Else the counts are printed: how many inputs were accepted and refused, the greatest
+//! error, and the line before it names the input. Else the counts are printed: how many inputs were accepted and refused, the greatest
 //! input's size, and a row for each cause,
 //!
 //! ```text

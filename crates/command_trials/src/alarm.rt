@@ -13,7 +13,7 @@ pub enum Alarm {
     /// Memory ran out.
     #[error("out of memory")]
     OutOfMemory,
-    /// A sample could not be read.
+    /// A sample could not be read, or is none.
     #[error("a sample can't be read")]
     Sample,
     /// The counts could not be printed.

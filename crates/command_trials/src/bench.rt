@@ -81,7 +81,7 @@ impl<P: Program> Bench<P> {
     }
 
     /// Forgets what was answered to the input before.
-    pub(crate) fn begin(&mut self) {
+    fn begin(&mut self) {
         self.outputs.clear();
     }
 
@@ -178,9 +178,9 @@ impl<P: Program> Bench<P> {
 
     /// Counts what the lines of a transcript say.
     pub(crate) fn count_lines(&mut self, run: Answer) -> Result<(), Alarm> {
-        let transcript = bytes_at(&self.outputs, run.number);
-        self.tally
-            .count_lines(str::from_utf8(transcript).unwrap_or(""))
+        let transcript = str::from_utf8(bytes_at(&self.outputs, run.number));
+        ensure(transcript.is_ok(), "a transcript is no text")?;
+        self.tally.count_lines(transcript.unwrap_or(""))
     }
 
     /// Asks a command whose sink fails once it took so many bytes: a front of its whole text must be there.

@@ -5,6 +5,8 @@
 /// a job, an object, a link, an image, and of a job that is checked.
 pub(crate) const DONE: u8 = 0;
 
+pub(crate) const USAGE: u8 = 2;
+
 pub(crate) const STORE: u8 = 3;
 
 pub(crate) const SINK: u8 = 4;

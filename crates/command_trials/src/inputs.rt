@@ -31,9 +31,9 @@ fn lay_each<P: Program>(
     bench: &mut Bench<P>,
     samples: &Samples,
     names: &[&str],
-) -> Result<(), AllocError> {
+) -> Result<(), Alarm> {
     for name in names {
-        bench.files.add(name, samples.bytes(name))?;
+        bench.files.add(name, samples.bytes(name)?)?;
     }
     Ok(())
 }
@@ -42,7 +42,7 @@ fn lay_each<P: Program>(
 pub(crate) fn lay_objects<P: Program>(
     bench: &mut Bench<P>,
     samples: &Samples,
-) -> Result<(), AllocError> {
+) -> Result<(), Alarm> {
     lay_each(bench, samples, &OBJECTS)?;
     lay_each(bench, samples, &[LARGE_OBJECT])
 }
@@ -64,7 +64,7 @@ pub(crate) fn try_changed_job<R: Threads + Wait + Sync, P: Program>(
     generator: &mut Generator,
     samples: &Samples,
 ) -> Result<(), Alarm> {
-    let old = samples.text(any_job(generator));
+    let old = samples.text(any_job(generator))?;
     let text = changed_job(bench.alloc, generator, old)?;
     bench.lay_input("job", text.as_bytes())?;
     try_job(rt, bench, generator)
@@ -82,15 +82,13 @@ fn any_object<'a>(generator: &mut Generator, job: &'a str) -> &'a str {
     let line = any_image_line(generator, job);
     let names = || line.split(' ').skip(3);
     let number = generator.below(names().count() as u64) as usize;
-    names().nth(number).unwrap_or(LARGE_OBJECT)
+    names().nth(number).unwrap_or("")
 }
 
 /// The object that one is changed from: mostly itself, and else another.
 fn any_source<'a>(generator: &mut Generator, name: &'a str) -> &'a str {
-    if generator.is_one_in(16) {
-        return generator.pick(&OBJECTS).unwrap_or(LARGE_OBJECT);
-    }
-    name
+    let other = generator.pick(&OBJECTS).unwrap_or(LARGE_OBJECT);
+    if generator.is_one_in(16) { other } else { name }
 }
 
 /// A changed object.
@@ -112,10 +110,11 @@ fn lay_changed_object<P: Program>(
     generator: &mut Generator,
     samples: &Samples,
     name: &str,
-) -> Result<(), AllocError> {
-    let old = samples.bytes(any_source(generator, name));
+) -> Result<(), Alarm> {
+    let old = samples.bytes(any_source(generator, name))?;
     let bytes = changed_object(bench.alloc, generator, old)?;
-    bench.lay_input(name, &bytes)
+    bench.lay_input(name, &bytes)?;
+    Ok(())
 }
 
 /// Tries a job with one changed object.
@@ -125,7 +124,7 @@ pub(crate) fn try_changed_object<R: Threads + Wait + Sync, P: Program>(
     generator: &mut Generator,
     samples: &Samples,
 ) -> Result<(), Alarm> {
-    let job = samples.text(any_job(generator));
+    let job = samples.text(any_job(generator))?;
     let name = any_object(generator, job);
     lay_changed_object(bench, generator, samples, name)?;
     bench.files.add("job", job.as_bytes())?;
@@ -133,8 +132,7 @@ pub(crate) fn try_changed_object<R: Threads + Wait + Sync, P: Program>(
     if generator.is_one_in(32) {
         bench.ask(rt, &["show", name])?;
     }
-    lay_each(bench, samples, &[name])?;
-    Ok(())
+    lay_each(bench, samples, &[name])
 }
 
 /// Puts a copy of what `link` put among these.
@@ -152,6 +150,7 @@ fn push_image<R: Threads + Wait + Sync, P: Program>(
     words: &[&str],
 ) -> Result<(), Alarm> {
     if bench.ask_first(rt, words)?.is_done() {
+        ensure(bench.files.get("out").is_some(), "link puts nothing")?;
         push_copy(bench, images)?;
     }
     Ok(())
@@ -179,10 +178,11 @@ pub(crate) fn linked_images<R: Threads + Wait + Sync, P: Program>(
 ) -> Result<Vec<Vec<u8>>, Alarm> {
     let mut images = Vec::new(bench.alloc);
     for job in JOBS {
-        bench.files.add("job", samples.bytes(job))?;
+        bench.files.add("job", samples.bytes(job)?)?;
         push_images(rt, bench, &mut images)?;
     }
     bench.files.add("job", IMAGE_JOB)?;
+    ensure(!images.is_empty(), "no job has an image")?;
     Ok(images)
 }
 

@@ -14,10 +14,12 @@
 //!   one thread prints what `run` does;
 //! - once in a while that a store or a sink that fails is told, and that words of no command are.
 //!
-//! The first answer that is otherwise ends a trial with an error, which names the input; else its causes are counted.
+//! The first answer that is otherwise ends the trials with an error, and the line before it names the input; else causes
+//! are counted.
 //!
-//! The commands are a [`Program`], so this crate is proved without those that `tlsld` is made of; its own proof says that
-//! it ends and that nothing in it is undefined. What is tried stands in a crate above, which has the inputs.
+//! The commands are a [`Program`], so this crate is proved without those that `tlsld` is made of. Its own proof says that
+//! nothing in it is undefined, and that it ends if each answer comes. The samples that are changed are named here
+//! (`samples`); their bytes are data of the crate `command_fuzz`.
 #![tactic(auto)]
 
 mod alarm;

@@ -1,4 +1,4 @@
-//! What is changed: objects and jobs among the crate's data, and images that are linked of them.
+//! What is changed: objects and jobs among the data of `command_fuzz`, and images that are linked of them.
 
 use crate::alarm::Alarm;
 use job_changes::Generator;
@@ -120,7 +120,7 @@ pub(crate) fn any_job(generator: &mut Generator) -> &'static str {
 }
 
 impl Samples {
-    /// The samples, from a store that has the crate's data.
+    /// The samples, from a store that has the data of `command_fuzz`.
     pub(crate) fn fetch<S: Store>(alloc: Global, store: &mut S) -> Result<Samples, Alarm> {
         let mut files = MemoryStore::new(alloc);
         lay_all(alloc, store, &mut files, &OBJECTS)?;
@@ -130,12 +130,18 @@ impl Samples {
     }
 
     /// The bytes of an object or a job.
-    pub(crate) fn bytes(&self, name: &str) -> &[u8] {
-        self.files.get(name).unwrap_or(&[])
+    pub(crate) fn bytes(&self, name: &str) -> Result<&[u8], Alarm> {
+        match self.files.get(name) {
+            Some(bytes) => Ok(bytes),
+            None => Err(Alarm::Sample),
+        }
     }
 
     /// The text of a job.
-    pub(crate) fn text(&self, name: &str) -> &str {
-        str::from_utf8(self.bytes(name)).unwrap_or("")
+    pub(crate) fn text(&self, name: &str) -> Result<&str, Alarm> {
+        match str::from_utf8(self.bytes(name)?) {
+            Ok(text) => Ok(text),
+            Err(_) => Err(Alarm::Sample),
+        }
     }
 }

@@ -2,25 +2,32 @@
 
 use crate::alarm::{Alarm, ensure};
 use crate::bench::{Answer, Bench, Program};
-use crate::causes::{DONE, JOB, LINK, OBJECT, STORE, UNCLEAN};
+use crate::causes::{DONE, JOB, LINK, OBJECT, STORE, UNCLEAN, USAGE};
 use crate::samples::IMAGES;
 use job_changes::Generator;
+use std::alloc::AllocError;
 use std::sync::Wait;
 use std::thread::Threads;
 
-/// Words that are no command.
-const NO_COMMANDS: [[&str; 3]; 5] = [
-    ["run", "job", "job"],
-    ["link", "job", "app"],
-    ["sites", "job", "--no-relax"],
-    ["check", "job", "--no-relax"],
-    ["gen", "1", "1"],
-];
+/// What `link` may not change where it refuses.
+const OLD: &[u8] = b"old";
 
-/// Second words that `gen` does not take, and some that it takes.
-const NO_COUNTS: [&str; 5] = ["", "0", "1001", "job", "--no-relax"];
-
+/// Words of `gen` that it takes.
 const COUNTS: [&str; 3] = ["1", "2", "3"];
+
+/// Words that are no command, by chance.
+fn no_command(generator: &mut Generator) -> &'static [&'static str] {
+    match generator.below(8) {
+        0 => &[""],
+        1 => &["run"],
+        2 => &["run", "job", "job"],
+        3 => &["link", "job", "app"],
+        4 => &["sites", "job"],
+        5 => &["check", "job", "--no-relax"],
+        6 => &["gen", "0"],
+        _ => &["gen", "1001"],
+    }
+}
 
 /// Whether an answer is that a job has no image of a name.
 fn is_no_image<P: Program>(bench: &Bench<P>, answer: Answer) -> bool {
@@ -78,17 +85,23 @@ fn put_length<P: Program>(bench: &Bench<P>) -> usize {
     }
 }
 
-/// A word of a line.
-fn word_of(line: &str, number: usize) -> &str {
-    line.split(' ').nth(number).unwrap_or("")
+/// Whether an answer is what `link` says of an image that has this length.
+fn tells_length<P: Program>(
+    bench: &Bench<P>,
+    answer: Answer,
+    image: &str,
+    length: usize,
+) -> Result<bool, AllocError> {
+    let wanted = format!(in bench.alloc; "linked {image} {length}\n")?;
+    Ok(bench.text(answer) == wanted.as_str())
 }
 
-/// Whether a text is what `link` says of an image that has this length.
-fn tells_length(text: &str, image: &str, length: usize) -> bool {
-    let line = text.strip_suffix('\n').unwrap_or("");
-    let is_of_image = word_of(line, 0) == "linked" && word_of(line, 1) == image;
-    let is_of_length = word_of(line, 2).parse::<usize>() == Ok(length);
-    is_of_image && is_of_length && line.split(' ').count() == 3
+/// Whether OUT is as it was before `link`.
+fn is_kept<P: Program>(bench: &Bench<P>) -> bool {
+    match bench.files.get("out") {
+        Some(bytes) => bytes == OLD,
+        None => false,
+    }
 }
 
 /// Asks `show`, which must take the image that `link` put.
@@ -108,14 +121,13 @@ fn test_link<R: Threads + Wait + Sync, P: Program>(
     image: &str,
     words: &[&str],
 ) -> Result<(), Alarm> {
-    bench.files.add("out", b"")?;
+    bench.files.add("out", OLD)?;
     let linked = bench.ask(rt, words)?;
     ensure(follows(bench, run, linked), "link refuses otherwise")?;
-    let length = put_length(bench);
     if !linked.is_done() {
-        return ensure(length == 0, "link refuses, and puts an image");
+        return ensure(is_kept(bench), "link refuses, and changes OUT");
     }
-    let is_told = tells_length(bench.text(linked), image, length);
+    let is_told = tells_length(bench, linked, image, put_length(bench))?;
     ensure(is_told, "link says another length")?;
     test_shown(rt, bench)
 }
@@ -184,26 +196,14 @@ fn test_store<R: Threads + Wait + Sync, P: Program>(
     ensure(is_told, "run hides that the store failed")
 }
 
-/// Asks what is no command.
-fn test_no_command<R: Threads + Wait + Sync, P: Program>(
-    rt: &R,
-    bench: &mut Bench<P>,
-    words: &[&str],
-) -> Result<(), Alarm> {
-    let refused = bench.ask(rt, words)?;
-    ensure(!refused.is_done(), "words of no command are taken")
-}
-
 /// Asks what has nothing to do with the job.
 fn test_words<R: Threads + Wait + Sync, P: Program>(
     rt: &R,
     bench: &mut Bench<P>,
     generator: &mut Generator,
 ) -> Result<(), Alarm> {
-    let words = generator.pick(&NO_COMMANDS).unwrap_or(["", "", ""]);
-    test_no_command(rt, bench, &words)?;
-    let count = generator.pick(&NO_COUNTS).unwrap_or("");
-    test_no_command(rt, bench, &["gen", count])?;
+    let refused = bench.ask(rt, no_command(generator))?;
+    ensure(refused.status == USAGE, "words of no command are taken")?;
     let made = bench.ask(rt, &["gen", generator.pick(&COUNTS).unwrap_or("1")])?;
     ensure(made.is_done(), "gen is refused")
 }

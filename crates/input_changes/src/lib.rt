@@ -16,7 +16,7 @@
 //!   length.
 //! - Of an **image** ([`change_image`]) the fields of its header and segments, of its dynamic array, symbols and
 //!   relocations; names, its length, and any byte.
-//! - **Jobs** are changed by [X.
+//! - Jobs are changed by `job_changes`.
 //!
 //! A table is found as a reader finds it, by the fields that name its place. Where an earlier change has moved it away
 //! there is nothing to change, and the call leaves the bytes alone. So no change needs a file that is whole.

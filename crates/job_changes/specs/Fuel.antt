@@ -35,11 +35,12 @@ IsBeyond most word = IsNumeral 10 (without_leading_plus word) → digits_value 1
 abbrev pub AsksWithin : ℕ → List ℕ → Type 0
 AsksWithin most line = IfSome (fuel_in (words_of line)) (IsWithin most)
 
--- a line that gives fuel, and not as much as this or less
+-- a line that gives fuel, and no decimal number of 64 bits up to this one
 abbrev pub AsksBeyond : ℕ → List ℕ → Type 0
 AsksBeyond most line = IsSomeAnd (fuel_in (words_of line)) (IsBeyond most)
 
--- what becomes of a line: where it asks for more it is the limit, else it stays
+-- what becomes of a line: the limit, or itself. Of a decimal number of 64 bits it is the limit exactly where the number
+-- is above it
 abbrev pub IsLimited : ℕ → List ℕ → List ℕ → Type 0
 IsLimited most old new = ((new ≡ fuel_line most) × AsksBeyond most old) ⊎ ((new ≡ old) × AsksWithin most old)
 

@@ -1,8 +1,9 @@
 //! Changed jobs, made from a seed.
 //!
-//! The reader of jobs is tried by texts that are nearly right. So a change here keeps most lines as they were: it drops
-//! one, doubles one, moves it or exchanges two, or puts another word in a line's place: one of another line, a number
-//! at a limit, a name that is too long, or a word that no line knows.
+//! The reader of jobs is tried by texts that are nearly right. So a change here keeps most lines as they were. It drops
+//! one, moves it, exchanges two, adds one, or repeats up to three, seldom as often as 4,100 times; it puts another kind
+//! in an image's line, a character in a line, or another word in a word's place: one of another line, a number at a
+//! limit, a name that is too long, or a word that no line knows.
 //!
 //! ```text
 //! image app exe main.o              image app exe main.o

@@ -52,6 +52,7 @@ pub record StandsForSome (x : MeantThreads) : Type 0 where
   pub world : Shared Word Flag Byte Line
   pub stands : Stands images fuel world x
 
+-- runners stand for the threads of some world, with what they share
 abbrev pub Share : Common → List Run → Type 0
 Share s runs = StandsForSome (record { shared = s; runs = runs })
 

@@ -1,7 +1,6 @@
--- Rows of one thread, of none, and of all.
+-- Rows of all threads.
 use Rattle.std.proofs.Common.{◌≡◌, ◌+◌, ◌-◌, ◌≤◌, ◌<◌, ℕ, zero, suc, true, List, [], ◌∷◌, length, map, Some, sym, subst, arith}
-use Rattle.std.specs.Prelude.{All, IfOk, Result, Ok, Err, nat_lt, slice_get}
-use Rattle.std.proofs.lemmas.Option.{get_or_from_slice_get}
+use Rattle.std.specs.Prelude.{All, IfOk, Result, Ok, Err, slice_get}
 use Rattle.job_text.specs.declared.thread_lines.ThreadLine.{ThreadLine}
 use Rattle.job_text.specs.Images.{IsImageNumber}
 use Rattle.job_text.specs.Jobs.{JobParts}
@@ -13,22 +12,12 @@ use Rattle.transcript_text.specs.declared.outcomes.Line.{Line as ShownLine}
 use Rattle.transcript_text.specs.Texts.{Shown}
 use Rattle.thread_blocks.specs.JobLoads.{job_loads}
 use Rattle.thread_blocks.specs.Turns.{at_number}
+use Rattle.thread_turns.proofs.Ready.{lines_at}
 use Rattle.lawful_points.specs.Raced.{IsRaced, IsRacer}
 use Rattle.shared_modules.specs.Passes.{PassView, SharedView}
 use Rattle.job_turns.proofs.LastTurn.{named_images}
 use Rattle.racing_thread.specs.Racing.{HasRaced}
 use Rattle.job_race.specs.Rows.{AllRaced, CanRace, CountsLooks, HasRow}
-
--- ---- one thread, and none
-
--- ---- all threads
-
-lines_at : {X : Type 0} (all : List (List X)) (k : ℕ) (own : List X) → slice_get all k ≡ Some own
-    → of_thread all (suc k) ≡ own
-lines_at all k own at =
-    let positive : nat_lt 0 (suc k) ≡ true = grind arith in
-    let index : suc k - 1 ≡ k = omega arith in
-    rw (positive, index) (get_or_from_slice_get all k own [] at)
 
 module _ (m : JobImages) (job : JobParts) (history : List Event) where
   abbrev Racer : ℕ → List ThreadLine → List ShownLine → Type 0

@@ -20,15 +20,11 @@ use Rattle.thread_space.specs.Kept.{HasSeen, Kept, blocks_of}
 use Rattle.job_turns.specs.Standing.{IsFirstRun, IsIdle, Run, StandsFor}
 use Rattle.thread_space.specs.Steps.{IsNew}
 use Rattle.thread_space.proofs.Owners.{owned_again}
-use Rattle.thread_space.proofs.StartKept.{first_shared, start_kept}
+use Rattle.thread_space.proofs.StartKept.{begins, first_shared, start_kept}
 use Rattle.thread_turns.proofs.Ready.{lines_at, ready-length, ready_at}
 use Rattle.thread_vector.specs.Holding.{IsLeftBy}
 use Rattle.thread_vector.specs.Vectors.{fresh, held}
 use Rattle.job_turns.specs.Progress.{IsFirst, IsRunner, Runners, Stands}
-
-begins : (m : JobImages) → past (infos m) (last_offset m) [] ≡ start (infos m) (last_offset m)
-unfolding past
-begins m = refl
 
 -- ---- a thread before its first line
 

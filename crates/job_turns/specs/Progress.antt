@@ -30,6 +30,7 @@ is_done (Look line) = false
 is_done (Opens line image) = false
 is_done (Closes line image) = false
 
+-- a runner has nothing left to do
 abbrev pub is_over : Run → Bool
 is_over r = is_done (ask_of r)
 
@@ -67,6 +68,7 @@ pub record StandsForSome (x : Runners) : Type 0 where
   pub world : Shared ℕ Bool ℕ Line
   pub stands : Stands images fuel world x
 
+-- runners stand for the threads of some world, with what they share
 abbrev pub Share : Common → List Run → Type 0
 Share s runs = StandsForSome (record { shared = s; runs = runs })
 

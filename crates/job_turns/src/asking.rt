@@ -1,6 +1,6 @@
 //! What a thread asks for at its next turn, and the answer.
 
-ghost use Rattle.std.specs.Prelude.{◌≡◌, IfOk};
+ghost use Rattle.std.specs.Prelude.{◌≡◌, IfErr, IfOk};
 ghost use Rattle.thread_blocks.specs.Lines.{refused_close, refused_open};
 ghost use Rattle.job_turns.specs.Asking.{IsClosesAnswer, IsOpensAnswer};
 
@@ -32,6 +32,7 @@ pub enum LineAnswer {
 pub fn refused_open(refusal: OpenRefusal) -> Result<LineRefusal, AllocError>
     ensures shown { IfOk result (λ shown. shown ≡ refused_open refusal) }
     ensures answers { IfOk result (λ shown. IsOpensAnswer refusal) }
+    ensures memory { IfErr result (λ _. refusal ≡ OpenRefusal.OutOfMemory) }
 {
     match refusal {
         OpenRefusal::Unknown => Ok(LineRefusal::Unknown),
@@ -45,6 +46,7 @@ pub fn refused_open(refusal: OpenRefusal) -> Result<LineRefusal, AllocError>
 pub fn refused_close(refusal: CloseRefusal) -> Result<LineRefusal, AllocError>
     ensures shown { IfOk result (λ shown. shown ≡ refused_close refusal) }
     ensures answers { IfOk result (λ shown. IsClosesAnswer refusal) }
+    ensures memory { IfErr result (λ _. refusal ≡ CloseRefusal.OutOfMemory) }
 {
     match refusal {
         CloseRefusal::Permanent => Ok(LineRefusal::Permanent),

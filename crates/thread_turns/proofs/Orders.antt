@@ -66,7 +66,7 @@ module _ {S R : Type 0} (is_done : R → Bool) (turned : S → R → S → R →
       → TakesTurns is_done turned x (thread ∷ []) x
   takes_over x thread over = (x, over_own x thread (at_number x.runs thread) over, refl)
 
-  pub takes_rest : (x : Progress S R) (thread n : ℕ) → is_thread_over is_done x.runs thread ≡ true
+  takes_rest : (x : Progress S R) (thread n : ℕ) → is_thread_over is_done x.runs thread ≡ true
       → TakesTurns is_done turned x (replicate n thread) x
   takes_rest x thread zero over = refl
   takes_rest x thread (suc n) over = (x, over_own x thread (at_number x.runs thread) over, takes_rest x thread n over)

@@ -13,12 +13,13 @@
 //! (`thread_blocks/specs/Turns`, `finishing`), and the code takes those that there are.
 //!
 //! What a thread does in a turn is a trait, [`TurnTaker`]. It says what a turn leaves (`turned`), when nothing is left
-//! to do (`is_done`), and what it asks of the threads and their state, so that each turn can be taken (`fit`).
+//! to do (`is_done`), and what it asks of the threads and their state, so that each turn can be taken
+//! (`fit`; `StayFit`: fit threads can each take a turn, `can_turn`, and stay fit).
 //! [`Threads`] takes the turns. Its clauses (`specs/Orders`, `TakesTurns`) say that what it leaves came about by one
 //! turn after another in the given order, each as the trait says.
 //!
 //! The crates above compare this with definitions of the same turns. They do so for one turn; what every turn keeps,
-//! every order keeps (`proofs/Orders`, `order_stands`).
+//! every order keeps, if a turn of a thread that is over changes nothing (`proofs/Orders`, `order_stands`).
 #![tactic(auto)]
 
 mod taker;

@@ -56,7 +56,7 @@ impl<S: Drop, T: TurnTaker<S>> Threads<S, T> {
         self.go(thread)
     }
 
-    /// Takes turns of threads, in this order.
+    /// Takes turns of threads, in this order. Fails only when memory runs out; then a thread may be gone.
     pub fn take_order(&mut self, order: &[u32]) -> Result<(), AllocError>
         requires laws { StayFit T.can_turn T.turned T.fit }
         requires fit { T.fit self.old.shared self.old.threads.items }
@@ -84,7 +84,7 @@ impl<S: Drop, T: TurnTaker<S>> Threads<S, T> {
         Ok(())
     }
 
-    /// Takes a thread's turns to its end: enough for `lines` lines. The definitions take `4 * fuel + 2` turns for each
+    /// Takes as many turns of a thread as are enough for `lines` lines. The definitions take `4 * fuel + 2` turns for each
     /// line, since a line has its first look, and each look in its middle takes a step.
     fn finish_thread(&mut self, thread: u32, fuel: u64, lines: usize) -> Result<(), AllocError>
         requires laws { StayFit T.can_turn T.turned T.fit }
@@ -99,7 +99,7 @@ impl<S: Drop, T: TurnTaker<S>> Threads<S, T> {
         Ok(())
     }
 
-    /// Takes the turns that finish each thread, by number.
+    /// Takes the turns that definitions finish each thread by, by number. Fails as `take_order` does.
     pub fn finish(&mut self, job: &Job) -> Result<(), AllocError>
         requires laws { StayFit T.can_turn T.turned T.fit }
         requires fit { T.fit self.old.shared self.old.threads.items }

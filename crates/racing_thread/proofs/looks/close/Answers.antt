@@ -1,4 +1,4 @@
--- What the shared history tells of an close, as a turn has it.
+-- What the shared history tells of a close, as a turn has it.
 use Rattle.std.proofs.Common.{Err, None, Some, subst, sym}
 use Rattle.job_turns.specs.declared.asking.Ask.TheVariants.{Closes}
 use Rattle.job_turns.specs.declared.asking.LineAnswer.TheVariants.{Closed}
