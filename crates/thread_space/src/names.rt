@@ -41,7 +41,7 @@ fn entry_place(names: &ImageNames, name: &[u8]) -> Option<u64>
 }
 
 /// The load bias of an instance: less than 2^59.
-#[tactic(auto, using(crate::proofs::Entries::bias_low))]
+#[tactic(auto, using(module_data::proofs::Low::bias_low))]
 fn bias_of(modules: &Modules, instance: &Instance) -> u64
     ensures value { result ≡ bias_of modules.now instance.now }
     ensures low { result < 2 ^ 59 }

@@ -86,7 +86,7 @@ impl<'m> ThreadSpace<'m> {
     }
 
     /// The load bias of an instance: less than 2^59.
-    #[tactic(auto, using(crate::proofs::LowParts::bias_low))]
+    #[tactic(auto, using(module_data::proofs::Low::bias_low))]
     pub(crate) fn bias(&self, instance: &Instance) -> u64
         ensures value { result ≡ bias_of self.now.vector.images instance.now }
         ensures low { result < 2 ^ 59 }
