@@ -1,5 +1,5 @@
 -- The stub is one instruction, and jumps through the run time's word.
-use Rattle.std.proofs.Common.{◌≡◌, ◌∙◌, ◌+◌, ◌-◌, ◌*◌, ◌%◌, ◌^◌, ◌<◌, ◌≤◌, ℕ, suc, Bool, true, false, [], ◌∷◌}
+use Rattle.std.proofs.Common.{◌≡◌, ◌∙◌, ◌+◌, ◌-◌, ◌*◌, ◌%◌, ◌^◌, ◌<◌, ◌≤◌, ℕ, suc, Bool, true, false, List, [], ◌∷◌, Option}
 use Rattle.std.proofs.Common.{None, Some, IsSome, refl, sym, ap, arith}
 use Rattle.std.specs.Prelude.{pos, negsuc, ◌+ℤ◌, ◌-ℤ◌, slice_index_or, unwrap_or, if◌then◌else◌}
 use Rattle.std.specs.Int.{w32, cast_unsigned}
@@ -7,11 +7,19 @@ use Rattle.std.proofs.lemmas.Bool.{le-ltb, lt-ltb}
 use Rattle.std.proofs.lemmas.List.{take_all}
 use Rattle.std.proofs.lemmas.Nat.{from_le_bytes-to_le_bytes_4}
 use Rattle.std.proofs.lemmas.Option.{slice_get-get_or}
+use Rattle.amd64_subset.specs.declared.instr.Decoded.{Decoded}
 use Rattle.amd64_subset.specs.declared.instr.Operation.TheVariants.{Jump}
 use Rattle.amd64_subset.specs.declared.instr.Target.TheVariants.{Indirect}
 use Rattle.amd64_subset.specs.declared.operand.Operand.TheVariants.{InMemory}
-use Rattle.amd64_subset.specs.Decoding.{decoded}
+use Rattle.amd64_subset.specs.Decoding.{body_at, decoded, end_branch_at, escaped_at, instruction_at, operated_at, row_at}
+use Rattle.amd64_subset.specs.Meaning.{numbered_body, operand_body, operation_of}
 use Rattle.amd64_subset.specs.Number.{signed_of}
+use Rattle.amd64_subset.specs.Prefix.{prefixes_at, rex_at}
+use Rattle.amd64_subset.specs.Reading.{numbers_at}
+use Rattle.amd64_subset.specs.Register.{number_of, register_of}
+use Rattle.amd64_subset.specs.Row.{arithmetic_of, condition_of, escaped_row_of, fixed_row_of, group_action, row_of, shift_of}
+use Rattle.amd64_subset.specs.Row.{takes}
+use Rattle.amd64_subset.specs.Selectors.{allowed, displacement_size, memory_in, selectors_at, sib_at}
 use Rattle.amd64_subset.specs.Spelling.{field_of}
 use Rattle.elf_records.specs.declared.relocation.RelocationKind.TheVariants.{GotPcRel}
 use Rattle.elf_records.specs.Fields.{bytes_of, part_at}
@@ -40,9 +48,15 @@ use Rattle.tls_relocs.specs.Values.{stored_field}
 use Rattle.whole_meaning.specs.Spots.{bias_of}
 use Rattle.loaded_words.proofs.Stub.{stub_byte}
 use Rattle.loaded_words.specs.Laws.{StubIsLoaded}
-use Rattle.site_laws.proofs.Ones.{reads}
 
 -- ** how the six bytes are read
+
+reads : List ℕ → Option Decoded
+unfolding
+    end_branch_at escaped_at row_at operated_at body_at instruction_at decoded numbered_body operation_of operand_body
+    signed_of rex_at prefixes_at numbers_at register_of number_of condition_of fixed_row_of row_of escaped_row_of
+    arithmetic_of shift_of group_action takes allowed displacement_size memory_in sib_at selectors_at
+reads bytes = decoded bytes
 
 -- jmp *far(%rip)
 jump_read : (a b c d : ℕ)
