@@ -1,7 +1,7 @@
-use Rattle.std.proofs.Common.{◌∙◌, subst}
+use Rattle.std.proofs.Common.{◌∙◌, ap, subst}
 use Rattle.thread_turns.specs.Orders.{TakesTurns, progress}
 use Rattle.thread_turns.proofs.Orders.{still_fit}
-use Rattle.job_check.specs.Progress.{CanTurn, Share, Turned}
+use Rattle.job_check.specs.Progress.{CanTurn, Share, Turned, first_unclean}
 use Rattle.job_check.specs.Standing.{is_done}
 use Rattle.job_check.proofs.FirstTurn.{first_some}
 use Rattle.job_check.proofs.Orders.{stay_fit}
@@ -30,5 +30,6 @@ returns c =
     let takes = subst (λ order. TakesTurns is_done Turned (progress c.in_ok-threads.threads) order
     (progress c.take_order.new.self)) c.order.ensures.value c.in_ok-take_order.ensures in
     c.verdict.ensures
+    ∙ ap first_unclean c.deref.ensures
     ∙ whole_verdict c.args.images.now c.args.job.now (progress c.in_ok-threads.threads) (progress c.take_order.new.self)
     (progress c.finish.new.self) c.in_ok-threads.ensures takes c.in_ok-finish.ensures
