@@ -30,6 +30,6 @@ returns c =
     let takes = subst (λ order. TakesTurns is_done Turned (progress c.in_ok-threads.threads) order
     (progress c.take_order.new.self)) c.order.ensures.value c.in_ok-take_order.ensures in
     c.verdict.ensures
-    ∙ ap first_unclean c.deref.ensures
+    ∙ ap first_unclean c.deref.ensures.value
     ∙ whole_verdict c.args.images.now c.args.job.now (progress c.in_ok-threads.threads) (progress c.take_order.new.self)
     (progress c.finish.new.self) c.in_ok-threads.ensures takes c.in_ok-finish.ensures
