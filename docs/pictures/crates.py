@@ -15,7 +15,7 @@ TOP = os.path.dirname(os.path.dirname(HERE))
 # The areas: a name, the colours of its boxes, and the crates.
 AREAS = [
     ("commands, and the outside", "#fff3c4", "#b58900", r"tlsld|commands|command_.*|terminal_notes|ports|job_text|generated_job|run_summary"),
-    ("check: what objects mean", "#e3f4f1", "#20807a", r"marked_bytes|class_bytes|meant_.*|job_check"),
+    ("check: what objects mean", "#e3f4f1", "#20807a", r"marked_(bytes|memory)|memory_image|meant_.*|job_check"),
     ("definitions and laws, no code", "#f9e4e4", "#a05050",
         r"thread_blocks|job_meaning|whole_meaning|linked_modules|relocated_parts|loaded_(bytes|words|names)|closed_.*|linked_jobs"
         r"|standing_sequences"
@@ -24,7 +24,7 @@ AREAS = [
         r"module_.*|loaded_modules|thread_.*|job_turns|job_race|racing_thread|shared_modules|transcript_text|image_names"),
     ("the machine", "#ffe6d2", "#c0651a", r"amd64_.*|guest_.*"),
     ("objects and images: files", "#dceafc", "#2f6db5", r"elf_.*|object_(rules|faults)|image_.*"),
-    ("linking", "#def3e0", "#2e8540", r"(link|tls|relax|sequence|got|section|site)_.*|dynamic_symbols|job_link"),
+    ("linking", "#def3e0", "#2e8540", r"(link|tls|relax|sequence|got|site)_.*|placed_sections|dynamic_symbols|job_link"),
     ("others", "#f4f4f4", "#777777", r".*"),
 ]
 BESIDE = re.compile(r".*_(tests|benchmark|listing|fuzz|runs|trials)|object_builder|(input|job)_changes")

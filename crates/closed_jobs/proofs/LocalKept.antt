@@ -7,7 +7,7 @@ use Rattle.amd64_subset.specs.declared.instr.Width.TheVariants.{Quad}
 use Rattle.amd64_subset.specs.declared.operand.Operand.TheVariants.{InMemory}
 use Rattle.amd64_words.specs.declared.register.Register.TheVariants.{Rax, Rdi}
 use Rattle.sequence_forms.specs.Forms.{row}
-use Rattle.site_laws.specs.Instructions.{displaced, plain, of_next, of_register, call_through}
+use Rattle.sequence_laws.specs.Instructions.{displaced, plain, of_next, of_register, call_through}
 use Rattle.thread_blocks.specs.Instances.{Loads}
 use Rattle.tied_meaning.specs.Sites.{Stands}
 use Rattle.closed_jobs.specs.LocalSites.{app, setting, base, lea, call}

@@ -6,7 +6,7 @@ use Rattle.amd64_words.specs.declared.register.Register.TheVariants.{Rax}
 use Rattle.loaded_modules.specs.declared.instance.Instance.{Instance}
 use Rattle.relax_sites.specs.declared.choices.Choice.TheVariants.{DescLe, LdLe}
 use Rattle.sequence_forms.specs.Forms.{row}
-use Rattle.site_laws.specs.Instructions.{displaced, immediate, load, of_thread, plain, set}
+use Rattle.sequence_laws.specs.Instructions.{displaced, immediate, load, of_thread, plain, set}
 use Rattle.thread_blocks.specs.Instances.{Loads, block_start}
 use Rattle.thread_blocks.specs.MachineTurns.{pointer_of}
 use Rattle.tied_meaning.specs.Sites.{IsDistance, Stands}

@@ -5,7 +5,7 @@ use Rattle.loaded_modules.specs.declared.instance.Instance.{Instance}
 use Rattle.module_table.specs.Past.{startup_count}
 use Rattle.relax_sites.specs.declared.choices.Choice.{Choice}
 use Rattle.relax_sites.specs.Rows.{form_length}
-use Rattle.site_laws.specs.Instructions.{new_instructions}
+use Rattle.sequence_laws.specs.Instructions.{new_instructions}
 use Rattle.thread_blocks.specs.Instances.{Loads}
 use Rattle.tied_meaning.specs.Numbers.{Setting}
 use Rattle.tied_meaning.specs.Sites.{AsksForOwnBlock, HasInstruction, KeptAs, Stands, WrittenAs}

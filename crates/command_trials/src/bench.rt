@@ -1,5 +1,6 @@
 //! Files in memory, and what commands over them answer.
 
+ghost use Rattle.std.specs.Prelude.{◌≡◌, ◌==◌, IsTrue};
 ghost use Rattle.std.specs.Thread.{IsSync};
 
 use crate::alarm::{Alarm, ensure};
@@ -34,7 +35,9 @@ pub(crate) struct Answer {
 
 impl Answer {
     /// Whether it is the output that was asked for.
-    pub(crate) fn is_done(self) -> bool {
+    pub(crate) fn is_done(self) -> bool
+        ensures { result ≡ (self.status == 0) }
+    {
         self.status == DONE
     }
 }
@@ -123,7 +126,9 @@ impl<P: Program> Bench<P> {
     }
 
     /// Whether two commands answered the same.
-    pub(crate) fn are_same(&self, first: Answer, second: Answer) -> bool {
+    pub(crate) fn are_same(&self, first: Answer, second: Answer) -> bool
+        ensures { IsTrue result → first.status ≡ second.status }
+    {
         first.status == second.status && self.bytes(first) == self.bytes(second)
     }
 

@@ -1,5 +1,10 @@
 //! So many changed inputs of a kind, one after another.
 
+ghost use Rattle.std.specs.Prelude.{◌≡◌, IfSome, IsTrue, OnOk, drop, is_ok, map, string_bytes};
+ghost use Rattle.std.specs.List.{All};
+ghost use Rattle.ports.specs.Files.{Files};
+ghost use Rattle.command_trials.specs.Words.{Gives, IsPlan, is_kind};
+
 use crate::alarm::Alarm;
 use crate::bench::{Bench, Program};
 use crate::inputs::{
@@ -28,15 +33,26 @@ struct Plan {
     seed: u64,
 }
 
+/// The decimal number that a word is.
+fn number_in(word: &str) -> Option<u64>
+    ensures { IfSome result (λ number. Gives word.now number) }
+{
+    word.parse().ok()
+}
+
 /// The plan of these words: a count and a seed.
-fn plan_of(words: &[String]) -> Option<Plan> {
-    let count = words.first()?.parse().ok()?;
-    let seed = words.get(1)?.parse().ok()?;
+fn plan_of(words: &[String]) -> Option<Plan>
+    ensures { IfSome result (λ plan. IsPlan (map string_bytes words.now) plan.count plan.seed) }
+{
+    let count = number_in(words.first()?.as_str())?;
+    let seed = number_in(words.get(1)?.as_str())?;
     Some(Plan { count, seed })
 }
 
 /// The kind of that name.
-fn kind_of(name: &str) -> Result<Kind, Alarm> {
+fn kind_of(name: &str) -> Result<Kind, Alarm>
+    ensures { is_ok result ≡ is_kind name.now }
+{
     match name {
         "jobs" => Ok(Kind::Jobs),
         "objects" => Ok(Kind::Objects),
@@ -78,7 +94,9 @@ fn try_kind<R: Threads + Wait + Print + Sync, P: Program>(
     samples: &Samples,
     name: &str,
     plan: Plan,
-) -> Result<(), Alarm> {
+) -> Result<(), Alarm>
+    ensures { OnOk result (IsTrue (is_kind name.now)) }
+{
     let kind = kind_of(name)?;
     lay_objects(bench, samples)?;
     try_inputs(rt, bench, samples, kind, plan)?;
@@ -93,7 +111,9 @@ fn try_kinds<R: Threads + Wait + Print + Sync, P: Program>(
     samples: &Samples,
     names: &[String],
     plan: Plan,
-) -> Result<(), Alarm> {
+) -> Result<(), Alarm>
+    ensures { OnOk result (All (λ name. IsTrue (is_kind (string_bytes name))) names.now) }
+{
     for name in names {
         try_kind(rt, bench, samples, name.as_str(), plan)?;
     }

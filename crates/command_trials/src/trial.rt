@@ -1,5 +1,8 @@
 //! Every command over one job: what each answers, and that the answers fit one another.
 
+ghost use Rattle.std.specs.Prelude.{◌≡◌, ◌↔◌, IsTrue, OnOk};
+ghost use Rattle.command_trials.specs.Agreement.{Agree, IsLinked};
+
 use crate::alarm::{Alarm, ensure};
 use crate::bench::{Answer, Bench, Program};
 use crate::causes::{DONE, JOB, LINK, OBJECT, STORE, UNCLEAN, USAGE};
@@ -48,7 +51,9 @@ fn follows<P: Program>(bench: &Bench<P>, run: Answer, answer: Answer) -> bool {
 }
 
 /// Whether a job's images were asked to be linked.
-fn is_linked(answer: Answer) -> bool {
+fn is_linked(answer: Answer) -> bool
+    ensures { IsTrue result ↔ IsLinked answer.status }
+{
     answer.status == DONE || answer.status == LINK
 }
 
@@ -59,7 +64,9 @@ fn test_settings<P: Program>(
     run: Answer,
     kept: Answer,
     check: Answer,
-) -> Result<(), Alarm> {
+) -> Result<(), Alarm>
+    ensures { OnOk result (Agree run.status kept.status check.status) }
+{
     let is_verdict = check.status == DONE || check.status == UNCLEAN;
     let is_checked = if run.is_done() {
         is_verdict

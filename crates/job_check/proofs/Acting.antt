@@ -18,10 +18,10 @@ use Rattle.thread_blocks.proofs.Image.{act_image}
 use Rattle.whole_meaning.specs.Fields.{address_at, lent, lent_frame, marked_frame}
 use Rattle.whole_meaning.specs.Loads.{meaning_of}
 use Rattle.whole_meaning.specs.Threads.{Memory, meant_accesses, ops}
-use Rattle.meant_space.specs.Kept.{HasSeen, Kept, Shape, mark_in, memory_of, shape_of}
+use Rattle.marked_memory.specs.Kept.{HasSeen, Kept, Shape, mark_in, memory_of, shape_of}
 use Rattle.job_check.specs.Stepping.{Makes, StaysIf, acted_in, made, space_of}
 use Rattle.job_check.proofs.Memories.{kept_is}
-use Rattle.meant_space.proofs.SpaceImages.{act_sees, image_at, lent_image, memory_is, space_is}
+use Rattle.marked_memory.proofs.SpaceImages.{act_sees, image_at, lent_image, memory_is, space_is}
 
 -- ** an instruction
 

@@ -29,11 +29,11 @@ use Rattle.whole_meaning.specs.Jobs.{first_data, job_start, ready_from}
 use Rattle.whole_meaning.specs.Loads.{info_of, loads_of, meaning_of}
 use Rattle.whole_meaning.specs.Meanings.{Meaning}
 use Rattle.whole_meaning.specs.Threads.{Meant, meant_ready, ops}
-use Rattle.meant_space.specs.declared.space.Wanted.TheVariants.{Fixed}
+use Rattle.marked_memory.specs.declared.space.Wanted.TheVariants.{Fixed}
 use Rattle.job_check.specs.Histories.{IsHistory, IsLeftBy, infos_of, last_of}
-use Rattle.meant_space.specs.Kept.{Kept}
+use Rattle.marked_memory.specs.Kept.{Kept}
 use Rattle.job_check.specs.Progress.{IsFirst, IsRunOf, MeantThreads, Stands, StandsForSome}
-use Rattle.meant_space.specs.Spaces.{fills, reaches, with_held}
+use Rattle.marked_memory.specs.Spaces.{fills, reaches, with_held}
 use Rattle.job_check.specs.Standing.{IsFirstKept, IsFirstRun, IsIdle, Run, StandsFor}
 use Rattle.job_check.proofs.Looks.{held_with, live_is, looked_with}
 use Rattle.job_check.proofs.OwnedApart.{after_are_data, after_no_blocks, first_blocks, first_no_data}

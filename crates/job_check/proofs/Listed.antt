@@ -17,7 +17,7 @@ use Rattle.module_table.specs.Modules.{is_loaded, no_module}
 use Rattle.module_table.specs.Past.{Past, module_of}
 use Rattle.thread_blocks.specs.Instances.{instances_from, instances_in, loaded_instance}
 use Rattle.job_check.specs.Histories.{IsLeftBy, infos_of}
-use Rattle.meant_space.specs.Spaces.{HaveOwnNumbers}
+use Rattle.marked_memory.specs.Spaces.{HaveOwnNumbers}
 use Rattle.job_check.proofs.Histories.{few_modules, own_of}
 
 -- ** image by image

@@ -13,10 +13,10 @@ use Rattle.thread_blocks.specs.Held.{Owned, held_of, loaded, loaded_at, looked, 
 use Rattle.thread_blocks.specs.Instances.{Loads, instance_at, instances, instances_in, left_by, loaded_instance}
 use Rattle.whole_meaning.specs.Loads.{loads_of}
 use Rattle.whole_meaning.specs.Threads.{Meant}
-use Rattle.meant_space.specs.declared.space.Wanted.TheVariants.{BlockOf, DataOf, Fixed}
+use Rattle.marked_memory.specs.declared.space.Wanted.TheVariants.{BlockOf, DataOf, Fixed}
 use Rattle.job_check.specs.Histories.{infos_of}
-use Rattle.meant_space.specs.Kept.{HasSeen, Kept, held_at}
-use Rattle.meant_space.specs.Spaces.{fills, reaches, with_held}
+use Rattle.marked_memory.specs.Kept.{HasSeen, Kept, held_at}
+use Rattle.marked_memory.specs.Spaces.{fills, reaches, with_held}
 use Rattle.job_check.proofs.OwnedApart.{owned_again}
 
 -- ** what is held

@@ -13,8 +13,8 @@ use Rattle.job_meaning.specs.declared.values.Byte.{Byte}
 use Rattle.thread_blocks.specs.Held.{Owned, owned, owners_of, ranges_in}
 use Rattle.thread_blocks.specs.MachineTurns.{stack_start}
 use Rattle.thread_blocks.specs.Spaces.{IsImage, stack_range}
-use Rattle.meant_space.specs.Kept.{Kept, Shape, fixed_in, lent_range, memory_of, ranges_of_kept, shape_of, with_lent}
-use Rattle.meant_space.proofs.SpaceImages.{SameShape, same_shape}
+use Rattle.marked_memory.specs.Kept.{Kept, Shape, fixed_in, lent_range, memory_of, ranges_of_kept, shape_of, with_lent}
+use Rattle.marked_memory.proofs.SpaceImages.{SameShape, same_shape}
 
 -- ** accesses of several bytes
 

@@ -22,7 +22,7 @@ use Rattle.whole_meaning.specs.Loads.{loads_of, meaning_of}
 use Rattle.whole_meaning.specs.Threads.{Meant, meant_turns}
 use Rattle.job_check.specs.declared.thread.Waiting.{Waiting}
 use Rattle.job_check.specs.Histories.{IsHistory, infos_of, last_of}
-use Rattle.meant_space.specs.Kept.{Kept, held_at}
+use Rattle.marked_memory.specs.Kept.{Kept, held_at}
 use Rattle.thread_turns.specs.Orders.{is_over, is_thread_over}
 use Rattle.job_check.specs.declared.thread.Common.{Common}
 use Rattle.job_check.specs.Progress.{IsRunOf, MeantThreads, Stands, Turned, meant_order}

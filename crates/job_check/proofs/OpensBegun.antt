@@ -22,9 +22,9 @@ use Rattle.whole_meaning.specs.Threads.{ops}
 use Rattle.job_check.specs.declared.lines.Started.{Started}
 use Rattle.job_check.specs.declared.lines.Started.TheVariants.{Says}
 use Rattle.job_check.specs.Histories.{infos_of}
-use Rattle.meant_space.specs.Kept.{HasSeen, Kept, held_at}
+use Rattle.marked_memory.specs.Kept.{HasSeen, Kept, held_at}
 use Rattle.job_check.specs.Lines.{BeginsClose, BeginsOpen, HasLeft, KeepsThread, LoadsNew, Sees, Starts, shows}
-use Rattle.meant_space.specs.Spaces.{with_held}
+use Rattle.marked_memory.specs.Spaces.{with_held}
 use Rattle.job_check.proofs.Histories.{left_with}
 use Rattle.job_check.proofs.LinesBegun.{over_at_once, starts_so}
 use Rattle.job_check.proofs.Looks.{found_at, live_is, load_is, looks_alone}

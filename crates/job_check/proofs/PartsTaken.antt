@@ -19,7 +19,7 @@ use Rattle.job_check.specs.declared.running.Resumed.TheVariants as resumed
 use Rattle.job_check.specs.declared.thread.Taken.{Taken}
 use Rattle.job_check.specs.declared.thread.Taken.TheVariants.{Over}
 use Rattle.job_check.specs.declared.thread.Waiting.{Waiting}
-use Rattle.meant_space.specs.Kept.{HasSeen, Kept, held_at}
+use Rattle.marked_memory.specs.Kept.{HasSeen, Kept, held_at}
 use Rattle.job_check.specs.Lines.{BegunAs, HasLeft, KeepsThread, Starts}
 use Rattle.job_check.specs.Running.{KeepsJob, Resumes}
 use Rattle.job_check.specs.Taking.{BeginsTo, IsOver, ResumesTo, RunsTo, TookAs}

@@ -17,10 +17,10 @@ use Rattle.whole_meaning.specs.Loads.{loads_of, meaning_of}
 use Rattle.whole_meaning.specs.Threads.{Meant, Memory, code_owner, resumed, resumed_at, resumed_by, resumed_for, sequence_does}
 use Rattle.job_check.specs.declared.running.Resumed.{Resumed}
 use Rattle.job_check.specs.declared.running.Resumed.TheVariants.{Goes, Unloaded}
-use Rattle.meant_space.specs.declared.space.Wanted.TheVariants.{BlockOf}
-use Rattle.meant_space.specs.Kept.{HasSeen, Kept, held_at, owner_in, sequence_in}
+use Rattle.marked_memory.specs.declared.space.Wanted.TheVariants.{BlockOf}
+use Rattle.marked_memory.specs.Kept.{HasSeen, Kept, held_at, owner_in, sequence_in}
 use Rattle.job_check.specs.Running.{KeepsJob, Resumes, resumed_as}
-use Rattle.meant_space.specs.Spaces.{with_held}
+use Rattle.marked_memory.specs.Spaces.{with_held}
 use Rattle.job_check.specs.Stepping.{Makes, ResumesAs, StaysIf, made, resumed_of, sequence_made, sequence_resumed, space_of}
 use Rattle.job_check.proofs.Memories.{owned_again, same_owners}
 use Rattle.job_check.proofs.RunsMade.{keeps_same, keeps_then}

@@ -13,7 +13,7 @@ use Rattle.whole_meaning.specs.Threads.{Meant, meant_steps, ops}
 use Rattle.job_check.specs.declared.running.Ran.{Ran}
 use Rattle.job_check.specs.declared.running.Ran.TheVariants.{Ended, Waits}
 use Rattle.job_check.specs.declared.step.Stepped.TheVariants.{Goes, Looks, Ends}
-use Rattle.meant_space.specs.Kept.{HasSeen, Kept, held_at}
+use Rattle.marked_memory.specs.Kept.{HasSeen, Kept, held_at}
 use Rattle.job_check.specs.Running.{KeepsJob, RunsOn, Steps, ran_as}
 use Rattle.job_check.specs.Stepping.{Asks}
 

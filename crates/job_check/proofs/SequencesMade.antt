@@ -26,7 +26,7 @@ use Rattle.whole_meaning.specs.Sequences.{asks, descriptor_use, does, looks_firs
 use Rattle.whole_meaning.specs.Threads.{Memory, sequence_next, start_in}
 use Rattle.job_check.specs.declared.step.Stepped.{Stepped}
 use Rattle.job_check.specs.declared.step.Stepped.TheVariants.{Goes, Looks, Ends}
-use Rattle.meant_space.specs.Kept.{HasSeen, Kept, shape_of}
+use Rattle.marked_memory.specs.Kept.{HasSeen, Kept, shape_of}
 use Rattle.job_check.specs.Running.{StaysUnless}
 use Rattle.job_check.specs.Stepping.{Makes, StaysIf, StepsAs, made, next_as, sequence_made, space_of, stepped_of}
 use Rattle.job_check.proofs.Memories.{kept_with}

@@ -18,11 +18,11 @@ use Rattle.whole_meaning.specs.Running.{asked, meaning, meant_step, sequence_or}
 use Rattle.whole_meaning.specs.Threads.{Meant, Memory, held_next, meant_accesses, meant_mark, meant_sequence, meant_shut, meant_steps, ops, sequence_at, sequence_next}
 use Rattle.job_check.specs.declared.step.Stepped.{Stepped}
 use Rattle.job_check.specs.declared.step.Stepped.TheVariants.{Goes, Looks, Ends}
-use Rattle.meant_space.specs.Kept.{HasSeen, Kept, held_at, sequence_in, shape_of}
+use Rattle.marked_memory.specs.Kept.{HasSeen, Kept, held_at, sequence_in, shape_of}
 use Rattle.job_check.specs.Running.{KeepsJob, Steps, stepped_as}
 use Rattle.job_check.specs.Stepping.{Asks, StepsAs, next_as, plain_next, space_of}
 use Rattle.job_check.proofs.Memories.{same_owners}
-use Rattle.meant_space.proofs.SpaceImages.{same_shape}
+use Rattle.marked_memory.proofs.SpaceImages.{same_shape}
 use Rattle.job_check.proofs.SequencesMade.{sequence_next_of}
 
 pub keeps_job : (k k' : Kept) → shape_of k' ≡ shape_of k → KeepsJob k k'

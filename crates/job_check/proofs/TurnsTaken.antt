@@ -17,7 +17,7 @@ use Rattle.whole_meaning.specs.Threads.{Meant}
 use Rattle.job_check.specs.declared.thread.Taken.{Taken}
 use Rattle.job_check.specs.declared.thread.Taken.TheVariants.{Over, Waits}
 use Rattle.job_check.specs.declared.thread.Waiting.{Waiting}
-use Rattle.meant_space.specs.Kept.{Kept, held_at}
+use Rattle.marked_memory.specs.Kept.{Kept, held_at}
 use Rattle.job_check.specs.Lines.{HasLeft}
 use Rattle.job_check.specs.Standing.{StandsAfter, emptied, run_after}
 use Rattle.job_check.specs.Taking.{IsOver, TookAs}

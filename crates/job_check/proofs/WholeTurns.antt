@@ -19,15 +19,15 @@ use Rattle.whole_meaning.specs.declared.unclean.UncleanStep.{UncleanStep}
 use Rattle.whole_meaning.specs.Jobs.{first_in}
 use Rattle.whole_meaning.specs.Loads.{loads_of, meaning_of}
 use Rattle.whole_meaning.specs.Threads.{Meant, begin_meant, code_owner, meant_show, meant_turns, ops, resume_meant, resumed_for}
-use Rattle.meant_space.specs.declared.space.Wanted.{Wanted}
-use Rattle.meant_space.specs.declared.space.Wanted.TheVariants.{Fixed}
+use Rattle.marked_memory.specs.declared.space.Wanted.{Wanted}
+use Rattle.marked_memory.specs.declared.space.Wanted.TheVariants.{Fixed}
 use Rattle.job_check.specs.declared.thread.Taken.{Taken}
 use Rattle.job_check.specs.declared.thread.Taken.TheVariants.{Over, Waits}
 use Rattle.job_check.specs.declared.thread.Waiting.{Waiting}
 use Rattle.job_check.specs.Histories.{infos_of}
-use Rattle.meant_space.specs.Kept.{HasSeen, Kept, held_at}
+use Rattle.marked_memory.specs.Kept.{HasSeen, Kept, held_at}
 use Rattle.job_check.specs.Lines.{HasLeft}
-use Rattle.meant_space.specs.Spaces.{with_held}
+use Rattle.marked_memory.specs.Spaces.{with_held}
 use Rattle.job_check.specs.Standing.{BeginsLine, IsIdle, IsMid, IsSameThread, PhaseIs, ResumesLine, Run, StandsAfter, TakesTurn, emptied, is_done_with, run_after}
 use Rattle.job_check.specs.Taking.{BeginsTo, ResumesTo}
 use Rattle.thread_turns.proofs.Lists.{at_drop}

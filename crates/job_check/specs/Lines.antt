@@ -20,11 +20,11 @@ use Rattle.whole_meaning.specs.Loads.{loads_of, meaning_of}
 use Rattle.whole_meaning.specs.Threads.{Meant, byte_cause as cause_of_byte, is_for as is_for_cause, meant_show, ops, unclean_bytes as first_unclean, unclean_for as lowest_unclean}
 use Rattle.job_check.specs.declared.lines.Started.{Started}
 use Rattle.job_check.specs.declared.lines.Started.TheVariants.{Says, Calls}
-use Rattle.meant_space.specs.declared.space.Wanted.TheVariants.{DataOf, Fixed}
+use Rattle.marked_memory.specs.declared.space.Wanted.TheVariants.{DataOf, Fixed}
 use Rattle.job_check.specs.Histories.{IsLeftBy, infos_of}
-use Rattle.meant_space.specs.Kept.{HasSeen, Kept, held_at}
-use Rattle.meant_space.specs.Owners.{part_in}
-use Rattle.meant_space.specs.Spaces.{with_held}
+use Rattle.marked_memory.specs.Kept.{HasSeen, Kept, held_at}
+use Rattle.marked_memory.specs.Owners.{part_in}
+use Rattle.marked_memory.specs.Spaces.{with_held}
 
 -- the events leave this state
 abbrev pub HasLeft : Kept → List Event → Past → Type 0

@@ -17,7 +17,7 @@ use Rattle.job_check.specs.declared.running.Resumed.{Resumed}
 use Rattle.job_check.specs.declared.running.Resumed.TheVariants.{Goes as GoesOn, Unloaded, Ends as EndsSo}
 use Rattle.job_check.specs.declared.step.Stepped.{Stepped}
 use Rattle.job_check.specs.declared.step.Stepped.TheVariants.{Goes, Looks, Ends}
-use Rattle.meant_space.specs.Kept.{HasSeen, Kept, held_at}
+use Rattle.marked_memory.specs.Kept.{HasSeen, Kept, held_at}
 
 -- the memory belongs to the same thread of the same job, with the same live instances
 pub record KeepsJob (old new : Kept) : Type 0 where

@@ -20,13 +20,13 @@ use Rattle.whole_meaning.specs.declared.unclean.UncleanStep.{UncleanStep}
 use Rattle.whole_meaning.specs.Jobs.{first_in}
 use Rattle.whole_meaning.specs.Loads.{loads_of, meaning_of}
 use Rattle.whole_meaning.specs.Threads.{Meant, meant_turns}
-use Rattle.meant_space.specs.declared.space.Wanted.TheVariants.{Fixed}
+use Rattle.marked_memory.specs.declared.space.Wanted.TheVariants.{Fixed}
 use Rattle.job_check.specs.declared.thread.Taken.{Taken}
 use Rattle.job_check.specs.declared.thread.Taken.TheVariants.{Over, Waits}
 use Rattle.job_check.specs.declared.thread.Waiting.{Waiting}
 use Rattle.job_check.specs.Histories.{infos_of, last_of}
-use Rattle.meant_space.specs.Kept.{Kept, held_at}
-use Rattle.meant_space.specs.Spaces.{with_held}
+use Rattle.marked_memory.specs.Kept.{Kept, held_at}
+use Rattle.marked_memory.specs.Spaces.{with_held}
 use Rattle.job_check.specs.Taking.{BeginsTo, ResumesTo}
 
 -- what contracts see of a thread: its lines and how many have begun, the most steps of a call, what its memory keeps,

@@ -25,7 +25,7 @@ use Rattle.job_check.specs.declared.step.Stepped.{Stepped}
 use Rattle.job_check.specs.declared.step.Stepped.TheVariants.{Goes, Looks, Ends}
 use Rattle.job_check.specs.declared.running.Resumed.{Resumed}
 use Rattle.job_check.specs.declared.running.Resumed.TheVariants.{Goes as GoesOn, Ends as EndsSo}
-use Rattle.meant_space.specs.Kept.{HasSeen, Kept, held_at, mark_in, memory_of, shape_of, shut_in}
+use Rattle.marked_memory.specs.Kept.{HasSeen, Kept, held_at, mark_in, memory_of, shape_of, shut_in}
 use Rattle.job_check.specs.Running.{KeepsJob, StaysUnless, resumed_as}
 
 -- the memory of the definition's thread that has seen these events

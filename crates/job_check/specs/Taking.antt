@@ -15,7 +15,7 @@ use Rattle.whole_meaning.specs.Threads.{Meant, code_owner, meant_show, meant_ste
 use Rattle.job_check.specs.declared.thread.Taken.{Taken}
 use Rattle.job_check.specs.declared.thread.Taken.TheVariants.{Over, Waits}
 use Rattle.job_check.specs.declared.thread.Waiting.{Waiting}
-use Rattle.meant_space.specs.Kept.{HasSeen, Kept, held_at}
+use Rattle.marked_memory.specs.Kept.{HasSeen, Kept, held_at}
 use Rattle.job_check.specs.Lines.{HasLeft, KeepsThread}
 use Rattle.job_check.specs.Running.{KeepsJob}
 

@@ -30,7 +30,7 @@
 //! over the data that threads share, and then those that bring each thread to its end. Further turns of a thread that
 //! has nothing left to do would change nothing (`proofs/OneTurn`).
 //!
-//! **Each clause** is an equation between the definition's thread and what the code keeps of it (`meant_space`). It
+//! **Each clause** is an equation between the definition's thread and what the code keeps of it (`marked_memory`). It
 //! holds for every history that leaves the same live instances. `Stands` (`specs/Progress`) says it of all threads at
 //! once.
 #![tactic(auto)]

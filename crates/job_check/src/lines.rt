@@ -18,7 +18,7 @@ use guest_operands::{State, Stop, start};
 use job_meaning::{Byte, Flag, MarkedValues, Token, Word};
 use job_text::{Action, ThreadLine};
 use loaded_modules::Instance;
-use meant_space::{MeantSpace, Wanted};
+use marked_memory::{MarkedMemory, Wanted};
 use module_table::{Event, ModuleTable};
 use std::alloc::{AllocError, Global};
 use whole_meaning::UncleanStep;
@@ -58,7 +58,7 @@ fn registers_at(thread: u32, place: u64, a: u64, b: u64, c: u64) -> State<Word, 
 /// Begins a call of a function by its name, in the live instance of the line's image. The call finds a fresh stack, and
 /// the blocks as the last line left them.
 fn call(
-    space: &mut MeantSpace,
+    space: &mut MarkedMemory,
     table: &ModuleTable,
     line: &ThreadLine,
     symbol: &[u8],
@@ -84,7 +84,7 @@ fn call(
 // ** opens and closes
 
 /// Makes the thread see the history as it is now.
-fn see(alloc: Global, space: &mut MeantSpace, table: &ModuleTable) -> Result<(), AllocError>
+fn see(alloc: Global, space: &mut MarkedMemory, table: &ModuleTable) -> Result<(), AllocError>
     requires { IsLeftBy space.old.images table.now }
     ensures { OnOk result (Sees space.old table.now space.new) }
 {
@@ -94,7 +94,7 @@ fn see(alloc: Global, space: &mut MeantSpace, table: &ModuleTable) -> Result<(),
 
 /// Fills the data of an image, unless it was loaded before.
 fn load_new(
-    space: &mut MeantSpace,
+    space: &mut MarkedMemory,
     table: &ModuleTable,
     was: bool,
     image: u32,
@@ -113,7 +113,7 @@ fn load_new(
 /// Opens the line's image. An accepted open enters the history, and a load fills the data of the instance.
 fn open(
     alloc: Global,
-    space: &mut MeantSpace,
+    space: &mut MarkedMemory,
     table: &mut ModuleTable,
     number: u32,
     line: &ThreadLine,
@@ -143,7 +143,7 @@ fn open(
 /// Closes the line's image. An accepted close enters the history.
 fn close(
     alloc: Global,
-    space: &mut MeantSpace,
+    space: &mut MarkedMemory,
     table: &mut ModuleTable,
     number: u32,
     line: &ThreadLine,
@@ -246,7 +246,7 @@ fn shown_step(thread: u32, line: u32, address: u64, bytes: &[Byte]) -> Option<Un
 /// The unclean step of a line that shows `size` bytes of the thread's block of an instance, from `offset`, if it has
 /// one.
 fn step_in(
-    space: &MeantSpace,
+    space: &MarkedMemory,
     instance: &Instance,
     line: u32,
     offset: u64,
@@ -266,7 +266,7 @@ fn step_in(
 /// Shows bytes of a variable, from the thread's block of the live instance of the line's image. The block is made even
 /// if the line is then refused.
 fn peek(
-    space: &mut MeantSpace,
+    space: &mut MarkedMemory,
     table: &ModuleTable,
     number: u32,
     line: &ThreadLine,
@@ -293,7 +293,7 @@ fn peek(
 /// open or close enters the history. Fails only when memory runs out; no clause says what is then left of the thread.
 pub(crate) fn begin(
     alloc: Global,
-    space: &mut MeantSpace,
+    space: &mut MarkedMemory,
     table: &mut ModuleTable,
     number: u32,
     line: &ThreadLine,

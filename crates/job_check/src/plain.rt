@@ -11,7 +11,7 @@ ghost use Rattle.job_meaning.specs.Reading.{linker_with};
 ghost use Rattle.module_table.specs.declared.events.Event.{Event};
 ghost use Rattle.whole_meaning.specs.Fields.{lent_frame};
 ghost use Rattle.whole_meaning.specs.Threads.{ops};
-ghost use Rattle.meant_space.specs.Kept.{HasSeen, memory_of, shut_in};
+ghost use Rattle.marked_memory.specs.Kept.{HasSeen, memory_of, shut_in};
 ghost use Rattle.job_check.specs.Stepping.{Makes, StepsAs, acted_in, done_in, linker_in, plain_next};
 
 use crate::step::{Stepped, as_step};
@@ -21,12 +21,12 @@ use guest_machine::{Direction, Touch, Touches, act};
 use guest_memory::Bytes;
 use guest_operands::{Frame, Space, State, Stop, load};
 use job_meaning::{Flag, MarkedValues, Word};
-use meant_space::MeantSpace;
+use marked_memory::MarkedMemory;
 use meant_steps::{address_at, hindrance, marked_frame, own_touches};
 use std::alloc::AllocError;
 
 /// Whether one of `size` bytes from `place` on is the linker's own.
-fn is_any_shut(space: &MeantSpace, place: u64, size: u8) -> bool
+fn is_any_shut(space: &MarkedMemory, place: u64, size: u8) -> bool
     ensures { result ≡ list_any (shut_in space.now) (places_from place size) }
 {
     if size == 0 {
@@ -36,7 +36,7 @@ fn is_any_shut(space: &MeantSpace, place: u64, size: u8) -> bool
 }
 
 /// Whether each of `size` bytes from `place` on may be written.
-fn may_write_all(space: &MeantSpace, place: u64, size: u8) -> bool
+fn may_write_all(space: &MarkedMemory, place: u64, size: u8) -> bool
     ensures { result ≡ not (refuses (range_accesses ops) (memory_of space.now) Store place size) }
 {
     if size == 0 {
@@ -46,13 +46,13 @@ fn may_write_all(space: &MeantSpace, place: u64, size: u8) -> bool
 }
 
 /// Whether an access is refused.
-fn is_refused(space: &MeantSpace, touch: &Touch) -> bool
+fn is_refused(space: &MarkedMemory, touch: &Touch) -> bool
     ensures { result ≡ refuses (range_accesses ops) (memory_of space.now) touch.now.direction touch.now.address
         (bytes_in touch.now.size) }
 {
     match touch.direction {
         Direction::Load => {
-            load::<MarkedValues, MeantSpace>(
+            load::<MarkedValues, MarkedMemory>(
                 space,
                 touch.address,
                 touch.address,
@@ -64,7 +64,7 @@ fn is_refused(space: &MeantSpace, touch: &Touch) -> bool
 }
 
 /// Whether a byte of an instruction's last access is the linker's own.
-fn is_last_shut(space: &MeantSpace, touch: Option<Touch>) -> bool
+fn is_last_shut(space: &MarkedMemory, touch: Option<Touch>) -> bool
     ensures { result ≡ list_any (shut_in space.now) (touched_then (range_accesses ops) (memory_of space.now) touch []) }
 {
     match touch {
@@ -75,7 +75,7 @@ fn is_last_shut(space: &MeantSpace, touch: Option<Touch>) -> bool
 
 /// Whether a byte that an instruction touches is the linker's own.
 #[tactic(auto, unfolding(guest_machine::specs::Touch::touched))]
-fn touches_linker(space: &MeantSpace, touches: &Touches) -> bool
+fn touches_linker(space: &MarkedMemory, touches: &Touches) -> bool
     ensures { result ≡ list_any (shut_in space.now) (touched (range_accesses ops) (memory_of space.now) touches.now) }
 {
     match &touches.first {
@@ -89,7 +89,7 @@ fn touches_linker(space: &MeantSpace, touches: &Touches) -> bool
 
 /// Whether an instruction begins at what is the linker's own, or touches a byte of it.
 #[tactic(auto, unfolding(crate::specs::Stepping::linker_in))]
-fn reaches_linker(space: &MeantSpace, state: &State<Word, Flag>, it: &Option<Decoded>) -> bool
+fn reaches_linker(space: &MarkedMemory, state: &State<Word, Flag>, it: &Option<Decoded>) -> bool
     ensures { result ≡ linker_in state.now space.now it.now }
 {
     space.is_shut(state.place) || touches_linker(space, &own_touches(space, state, it))
@@ -115,7 +115,7 @@ fn lent_frame(number: Option<u64>, frame: Frame) -> Frame
 fn do_instruction(
     it: &Decoded,
     state: &mut State<Word, Flag>,
-    space: &mut MeantSpace,
+    space: &mut MarkedMemory,
 ) -> Result<(), Stop>
     requires { space.old.lent ≡ None }
     ensures { Makes result state.old space.old state.new space.new (acted_in it.now state.old space.old) }
@@ -123,7 +123,7 @@ fn do_instruction(
     let number = address_at(space, state.place, it.disp);
     let frame = lent_frame(number, marked_frame(space, state.place, it));
     space.lend(number);
-    let result = act::<MarkedValues, MeantSpace>(&frame, &it.instr.operation, state, space);
+    let result = act::<MarkedValues, MarkedMemory>(&frame, &it.instr.operation, state, space);
     space.lend(None);
     result
 }
@@ -133,7 +133,7 @@ fn do_read(
     hindrance: Option<Cause>,
     it: &Option<Decoded>,
     state: &mut State<Word, Flag>,
-    space: &mut MeantSpace,
+    space: &mut MarkedMemory,
 ) -> Result<(), Stop>
     requires { space.old.lent ≡ None }
     ensures { Makes result state.old space.old state.new space.new (done_in hindrance it.now state.old space.old) }
@@ -160,7 +160,7 @@ fn stop_at_linker(
     hindrance: Option<Cause>,
     it: &Option<Decoded>,
     state: &State<Word, Flag>,
-    space: &MeantSpace,
+    space: &MarkedMemory,
 ) -> Result<Stop, AllocError>
     requires { space.now.lent ≡ None }
     ensures { IfOk result (λ stop. (seen : List Event) → HasSeen space.now seen
@@ -176,7 +176,7 @@ fn stop_at_linker(
 /// The step of an instruction.
 pub(crate) fn plain_step(
     state: &mut State<Word, Flag>,
-    space: &mut MeantSpace,
+    space: &mut MarkedMemory,
 ) -> Result<Stepped, AllocError>
     requires { space.old.lent ≡ None }
     ensures { IfOk result (λ stepped.

@@ -13,7 +13,7 @@ use guest_arithmetic::{Cause, Values};
 use guest_machine::RETURN;
 use guest_operands::{State, Stop};
 use job_meaning::{Flag, MarkedValues, Word};
-use meant_space::MeantSpace;
+use marked_memory::MarkedMemory;
 use std::alloc::AllocError;
 use whole_meaning::Sequence;
 
@@ -58,7 +58,7 @@ fn asked_stop(place: u64, stepped: Stepped) -> Stop
 }
 
 /// The stop of the next step. The step is tried in a copy of the memory.
-fn asked(state: &State<Word, Flag>, space: &MeantSpace) -> Result<Stop, AllocError>
+fn asked(state: &State<Word, Flag>, space: &MarkedMemory) -> Result<Stop, AllocError>
     requires { space.now.lent ≡ None }
     ensures { IfOk result (λ stop. Asks stop state.now space.now) }
 {
@@ -73,7 +73,7 @@ fn asked(state: &State<Word, Flag>, space: &MeantSpace) -> Result<Stop, AllocErr
 /// effect. Fails only when memory runs out; no clause says what is then left of the thread.
 pub(crate) fn run(
     state: &mut State<Word, Flag>,
-    space: &mut MeantSpace,
+    space: &mut MarkedMemory,
     count: u64,
 ) -> Result<Ran, AllocError>
     requires { space.old.lent ≡ None }
@@ -110,7 +110,7 @@ fn as_resumed(done: Result<(), Stop>) -> Resumed
 fn resume_at(
     sequence: &Sequence,
     state: &mut State<Word, Flag>,
-    space: &mut MeantSpace,
+    space: &mut MarkedMemory,
 ) -> Result<Resumed, AllocError>
     ensures { IfOk result (λ resumed.
         ResumesAs state.old space.old resumed state.new space.new (sequence_resumed sequence.now state.old space.old)) }
@@ -128,7 +128,7 @@ fn resume_at(
 /// then left of the thread.
 pub(crate) fn resume(
     state: &mut State<Word, Flag>,
-    space: &mut MeantSpace,
+    space: &mut MarkedMemory,
 ) -> Result<Resumed, AllocError>
     requires { space.old.lent ≡ None }
     ensures { IfOk result (λ resumed. Resumes state.old space.old resumed state.new space.new) }

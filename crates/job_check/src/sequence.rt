@@ -16,7 +16,7 @@ use guest_operands::{State, Stop};
 use job_meaning::{Flag, Word};
 use loaded_modules::Instance;
 use meant_images::MeantImages;
-use meant_space::MeantSpace;
+use marked_memory::MarkedMemory;
 use meant_steps::{asks, does, stops};
 use whole_meaning::Sequence;
 
@@ -44,7 +44,7 @@ fn start_in(thread: u32, instance: Option<Instance>) -> u64
 pub(crate) fn do_sequence(
     sequence: &Sequence,
     state: &mut State<Word, Flag>,
-    space: &mut MeantSpace,
+    space: &mut MarkedMemory,
 ) -> Result<(), Stop>
     ensures { Makes result state.old space.old state.new space.new (sequence_made sequence.now state.old space.old) }
 {
@@ -54,7 +54,7 @@ pub(crate) fn do_sequence(
 }
 
 /// The look before a sequence. The thread looks only if the sequence can be done after it; else this is the stop.
-fn look(sequence: &Sequence, state: &State<Word, Flag>, space: &MeantSpace) -> Stepped
+fn look(sequence: &Sequence, state: &State<Word, Flag>, space: &MarkedMemory) -> Stepped
     ensures { (seen : List Event) → looks_first true (left state.now (space_of seen space.now))
         (sequence_made sequence.now state.now space.now seen)
         ≡ next_as result (left state.now (space_of seen space.now)) }
@@ -76,7 +76,7 @@ fn has_look(sequence: &Sequence, images: &MeantImages) -> bool
 pub(crate) fn sequence_step(
     sequence: &Sequence,
     state: &mut State<Word, Flag>,
-    space: &mut MeantSpace,
+    space: &mut MarkedMemory,
 ) -> Stepped
     ensures { StepsAs result state.old space.old state.new space.new (λ seen.
         sequence_next (meaning_of space.old.images) space.old.thread (left state.old (space_of seen space.old))

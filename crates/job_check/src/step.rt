@@ -8,7 +8,7 @@ use crate::plain::plain_step;
 use crate::sequence::sequence_step;
 use guest_operands::{State, Stop};
 use job_meaning::{Flag, Word};
-use meant_space::MeantSpace;
+use marked_memory::MarkedMemory;
 use std::alloc::AllocError;
 
 /// How a step ends.
@@ -36,7 +36,7 @@ pub(crate) fn as_step(done: Result<(), Stop>) -> Stepped
 /// nothing. Fails only when memory runs out; no clause says what is then left of the thread.
 pub(crate) fn step(
     state: &mut State<Word, Flag>,
-    space: &mut MeantSpace,
+    space: &mut MarkedMemory,
 ) -> Result<Stepped, AllocError>
     requires { space.old.lent ≡ None }
     ensures { IfOk result (λ stepped. Steps state.old space.old stepped state.new space.new) }

@@ -16,7 +16,7 @@ use guest_operands::State;
 use job_meaning::{Flag, Word};
 use job_text::{Job, ThreadLine};
 use meant_images::MeantImages;
-use meant_space::{MeantSpace, OwnedRange, Wanted};
+use marked_memory::{MarkedMemory, OwnedRange, Wanted};
 use module_table::ModuleTable;
 use std::alloc::{AllocError, Global};
 use std::marker::Model;
@@ -53,7 +53,7 @@ pub(crate) struct MeantThread<'j, 'm> {
     fuel: u64,
     /// The number of lines that have begun.
     begun: usize,
-    space: MeantSpace<'m>,
+    space: MarkedMemory<'m>,
     call: Option<Waiting>,
     /// Its first unclean step so far.
     unclean: Option<UncleanStep>,
@@ -75,7 +75,7 @@ impl<'j, 'm> Model for MeantThread<'j, 'm> {
 
 /// Runs a call up to its end or its next look, for at most `count` steps.
 fn run_to(
-    space: &mut MeantSpace,
+    space: &mut MarkedMemory,
     mut state: State<Word, Flag>,
     line: u32,
     count: u64,
@@ -93,7 +93,7 @@ fn run_to(
 /// Begins a line, whose first look is taken here, and runs its call.
 fn take_begin(
     alloc: Global,
-    space: &mut MeantSpace,
+    space: &mut MarkedMemory,
     table: &mut ModuleTable,
     number: u32,
     line: &ThreadLine,
@@ -114,7 +114,7 @@ fn take_begin(
 }
 
 /// Continues a call that waited, at its next look.
-fn take_resume(space: &mut MeantSpace, line: u32, call: Waiting) -> Result<Taken, AllocError>
+fn take_resume(space: &mut MarkedMemory, line: u32, call: Waiting) -> Result<Taken, AllocError>
     requires { space.old.lent ≡ None }
     ensures { IfOk result (λ taken. (fuel : ℕ) → ResumesTo fuel line call space.old taken space.new) }
 {
@@ -141,7 +141,7 @@ struct Script<'j> {
 fn ended<'j, 'm>(
     script: Script<'j>,
     begun: usize,
-    space: MeantSpace<'m>,
+    space: MarkedMemory<'m>,
     unclean: Option<UncleanStep>,
     taken: Taken,
 ) -> MeantThread<'j, 'm>
@@ -170,7 +170,7 @@ fn ended<'j, 'm>(
 fn begin_line<'j, 'm>(
     script: Script<'j>,
     begun: usize,
-    mut space: MeantSpace<'m>,
+    mut space: MarkedMemory<'m>,
     unclean: Option<UncleanStep>,
     line: &ThreadLine,
     table: &mut ModuleTable,
@@ -195,7 +195,7 @@ fn begin_line<'j, 'm>(
 fn resume_line<'j, 'm>(
     script: Script<'j>,
     begun: usize,
-    mut space: MeantSpace<'m>,
+    mut space: MarkedMemory<'m>,
     unclean: Option<UncleanStep>,
     call: Waiting,
     shared: &mut Vec<OwnedRange>,
@@ -263,7 +263,7 @@ impl<'j, 'm> MeantThread<'j, 'm> {
             return Err(AllocError);
         }
         let fuel = job.fuel();
-        let mut space = MeantSpace::new(alloc, thread, images)?;
+        let mut space = MarkedMemory::new(alloc, thread, images)?;
         let live = live_instances(alloc, images, table)?;
         space.hold(live, Vec::new(alloc), Wanted::Fixed)?;
         Ok(MeantThread {

@@ -12,7 +12,7 @@ use crate::live::live_instances;
 use crate::thread::{Common, MeantThread};
 use job_text::Job;
 use meant_images::MeantImages;
-use meant_space::{OwnedRange, Written};
+use marked_memory::{OwnedRange, Written};
 use module_table::ModuleTable;
 use std::alloc::{AllocError, Global};
 use thread_turns::Threads;

@@ -12,7 +12,7 @@ use Rattle.image_writer.specs.Contents.{parts_end}
 use Rattle.image_writer.specs.Page.{file_offset}
 use Rattle.image_writer.proofs.Making.{parts_end-in}
 use Rattle.link_faults.specs.ImageKinds.{base_of}
-use Rattle.section_file.specs.Files.{offset_of}
+use Rattle.placed_sections.specs.Files.{offset_of}
 use Rattle.sequence_forms.specs.declared.places.Site.{Site}
 use Rattle.sequence_match.specs.Faults.{IsSite}
 use Rattle.link_needs.specs.Linking.{Linking, layout, object, place, sites_at}

@@ -22,9 +22,9 @@ use Rattle.sequence_forms.specs.Forms.{row}
 use Rattle.tls_layout.specs.Places.{address_of}
 use Rattle.tls_layout.proofs.LawsOfPlaces.{have_addresses}
 use Rattle.tls_layout.proofs.LawsOfSections.{finds_sections}
-use Rattle.section_file.specs.Files.{offset_of, sections_file}
-use Rattle.section_file.specs.Laws.{AreLaid}
-use Rattle.section_file.proofs.Told.{sections_fit}
+use Rattle.placed_sections.specs.Files.{offset_of, sections_file}
+use Rattle.placed_sections.specs.Laws.{AreLaid}
+use Rattle.placed_sections.proofs.Told.{sections_fit}
 use Rattle.link_needs.specs.Linking.{Linking, layout, object, place}
 use Rattle.link_needs.specs.Needs.{got_size, got_start, has_stub, stub_start}
 use Rattle.link_core.specs.Bytes.{got_bytes, raw_file, stub_bytes, with_got, with_part, with_stub}

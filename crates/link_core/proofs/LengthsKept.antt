@@ -21,7 +21,7 @@ use Rattle.tls_relocs.specs.declared.fields.Field.{Field}
 use Rattle.tls_relocs.specs.declared.fields.Field.TheVariants.{Empty}
 use Rattle.tls_relocs.specs.Fields.{field_bytes}
 use Rattle.tls_relocs.specs.Values.{fits_signed, fits_unsigned, signed_field, stored_field, word32}
-use Rattle.section_file.specs.Files.{offset_of}
+use Rattle.placed_sections.specs.Files.{offset_of}
 use Rattle.object_faults.specs.Firsts.{nonzero}
 use Rattle.tls_symbols.specs.Faults.{held_for, held_in}
 use Rattle.sequence_match.specs.Sites.{first_of}

@@ -19,7 +19,7 @@ use Rattle.tls_layout.specs.Places.{executable, read_only, room, tls_image, writ
 use Rattle.tls_layout.specs.Sections.{Layout}
 use Rattle.tls_layout.proofs.LawsOfPlaces.{classes_follow}
 use Rattle.tls_layout.proofs.Together.{page_up-above}
-use Rattle.section_file.specs.Laws.{end_or, sections_end}
+use Rattle.placed_sections.specs.Laws.{end_or, sections_end}
 use Rattle.link_needs.specs.Linking.{Linking, layout}
 use Rattle.link_needs.specs.Needs.{got_size, got_start, has_stub, stub_start}
 use Rattle.link_core.specs.Images.{file_kind, filled, got_places, places, section_places, stub_places}

@@ -19,9 +19,9 @@ use Rattle.got_pairs.proofs.Served.{within}
 use Rattle.link_faults.specs.declared.image_kind.ImageKind.{ImageKind}
 use Rattle.link_faults.specs.declared.image_kind.ImageKind.TheVariants.{Exe}
 use Rattle.link_faults.specs.ImageKinds.{base_of}
-use Rattle.section_file.specs.Files.{offset_of, sections_file}
-use Rattle.section_file.specs.Laws.{sections_end}
-use Rattle.section_file.proofs.Told.{files_end}
+use Rattle.placed_sections.specs.Files.{offset_of, sections_file}
+use Rattle.placed_sections.specs.Laws.{sections_end}
+use Rattle.placed_sections.proofs.Told.{files_end}
 use Rattle.tls_layout.specs.Places.{room, zero_data}
 use Rattle.tls_layout.proofs.Together.{page_limit, page_up-above}
 use Rattle.tls_relocs.specs.declared.fields.Field.TheVariants.{Empty}

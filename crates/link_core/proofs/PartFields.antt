@@ -10,7 +10,7 @@ use Rattle.elf_object.specs.declared.relocation.Relocation.{Relocation}
 use Rattle.elf_object.specs.Lent.{relocation_target, relocations, section_size}
 use Rattle.elf_object.specs.Object.{section_count}
 use Rattle.elf_object.specs.Relocations.{field_width}
-use Rattle.section_file.specs.Files.{offset_of}
+use Rattle.placed_sections.specs.Files.{offset_of}
 use Rattle.tls_layout.specs.Places.{address_of}
 use Rattle.tls_relocs.specs.declared.fields.Field.TheVariants.{Empty}
 use Rattle.tls_relocs.specs.Fields.{field_bytes}

@@ -5,8 +5,8 @@ use Rattle.std.specs.Prelude.{nat_le, if◌then◌else◌}
 use Rattle.std.proofs.lemmas.Bool.{cases_lt}
 use Rattle.std.proofs.lemmas.Bool.Decides.{nat_tests}
 use Rattle.std.proofs.lemmas.Option.{same_Some}
-use Rattle.section_file.specs.Files.{offset_of}
-use Rattle.section_file.proofs.Told.{sections_fit}
+use Rattle.placed_sections.specs.Files.{offset_of}
+use Rattle.placed_sections.proofs.Told.{sections_fit}
 use Rattle.tls_layout.specs.Places.{address_of}
 use Rattle.tls_layout.specs.Sections.{Layout}
 use Rattle.tls_layout.proofs.LawsOfPlaces.{addresses_apart}

@@ -5,8 +5,8 @@ use Rattle.std.specs.Prelude.{slice_get, slice_index_or, ◌==◌, if◌then◌e
 use Rattle.std.specs.List.{find}
 use Rattle.elf_object.specs.declared.relocation.Relocation.{Relocation}
 use Rattle.elf_object.specs.Lent.{relocations, section_bytes, section_size}
-use Rattle.section_file.specs.Files.{offset_of, sections_file}
-use Rattle.section_file.proofs.Told.{sections_fit, sections_stand}
+use Rattle.placed_sections.specs.Files.{offset_of, sections_file}
+use Rattle.placed_sections.proofs.Told.{sections_fit, sections_stand}
 use Rattle.sequence_forms.specs.declared.places.Site.{Site}
 use Rattle.tls_layout.specs.Places.{address_of}
 use Rattle.tls_relocs.specs.Elements.{slice_get-append}

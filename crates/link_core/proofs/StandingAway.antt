@@ -7,7 +7,7 @@ use Rattle.std.proofs.lemmas.Option.{same_Some}
 use Rattle.elf_records.specs.Fields.{part_at}
 use Rattle.elf_object.specs.Lent.{relocation_target}
 use Rattle.elf_object.specs.Object.{section_count}
-use Rattle.section_file.specs.Files.{offset_of}
+use Rattle.placed_sections.specs.Files.{offset_of}
 use Rattle.tls_relocs.specs.Elements.{slice_get-drop}
 use Rattle.tls_symbols.specs.Faults.{held_in}
 use Rattle.link_needs.specs.Linking.{Linking, layout, object, sites_at}

@@ -11,7 +11,7 @@ use Rattle.elf_object.specs.Laws.{table_of_kept}
 use Rattle.elf_object.specs.Lent.{kept_relocation_table, relocation_target, relocations, relocations_in, section_size}
 use Rattle.elf_object.specs.Object.{section_count}
 use Rattle.elf_object.specs.Relocations.{field_width}
-use Rattle.section_file.specs.Files.{offset_of}
+use Rattle.placed_sections.specs.Files.{offset_of}
 use Rattle.sequence_match.specs.Code.{AreApart}
 use Rattle.sequence_match.specs.Sites.{Covers}
 use Rattle.sequence_match.proofs.Sections.{fields_apart, target_of_table}

@@ -13,9 +13,9 @@ use Rattle.image_writer.specs.Contents.{part_in}
 use Rattle.image_writer.specs.Page.{file_offset}
 use Rattle.image_writer.specs.Tables.{finished, tables_part}
 use Rattle.link_faults.specs.ImageKinds.{base_of}
-use Rattle.section_file.proofs.Told.{files_end, gaps_are_zero as zero_between}
-use Rattle.section_file.specs.Files.{offset_of, sections_file}
-use Rattle.section_file.specs.Laws.{sections_end}
+use Rattle.placed_sections.proofs.Told.{files_end, gaps_are_zero as zero_between}
+use Rattle.placed_sections.specs.Files.{offset_of, sections_file}
+use Rattle.placed_sections.specs.Laws.{sections_end}
 use Rattle.tls_layout.proofs.Together.{page_up-above}
 use Rattle.tls_relocs.specs.Elements.{slice_get-append, slice_get-append_behind, slice_get-drop, slice_get-take}
 use Rattle.link_needs.specs.Given.{FitsTable, IsGiven}

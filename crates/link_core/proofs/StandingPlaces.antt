@@ -13,8 +13,8 @@ use Rattle.elf_object.specs.LawsOfRelocations.{lawful as relocations_lawful}
 use Rattle.elf_object.specs.Lent.{relocations, section_class, section_size}
 use Rattle.elf_object.specs.Relocations.{field_width}
 use Rattle.link_faults.specs.ImageKinds.{base_of}
-use Rattle.section_file.specs.Files.{offset_of}
-use Rattle.section_file.proofs.Standing.{has_place}
+use Rattle.placed_sections.specs.Files.{offset_of}
+use Rattle.placed_sections.proofs.Standing.{has_place}
 use Rattle.sequence_forms.specs.declared.places.Site.{Site}
 use Rattle.sequence_match.specs.Faults.{IsSite}
 use Rattle.tls_layout.specs.Places.{address_of, section_named}

@@ -16,8 +16,8 @@ use Rattle.got_pairs.specs.declared.need.Need.TheVariants.{RuntimeWord}
 use Rattle.got_pairs.specs.Needs.{same_need, size_of, start_from, start_of}
 use Rattle.got_pairs.proofs.Equal.{need_is, size_some}
 use Rattle.got_pairs.proofs.Served.{within}
-use Rattle.section_file.specs.Files.{offset_of, sections_file}
-use Rattle.section_file.proofs.Told.{files_end}
+use Rattle.placed_sections.specs.Files.{offset_of, sections_file}
+use Rattle.placed_sections.proofs.Told.{files_end}
 use Rattle.tls_layout.proofs.Together.{page_up-above}
 use Rattle.tls_relocs.specs.declared.fields.Field.TheVariants.{Empty, Word32}
 use Rattle.tls_relocs.specs.Fields.{field_bytes}

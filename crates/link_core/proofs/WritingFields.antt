@@ -10,7 +10,7 @@ use Rattle.elf_object.specs.Lawful.{IsLawful}
 use Rattle.elf_object.specs.LawsOfRelocations.{lawful as relocations_lawful}
 use Rattle.elf_object.specs.Lent.{relocations}
 use Rattle.elf_object.specs.Parts.{symbol_count}
-use Rattle.section_file.specs.Files.{offset_of}
+use Rattle.placed_sections.specs.Files.{offset_of}
 use Rattle.tls_relocs.specs.declared.fields.Field.{Field}
 use Rattle.tls_relocs.specs.declared.fields.Field.TheVariants.{Empty}
 use Rattle.tls_relocs.specs.Fields.{field_patch}

@@ -7,7 +7,7 @@ use Rattle.std.specs.Prelude.{◌==◌, IfErr, OnOk, negsuc, slice_get, unwrap_o
 use Rattle.std.proofs.lemmas.Bool.Decides.{nat_tests}
 use Rattle.got_pairs.specs.declared.entry.Entry.{Entry}
 use Rattle.got_pairs.specs.declared.need.Need.{Need}
-use Rattle.section_file.specs.Files.{offset_of}
+use Rattle.placed_sections.specs.Files.{offset_of}
 use Rattle.elf_records.specs.declared.relocation.RelocationKind.TheVariants.{GotPcRel}
 use Rattle.got_pairs.specs.declared.need.Need.TheVariants.{RuntimeWord}
 use Rattle.tls_relocs.specs.declared.fields.Field.{Field}

@@ -23,7 +23,7 @@ use Rattle.elf_object.specs.LawsOfSections.{kept_as}
 use Rattle.elf_object.specs.Lent.{relocations, section_class}
 use Rattle.elf_object.specs.Relocations.{field_width}
 use Rattle.link_faults.specs.ImageKinds.{base_of}
-use Rattle.section_file.specs.Files.{offset_of}
+use Rattle.placed_sections.specs.Files.{offset_of}
 use Rattle.tls_layout.proofs.Bounds.{address_bounds}
 use Rattle.relax_sites.specs.declared.choices.Choice.{Choice}
 use Rattle.relax_sites.specs.declared.choices.Choice.TheVariants.{GdLe, GdIe, IeLe, DescLe, DescIe}

@@ -5,7 +5,7 @@ use Rattle.std.specs.Prelude.{fold, nat_le, if◌then◌else◌}
 use Rattle.std.specs.List.{range_with_len}
 use Rattle.object_faults.specs.Firsts.{nonzero}
 use Rattle.elf_object.specs.Lent.{relocation_target, relocations}
-use Rattle.section_file.specs.Files.{offset_of}
+use Rattle.placed_sections.specs.Files.{offset_of}
 use Rattle.tls_layout.specs.Sections.{Layout}
 use Rattle.tls_symbols.proofs.Search.{range_first}
 use Rattle.tls_symbols.proofs.Walked.{held_is, held_none}

@@ -15,8 +15,8 @@ use Rattle.got_pairs.specs.Plans.{Table}
 use Rattle.relax_sites.specs.declared.rows.NewField.{NewField}
 use Rattle.relax_sites.specs.Rewriting.{rewritten}
 use Rattle.relax_sites.specs.Rows.{new_field}
-use Rattle.section_file.specs.Files.{offset_of, sections_file}
-use Rattle.section_file.specs.Laying.{with_section}
+use Rattle.placed_sections.specs.Files.{offset_of, sections_file}
+use Rattle.placed_sections.specs.Laying.{with_section}
 use Rattle.sequence_forms.specs.declared.places.Site.{Site}
 use Rattle.tls_relocs.specs.declared.fields.Field.{Field}
 use Rattle.tls_relocs.specs.declared.fields.Field.TheVariants.{Empty}

@@ -15,7 +15,7 @@ use Rattle.image_writer.specs.Outlined.{outline_of}
 use Rattle.object_rules.specs.declared.fault.FaultKind.TheVariants.{Sequence, StrayCall}
 use Rattle.relax_sites.specs.declared.rows.NewField.{NewField}
 use Rattle.relax_sites.specs.Rows.{new_field}
-use Rattle.section_file.specs.Files.{offset_of}
+use Rattle.placed_sections.specs.Files.{offset_of}
 use Rattle.sequence_forms.specs.declared.places.Site.{Site}
 use Rattle.sequence_match.specs.Faults.{Nowhere}
 use Rattle.std.specs.List.{Contains}

@@ -4,7 +4,7 @@ ghost use Rattle.std.specs.Prelude.{◌≡◌, ◌<◌, ◌-◌, ◌^◌, ◌++�
 ghost use Rattle.std.specs.List.{flat_map};
 ghost use Rattle.elf_records.specs.Fields.{bytes_of};
 ghost use Rattle.got_pairs.specs.Entries.{words};
-ghost use Rattle.section_file.specs.Files.{sections_file};
+ghost use Rattle.placed_sections.specs.Files.{sections_file};
 ghost use Rattle.tls_relocs.specs.Fields.{field_bytes};
 ghost use Rattle.tls_relocs.specs.Laid.{zeros};
 ghost use Rattle.link_needs.specs.Linking.{layout};

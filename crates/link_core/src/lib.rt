@@ -11,7 +11,7 @@
 //! places     where each section goes, in memory and in the TLS segment       tls_layout
 //! plan       the global offset table, and the value of each field            link_needs
 //!
-//! file       sections at their places, the table, the stub                   section_file, here
+//! file       sections at their places, the table, the stub                   placed_sections, here
 //! fields     the value of each relocation, written                           tls_relocs, here
 //! sequences  the new ones, written over those that are rewritten             relax_sites, here
 //! tables     symbols and relocations for a loader                            link_tables, image_writer

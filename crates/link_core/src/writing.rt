@@ -6,7 +6,7 @@ ghost use Rattle.std.specs.List.{Contains};
 ghost use Rattle.elf_object.specs.Lent.{relocations};
 ghost use Rattle.elf_object.specs.Object.{section_count};
 ghost use Rattle.link_faults.specs.ImageKinds.{base_of};
-ghost use Rattle.section_file.specs.Files.{offset_of as file_offset};
+ghost use Rattle.placed_sections.specs.Files.{offset_of as file_offset};
 ghost use Rattle.tls_layout.specs.Places.{address_of};
 ghost use Rattle.tls_relocs.specs.Fields.{field_patch, width_of};
 ghost use Rattle.tls_relocs.specs.Patches.{patched};
@@ -21,7 +21,7 @@ use elf_object::{Relocation, RelocationKind};
 use elf_records::relocation_row::FieldValue;
 use link_needs::{Plan, new_relocation};
 use relax_sites::{NewField, new_field, rewrite};
-use section_file::offset_of;
+use placed_sections::offset_of;
 use sequence_match::Site;
 use tls_relocs::{Field, apply};
 

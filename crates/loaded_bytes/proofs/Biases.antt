@@ -4,7 +4,7 @@ use Rattle.std.specs.Prelude.{◌+ℤ◌, slice_index_or}
 use Rattle.std.specs.Int.{w64, cast_signed, cast_unsigned}
 use Rattle.std.proofs.lemmas.Int.{of_z-to_z}
 use Rattle.std.proofs.lemmas.Option.{get_or_from_slice_get}
-use Rattle.class_bytes.proofs.Words.{modulo_small, moved_sum}
+use Rattle.memory_image.proofs.Words.{modulo_small, moved_sum}
 use Rattle.elf_records.specs.Fields.{bytes_of}
 use Rattle.guest_arithmetic.specs.Values.{digit}
 use Rattle.image_writer.specs.Page.{base_of as page_base}

@@ -4,7 +4,7 @@ use Rattle.std.proofs.Common.{length, inl, inr, refl, sym, ap, arith, ifâ—Œthenâ
 use Rattle.std.specs.Prelude.{slice_get, slice_index_or, unwrap_or}
 use Rattle.std.specs.List.{find}
 use Rattle.std.proofs.lemmas.Bool.{cases_lt}
-use Rattle.class_bytes.specs.Laying.{HasRange}
+use Rattle.memory_image.specs.Laying.{HasRange}
 use Rattle.elf_object.specs.declared.relocation.Relocation.{Relocation}
 use Rattle.elf_object.specs.Lent.{relocations, section_bytes, section_class, section_size}
 use Rattle.link_core.proofs.Few.{table_fits}
@@ -21,10 +21,10 @@ use Rattle.link_needs.specs.Linking.{Linking, layout, object}
 use Rattle.link_needs.specs.Needs.{got_size, got_start, has_stub, stub_start}
 use Rattle.object_faults.specs.declared.class.SectionClass.{SectionClass}
 use Rattle.object_faults.specs.declared.class.SectionClass.TheVariants.{Executable, ReadOnly, Tls, Writable}
-use Rattle.section_file.proofs.Rising.{class_is}
-use Rattle.section_file.proofs.Standing.{HasPlace, has_place}
-use Rattle.section_file.proofs.Told.{files_end, gaps_are_zero}
-use Rattle.section_file.specs.Files.{offset_of, sections_file}
+use Rattle.placed_sections.proofs.Rising.{class_is}
+use Rattle.placed_sections.proofs.Standing.{HasPlace, has_place}
+use Rattle.placed_sections.proofs.Told.{files_end, gaps_are_zero}
+use Rattle.placed_sections.specs.Files.{offset_of, sections_file}
 use Rattle.tls_layout.proofs.LawsOfPlaces.{lie_in_classes}
 use Rattle.tls_layout.proofs.LawsOfSections.{finds_sections}
 use Rattle.tls_layout.specs.Laws.{extent_for}

@@ -6,7 +6,7 @@ use Rattle.std.specs.List.{Contains}
 use Rattle.std.proofs.lemmas.Bool.{lt-ltb}
 use Rattle.std.proofs.lemmas.List.Elements.{Contains-append_left, Contains-append_right}
 use Rattle.std.proofs.lemmas.Option.{slice_get-get_or, slice_get-map, slice_get_within}
-use Rattle.class_bytes.specs.Laying.{HasRange}
+use Rattle.memory_image.specs.Laying.{HasRange}
 use Rattle.elf_records.specs.Fields.{part_at}
 use Rattle.image_file.specs.declared.part.PartClass.{PartClass}
 use Rattle.image_file.specs.declared.part.PartClass.TheVariants as part_class
@@ -34,8 +34,8 @@ use Rattle.object_faults.specs.declared.class.SectionClass.{SectionClass}
 use Rattle.object_faults.specs.declared.class.SectionClass.TheVariants.{Executable, ReadOnly, Tls, Writable}
 use Rattle.relocated_parts.proofs.Loaded.{part_left}
 use Rattle.relocated_parts.specs.Laws.{IsMade}
-use Rattle.section_file.proofs.Told.{files_end}
-use Rattle.section_file.specs.Files.{offset_of}
+use Rattle.placed_sections.proofs.Told.{files_end}
+use Rattle.placed_sections.specs.Files.{offset_of}
 use Rattle.tls_layout.specs.declared.extent.Extent.{Extent}
 use Rattle.tls_layout.specs.Laws.{extent_for}
 use Rattle.tls_layout.specs.Places.{executable, read_only, tls_image, writable}

@@ -1,11 +1,11 @@
 -- The classes of an image lie behind each other, from the base to where its sections end.
 use Rattle.std.proofs.Common.{◌≡◌, ◌<◌, ◌≤◌, ◌⊎◌, ℕ, true, false, inl, inr, refl, arith}
 use Rattle.std.proofs.lemmas.Bool.{cases_lt, lt-ltb, le-ltb}
-use Rattle.class_bytes.specs.Laying.{HasRange}
+use Rattle.memory_image.specs.Laying.{HasRange}
 use Rattle.link_faults.specs.ImageKinds.{base_of}
 use Rattle.object_faults.specs.declared.class.SectionClass.{SectionClass}
 use Rattle.object_faults.specs.declared.class.SectionClass.TheVariants.{Executable, ReadOnly, Tls, Writable}
-use Rattle.section_file.specs.Laws.{end_or, sections_end}
+use Rattle.placed_sections.specs.Laws.{end_or, sections_end}
 use Rattle.tls_layout.specs.declared.extent.Extent.{Extent}
 use Rattle.tls_layout.specs.Laws.{extent_for}
 use Rattle.tls_layout.specs.Places.{room}

@@ -9,8 +9,8 @@ use Rattle.std.proofs.lemmas.Bool.{cases_lt, lt-ltb}
 use Rattle.std.proofs.lemmas.Bool.Decides.{nat_tests}
 use Rattle.std.proofs.lemmas.List.Elements.{All-contains}
 use Rattle.std.proofs.lemmas.List.Folds.{find-append}
-use Rattle.class_bytes.proofs.Placing.{section_stands}
-use Rattle.class_bytes.specs.Laying.{HasRange}
+use Rattle.memory_image.proofs.Placing.{section_stands}
+use Rattle.memory_image.specs.Laying.{HasRange}
 use Rattle.elf_object.specs.declared.relocation.Relocation.{Relocation}
 use Rattle.elf_object.specs.Lent.{relocations, section_class, section_size}
 use Rattle.elf_object.specs.Relocations.{field_width}
@@ -36,8 +36,8 @@ use Rattle.loaded_modules.specs.declared.instance.Instance.{Instance}
 use Rattle.loaded_modules.specs.Images.{JobImages}
 use Rattle.object_faults.specs.declared.class.SectionClass.{SectionClass}
 use Rattle.relocated_parts.specs.Left.{byte_by, is_written_at, left_byte, written_byte}
-use Rattle.section_file.proofs.Rising.{class_is}
-use Rattle.section_file.proofs.Standing.{HasPlace, has_place}
+use Rattle.placed_sections.proofs.Rising.{class_is}
+use Rattle.placed_sections.proofs.Standing.{HasPlace, has_place}
 use Rattle.sequence_match.specs.Sites.{Covers}
 use Rattle.tls_layout.proofs.LawsOfPlaces.{lie_in_classes}
 use Rattle.tls_layout.proofs.LawsOfSections.{finds_sections}

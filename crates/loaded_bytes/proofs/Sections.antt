@@ -1,10 +1,10 @@
 -- A section stands at its address, byte by byte.
 use Rattle.std.proofs.Common.{◌≡◌, ◌+◌, ◌-◌, ◌∙◌, Some, refl, ap, arith}
 use Rattle.std.specs.Prelude.{unwrap_or}
-use Rattle.class_bytes.proofs.Placing.{section_stands}
+use Rattle.memory_image.proofs.Placing.{section_stands}
 use Rattle.link_core.proofs.Few.{table_fits}
 use Rattle.link_needs.specs.Linking.{layout, object}
-use Rattle.section_file.proofs.Standing.{HasPlace, has_place}
+use Rattle.placed_sections.proofs.Standing.{HasPlace, has_place}
 use Rattle.tls_layout.proofs.LawsOfPlaces.{lie_in_classes}
 use Rattle.tls_layout.proofs.LawsOfSections.{finds_sections}
 use Rattle.whole_meaning.specs.Spots.{begin_of, spot_at, spot_in}

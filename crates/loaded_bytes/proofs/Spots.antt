@@ -5,8 +5,8 @@ use Rattle.std.specs.Prelude.{option_map, slice_index_or}
 use Rattle.std.specs.List.{find, range_with_len}
 use Rattle.std.specs.Option.{option_or}
 use Rattle.std.proofs.lemmas.Bool.{and_from, cases_lt, lt-ltb, le-leb}
-use Rattle.class_bytes.proofs.Founds.{spot_is}
-use Rattle.class_bytes.proofs.Placing.{Stands, stands_so}
+use Rattle.memory_image.proofs.Founds.{spot_is}
+use Rattle.memory_image.proofs.Placing.{Stands, stands_so}
 use Rattle.elf_object.specs.Lent.{section_class, section_size}
 use Rattle.elf_object.specs.Object.{section_count}
 use Rattle.link_needs.specs.Linking.{Linking, layout, object}

@@ -4,7 +4,7 @@ use Rattle.std.proofs.Common.{length, refl, sym, ap, arith, if◌then◌else◌}
 use Rattle.std.specs.Prelude.{option_map}
 use Rattle.std.proofs.lemmas.Bool.{ne_eqb}
 use Rattle.std.proofs.lemmas.Option.{slice_get-map}
-use Rattle.class_bytes.specs.Laying.{HasRange}
+use Rattle.memory_image.specs.Laying.{HasRange}
 use Rattle.guest_operands.specs.declared.space.Access.{Access}
 use Rattle.guest_operands.specs.declared.space.Access.TheVariants.{Read, Run}
 use Rattle.guest_operands.specs.Ranges.{Range, allows, byte_in}

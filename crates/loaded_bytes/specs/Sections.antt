@@ -1,6 +1,6 @@
 -- The same section by section.
 use Rattle.std.specs.Prelude.{◌≡◌, ◌+◌, ◌<◌, ℕ, Some, length}
-use Rattle.class_bytes.specs.Laying.{HasRange}
+use Rattle.memory_image.specs.Laying.{HasRange}
 use Rattle.elf_object.specs.Lent.{section_class, section_size}
 use Rattle.link_core.specs.Faults.{Links}
 use Rattle.link_needs.specs.Given.{IsGiven}

@@ -39,7 +39,7 @@ use Rattle.relocated_parts.proofs.Loaded.{part_left}
 use Rattle.relocated_parts.proofs.Parts.{parts_follow}
 use Rattle.relocated_parts.specs.Laws.{IsMade}
 use Rattle.relocated_parts.specs.Left.{byte_by, is_written_at, left_byte}
-use Rattle.section_file.specs.Files.{offset_of}
+use Rattle.placed_sections.specs.Files.{offset_of}
 use Rattle.thread_blocks.specs.JobLoads.{job_loads, parts_from}
 use Rattle.tls_layout.proofs.Together.{page_up-above}
 use Rattle.tls_relocs.specs.Elements.{slice_get-append, slice_get-append_behind, slice_get-drop, slice_get-take}

@@ -40,7 +40,7 @@ use Rattle.link_needs.specs.Given.{FitsTable, IsGiven}
 use Rattle.link_needs.specs.Linking.{Linking}
 use Rattle.link_needs.specs.Needs.{entries, entry_by, got_start, need_address, stub_start}
 use Rattle.loaded_bytes.specs.Laws.{images_of}
-use Rattle.site_laws.specs.Instructions.{displaced, of_next}
+use Rattle.sequence_laws.specs.Instructions.{displaced, of_next}
 use Rattle.thread_blocks.specs.JobLoads.{job_loads}
 use Rattle.tls_relocs.specs.declared.fields.Field.TheVariants.{Empty}
 use Rattle.tls_relocs.specs.Fields.{field_bytes}

@@ -24,7 +24,7 @@ use Rattle.job_text.specs.ProgramFirst.{ProgramFirst}
 use Rattle.module_table.specs.declared.events.Event.{Event}
 use Rattle.module_table.specs.History.{IsLegal}
 use Rattle.module_table.specs.Past.{startup_count}
-use Rattle.site_laws.specs.Instructions.{displaced, of_next}
+use Rattle.sequence_laws.specs.Instructions.{displaced, of_next}
 use Rattle.thread_blocks.specs.JobLoads.{job_loads}
 use Rattle.thread_blocks.specs.RunTime.{has_words}
 use Rattle.thread_blocks.specs.Turns.{at_number}

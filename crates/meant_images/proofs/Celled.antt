@@ -15,7 +15,7 @@ use Rattle.meant_images.specs.declared.kept.KeptObject.{KeptObject}
 use Rattle.meant_images.specs.declared.painting.Cell.{Cell}
 use Rattle.meant_images.specs.CodeCells.{HaveRoom, code_cell, field_cell, no_cell, site_cell}
 use Rattle.meant_images.specs.Kept.{KeepAll}
-use Rattle.class_bytes.specs.Laying.{section_cells}
+use Rattle.memory_image.specs.Laying.{section_cells}
 use Rattle.sequence_forms.specs.declared.places.Site.{Site}
 use Rattle.sequence_match.specs.Faults.{AreSites}
 use Rattle.meant_images.proofs.Starts.{form_short}

@@ -10,8 +10,8 @@ use Rattle.object_faults.specs.declared.class.SectionClass.TheVariants.{Writable
 use Rattle.tls_layout.specs.Laws.{extent_for}
 use Rattle.whole_meaning.specs.Bytes.{class_bytes}
 use Rattle.whole_meaning.specs.Loads.{data_ranges}
-use Rattle.class_bytes.specs.Tables.{ClassTable, IsClass, Keeps, bytes_at}
-use Rattle.class_bytes.proofs.Moving.{bytes_length}
+use Rattle.memory_image.specs.Tables.{ClassTable, IsClass, Keeps, bytes_at}
+use Rattle.memory_image.proofs.Moving.{bytes_length}
 
 module _ (l : Linking) (bias : ℕ) (keeps : Keeps l bias) where
   class_length : (class : SectionClass) → length (class_bytes l bias class) ≡ (extent_for class (layout l)).end - (extent_for class (layout l)).start

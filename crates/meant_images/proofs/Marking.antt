@@ -16,10 +16,10 @@ use Rattle.meant_images.specs.declared.painting.Cell.{Cell}
 use Rattle.meant_images.specs.CodeCells.{Shows, code_cell, no_cell}
 use Rattle.meant_images.specs.Entries.{mark_by, sequence_by}
 use Rattle.meant_images.specs.Kept.{AreEntries, KeepAll}
-use Rattle.class_bytes.specs.Laying.{IsOfClass, cell_of, cells_from, class_cells}
+use Rattle.memory_image.specs.Laying.{IsOfClass, cell_of, cells_from, class_cells}
 use Rattle.meant_images.specs.Marked.{AreMarks, Says, cell_at, moved_cell}
-use Rattle.class_bytes.proofs.Founds.{spot_is}
-use Rattle.class_bytes.proofs.Laid.{extent_low, extent_rises}
+use Rattle.memory_image.proofs.Founds.{spot_is}
+use Rattle.memory_image.proofs.Laid.{extent_low, extent_rises}
 use Rattle.meant_images.proofs.Shown.{code_shows}
 use Rattle.object_faults.specs.declared.class.SectionClass.{SectionClass}
 use Rattle.object_faults.specs.declared.class.SectionClass.TheVariants.{Executable, ReadOnly, Tls, Writable}

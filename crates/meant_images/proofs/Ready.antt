@@ -2,7 +2,7 @@
 use Rattle.std.proofs.Common.{◌≡◌, ◌∙◌, ℕ, zero, suc, List, [], ◌∷◌, ◌++◌, All, length, map, Option, Some, Result, Ok, Err, IfSome, refl, sym, ap, subst}
 use Rattle.std.specs.Prelude.{IfOk, option_map, slice_get}
 use Rattle.std.proofs.lemmas.Option.{get_or_from_slice_get, slice_get_within}
-use Rattle.class_bytes.specs.Tables.{Keeps}
+use Rattle.memory_image.specs.Tables.{Keeps}
 use Rattle.job_meaning.specs.declared.values.Byte.TheVariants.{Value}
 use Rattle.link_core.specs.Faults.{IsSound}
 use Rattle.link_core.specs.Laws.{HasNoStray}

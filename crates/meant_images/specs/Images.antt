@@ -1,8 +1,8 @@
 -- The tables of all images of a job.
 use Rattle.std.specs.Prelude.{◌≡◌, ℕ, true, List, Some, length, map, slice_get}
 use Rattle.std.specs.List.{All}
-use Rattle.class_bytes.specs.Still.{AreStill}
-use Rattle.class_bytes.specs.Tables.{IsClass}
+use Rattle.memory_image.specs.Still.{AreStill}
+use Rattle.memory_image.specs.Tables.{IsClass}
 use Rattle.link_core.specs.Faults.{IsSound}
 use Rattle.link_core.specs.Laws.{HasNoStray}
 use Rattle.link_needs.specs.Given.{IsGiven}

@@ -13,7 +13,7 @@ ghost use Rattle.whole_meaning.specs.Spots.{bias_of};
 use crate::entries::Entry;
 use crate::kept::{Kept, keep};
 use crate::painting::{Cell, Painter};
-use class_bytes::lay;
+use memory_image::lay;
 use elf_object::SectionClass;
 use link_faults::ImageKind;
 use link_needs::Inputs;

@@ -9,7 +9,7 @@ ghost use Rattle.loaded_modules.specs.Ends.{end_behind};
 ghost use Rattle.module_table.specs.Laws.{startup_end};
 ghost use Rattle.module_table.specs.Modules.{AreInfos, IsInfo};
 ghost use Rattle.thread_blocks.specs.Turns.{at_number};
-ghost use Rattle.class_bytes.specs.Tables.{IsClass, Keeps};
+ghost use Rattle.memory_image.specs.Tables.{IsClass, Keeps};
 ghost use Rattle.object_faults.specs.declared.class.SectionClass.TheVariants.{Writable};
 ghost use Rattle.whole_meaning.specs.Bytes.{function_of};
 ghost use Rattle.whole_meaning.specs.Loads.{data_ranges, info_of, loads_of, meaning_of};
@@ -20,8 +20,8 @@ ghost use Rattle.meant_images.specs.declared.images.Tables.{Tables};
 
 use crate::code_marks::{CodeMarks, bias_of};
 use crate::names::{function, info, is_in_room, variable};
-use class_bytes::laws::linked_instances_keep_fields;
-use class_bytes::{ClassBytes, StillBytes, WritableRange, block_of};
+use memory_image::laws::linked_instances_keep_fields;
+use memory_image::{MemoryImage, StillBytes, WritableRange, block_of};
 use elf_object::SectionClass;
 use guest_operands::Access;
 use link_needs::Inputs;
@@ -40,7 +40,7 @@ pub struct Tables<'i> {
     /// Its code, its constants, and the initial image of its blocks.
     still: StillBytes,
     /// Its data.
-    writable: ClassBytes,
+    writable: MemoryImage,
 }
 
 /// The images of a job in image order, with marked bytes. Contracts see what each is linked from.
@@ -89,7 +89,7 @@ fn tables_of<'i>(
     Ok(Tables {
         marks: CodeMarks::of(alloc, images, own)?,
         still: StillBytes::of(alloc, own)?,
-        writable: ClassBytes::of(alloc, own, SectionClass::Writable { initial: true })?,
+        writable: MemoryImage::of(alloc, own, SectionClass::Writable { initial: true })?,
     })
 }
 
@@ -150,7 +150,7 @@ fn function_in(own: &Inputs, number: u32, name: &[u8]) -> Option<u64>
 }
 
 /// The address of data in an instance that is moved by `bias`, if there are any.
-fn start_of(writable: &ClassBytes, bias: u64) -> Option<u64>
+fn start_of(writable: &MemoryImage, bias: u64) -> Option<u64>
     requires { bias < 2 ^ 60 }
     ensures { (l : Linking) → IsClass l (Writable true) writable.now → Keeps l bias
         → result ≡ option_map (λ (range : Range Byte). range.start) (data_ranges l bias) }
@@ -165,7 +165,7 @@ fn start_of(writable: &ClassBytes, bias: u64) -> Option<u64>
 /// The data of an instance that is moved by `bias`, if there are any.
 fn data_in(
     alloc: Global,
-    writable: &ClassBytes,
+    writable: &MemoryImage,
     bias: u64,
 ) -> Result<Option<WritableRange>, AllocError>
     requires { bias < 2 ^ 60 }

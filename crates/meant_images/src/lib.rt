@@ -25,7 +25,7 @@
 //! when the entries are made. Both answers, the mark and the sequence ([`CodeMarks::sequence`]), take constant time.
 //!
 //! [`MeantImages`] has these tables for all images of a job. It also has what is loaded of each instance: the bytes of
-//! its sections (`class_bytes`), its functions and variables by name, and a thread's fresh block.
+//! its sections (`memory_image`), its functions and variables by name, and a thread's fresh block.
 //!
 //! By the definitions a byte that two fields or two sequences share belongs to the first. So cells are written from the
 //! last to the first.

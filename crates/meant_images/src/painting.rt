@@ -9,12 +9,12 @@ ghost use Rattle.elf_records.specs.Relocations.{field_width};
 ghost use Rattle.link_needs.specs.Linking.{sites_at};
 ghost use Rattle.meant_images.specs.CodeCells.{HaveRoom, IsSplit, cell_from, code_cell, field_cell, is_within};
 ghost use Rattle.meant_images.specs.CodeCells.{no_cell, site_cell};
-ghost use Rattle.class_bytes.specs.Laying.{IsOfClass, section_cells};
+ghost use Rattle.memory_image.specs.Laying.{IsOfClass, section_cells};
 ghost use Rattle.object_faults.specs.declared.class.SectionClass.TheVariants.{Executable};
 ghost use Rattle.sequence_forms.specs.declared.places.Site.{Site};
 
 use crate::kept::{KeptObject, own_sites, relocations_of};
-use class_bytes::Cells;
+use memory_image::Cells;
 use elf_object::{Object, Relocation};
 use link_needs::Inputs;
 use sequence_match::Site;

@@ -32,7 +32,7 @@ use Rattle.relax_sites.specs.declared.choices.Choice.{Choice}
 use Rattle.relax_sites.specs.declared.choices.Choice.TheVariants.{Keep, GdLe, GdIe, LdLe, IeLe, DescLe, DescIe}
 use Rattle.relax_sites.specs.Rows.{form_length}
 use Rattle.sequence_forms.specs.Forms.{row}
-use Rattle.site_laws.specs.Instructions.{kept_instructions, new_instructions}
+use Rattle.sequence_laws.specs.Instructions.{kept_instructions, new_instructions}
 use Rattle.whole_meaning.specs.Sequences.{sequence_result}
 use Rattle.whole_meaning.specs.Threads.{sequence_next, start_in}
 use Rattle.site_steps.proofs.Owners.{begins as begins_at}

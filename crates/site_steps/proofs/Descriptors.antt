@@ -4,7 +4,7 @@ use Rattle.guest_arithmetic.specs.declared.cause.Cause.{Cause}
 use Rattle.guest_operands.specs.declared.stop.Stop.TheVariants.{Unclean}
 use Rattle.amd64_words.specs.declared.register.Register.TheVariants.{Rax}
 use Rattle.guest_arithmetic.specs.Cause.{both}
-use Rattle.site_laws.specs.Instructions.{call_through, of_register, plain}
+use Rattle.sequence_laws.specs.Instructions.{call_through, of_register, plain}
 use Rattle.site_steps.proofs.Asking.{descriptor_asked}
 use Rattle.site_steps.proofs.Answers.{AsksFromStart}
 use Rattle.site_steps.proofs.Calls.{HasUse, has_called, run_in_place, run_state}

@@ -26,7 +26,7 @@ use Rattle.job_meaning.specs.declared.values.Word.{Word}
 use Rattle.job_meaning.specs.declared.values.Word.TheVariants.{Number, Undefined, Marked}
 use Rattle.job_meaning.specs.declared.values.Token.TheVariants.{Base, Descriptor}
 use Rattle.module_table.specs.declared.events.Event.{Event}
-use Rattle.site_laws.specs.Instructions.{add, add_number, added as added_code, displaced, immediate, load, of_next, of_register, plain, set}
+use Rattle.sequence_laws.specs.Instructions.{add, add_number, added as added_code, displaced, immediate, load, of_next, of_register, plain, set}
 use Rattle.thread_blocks.specs.Instances.{Loads, block_start}
 use Rattle.thread_blocks.specs.MachineTurns.{pointer_of}
 use Rattle.thread_blocks.specs.RunTime.{Runs, thread_accesses}

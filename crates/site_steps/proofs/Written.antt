@@ -18,7 +18,7 @@ use Rattle.job_meaning.specs.declared.values.Word.{Word}
 use Rattle.job_meaning.specs.declared.values.Word.TheVariants.{Number, Marked}
 use Rattle.job_meaning.specs.declared.values.Token.TheVariants.{Base}
 use Rattle.module_table.specs.declared.events.Event.{Event}
-use Rattle.site_laws.specs.Instructions.{add, displaced, load, of_next, of_register, of_thread}
+use Rattle.sequence_laws.specs.Instructions.{add, displaced, load, of_next, of_register, of_thread}
 use Rattle.thread_blocks.specs.Instances.{Loads, block_start}
 use Rattle.thread_blocks.specs.MachineTurns.{pointer_of}
 use Rattle.thread_blocks.specs.RunTime.{Runs, thread_accesses, thread_steps}

@@ -21,7 +21,7 @@ use Rattle.link_needs.specs.Needs.{relocation_need, site_needs, object_needs, ne
 use Rattle.link_needs.specs.Linking.{block_offset, address, offset, choice}
 use Rattle.link_needs.specs.Values.{is_replaced, counts_from_thread_pointer, field}
 use Rattle.got_pairs.specs.Needs.{entries as needed}
-use Rattle.section_file.specs.Files.{placed_object, placed, sections_file}
+use Rattle.placed_sections.specs.Files.{placed_object, placed, sections_file}
 use Rattle.image_writer.specs.Tables.{strings, array, hash_words, symbol_entry, symbol_rows, relocation_entry, tables}
 use Rattle.image_writer.specs.Tables.{tables_part, finished}
 use Rattle.image_file.specs.Tabled.{tabled}

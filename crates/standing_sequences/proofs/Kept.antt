@@ -13,8 +13,8 @@ use Rattle.link_core.specs.Meant.{field_byte, is_in_field, meant_byte, site_byte
 use Rattle.link_needs.specs.Given.{FitsTable}
 use Rattle.link_needs.specs.Linking.{Linking, layout, object}
 use Rattle.link_needs.specs.Values.{field}
-use Rattle.section_file.proofs.Rising.{class_is}
-use Rattle.section_file.proofs.Standing.{HasPlace, has_place, memory_byte}
+use Rattle.placed_sections.proofs.Rising.{class_is}
+use Rattle.placed_sections.proofs.Standing.{HasPlace, has_place, memory_byte}
 use Rattle.sequence_match.specs.Sites.{Covers}
 use Rattle.tls_layout.proofs.LawsOfPlaces.{lie_in_classes}
 use Rattle.tls_layout.proofs.LawsOfSections.{finds_sections}

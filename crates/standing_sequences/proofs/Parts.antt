@@ -23,7 +23,7 @@ use Rattle.link_faults.specs.ImageKinds.{base_of}
 use Rattle.link_needs.specs.Linking.{Linking, layout}
 use Rattle.object_faults.specs.declared.class.SectionClass.{SectionClass}
 use Rattle.object_faults.specs.declared.class.SectionClass.TheVariants.{Executable, ReadOnly, Tls, Writable}
-use Rattle.section_file.specs.Files.{offset_of}
+use Rattle.placed_sections.specs.Files.{offset_of}
 use Rattle.tls_layout.proofs.LawsOfPlaces.{classes_follow}
 use Rattle.tls_layout.specs.declared.extent.Extent.{Extent}
 use Rattle.tls_layout.specs.Laws.{ClassesFollow, extent_for}

@@ -12,7 +12,7 @@ use Rattle.link_needs.specs.Linking.{Linking, choice, object, sites_at}
 use Rattle.link_needs.specs.Needs.{is_kept}
 use Rattle.object_faults.specs.declared.class.SectionClass.TheVariants.{Executable}
 use Rattle.relax_sites.specs.declared.choices.Choice.{Choice}
-use Rattle.section_file.proofs.Standing.{memory_byte}
+use Rattle.placed_sections.proofs.Standing.{memory_byte}
 use Rattle.sequence_forms.specs.declared.forms.Cell.{Cell}
 use Rattle.sequence_forms.specs.declared.places.Site.{Site}
 use Rattle.sequence_forms.specs.Forms.{fits, row}

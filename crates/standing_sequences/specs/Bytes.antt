@@ -15,7 +15,7 @@ use Rattle.link_tables.specs.Faults.{Links}
 use Rattle.relax_sites.specs.declared.choices.Choice.{Choice}
 use Rattle.relax_sites.specs.declared.rows.NewField.{NewField}
 use Rattle.relax_sites.specs.Rows.{new_bytes, new_field}
-use Rattle.section_file.specs.Files.{memory_bytes}
+use Rattle.placed_sections.specs.Files.{memory_bytes}
 use Rattle.sequence_forms.specs.declared.places.Site.{Site}
 use Rattle.sequence_match.specs.Sites.{IsBare}
 use Rattle.tls_layout.specs.Places.{address_of}

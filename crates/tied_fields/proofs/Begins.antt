@@ -1,6 +1,6 @@
 -- A byte of a field has the field's first byte before it, and that one is marked as the field's first.
 use Rattle.std.proofs.Common.{◌≡◌, ◌∙◌, ◌+◌, ◌-◌, ◌≤◌, ℕ, ℤ, Option, Some, refl, sym, ap, arith}
-use Rattle.class_bytes.proofs.Placing.{section_stands}
+use Rattle.memory_image.proofs.Placing.{section_stands}
 use Rattle.elf_object.specs.declared.relocation.Relocation.{Relocation}
 use Rattle.elf_object.specs.Laws.{class_in_table}
 use Rattle.elf_object.specs.Lent.{relocations}

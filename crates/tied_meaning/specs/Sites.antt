@@ -19,7 +19,7 @@ use Rattle.relax_sites.specs.declared.choices.Choice.TheVariants.{GdLe, GdIe, Ld
 use Rattle.relax_sites.specs.Rows.{form_length}
 use Rattle.sequence_forms.specs.declared.forms.Form.{Form}
 use Rattle.sequence_forms.specs.declared.forms.Form.TheVariants.{Gd, Ld, IeMov, IeAdd, GdInd, LdInd, DescLea, DescCall}
-use Rattle.site_laws.specs.Instructions.{displaced, kept_instructions, new_instructions, of_next}
+use Rattle.sequence_laws.specs.Instructions.{displaced, kept_instructions, new_instructions, of_next}
 use Rattle.thread_blocks.specs.Instances.{Loads, block_start}
 use Rattle.thread_blocks.specs.MachineTurns.{pointer_of}
 use Rattle.thread_blocks.specs.RunTime.{has_words}

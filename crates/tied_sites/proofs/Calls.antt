@@ -15,7 +15,7 @@ use Rattle.sequence_forms.specs.declared.forms.Second.{Second}
 use Rattle.sequence_forms.specs.declared.places.Site.{Site}
 use Rattle.sequence_forms.specs.Forms.{row}
 use Rattle.sequence_match.specs.Sites.{first_of}
-use Rattle.site_laws.specs.Instructions.{kept_instructions}
+use Rattle.sequence_laws.specs.Instructions.{kept_instructions}
 use Rattle.thread_blocks.specs.JobLoads.{job_loads}
 use Rattle.tied_meaning.specs.Numbers.{Setting}
 use Rattle.tied_meaning.specs.Sites.{CallsStub, CallsWord, HasCode, HasPair, HasWord, first_length}

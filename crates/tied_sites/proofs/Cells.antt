@@ -36,9 +36,9 @@ use Rattle.sequence_forms.specs.Forms.{fits, register, register_of, row}
 use Rattle.sequence_match.proofs.ApartSites.{sites_apart}
 use Rattle.sequence_match.specs.Faults.{IsSite, code_of}
 use Rattle.sequence_match.specs.Sites.{IsLiteral}
-use Rattle.site_laws.proofs.Kept.{kept_read, kept_whole}
-use Rattle.site_laws.specs.Instructions.{kept_instructions}
-use Rattle.site_laws.specs.Laws.{AreRead, HasCells, number_in, second_in}
+use Rattle.sequence_laws.proofs.Kept.{kept_read, kept_whole}
+use Rattle.sequence_laws.specs.Instructions.{kept_instructions}
+use Rattle.sequence_laws.specs.Laws.{AreRead, HasCells, number_in, second_in}
 use Rattle.thread_blocks.specs.JobLoads.{job_loads}
 use Rattle.tied_meaning.specs.Sites.{HasCode}
 use Rattle.tls_relocs.specs.declared.fields.Field.TheVariants.{Empty}

@@ -6,7 +6,7 @@ use Rattle.amd64_subset.specs.declared.instr.Decoded.{Decoded}
 use Rattle.guest_machine.specs.Ranges.{byte_in}
 use Rattle.guest_operands.specs.declared.space.Access.TheVariants.{Run}
 use Rattle.loaded_modules.specs.declared.instance.Instance.{Instance}
-use Rattle.site_laws.specs.Laws.{AreRead, length_of}
+use Rattle.sequence_laws.specs.Laws.{AreRead, length_of}
 use Rattle.thread_blocks.specs.Instances.{Loads}
 use Rattle.tied_meaning.specs.Sites.{HasCode}
 use Rattle.tls_relocs.specs.Elements.{slice_get-drop}

@@ -27,8 +27,8 @@ use Rattle.sequence_forms.specs.declared.forms.Form.TheVariants.{DescLea, DescCa
 use Rattle.sequence_forms.specs.declared.places.Site.{Site}
 use Rattle.sequence_forms.specs.Forms.{row}
 use Rattle.sequence_match.specs.Sites.{first_of}
-use Rattle.site_laws.specs.Instructions.{kept_instructions}
-use Rattle.site_laws.specs.Laws.{number_in, second_in}
+use Rattle.sequence_laws.specs.Instructions.{kept_instructions}
+use Rattle.sequence_laws.specs.Laws.{number_in, second_in}
 use Rattle.thread_blocks.specs.JobLoads.{job_loads}
 use Rattle.tied_meaning.specs.Numbers.{Setting}
 use Rattle.tied_meaning.specs.Sites.{HasCode, HasDescriptor, HasWord, IsDistance, Stands, first_length}

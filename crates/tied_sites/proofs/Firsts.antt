@@ -45,7 +45,7 @@ use Rattle.sequence_forms.specs.Forms.{IsCallKind, row}
 use Rattle.sequence_match.proofs.Rows.{call_width_is}
 use Rattle.sequence_match.specs.Faults.{IsGetter, IsSite}
 use Rattle.sequence_match.specs.Sites.{HasSecond, first_of}
-use Rattle.site_laws.specs.Laws.{number_in, second_in}
+use Rattle.sequence_laws.specs.Laws.{number_in, second_in}
 use Rattle.tied_meaning.specs.Sites.{first_length}
 use Rattle.tls_relocs.specs.declared.fields.Field.TheVariants.{Empty}
 use Rattle.tls_relocs.specs.Fields.{field_bytes}

@@ -26,7 +26,7 @@ use Rattle.sequence_forms.specs.declared.forms.Form.TheVariants.{IeMov, IeAdd}
 use Rattle.sequence_forms.specs.declared.places.Site.{Site}
 use Rattle.sequence_forms.specs.Forms.{is_initial, row}
 use Rattle.sequence_match.specs.Sites.{first_of}
-use Rattle.site_laws.specs.Laws.{second_in}
+use Rattle.sequence_laws.specs.Laws.{second_in}
 use Rattle.thread_blocks.specs.JobLoads.{job_loads}
 use Rattle.tied_meaning.specs.Numbers.{Setting}
 use Rattle.tied_meaning.specs.Sites.{HasWord, LoadsDistance, Stands, first_length}

@@ -19,9 +19,9 @@ use Rattle.relax_sites.specs.declared.choices.Choice.{Choice}
 use Rattle.relax_sites.specs.declared.rows.NewField.{NewField}
 use Rattle.relax_sites.specs.Rows.{field_of_zeros, form_length, new_bytes, new_field}
 use Rattle.sequence_forms.specs.declared.places.Site.{Site}
-use Rattle.site_laws.proofs.Rewritten.{rewritten_read, rewritten_whole}
-use Rattle.site_laws.specs.Instructions.{new_instructions}
-use Rattle.site_laws.specs.Laws.{AreRead, filled}
+use Rattle.sequence_laws.proofs.Rewritten.{rewritten_read, rewritten_whole}
+use Rattle.sequence_laws.specs.Instructions.{new_instructions}
+use Rattle.sequence_laws.specs.Laws.{AreRead, filled}
 use Rattle.thread_blocks.specs.JobLoads.{job_loads}
 use Rattle.tied_meaning.specs.Sites.{HasCode}
 use Rattle.tls_relocs.specs.declared.fields.Field.TheVariants.{Empty}

@@ -23,7 +23,7 @@ use Rattle.sequence_forms.specs.declared.forms.Form.{Form}
 use Rattle.sequence_forms.specs.declared.places.Site.{Site}
 use Rattle.sequence_match.specs.Faults.{IsSite}
 use Rattle.sequence_match.specs.Sites.{first_of}
-use Rattle.site_laws.specs.Instructions.{new_instructions}
+use Rattle.sequence_laws.specs.Instructions.{new_instructions}
 use Rattle.thread_blocks.specs.JobLoads.{job_loads}
 use Rattle.tied_meaning.specs.Numbers.{Setting}
 use Rattle.tied_meaning.specs.Sites.{AsksForOwnBlock, HasCode, IsDistance, KeptAs, Stands, WrittenAs}

@@ -26,7 +26,7 @@ use Rattle.relax_sites.specs.Rows.{field_of_zeros, form_length, new_field}
 use Rattle.sequence_forms.specs.declared.places.Site.{Site}
 use Rattle.sequence_forms.specs.Forms.{row}
 use Rattle.sequence_match.specs.Sites.{first_of}
-use Rattle.site_laws.specs.Instructions.{new_instructions}
+use Rattle.sequence_laws.specs.Instructions.{new_instructions}
 use Rattle.thread_blocks.specs.JobLoads.{job_loads}
 use Rattle.tied_meaning.specs.Sites.{HasCode}
 use Rattle.tls_relocs.specs.declared.fields.Field.TheVariants.{Empty}

@@ -5,7 +5,7 @@ use Rattle.thread_blocks.specs.MachineTurns.{call_start}
 use Rattle.whole_meaning.specs.Loads.{loads_of}
 use Rattle.whole_meaning.specs.Threads.{ops}
 use Rattle.job_check.specs.Histories.{infos_of}
-use Rattle.meant_space.specs.Kept.{Kept}
+use Rattle.marked_memory.specs.Kept.{Kept}
 use Rattle.job_check.proofs.LinesBegun.{call_begins, call_closed, call_unknown}
 use Rattle.job_check.proofs.lines.call.Goals as goal
 

@@ -1,7 +1,7 @@
 use Rattle.std.proofs.Common.{◌∙◌, sym, ap, subst}
 use Rattle.thread_blocks.specs.Instances.{instances_in}
 use Rattle.job_check.specs.Histories.{infos_of}
-use Rattle.meant_space.specs.Spaces.{HaveOwnNumbers}
+use Rattle.marked_memory.specs.Spaces.{HaveOwnNumbers}
 use Rattle.job_check.proofs.Listed.{live_apart}
 use Rattle.job_check.proofs.lines.see.Goals as goal
 

@@ -1,5 +1,5 @@
 use Rattle.std.proofs.Common.{refl}
-use Rattle.meant_space.specs.Kept.{memory_of}
+use Rattle.marked_memory.specs.Kept.{memory_of}
 use Rattle.job_check.proofs.PlainSteps.{may_write_else, may_write_then}
 use Rattle.job_check.proofs.plain.+may_write_all.Goals as goal
 

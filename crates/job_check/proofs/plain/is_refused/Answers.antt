@@ -1,5 +1,5 @@
 use Rattle.std.proofs.Common.{◌∙◌}
-use Rattle.meant_space.specs.Kept.{memory_of}
+use Rattle.marked_memory.specs.Kept.{memory_of}
 use Rattle.job_check.proofs.PlainSteps.{load_refused}
 use Rattle.job_check.proofs.plain.is_refused.Goals as goal
 

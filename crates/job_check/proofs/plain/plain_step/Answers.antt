@@ -2,7 +2,7 @@ use Rattle.std.proofs.Common.{sym, ap, ◌∙◌}
 use Rattle.amd64_subset.specs.Decoding.{decoded}
 use Rattle.whole_meaning.specs.Reading.{hindrance}
 use Rattle.whole_meaning.specs.Threads.{ops}
-use Rattle.meant_space.specs.Kept.{mark_in}
+use Rattle.marked_memory.specs.Kept.{mark_in}
 use Rattle.job_check.proofs.PlainSteps.{code_read, plain_ends, plain_goes}
 use Rattle.job_check.proofs.plain.plain_step.Goals as goal
 

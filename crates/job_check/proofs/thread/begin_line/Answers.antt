@@ -1,5 +1,5 @@
 use Rattle.std.proofs.Common.{◌∙◌, ◌+◌, ap}
-use Rattle.meant_space.specs.Kept.{Kept}
+use Rattle.marked_memory.specs.Kept.{Kept}
 use Rattle.job_check.specs.Standing.{run_after}
 use Rattle.job_check.proofs.thread.begin_line.Goals as goal
 

@@ -1,7 +1,7 @@
 use Rattle.std.proofs.Common.{◌∙◌, ◌≡◌, ◌-◌, ◌++◌, length, arith, ap}
 use Rattle.link_faults.specs.ImageKinds.{base_of}
 use Rattle.got_pairs.specs.Needs.{total_size}
-use Rattle.section_file.specs.Files.{offset_of}
+use Rattle.placed_sections.specs.Files.{offset_of}
 use Rattle.tls_relocs.specs.Laid.{zeros}
 use Rattle.link_core.specs.Bytes.{table_bytes}
 use Rattle.link_needs.specs.Linking.{Linking, layout}

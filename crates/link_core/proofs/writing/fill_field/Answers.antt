@@ -1,6 +1,6 @@
 use Rattle.std.proofs.Common.{[], ◌∷◌, ◌∙◌, length, refl, ap, arith, sym, subst, ◌+◌, ◌-◌}
 use Rattle.std.specs.Prelude.{unwrap_or}
-use Rattle.section_file.specs.Files.{offset_of}
+use Rattle.placed_sections.specs.Files.{offset_of}
 use Rattle.tls_relocs.specs.Fields.{field_patch}
 use Rattle.tls_relocs.specs.Patches.{patched}
 use Rattle.link_needs.specs.Given.{FitsTable, IsGiven}

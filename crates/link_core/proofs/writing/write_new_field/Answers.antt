@@ -1,6 +1,6 @@
 use Rattle.std.proofs.Common.{◌≡◌, ◌+◌, ◌-◌, ◌∙◌, [], ◌∷◌, Some, zero-add, ap, subst, arith}
 use Rattle.elf_object.specs.declared.relocation.Relocation.{Relocation}
-use Rattle.section_file.specs.Files.{offset_of}
+use Rattle.placed_sections.specs.Files.{offset_of}
 use Rattle.tls_relocs.specs.Fields.{field_patch}
 use Rattle.tls_relocs.specs.Patches.{patched}
 use Rattle.link_needs.specs.Given.{FitsTable, IsGiven}

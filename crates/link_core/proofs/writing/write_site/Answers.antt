@@ -1,5 +1,5 @@
 use Rattle.std.proofs.Common.{◌+◌, ◌∙◌, Some, None, ap, subst, arith}
-use Rattle.section_file.specs.Files.{offset_of}
+use Rattle.placed_sections.specs.Files.{offset_of}
 use Rattle.std.specs.Prelude.{unwrap_or}
 use Rattle.tls_layout.specs.Places.{address_of}
 use Rattle.link_core.specs.Bytes.{with_new_field}

@@ -4,7 +4,7 @@ use Rattle.std.proofs.lemmas.Bool.{eqb-false, eqb-true}
 use Rattle.guest_operands.specs.Ranges.{Range}
 use Rattle.job_meaning.specs.declared.values.Byte.{Byte}
 use Rattle.job_meaning.specs.declared.values.Byte.TheVariants.{Value}
-use Rattle.class_bytes.specs.Tables.{bytes_at}
+use Rattle.memory_image.specs.Tables.{bytes_at}
 use Rattle.meant_images.proofs.DataRanges.{no_data, some_data}
 use Rattle.meant_images.proofs.images.start_of.Goals as goal
 

@@ -1,7 +1,7 @@
 use Rattle.std.proofs.Common.{◌∙◌, sym, ap, subst, arith}
 use Rattle.job_check.specs.Histories.{IsLeftBy}
-use Rattle.meant_space.specs.Kept.{Kept}
-use Rattle.meant_space.specs.Spaces.{HaveOwnNumbers}
+use Rattle.marked_memory.specs.Kept.{Kept}
+use Rattle.marked_memory.specs.Spaces.{HaveOwnNumbers}
 use Rattle.job_check.proofs.FirstTurn.{first_left}
 use Rattle.job_check.proofs.Listed.{live_apart}
 use Rattle.job_check.proofs.WholeTurns.{held_lent}

@@ -2,11 +2,11 @@ use Rattle.std.proofs.Common.{◌≡◌, ◌∙◌, ◌<◌, Option, Some, None,
 use Rattle.std.proofs.lemmas.Option.{slice_get_read}
 use Rattle.std.proofs.lemmas.Result.{IfOk-weaker}
 use Rattle.thread_blocks.specs.Instances.{instances_in}
-use Rattle.meant_space.specs.declared.space.Wanted.TheVariants.{Fixed}
+use Rattle.marked_memory.specs.declared.space.Wanted.TheVariants.{Fixed}
 use Rattle.job_check.specs.declared.thread.Waiting.{Waiting}
 use Rattle.job_check.specs.Histories.{IsLeftBy, infos_of}
-use Rattle.meant_space.specs.Kept.{Kept}
-use Rattle.meant_space.specs.Spaces.{HaveOwnNumbers}
+use Rattle.marked_memory.specs.Kept.{Kept}
+use Rattle.marked_memory.specs.Spaces.{HaveOwnNumbers}
 use Rattle.job_check.specs.Standing.{BeginsLine, ResumesLine, Run, TakesTurn, is_done}
 use Rattle.job_check.proofs.Listed.{live_apart}
 use Rattle.job_check.proofs.WholeTurns.{begins_line, going_within, held_images, held_lent, held_live, held_now, resumes_line}

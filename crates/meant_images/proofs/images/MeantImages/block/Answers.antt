@@ -1,7 +1,7 @@
 use Rattle.std.proofs.Common.{◌≡◌, ◌∙◌, ap, subst, sym}
 use Rattle.std.specs.Prelude.{true}
 use Rattle.object_faults.specs.declared.class.SectionClass.TheVariants.{Tls}
-use Rattle.class_bytes.specs.Tables.{IsClass, Keeps}
+use Rattle.memory_image.specs.Tables.{IsClass, Keeps}
 use Rattle.link_needs.specs.Linking.{Linking, layout}
 use Rattle.tls_layout.specs.Places.{tls_size}
 use Rattle.tls_layout.specs.Sections.{Layout}

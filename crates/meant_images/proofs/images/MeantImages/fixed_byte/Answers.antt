@@ -1,5 +1,5 @@
 use Rattle.std.proofs.Common.{◌≡◌, ◌∙◌, ap, subst, sym}
-use Rattle.class_bytes.specs.Tables.{Keeps}
+use Rattle.memory_image.specs.Tables.{Keeps}
 use Rattle.link_needs.specs.Linking.{Linking}
 use Rattle.thread_blocks.specs.Turns.{at_number}
 use Rattle.whole_meaning.specs.Spots.{bias_of}

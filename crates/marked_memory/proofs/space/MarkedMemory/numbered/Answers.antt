@@ -1,0 +1,11 @@
+-- The list that is walked is that of the live instances.
+use Rattle.std.proofs.Common.{◌∙◌, ◌==◌, ap, sym}
+use Rattle.std.specs.List.{find}
+use Rattle.loaded_modules.specs.declared.instance.Instance.{Instance}
+use Rattle.marked_memory.specs.Kept.{Kept}
+use Rattle.marked_memory.proofs.space.MarkedMemory.numbered.Goals as goal
+
+pub loop-instance-init : goal.loop-instance-init
+loop-instance-init c =
+    ap (find (λ (x : Instance). x.number == c.args.number))
+    (ap (λ (k : Kept). k.live) (sym c.self.view_is) ∙ sym c.deref-instance-items.ensures.value)

@@ -1,0 +1,18 @@
+use Rattle.std.proofs.Common.{◌∙◌, ◌+◌, ◌∷◌, sym, ap, drop}
+use Rattle.placed_sections.specs.Laying.{with_sections}
+use Rattle.placed_sections.specs.Files.{placed_from}
+use Rattle.placed_sections.proofs.Laid.{drop_here, objects_step}
+use Rattle.placed_sections.proofs.laying.push_objects.Goals as goal
+
+pub loop-number-preserved : goal.loop-number-preserved
+loop-number-preserved c =
+    let p = c.args.placement.now in
+    let n = c.loop-number.number in
+    let xs = c.args.objects.now in
+    let b = c.index-objects-number.result in
+    let rest = drop (n + 1) xs in
+    let here = drop_here xs n b c.loop-number-test.true ∙ ap (λ x. x ∷ rest) (sym c.index-objects-number.is) in
+    ap (λ l. with_sections l (placed_from p c.args.class (n + 1) rest)) c.in_ok-push_object.ensures
+    ∙ objects_step p c.args.class n b rest c.loop-number.file.items
+    ∙ ap (λ ys. with_sections c.loop-number.file.items (placed_from p c.args.class n ys)) (sym here)
+    ∙ c.loop-number.invariant

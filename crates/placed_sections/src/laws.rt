@@ -1,0 +1,23 @@
+//! Laws of files of sections. The functions do nothing: what they ensure is the law.
+
+ghost use Rattle.placed_sections.specs.Laws.{FilesEnd, SectionsStand, SectionsFit, GapsAreZero};
+
+/// The file ends where the last class with bytes ends.
+pub fn files_end()
+    ensures { FilesEnd }
+{}
+
+/// Each byte of a section is at its place; it is zero if the section has no bytes in its object's file.
+pub fn sections_stand()
+    ensures { SectionsStand }
+{}
+
+/// A section with bytes lies in the file.
+pub fn sections_fit()
+    ensures { SectionsFit }
+{}
+
+/// All bytes outside sections are zero.
+pub fn gaps_are_zero()
+    ensures { GapsAreZero }
+{}

@@ -1,5 +1,0 @@
-use Rattle.site_laws.proofs.Kept.{kept_whole}
-use Rattle.site_laws.proofs.laws.kept_sites_are_whole.Goals as goal
-
-pub returns : goal.returns
-returns c = kept_whole

@@ -1,5 +1,0 @@
-use Rattle.site_laws.proofs.Rewritten.{rewritten_read}
-use Rattle.site_laws.proofs.laws.rewritten_sites_are_read.Goals as goal
-
-pub returns : goal.returns
-returns c = rewritten_read

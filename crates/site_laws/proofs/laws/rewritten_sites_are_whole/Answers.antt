@@ -1,5 +1,0 @@
-use Rattle.site_laws.proofs.Rewritten.{rewritten_whole}
-use Rattle.site_laws.proofs.laws.rewritten_sites_are_whole.Goals as goal
-
-pub returns : goal.returns
-returns c = rewritten_whole
