@@ -15,8 +15,8 @@ use crate::step::{Stepped, as_step};
 use guest_operands::{State, Stop};
 use job_meaning::{Flag, Word};
 use loaded_modules::Instance;
-use meant_images::MeantImages;
 use marked_memory::MarkedMemory;
+use meant_images::MeantImages;
 use meant_steps::{asks, does, stops};
 use whole_meaning::Sequence;
 

@@ -20,8 +20,8 @@ ghost use Rattle.relax_sites.specs.Rows.{new_field as new_field_of};
 use elf_object::{Relocation, RelocationKind};
 use elf_records::relocation_row::FieldValue;
 use link_needs::{Plan, new_relocation};
-use relax_sites::{NewField, new_field, rewrite};
 use placed_sections::offset_of;
+use relax_sites::{NewField, new_field, rewrite};
 use sequence_match::Site;
 use tls_relocs::{Field, apply};
 

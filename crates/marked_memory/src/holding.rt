@@ -12,9 +12,9 @@ ghost use Rattle.marked_memory.specs.Spaces.{fills, reaches};
 use crate::owned::{OwnedRange, Written, take_bytes};
 use crate::space::{MarkedMemory, Wanted};
 use crate::words::block_start;
-use memory_image::WritableRange;
 use loaded_modules::Instance;
 use marked_bytes::MarkedBytes;
+use memory_image::WritableRange;
 use std::alloc::AllocError;
 
 /// Whether a fresh block of the instance is wanted where the thread has none.

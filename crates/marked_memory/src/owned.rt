@@ -9,10 +9,10 @@ ghost use Rattle.thread_blocks.specs.JobWorlds.{blocks_in, data_in};
 ghost use Rattle.marked_memory.specs.Owners.{LeavesOthers, bytes_for, is_owner};
 ghost use Rattle.marked_memory.specs.Writing.{written_in};
 
-use memory_image::WritableRange;
 use guest_operands::Access;
 use job_meaning::Byte;
 use marked_bytes::MarkedBytes;
+use memory_image::WritableRange;
 use std::alloc::{AllocError, Global};
 use std::marker::Model;
 use std::mem;

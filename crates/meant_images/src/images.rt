@@ -20,13 +20,13 @@ ghost use Rattle.meant_images.specs.declared.images.Tables.{Tables};
 
 use crate::code_marks::{CodeMarks, bias_of};
 use crate::names::{function, info, is_in_room, variable};
-use memory_image::laws::linked_instances_keep_fields;
-use memory_image::{MemoryImage, StillBytes, WritableRange, block_of};
 use elf_object::SectionClass;
 use guest_operands::Access;
 use link_needs::Inputs;
 use loaded_modules::Instance;
 use marked_bytes::MarkedBytes;
+use memory_image::laws::linked_instances_keep_fields;
+use memory_image::{MemoryImage, StillBytes, WritableRange, block_of};
 use module_table::ImageInfo;
 use std::alloc::{AllocError, Global};
 use std::marker::Model;

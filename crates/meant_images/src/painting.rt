@@ -14,9 +14,9 @@ ghost use Rattle.object_faults.specs.declared.class.SectionClass.TheVariants.{Ex
 ghost use Rattle.sequence_forms.specs.declared.places.Site.{Site};
 
 use crate::kept::{KeptObject, own_sites, relocations_of};
-use memory_image::Cells;
 use elf_object::{Object, Relocation};
 use link_needs::Inputs;
+use memory_image::Cells;
 use sequence_match::Site;
 use std::alloc::{AllocError, Global};
 

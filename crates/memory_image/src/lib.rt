@@ -29,15 +29,15 @@
 //! [`laws`] says that the fields of each instance do, if the objects can be linked.
 #![tactic(auto)]
 
-mod memory_image;
 mod fields;
 pub mod laws;
 mod laying;
+mod memory_image;
 mod ranges;
 mod writable_range;
 
-pub use memory_image::MemoryImage;
 pub use fields::Table;
 pub use laying::{Cells, lay};
+pub use memory_image::MemoryImage;
 pub use ranges::{StillBytes, block_of};
 pub use writable_range::WritableRange;

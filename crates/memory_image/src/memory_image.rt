@@ -73,7 +73,11 @@ fn moved_byte(bytes: &[u8], bias: u64, at: usize, k: usize) -> u8
 impl MemoryImage {
     /// Makes the bytes of a class of a link. They are right at every distance at which the image's other fields keep
     /// their values: 0, and 2^32 or more.
-    pub fn of(alloc: Global, inputs: &Inputs, class: SectionClass) -> Result<MemoryImage, AllocError>
+    pub fn of(
+        alloc: Global,
+        inputs: &Inputs,
+        class: SectionClass,
+    ) -> Result<MemoryImage, AllocError>
         requires { HasRange class }
         ensures { IfOk result (IsClass inputs.now class) }
     {
