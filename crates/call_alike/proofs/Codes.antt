@@ -2,6 +2,7 @@
 use Rattle.std.proofs.Common.{◌≡◌, ◌∙◌, ◌+◌, ◌-◌, ◌%◌, ◌^◌, ◌<◌, ◌≤◌, ℕ, zero, suc, Bool, true, false, List, All, length, Option, Some, None, Ok, refl, sym, ap, arith}
 use Rattle.std.specs.Prelude.{slice_get, ℤ}
 use Rattle.std.specs.List.{find, list_any}
+use Rattle.address_map.specs.Map.{owner_at}
 use Rattle.amd64_subset.specs.Spelling.{field_of}
 use Rattle.guest_arithmetic.specs.Plain.{plain_operations}
 use Rattle.guest_operands.specs.declared.space.Access.TheVariants.{Run}
@@ -11,7 +12,6 @@ use Rattle.job_meaning.specs.declared.values.Block.{Block}
 use Rattle.job_meaning.specs.declared.values.Byte.{Byte}
 use Rattle.job_meaning.specs.declared.values.Token.TheVariants.{Base}
 use Rattle.job_meaning.specs.Marked.{marked_operations}
-use Rattle.job_meaning.specs.Owner.{owner_at}
 use Rattle.job_meaning.specs.Reading.{place_at}
 use Rattle.job_meaning.proofs.Fetch.{place-is}
 use Rattle.loaded_modules.specs.declared.instance.Instance.{Instance}

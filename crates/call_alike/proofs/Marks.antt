@@ -3,11 +3,11 @@ use Rattle.std.proofs.Common.{◌≡◌, ◌∙◌, ◌-◌, ◌^◌, ◌<◌, �
 use Rattle.std.specs.Prelude.{option_and_then, ℤ}
 use Rattle.std.specs.List.{find, flat_map, list_any}
 use Rattle.std.proofs.lemmas.Bool.{eqb-true}
+use Rattle.address_map.specs.Map.{owner_at}
 use Rattle.guest_operands.specs.declared.space.Access.TheVariants.{Run}
 use Rattle.guest_machine.specs.Ranges.{byte_in}
 use Rattle.job_meaning.specs.declared.values.Byte.{Byte}
 use Rattle.job_meaning.specs.Marked.{code_byte}
-use Rattle.job_meaning.specs.Owner.{owner_at}
 use Rattle.loaded_modules.specs.declared.instance.Instance.{Instance}
 use Rattle.thread_blocks.specs.Instances.{Loads}
 use Rattle.whole_meaning.specs.declared.marks.Mark.{Mark}

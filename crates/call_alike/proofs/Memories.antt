@@ -3,6 +3,7 @@ use Rattle.std.proofs.Common.{if◌then◌else◌, ◌≡◌, ◌∙◌, ◌-◌
 use Rattle.std.specs.Prelude.{slice_set}
 use Rattle.std.specs.List.{flat_map, list_any}
 use Rattle.std.proofs.lemmas.List.{length-set}
+use Rattle.address_map.specs.Map.{stack_start}
 use Rattle.guest_arithmetic.specs.Plain.{plain_operations}
 use Rattle.guest_operands.specs.declared.space.Access.{Access}
 use Rattle.guest_operands.specs.declared.space.Access.TheVariants.{Read, Write}
@@ -18,7 +19,7 @@ use Rattle.loaded_modules.specs.declared.instance.Instance.{Instance}
 use Rattle.module_table.specs.declared.events.Event.{Event}
 use Rattle.thread_blocks.specs.Held.{Kind, Block, Data, Owner, owned}
 use Rattle.thread_blocks.specs.Instances.{Loads, fixed_at, instances}
-use Rattle.thread_blocks.specs.MachineTurns.{pointer_word, stack_start}
+use Rattle.thread_blocks.specs.MachineTurns.{pointer_word}
 use Rattle.thread_blocks.specs.RunTime.{thread_accesses}
 use Rattle.thread_blocks.specs.Spaces.{FoundAlike, NoneWritable, SameRange, SameSpace, Space, open_everywhere, space_accesses, stack_range}
 use Rattle.thread_blocks.specs.TurnsAlike.{IsFront}

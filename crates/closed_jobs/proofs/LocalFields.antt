@@ -2,13 +2,13 @@
 -- from each thread's base to one address.
 use Rattle.std.proofs.Common.{◌≡◌, ◌∙◌, ◌+◌, ◌-◌, ◌%◌, ◌^◌, ◌==◌, ℕ, Bool, true, false, List, Some, None, refl, ap, arith}
 use Rattle.std.specs.Prelude.{codes, if◌then◌else◌}
+use Rattle.address_map.specs.Map.{pointer_of}
 use Rattle.amd64_subset.specs.Spelling.{field_of}
 use Rattle.amd64_words.specs.Number.{signed_of}
 use Rattle.job_meaning.specs.declared.values.Block.{Block}
 use Rattle.job_meaning.specs.declared.values.Token.TheVariants.{Base}
 use Rattle.loaded_modules.specs.declared.instance.Instance.{Instance}
 use Rattle.thread_blocks.specs.Instances.{block_start}
-use Rattle.thread_blocks.specs.MachineTurns.{pointer_of}
 use Rattle.tied_meaning.specs.Numbers.{IsMade, base_number}
 use Rattle.tied_meaning.specs.Ties.{HasFourBytes}
 use Rattle.closed_jobs.specs.LocalSites.{app, setting}

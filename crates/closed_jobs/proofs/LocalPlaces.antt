@@ -5,11 +5,11 @@ use Rattle.std.proofs.Common.{◌≡◌, ◌∙◌, ◌+◌, ◌<◌, ◌≤◌,
 use Rattle.std.specs.List.{list_all}
 use Rattle.std.proofs.lemmas.Bool.{and_parts, lt-ltb}
 use Rattle.std.proofs.lemmas.List.Elements.{All-cons, All-nil}
+use Rattle.address_map.specs.Map.{owner_at}
 use Rattle.guest_machine.specs.Ranges.{Range, byte_in, holds}
 use Rattle.guest_operands.specs.declared.space.Access.{Access}
 use Rattle.guest_operands.specs.declared.space.Access.TheVariants.{Read, Run}
 use Rattle.job_meaning.specs.declared.values.Byte.{Byte}
-use Rattle.job_meaning.specs.Owner.{owner_at}
 use Rattle.thread_blocks.specs.Spaces.{NoneWritable}
 use Rattle.tied_meaning.specs.Ties.{IsPlaceOf}
 use Rattle.closed_jobs.specs.LocalSites.{app}

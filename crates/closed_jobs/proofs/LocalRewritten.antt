@@ -1,6 +1,7 @@
 -- The rewritten program with local dynamic code and a descriptor: what stands at its sites does what is meant there.
 use Rattle.std.proofs.Common.{◌≡◌, ◌-◌, ◌%◌, ◌^◌, ℕ, true, Some, None, refl, sym, subst, arith}
 use Rattle.std.specs.Prelude.{codes}
+use Rattle.address_map.specs.Map.{pointer_of}
 use Rattle.amd64_subset.specs.declared.instr.Operation.TheVariants.{Nop}
 use Rattle.amd64_words.specs.declared.register.Register.TheVariants.{Rax}
 use Rattle.loaded_modules.specs.declared.instance.Instance.{Instance}
@@ -8,7 +9,6 @@ use Rattle.relax_sites.specs.declared.choices.Choice.TheVariants.{DescLe, LdLe}
 use Rattle.sequence_forms.specs.Forms.{row}
 use Rattle.sequence_laws.specs.Instructions.{displaced, immediate, load, of_thread, plain, set}
 use Rattle.thread_blocks.specs.Instances.{Loads, block_start}
-use Rattle.thread_blocks.specs.MachineTurns.{pointer_of}
 use Rattle.tied_meaning.specs.Sites.{IsDistance, Stands}
 use Rattle.guest_machine.specs.Use.{plus}
 use Rattle.whole_meaning.specs.Sequences.{variable_distance}

@@ -1,5 +1,6 @@
 -- What jobs mean, with all that it is computed by open: the objects' files in, and out what is printed.
 use Rattle.std.proofs.Common.{ℕ, List}
+use Rattle.address_map.specs.Map.{owner_at}
 use Rattle.job_text.specs.declared.thread_lines.ThreadLine.{ThreadLine}
 use Rattle.link_needs.specs.Linking.{Linking}
 use Rattle.amd64_subset.specs.Beginning.{begins_of}
@@ -27,7 +28,6 @@ use Rattle.guest_operands.specs.State.{register_of, with_register, start_of}
 use Rattle.guest_machine.specs.Step.{is_cleared, immediate_of, finished, concluded, move_in, stored, store_byte, move_number, move_of, extend_byte, extend_long, load_address, compute_in, compute_out, add_field, compute_plain, compute_number, compute_of, test_of, multiply_of, shift_of, pushed, push_of, pop_of, leave_of, return_of, call_of, jump_of, jump_if, nop_of, act}
 use Rattle.guest_machine.specs.Touch.{touches_of, touched}
 use Rattle.job_meaning.specs.Marked.{marked_operations}
-use Rattle.job_meaning.specs.Owner.{owner_at}
 use Rattle.job_meaning.specs.Reading.{completed}
 use Rattle.link_needs.specs.Linking.{block_offset, address, offset}
 use Rattle.module_table.specs.Past.{start, open_refusal, close_refusal, least_free, loaded, retained, released, opened, after_one, past}

@@ -2,7 +2,7 @@
 //!
 //! The images are ready to be written, and no byte of them is laid. `run` writes them all, `link` writes only the one
 //! that it puts, and `check` and `sites` write none.
-ghost use Rattle.std.specs.Prelude.{◌≡◌, ◌<◌, All, IfOk, length};
+ghost use Rattle.std.specs.Prelude.{◌<◌, All, IfOk, length};
 ghost use Rattle.command_replies.specs.Faults.{NoStoreFault};
 ghost use Rattle.command_replies.specs.Steps.{Comes};
 ghost use Rattle.commands.specs.InOrder.{AreLinked};

@@ -1,5 +1,5 @@
 //! `link`: puts an image into a file.
-ghost use Rattle.std.specs.Prelude.{◌≡◌, ◌⊎◌, length, IfErr, IfOk, IfSome, OnOk, Some};
+ghost use Rattle.std.specs.Prelude.{◌≡◌, ◌⊎◌, length, IfErr, IfOk, IfSome, OnOk};
 ghost use Rattle.command_replies.specs.Faults.{IsFetchFault, KeepsFiles, StoreCounts};
 ghost use Rattle.command_replies.specs.Steps.{Asks, Comes};
 ghost use Rattle.commands.specs.Links.{Leaves, LinkSays, image_names, linked_text};

@@ -3,7 +3,7 @@
 //! `run`, `check`, `link` and `sites` take these steps, and so does `gen`, which begins with files that it
 //! made. The command (`Purpose`) decides only the last step (`endings`). Each function returns the
 //! command's output, or a refusal.
-ghost use Rattle.std.specs.Prelude.{◌≡◌, ℕ, List, IfSome, Some, Ok, map};
+ghost use Rattle.std.specs.Prelude.{◌≡◌, ℕ, List, IfSome, Ok, map};
 ghost use Rattle.command_line.specs.Rewritings.{is_allowed};
 ghost use Rattle.command_replies.specs.Faults.{NoStoreFault, StoreCounts};
 ghost use Rattle.command_replies.specs.Steps.{Asks, Comes};

@@ -1,6 +1,7 @@
 -- What the first look of a line comes to: of any line by its parts, and of lines that call or show bytes.
 use Rattle.std.proofs.Common.{◌≡◌, ◌∙◌, ◌+◌, ◌-◌, ◌<◌, ◌%◌, ◌^◌, ℕ, Bool, true, false, List, [], Option, Some, None, length, refl, sym, ap, subst, arith}
 use Rattle.std.specs.Prelude.{nat_le, slice_range}
+use Rattle.address_map.specs.Map.{pointer_of, stack_end}
 use Rattle.guest_operands.specs.declared.state.State.{State}
 use Rattle.guest_operands.specs.State.{start_of}
 use Rattle.job_meaning.specs.declared.values.Byte.{Byte}
@@ -19,7 +20,7 @@ use Rattle.transcript_text.specs.declared.outcomes.Outcome.TheVariants.{Refused}
 use Rattle.thread_blocks.specs.Held.{block_bytes}
 use Rattle.thread_blocks.specs.Instances.{block_start, instance_at, instances_in, loaded_instance}
 use Rattle.thread_blocks.specs.Lines.{Line, begun_at, begun_by, begun_in, begun_peek, event_by, shown_from, shown_in}
-use Rattle.thread_blocks.specs.MachineTurns.{call_start, fresh_stack, pointer_of, stack_end}
+use Rattle.thread_blocks.specs.MachineTurns.{call_start, fresh_stack}
 use Rattle.thread_blocks.specs.Turns.{Answered, Begun, Says as SaysSo, with_event}
 use Rattle.whole_meaning.specs.declared.unclean.UncleanStep.{UncleanStep}
 use Rattle.whole_meaning.specs.Jobs.{unclean_ending}

@@ -2,6 +2,7 @@
 -- bytes are as they were.
 use Rattle.std.proofs.Common.{◌≡◌, ℕ, zero, suc, ◌++◌, List, [], ◌∷◌, Option, Some, None, refl, sym, ap, ◌∙◌}
 use Rattle.std.proofs.lemmas.List.{append_cancel_right}
+use Rattle.address_map.specs.Map.{stack_start}
 use Rattle.guest_machine.specs.declared.touch.Direction.{Direction}
 use Rattle.guest_machine.specs.declared.touch.Direction.TheVariants.{Load, Store}
 use Rattle.guest_machine.specs.declared.touch.Touch.{Touch}
@@ -11,7 +12,6 @@ use Rattle.guest_operands.specs.Access.{Accesses, all_write, bytes_at, bytes_in,
 use Rattle.guest_operands.specs.Ranges.{AddressSpace, Range}
 use Rattle.job_meaning.specs.declared.values.Byte.{Byte}
 use Rattle.thread_blocks.specs.Held.{Owned, owned, owners_of, ranges_in}
-use Rattle.thread_blocks.specs.MachineTurns.{stack_start}
 use Rattle.thread_blocks.specs.Spaces.{IsImage, stack_range}
 use Rattle.marked_memory.specs.Kept.{Kept, Shape, fixed_in, lent_range, memory_of, ranges_of_kept, shape_of, with_lent}
 use Rattle.marked_memory.proofs.SpaceImages.{SameShape, same_shape}

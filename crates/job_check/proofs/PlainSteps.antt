@@ -2,6 +2,7 @@
 use Rattle.std.proofs.Common.{◌≡◌, ℕ, zero, suc, ◌-◌, ◌==◌, Bool, true, false, List, Option, Some, None, Result, Ok, Err, arith, is_some, not, take, refl, sym, ap, ◌∙◌}
 use Rattle.std.specs.Prelude.{if◌then◌else◌, ◌&&◌, is_err, ok_or}
 use Rattle.std.specs.List.{find, list_any}
+use Rattle.address_map.specs.Map.{owner_at}
 use Rattle.amd64_subset.specs.declared.instr.Decoded.{Decoded}
 use Rattle.amd64_subset.specs.Decoding.{decoded}
 use Rattle.guest_arithmetic.specs.declared.cause.Cause.{Cause}
@@ -20,7 +21,6 @@ use Rattle.guest_operands.specs.Use.{After, left, there}
 use Rattle.job_meaning.specs.declared.values.Byte.{Byte}
 use Rattle.job_meaning.specs.declared.values.Flag.{Flag}
 use Rattle.job_meaning.specs.declared.values.Word.{Word}
-use Rattle.job_meaning.specs.Owner.{owner_at}
 use Rattle.job_meaning.specs.Reading.{beside_linker, linker_with}
 use Rattle.loaded_modules.specs.declared.instance.Instance.{Instance}
 use Rattle.module_table.specs.declared.events.Event.{Event}

@@ -1,13 +1,13 @@
 -- What follows a look in the middle of a call is what is meant.
 use Rattle.std.proofs.Common.{◌≡◌, ℕ, ◌==◌, ◌++◌, false, List, [], Option, Some, None, Result, Ok, Err, append-nil, refl, sym, ap, ◌∙◌}
 use Rattle.std.specs.List.{find}
+use Rattle.address_map.specs.Map.{owner_at}
 use Rattle.guest_operands.specs.declared.state.State.{State}
 use Rattle.guest_operands.specs.declared.stop.Stop.{Stop}
 use Rattle.guest_operands.specs.Use.{After, left}
 use Rattle.job_meaning.specs.declared.values.Byte.{Byte}
 use Rattle.job_meaning.specs.declared.values.Flag.{Flag}
 use Rattle.job_meaning.specs.declared.values.Word.{Word}
-use Rattle.job_meaning.specs.Owner.{owner_at}
 use Rattle.loaded_modules.specs.declared.instance.Instance.{Instance}
 use Rattle.module_table.specs.declared.events.Event.{Event}
 use Rattle.thread_blocks.specs.Held.{Owned, held_of, owned, owners_of, ranges_in, reached, reached_at}

@@ -1,6 +1,7 @@
 -- The step of a sequence, as the code makes it.
 use Rattle.std.proofs.Common.{◌≡◌, ℕ, ◌&&◌, ◌==◌, Bool, true, false, List, [], Option, Some, None, Result, Ok, Err, map, nat_lt, refl, sym, ap, ◌∙◌}
 use Rattle.std.specs.List.{find}
+use Rattle.address_map.specs.Map.{stack_start}
 use Rattle.guest_arithmetic.specs.Cause.{both}
 use Rattle.guest_machine.specs.Run.{Next, next_of}
 use Rattle.guest_operands.specs.declared.state.State.{State}
@@ -17,7 +18,6 @@ use Rattle.module_table.specs.Past.{startup_count}
 use Rattle.sequence_forms.specs.declared.forms.Form.{Form}
 use Rattle.sequence_forms.specs.declared.forms.Form.TheVariants.{Gd, Ld, IeMov, IeAdd, GdInd, LdInd, DescLea, DescCall}
 use Rattle.thread_blocks.specs.Instances.{instances}
-use Rattle.thread_blocks.specs.MachineTurns.{stack_start}
 use Rattle.thread_blocks.specs.Spaces.{mapped}
 use Rattle.whole_meaning.specs.declared.sequences.Sequence.{Sequence}
 use Rattle.whole_meaning.specs.Loads.{info_of, loads_of, meaning_of}

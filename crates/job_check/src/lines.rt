@@ -11,14 +11,15 @@ ghost use Rattle.whole_meaning.specs.Threads.{ops};
 ghost use Rattle.job_check.specs.Histories.{IsLeftBy, infos_of};
 ghost use Rattle.job_check.specs.Lines.{BeginsCall, BeginsClose, BeginsOpen, BeginsPeek, LoadsNew, Sees, Starts, byte_cause, is_for, shown_step, step_in, unclean_bytes, unclean_for};
 
-use crate::live::{block_start, live_instance, live_instances};
+use crate::live::{live_instance, live_instances};
 use crate::verdict::unclean_stop;
+use address_map::{stack_end, thread_pointer};
 use guest_arithmetic::Cause;
 use guest_operands::{State, Stop, start};
 use job_meaning::{Byte, Flag, MarkedValues, Token, Word};
 use job_text::{Action, ThreadLine};
 use loaded_modules::Instance;
-use marked_memory::{MarkedMemory, Wanted};
+use marked_memory::{MarkedMemory, Wanted, block_start};
 use module_table::{Event, ModuleTable};
 use std::alloc::{AllocError, Global};
 use whole_meaning::UncleanStep;
@@ -42,8 +43,7 @@ fn registers_at(thread: u32, place: u64, a: u64, b: u64, c: u64) -> State<Word, 
     requires { thread ≤ 64 }
     ensures { result ≡ call_start ops thread place a b c }
 {
-    let thread = u64::from(thread);
-    let stack = thread * (1 << 40) + (1 << 39) - 8;
+    let stack = stack_end(thread) - 8;
     let mut state = start::<MarkedValues>(
         place,
         stack,
@@ -51,7 +51,7 @@ fn registers_at(thread: u32, place: u64, a: u64, b: u64, c: u64) -> State<Word, 
         Word::Number(b),
         Word::Number(c),
     );
-    state.thread_pointer = thread * (1 << 40) + (1 << 38);
+    state.thread_pointer = thread_pointer(thread);
     state
 }
 

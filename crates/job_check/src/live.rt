@@ -1,7 +1,7 @@
 //! The instances that a history leaves, and where their blocks are.
 
-ghost use Rattle.std.specs.Prelude.{◌≡◌, ◌≤◌, ◌<◌, ◌^◌, IfOk};
-ghost use Rattle.thread_blocks.specs.Instances.{block_start, instances_in, loaded_instance};
+ghost use Rattle.std.specs.Prelude.{◌≡◌, ◌<◌, IfOk};
+ghost use Rattle.thread_blocks.specs.Instances.{instances_in, loaded_instance};
 ghost use Rattle.module_table.specs.Past.{module_of};
 ghost use Rattle.job_check.specs.Histories.{IsLeftBy, infos_of};
 
@@ -54,20 +54,4 @@ pub(crate) fn live_instances(
         }
     }
     Ok(live)
-}
-
-/// The address of a thread's block of an instance.
-pub(crate) fn block_start(thread: u32, instance: &Instance) -> u64
-    requires { thread ≤ 64 }
-    ensures value { result ≡ block_start thread instance.now }
-    ensures low { result < 2 ^ 57 }
-{
-    let thread = u64::from(thread);
-    match instance.offset {
-        Some(offset) => (thread * (1 << 40) + (1 << 38)).saturating_sub(offset),
-        None => {
-            let number = instance.number;
-            thread * (1 << 40) + u64::from(number) * (1 << 24)
-        }
-    }
 }

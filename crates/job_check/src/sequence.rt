@@ -10,12 +10,11 @@ ghost use Rattle.whole_meaning.specs.Sequences.{asks, looks_first};
 ghost use Rattle.whole_meaning.specs.Threads.{sequence_next, start_in};
 ghost use Rattle.job_check.specs.Stepping.{Makes, StepsAs, next_as, sequence_made, space_of};
 
-use crate::live::block_start;
 use crate::step::{Stepped, as_step};
 use guest_operands::{State, Stop};
 use job_meaning::{Flag, Word};
 use loaded_modules::Instance;
-use marked_memory::MarkedMemory;
+use marked_memory::{MarkedMemory, block_start};
 use meant_images::MeantImages;
 use meant_steps::{asks, does, stops};
 use whole_meaning::Sequence;

@@ -1,5 +1,5 @@
 -- The objects that a job names, in the order in which its lines mention them, and their bytes.
-use Rattle.std.specs.Prelude.{◌≡◌, ◌-◌, ℕ, List, [], ◌∷◌, map, slice_get, unwrap_or}
+use Rattle.std.specs.Prelude.{◌≡◌, ◌-◌, ℕ, List, [], map, slice_get, unwrap_or}
 use Rattle.std.specs.Prelude.{IsSome}
 use Rattle.std.specs.List.{All, filter_map, find, flat_map}
 use Rattle.std.specs.Option.{option_map}

@@ -1,6 +1,6 @@
 //! Whether objects may have data that programs write.
 
-ghost use Rattle.std.specs.Prelude.{◌≡◌, MatchOption};
+ghost use Rattle.std.specs.Prelude.{MatchOption};
 ghost use Rattle.job_link.specs.Given.{Allows, IsDataFaultOf};
 
 use elf_object::{FaultKind, Object, ObjectFault};

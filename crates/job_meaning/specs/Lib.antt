@@ -1,4 +1,3 @@
 pub mod Marked
 pub mod MarkedLaws
-pub mod Owner
 pub mod Reading

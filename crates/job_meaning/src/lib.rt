@@ -30,5 +30,5 @@ pub mod laws;
 mod marked;
 mod values;
 
-pub use marked::{MarkedValues, owner};
+pub use marked::MarkedValues;
 pub use values::{Block, Byte, Flag, Token, Word};

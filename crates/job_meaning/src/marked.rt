@@ -6,24 +6,13 @@ ghost use Rattle.guest_arithmetic.specs.Four.{bytes_of};
 ghost use Rattle.guest_arithmetic.specs.Values.{number_from};
 ghost use Rattle.job_meaning.specs.Marked.{marked_operations, is_same_block, is_same, cause_of, values_of, are_parts, whole, joined_as};
 ghost use Rattle.job_meaning.specs.MarkedLaws.{marked_lawful};
-ghost use Rattle.job_meaning.specs.Owner.{owner_at};
 
 use crate::values::{Block, Byte, Flag, Token, Word};
+use address_map::owner;
 use guest_arithmetic::{Cause, Four, Values};
 
 /// Marked values, for a machine that decides whether a program is clean.
 pub struct MarkedValues;
-
-/// The instance whose code lies at an address.
-#[tactic(auto, unfolding(crate::specs::Owner::owner_at))]
-pub fn owner(place: u64) -> u64
-    ensures { result ≡ owner_at place }
-{
-    if place < 1 << 32 {
-        return 1;
-    }
-    (place - (1 << 32)) / (1 << 26)
-}
 
 fn is_same_block(block: &Block, other: &Block) -> bool
     ensures { result ≡ is_same_block block.now other.now }

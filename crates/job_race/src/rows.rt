@@ -1,6 +1,6 @@
 //! Rows of threads that run at once, each split in halves.
 
-ghost use Rattle.std.specs.Prelude.{◌≡◌, ◌≤◌, ◌+◌, ◌-◌, ◌*◌, ◌/◌, IfOk};
+ghost use Rattle.std.specs.Prelude.{◌≡◌, ◌≤◌, ◌+◌, ◌-◌, ◌/◌, IfOk};
 ghost use Rattle.std.specs.Thread.{IsSync};
 ghost use Rattle.shared_modules.specs.Passes.{left_pass, right_pass};
 ghost use Rattle.job_race.specs.Rows.{CanRace, HasRow, IsReady};

@@ -3,6 +3,7 @@ use Rattle.std.proofs.Common.{◌≡◌, ℕ, ◌+◌, ◌-◌, Bool, true, fals
 use Rattle.std.specs.Prelude.{if◌then◌else◌, slice_set}
 use Rattle.std.specs.List.{filter}
 use Rattle.std.proofs.lemmas.List.{append_cancel_right}
+use Rattle.address_map.specs.Map.{stack_start}
 use Rattle.guest_arithmetic.specs.Plain.{plain_operations}
 use Rattle.guest_arithmetic.specs.Values.{Operations}
 use Rattle.guest_operands.specs.declared.space.Access.TheVariants.{Write}
@@ -19,7 +20,7 @@ use Rattle.module_table.specs.Past.{Past}
 use Rattle.thread_blocks.specs.Held.{ranges_in}
 use Rattle.thread_blocks.specs.Instances.{fixed_at, fixed_of, instances_in}
 use Rattle.thread_blocks.specs.JobLoads.{job_loads, loaded_parts}
-use Rattle.thread_blocks.specs.MachineTurns.{pointer_word, stack_start}
+use Rattle.thread_blocks.specs.MachineTurns.{pointer_word}
 use Rattle.thread_blocks.specs.RunTime.{thread_accesses}
 use Rattle.thread_blocks.specs.Spaces.{Space, NoneWritable, IsImage, address_space_of, after_of, no_field, open_everywhere, outcome_image, space_accesses, stack_range}
 use Rattle.thread_blocks.proofs.Image.{machine_image, run_image}

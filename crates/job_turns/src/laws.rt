@@ -1,6 +1,6 @@
 //! Laws of runners. Each function does nothing; its contract is the law.
 
-ghost use Rattle.std.specs.Prelude.{◌≡◌, false, [], ℕ};
+ghost use Rattle.std.specs.Prelude.{◌≡◌, false, []};
 ghost use Rattle.loaded_modules.specs.declared.instance.Instance.{Instance};
 ghost use Rattle.loaded_modules.specs.Images.{JobImages};
 ghost use Rattle.module_data.specs.Parts.{fresh_data};

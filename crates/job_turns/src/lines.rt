@@ -6,23 +6,23 @@ ghost use Rattle.loaded_modules.specs.Images.{infos};
 ghost use Rattle.module_table.specs.History.{unless};
 ghost use Rattle.module_table.specs.Past.{accepts, close_refusal, module_of, open_refusal, opened};
 ghost use Rattle.thread_blocks.specs.Instances.{loaded_instance};
-ghost use Rattle.thread_blocks.specs.JobLoads.{job_loads};
 ghost use Rattle.thread_blocks.specs.Lines.{refused_close, refused_open};
 ghost use Rattle.thread_blocks.specs.MachineTurns.{call_start};
 ghost use Rattle.job_turns.specs.Asking.{answer_to, ask_by, closed_at, opened_at};
 ghost use Rattle.thread_space.specs.Live.{HasStartups, IsLive};
-ghost use Rattle.job_turns.specs.Starting.{Begins, BeginsCall, BeginsClose, BeginsOpen, BeginsPeek, LoadsNew, ReachesLive, Sees, Starts};
+ghost use Rattle.job_turns.specs.Starting.{BeginsCall, BeginsClose, BeginsOpen, BeginsPeek, LoadsNew, ReachesLive, Sees, Starts};
 ghost use Rattle.job_turns.specs.Starting.{part_shown, shown_of};
 ghost use Rattle.thread_vector.specs.Vectors.{held};
 
 use crate::asking::LineAnswer;
+use address_map::{stack_end, thread_pointer};
 use guest_arithmetic::Plain;
 use guest_machine::Machine;
 use job_text::{Action, ThreadLine};
 use loaded_modules::Instance;
 use module_table::{Closed, Event, Opened};
 use std::alloc::{AllocError, Global};
-use thread_space::{JobNames, ThreadSpace, end_of_stack, thread_pointer};
+use thread_space::{JobNames, ThreadSpace};
 use transcript_text::{Bytes, LineRefusal, Outcome};
 
 /// The result of a line's first look.
@@ -48,7 +48,7 @@ fn machine_at(thread: u32, place: u64, a: u64, b: u64, c: u64) -> Machine<Plain>
     ensures state { result.state ≡ call_start plain_operations thread place a b c }
     ensures fresh { result.taken ≡ 0 }
 {
-    let stack = end_of_stack(thread) - 8;
+    let stack = stack_end(thread) - 8;
     let mut machine = Machine::<Plain>::start(place, stack, a, b, c);
     machine.set_thread_pointer(thread_pointer(thread));
     machine

@@ -1,6 +1,6 @@
 //! A thread's lines, turn by turn.
 
-ghost use Rattle.std.specs.Prelude.{◌≡◌, ◌≤◌, ◌<◌, ◌+◌, ◌*◌, ◌^◌, ◌∷◌, ◌++◌, ℕ, List, None, true, false, [], IfOk, OnOk, length, option_map, slice_get};
+ghost use Rattle.std.specs.Prelude.{◌≡◌, ◌≤◌, ◌<◌, ◌+◌, ◌*◌, ◌^◌, None, true, false, IfOk, OnOk, length, option_map};
 ghost use Rattle.module_table.specs.Past.{after, is_legal};
 ghost use Rattle.thread_vector.specs.Holding.{IsLeftBy};
 ghost use Rattle.job_turns.specs.Alone.{TakesOwnTurn, has_data};

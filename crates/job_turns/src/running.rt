@@ -11,6 +11,7 @@ ghost use Rattle.thread_blocks.specs.RunTime.{answer_word};
 ghost use Rattle.thread_space.specs.Kept.{memory_of, shape_of};
 ghost use Rattle.job_turns.specs.Running.{AnswersLook, Resumes, RunsOn, RunsPart, asked_in, asked_words, word_in};
 
+use address_map::thread_pointer;
 use guest_arithmetic::Plain;
 use guest_machine::laws::plain_is_clean;
 use guest_machine::{DESCRIPTOR, Machine, Stop, is_look};
@@ -18,7 +19,7 @@ use guest_memory::Bytes;
 use loaded_modules::Instance;
 use std::alloc::AllocError;
 use thread_blocks::Asked;
-use thread_space::{ThreadSpace, thread_pointer};
+use thread_space::ThreadSpace;
 
 /// The numbers of the registers that may hold the address of the words that ask.
 const RAX: u8 = 0;

@@ -5,7 +5,7 @@ ghost use Rattle.guest_machine.specs.Clean.{IsClean};
 ghost use Rattle.thread_blocks.specs.MachineTurns.{answer_of_stop};
 ghost use Rattle.job_turns.specs.Asking.{answer_to, ask_by};
 ghost use Rattle.thread_space.specs.Live.{HasStartups};
-ghost use Rattle.job_turns.specs.Taking.{BeginsTo, HasStepsLeft, ResumesTo, RunsTo};
+ghost use Rattle.job_turns.specs.Taking.{BeginsTo, ResumesTo, RunsTo};
 
 use crate::asking::LineAnswer;
 use crate::lines::{Started, begin};

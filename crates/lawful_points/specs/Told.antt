@@ -1,6 +1,5 @@
 -- The looks that the printed lines of a thread tell: their points, and the events that they added.
 use Rattle.std.specs.Prelude.{◌≡◌, ◌+◌, ◌≤◌, ℕ, true, false, List, [], ◌∷◌, ◌++◌, length, map, Option, Some, None, is_some, if◌then◌else◌}
-use Rattle.std.specs.List.{flat_map}
 use Rattle.job_text.specs.declared.thread_lines.Action.{Action}
 use Rattle.job_text.specs.declared.thread_lines.Action.TheVariants.{Call, Open, Close, Peek}
 use Rattle.module_table.specs.declared.events.Event.{Event}

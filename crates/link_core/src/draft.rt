@@ -1,6 +1,6 @@
 //! The parts of an image, and the image that they make.
 
-ghost use Rattle.std.specs.Prelude.{◌≡◌, ◌<◌, ◌++◌, IfOk, OnOk, length};
+ghost use Rattle.std.specs.Prelude.{◌≡◌, ◌<◌, ◌++◌, IfOk, OnOk};
 ghost use Rattle.link_tables.specs.Dynamic.{is_flagged};
 ghost use Rattle.link_needs.specs.Linking.{layout};
 ghost use Rattle.link_core.specs.Images.{file_kind, filled, got_number, got_places, section_places};

@@ -3,7 +3,6 @@
 ghost use Rattle.std.specs.Prelude.{◌≡◌, ◌-◌, ◌<◌, ◌^◌, ℕ, [], IfErr, IfOk, OnOk, length, map, slice_index_or};
 ghost use Rattle.image_writer.specs.Contents.{contents_of};
 ghost use Rattle.sequence_match.specs.Faults.{AreSites};
-ghost use Rattle.sequence_match.specs.Sites.{HaveSymbols};
 ghost use Rattle.tls_symbols.specs.Bindings.{object_at};
 ghost use Rattle.placed_sections.specs.Files.{sections_file};
 ghost use Rattle.link_needs.specs.Linking.{layout, link_of};

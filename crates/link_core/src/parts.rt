@@ -4,7 +4,6 @@
 
 ghost use Rattle.std.specs.Prelude.{◌≡◌, ◌+◌, ◌<◌, ◌≤◌, ◌^◌, Some, length};
 ghost use Rattle.std.specs.Thread.{IsSync};
-ghost use Rattle.tls_symbols.specs.Bindings.{object_at};
 ghost use Rattle.link_core.specs.Bytes.{raw_file, with_fields_from};
 ghost use Rattle.link_core.specs.Parts.{EndsBehind, IsCut, IsPart, IsWritten};
 

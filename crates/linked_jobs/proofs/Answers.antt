@@ -1,6 +1,7 @@
 -- What general dynamic sequences and calls of descriptors leave in %rax, by meaning and by machine.
 use Rattle.std.proofs.Common.{◌≡◌, ◌∙◌, ◌⊎◌, ◌-◌, ◌^◌, ◌<◌, ◌≤◌, ℕ, zero, suc, Bool, true, false, List, Option, Some, None, Result, Ok, Err, refl, sym, ap, subst, inl, inr, arith}
 use Rattle.std.specs.Prelude.{◌&&◌, option_and_then}
+use Rattle.address_map.specs.Map.{owner_at, pointer_of}
 use Rattle.guest_arithmetic.specs.declared.cause.Cause.{Cause}
 use Rattle.guest_operands.specs.declared.state.State.{State}
 use Rattle.guest_operands.specs.declared.stop.Stop.{Stop}
@@ -11,7 +12,6 @@ use Rattle.guest_machine.specs.Simulate.{Advances, Moves}
 use Rattle.job_meaning.specs.declared.values.Flag.{Flag}
 use Rattle.job_meaning.specs.declared.values.Word.{Word}
 use Rattle.job_meaning.specs.declared.values.Word.TheVariants.{Number}
-use Rattle.job_meaning.specs.Owner.{owner_at}
 use Rattle.loaded_modules.specs.declared.instance.Instance.{Instance}
 use Rattle.module_table.specs.declared.events.Event.{Event}
 use Rattle.module_table.specs.Past.{startup_count}
@@ -19,7 +19,6 @@ use Rattle.sequence_forms.specs.declared.forms.Form.{Form}
 use Rattle.sequence_forms.specs.declared.forms.Form.TheVariants.{Gd, GdInd, Ld, LdInd, IeMov, IeAdd, DescLea, DescCall}
 use Rattle.thread_blocks.specs.Held.{looked, reached}
 use Rattle.thread_blocks.specs.Instances.{Loads, block_start, numbered_instance}
-use Rattle.thread_blocks.specs.MachineTurns.{pointer_of}
 use Rattle.thread_blocks.specs.RunTime.{Runs, resume_line, thread_steps}
 use Rattle.thread_blocks.specs.Turns.{Answered, Begun, Calls, Says}
 use Rattle.thread_blocks.specs.TurnsAlike.{IsFront, SameBegun}

@@ -1,5 +1,6 @@
 -- What a thread of linked images does while its meaning is in a call, and what it finds there by TLS sequences.
 use Rattle.std.specs.Prelude.{◌≡◌, ◌⊎◌, ◌+◌, ◌*◌, ◌≤◌, ℕ, Bool, List, Some, None, length}
+use Rattle.address_map.specs.Map.{pointer_of}
 use Rattle.guest_machine.specs.Run.{Stepping, Goes, Looks}
 use Rattle.guest_machine.specs.Simulate.{Moves}
 use Rattle.guest_machine.specs.Use.{plus}
@@ -19,7 +20,6 @@ use Rattle.thread_blocks.specs.Instances.{Loads, block_start}
 use Rattle.thread_blocks.specs.JobLoads.{job_loads}
 use Rattle.thread_blocks.specs.JobWorlds.{Shared, job_start as runs_start, shared_order, with_data}
 use Rattle.thread_blocks.specs.Lines.{Line, event_by}
-use Rattle.thread_blocks.specs.MachineTurns.{pointer_of}
 use Rattle.thread_blocks.specs.RunTime.{Runs, resume_line, thread_steps, thread_turns}
 use Rattle.thread_blocks.specs.Turns.{Begun, Calls, Thread, Turns, at_number, with_last}
 use Rattle.thread_blocks.specs.TurnsAlike.{HasUnclean, IsFront}

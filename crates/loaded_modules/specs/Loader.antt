@@ -8,6 +8,7 @@ use Rattle.std.specs.Int.{w64, cast_unsigned}
 use Rattle.std.specs.List.{find}
 use Rattle.std.specs.Option.{option_or}
 use Rattle.std.specs.Str.{bytes_eq}
+use Rattle.address_map.specs.Map.{moved_bias}
 use Rattle.elf_records.specs.Fields.{bytes_of, splice}
 use Rattle.image_faults.specs.declared.loader_kind.LoaderKind.{LoaderKind}
 use Rattle.image_faults.specs.declared.loader_kind.LoaderKind.TheVariants.{JumpSlot, Relative, Module, ModuleOffset}
@@ -31,8 +32,8 @@ use Rattle.loaded_modules.specs.Images.{JobImages, image_at, is_late, static_off
 -- how far a loader moves an image: a program at fixed addresses not at all, each other instance to a range of its own
 unfoldable pub bias : FileKind → ℕ → ℕ
 bias Exe instance = 0
-bias Pie instance = 2 ^ 32 + instance * 2 ^ 26
-bias ModuleFile instance = 2 ^ 32 + instance * 2 ^ 26
+bias Pie instance = moved_bias instance
+bias ModuleFile instance = moved_bias instance
 
 -- ---- thread-local symbols of startup images
 

@@ -1,6 +1,6 @@
 //! The TLS block that a thread begins with.
 
-ghost use Rattle.std.specs.Prelude.{◌≡◌, ◌≤◌, Some, length, replicate};
+ghost use Rattle.std.specs.Prelude.{◌≡◌, Some, length, replicate};
 ghost use Rattle.std.specs.List.{find};
 ghost use Rattle.image_file.specs.Spelled.{part_seen, lent_part};
 ghost use Rattle.loaded_modules.specs.Ends.{IsTls};

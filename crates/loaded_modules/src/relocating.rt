@@ -9,6 +9,7 @@ ghost use Rattle.image_file.specs.Spelled.{lent_part};
 
 use crate::instance::Instance;
 use crate::{TLS_DESCRIPTOR, TLS_GET_ADDR};
+use address_map::moved_bias;
 use image_file::{FileKind, ImagePart, ImageRelocation, LoaderKind};
 
 /// A thread-local symbol as the loader finds it.
@@ -47,7 +48,7 @@ pub(crate) fn bias(kind: FileKind, number: u32) -> u64
 {
     match kind {
         FileKind::Exe => 0,
-        FileKind::Pie | FileKind::Module => (1 << 32) + u64::from(number) * (1 << 26),
+        FileKind::Pie | FileKind::Module => moved_bias(number),
     }
 }
 

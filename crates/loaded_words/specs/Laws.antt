@@ -1,6 +1,6 @@
 -- The global offset table of a loaded instance of a linked image.
-use Rattle.std.specs.Prelude.{◌≡◌, ◌+◌, ◌*◌, ◌<◌, ℕ, true, false, List, [], ◌∷◌, Some, IsSome, map, slice_get}
-use Rattle.std.specs.List.{All, list_any}
+use Rattle.std.specs.Prelude.{◌≡◌, ◌+◌, ◌*◌, ◌<◌, ℕ, true, false, List, Some, IsSome, map, slice_get}
+use Rattle.std.specs.List.{list_any}
 use Rattle.amd64_subset.specs.declared.instr.Operation.TheVariants.{Jump}
 use Rattle.amd64_subset.specs.declared.instr.Target.TheVariants.{Indirect}
 use Rattle.amd64_subset.specs.declared.operand.Operand.TheVariants.{InMemory}
@@ -13,7 +13,6 @@ use Rattle.guest_operands.specs.declared.space.Access.TheVariants.{Read, Run}
 use Rattle.guest_operands.specs.Ranges.{Range, byte_in}
 use Rattle.guest_operands.specs.Use.{plus}
 use Rattle.known_instances.specs.Known.{known_in}
-use Rattle.link_faults.specs.declared.image_kind.ImageKind.{ImageKind}
 use Rattle.link_faults.specs.ImageKinds.{is_module}
 use Rattle.link_needs.specs.Linking.{Linking, block_offset}
 use Rattle.link_needs.specs.Needs.{entries, got_start, has_stub, stub_start}

@@ -3,6 +3,7 @@ use Rattle.std.proofs.Common.{◌≡◌, ◌∙◌, ◌-◌, ◌++◌, ◌<◌, 
 use Rattle.std.specs.Prelude.{if◌then◌else◌, ok_or, slice_get, slice_set}
 use Rattle.std.proofs.lemmas.Bool.{cases_lt, le-leb, le-ltb, lt-ltb}
 use Rattle.std.proofs.lemmas.List.{append_cancel_right}
+use Rattle.address_map.specs.Map.{stack_start}
 use Rattle.amd64_subset.specs.declared.instr.Operation.{Operation}
 use Rattle.guest_operands.specs.declared.frame.Frame.{Frame}
 use Rattle.guest_operands.specs.declared.space.Access.TheVariants.{Read, Write}
@@ -20,7 +21,7 @@ use Rattle.loaded_modules.specs.declared.instance.Instance.{Instance}
 use Rattle.module_table.specs.declared.events.Event.{Event}
 use Rattle.thread_blocks.specs.Held.{Owner, ranges_in}
 use Rattle.thread_blocks.specs.Instances.{fixed_at, fixed_of, instances}
-use Rattle.thread_blocks.specs.MachineTurns.{pointer_word, stack_start, word_bytes}
+use Rattle.thread_blocks.specs.MachineTurns.{pointer_word, word_bytes}
 use Rattle.thread_blocks.specs.Spaces.{IsImage, NoneWritable, mapped, open_everywhere, put_byte, space_accesses, stack_range}
 use Rattle.thread_blocks.proofs.Image.{act_image}
 use Rattle.thread_blocks.proofs.Spaces.{put_is_with_byte}

@@ -1,6 +1,7 @@
 -- What the checker keeps of a thread's memory, and the definitions' thread that it stands for.
 use Rattle.std.specs.Prelude.{◌≡◌, ◌==◌, ℕ, Bool, true, false, List, [], ◌∷◌, ◌++◌, Option, Some, None, option_and_then, if◌then◌else◌}
 use Rattle.std.specs.List.{find, list_any}
+use Rattle.address_map.specs.Map.{owner_at, stack_start}
 use Rattle.guest_machine.specs.Run.{is_look}
 use Rattle.guest_operands.specs.declared.space.Access.TheVariants.{Write}
 use Rattle.guest_operands.specs.declared.state.State.{State}
@@ -9,13 +10,12 @@ use Rattle.guest_operands.specs.Use.{left}
 use Rattle.job_meaning.specs.declared.values.Byte.{Byte}
 use Rattle.job_meaning.specs.declared.values.Flag.{Flag}
 use Rattle.job_meaning.specs.declared.values.Word.{Word}
-use Rattle.job_meaning.specs.Owner.{owner_at}
 use Rattle.link_needs.specs.Linking.{Linking}
 use Rattle.loaded_modules.specs.declared.instance.Instance.{Instance}
 use Rattle.module_table.specs.declared.events.Event.{Event}
 use Rattle.thread_blocks.specs.Held.{Owned, Owner, owners_of, ranges_in}
 use Rattle.thread_blocks.specs.Instances.{fixed_of, instances}
-use Rattle.thread_blocks.specs.MachineTurns.{pointer_word, stack_start, word_bytes}
+use Rattle.thread_blocks.specs.MachineTurns.{pointer_word, word_bytes}
 use Rattle.thread_blocks.specs.Spaces.{stack_range}
 use Rattle.whole_meaning.specs.declared.marks.Mark.{Mark}
 use Rattle.whole_meaning.specs.declared.sequences.Sequence.{Sequence}

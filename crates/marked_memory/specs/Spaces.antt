@@ -1,10 +1,10 @@
 -- A thread's memory before and after a call, as clauses speak of it.
 use Rattle.std.specs.Prelude.{◌≡◌, ◌==◌, ◌-◌, ◌++◌, ℕ, Bool, false, List, is_some}
 use Rattle.std.specs.List.{AllPairs}
+use Rattle.address_map.specs.Map.{stack_start}
 use Rattle.job_meaning.specs.declared.values.Byte.{Byte}
 use Rattle.loaded_modules.specs.declared.instance.Instance.{Instance}
 use Rattle.thread_blocks.specs.Held.{Owned, held_of}
-use Rattle.thread_blocks.specs.MachineTurns.{stack_start}
 use Rattle.whole_meaning.specs.Loads.{loads_of}
 use Rattle.whole_meaning.specs.Threads.{hidden_below}
 use Rattle.marked_memory.specs.declared.space.Wanted.{Wanted}

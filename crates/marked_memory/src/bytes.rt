@@ -1,9 +1,10 @@
 //! A thread's memory, byte by byte.
 
 ghost use Rattle.std.specs.Prelude.{◌≡◌, ◌-◌, [], ◌∷◌, true, slice_set};
+ghost use Rattle.address_map.specs.Map.{stack_start};
 ghost use Rattle.guest_operands.specs.Ranges.{byte_in};
 ghost use Rattle.thread_blocks.specs.Instances.{fixed_of};
-ghost use Rattle.thread_blocks.specs.MachineTurns.{pointer_word, stack_start};
+ghost use Rattle.thread_blocks.specs.MachineTurns.{pointer_word};
 ghost use Rattle.thread_blocks.specs.Spaces.{stack_range};
 ghost use Rattle.whole_meaning.specs.Loads.{loads_of};
 ghost use Rattle.whole_meaning.specs.Threads.{ops};
@@ -12,7 +13,8 @@ ghost use Rattle.marked_memory.specs.Writing.{written_in};
 
 use crate::owned;
 use crate::space::MarkedMemory;
-use crate::words::{stack_start, word_bytes};
+use crate::words::word_bytes;
+use address_map::stack_start;
 use guest_memory::{Bytes, fetch, load, store};
 use guest_operands::{Access, Size, Space};
 use job_meaning::{Byte, MarkedValues, Word};

@@ -2,8 +2,8 @@
 
 ghost use Rattle.std.specs.Prelude.{◌≡◌, ◌≤◌, ◌<◌, ◌==◌, ◌-◌, ◌^◌, IfOk, IfSome, length, option_map};
 ghost use Rattle.std.specs.List.{find, list_any};
+ghost use Rattle.address_map.specs.Map.{stack_start};
 ghost use Rattle.thread_blocks.specs.Held.{block_bytes};
-ghost use Rattle.thread_blocks.specs.MachineTurns.{stack_start};
 ghost use Rattle.whole_meaning.specs.Loads.{meaning_of};
 ghost use Rattle.marked_memory.specs.Kept.{is_stack, mark_in, owner_in, sequence_in, shut_in};
 ghost use Rattle.marked_memory.specs.Owners.{part_in};
@@ -11,7 +11,7 @@ ghost use Rattle.marked_memory.specs.Spaces.{with_hidden};
 
 use crate::owned;
 use crate::space::MarkedMemory;
-use crate::words::stack_start;
+use address_map::stack_start;
 use guest_machine::is_look;
 use job_meaning::Byte;
 use loaded_modules::Instance;
@@ -53,7 +53,7 @@ impl<'m> MarkedMemory<'m> {
     pub fn owner(&self, place: u64) -> Option<Instance>
         ensures { result ≡ owner_in self.now place }
     {
-        self.numbered(job_meaning::owner(place))
+        self.numbered(address_map::owner(place))
     }
 
     /// The mark of a byte of code.

@@ -39,3 +39,4 @@ mod words;
 pub use bytes::Outline;
 pub use owned::{OwnedRange, Written};
 pub use space::{MarkedMemory, Wanted};
+pub use words::block_start;

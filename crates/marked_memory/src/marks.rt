@@ -1,8 +1,8 @@
 //! A thread's memory, as steps of marked code reach it: the marks of code, and its stack.
 
 ghost use Rattle.std.specs.Prelude.{[]};
+ghost use Rattle.address_map.specs.Map.{stack_start};
 ghost use Rattle.thread_blocks.specs.Held.{ranges_in};
-ghost use Rattle.thread_blocks.specs.MachineTurns.{stack_start};
 ghost use Rattle.marked_memory.specs.Kept.{mark_in, shape_of};
 
 use crate::bytes::Outline;

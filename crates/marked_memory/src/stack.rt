@@ -6,12 +6,10 @@ ghost use Rattle.thread_blocks.specs.MachineTurns.{fresh_stack};
 ghost use Rattle.whole_meaning.specs.Threads.{hidden_below, ops};
 ghost use Rattle.marked_memory.specs.Stacks.{last_bytes};
 
+use address_map::STACK_SIZE;
 use job_meaning::Byte;
 use std::alloc::{AllocError, Global};
 use std::marker::Model;
-
-/// How many bytes a stack has.
-pub(crate) const STACK_SIZE: u64 = 65_536;
 
 /// A thread's stack. Most of it is never touched. The deepest bytes are all alike: zero before a call, unknown after a
 /// sequence that calls. Only those above them are stored one by one, the highest first. Contracts see all bytes, the

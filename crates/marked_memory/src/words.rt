@@ -1,11 +1,11 @@
 //! Where the parts of a thread's memory lie, and the bytes of a number.
 
-ghost use Rattle.std.specs.Prelude.{◌≡◌, ◌<◌, ◌≤◌, IfOk};
+ghost use Rattle.std.specs.Prelude.{◌≡◌, ◌<◌, ◌≤◌, ◌^◌, IfOk};
 ghost use Rattle.thread_blocks.specs.Instances.{block_start};
-ghost use Rattle.thread_blocks.specs.MachineTurns.{pointer_of, pointer_word, stack_end, stack_start, word_bytes};
+ghost use Rattle.thread_blocks.specs.MachineTurns.{pointer_word, word_bytes};
 ghost use Rattle.whole_meaning.specs.Threads.{ops};
 
-use crate::stack::STACK_SIZE;
+use address_map::{block_place, thread_pointer};
 use guest_arithmetic::Values;
 use guest_memory::{GuestRange, Rights};
 use job_meaning::{Byte, MarkedValues};
@@ -19,34 +19,13 @@ const CONSTANT: Rights = Rights {
     runnable: false,
 };
 
-/// A thread's thread pointer. Threads are numbered from 1.
-pub(crate) fn thread_pointer(thread: u32) -> u64
-    requires { thread ≤ 64 }
-    ensures { result ≡ pointer_of thread }
-{
-    u64::from(thread) * (1 << 40) + (1 << 38)
-}
-
-/// The lowest address of a thread's stack.
-pub(crate) fn stack_start(thread: u32) -> u64
-    requires { thread ≤ 64 }
-    ensures { result ≡ stack_start thread }
-{
-    u64::from(thread) * (1 << 40) + (1 << 39) - STACK_SIZE
-}
-
 /// Where a thread's block of an instance begins.
-pub(crate) fn block_start(thread: u32, instance: &Instance) -> u64
+pub fn block_start(thread: u32, instance: &Instance) -> u64
     requires { thread ≤ 64 }
-    ensures { result ≡ block_start thread instance.now }
+    ensures value { result ≡ block_start thread instance.now }
+    ensures low { result < 2 ^ 57 }
 {
-    match instance.offset {
-        Some(offset) => thread_pointer(thread).saturating_sub(offset),
-        None => {
-            let number = instance.number;
-            u64::from(thread) * (1 << 40) + u64::from(number) * (1 << 24)
-        }
-    }
+    block_place(thread, instance.number, instance.offset)
 }
 
 /// One byte of a number; byte 0 is the lowest.

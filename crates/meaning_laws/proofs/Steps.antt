@@ -1,6 +1,7 @@
 -- Where no image has data, steps of the meaning, its sequences and its looks keep blocks alone.
 use Rattle.std.proofs.Common.{Bool, true, false, ℕ, List, Option, Some, None, Result, Ok, Err, refl, sym, subst}
 use Rattle.std.specs.Prelude.{if◌then◌else◌, option_map}
+use Rattle.address_map.specs.Map.{stack_start}
 use Rattle.amd64_subset.specs.declared.instr.Decoded.{Decoded}
 use Rattle.guest_arithmetic.specs.declared.cause.Cause.{Cause}
 use Rattle.guest_operands.specs.declared.frame.Frame.{Frame}
@@ -26,7 +27,6 @@ use Rattle.sequence_forms.specs.declared.forms.Form.TheVariants.{Gd, Ld, IeMov, 
 use Rattle.thread_blocks.specs.Held.{Owner, looked, reached}
 use Rattle.thread_blocks.specs.Instances.{numbered_instance}
 use Rattle.thread_blocks.specs.Lines.{Line}
-use Rattle.thread_blocks.specs.MachineTurns.{stack_start}
 use Rattle.thread_blocks.specs.Spaces.{IsImage, mapped, space_accesses, stack_range}
 use Rattle.thread_blocks.proofs.Image.{act_image}
 use Rattle.thread_blocks.proofs.Alone.{KeepsBlocks, NextHolds}

@@ -13,6 +13,7 @@ ghost use Rattle.whole_meaning.specs.Spots.{bias_of};
 use crate::entries::Entry;
 use crate::kept::{Kept, keep};
 use crate::painting::{Cell, Painter};
+use address_map::moved_bias;
 use elf_object::SectionClass;
 use link_faults::ImageKind;
 use link_needs::Inputs;
@@ -51,9 +52,7 @@ pub(crate) fn bias_of(kind: ImageKind, number: u32) -> u64
 {
     match kind {
         ImageKind::Exe => 0,
-        ImageKind::Pie | ImageKind::Start | ImageKind::Late => {
-            (1 << 32) + u64::from(number) * (1 << 26)
-        }
+        ImageKind::Pie | ImageKind::Start | ImageKind::Late => moved_bias(number),
     }
 }
 

@@ -6,7 +6,6 @@ ghost use Rattle.link_needs.specs.Linking.{layout};
 ghost use Rattle.module_table.specs.Modules.{IsInfo};
 ghost use Rattle.tls_layout.specs.Sections.{is_class};
 ghost use Rattle.tls_layout.specs.Places.{executable};
-ghost use Rattle.tls_symbols.specs.Bindings.{is_tls_class};
 ghost use Rattle.tls_symbols.specs.Definitions.{IsWithin};
 ghost use Rattle.whole_meaning.specs.Bytes.{below, function_at, function_of, variable_at, variable_of};
 ghost use Rattle.whole_meaning.specs.Loads.{info_of, wants_surplus};

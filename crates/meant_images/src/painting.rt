@@ -6,7 +6,6 @@ ghost use Rattle.std.specs.List.Sorted.{IsNonDecreasingBy};
 ghost use Rattle.elf_object.specs.Lent.{section_size};
 ghost use Rattle.elf_object.specs.Object.{section_count};
 ghost use Rattle.elf_records.specs.Relocations.{field_width};
-ghost use Rattle.link_needs.specs.Linking.{sites_at};
 ghost use Rattle.meant_images.specs.CodeCells.{HaveRoom, IsSplit, cell_from, code_cell, field_cell, is_within};
 ghost use Rattle.meant_images.specs.CodeCells.{no_cell, site_cell};
 ghost use Rattle.memory_image.specs.Laying.{IsOfClass, section_cells};

@@ -1,6 +1,6 @@
 //! The variable that a sequence names.
 
-ghost use Rattle.std.specs.Prelude.{◌≡◌, ◌<◌, ◌≤◌, ◌^◌, ℕ, length};
+ghost use Rattle.std.specs.Prelude.{◌≡◌, ◌<◌, ◌≤◌, length};
 ghost use Rattle.std.specs.List.{All};
 ghost use Rattle.elf_object.specs.Parts.{symbol_count};
 ghost use Rattle.meant_images.specs.Targets.{HasFewObjects, HasNumber, IsBound, IsNumbered, IsShared, IsTarget};

@@ -1,9 +1,9 @@
 -- A thread's stack from its lowest address on, and what a sequence does to it.
 use Rattle.std.specs.Prelude.{◌≡◌, ℕ, ◌-◌, ◌≤◌, length, Option, Some, None, Result, Ok, Err}
+use Rattle.address_map.specs.Map.{stack_start}
 use Rattle.guest_operands.specs.declared.space.Access.TheVariants.{Write}
 use Rattle.guest_operands.specs.declared.stop.Stop.{Stop}
 use Rattle.guest_operands.specs.Ranges.{grants}
-use Rattle.thread_blocks.specs.MachineTurns.{stack_start}
 use Rattle.thread_blocks.specs.Spaces.{stack_range}
 use Rattle.whole_meaning.specs.Meanings.{Meaning}
 use Rattle.whole_meaning.specs.Sequences.{Stack}

@@ -7,7 +7,7 @@ ghost use Rattle.guest_operands.specs.State.{at_place, with_word};
 ghost use Rattle.guest_operands.specs.Use.{Leaves, clean, left};
 ghost use Rattle.job_meaning.specs.declared.values.Token.TheVariants.{Base};
 ghost use Rattle.job_meaning.specs.declared.values.Word.TheVariants.{Marked};
-ghost use Rattle.whole_meaning.specs.Sequences.{asks, after_call, called_with, added, loaded, described, descriptor_called, descriptor_use, sequence_result, stack_use, variable_address, variable_distance, with_answer, without_flags};
+ghost use Rattle.whole_meaning.specs.Sequences.{asks, after_call, called_with, added, descriptor_called, descriptor_use, sequence_result, stack_use, variable_address, variable_distance, without_flags};
 ghost use Rattle.meant_steps.specs.Stacks.{stack_from, stop_of};
 
 use crate::stack::CallStack;

@@ -1,12 +1,12 @@
 //! The bytes of sections with their fields filled in, and the marks of the bytes that move.
 
-ghost use Rattle.std.specs.Prelude.{◌≡◌, ◌≢◌, ◌+◌, ◌<◌, ◌≤◌, ◌^◌, ℕ, IfOk, IfSome, List, length};
+ghost use Rattle.std.specs.Prelude.{◌≡◌, ◌+◌, ◌<◌, ◌≤◌, ◌^◌, IfOk, IfSome, length};
 ghost use Rattle.elf_object.specs.Faults.{IsObject};
 ghost use Rattle.elf_object.specs.Lawful.{IsLawful};
 ghost use Rattle.elf_object.specs.Lent.{IsSectionPart, relocations, section_size};
 ghost use Rattle.elf_object.specs.Parts.{symbol_count};
 ghost use Rattle.link_needs.specs.Linking.{binding as binding_in, object as object_in};
-ghost use Rattle.memory_image.specs.Filling.{cell_in, field_in, filled_field, is_moving, marks_of as marks_in};
+ghost use Rattle.memory_image.specs.Filling.{cell_in, filled_field, marks_of as marks_in};
 ghost use Rattle.memory_image.specs.Filling.{moved_place as place_moved, own_bytes, own_field as field_of};
 ghost use Rattle.memory_image.specs.Filling.{own_number, raw_bytes as raw_in};
 ghost use Rattle.memory_image.specs.Filling.{own_subtracted, with_fields};
@@ -15,6 +15,7 @@ ghost use Rattle.tls_symbols.specs.Bindings.{IsBindingWithin};
 ghost use Rattle.whole_meaning.specs.Spots.{bias_of};
 
 use crate::laying::Cells;
+use address_map::moved_bias;
 use elf_object::{Relocation, RelocationKind, SectionClass, SectionPart};
 use elf_records::relocation_row::{FieldForm, FieldValue};
 use link_faults::{Binding, ImageKind};
@@ -38,7 +39,7 @@ pub fn least_bias(kind: ImageKind) -> u64
 {
     match kind {
         ImageKind::Exe => 0,
-        ImageKind::Pie | ImageKind::Start | ImageKind::Late => 1 << 32,
+        ImageKind::Pie | ImageKind::Start | ImageKind::Late => moved_bias(0),
     }
 }
 

@@ -1,6 +1,7 @@
 -- What is told of a job whose threads count in one place.
 use Rattle.std.proofs.Common.{◌≡◌, ℕ, List, [], ◌∷◌, Some, None, true, false, refl, Bool, Option, Ok}
 use Rattle.std.specs.Prelude.{option_and_then, option_map}
+use Rattle.address_map.specs.Map.{stack_start}
 use Rattle.image_file.specs.Spelled.{Spelled}
 use Rattle.image_file.specs.declared.part.PartClass.TheVariants.{Executable, ReadOnly, Writable}
 use Rattle.elf_records.specs.declared.symbol.SymbolBinding.TheVariants.{Local, Global}
@@ -14,7 +15,6 @@ use Rattle.thread_blocks.specs.Instances.{Loads}
 use Rattle.thread_blocks.specs.JobLoads.{job_loads}
 use Rattle.thread_blocks.specs.JobWorlds.{Shared, job_start}
 use Rattle.thread_blocks.specs.Lines.{Line, event_by}
-use Rattle.thread_blocks.specs.MachineTurns.{stack_start}
 use Rattle.thread_blocks.specs.RunTime.{Runs, thread_accesses, thread_turns}
 use Rattle.thread_blocks.specs.Turns.{at_number}
 use Rattle.thread_blocks.proofs.JobRuns.{said}

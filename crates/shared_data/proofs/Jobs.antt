@@ -1,6 +1,7 @@
 -- The laws, of any threads, and of the machine's.
 use Rattle.std.proofs.Common.{◌≡◌, ◌++◌, ℕ, suc, List, [], ◌∷◌, Some, None, if◌then◌else◌, refl}
 use Rattle.std.specs.Prelude.{ok_or}
+use Rattle.address_map.specs.Map.{stack_start}
 use Rattle.guest_arithmetic.specs.Plain.{plain_operations}
 use Rattle.guest_operands.specs.declared.space.Access.TheVariants.{Read}
 use Rattle.guest_machine.specs.Access.{Accesses, Refused}
@@ -17,7 +18,7 @@ use Rattle.thread_blocks.specs.Held.{Held, Owner, owned}
 use Rattle.thread_blocks.specs.Instances.{Loads, fixed_at, instances}
 use Rattle.thread_blocks.specs.JobWorlds.{Shared, job_start, job_world, ready_from}
 use Rattle.thread_blocks.specs.Lines.{Line}
-use Rattle.thread_blocks.specs.MachineTurns.{pointer_word, stack_start}
+use Rattle.thread_blocks.specs.MachineTurns.{pointer_word}
 use Rattle.thread_blocks.specs.RunTime.{thread_accesses, thread_turns}
 use Rattle.thread_blocks.specs.Spaces.{Space, stack_range}
 use Rattle.thread_blocks.specs.Turns.{Turns}

@@ -1,6 +1,7 @@
 -- A thread of the machine: its steps and its looks do with data what is told of them.
 use Rattle.std.proofs.Common.{◌≡◌, ◌++◌, ℕ, Bool, true, false, List, [], Option, Some, None, Result, Ok, Err, if◌then◌else◌, refl, sym, ap, subst}
 use Rattle.std.specs.Prelude.{is_none}
+use Rattle.address_map.specs.Map.{stack_start}
 use Rattle.guest_arithmetic.specs.Plain.{plain_operations}
 use Rattle.guest_operands.specs.declared.state.State.{State}
 use Rattle.guest_operands.specs.declared.stop.Stop.{Stop}
@@ -17,7 +18,6 @@ use Rattle.transcript_text.specs.declared.outcomes.Outcome.TheVariants.{Fault}
 use Rattle.thread_blocks.specs.declared.asked.Asked.{Asked}
 use Rattle.thread_blocks.specs.Held.{Owner, looked, owned_by, reached}
 use Rattle.thread_blocks.specs.Instances.{Loads, instance_with_id, is_startup_id, numbered_instance}
-use Rattle.thread_blocks.specs.MachineTurns.{stack_start}
 use Rattle.thread_blocks.specs.RunTime.{Runs, answer_word, answered, asked_at, asked_next, found_at_once, goes_answered, resume_line, resumed, resumed_by, resumed_in, shows, thread_accesses, thread_next, thread_steps, thread_turns}
 use Rattle.thread_blocks.specs.Spaces.{Space, after_of, next_image, no_field, put_byte, space_accesses}
 use Rattle.thread_blocks.specs.Turns.{Answered, Begun, Says}

@@ -1,6 +1,7 @@
 -- A thread of the meaning: its steps and its looks do with data what is told of them.
 use Rattle.std.proofs.Common.{◌≡◌, ◌++◌, ℕ, zero, suc, Bool, true, false, List, Option, Some, None, Result, Ok, Err, refl, sym, ap, subst}
 use Rattle.std.specs.Prelude.{option_map}
+use Rattle.address_map.specs.Map.{stack_start}
 use Rattle.amd64_subset.specs.declared.instr.Decoded.{Decoded}
 use Rattle.guest_arithmetic.specs.declared.cause.Cause.{Cause}
 use Rattle.guest_operands.specs.declared.state.State.{State}
@@ -22,7 +23,6 @@ use Rattle.sequence_forms.specs.declared.forms.Form.{Form}
 use Rattle.sequence_forms.specs.declared.forms.Form.TheVariants.{Gd, Ld, IeMov, IeAdd, GdInd, LdInd, DescLea, DescCall}
 use Rattle.thread_blocks.specs.Held.{Owner, looked, owned_by, reached}
 use Rattle.thread_blocks.specs.Instances.{numbered_instance}
-use Rattle.thread_blocks.specs.MachineTurns.{stack_start}
 use Rattle.thread_blocks.specs.Spaces.{IsImage, mapped, put_byte, space_accesses}
 use Rattle.thread_blocks.proofs.Image.{act_image}
 use Rattle.whole_meaning.specs.declared.marks.Mark.{Mark}

@@ -2,6 +2,7 @@
 -- one that the loader put there: for the machine's threads, and for what they mean.
 use Rattle.std.specs.Prelude.{◌≡◌, ℕ, ◌+◌, ◌*◌, ◌<◌, ◌++◌, Bool, true, false, List, [], length, slice_get, ok_or, Option, Some, All}
 use Rattle.std.specs.List.{find, flat_map}
+use Rattle.address_map.specs.Map.{stack_start}
 use Rattle.guest_arithmetic.specs.Plain.{plain_operations}
 use Rattle.guest_operands.specs.declared.state.State.{State}
 use Rattle.guest_machine.specs.Access.{Accesses, Refused}
@@ -19,7 +20,6 @@ use Rattle.thread_blocks.specs.Held.{Data, Held, Owned, Owner, data_after, data_
 use Rattle.thread_blocks.specs.Instances.{Loads, instances, numbered_instance}
 use Rattle.thread_blocks.specs.JobWorlds.{Shared, job_start, job_world, shared_order}
 use Rattle.thread_blocks.specs.Lines.{Line, event_by}
-use Rattle.thread_blocks.specs.MachineTurns.{stack_start}
 use Rattle.thread_blocks.specs.RunTime.{thread_accesses, thread_turns}
 use Rattle.thread_blocks.specs.Spaces.{Space, after_of, mapped, next_image, no_field, stack_range}
 use Rattle.thread_blocks.specs.Turns.{Thread, Turns, at_number, whole_order}

@@ -1,12 +1,12 @@
 -- The changes of a thread's step, in the machine and in the meaning: the same step over a memory that notes its
 -- stores.
 use Rattle.std.specs.Prelude.{ℕ, List, [], Option, Some, None}
+use Rattle.address_map.specs.Map.{stack_start}
 use Rattle.guest_arithmetic.specs.Plain.{plain_operations}
 use Rattle.guest_machine.specs.Run.{next_of, machine}
 use Rattle.guest_machine.specs.Use.{left}
 use Rattle.job_meaning.specs.declared.values.Byte.{Byte}
 use Rattle.thread_blocks.specs.Instances.{Loads}
-use Rattle.thread_blocks.specs.MachineTurns.{stack_start}
 use Rattle.thread_blocks.specs.RunTime.{Runs, thread_accesses}
 use Rattle.thread_blocks.specs.Spaces.{no_field}
 use Rattle.whole_meaning.specs.declared.sequences.Sequence.{Sequence}

@@ -1,5 +1,6 @@
 -- What a sequence that calls the run time is answered, and where the machine goes on then.
 use Rattle.std.proofs.Common.{◌≡◌, ◌∙◌, ◌+◌, ◌-◌, ◌%◌, ◌^◌, ◌<◌, ◌&&◌, ◌==◌, ℕ, Bool, true, false, List, Some, Ok, refl, ap, subst, arith}
+use Rattle.address_map.specs.Map.{pointer_of}
 use Rattle.guest_arithmetic.specs.Plain.{plain_operations}
 use Rattle.guest_operands.specs.declared.state.State.{State}
 use Rattle.guest_machine.specs.Access.{load_of}
@@ -18,7 +19,6 @@ use Rattle.sequence_forms.specs.declared.forms.Form.{Form}
 use Rattle.sequence_forms.specs.declared.forms.Form.TheVariants.{Gd, Ld, IeMov, IeAdd, GdInd, LdInd, DescLea, DescCall}
 use Rattle.thread_blocks.specs.declared.asked.Asked.{Asked}
 use Rattle.thread_blocks.specs.Instances.{Loads, block_start}
-use Rattle.thread_blocks.specs.MachineTurns.{pointer_of}
 use Rattle.thread_blocks.specs.RunTime.{Runs, answer_word, thread_accesses}
 use Rattle.thread_blocks.specs.Spaces.{Space}
 use Rattle.whole_meaning.specs.declared.sequences.Sequence.{Sequence}

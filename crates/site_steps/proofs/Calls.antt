@@ -1,5 +1,6 @@
 -- A sequence that calls the run time: where the machine is once it has called.
 use Rattle.std.proofs.Common.{◌≡◌, ◌∙◌, ◌-◌, ◌^◌, ◌<◌, ◌≤◌, ℕ, Bool, List, length, Option, Ok, refl, arith}
+use Rattle.address_map.specs.Map.{stack_start}
 use Rattle.guest_operands.specs.declared.state.State.{State}
 use Rattle.guest_machine.specs.Follow.{SameState}
 use Rattle.guest_machine.specs.Use.{left, plus}
@@ -7,7 +8,6 @@ use Rattle.module_table.specs.declared.events.Event.{Event}
 use Rattle.sequence_forms.specs.declared.forms.Form.TheVariants.{DescCall}
 use Rattle.thread_blocks.specs.declared.asked.Asked.{Asked}
 use Rattle.thread_blocks.specs.Instances.{Loads}
-use Rattle.thread_blocks.specs.MachineTurns.{stack_start}
 use Rattle.thread_blocks.specs.RunTime.{Runs}
 use Rattle.thread_blocks.specs.Spaces.{Space}
 use Rattle.whole_meaning.specs.declared.sequences.Sequence.{Sequence}

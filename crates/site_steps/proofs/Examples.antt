@@ -3,6 +3,7 @@
 -- of both.
 use Rattle.std.proofs.Common.{if◌then◌else◌, ◌≡◌, ◌+◌, ◌-◌, ◌^◌, ◌<◌, ◌≤◌, ◌==◌, ℕ, zero, suc, true, false, List, [], ◌∷◌, Option, Some, None, refl, subst, inl, inr, arith}
 use Rattle.std.specs.Prelude.{slice_get}
+use Rattle.address_map.specs.Map.{pointer_of}
 use Rattle.amd64_subset.specs.declared.instr.Decoded.{Decoded}
 use Rattle.amd64_subset.specs.Beginning.{begins_of}
 use Rattle.amd64_subset.specs.Decoding.{end_branch_at, escaped_at, row_at, operated_at, body_at, instruction_at, decoded}
@@ -22,7 +23,6 @@ use Rattle.relax_sites.specs.declared.choices.Choice.TheVariants.{GdLe}
 use Rattle.sequence_forms.specs.declared.forms.Form.TheVariants.{Gd}
 use Rattle.sequence_forms.specs.Forms.{row}
 use Rattle.thread_blocks.specs.Instances.{Loads, block_start}
-use Rattle.thread_blocks.specs.MachineTurns.{pointer_of}
 use Rattle.whole_meaning.specs.declared.sequences.Sequence.{Sequence}
 use Rattle.whole_meaning.specs.Sequences.{variable_distance}
 use Rattle.tied_meaning.specs.Numbers.{Setting}

@@ -2,6 +2,7 @@
 use Rattle.std.proofs.Common.{if◌then◌else◌, ◌≡◌, ◌∙◌, ◌⊎◌, ◌-◌, ◌%◌, ◌^◌, ◌<◌, ◌≤◌, ◌&&◌, ◌==◌, ℕ, Bool, true, false, List, Option, Some, None, Result, Ok, Err, refl, sym, ap, subst, arith, inl, inr}
 use Rattle.std.specs.Prelude.{nat_le}
 use Rattle.std.proofs.lemmas.Bool.{ne_eqb, le-leb, le-ltb, lt-ltb}
+use Rattle.address_map.specs.Map.{stack_start}
 use Rattle.guest_operands.specs.declared.stop.Stop.{Stop}
 use Rattle.guest_machine.specs.Run.{Goes, Looks, is_look as is_look_place, machine, next_of}
 use Rattle.guest_machine.specs.Simulate.{IsUnclean, Moves}
@@ -13,7 +14,6 @@ use Rattle.module_table.specs.declared.events.Event.{Event}
 use Rattle.module_table.specs.Past.{startup_count}
 use Rattle.thread_blocks.specs.declared.asked.Asked.{Asked}
 use Rattle.thread_blocks.specs.Instances.{Loads, block_start, instance_with_id, is_startup_id, numbered_instance}
-use Rattle.thread_blocks.specs.MachineTurns.{stack_start}
 use Rattle.thread_blocks.specs.RunTime.{Runs, answer_word, answered, asked_at, asked_next, thread_steps}
 use Rattle.thread_blocks.specs.Spaces.{Space}
 use Rattle.thread_blocks.specs.TurnsAlike.{IsFront}

@@ -2,16 +2,15 @@
 use Rattle.std.proofs.Common.{if◌then◌else◌, ◌≡◌, ◌∙◌, ◌⊎◌, ◌-◌, ◌<◌, ◌≤◌, ℕ, true, List, All, length, Option, Some, None, Ok, refl, sym, ap, subst, inl, inr, arith}
 use Rattle.std.specs.Prelude.{nat_lt, is_none, option_and_then}
 use Rattle.std.proofs.lemmas.Bool.{and_parts, ltb-true}
+use Rattle.address_map.specs.Map.{owner_at, stack_start}
 use Rattle.guest_machine.specs.Use.{left}
 use Rattle.job_meaning.specs.declared.values.Word.{Word}
-use Rattle.job_meaning.specs.Owner.{owner_at}
 use Rattle.loaded_modules.specs.declared.instance.Instance.{Instance}
 use Rattle.module_table.specs.declared.events.Event.{Event}
 use Rattle.module_table.specs.Past.{startup_count}
 use Rattle.relax_sites.specs.declared.choices.Choice.{Choice}
 use Rattle.thread_blocks.specs.Held.{Owned, Owner, looked, looked_at, owned, owned_by, owners_of, ranges_in, reached, reached_at}
 use Rattle.thread_blocks.specs.Instances.{Loads, block_start, instance_with_id, numbered_instance}
-use Rattle.thread_blocks.specs.MachineTurns.{stack_start}
 use Rattle.thread_blocks.specs.RunTime.{Runs, answer_word, answered as answered_by, resume_line, resumed as run_resumed, resumed_by as run_resumed_by, resumed_in as run_resumed_in}
 use Rattle.thread_blocks.specs.Turns.{Answered, Calls, Says}
 use Rattle.thread_blocks.specs.TurnsAlike.{IsFront, SameBegun}

@@ -2,6 +2,7 @@
 -- a descriptor's call.
 use Rattle.std.proofs.Common.{if◌then◌else◌, ◌≡◌, ◌∙◌, ◌+◌, ◌%◌, ◌^◌, ◌<◌, ◌≤◌, ◌&&◌, ◌==◌, ℕ, Bool, true, false, List, None, Result, Ok, Err, refl, sym, ap, subst, arith, inl}
 use Rattle.std.proofs.lemmas.Bool.{and_parts, eqb-true}
+use Rattle.address_map.specs.Map.{pointer_of}
 use Rattle.amd64_words.specs.declared.register.Register.{Register}
 use Rattle.amd64_words.specs.declared.register.Register.TheVariants.{Rax}
 use Rattle.amd64_subset.specs.declared.instr.Decoded.{Decoded}
@@ -28,7 +29,6 @@ use Rattle.job_meaning.specs.declared.values.Token.TheVariants.{Base, Descriptor
 use Rattle.module_table.specs.declared.events.Event.{Event}
 use Rattle.sequence_laws.specs.Instructions.{add, add_number, added as added_code, displaced, immediate, load, of_next, of_register, plain, set}
 use Rattle.thread_blocks.specs.Instances.{Loads, block_start}
-use Rattle.thread_blocks.specs.MachineTurns.{pointer_of}
 use Rattle.thread_blocks.specs.RunTime.{Runs, thread_accesses}
 use Rattle.whole_meaning.specs.declared.sequences.Sequence.{Sequence}
 use Rattle.whole_meaning.specs.Meanings.{Meaning}

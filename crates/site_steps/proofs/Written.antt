@@ -1,6 +1,7 @@
 -- General and local dynamic sequences that were rewritten: the machine does in one or two steps what they mean.
 use Rattle.std.proofs.Common.{◌≡◌, ◌∙◌, ◌+◌, ◌-◌, ◌^◌, ◌<◌, ◌≤◌, ℕ, suc, Bool, true, List, Some, Result, Ok, Err, refl, sym, ap, subst, arith, inl}
 use Rattle.std.proofs.lemmas.Bool.{eq-eqb}
+use Rattle.address_map.specs.Map.{pointer_of}
 use Rattle.amd64_words.specs.declared.register.Register.TheVariants.{Rax}
 use Rattle.amd64_subset.specs.declared.instr.Decoded.{Decoded}
 use Rattle.amd64_subset.specs.declared.instr.Operation.TheVariants.{LoadAddress}
@@ -20,7 +21,6 @@ use Rattle.job_meaning.specs.declared.values.Token.TheVariants.{Base}
 use Rattle.module_table.specs.declared.events.Event.{Event}
 use Rattle.sequence_laws.specs.Instructions.{add, displaced, load, of_next, of_register, of_thread}
 use Rattle.thread_blocks.specs.Instances.{Loads, block_start}
-use Rattle.thread_blocks.specs.MachineTurns.{pointer_of}
 use Rattle.thread_blocks.specs.RunTime.{Runs, thread_accesses, thread_steps}
 use Rattle.whole_meaning.specs.declared.sequences.Sequence.{Sequence}
 use Rattle.whole_meaning.specs.Meanings.{Meaning}

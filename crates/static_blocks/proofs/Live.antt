@@ -2,6 +2,7 @@
 use Rattle.std.proofs.Common.{◌≡◌, ◌∙◌, ◌+◌, ◌-◌, ◌*◌, ◌<◌, ◌≤◌, ◌^◌, ◌==◌, ℕ, suc, true, false, List, ◌∷◌, ◌++◌, ◌&&◌, length, get_or, Option, Some, None, refl, sym, ap, subst, inl, inr, arith, true≢false}
 use Rattle.std.specs.Prelude.{All, IfSome, nat_le, nat_lt, take}
 use Rattle.std.proofs.lemmas.Bool.{and_parts, cases_Bool, eq-eqb, false_from_ne_true, leb-false, leb-true, ltb-true}
+use Rattle.address_map.specs.Map.{pointer_of}
 use Rattle.loaded_modules.specs.declared.instance.Instance.{Instance}
 use Rattle.loaded_modules.specs.Images.{infos}
 use Rattle.module_table.specs.declared.modules.ImageInfo.{ImageInfo}
@@ -13,7 +14,6 @@ use Rattle.module_table.specs.Modules.{is_loaded, no_module}
 use Rattle.module_table.specs.Past.{module_of, past, start}
 use Rattle.module_table.proofs.LawsOfBlocks.{instances_apart}
 use Rattle.thread_blocks.specs.Instances.{Loads, block_start, instances, instances_in, loaded_instance, numbered_instance}
-use Rattle.thread_blocks.specs.MachineTurns.{pointer_of}
 use Rattle.thread_blocks.specs.TurnsAlike.{IsFront}
 use Rattle.known_instances.specs.Known.{known_in}
 use Rattle.known_instances.proofs.Found.{instance_for, loaded_as}

@@ -4,6 +4,7 @@ use Rattle.std.specs.Prelude.{All, nat_le, nat_lt, slice_get, slice_set}
 use Rattle.std.specs.List.{find}
 use Rattle.std.proofs.lemmas.Bool.{and_parts, false_from_ne_true, le-leb, leb-true, lt-ltb}
 use Rattle.std.proofs.lemmas.Option.{slice_get-get_or}
+use Rattle.address_map.specs.Map.{stack_start}
 use Rattle.guest_machine.specs.Ranges.{Range, allows, byte_in, holds, with_byte}
 use Rattle.guest_machine.specs.Run.{run, state_after}
 use Rattle.guest_operands.specs.declared.space.Access.{Access}
@@ -21,7 +22,6 @@ use Rattle.thread_blocks.specs.Held.{Owned, Owner, is_block_of, owned}
 use Rattle.thread_blocks.specs.Instances.{Loads, block_range, block_start, instances, numbered_instance}
 use Rattle.thread_blocks.specs.JobLoads.{job_loads}
 use Rattle.thread_blocks.specs.JobWorlds.{held_in}
-use Rattle.thread_blocks.specs.MachineTurns.{stack_start}
 use Rattle.thread_blocks.specs.RunTime.{Runs, thread_accesses, thread_steps, thread_turns}
 use Rattle.thread_blocks.specs.Spaces.{Space, space_accesses, stack_range}
 use Rattle.thread_blocks.specs.Turns.{turns}

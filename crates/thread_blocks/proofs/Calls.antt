@@ -1,6 +1,7 @@
 -- The bare machine at a look, and how it stands before a call.
 use Rattle.std.proofs.Common.{◌≡◌, ℕ, ◌-◌, ◌^◌, ◌<◌, Bool, true, false, Result, Ok, Err, refl, arith}
 use Rattle.std.specs.Prelude.{if◌then◌else◌}
+use Rattle.address_map.specs.Map.{pointer_of, stack_end}
 use Rattle.guest_operands.specs.declared.stop.Stop.{Stop}
 use Rattle.guest_machine.specs.Access.{Accesses}
 use Rattle.guest_arithmetic.specs.Plain.{plain_operations}
@@ -9,7 +10,7 @@ use Rattle.guest_machine.specs.State.{start_of}
 use Rattle.guest_machine.specs.Step.{step_of}
 use Rattle.guest_machine.specs.Use.{After}
 use Rattle.guest_arithmetic.specs.Values.{Operations}
-use Rattle.thread_blocks.specs.MachineTurns.{stack_end, pointer_of, call_start}
+use Rattle.thread_blocks.specs.MachineTurns.{call_start}
 
 looks_stay : {W F M : Type 0} (b : Bool) (a t : After W F M) (r : Result (After W F M) Stop) → (if b then Looks a else next_of r) ≡ Looks t → t ≡ a
 looks_stay true a t r e = cc

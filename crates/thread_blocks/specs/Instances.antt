@@ -1,7 +1,8 @@
 -- The instances that are live after some events, and what is loaded of each.
-use Rattle.std.specs.Prelude.{◌+◌, ◌-◌, ◌*◌, ◌^◌, ◌==◌, ℕ, Bool, true, false, suc, List, [], ◌∷◌, ◌++◌, take, Option, Some, None, nat_le, if◌then◌else◌}
+use Rattle.std.specs.Prelude.{◌+◌, ◌==◌, ℕ, Bool, true, false, suc, List, [], ◌∷◌, ◌++◌, take, Option, Some, None, nat_le, if◌then◌else◌}
 use Rattle.std.specs.Prelude.{option_to_list}
 use Rattle.std.specs.List.{find, flat_map}
+use Rattle.address_map.specs.Map.{block_place}
 use Rattle.guest_machine.specs.Ranges.{Range}
 use Rattle.loaded_modules.specs.declared.instance.Instance.{Instance}
 use Rattle.module_table.specs.declared.events.Event.{Event}
@@ -10,7 +11,6 @@ use Rattle.module_table.specs.declared.modules.Module.{Module}
 use Rattle.module_table.specs.Laws.{startup_end}
 use Rattle.module_table.specs.Modules.{is_loaded}
 use Rattle.module_table.specs.Past.{Past, module_of, past, startup_count}
-use Rattle.thread_blocks.specs.MachineTurns.{pointer_of}
 
 -- B: a byte
 pub record Loads (B : Type 0) : Type 0 where
@@ -88,11 +88,7 @@ module _ {B : Type 0} (l : Loads B) where
 -- where a thread's block of an instance begins: at the instance's offset below the thread pointer, or at an address of
 -- the instance's own
 abbrev pub block_start : ℕ → Instance → ℕ
-block_start thread x = begins_at x.offset
-  where
-    begins_at : Option ℕ → ℕ
-    begins_at (Some offset) = pointer_of thread - offset
-    begins_at None = thread * 2 ^ 40 + x.number * 2 ^ 24
+block_start thread x = block_place thread x.number x.offset
 
 -- a thread's block of an instance that holds these bytes
 abbrev pub block_range : {B : Type 0} → ℕ → Instance → List B → Range B

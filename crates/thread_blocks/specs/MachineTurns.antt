@@ -1,5 +1,6 @@
 -- Calls of functions: the addresses of a thread's parts, the start of a call, and the line in the transcript.
-use Rattle.std.specs.Prelude.{ℕ, ◌+◌, ◌-◌, ◌*◌, ◌^◌, true, false, List, ◌++◌, replicate, Option, Some, None, option_map}
+use Rattle.std.specs.Prelude.{ℕ, ◌+◌, ◌-◌, true, false, List, ◌++◌, replicate, Option, Some, None, option_map}
+use Rattle.address_map.specs.Map.{pointer_of, stack_end, stack_size}
 use Rattle.guest_operands.specs.declared.state.State.{State}
 use Rattle.guest_operands.specs.declared.stop.Stop.{Stop}
 use Rattle.guest_operands.specs.declared.stop.Stop.TheVariants.{Returned, Look, Address, Code, Unclean, Steps}
@@ -13,22 +14,6 @@ use Rattle.transcript_text.specs.declared.outcomes.Outcome.{Outcome as Answer}
 use Rattle.transcript_text.specs.declared.outcomes.Outcome.TheVariants.{Returned as ReturnedAnswer, Fault}
 use Rattle.thread_blocks.specs.Spaces.{Space}
 use Rattle.thread_blocks.specs.Turns.{Ending, Answered, Stopped, Said}
-
--- ---- the addresses of a thread's parts
-
--- the thread pointer (psABI, section 3.4.6: the FS base)
-abbrev pub pointer_of : ℕ → ℕ
-pointer_of thread = thread * 2 ^ 40 + 2 ^ 38
-
-abbrev pub stack_size : ℕ
-stack_size = 65536
-
--- the end of the stack, which grows down
-abbrev pub stack_end : ℕ → ℕ
-stack_end thread = thread * 2 ^ 40 + 2 ^ 39
-
-abbrev pub stack_start : ℕ → ℕ
-stack_start thread = stack_end thread - stack_size
 
 -- the address that a call returns to
 abbrev pub return_place : ℕ

@@ -2,6 +2,7 @@
 -- Handling For Thread-Local Storage", section 3.4.6; psABI, "TLS Descriptors").
 use Rattle.std.specs.Prelude.{◌+◌, ◌-◌, ◌*◌, ◌/◌, ◌%◌, ◌^◌, ◌==◌, ◌&&◌, ℕ, Bool, true, false, List, ◌∷◌, length, Option, Some, None, Result, Ok, Err, nat_le, is_none, if◌then◌else◌}
 use Rattle.std.specs.List.{find, list_any}
+use Rattle.address_map.specs.Map.{pointer_of, stack_start}
 use Rattle.guest_arithmetic.specs.Plain.{plain_operations}
 use Rattle.guest_arithmetic.specs.Values.{number_from}
 use Rattle.guest_operands.specs.declared.stop.Stop.{Stop}
@@ -19,7 +20,7 @@ use Rattle.thread_blocks.specs.declared.asked.Asked.{Asked}
 use Rattle.thread_blocks.specs.Held.{Held, looked, reached}
 use Rattle.thread_blocks.specs.Instances.{Loads, fixed_at, instances, instance_with_id, is_startup_id, numbered_instance, block_start}
 use Rattle.thread_blocks.specs.Lines.{Line, begin_line}
-use Rattle.thread_blocks.specs.MachineTurns.{pointer_of, pointer_word, stack_start}
+use Rattle.thread_blocks.specs.MachineTurns.{pointer_word}
 use Rattle.thread_blocks.specs.Spaces.{Space, space_accesses, open_everywhere, no_field}
 use Rattle.thread_blocks.specs.Turns.{Ending, Answered, Stopped, Begun, Says, Calls, Turns}
 

@@ -5,6 +5,7 @@ use Rattle.std.specs.List.{find, flat_map}
 use Rattle.std.specs.Option.{option_or}
 use Rattle.std.proofs.lemmas.Bool.{cases_Bool, false≢true}
 use Rattle.std.proofs.lemmas.List.{map-append}
+use Rattle.address_map.specs.Map.{stack_start}
 use Rattle.guest_arithmetic.specs.Plain.{plain_operations}
 use Rattle.guest_operands.specs.declared.space.Access.{Access}
 use Rattle.guest_operands.specs.declared.space.Access.TheVariants.{Read, Run, Write}
@@ -13,7 +14,7 @@ use Rattle.loaded_modules.specs.declared.instance.Instance.{Instance}
 use Rattle.thread_blocks.specs.Held.{Owned, ranges_in}
 use Rattle.thread_blocks.specs.Instances.{fixed_of}
 use Rattle.thread_blocks.specs.JobLoads.{job_loads, loaded_parts}
-use Rattle.thread_blocks.specs.MachineTurns.{pointer_word, stack_start}
+use Rattle.thread_blocks.specs.MachineTurns.{pointer_word}
 use Rattle.thread_blocks.specs.Spaces.{stack_range}
 use Rattle.thread_space.specs.Kept.{Kept, blocks_of, fixed_in, live_in, memory_of, shared_of}
 use Rattle.thread_space.specs.OfParts.{fixed_ranges}

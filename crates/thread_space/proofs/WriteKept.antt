@@ -6,6 +6,7 @@ use Rattle.std.specs.Option.{option_or}
 use Rattle.std.proofs.lemmas.Bool.{cases_Bool, false≢true}
 use Rattle.std.proofs.lemmas.List.Elements.{All-append, All-cons, All-nil}
 use Rattle.std.proofs.lemmas.Option.{cond_some, same_Some}
+use Rattle.address_map.specs.Map.{stack_start}
 use Rattle.guest_operands.specs.declared.space.Access.TheVariants.{Write}
 use Rattle.guest_operands.specs.Ranges.{Range, byte_in, grants, with_byte}
 use Rattle.loaded_modules.specs.declared.instance.Instance.{Instance}
@@ -19,7 +20,6 @@ use Rattle.module_table.specs.Modules.{is_loaded}
 use Rattle.module_table.specs.Past.{Past}
 use Rattle.thread_blocks.specs.Held.{block_with, data_with, ranges_in}
 use Rattle.thread_blocks.specs.Instances.{block_range, block_start, instances_from, instances_in, loaded_instance}
-use Rattle.thread_blocks.specs.MachineTurns.{stack_start}
 use Rattle.thread_space.specs.Kept.{Kept, live_in, memory_of}
 use Rattle.thread_space.specs.Live.{IsLive}
 use Rattle.thread_space.specs.Places.{block_ranges, data_ranges, takes}

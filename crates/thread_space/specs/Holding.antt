@@ -1,7 +1,8 @@
 -- The memory of a thread as contracts see it, and the invariant that the code keeps.
 use Rattle.std.specs.Prelude.{◌≡◌, ◌≤◌}
+use Rattle.address_map.specs.Map.{stack_start}
 use Rattle.guest_arithmetic.specs.Plain.{plain_operations}
-use Rattle.thread_blocks.specs.MachineTurns.{pointer_word, stack_start}
+use Rattle.thread_blocks.specs.MachineTurns.{pointer_word}
 use Rattle.thread_blocks.specs.Spaces.{stack_range}
 use Rattle.thread_space.specs.declared.space.ThreadSpace.TheInside.{Inside}
 use Rattle.thread_space.specs.Kept.{Kept, live_in}

@@ -2,6 +2,7 @@
 -- what no thread writes. Blocks and data are in the order of the images of their instances, as a look leaves them.
 use Rattle.std.specs.Prelude.{◌≡◌, ℕ, Bool, List, [], ◌∷◌, ◌++◌, length, Option}
 use Rattle.std.specs.List.{flat_map}
+use Rattle.address_map.specs.Map.{stack_start}
 use Rattle.guest_arithmetic.specs.Plain.{plain_operations}
 use Rattle.guest_operands.specs.declared.state.State.{State}
 use Rattle.guest_operands.specs.Ranges.{AddressSpace, Range}
@@ -15,7 +16,7 @@ use Rattle.thread_blocks.specs.declared.asked.Asked.{Asked}
 use Rattle.thread_blocks.specs.Held.{Owned, Owner, block_with, data_with, owners_of, ranges_in}
 use Rattle.thread_blocks.specs.Instances.{fixed_of, instances_in}
 use Rattle.thread_blocks.specs.JobLoads.{job_loads}
-use Rattle.thread_blocks.specs.MachineTurns.{pointer_word, stack_start}
+use Rattle.thread_blocks.specs.MachineTurns.{pointer_word}
 use Rattle.thread_blocks.specs.RunTime.{Runs}
 use Rattle.thread_blocks.specs.Spaces.{stack_range}
 use Rattle.thread_vector.specs.Vectors.{Vector, held}

@@ -1,6 +1,5 @@
 //! A thread's memory, byte by byte.
 
-ghost use Rattle.std.specs.Prelude.{◌≡◌};
 ghost use Rattle.guest_operands.specs.declared.space.Access.TheVariants.{Read, Run, Write};
 ghost use Rattle.thread_space.specs.Kept.{memory_of, shape_of};
 

@@ -10,7 +10,7 @@ ghost use Rattle.thread_space.specs.Kept.{live_in};
 ghost use Rattle.thread_vector.specs.Vectors.{held};
 
 use crate::space::ThreadSpace;
-use crate::words::thread_pointer;
+use address_map::block_place;
 use loaded_modules::Instance;
 use module_table::ImageInfo;
 
@@ -50,14 +50,7 @@ impl<'m> ThreadSpace<'m> {
     pub fn block_start(&self, instance: &Instance) -> u64
         ensures { result ≡ block_start self.now.vector.thread instance.now }
     {
-        let thread = self.dtv.thread();
-        match instance.offset {
-            Some(offset) => thread_pointer(thread).saturating_sub(offset),
-            None => {
-                let number = instance.number;
-                u64::from(thread) * (1 << 40) + u64::from(number) * (1 << 24)
-            }
-        }
+        block_place(self.dtv.thread(), instance.number, instance.offset)
     }
 
     /// The bytes of the thread's block of an instance, if it has one.

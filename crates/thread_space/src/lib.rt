@@ -49,4 +49,3 @@ mod words;
 pub use bytes::Outline;
 pub use names::{JobNames, names_cross_threads};
 pub use space::ThreadSpace;
-pub use words::{end_of_stack, thread_pointer};

@@ -1,7 +1,7 @@
 //! The parts of images, as instances have them.
 
 ghost use Rattle.std.specs.Prelude.{◌≡◌, ◌+◌, ◌^◌, ◌<◌, ◌≤◌, true, Some, length, nat_le, option_map, slice_get};
-ghost use Rattle.std.specs.List.{filter, list_any};
+ghost use Rattle.std.specs.List.{list_any};
 ghost use Rattle.guest_operands.specs.Ranges.{byte_in};
 ghost use Rattle.loaded_modules.specs.Images.{image_at};
 ghost use Rattle.loaded_modules.specs.Loader.{bias_of, loaded_part};

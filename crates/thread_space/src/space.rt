@@ -1,6 +1,6 @@
 //! A thread's memory: its stack, the blocks of its vector, data, and the loaded parts.
 
-ghost use Rattle.std.specs.Prelude.{◌≡◌, ◌≤◌, ◌<◌, ◌+◌, ◌^◌, ℕ, true, [], IfOk, OnOk, OnErr, length, option_map};
+ghost use Rattle.std.specs.Prelude.{◌≡◌, ◌≤◌, ◌<◌, ◌+◌, ◌^◌, true, [], IfOk, OnOk, OnErr, length};
 ghost use Rattle.loaded_modules.specs.Images.{infos};
 ghost use Rattle.module_data.specs.Pieces.{loaded};
 ghost use Rattle.module_table.specs.Past.{is_legal, live, module_of};

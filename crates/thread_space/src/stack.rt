@@ -1,10 +1,11 @@
 //! The bytes of a thread's stack, and the word at its thread pointer.
 
 ghost use Rattle.std.specs.Prelude.{◌≡◌, ◌-◌, true, slice_get, slice_set};
+ghost use Rattle.address_map.specs.Map.{pointer_of, stack_start};
 ghost use Rattle.guest_arithmetic.specs.Plain.{plain_operations};
 ghost use Rattle.guest_operands.specs.Ranges.{grants};
 ghost use Rattle.guest_operands.specs.declared.space.Access.TheVariants.{Write};
-ghost use Rattle.thread_blocks.specs.MachineTurns.{pointer_of, pointer_word, stack_start, word_bytes};
+ghost use Rattle.thread_blocks.specs.MachineTurns.{pointer_word, word_bytes};
 ghost use Rattle.thread_blocks.specs.Spaces.{stack_range};
 
 use crate::space::ThreadSpace;

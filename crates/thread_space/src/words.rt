@@ -1,15 +1,15 @@
 //! A thread's stack, and the word at its thread pointer.
 
 ghost use Rattle.std.specs.Prelude.{◌≡◌, ◌≤◌, [], IfOk};
+ghost use Rattle.address_map.specs.Map.{stack_start};
 ghost use Rattle.guest_arithmetic.specs.Plain.{plain_operations};
-ghost use Rattle.thread_blocks.specs.MachineTurns.{fresh_stack, pointer_of, pointer_word, stack_end, stack_start, word_bytes, zeros};
+ghost use Rattle.thread_blocks.specs.MachineTurns.{fresh_stack, pointer_word, word_bytes, zeros};
 ghost use Rattle.thread_blocks.specs.Spaces.{stack_range};
 
+use address_map::{STACK_SIZE, stack_start, thread_pointer};
 use guest_machine::RETURN;
 use guest_memory::{GuestRange, Rights};
 use std::alloc::{AllocError, Global};
-
-const STACK_SIZE: u64 = 65_536;
 
 const CONSTANT: Rights = Rights {
     readable: true,
@@ -22,22 +22,6 @@ const VARIABLE: Rights = Rights {
     writable: true,
     runnable: false,
 };
-
-/// The thread pointer of a thread, which is numbered from 1.
-pub fn thread_pointer(thread: u32) -> u64
-    requires { thread ≤ 64 }
-    ensures { result ≡ pointer_of thread }
-{
-    u64::from(thread) * (1 << 40) + (1 << 38)
-}
-
-/// The end of a thread's stack.
-pub fn end_of_stack(thread: u32) -> u64
-    requires { thread ≤ 64 }
-    ensures { result ≡ stack_end thread }
-{
-    u64::from(thread) * (1 << 40) + (1 << 39)
-}
 
 /// A list of `count` zeros.
 #[tactic(auto, unfolding(thread_blocks::specs::MachineTurns::zeros))]
@@ -62,7 +46,7 @@ pub(crate) fn no_stack(alloc: Global, thread: u32) -> GuestRange<u8>
     requires { thread ≤ 64 }
     ensures { result ≡ stack_range (stack_start thread) [] }
 {
-    GuestRange::new(end_of_stack(thread) - STACK_SIZE, Vec::new(alloc), VARIABLE)
+    GuestRange::new(stack_start(thread), Vec::new(alloc), VARIABLE)
 }
 
 /// The stack before a call: zeros, and the return address in its last eight bytes.
@@ -73,7 +57,7 @@ pub(crate) fn stack_of(alloc: Global, thread: u32) -> Result<GuestRange<u8>, All
 {
     let mut bytes = zeros(alloc, STACK_SIZE as usize - 8)?;
     bytes.extend_from_slice(bytes_of(alloc, RETURN)?.as_slice())?;
-    let start = end_of_stack(thread) - STACK_SIZE;
+    let start = stack_start(thread);
     Ok(GuestRange::new(start, bytes, VARIABLE))
 }
 

@@ -4,6 +4,7 @@ use Rattle.std.specs.Prelude.{take, is_some}
 use Rattle.std.specs.Int.{next_multiple_of}
 use Rattle.std.proofs.lemmas.Option.{same_Some}
 use Rattle.std.proofs.lemmas.Bool.{cases_Bool, cases_lt, true≢false}
+use Rattle.address_map.specs.Map.{block_place}
 use Rattle.module_table.specs.declared.TheConstants.{SURPLUS, MOST_INSTANCES}
 use Rattle.module_table.specs.declared.modules.ImageInfo.{ImageInfo}
 use Rattle.module_table.specs.Modules.{is_loaded, no_module}
@@ -12,7 +13,7 @@ use Rattle.module_table.specs.Laws.{startup_end}
 use Rattle.module_table.proofs.Infos.{info_of}
 use Rattle.module_table.proofs.Steps.{loaded_within, numbered_at}
 use Rattle.loaded_modules.specs.Images.{JobImages, infos, last_offset, static_offset}
-use Rattle.thread_vector.specs.Addresses.{distance_of, address_at, start_of}
+use Rattle.thread_vector.specs.Addresses.{distance_of, start_of}
 use Rattle.thread_vector.specs.Holding.{IsLeftBy}
 use Rattle.thread_vector.specs.Laws.{BlocksAreApart, BlocksLieBelow, Covers, IsBelow, ThreadsAreApart, block_length}
 use Rattle.thread_vector.proofs.Facts.{Facts, facts, image_has}
@@ -113,8 +114,8 @@ fixed_apart images p a b x y d l ne one two ex ey a1 a2 b1 b2 = elim (cases_Bool
 
 -- an address of a block, by the distance of the image's blocks
 record At (thread i size address : ℕ) (distance : Option ℕ) : Type 0 where
-  pub from : address_at thread i distance ≤ address
-  pub to : address < address_at thread i distance + size
+  pub from : block_place thread i distance ≤ address
+  pub to : address < block_place thread i distance + size
 
 record Lives (images : JobImages) (p : Past) (thread i address : ℕ) : Type 0 where
   pub image : ℕ
@@ -136,7 +137,7 @@ lives images p thread i address l c = by_image (image_of p i) refl
     by_image None e = absurd (true≢false (sym c.is ∙ ap is_some e))
     by_image (Some a) e =
         let has = image_has p i a e in
-        let start : start_of thread images p i ≡ address_at thread i (distance_of images a (module_of p a)) = start_some thread images p i a e in
+        let start : start_of thread images p i ≡ block_place thread i (distance_of images a (module_of p a)) = start_some thread images p i a e in
         let long : block_length p i ≡ (module_of p a).info.size = rw e refl in
         let low : (module_of p a).instance ≤ p.made = (numbered_at p a f.is).instance has.1 in
         record {

@@ -4,12 +4,13 @@ use Rattle.std.specs.Prelude.{take}
 use Rattle.std.specs.Int.{next_multiple_of}
 use Rattle.std.proofs.lemmas.Bool.{cases_Bool}
 use Rattle.std.proofs.lemmas.Option.{same_Some}
+use Rattle.address_map.specs.Map.{block_place}
 use Rattle.module_table.specs.declared.TheConstants.{SURPLUS}
 use Rattle.module_table.specs.declared.modules.ImageInfo.{ImageInfo}
 use Rattle.module_table.specs.Past.{Past, module_of, image_of}
 use Rattle.module_table.specs.Laws.{startup_end}
 use Rattle.loaded_modules.specs.Images.{JobImages, infos, last_offset, static_offset}
-use Rattle.thread_vector.specs.Addresses.{distance_of, address_at, start_of}
+use Rattle.thread_vector.specs.Addresses.{distance_of, start_of}
 use Rattle.thread_vector.specs.Holding.{IsLeftBy}
 use Rattle.thread_vector.proofs.Facts.{facts}
 
@@ -17,7 +18,7 @@ pub start_none : (thread : ℕ) (images : JobImages) (p : Past) (i : ℕ) → im
 unfolding start_of
 start_none thread images p i e = rw e refl
 
-pub start_some : (thread : ℕ) (images : JobImages) (p : Past) (i a : ℕ) → image_of p i ≡ Some a → start_of thread images p i ≡ address_at thread i (distance_of images a (module_of p a))
+pub start_some : (thread : ℕ) (images : JobImages) (p : Past) (i a : ℕ) → image_of p i ≡ Some a → start_of thread images p i ≡ block_place thread i (distance_of images a (module_of p a))
 unfolding start_of
 start_some thread images p i a e = rw e refl
 

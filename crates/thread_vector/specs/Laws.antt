@@ -1,8 +1,9 @@
 -- The laws of the addresses of blocks, without slots.
 use Rattle.std.specs.Prelude.{◌≡◌, ◌≢◌, ◌+◌, ◌*◌, ◌<◌, ◌≤◌, ◌^◌, ℕ, true, Option, Some, None}
+use Rattle.address_map.specs.Map.{pointer_of, stack_end, stack_size}
 use Rattle.module_table.specs.Past.{Past, image_of, live, module_of}
 use Rattle.loaded_modules.specs.Images.{JobImages}
-use Rattle.thread_vector.specs.Addresses.{start_of, stack_end, stack_size, thread_pointer}
+use Rattle.thread_vector.specs.Addresses.{start_of}
 
 abbrev pub size_in : Past → Option ℕ → ℕ
 size_in p None = 0
@@ -31,7 +32,7 @@ ThreadsAreApart images p q =
 -- an address of the thread's own below its thread pointer, so neither at the thread pointer nor on the stack
 pub record IsBelow (thread address : ℕ) : Type 0 where
   pub own : thread * 2 ^ 40 ≤ address
-  pub below : address < thread_pointer thread
+  pub below : address < pointer_of thread
   pub off_stack : address + stack_size < stack_end thread
 
 abbrev pub BlocksLieBelow : JobImages → Past → Type 0

@@ -1,6 +1,6 @@
 //! A thread's dynamic thread vector.
 
-ghost use Rattle.std.specs.Prelude.{List, ◌≡◌, ◌≢◌, ◌+◌, ◌-◌, ◌*◌, ◌%◌, ◌<◌, ◌≤◌, ◌^◌, ℕ, Some, None, Ok, Err, IfOk, IfErr, OnOk, OnErr, IsErr, IsSome, true, false, length, is_some, option_map};
+ghost use Rattle.std.specs.Prelude.{List, ◌≡◌, ◌+◌, ◌-◌, ◌*◌, ◌<◌, ◌≤◌, ◌^◌, ℕ, Some, None, Ok, Err, IfOk, IfErr, OnOk, OnErr, true, false, length, is_some, option_map};
 ghost use Rattle.module_table.specs.Modules.{is_loaded};
 ghost use Rattle.module_table.specs.Past.{start, after, after_one, accepts, is_legal, live, current, instance_of, module_of, image_of};
 ghost use Rattle.loaded_modules.specs.Images.{infos, last_offset};
@@ -12,6 +12,7 @@ ghost use Rattle.thread_vector.specs.Vectors.{block_in, held, slot_of, fresh, ca
 
 use crate::slot::Slot;
 use crate::start::first_slots;
+use address_map::block_place;
 use loaded_modules::{Instance, Modules};
 use module_table::{Event, ModuleTable, SURPLUS};
 use std::alloc::{AllocError, Global};
@@ -332,11 +333,7 @@ impl<'m> Dtv<'m> {
         let Some(image) = self.image_of(instance) else {
             return 0;
         };
-        let first = u64::from(self.thread) * (1 << 40);
-        match self.distance_of(image) {
-            Some(distance) => first + (1 << 38) - distance,
-            None => first + u64::from(instance) * (1 << 24),
-        }
+        block_place(self.thread, instance, self.distance_of(image))
     }
 
     /// The address of the byte at `offset` in the thread's block of the live instance with module id `id`, modulo

@@ -1,6 +1,6 @@
 //! The slots before any event.
 
-ghost use Rattle.std.specs.Prelude.{◌≡◌, ◌≤◌, ◌<◌, ◌+◌, ◌-◌, ℕ, IfOk, length};
+ghost use Rattle.std.specs.Prelude.{◌≡◌, ◌≤◌, ◌<◌, ◌+◌, ◌-◌, IfOk};
 ghost use Rattle.thread_vector.specs.Starting.{AreFirst, IsFirst, startup_info};
 
 use crate::slot::Slot;

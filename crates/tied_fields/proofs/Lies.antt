@@ -8,6 +8,7 @@ use Rattle.std.proofs.lemmas.Bool.{le-ltb, lt-ltb}
 use Rattle.std.proofs.lemmas.Bool.Decides.{nat_tests}
 use Rattle.std.proofs.lemmas.List.{length-take}
 use Rattle.std.proofs.lemmas.List.Elements.{All-append, All-cons, All-nil}
+use Rattle.address_map.specs.Map.{owner_at}
 use Rattle.memory_image.proofs.Laid.{extent_low}
 use Rattle.elf_records.specs.Fields.{part_at}
 use Rattle.guest_operands.specs.declared.space.Access.{Access}
@@ -20,7 +21,6 @@ use Rattle.image_writer.specs.Contents.{part_in}
 use Rattle.image_writer.specs.Page.{file_offset}
 use Rattle.image_writer.specs.Tables.{tables_part}
 use Rattle.job_meaning.specs.declared.values.Byte.{Byte}
-use Rattle.job_meaning.specs.Owner.{owner_at}
 use Rattle.known_instances.proofs.StartupNumbers.{known_given}
 use Rattle.link_core.proofs.Few.{table_fits}
 use Rattle.link_core.specs.Bytes.{file}

@@ -6,6 +6,7 @@ use Rattle.std.specs.List.{list_any}
 use Rattle.std.specs.Str.{bytes_eq}
 use Rattle.std.proofs.lemmas.Bool.Decides.{nat_tests}
 use Rattle.std.proofs.lemmas.Option.{same_Some}
+use Rattle.address_map.specs.Map.{pointer_of}
 use Rattle.amd64_subset.specs.Spelling.{field_of}
 use Rattle.elf_object.specs.declared.relocation.Relocation.{Relocation}
 use Rattle.elf_object.specs.Lent.{relocations, symbol_binding, symbol_name}
@@ -33,7 +34,6 @@ use Rattle.sequence_forms.specs.declared.places.Site.{Site}
 use Rattle.sequence_match.specs.Sites.{Covers}
 use Rattle.thread_blocks.specs.Instances.{block_start}
 use Rattle.thread_blocks.specs.JobLoads.{job_loads}
-use Rattle.thread_blocks.specs.MachineTurns.{pointer_of}
 use Rattle.thread_blocks.specs.Turns.{at_number}
 use Rattle.tied_meaning.specs.Numbers.{IsMade, base_number}
 use Rattle.tied_meaning.specs.Ties.{HasFourBytes}

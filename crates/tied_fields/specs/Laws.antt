@@ -3,6 +3,7 @@ use Rattle.std.specs.Prelude.{◌≡◌, ◌≤◌, ◌<◌, ◌+◌, ◌-◌, �
 use Rattle.std.specs.Prelude.{length, map}
 use Rattle.std.specs.Prelude.{option_and_then}
 use Rattle.std.specs.List.{All, Contains}
+use Rattle.address_map.specs.Map.{owner_at}
 use Rattle.amd64_subset.specs.Spelling.{field_of}
 use Rattle.got_pairs.specs.declared.need.Need.TheVariants.{Descriptor}
 use Rattle.got_pairs.specs.declared.need.Target.{Target}
@@ -16,7 +17,6 @@ use Rattle.job_meaning.specs.declared.values.Block.{Block}
 use Rattle.job_meaning.specs.declared.values.Byte.{Byte}
 use Rattle.job_meaning.specs.declared.values.Token.TheVariants.{Base}
 use Rattle.job_meaning.specs.Marked.{code_byte}
-use Rattle.job_meaning.specs.Owner.{owner_at}
 use Rattle.job_text.specs.LateImages.{LateLast}
 use Rattle.known_instances.specs.Known.{known_in}
 use Rattle.link_needs.specs.Linking.{Linking, binding, choice, sites_at}

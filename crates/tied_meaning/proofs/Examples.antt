@@ -2,12 +2,11 @@
 -- of x@dtpoff, as it is kept and as it is rewritten.
 use Rattle.std.proofs.Common.{◌≡◌, ◌+◌, ◌-◌, ◌%◌, ◌^◌, ◌==◌, ℕ, Bool, true, false, Some, None, refl, ap, ◌∙◌, arith}
 use Rattle.std.specs.Prelude.{if◌then◌else◌}
+use Rattle.address_map.specs.Map.{owner_at, pointer_of}
 use Rattle.job_meaning.specs.declared.values.Block.{Block}
 use Rattle.job_meaning.specs.declared.values.Token.TheVariants.{Base}
-use Rattle.job_meaning.specs.Owner.{owner_at}
 use Rattle.loaded_modules.specs.declared.instance.Instance.{Instance}
 use Rattle.thread_blocks.specs.Instances.{block_start}
-use Rattle.thread_blocks.specs.MachineTurns.{pointer_of}
 use Rattle.tied_meaning.specs.Numbers.{Setting, IsMade, SameField, number_for}
 
 -- the program's block begins 8 bytes below the thread pointer

@@ -2,6 +2,7 @@
 use Rattle.std.proofs.Common.{◌≡◌, ℕ, zero, suc, ◌+◌, ◌%◌, ◌^◌, ◌<◌, Bool, true, false, ◌&&◌, ◌==◌, List, [], ◌∷◌, length, Option, Some, None, Ok, Err, refl, sym, ap, arith}
 use Rattle.std.specs.Prelude.{if◌then◌else◌}
 use Rattle.std.proofs.lemmas.Bool.{eqb-true, and_parts}
+use Rattle.address_map.specs.Map.{owner_at}
 use Rattle.guest_arithmetic.specs.declared.cause.Cause.TheVariants as cause
 use Rattle.guest_machine.specs.Follow.{Uses, All2}
 use Rattle.guest_machine.specs.Operand.{moved_by}
@@ -17,7 +18,6 @@ use Rattle.job_meaning.specs.declared.values.Flag.TheVariants.{Truth, Unsettled}
 use Rattle.job_meaning.specs.declared.values.Byte.{Byte}
 use Rattle.job_meaning.specs.declared.values.Byte.TheVariants.{Value, Hidden, Part}
 use Rattle.job_meaning.specs.Marked.{used_number, used_truth, part_of, is_same_block, is_same, with_value, values_of, are_parts, whole, joined_as, moved_in, marked_operations}
-use Rattle.job_meaning.specs.Owner.{owner_at}
 use Rattle.tied_meaning.specs.Laws.{NumbersFollowMarkedValues}
 use Rattle.tied_meaning.specs.Numbers.{Setting, IsMade, SameByte, SameField, SameFlag, SameWord, alike, base_number, number_for}
 

@@ -1,8 +1,8 @@
 -- The law of values.
+use Rattle.address_map.specs.Map.{owner_at}
 use Rattle.guest_arithmetic.specs.Plain.{plain_operations}
 use Rattle.guest_machine.specs.Follow.{IsFollowed}
 use Rattle.job_meaning.specs.Marked.{marked_operations}
-use Rattle.job_meaning.specs.Owner.{owner_at}
 use Rattle.tied_meaning.specs.Numbers.{Setting, alike}
 
 -- results of related values are related, in any setting; the code's own instance is read from its address

@@ -1,6 +1,7 @@
 -- The machine's counterparts of the meaning's words, flags, bytes and fields: the same number, or for a token the
 -- number that a linker chose.
 use Rattle.std.specs.Prelude.{◌≡◌, ℕ, ◌+◌, ◌%◌, ◌^◌, ◌<◌, ◌&&◌, ◌==◌, Bool, true, Option, Some, None, if◌then◌else◌}
+use Rattle.address_map.specs.Map.{owner_at, pointer_of}
 use Rattle.guest_machine.specs.Follow.{Alike}
 use Rattle.guest_arithmetic.specs.Values.{digit}
 use Rattle.job_meaning.specs.declared.values.Block.{Block}
@@ -12,10 +13,8 @@ use Rattle.job_meaning.specs.declared.values.Flag.{Flag}
 use Rattle.job_meaning.specs.declared.values.Flag.TheVariants.{Truth, Unsettled}
 use Rattle.job_meaning.specs.declared.values.Byte.{Byte}
 use Rattle.job_meaning.specs.declared.values.Byte.TheVariants.{Value, Hidden, Part}
-use Rattle.job_meaning.specs.Owner.{owner_at}
 use Rattle.loaded_modules.specs.declared.instance.Instance.{Instance}
 use Rattle.thread_blocks.specs.Instances.{block_start}
-use Rattle.thread_blocks.specs.MachineTurns.{pointer_of}
 
 -- a linker's choices for a job, and the instance of each number. It is one record for a whole run: `known` is about
 -- the history that the job ends with, and not about the events that some thread has seen

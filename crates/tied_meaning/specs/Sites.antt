@@ -2,6 +2,7 @@
 -- be read. Nothing here depends on how a linker chose or laid them.
 use Rattle.std.specs.Prelude.{◌≡◌, ◌≤◌, ◌<◌, ◌+◌, ◌*◌, ◌%◌, ◌^◌, ◌&&◌, ◌==◌, ◌⊎◌, ℕ, true, false, List, [], ◌∷◌, Some, slice_get}
 use Rattle.std.specs.List.{list_any}
+use Rattle.address_map.specs.Map.{pointer_of}
 use Rattle.amd64_subset.specs.declared.instr.Decoded.{Decoded}
 use Rattle.amd64_subset.specs.declared.instr.Operation.TheVariants.{Jump}
 use Rattle.amd64_subset.specs.declared.instr.Target.TheVariants.{Indirect}
@@ -21,7 +22,6 @@ use Rattle.sequence_forms.specs.declared.forms.Form.{Form}
 use Rattle.sequence_forms.specs.declared.forms.Form.TheVariants.{Gd, Ld, IeMov, IeAdd, GdInd, LdInd, DescLea, DescCall}
 use Rattle.sequence_laws.specs.Instructions.{displaced, kept_instructions, new_instructions, of_next}
 use Rattle.thread_blocks.specs.Instances.{Loads, block_start}
-use Rattle.thread_blocks.specs.MachineTurns.{pointer_of}
 use Rattle.thread_blocks.specs.RunTime.{has_words}
 use Rattle.whole_meaning.specs.declared.sequences.Sequence.{Sequence}
 use Rattle.whole_meaning.specs.Sequences.{variable_distance}

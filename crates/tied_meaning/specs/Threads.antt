@@ -1,6 +1,7 @@
 -- A thread of the meaning and the same thread of the machine: how they are related between two lines, in a call, and
 -- while they wait for a look in the middle of one.
 use Rattle.std.specs.Prelude.{◌≡◌, ◌-◌, ◌%◌, ◌^◌, ◌&&◌, ℕ, Bool, true, false, List, All, Some, None, Ok, length}
+use Rattle.address_map.specs.Map.{pointer_of, stack_size, stack_start}
 use Rattle.guest_arithmetic.specs.Plain.{plain_operations}
 use Rattle.guest_operands.specs.declared.state.State.{State}
 use Rattle.guest_machine.specs.Access.{load_of}
@@ -19,7 +20,6 @@ use Rattle.sequence_forms.specs.declared.forms.Form.TheVariants.{DescCall}
 use Rattle.thread_blocks.specs.declared.asked.Asked.{Asked}
 use Rattle.thread_blocks.specs.Held.{Kind, Block, Data, Owned, Owner, is_block, owned, owned_by}
 use Rattle.thread_blocks.specs.Instances.{Loads, block_range}
-use Rattle.thread_blocks.specs.MachineTurns.{pointer_of, stack_size, stack_start}
 use Rattle.thread_blocks.specs.RunTime.{Runs, thread_accesses}
 use Rattle.thread_blocks.specs.Spaces.{SameRange, SameSpace, Space}
 use Rattle.thread_blocks.specs.TurnsAlike.{IsFront}

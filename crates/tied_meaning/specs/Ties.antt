@@ -1,5 +1,6 @@
 -- What is loaded of an instance, on the two sides: of its objects in the meaning, and of its linked image.
 use Rattle.std.specs.Prelude.{◌≡◌, ◌≤◌, ◌<◌, ◌+◌, ◌-◌, ◌%◌, ◌^◌, ℕ, ℤ, true, false, List, All, IfSome, Option, Some, None, length, slice_get, option_and_then}
+use Rattle.address_map.specs.Map.{owner_at}
 use Rattle.amd64_subset.specs.Spelling.{field_of}
 use Rattle.guest_operands.specs.declared.space.Access.{Access}
 use Rattle.guest_operands.specs.declared.space.Access.TheVariants.{Read, Run}
@@ -10,7 +11,6 @@ use Rattle.job_meaning.specs.declared.values.Block.{Block}
 use Rattle.job_meaning.specs.declared.values.Byte.{Byte}
 use Rattle.job_meaning.specs.declared.values.Token.TheVariants.{Base}
 use Rattle.job_meaning.specs.Marked.{code_byte}
-use Rattle.job_meaning.specs.Owner.{owner_at}
 use Rattle.loaded_modules.specs.declared.instance.Instance.{Instance}
 use Rattle.module_table.specs.declared.events.Event.{Event}
 use Rattle.module_table.specs.Past.{startup_count}

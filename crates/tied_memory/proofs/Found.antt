@@ -3,6 +3,7 @@ use Rattle.std.proofs.Common.{if◌then◌else◌, ◌≡◌, ◌∙◌, ◌^◌
 use Rattle.std.specs.List.{find, flat_map}
 use Rattle.std.specs.Option.{option_or}
 use Rattle.std.proofs.lemmas.Bool.{eq-eqb}
+use Rattle.address_map.specs.Map.{stack_start}
 use Rattle.guest_arithmetic.specs.Plain.{plain_operations}
 use Rattle.guest_operands.specs.declared.space.Access.{Access}
 use Rattle.guest_machine.specs.Ranges.{Range, byte_in, holds}
@@ -10,7 +11,7 @@ use Rattle.loaded_modules.specs.declared.instance.Instance.{Instance}
 use Rattle.module_table.specs.declared.events.Event.{Event}
 use Rattle.thread_blocks.specs.Held.{Kind, Block, Data, Owner, owned}
 use Rattle.thread_blocks.specs.Instances.{Loads, block_start, fixed_at, instances, numbered_instance}
-use Rattle.thread_blocks.specs.MachineTurns.{pointer_word, stack_start}
+use Rattle.thread_blocks.specs.MachineTurns.{pointer_word}
 use Rattle.thread_blocks.specs.Spaces.{Space, ranges_of, stack_range}
 use Rattle.whole_meaning.specs.Meanings.{Meaning}
 use Rattle.tied_meaning.specs.Numbers.{Setting}

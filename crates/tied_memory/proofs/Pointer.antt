@@ -2,6 +2,7 @@
 use Rattle.std.proofs.Common.{if◌then◌else◌, ◌≡◌, ◌∙◌, ◌+◌, ◌-◌, ◌%◌, ◌^◌, ◌<◌, ◌≤◌, ◌++◌, ℕ, zero, suc, Bool, true, false, List, [], ◌∷◌, All, IfSome, length, Option, Some, None, Ok, refl, sym, ap, arith}
 use Rattle.std.specs.Prelude.{slice_get, ok_or}
 use Rattle.std.proofs.lemmas.Bool.{le-leb, lt-ltb}
+use Rattle.address_map.specs.Map.{pointer_of, stack_start}
 use Rattle.guest_arithmetic.specs.Plain.{plain_operations}
 use Rattle.guest_arithmetic.specs.Values.{digit}
 use Rattle.guest_operands.specs.declared.space.Access.TheVariants.{Read}
@@ -11,7 +12,7 @@ use Rattle.loaded_modules.specs.declared.instance.Instance.{Instance}
 use Rattle.module_table.specs.declared.events.Event.{Event}
 use Rattle.thread_blocks.specs.Held.{Kind, Block, Data, Owner, owned}
 use Rattle.thread_blocks.specs.Instances.{Loads, block_start, fixed_at}
-use Rattle.thread_blocks.specs.MachineTurns.{pointer_of, pointer_word, stack_start}
+use Rattle.thread_blocks.specs.MachineTurns.{pointer_word}
 use Rattle.thread_blocks.specs.RunTime.{thread_accesses}
 use Rattle.thread_blocks.specs.Spaces.{Space, space_accesses, stack_range}
 use Rattle.whole_meaning.specs.Meanings.{Meaning}

@@ -1,5 +1,6 @@
 -- What a thread reads, if loads are tied.
 use Rattle.std.specs.Prelude.{◌≡◌, ◌≤◌, ◌<◌, ◌^◌, ℕ, List, Some, Ok}
+use Rattle.address_map.specs.Map.{pointer_of}
 use Rattle.amd64_subset.specs.declared.instr.Decoded.{Decoded}
 use Rattle.amd64_subset.specs.Decoding.{decoded}
 use Rattle.guest_arithmetic.specs.Plain.{plain_operations}
@@ -8,7 +9,6 @@ use Rattle.loaded_modules.specs.declared.instance.Instance.{Instance}
 use Rattle.module_table.specs.declared.events.Event.{Event}
 use Rattle.thread_blocks.specs.Held.{Owner}
 use Rattle.thread_blocks.specs.Instances.{Loads, numbered_instance}
-use Rattle.thread_blocks.specs.MachineTurns.{pointer_of}
 use Rattle.thread_blocks.specs.RunTime.{thread_accesses}
 use Rattle.thread_blocks.specs.Spaces.{Space}
 use Rattle.whole_meaning.specs.Meanings.{Meaning}

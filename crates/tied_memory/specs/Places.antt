@@ -1,9 +1,9 @@
 -- The condition on a thread's written ranges that makes it read what is loaded.
 use Rattle.std.specs.Prelude.{◌≡◌, ℕ, List, All, length}
+use Rattle.address_map.specs.Map.{stack_size}
 use Rattle.module_table.specs.declared.events.Event.{Event}
 use Rattle.thread_blocks.specs.Held.{Owner, owned}
 use Rattle.thread_blocks.specs.Instances.{Loads}
-use Rattle.thread_blocks.specs.MachineTurns.{stack_size}
 use Rattle.thread_blocks.specs.Spaces.{Space}
 use Rattle.thread_blocks.specs.TurnsAlike.{IsFront}
 use Rattle.tied_meaning.specs.Numbers.{Setting}

@@ -1,10 +1,10 @@
 -- The distance of a variable from the thread pointer: that of a block which begins a fixed way below it.
 use Rattle.std.proofs.Common.{◌≡◌, ◌∙◌, ◌+◌, ◌-◌, ◌%◌, ◌^◌, ◌<◌, ◌≤◌, ℕ, Some, refl, sym, ap}
 use Rattle.std.proofs.Common.{arith}
+use Rattle.address_map.specs.Map.{pointer_of}
 use Rattle.got_pairs.specs.Entries.{less}
 use Rattle.loaded_modules.specs.declared.instance.Instance.{Instance}
 use Rattle.thread_blocks.specs.Instances.{block_start}
-use Rattle.thread_blocks.specs.MachineTurns.{pointer_of}
 use Rattle.tied_meaning.specs.Numbers.{Setting}
 use Rattle.tied_meaning.specs.Sites.{IsDistance}
 use Rattle.whole_meaning.specs.declared.sequences.Sequence.{Sequence}

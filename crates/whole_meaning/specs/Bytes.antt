@@ -1,6 +1,6 @@
 -- The bytes in the sections of an instance, by the table of relocations alone (psABI, "Relocation Types"), and its
 -- variables and functions. No table that a linker makes is used.
-use Rattle.std.specs.Prelude.{ℕ, ◌+◌, ◌-◌, ◌&&◌, ◌++◌, Bool, true, false, List, Option, Some, None, length, map, nat_le, nat_lt, replicate, slice_index_or, unwrap_or, option_and_then, if◌then◌else◌}
+use Rattle.std.specs.Prelude.{ℕ, ◌+◌, ◌-◌, ◌&&◌, ◌++◌, Bool, true, List, Option, Some, None, length, map, nat_le, nat_lt, replicate, slice_index_or, unwrap_or, option_and_then, if◌then◌else◌}
 use Rattle.std.specs.List.{find, range_with_len}
 use Rattle.elf_object.specs.declared.relocation.Relocation.{Relocation}
 use Rattle.elf_object.specs.declared.symbol.SymbolPlace.{SymbolPlace}

@@ -1,5 +1,6 @@
 -- Laws of the meaning.
 use Rattle.std.specs.Prelude.{◌≡◌, ◌<◌, ◌^◌, ℕ, true, false, Ok}
+use Rattle.address_map.specs.Map.{pointer_of}
 use Rattle.guest_operands.specs.declared.state.State.{State}
 use Rattle.guest_operands.specs.Use.{After, plus}
 use Rattle.job_meaning.specs.declared.values.Flag.{Flag}
@@ -11,7 +12,6 @@ use Rattle.sequence_forms.specs.declared.forms.Form.{Form}
 use Rattle.sequence_forms.specs.declared.forms.Form.TheVariants.{Gd, GdInd, DescCall}
 use Rattle.thread_blocks.specs.declared.asked.Asked.{Asked}
 use Rattle.thread_blocks.specs.Instances.{Loads}
-use Rattle.thread_blocks.specs.MachineTurns.{pointer_of}
 use Rattle.thread_blocks.specs.RunTime.{answer_word}
 use Rattle.whole_meaning.specs.Code.{definition_number}
 use Rattle.whole_meaning.specs.Sequences.{Stack, does}

@@ -1,7 +1,8 @@
 -- The addresses of the sections of an image's objects, and of its instances.
-use Rattle.std.specs.Prelude.{ℕ, ◌+◌, ◌-◌, ◌*◌, ◌^◌, ◌&&◌, Bool, List, [], ◌∷◌, Option, None, nat_le, nat_lt, unwrap_or, option_map, if◌then◌else◌}
+use Rattle.std.specs.Prelude.{ℕ, ◌+◌, ◌-◌, ◌^◌, ◌&&◌, Bool, List, [], ◌∷◌, Option, None, nat_le, nat_lt, unwrap_or, option_map, if◌then◌else◌}
 use Rattle.std.specs.List.{find, range_with_len}
 use Rattle.std.specs.Option.{option_or}
+use Rattle.address_map.specs.Map.{moved_bias}
 use Rattle.elf_object.specs.Lent.{section_class, section_size}
 use Rattle.elf_object.specs.Object.{section_count}
 use Rattle.link_faults.specs.declared.image_kind.ImageKind.{ImageKind}
@@ -15,7 +16,7 @@ use Rattle.tls_layout.specs.Sections.{Layout, is_class}
 
 -- the load bias of an instance: its distance from where its image was laid out
 abbrev pub bias_of : ImageKind → ℕ → ℕ
-bias_of kind number = if is_moved kind then 2 ^ 32 + number * 2 ^ 26 else 0
+bias_of kind number = if is_moved kind then moved_bias number else 0
 
 -- whether an address is in the room of an instance: from the end of all of its sections to the end of its addresses
 unfoldable pub in_room : Linking → ℕ → ℕ → Bool

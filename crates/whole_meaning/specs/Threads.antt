@@ -3,6 +3,7 @@
 use Rattle.std.specs.Prelude.{ℕ, ◌+◌, ◌-◌, ◌++◌, ◌&&◌, ◌==◌, Bool, true, false, List, [], ◌∷◌, drop, Option, Some, None, Result, Ok, Err, nat_lt, position, replicate, unwrap_or, option_and_then, option_map, if◌then◌else◌}
 use Rattle.std.specs.List.{list_any}
 use Rattle.std.specs.Option.{option_or}
+use Rattle.address_map.specs.Map.{owner_at, stack_start}
 use Rattle.guest_arithmetic.specs.declared.cause.Cause.{Cause}
 use Rattle.guest_arithmetic.specs.declared.cause.Cause.TheVariants as cause
 use Rattle.guest_arithmetic.specs.Cause.{rank_of}
@@ -22,7 +23,6 @@ use Rattle.job_meaning.specs.declared.values.Token.TheVariants.{Base, Descriptor
 use Rattle.job_meaning.specs.declared.values.Word.{Word}
 use Rattle.job_meaning.specs.declared.values.Word.TheVariants.{Number}
 use Rattle.job_meaning.specs.Marked.{marked_operations, values_of}
-use Rattle.job_meaning.specs.Owner.{owner_at}
 use Rattle.job_text.specs.declared.thread_lines.Action.{Action}
 use Rattle.job_text.specs.declared.thread_lines.Action.TheVariants.{Call, Open, Close, Peek}
 use Rattle.loaded_modules.specs.declared.instance.Instance.{Instance}
@@ -33,7 +33,7 @@ use Rattle.transcript_text.specs.declared.outcomes.Outcome.TheVariants.{Bytes, F
 use Rattle.thread_blocks.specs.Held.{Held, looked, reached}
 use Rattle.thread_blocks.specs.Instances.{block_start, fixed_at, instance_at, instances, numbered_instance}
 use Rattle.thread_blocks.specs.Lines.{Line, begin_line}
-use Rattle.thread_blocks.specs.MachineTurns.{pointer_word, stack_start}
+use Rattle.thread_blocks.specs.MachineTurns.{pointer_word}
 use Rattle.thread_blocks.specs.Spaces.{Space, open_everywhere, space_accesses, stack_range}
 use Rattle.thread_blocks.specs.Turns.{Answered, Begun, Calls, Ending, Says, Stopped, Turns}
 use Rattle.whole_meaning.specs.declared.marks.Mark.{Mark}

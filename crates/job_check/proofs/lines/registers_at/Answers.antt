@@ -1,4 +1,5 @@
-use Rattle.std.proofs.Common.{ℕ, ◌∙◌, ◌+◌, ◌-◌, ◌*◌, sym, ap, arith}
+use Rattle.std.proofs.Common.{ℕ, ◌∙◌, ◌-◌, sym, ap, arith}
+use Rattle.address_map.specs.Map.{stack_end}
 use Rattle.guest_operands.specs.declared.state.State.{State}
 use Rattle.guest_operands.specs.State.{start_of}
 use Rattle.job_meaning.specs.declared.values.Flag.{Flag}
@@ -10,9 +11,12 @@ use Rattle.job_check.proofs.lines.registers_at.Goals as goal
 
 pub returns : goal.returns
 returns c =
-    let pointed : State Word Flag → State Word Flag = λ s. record s { thread_pointer = c.from-thread.result * 1099511627776 + 274877906944 } in
-    let started : ℕ → State Word Flag = λ t.
-    record (start_of ops c.args.place (t * 1099511627776 + 549755813888 - 8) (Number c.args.a) (Number c.args.b) (Number c.args.c))
-    { thread_pointer = t * 1099511627776 + 274877906944 } in
-    ap pointed c.start-state.ensures ∙ ap started c.from-thread.ensures
+    let pointed : State Word Flag → State Word Flag = λ s. record s { thread_pointer = c.thread_pointer.result } in
+    let started : ℕ → State Word Flag = λ stack.
+    record (start_of ops c.args.place (stack - 8) (Number c.args.a) (Number c.args.b) (Number c.args.c))
+    { thread_pointer = c.thread_pointer.result } in
+    let placed : ℕ → State Word Flag = λ pointer.
+    record (start_of ops c.args.place (stack_end c.args.thread - 8) (Number c.args.a) (Number c.args.b) (Number c.args.c))
+    { thread_pointer = pointer } in
+    ap pointed c.start-state.ensures ∙ ap started c.stack_end-stack.ensures ∙ ap placed c.thread_pointer.ensures
     ∙ sym (marked_start c.args.thread c.args.place c.args.a c.args.b c.args.c (omega arith) (omega arith) (omega arith))

@@ -1,7 +1,7 @@
 -- The stack takes the byte, or a range of its own.
 use Rattle.std.proofs.Common.{◌∙◌, ◌-◌, ap, sym}
 use Rattle.std.specs.Prelude.{slice_set}
-use Rattle.thread_blocks.specs.MachineTurns.{stack_start}
+use Rattle.address_map.specs.Map.{stack_start}
 use Rattle.marked_memory.specs.Kept.{memory_of, shape_of}
 use Rattle.marked_memory.proofs.Writes.{own_shape, own_written, stack_shape, stack_written}
 use Rattle.marked_memory.proofs.bytes.MarkedMemoryBytesMarkedValues.write.Goals as goal

@@ -1,6 +1,6 @@
 -- The stack alone changes.
 use Rattle.std.proofs.Common.{◌-◌, ap}
-use Rattle.thread_blocks.specs.MachineTurns.{stack_start}
+use Rattle.address_map.specs.Map.{stack_start}
 use Rattle.whole_meaning.specs.Threads.{hidden_below}
 use Rattle.marked_memory.specs.Kept.{Kept}
 use Rattle.marked_memory.specs.Spaces.{with_hidden}

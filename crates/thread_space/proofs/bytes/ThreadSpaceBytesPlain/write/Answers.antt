@@ -1,7 +1,7 @@
 -- The first part of the memory that takes the byte changes.
 use Rattle.std.proofs.Common.{◌∙◌, ◌-◌, ap, sym}
 use Rattle.std.specs.Prelude.{slice_set}
-use Rattle.thread_blocks.specs.MachineTurns.{stack_start}
+use Rattle.address_map.specs.Map.{stack_start}
 use Rattle.thread_space.specs.Kept.{memory_of, shape_of}
 use Rattle.thread_space.proofs.ShapeKept.{stack_shape}
 use Rattle.thread_space.proofs.WriteKept.{write_none, write_stack}
