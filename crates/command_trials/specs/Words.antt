@@ -1,5 +1,6 @@
 -- What the words of trials say: a count, a seed, and kinds of inputs.
-use Rattle.std.specs.Prelude.{◌≡◌, ◌||◌, ℕ, Bool, List, codes, slice_get, IsSomeAnd}
+use Rattle.std.specs.Prelude.{◌≡◌, ◌||◌, ℕ, Bool, List, String, codes, drop, slice_get, string_bytes, IsSomeAnd, IsTrue}
+use Rattle.std.specs.List.{All}
 use Rattle.std.specs.Str.{bytes_eq}
 use Rattle.std.specs.Str.Parse.{IsNumeral, digits_value, without_leading_plus}
 
@@ -7,11 +8,24 @@ use Rattle.std.specs.Str.Parse.{IsNumeral, digits_value, without_leading_plus}
 abbrev pub Gives : List ℕ → ℕ → Type 0
 Gives word number = IsNumeral 10 (without_leading_plus word) × (digits_value 10 (without_leading_plus word) ≡ number)
 
--- words of which the first gives the count and the second the seed
-abbrev pub IsPlan : List (List ℕ) → ℕ → ℕ → Type 0
-IsPlan words count seed =
-    IsSomeAnd (slice_get words 0) (λ word. Gives word count) × IsSomeAnd (slice_get words 1) (λ word. Gives word seed)
-
 -- the names of the kinds
 abbrev pub is_kind : List ℕ → Bool
 is_kind name = bytes_eq name (codes "jobs") || (bytes_eq name (codes "objects") || bytes_eq name (codes "images"))
+
+module _ {A : Type 0} where
+  -- words of which the first gives the count and the second the seed
+  abbrev pub IsPlan : List (String A) → ℕ → ℕ → Type 0
+  IsPlan words count seed =
+      IsSomeAnd (slice_get words 0) (λ word. Gives (string_bytes word) count)
+      × IsSomeAnd (slice_get words 1) (λ word. Gives (string_bytes word) seed)
+
+  -- words each of which is the name of a kind
+  abbrev pub AreKinds : List (String A) → Type 0
+  AreKinds words = All (λ word. IsTrue (is_kind (string_bytes word))) words
+
+  -- a count, a seed, and kinds
+  pub record AreWords (words : List (String A)) : Type 0 where
+    pub count : ℕ
+    pub seed : ℕ
+    pub plan : IsPlan words count seed
+    pub kinds : AreKinds (drop 2 words)

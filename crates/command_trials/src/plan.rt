@@ -1,9 +1,7 @@
 //! So many changed inputs of a kind, one after another.
 
-ghost use Rattle.std.specs.Prelude.{◌≡◌, IfSome, IsTrue, OnOk, drop, is_ok, map, string_bytes};
-ghost use Rattle.std.specs.List.{All};
-ghost use Rattle.ports.specs.Files.{Files};
-ghost use Rattle.command_trials.specs.Words.{Gives, IsPlan, is_kind};
+ghost use Rattle.std.specs.Prelude.{◌≡◌, IfSome, IsTrue, OnOk, drop, is_ok};
+ghost use Rattle.command_trials.specs.Words.{AreKinds, AreWords, Gives, IsPlan, is_kind};
 
 use crate::alarm::Alarm;
 use crate::bench::{Bench, Program};
@@ -42,11 +40,18 @@ fn number_in(word: &str) -> Option<u64>
 
 /// The plan of these words: a count and a seed.
 fn plan_of(words: &[String]) -> Option<Plan>
-    ensures { IfSome result (λ plan. IsPlan (map string_bytes words.now) plan.count plan.seed) }
+    ensures { IfSome result (λ plan. IsPlan words.now plan.count plan.seed) }
 {
     let count = number_in(words.first()?.as_str())?;
     let seed = number_in(words.get(1)?.as_str())?;
     Some(Plan { count, seed })
+}
+
+/// The words behind the count and the seed.
+fn kinds_in(words: &[String]) -> &[String]
+    ensures { result.now ≡ drop 2 words.now }
+{
+    words.get(2..).unwrap_or(&[])
 }
 
 /// The kind of that name.
@@ -112,7 +117,7 @@ fn try_kinds<R: Threads + Wait + Print + Sync, P: Program>(
     names: &[String],
     plan: Plan,
 ) -> Result<(), Alarm>
-    ensures { OnOk result (All (λ name. IsTrue (is_kind (string_bytes name))) names.now) }
+    ensures { OnOk result (AreKinds names.now) }
 {
     for name in names {
         try_kind(rt, bench, samples, name.as_str(), plan)?;
@@ -129,7 +134,10 @@ pub fn try_words<R: Threads + Wait + Print + Sync, P: Program, S: Store>(
     program: P,
     store: &mut S,
     words: &[String],
-) -> Result<(), Alarm> {
+) -> Result<(), Alarm>
+    ensures files { S.files store.new ≡ S.files store.old }
+    ensures words { OnOk result (AreWords words.now) }
+{
     let Some(plan) = plan_of(words) else {
         return Err(Alarm::Words);
     };
@@ -137,6 +145,5 @@ pub fn try_words<R: Threads + Wait + Print + Sync, P: Program, S: Store>(
     let mut bench = Bench::new(alloc, program)?;
     let seed = plan.seed;
     println!(rt; "seed {seed}")?;
-    let names = words.get(2..).unwrap_or(&[]);
-    try_kinds(rt, &mut bench, &samples, names, plan)
+    try_kinds(rt, &mut bench, &samples, kinds_in(words), plan)
 }

@@ -1,5 +1,7 @@
 //! What is changed: objects and jobs among the data of `command_fuzz`, and images that are linked of them.
 
+ghost use Rattle.std.specs.Prelude.{◌≡◌};
+
 use crate::alarm::Alarm;
 use job_changes::Generator;
 use ports::{MemoryStore, Store};
@@ -102,7 +104,9 @@ fn lay_all<S: Store>(
     store: &mut S,
     files: &mut MemoryStore,
     names: &[&str],
-) -> Result<(), Alarm> {
+) -> Result<(), Alarm>
+    ensures { S.files store.new ≡ S.files store.old }
+{
     for name in names {
         let mut bytes = Vec::new(alloc);
         store.fetch(name, &mut bytes)?;
@@ -121,7 +125,9 @@ pub(crate) fn any_job(generator: &mut Generator) -> &'static str {
 
 impl Samples {
     /// The samples, from a store that has the data of `command_fuzz`.
-    pub(crate) fn fetch<S: Store>(alloc: Global, store: &mut S) -> Result<Samples, Alarm> {
+    pub(crate) fn fetch<S: Store>(alloc: Global, store: &mut S) -> Result<Samples, Alarm>
+        ensures { S.files store.new ≡ S.files store.old }
+    {
         let mut files = MemoryStore::new(alloc);
         lay_all(alloc, store, &mut files, &OBJECTS)?;
         lay_all(alloc, store, &mut files, &JOBS)?;
