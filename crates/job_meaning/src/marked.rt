@@ -2,6 +2,7 @@
 
 ghost use Rattle.std.specs.Prelude.{◌≡◌, ◌+◌, ◌%◌, ◌^◌, ◌≤◌, ◌++◌, length};
 ghost use Rattle.std.specs.Option.{option_map};
+ghost use Rattle.address_map.specs.Map.{owner_at};
 ghost use Rattle.guest_arithmetic.specs.Four.{bytes_of};
 ghost use Rattle.guest_arithmetic.specs.Values.{number_from};
 ghost use Rattle.job_meaning.specs.Marked.{marked_operations, is_same_block, is_same, cause_of, values_of, are_parts, whole, joined_as};
