@@ -9,7 +9,7 @@ use Rattle.guest_arithmetic.specs.Cause.{both}
 use Rattle.guest_operands.specs.declared.state.State.{State}
 use Rattle.guest_operands.specs.declared.stop.Stop.{Stop}
 use Rattle.guest_operands.specs.State.{at_place, register_of, with_word}
-use Rattle.guest_operands.specs.Use.{After, clean, left, plus}
+use Rattle.guest_operands.specs.Use.{◌>>=◌, After, clean, left, plus}
 use Rattle.guest_machine.specs.Run.{Next, Ends, Looks, next_of}
 use Rattle.guest_machine.specs.Touch.{places_from}
 use Rattle.job_meaning.specs.declared.values.Flag.{Flag}
