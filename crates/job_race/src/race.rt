@@ -9,12 +9,11 @@ ghost use Rattle.thread_blocks.specs.JobLoads.{job_loads};
 ghost use Rattle.transcript_text.specs.Texts.{IsImageNumber};
 ghost use Rattle.job_race.specs.Rows.{CountsLooks};
 
-use crate::racers::JobRacers;
 use crate::row::transcript_of;
 use crate::rows::race_threads;
 use job_text::Job;
 use loaded_modules::Modules;
-use racing_thread::Gate;
+use racing_thread::{Course, Gate};
 use shared_modules::{Pass, Shared};
 use std::alloc::{AllocError, Global};
 use std::sync::Wait;
@@ -51,17 +50,17 @@ pub fn race_job<R: Threads + Wait + Sync, G: Gate + Sync>(
     let Ok(names) = JobNames::new(alloc, modules) else {
         return (pass, Err(AllocError));
     };
-    let racers = JobRacers {
+    let course = Course {
         job,
         names: &names,
         gate,
     };
-    let (pass, row) = race_threads(rt, alloc, &racers, shared, pass, 1, 64);
-    let JobRacers {
+    let (pass, row) = race_threads(rt, alloc, &course, shared, pass, 1, 64);
+    let Course {
         job: _,
         names: _,
         gate: _,
-    } = racers;
+    } = course;
     let _seen = pass.seen();
     let _threads = job.threads();
     let transcript = transcript_of(alloc, row);

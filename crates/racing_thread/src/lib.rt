@@ -41,4 +41,4 @@ mod looks;
 mod racing;
 
 pub use gates::{Gate, NoGate};
-pub use racing::{Raced, race_thread};
+pub use racing::{Course, Raced, race_thread};

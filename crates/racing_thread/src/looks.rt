@@ -1,6 +1,6 @@
 //! What a thread asks the shared history at a turn.
 
-ghost use Rattle.std.specs.Prelude.{◌≡◌, ◌∷◌, [], IfOk, OnOk};
+ghost use Rattle.std.specs.Prelude.{◌≡◌, ◌∷◌, [], IfOk, OnOk, false, true};
 ghost use Rattle.shared_modules.specs.Passes.{IsSamePass};
 ghost use Rattle.job_turns.specs.declared.asking.Ask.TheVariants.{Opens, Closes};
 ghost use Rattle.racing_thread.specs.Answers.{Answers, Looks};
@@ -37,32 +37,26 @@ fn look<R: Wait>(
     Ok(())
 }
 
-/// Opens an image for the thread's line.
+/// Opens an image for the thread's line. If that is accepted, it is this event.
 fn open<R: Wait>(
     rt: &R,
     shared: &Shared,
     pass: &mut Pass,
-    thread: u32,
-    line: u32,
-    image: u32,
+    event: Event,
     events: &mut Vec<Event>,
 ) -> Result<Answered, AllocError>
     requires of { pass.old.shared ≡ shared.now }
-    requires alone { pass.old.threads ≡ thread ∷ [] }
+    requires alone { pass.old.threads ≡ event.thread ∷ [] }
     requires all { events.old.items ≡ pass.old.seen }
-    ensures opens { IfOk result (λ answered.
-        Answers thread (Opens line image) pass.old events.new.items pass.new answered.answer answered.own) }
+    requires opens { event.opens ≡ true }
+    ensures opens { IfOk result (λ answered. Answers event.thread (Opens event.line event.image)
+        pass.old events.new.items pass.new answered.answer answered.own) }
     ensures same { IsSamePass pass.old pass.new }
 {
-    match shared.open(rt, pass, thread, line, image, events) {
+    match shared.open(rt, pass, event.thread, event.line, event.image, events) {
         Ok(opened) => Ok(Answered {
             answer: Some(LineAnswer::Opened(Ok(opened))),
-            own: Some(Event {
-                thread,
-                line,
-                opens: true,
-                image,
-            }),
+            own: Some(event),
         }),
         Err(refusal) => Ok(Answered {
             answer: Some(LineAnswer::Opened(Err(refused_open(refusal)?))),
@@ -71,32 +65,26 @@ fn open<R: Wait>(
     }
 }
 
-/// Closes an image for the thread's line.
+/// Closes an image for the thread's line. If that is accepted, it is this event.
 fn close<R: Wait>(
     rt: &R,
     shared: &Shared,
     pass: &mut Pass,
-    thread: u32,
-    line: u32,
-    image: u32,
+    event: Event,
     events: &mut Vec<Event>,
 ) -> Result<Answered, AllocError>
     requires of { pass.old.shared ≡ shared.now }
-    requires alone { pass.old.threads ≡ thread ∷ [] }
+    requires alone { pass.old.threads ≡ event.thread ∷ [] }
     requires all { events.old.items ≡ pass.old.seen }
-    ensures closes { IfOk result (λ answered.
-        Answers thread (Closes line image) pass.old events.new.items pass.new answered.answer answered.own) }
+    requires closes { event.opens ≡ false }
+    ensures closes { IfOk result (λ answered. Answers event.thread (Closes event.line event.image)
+        pass.old events.new.items pass.new answered.answer answered.own) }
     ensures same { IsSamePass pass.old pass.new }
 {
-    match shared.close(rt, pass, thread, line, image, events) {
+    match shared.close(rt, pass, event.thread, event.line, event.image, events) {
         Ok(closed) => Ok(Answered {
             answer: Some(LineAnswer::Closed(Ok(closed))),
-            own: Some(Event {
-                thread,
-                line,
-                opens: false,
-                image,
-            }),
+            own: Some(event),
         }),
         Err(refusal) => Ok(Answered {
             answer: Some(LineAnswer::Closed(Err(refused_close(refusal)?))),
@@ -130,7 +118,23 @@ pub(crate) fn answer<R: Wait>(
                 own: None,
             })
         }
-        Ask::Opens(line, image) => open(rt, shared, pass, thread, line, image, events),
-        Ask::Closes(line, image) => close(rt, shared, pass, thread, line, image, events),
+        Ask::Opens(line, image) => {
+            let event = Event {
+                thread,
+                line,
+                opens: true,
+                image,
+            };
+            open(rt, shared, pass, event, events)
+        }
+        Ask::Closes(line, image) => {
+            let event = Event {
+                thread,
+                line,
+                opens: false,
+                image,
+            };
+            close(rt, shared, pass, event, events)
+        }
     }
 }

@@ -30,6 +30,13 @@ pub struct Raced {
     pub events: Vec<Event>,
 }
 
+/// What a thread that races is given: the job, the names of its images, and the gate for each line.
+pub struct Course<'j, 'n, 'm, 'g, G> {
+    pub job: &'j Job,
+    pub names: &'n JobNames<'m>,
+    pub gate: &'g G,
+}
+
 /// Whether nothing is left to do.
 fn is_done(ask: Ask) -> bool
     ensures { result ≡ is_done ask }
@@ -70,31 +77,29 @@ fn take_turn<'j, 'n, 'm, R: Wait>(
 fn take_turns<R: Wait, G: Gate>(
     rt: &R,
     alloc: Global,
-    job: &Job,
-    names: &JobNames,
+    course: &Course<'_, '_, '_, '_, G>,
     shared: &Shared,
     pass: &mut Pass,
     thread: u32,
-    gate: &G,
 ) -> Result<Raced, AllocError>
     requires of { pass.old.shared ≡ shared.now }
     requires alone { pass.old.threads ≡ thread ∷ [] }
     requires fresh { pass.old.seen ≡ [] }
     requires low { 1 ≤ thread }
     requires high { thread ≤ 64 }
-    requires images { shared.now.images ≡ record { infos = infos names.now; last_offset = last_offset names.now } }
-    requires data { has_data names.now ≡ false }
+    requires images { shared.now.images ≡ record { infos = infos course.now.names.now; last_offset = last_offset course.now.names.now } }
+    requires data { has_data course.now.names.now ≡ false }
     ensures raced { IfOk result (λ raced.
-        HasRaced names.now job.now thread pass.old pass.new raced.lines.items raced.events.items) }
+        HasRaced course.now.names.now course.now.job.now thread pass.old pass.new raced.lines.items raced.events.items) }
     ensures same { IsSamePass pass.old pass.new }
 {
     let _legal = pass.seen();
     let mut events = Vec::new(alloc);
-    let mut runner = Runner::new(alloc, thread, job, names)?;
+    let mut runner = Runner::new(alloc, thread, course.job, course.names)?;
     let mut line = 0;
     for _ in rt.forever() {
         let ask = runner.asks();
-        line = pass_gate(gate, thread, line, ask);
+        line = pass_gate(course.gate, thread, line, ask);
         if is_done(ask) {
             let lines = runner.lines();
             return Ok(Raced { lines, events });
@@ -110,24 +115,22 @@ fn take_turns<R: Wait, G: Gate>(
 pub fn race_thread<R: Wait, G: Gate>(
     rt: &R,
     alloc: Global,
-    job: &Job,
-    names: &JobNames,
+    course: &Course<'_, '_, '_, '_, G>,
     shared: &Shared,
     mut pass: Pass,
     thread: u32,
-    gate: &G,
 ) -> (Pass, Result<Raced, AllocError>)
     requires of { pass.shared ≡ shared.now }
     requires alone { pass.threads ≡ thread ∷ [] }
     requires fresh { pass.seen ≡ [] }
     requires low { 1 ≤ thread }
     requires high { thread ≤ 64 }
-    requires images { shared.now.images ≡ record { infos = infos names.now; last_offset = last_offset names.now } }
-    requires data { has_data names.now ≡ false }
+    requires images { shared.now.images ≡ record { infos = infos course.now.names.now; last_offset = last_offset course.now.names.now } }
+    requires data { has_data course.now.names.now ≡ false }
     ensures same { (result.0.shared ≡ shared.now) × (result.0.threads ≡ thread ∷ []) }
     ensures raced { IfOk result.1 (λ raced.
-        HasRaced names.now job.now thread pass result.0 raced.lines.items raced.events.items) }
+        HasRaced course.now.names.now course.now.job.now thread pass result.0 raced.lines.items raced.events.items) }
 {
-    let raced = take_turns(rt, alloc, job, names, shared, &mut pass, thread, gate);
+    let raced = take_turns(rt, alloc, course, shared, &mut pass, thread);
     (pass, raced)
 }

@@ -11,25 +11,25 @@ pub loop-init : goal.loop-init
 loop-init g c = record {
   same = record { shared = refl; threads = refl };
   going = subst
-      (λ events. Going c.args.names.now c.args.job.now c.args.thread c.args.pass.now c.in_ok-runner.runner events c.args.pass.now)
+      (λ events. Going c.args.course.now.names.now c.args.course.now.job.now c.args.thread c.args.pass.now c.in_ok-runner.runner events c.args.pass.now)
       (sym c.new-events.ensures.items)
-      (starts c.args.names.now c.args.job.now c.args.thread c.args.pass.now c.in_ok-runner.runner c.in_ok-runner.ensures
+      (starts c.args.course.now.names.now c.args.course.now.job.now c.args.thread c.args.pass.now c.in_ok-runner.runner c.in_ok-runner.ensures
       c.requires.alone c.requires.fresh (ap (λ (s : SharedView). s.images) c.requires.of ∙ c.requires.images)
       c.requires.data c.seen-legal.ensures.legal);
 }
 
 pub returns-then-is_done-clause-raced : goal.returns-then-is_done-clause-raced
 returns-then-is_done-clause-raced g c =
-    subst (λ said. HasRaced c.args.names.now c.args.job.now c.args.thread c.args.pass.now c.loop.pass said c.loop.events.items)
+    subst (λ said. HasRaced c.args.course.now.names.now c.args.course.now.job.now c.args.thread c.args.pass.now c.loop.pass said c.loop.events.items)
     (sym c.lines-lines.ensures)
-    (ends c.args.names.now c.args.job.now c.args.thread c.args.pass.now c.loop.runner c.loop.events.items c.loop.pass
+    (ends c.args.course.now.names.now c.args.course.now.job.now c.args.thread c.args.pass.now c.loop.runner c.loop.events.items c.loop.pass
     c.loop.invariant.going
     (sym c.asks-ask.ensures ∙ done_is c.asks-ask.result (sym c.is_done.ensures ∙ c.if-is_done.true)))
 
 pub loop-preserved : goal.loop-preserved
 loop-preserved g c = record {
   same = same_along c.args.pass.now c.loop.pass c.take_turn.new.pass c.loop.invariant.same c.take_turn.ensures.same;
-  going = goes_on c.args.names.now c.args.job.now c.args.thread c.args.pass.now c.loop.runner c.loop.events.items c.loop.pass
+  going = goes_on c.args.course.now.names.now c.args.course.now.job.now c.args.thread c.args.pass.now c.loop.runner c.loop.events.items c.loop.pass
       c.loop.invariant.going c.take_turn.new.events.items c.take_turn.new.pass c.in_ok-runner-2.runner
       c.in_ok-runner-2.ensures.takes c.take_turn.ensures.same
       (subst IsGoing c.asks-ask.ensures (going_is c.asks-ask.result (sym c.is_done.ensures ∙ c.if-is_done.false)));

@@ -6,5 +6,5 @@ use Rattle.racing_thread.proofs.racing.take_turns.Given as goal
 abbrev pub invariant-loop : goal.invariant-loop
 invariant-loop g l = record {
   same : IsSamePass l.fn.pass l.pass;
-  going : Going l.names l.job l.thread l.fn.pass l.runner l.events.items l.pass;
+  going : Going l.course.names.now l.course.job.now l.thread l.fn.pass l.runner l.events.items l.pass;
 }
