@@ -21,11 +21,8 @@ use module_table::ModuleTable;
 use std::alloc::{AllocError, Global};
 use std::marker::Model;
 use std::mem;
-use thread_turns::TurnTaker;
+use thread_turns::{MOST_EVENTS, TurnTaker};
 use whole_meaning::UncleanStep;
-
-/// More events than any memory holds.
-const MOST_EVENTS: u64 = 1 << 61;
 
 /// A call that waits for its next look.
 #[derive(Clone, Copy, Debug)]

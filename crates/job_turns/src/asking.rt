@@ -3,6 +3,7 @@
 ghost use Rattle.std.specs.Prelude.{◌≡◌, IfErr, IfOk};
 ghost use Rattle.thread_blocks.specs.Lines.{refused_close, refused_open};
 ghost use Rattle.job_turns.specs.Asking.{IsClosesAnswer, IsOpensAnswer};
+ghost use Rattle.job_turns.specs.Progress.{is_done};
 
 use module_table::{CloseRefusal, Closed, OpenRefusal, Opened};
 use std::alloc::AllocError;
@@ -19,6 +20,18 @@ pub enum Ask {
     Opens(u32, u32),
     /// In the line with the first number it closes the image with the second.
     Closes(u32, u32),
+}
+
+impl Ask {
+    /// Whether nothing is left to do.
+    pub fn is_done(self) -> bool
+        ensures { result ≡ is_done self }
+    {
+        match self {
+            Ask::Done => true,
+            Ask::Look(_) | Ask::Opens(_, _) | Ask::Closes(_, _) => false,
+        }
+    }
 }
 
 /// The registry's answer to an open or a close, as a line is handed it.

@@ -1,20 +1,16 @@
 //! One turn of a thread.
 
 ghost use Rattle.std.specs.Prelude.{◌≡◌, IfOk};
-ghost use Rattle.job_turns.specs.Progress.{Share, is_done, is_over};
+ghost use Rattle.job_turns.specs.Progress.{Share, is_over};
 ghost use Rattle.job_turns.specs.Standing.{IsGoing, ask_of};
 ghost use Rattle.job_turns.specs.Turning.{CanTurn, CanTurnIn, Turned, TurnedIn};
 
 use crate::answers::answer;
-use crate::asking::Ask;
 use crate::runner::Runner;
 use module_data::Data;
 use module_table::Registry;
 use std::alloc::AllocError;
-use thread_turns::TurnTaker;
-
-/// No memory holds this many events.
-const MOST_EVENTS: u64 = 1 << 61;
+use thread_turns::{MOST_EVENTS, TurnTaker};
 
 /// What all threads share: the history, and the data of all images.
 #[derive(Drop)]
@@ -33,21 +29,11 @@ impl<'j, 'n, 'm> TurnTaker<Common> for Runner<'j, 'n, 'm> {
     ghost fit = { Share };
 
     fn is_done(&self) -> bool {
-        is_done(self.asks())
+        self.asks().is_done()
     }
 
     fn turn(self, shared: &mut Common) -> Result<Self, AllocError> {
         take_turn(self, &mut shared.registry, &mut shared.pieces)
-    }
-}
-
-/// Whether nothing is left to do.
-fn is_done(ask: Ask) -> bool
-    ensures { result ≡ is_done ask }
-{
-    match ask {
-        Ask::Done => true,
-        Ask::Look(_) | Ask::Opens(_, _) | Ask::Closes(_, _) => false,
     }
 }
 

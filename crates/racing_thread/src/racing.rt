@@ -4,7 +4,6 @@ ghost use Rattle.std.specs.Prelude.{◌≡◌, ◌≤◌, ◌∷◌, [], false, 
 ghost use Rattle.loaded_modules.specs.Images.{infos, last_offset};
 ghost use Rattle.shared_modules.specs.Passes.{IsSamePass};
 ghost use Rattle.job_turns.specs.Alone.{has_data};
-ghost use Rattle.job_turns.specs.Progress.{is_done};
 ghost use Rattle.job_turns.specs.Standing.{IsGoing, ask_of};
 ghost use Rattle.racing_thread.specs.Answers.{IsLevel, TakesRacingTurn};
 ghost use Rattle.racing_thread.specs.Racing.{HasRaced};
@@ -12,16 +11,14 @@ ghost use Rattle.racing_thread.specs.Racing.{HasRaced};
 use crate::gates::{Gate, pass_gate};
 use crate::looks::answer;
 use job_text::Job;
-use job_turns::{Ask, Runner};
+use job_turns::Runner;
 use module_table::Event;
 use shared_modules::{Pass, Shared};
 use std::alloc::{AllocError, Global};
 use std::sync::Wait;
 use thread_space::JobNames;
+use thread_turns::MOST_EVENTS;
 use transcript_text::Line;
-
-/// No memory holds this many events.
-const MOST_EVENTS: usize = 1 << 61;
 
 /// The result of one thread: its lines, and all events that it has seen.
 #[derive(Drop)]
@@ -35,16 +32,6 @@ pub struct Course<'j, 'n, 'm, 'g, G> {
     pub job: &'j Job,
     pub names: &'n JobNames<'m>,
     pub gate: &'g G,
-}
-
-/// Whether nothing is left to do.
-fn is_done(ask: Ask) -> bool
-    ensures { result ≡ is_done ask }
-{
-    match ask {
-        Ask::Done => true,
-        Ask::Look(_) | Ask::Opens(_, _) | Ask::Closes(_, _) => false,
-    }
 }
 
 /// Takes a turn of a thread that has something left to do. The list holds what its pass has seen.
@@ -63,7 +50,7 @@ fn take_turn<'j, 'n, 'm, R: Wait>(
 {
     let known = events.as_slice().len();
     let answered = answer(rt, shared, pass, runner.thread(), runner.asks(), events)?;
-    if events.as_slice().len() >= MOST_EVENTS {
+    if events.as_slice().len() as u64 >= MOST_EVENTS {
         return Err(AllocError);
     }
     let runner = runner.turn(&events.as_slice()[known..], answered.answer)?;
@@ -100,7 +87,7 @@ fn take_turns<R: Wait, G: Gate>(
     for _ in rt.forever() {
         let ask = runner.asks();
         line = pass_gate(course.gate, thread, line, ask);
-        if is_done(ask) {
+        if ask.is_done() {
             let lines = runner.lines();
             return Ok(Raced { lines, events });
         }

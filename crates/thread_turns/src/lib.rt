@@ -27,3 +27,6 @@ mod threads;
 
 pub use taker::TurnTaker;
 pub use threads::Threads;
+
+/// More events than any memory holds, so a history has fewer.
+pub const MOST_EVENTS: u64 = 1 << 61;
