@@ -9,7 +9,6 @@ use Rattle.job_text.specs.Threads.{of_thread}
 use Rattle.loaded_modules.specs.Images.{JobImages, infos, last_offset}
 use Rattle.module_table.specs.declared.events.Event.{Event}
 use Rattle.module_table.specs.History.{IsLegal}
-use Rattle.module_table.specs.Past.{past}
 use Rattle.lawful_points.specs.Orders.{is_over}
 use Rattle.lawful_points.specs.Raced.{first_of}
 use Rattle.thread_blocks.specs.Held.{looked_at}

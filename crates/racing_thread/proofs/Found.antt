@@ -14,7 +14,7 @@ use Rattle.module_table.specs.History.{History, IsLegal, close_answer, left, ope
 use Rattle.module_table.specs.Past.{close_refusal, open_refusal, start}
 use Rattle.module_table.specs.Walks.{is_legal-append}
 use Rattle.shared_modules.specs.declared.board.Images.{Images}
-use Rattle.shared_modules.specs.Passes.{PassView, IsAccepted, IsCaught, IsCloseRefused, IsClosed, IsLoaded, IsOpenRefused, IsOpened, IsRefused, IsTold}
+use Rattle.shared_modules.specs.Passes.{PassView, IsAccepted, IsCaught, IsCloseRefused, IsClosed, IsOpenRefused, IsOpened, IsRefused, IsTold}
 use Rattle.shared_modules.specs.Views.{Knows, history_at}
 use Rattle.thread_blocks.specs.Lines.{event_at, refused_close, refused_open, unless_refused}
 use Rattle.job_turns.specs.declared.asking.Ask.TheVariants.{Opens, Closes}
