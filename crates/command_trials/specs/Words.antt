@@ -1,5 +1,5 @@
 -- What the words of trials say: a count, a seed, and kinds of inputs.
-use Rattle.std.specs.Prelude.{◌≡◌, ◌||◌, ℕ, Bool, List, String, codes, drop, slice_get, string_bytes, IsSomeAnd, IsTrue}
+use Rattle.std.specs.Prelude.{◌≡◌, ◌<◌, ◌^◌, ◌||◌, ℕ, Bool, List, String, codes, drop, slice_get, string_bytes, IsSomeAnd, IsTrue}
 use Rattle.std.specs.List.{All}
 use Rattle.std.specs.Str.{bytes_eq}
 use Rattle.std.specs.Str.Parse.{IsNumeral, digits_value, without_leading_plus}
@@ -7,6 +7,10 @@ use Rattle.std.specs.Str.Parse.{IsNumeral, digits_value, without_leading_plus}
 -- a word that is this decimal number
 abbrev pub Gives : List ℕ → ℕ → Type 0
 Gives word number = IsNumeral 10 (without_leading_plus word) × (digits_value 10 (without_leading_plus word) ≡ number)
+
+-- a word that is a decimal number of 64 bits
+abbrev pub IsNumber : List ℕ → Type 0
+IsNumber word = IsNumeral 10 (without_leading_plus word) × (digits_value 10 (without_leading_plus word) < 2 ^ 64)
 
 -- the names of the kinds
 abbrev pub is_kind : List ℕ → Bool
@@ -18,6 +22,12 @@ module _ {A : Type 0} where
   IsPlan words count seed =
       IsSomeAnd (slice_get words 0) (λ word. Gives (string_bytes word) count)
       × IsSomeAnd (slice_get words 1) (λ word. Gives (string_bytes word) seed)
+
+  -- words of which the first two are numbers
+  abbrev pub HasNumbers : List (String A) → Type 0
+  HasNumbers words =
+      IsSomeAnd (slice_get words 0) (λ word. IsNumber (string_bytes word))
+      × IsSomeAnd (slice_get words 1) (λ word. IsNumber (string_bytes word))
 
   -- words each of which is the name of a kind
   abbrev pub AreKinds : List (String A) → Type 0

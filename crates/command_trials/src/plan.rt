@@ -1,7 +1,7 @@
 //! So many changed inputs of a kind, one after another.
 
-ghost use Rattle.std.specs.Prelude.{◌≡◌, IfSome, IsTrue, OnOk, drop, is_ok};
-ghost use Rattle.command_trials.specs.Words.{AreKinds, AreWords, Gives, IsPlan, is_kind};
+ghost use Rattle.std.specs.Prelude.{◌≡◌, IfSome, IsTrue, None, OnOk, drop, is_ok};
+ghost use Rattle.command_trials.specs.Words.{AreKinds, AreWords, Gives, HasNumbers, IsNumber, IsPlan, is_kind};
 
 use crate::alarm::Alarm;
 use crate::bench::{Bench, Program};
@@ -33,14 +33,16 @@ struct Plan {
 
 /// The decimal number that a word is.
 fn number_in(word: &str) -> Option<u64>
-    ensures { IfSome result (λ number. Gives word.now number) }
+    ensures some { IfSome result (λ number. Gives word.now number) }
+    ensures none { result ≡ None → IsNumber word.now → ⊥ }
 {
     word.parse().ok()
 }
 
 /// The plan of these words: a count and a seed.
 fn plan_of(words: &[String]) -> Option<Plan>
-    ensures { IfSome result (λ plan. IsPlan words.now plan.count plan.seed) }
+    ensures some { IfSome result (λ plan. IsPlan words.now plan.count plan.seed) }
+    ensures none { result ≡ None → HasNumbers words.now → ⊥ }
 {
     let count = number_in(words.first()?.as_str())?;
     let seed = number_in(words.get(1)?.as_str())?;
