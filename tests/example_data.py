@@ -5,7 +5,7 @@ The gate runs a program over files of its own crate alone. So data/examples of t
 examples/ whose jobs have something to print: these jobs, the objects, what stands beside the jobs, and `runs`, the list of what
 is to be run. The crate's `stdout` is what the program prints where all is well: a line for this list, and one for each list of
 data/cases and data/lying, which are written by hand. tests/examples.sh says which file beside a job means which runs, and
-crates/command_runs/src/main.rt what the lines of a list are. The objects of crates/command_fuzz are copies of these, but for two.
+crates/command_runs/src/main.rt what the lines of a list are. The objects of its trials are copies of these, but for two.
 """
 import os
 import re
@@ -14,8 +14,8 @@ import sys
 
 TOP = os.path.dirname(os.path.dirname(os.path.abspath(__file__)))
 CRATE = f"{TOP}/crates/command_runs"
-FUZZ = f"{TOP}/crates/command_fuzz/data"
-FUZZ_ALONE = ("no_tls.o", "space.o")
+TRIALS = f"{TOP}/crates/command_runs/data"
+TRIALS_ALONE = ("no_tls.o", "space.o")
 BY_HAND = ("cases/commands", "cases/turns", "cases/verdicts", "cases/failing", "lying/objects", "lying/images")
 HEAD = "# Written by tests/example_data.py from examples/.\n"
 SETTINGS = ([], ["--no-relax"])
@@ -102,8 +102,14 @@ def wanted():
         made |= {f"data/examples/{folder}/{name}": content for name, content in files.items()}
     made["data/examples/runs"] = "".join(listed).encode()
     lists = {"examples/runs": made["data/examples/runs"]} | {it: read(f"{CRATE}/data/{it}") for it in BY_HAND}
-    made["stdout"] = "".join(last_line(name, text) for name, text in lists.items()).encode()
+    made["stdout"] = "".join(last_line(name, text) for name, text in lists.items()).encode() + trials()
     return made
+
+
+def trials():
+    """What trials print behind the lists: as it stands."""
+    before, seed, after = read(f"{CRATE}/stdout").partition(b"seed ")
+    return seed + after
 
 
 def found():
@@ -113,10 +119,11 @@ def found():
 
 
 def strangers():
-    """The objects of the crate command_fuzz that are no copies of one of this crate, and are not its own."""
-    known = {read(f"{path}/{name}") for path, _, names in os.walk(f"{CRATE}/data") for name in names if name.endswith(".o")}
-    objects = sorted(name for name in os.listdir(FUZZ) if name.endswith(".o") and name not in FUZZ_ALONE)
-    return [name for name in objects if read(f"{FUZZ}/{name}") not in known]
+    """The objects of trials that are no copies of one of a list, and do not stand there alone."""
+    below = [it for it in os.walk(TRIALS) if it[0] != TRIALS]
+    known = {read(f"{path}/{name}") for path, _, names in below for name in names if name.endswith(".o")}
+    objects = sorted(name for name in os.listdir(TRIALS) if name.endswith(".o") and name not in TRIALS_ALONE)
+    return [name for name in objects if read(f"{TRIALS}/{name}") not in known]
 
 
 def check(made):
@@ -127,7 +134,7 @@ def check(made):
         print(f"crates/command_runs/{name} is not what examples/ gives")
     lost = strangers()
     for name in lost:
-        print(f"crates/command_fuzz/data/{name} is no object of crates/command_runs")
+        print(f"crates/command_runs/data/{name} is no object of a list")
     if lost:
         sys.exit(1)
     print("run tests/example_data.py" if others else "crates/command_runs is in step with examples/")

@@ -1,7 +1,7 @@
 #!/usr/bin/env python3
 """fuzz.py [PROGRAM] [COUNT] [SEED] [KIND..]: changes so many jobs, objects and images, and runs every command over them in memory.
 
-PROGRAM is crates/command_fuzz as it was built; crates/command_trials says what it tests. COUNT inputs of each kind, 1,000,000 if it is
+PROGRAM is crates/command_runs as it was built; crates/command_trials says what it tests. COUNT inputs of each kind, 1,000,000 if it is
 not given, are made in slices of 10,000, each by a process with a seed of its own: SEED, SEED + 1, and on. JOBS processes run at
 once, two if that is not in the environment. For each kind the rows of all slices are added up, and printed with the greatest memory
 of a process and the greatest time of a slice. The status is 1 if a slice ends with an error, which is printed and names the seed and
@@ -16,7 +16,7 @@ from collections import Counter
 from concurrent.futures import ThreadPoolExecutor
 
 HERE = os.path.dirname(os.path.abspath(__file__))
-CRATE = f"{HERE}/../crates/command_fuzz"
+CRATE = f"{HERE}/../crates/command_runs"
 KINDS = ("jobs", "objects", "images")
 SLICE = 10_000
 JOBS = int(os.environ.get("JOBS", "2"))
@@ -95,7 +95,7 @@ def main(words):
     names = [word for word in words if word in KINDS] or list(KINDS)
     numbers = [int(word) for word in words if word.isdigit()]
     paths = [word for word in words if word not in KINDS and not word.isdigit()]
-    program = os.path.abspath(paths[0] if paths else f"{CRATE}/out/command_fuzz")
+    program = os.path.abspath(paths[0] if paths else f"{CRATE}/out/command_runs")
     count = numbers[0] if numbers else 1_000_000
     seed = numbers[1] if len(numbers) > 1 else 1
     seen, known, well = Counter(), [], True

@@ -44,11 +44,26 @@
 //! shorter than the file; `{n}` stands for the length. `store` makes the store fail at a call, counted from 1. `sink`
 //! makes the sink fail after it took as many bytes as given; then only that prefix of the expected text is expected.
 //!
+//! **Words ask for trials** of changed inputs too: `command_runs COUNT SEED KIND..`, where KIND is `jobs`, `objects` or
+//! `images`, makes COUNT inputs of each kind once the lists are done. Each is a sample among the crate's data with one
+//! to three changes, drawn from the seed, so that each run with these words is the same. `command_trials` says what is
+//! tested of the answers. The first that is otherwise ends the run with an error, and the line before it names the
+//! input; else the counts are printed: how many inputs were accepted and refused, the greatest input's size, and a row
+//! for each cause,
+//!
+//! ```text
+//! 6 RelocRange 171 1204     status, cause, inputs of which `run` (of images `show`) said so, answers that said so
+//! ```
+//!
+//! where the rows of status 0 are the commands, and those of the number 10 count what the lines of transcripts say.
+//! tests/fuzz.py runs many slices with seeds of their own, adds their rows up, and measures time and memory.
+//!
 //! The list of the examples and the files next to it are copies that tests/example_data.py writes; it knows which
 //! file of an example belongs to which command. The others are written by hand: `cases/README.md` and
 //! `lying/README.md` describe their objects and images.
 #![tactic(auto)]
 
+mod changed;
 mod difference;
 mod folder;
 mod lines;
@@ -59,15 +74,17 @@ mod tally;
 mod trials;
 
 use anyhow::{Context, Result};
+use changed::Commands;
+use command_trials::try_words;
 use folder::{Folder, fetched};
 use lines::{Gift, Line, Test, line_of};
 use looks::{is_there, is_unlike};
 use ports::{HostStore, Store};
 use std::alloc::Global;
 use std::process::ExitCode;
-use std::str;
 use std::sync::Wait;
 use std::thread::Threads;
+use std::{env, str};
 use tally::Tally;
 use trials::run_row;
 
@@ -159,12 +176,26 @@ fn holds<R: Threads + Wait + Sync + Print, S: Store>(
     Ok(tally.conclude(rt, path.as_str())?)
 }
 
-fn main(rt: HostRuntime) -> Result<ExitCode> {
-    let alloc = rt.alloc();
-    let mut store = HostStore::new(&rt, alloc);
+/// Carries out all lists, and returns whether everything was as expected.
+fn all_hold<R: Threads + Wait + Sync + Print, S: Store>(
+    rt: &R,
+    alloc: Global,
+    store: &mut S,
+) -> Result<bool> {
     let mut all_hold = true;
     for (place, name) in LISTS {
-        all_hold &= holds(&rt, alloc, &mut store, place, name)?;
+        all_hold &= holds(rt, alloc, store, place, name)?;
+    }
+    Ok(all_hold)
+}
+
+fn main(rt: HostRuntime) -> Result<ExitCode> {
+    let alloc = rt.alloc();
+    let words: Vec<String> = env::args(&rt)?.skip(1).collect(alloc)?;
+    let mut store = HostStore::new(&rt, alloc);
+    let all_hold = all_hold(&rt, alloc, &mut store)?;
+    if !words.is_empty() {
+        try_words(&rt, alloc, Commands, &mut store, &words)?;
     }
     Ok(if all_hold {
         ExitCode::SUCCESS

@@ -19,7 +19,7 @@
 //!
 //! The commands are a [`Program`], so this crate is proved without those that `tlsld` is made of. Its own proof says that
 //! nothing in it is undefined, and that it ends if each answer comes. The samples that are changed are named here
-//! (`samples`); their bytes are data of the crate `command_fuzz`.
+//! (`samples`); their bytes are data of the program `command_runs`.
 #![tactic(auto)]
 
 mod alarm;

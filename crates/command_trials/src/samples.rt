@@ -1,4 +1,4 @@
-//! What is changed: objects and jobs among the data of `command_fuzz`, and images that are linked of them.
+//! What is changed: objects and jobs among the data of `command_runs`, and images that are linked of them.
 
 ghost use Rattle.std.specs.Prelude.{◌≡◌};
 
@@ -124,7 +124,7 @@ pub(crate) fn any_job(generator: &mut Generator) -> &'static str {
 }
 
 impl Samples {
-    /// The samples, from a store that has the data of `command_fuzz`.
+    /// The samples, from a store that has the data of `command_runs`.
     pub(crate) fn fetch<S: Store>(alloc: Global, store: &mut S) -> Result<Samples, Alarm>
         ensures { S.files store.new ≡ S.files store.old }
     {
