@@ -20,7 +20,7 @@ CRATE = f"{HERE}/../crates/command_runs"
 KINDS = ("jobs", "objects", "images")
 SLICE = 10_000
 JOBS = int(os.environ.get("JOBS", "2"))
-ELSEWHERE = {("1", "memory"): "tests/memory.py"}
+ELSEWHERE = {("1", "memory"): "tests/memory.py", ("10", "full"): "tests/limits.py"}
 
 
 class Sum:
