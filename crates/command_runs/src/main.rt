@@ -56,7 +56,8 @@
 //! ```
 //!
 //! where the rows of status 0 are the commands, and those of the number 10 count what the lines of transcripts say.
-//! tests/fuzz.py runs many slices with seeds of their own, adds their rows up, and measures time and memory.
+//! tests/fuzz.py runs many slices with seeds of their own, adds their rows up, and measures time and memory. Without
+//! words the lists are all that is run.
 //!
 //! The list of the examples and the files next to it are copies that tests/example_data.py writes; it knows which
 //! file of an example belongs to which command. The others are written by hand: `cases/README.md` and
