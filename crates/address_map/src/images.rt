@@ -1,13 +1,13 @@
 //! The instances of images.
 
-ghost use Rattle.std.specs.Prelude.{◌≡◌, ◌≤◌, ◌^◌};
+ghost use Rattle.std.specs.Prelude.{◌≡◌, ◌+◌, ◌<◌, ◌≤◌, ◌^◌};
 ghost use Rattle.address_map.specs.Map.{moved_bias, owner_at};
 
 /// The load bias of an instance of an image that is moved, by its number: the distance from where the image was laid
 /// out.
 pub fn moved_bias(number: u32) -> u64
     ensures value { result ≡ moved_bias number }
-    ensures small { result ≤ 2 ^ 60 }
+    ensures low { result < 2 ^ 59 }
 {
     (1 << 32) + u64::from(number) * (1 << 26)
 }
@@ -22,3 +22,9 @@ pub fn owner(place: u64) -> u64
     }
     (place - (1 << 32)) / (1 << 26)
 }
+
+/// The addresses of an instance that is moved tell its number. The call does nothing; it gives a proof this fact.
+pub fn own_addresses_tell(number: u32, offset: u64)
+    requires { offset < 2 ^ 26 }
+    ensures { owner_at (moved_bias number + offset) ≡ number }
+{}

@@ -16,12 +16,13 @@
 //! variant II; that the word at the thread pointer is its own address is the psABI's rule ("Thread-Local Storage").
 //! How far an image is moved is its *load bias*.
 //!
-//! The rule that the crate keeps: **each of these numbers has one definition** (`specs/Map`). What a job means, how
+//! The rule that the crate keeps: **each of these numbers has one definition** (`specs/Map`), and an address of an
+//! instance that is moved tells the instance's number ([`own_addresses_tell`]). What a job means, how
 //! it is run and how it is checked all name it. Threads are numbered from 1 to 64, and instances have 32 bits.
 #![tactic(auto)]
 
 mod images;
 mod threads;
 
-pub use images::{moved_bias, owner};
+pub use images::{moved_bias, own_addresses_tell, owner};
 pub use threads::{STACK_SIZE, block_place, stack_end, stack_start, thread_pointer};

@@ -4,13 +4,13 @@ use Rattle.std.specs.List.{All}
 use Rattle.std.specs.Str.{bytes_eq}
 use Rattle.std.specs.Str.Parse.{IsNumeral, digits_value, without_leading_plus}
 
--- a word that is this decimal number
-abbrev pub Gives : List ℕ → ℕ → Type 0
-Gives word number = IsNumeral 10 (without_leading_plus word) × (digits_value 10 (without_leading_plus word) ≡ number)
-
 -- a word that is a decimal number of 64 bits
 abbrev pub IsNumber : List ℕ → Type 0
 IsNumber word = IsNumeral 10 (without_leading_plus word) × (digits_value 10 (without_leading_plus word) < 2 ^ 64)
+
+-- a word that is this number
+abbrev pub Gives : List ℕ → ℕ → Type 0
+Gives word number = IsNumber word × (digits_value 10 (without_leading_plus word) ≡ number)
 
 -- the names of the kinds
 abbrev pub is_kind : List ℕ → Bool
@@ -23,19 +23,12 @@ module _ {A : Type 0} where
       IsSomeAnd (slice_get words 0) (λ word. Gives (string_bytes word) count)
       × IsSomeAnd (slice_get words 1) (λ word. Gives (string_bytes word) seed)
 
-  -- words of which the first two are numbers
-  abbrev pub HasNumbers : List (String A) → Type 0
-  HasNumbers words =
-      IsSomeAnd (slice_get words 0) (λ word. IsNumber (string_bytes word))
-      × IsSomeAnd (slice_get words 1) (λ word. IsNumber (string_bytes word))
-
   -- words each of which is the name of a kind
   abbrev pub AreKinds : List (String A) → Type 0
   AreKinds words = All (λ word. IsTrue (is_kind (string_bytes word))) words
 
   -- a count, a seed, and kinds
   pub record AreWords (words : List (String A)) : Type 0 where
-    pub count : ℕ
-    pub seed : ℕ
-    pub plan : IsPlan words count seed
+    pub count : IsSomeAnd (slice_get words 0) (λ word. IsNumber (string_bytes word))
+    pub seed : IsSomeAnd (slice_get words 1) (λ word. IsNumber (string_bytes word))
     pub kinds : AreKinds (drop 2 words)

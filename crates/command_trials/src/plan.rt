@@ -1,7 +1,8 @@
 //! So many changed inputs of a kind, one after another.
 
-ghost use Rattle.std.specs.Prelude.{◌≡◌, IfSome, IsTrue, None, OnOk, drop, is_ok};
-ghost use Rattle.command_trials.specs.Words.{AreKinds, AreWords, Gives, HasNumbers, IsNumber, IsPlan, is_kind};
+ghost use Rattle.std.specs.Prelude.{◌≡◌, Err, IfSome, None, OnOk, drop, false, is_ok, true};
+ghost use Rattle.command_trials.specs.declared.alarm.Alarm.TheVariants.{Words};
+ghost use Rattle.command_trials.specs.Words.{AreKinds, AreWords, Gives, IsNumber, IsPlan, is_kind};
 
 use crate::alarm::Alarm;
 use crate::bench::{Bench, Program};
@@ -39,16 +40,6 @@ fn number_in(word: &str) -> Option<u64>
     word.parse().ok()
 }
 
-/// The plan of these words: a count and a seed.
-fn plan_of(words: &[String]) -> Option<Plan>
-    ensures some { IfSome result (λ plan. IsPlan words.now plan.count plan.seed) }
-    ensures none { result ≡ None → HasNumbers words.now → ⊥ }
-{
-    let count = number_in(words.first()?.as_str())?;
-    let seed = number_in(words.get(1)?.as_str())?;
-    Some(Plan { count, seed })
-}
-
 /// The words behind the count and the seed.
 fn kinds_in(words: &[String]) -> &[String]
     ensures { result.now ≡ drop 2 words.now }
@@ -65,6 +56,34 @@ fn kind_of(name: &str) -> Result<Kind, Alarm>
         "objects" => Ok(Kind::Objects),
         "images" => Ok(Kind::Images),
         _ => Err(Alarm::Words),
+    }
+}
+
+/// Whether each of these names is that of a kind.
+fn are_kinds(names: &[String]) -> bool
+    ensures kinds { result ≡ true → AreKinds names.now }
+    ensures others { result ≡ false → AreKinds names.now → ⊥ }
+{
+    for name in names {
+        if kind_of(name.as_str()).is_err() {
+            return false;
+        }
+    }
+    true
+}
+
+/// The count and the seed of these words, if they are a count, a seed and kinds.
+fn plan_of(words: &[String]) -> Option<Plan>
+    ensures plan { IfSome result (λ plan. IsPlan words.now plan.count plan.seed) }
+    ensures words { IfSome result (λ plan. AreWords words.now) }
+    ensures none { result ≡ None → AreWords words.now → ⊥ }
+{
+    let count = number_in(words.first()?.as_str())?;
+    let seed = number_in(words.get(1)?.as_str())?;
+    if are_kinds(kinds_in(words)) {
+        Some(Plan { count, seed })
+    } else {
+        None
     }
 }
 
@@ -101,9 +120,7 @@ fn try_kind<R: Threads + Wait + Print + Sync, P: Program>(
     samples: &Samples,
     name: &str,
     plan: Plan,
-) -> Result<(), Alarm>
-    ensures { OnOk result (IsTrue (is_kind name.now)) }
-{
+) -> Result<(), Alarm> {
     let kind = kind_of(name)?;
     lay_objects(bench, samples)?;
     try_inputs(rt, bench, samples, kind, plan)?;
@@ -118,9 +135,7 @@ fn try_kinds<R: Threads + Wait + Print + Sync, P: Program>(
     samples: &Samples,
     names: &[String],
     plan: Plan,
-) -> Result<(), Alarm>
-    ensures { OnOk result (AreKinds names.now) }
-{
+) -> Result<(), Alarm> {
     for name in names {
         try_kind(rt, bench, samples, name.as_str(), plan)?;
     }
@@ -139,6 +154,7 @@ pub fn try_words<R: Threads + Wait + Print + Sync, P: Program, S: Store>(
 ) -> Result<(), Alarm>
     ensures files { S.files store.new ≡ S.files store.old }
     ensures words { OnOk result (AreWords words.now) }
+    ensures usage { (AreWords words.now → ⊥) → result ≡ Err Words }
 {
     let Some(plan) = plan_of(words) else {
         return Err(Alarm::Words);

@@ -1,4 +1,4 @@
--- What the numbers of a symbol table entry stand for (gABI, "Symbol Table").
+-- What the numbers of a symbol table entry stand for (gABI, "Symbol Table"), and the one name that a linker knows.
 use Rattle.std.specs.Prelude.{◌==◌, ℕ, Bool, true, false, List, codes, if◌then◌else◌}
 use Rattle.elf_records.specs.declared.symbol.SymbolBinding.{SymbolBinding}
 use Rattle.elf_records.specs.declared.symbol.SymbolBinding.TheVariants.{Local, Global, Weak}
@@ -13,7 +13,7 @@ use Rattle.elf_records.specs.declared.symbol.Visibility.TheVariants.{Default, In
 abbrev pub get_address : List ℕ
 get_address = codes "__tls_get_addr"
 
--- the binding, the type and the visibility with these numbers
+-- the binding, the type and the visibility with these numbers; a number without one here counts as the last of its list
 abbrev pub binding_numbered : ℕ → SymbolBinding
 binding_numbered n = if n == STB_LOCAL then Local else if n == STB_GLOBAL then Global else Weak
 

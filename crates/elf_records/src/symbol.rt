@@ -57,7 +57,7 @@ pub const SHN_XINDEX: u16 = 0xffff;
 
 /// The name of the run time's function that returns the address of a thread-local variable (Drepper, "ELF
 /// Handling For Thread-Local Storage").
-pub const GET_ADDRESS: &[u8] = b"__tls_get_addr";
+pub const GET_ADDRESS_NAME: &[u8] = b"__tls_get_addr";
 
 /// Which objects see a symbol.
 #[derive(Clone, Copy, PartialEq, Eq, Debug)]

@@ -4,7 +4,7 @@ use Rattle.elf_records.specs.declared.symbol.SymbolEntry.{SymbolEntry}
 use Rattle.elf_records.specs.Fields.{part_at}
 use Rattle.elf_records.specs.Records.{symbol_at, symbol_binding, symbol_kind}
 use Rattle.elf_records.specs.declared.symbol.TheConstants.{SHN_UNDEF, STB_GLOBAL, STB_WEAK, STT_COMMON, STT_TLS}
-use Rattle.image_faults.specs.declared.symbol_tests.TheConstants.{TLS_GET_ADDR}
+use Rattle.image_faults.specs.declared.symbol_tests.TheConstants.{GET_ADDRESS_STRING}
 use Rattle.image_faults.specs.Parts.{tls_size}
 use Rattle.image_faults.specs.Array.{strings_place, strings_size, symbols_place}
 use Rattle.image_faults.specs.Names.{Ends}
@@ -29,7 +29,7 @@ IsImport b k = (k ≢ 0) × ((symbol b k).shndx ≡ SHN_UNDEF) × (symbol_kind (
 abbrev pub IsRuntime : List ℕ → ℕ → Type 0
 IsRuntime b k =
     ((symbol b k).shndx ≡ SHN_UNDEF) × ((symbol b k).name + 15 ≤ strings_size b)
-    × (part_at 15 (strings_place b + (symbol b k).name) b ≡ TLS_GET_ADDR)
+    × (part_at 15 (strings_place b + (symbol b k).name) b ≡ GET_ADDRESS_STRING)
 
 -- a thread-local symbol of this image lies past the end of its TLS segment
 abbrev pub IsPastTls : List ℕ → ℕ → Type 0

@@ -50,5 +50,5 @@ pub use image_rules::{
 };
 pub use loader_kind::LoaderKind;
 pub use segments::Segments;
-pub use symbol_tests::TLS_GET_ADDR;
+pub use symbol_tests::GET_ADDRESS_STRING;
 pub use tables::Tables;

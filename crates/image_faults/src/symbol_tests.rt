@@ -9,7 +9,7 @@ use crate::tables::Tables;
 use elf_records::symbol::{SHN_UNDEF, STB_GLOBAL, STB_WEAK, STT_COMMON, STT_TLS};
 
 /// The name of the run time's function, with the zero byte after it.
-pub const TLS_GET_ADDR: [u8; 15] = *b"__tls_get_addr\0";
+pub const GET_ADDRESS_STRING: [u8; 15] = *b"__tls_get_addr\0";
 
 /// Whether a name that begins at this offset of the names ends.
 #[tactic(auto, using(elf_records::specs::StringLaws::ends_before, elf_records::specs::StringLaws::no_end_after))]
@@ -49,12 +49,12 @@ pub fn is_runtime(tables: &Tables, number: u64) -> bool
 {
     let symbol = tables.symbol(number);
     let name = u64::from(symbol.name);
-    let size = TLS_GET_ADDR.len() as u64;
+    let size = GET_ADDRESS_STRING.len() as u64;
     if symbol.shndx != SHN_UNDEF || tables.places.strings_size < name + size {
         return false;
     }
     let at = (tables.places.strings + name) as usize;
-    tables.bytes[at..at + TLS_GET_ADDR.len()] == TLS_GET_ADDR[..]
+    tables.bytes[at..at + GET_ADDRESS_STRING.len()] == GET_ADDRESS_STRING[..]
 }
 
 /// Whether a thread-local symbol of this image lies past the end of its TLS segment.

@@ -15,7 +15,7 @@ use Rattle.image_rules.specs.declared.rule.EntryRule.TheVariants.{Hash, Strings,
 use Rattle.image_rules.specs.declared.rule.EntryRule.TheVariants.{RelocationSize, Flags, End}
 use Rattle.image_faults.specs.declared.loader_kind.LoaderKind.{LoaderKind}
 use Rattle.image_faults.specs.declared.loader_kind.LoaderKind.TheVariants.{JumpSlot, Relative, Module, ModuleOffset, ThreadOffset, Descriptor}
-use Rattle.image_faults.specs.declared.symbol_tests.TheConstants.{TLS_GET_ADDR}
+use Rattle.image_faults.specs.declared.symbol_tests.TheConstants.{GET_ADDRESS_STRING}
 use Rattle.image_faults.specs.Parts.{loads, has_tls, tls_size}
 use Rattle.image_faults.specs.Array.{HasTag, HoldsTable, IsRightEntry, entry, flags_entry, symbol_count, relocation_count, relocations_size}
 use Rattle.image_faults.specs.Array.{strings_size, strings_place}
@@ -147,7 +147,7 @@ runtime_there : (f b : List ℕ) → SameHeaders f b → AreRight b → (k : ℕ
 runtime_there f b same tables k within named =
     let P : SymbolEntry → Type 0 = λ s.
     (s.shndx ≡ SHN_UNDEF) × (s.name + 15 ≤ strings_size f)
-    × (part_at 15 (strings_place f + s.name) f ≡ TLS_GET_ADDR) in
+    × (part_at 15 (strings_place f + s.name) f ≡ GET_ADDRESS_STRING) in
     subst P (sym (same_symbol_entry f b same tables.symbols k within)) (
       named.0,
       omega (arith, same_strings_size f b same, named.1),

@@ -8,7 +8,7 @@ use Rattle.std.proofs.lemmas.List.Sums.{sum_by-cons, position_or_len_is}
 use Rattle.std.proofs.lemmas.Bool.{ne_eqb}
 use Rattle.elf_records.specs.Fields.{part_at}
 use Rattle.elf_records.specs.Laws.{part_at-own}
-use Rattle.image_faults.specs.declared.symbol_tests.TheConstants.{TLS_GET_ADDR}
+use Rattle.image_faults.specs.declared.symbol_tests.TheConstants.{GET_ADDRESS_STRING}
 use Rattle.image_faults.specs.Names.{Ends}
 use Rattle.image_file.specs.Spelled.{text_at}
 use Rattle.image_writer.specs.Tables.{name_bytes}
@@ -99,7 +99,7 @@ name_ends names k at f below here =
 -- in a file that holds the table, the name of the function of the run time stands with its zero byte
 pub runtime_named : (names : List (List ℕ)) (k at : ℕ) (f : List ℕ) → k < length names
     → part_at (length (flat_map name_bytes names)) at f ≡ flat_map name_bytes names → get_or names k [] ≡ codes "__tls_get_addr"
-    → (begin names k + 15 ≤ length (flat_map name_bytes names)) × (part_at 15 (at + begin names k) f ≡ TLS_GET_ADDR)
+    → (begin names k + 15 ≤ length (flat_map name_bytes names)) × (part_at 15 (at + begin names k) f ≡ GET_ADDRESS_STRING)
 unfolding part_at
 runtime_named names k at f below here named =
     let inside = name_inside names k below in

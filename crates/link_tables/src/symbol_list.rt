@@ -10,7 +10,7 @@ ghost use Rattle.link_tables.specs.Faults.{names_in, symbols_in};
 ghost use Rattle.link_needs.specs.Linking.{address, offset};
 
 use crate::tables::Tables;
-use elf_records::symbol::GET_ADDRESS;
+use elf_records::symbol::GET_ADDRESS_NAME;
 use elf_records::{SymbolBinding, SymbolType, Visibility};
 use got_pairs::Need;
 use image_file::ImageSymbol;
@@ -143,7 +143,7 @@ fn push_runtime(is_used: bool, all: &mut Vec<NamedSymbol>) -> Result<(), AllocEr
     if is_used {
         all.push(NamedSymbol {
             symbol: foreign(SymbolType::NoType),
-            name: GET_ADDRESS,
+            name: GET_ADDRESS_NAME,
         })?;
     }
     Ok(())

@@ -1,6 +1,6 @@
 //! The parts of an image as an instance of it has them.
 
-ghost use Rattle.std.specs.Prelude.{◌≡◌, ◌<◌, ◌≤◌, ◌+◌, ℕ, List, Some, length, slice_get, slice_range};
+ghost use Rattle.std.specs.Prelude.{◌≡◌, ◌^◌, ◌<◌, ◌≤◌, ◌+◌, ℕ, List, Some, length, slice_get, slice_range};
 ghost use Rattle.loaded_modules.specs.Images.{image_at};
 ghost use Rattle.loaded_modules.specs.Loader.{bias_of, loaded_part, part_bytes, parts_of, target_of};
 ghost use Rattle.loaded_modules.specs.Words.{with_numbered, IsWindow};
@@ -89,10 +89,12 @@ impl LoadedImage<'_, '_, '_> {
 }
 
 impl Modules {
-    /// How far the image of an instance is moved: its load bias, which is added to each address of its file.
+    /// How far the image of an instance is moved: its load bias, which is added to each address of its file. It is less
+    /// than 2^59.
     #[tactic(auto, unfolding(crate::specs::Loader::bias_of))]
     pub fn bias(&self, instance: &Instance) -> u64
-        ensures { result ≡ bias_of self.now instance.now }
+        ensures value { result ≡ bias_of self.now instance.now }
+        ensures low { result < 2 ^ 59 }
     {
         match self.image(instance.image) {
             Some(image) => bias(image.kind(), instance.number),

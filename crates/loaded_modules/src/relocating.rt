@@ -1,7 +1,7 @@
 //! The words that a loader writes for a relocation (psABI, "Relocation Types"; Drepper, "ELF Handling For Thread-Local
 //! Storage", section 4.4).
 
-ghost use Rattle.std.specs.Prelude.{◌≡◌, ◌<◌, ◌≤◌, ◌+◌, ◌^◌, ℕ, List, length};
+ghost use Rattle.std.specs.Prelude.{◌<◌, ◌^◌, ◌≡◌, ◌≤◌, ◌+◌, ℕ, List, length};
 ghost use Rattle.elf_records.specs.Fields.{bytes_of, splice};
 ghost use Rattle.loaded_modules.specs.Loader.{bias, lies_in, own_target, with_written, written_bytes};
 ghost use Rattle.loaded_modules.specs.Words.{words_bytes, IsWindow};
@@ -44,7 +44,8 @@ impl Words {
 /// How far a loader moves an image of this kind when it loads it as this instance.
 #[tactic(auto, unfolding(crate::specs::Loader::bias))]
 pub(crate) fn bias(kind: FileKind, number: u32) -> u64
-    ensures { result ≡ bias kind number }
+    ensures value { result ≡ bias kind number }
+    ensures low { result < 2 ^ 59 }
 {
     match kind {
         FileKind::Exe => 0,

@@ -1,4 +1,4 @@
--- Addresses are small: those of parts, and how far an image is moved.
+-- The addresses of parts are small.
 use Rattle.std.proofs.Common.{◌≡◌, ◌∙◌, ◌+◌, ◌^◌, ◌<◌, ◌≤◌, ◌==◌, ℕ, Bool, true, false, List, Option, Some, None, sym, ap, subst, inl, arith}
 use Rattle.std.specs.Prelude.{if◌then◌else◌}
 use Rattle.std.specs.List.{slice_get}
@@ -45,19 +45,3 @@ found_low b image i p is =
 pub part_low : (image : Spelled) → (b : List ℕ) × (IsImage b × (image ≡ spelled b)) → (i : ℕ) (p : Part)
     → slice_get image.parts i ≡ Some p → p.address < 2 ^ 32
 part_low image (b, (is, spells)) i p at = found_low b is i p (ap (λ (s : Spelled). slice_get s.parts i) (sym spells) ∙ at)
-
--- ** moves
-
-pub move_low : (kind : FileKind) (n : ℕ) → n < 2 ^ 32 → bias kind n < 2 ^ 59
-unfolding bias
-move_low Exe n small = omega arith
-move_low Pie n small = omega (arith, small)
-move_low Module n small = omega (arith, small)
-
-pub in_low : (x : Instance) (image : Option Spelled) → x.number < 2 ^ 32 → bias_in x image < 2 ^ 59
-in_low x None small = omega arith
-in_low x (Some image) small = move_low image.kind x.number small
-
-pub bias_low : (m : JobImages) (x : Instance) → x.number < 2 ^ 32 → bias_of m x < 2 ^ 59
-unfolding bias_of
-bias_low m x small = in_low x (image_at m x.image) small

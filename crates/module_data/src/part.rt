@@ -1,7 +1,6 @@
 //! Which part of an image is data.
 
 ghost use Rattle.std.specs.Prelude.{◌≡◌, ◌<◌, ◌^◌, IfSome, option_map, slice_get};
-ghost use Rattle.loaded_modules.specs.Loader.{bias_of};
 ghost use Rattle.module_data.specs.Parts.{data_number, data_part, data_start, is_data_part, is_number};
 
 use image_file::{Image, image_is_spelled};
@@ -58,16 +57,6 @@ fn address_of(image: &Image, part: u64) -> Option<u64>
     Some(address)
 }
 
-/// How far the image of an instance is moved: less than 2^59 bytes.
-#[tactic(auto, using(crate::proofs::Low::bias_low))]
-fn bias_of(modules: &Modules, instance: &Instance) -> u64
-    ensures value { result ≡ bias_of modules.now instance.now }
-    ensures low { result < 2 ^ 59 }
-{
-    let _number = instance.number;
-    modules.bias(instance)
-}
-
 /// The address of the first byte of an instance's data, if its image has any.
 #[tactic(auto, unfolding(crate::specs::Parts::data_start, loaded_modules::specs::Loader::bias_of))]
 pub(crate) fn data_start(modules: &Modules, instance: &Instance) -> Option<u64>
@@ -75,5 +64,5 @@ pub(crate) fn data_start(modules: &Modules, instance: &Instance) -> Option<u64>
 {
     let image = modules.image(instance.image)?;
     let address = address_of(image, data_part(image)?)?;
-    Some(bias_of(modules, instance) + address)
+    Some(modules.bias(instance) + address)
 }

@@ -20,7 +20,7 @@ use crate::matching::{
 };
 use crate::near::rise;
 use elf_object::{FaultKind, Object, ObjectFault, Relocation, SectionClass, SymbolPlace};
-use elf_records::symbol::GET_ADDRESS;
+use elf_records::symbol::GET_ADDRESS_NAME;
 use sequence_forms::Site;
 use std::alloc::{AllocError, Global};
 
@@ -70,8 +70,8 @@ fn is_getter(object: &Object, number: u32) -> bool
         return false;
     };
     match part.place {
-        SymbolPlace::Undefined => match object.short_symbol_name(number, GET_ADDRESS.len()) {
-            Some(name) => name == GET_ADDRESS,
+        SymbolPlace::Undefined => match object.short_symbol_name(number, GET_ADDRESS_NAME.len()) {
+            Some(name) => name == GET_ADDRESS_NAME,
             None => false,
         },
         _ => false,

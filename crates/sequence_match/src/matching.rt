@@ -306,7 +306,8 @@ fn form_if(code: &Code, form: Form, entry: u32, first: &Relocation) -> Option<Fo
     requires ready { IsReady code.now }
     requires entry { IsEntry code.now.relocations.now entry first.now }
     requires kind { first.now.kind ≡ (row form).first }
-    ensures { MatchOption result (HasNoSiteOf code.now form entry) (λ found. IsOpened code.now found entry) }
+    ensures opened { MatchOption result (HasNoSiteOf code.now form entry) (λ found. IsOpened code.now found entry) }
+    ensures own { IfSome result (λ found. found ≡ form) }
 {
     let row = form.row();
     if first.offset < row.first_at {
@@ -375,7 +376,8 @@ pub fn form_of(code: &Code, entry: u32) -> Option<Form>
 pub fn site_at(code: &Code, form: Form, entry: u32) -> Site
     requires entry { entry < length code.now.relocations.now }
     requires opened { IsOpened code.now form entry }
-    ensures { IsFound code.now result.form entry result }
+    ensures found { IsFound code.now result.form entry result }
+    ensures form { result.form ≡ form }
 {
     let first = relocation_at(code, entry);
     let row = form.row();

@@ -3,7 +3,6 @@
 ghost use Rattle.std.specs.Prelude.{◌≡◌, ◌<◌, ◌^◌, IfOk, IfSome, option_map};
 ghost use Rattle.image_names.specs.Functions.{entry_in};
 ghost use Rattle.loaded_modules.specs.Images.{image_at};
-ghost use Rattle.loaded_modules.specs.Loader.{bias_of};
 ghost use Rattle.thread_blocks.specs.JobLoads.{job_loads};
 
 use image_file::image_is_spelled;
@@ -38,16 +37,6 @@ fn entry_place(names: &ImageNames, name: &[u8]) -> Option<u64>
     image_is_spelled(names.image());
     let place = names.function(name)?;
     Some(place)
-}
-
-/// The load bias of an instance: less than 2^59.
-#[tactic(auto, using(module_data::proofs::Low::bias_low))]
-fn bias_of(modules: &Modules, instance: &Instance) -> u64
-    ensures value { result ≡ bias_of modules.now instance.now }
-    ensures low { result < 2 ^ 59 }
-{
-    let _number = instance.number;
-    modules.bias(instance)
 }
 
 /// The names of all images, in their order.
@@ -96,7 +85,7 @@ impl<'m> JobNames<'m> {
     {
         let names = self.of_image(instance.image)?;
         let place = entry_place(names, name)?;
-        Some(place + bias_of(self.modules, instance))
+        Some(place + self.modules.bias(instance))
     }
 
     /// The offset of the variable with a name in the blocks of an image, if it has one.

@@ -86,12 +86,10 @@ impl<'m> ThreadSpace<'m> {
     }
 
     /// The load bias of an instance: less than 2^59.
-    #[tactic(auto, using(module_data::proofs::Low::bias_low))]
     pub(crate) fn bias(&self, instance: &Instance) -> u64
         ensures value { result ≡ bias_of self.now.vector.images instance.now }
         ensures low { result < 2 ^ 59 }
     {
-        let _number = instance.number;
         self.modules.bias(instance)
     }
 

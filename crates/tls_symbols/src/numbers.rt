@@ -10,7 +10,7 @@ ghost use Rattle.tls_symbols.specs.Numbers.{IsNamed, IsNumbered};
 use crate::export_list::Exports;
 use crate::tls_place::is_tls_place;
 use elf_object::{Object, SymbolBinding, SymbolPart};
-use elf_records::symbol::GET_ADDRESS;
+use elf_records::symbol::GET_ADDRESS_NAME;
 use indexmap::IndexSet;
 use std::alloc::{AllocError, Global};
 
@@ -51,7 +51,7 @@ fn first_names<'a>(alloc: Global, room: usize) -> Result<IndexSet<&'a [u8]>, All
     ensures { IfOk result (λ names. IsNumberOf names.keys get_address 0) }
 {
     let mut names = IndexSet::with_capacity(alloc, room.saturating_add(1))?;
-    names.insert(GET_ADDRESS)?;
+    names.insert(GET_ADDRESS_NAME)?;
     Ok(names)
 }
 

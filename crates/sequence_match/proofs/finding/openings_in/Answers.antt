@@ -23,9 +23,9 @@ loop-entry-preserved c =
     elim c.match-form_of.branch [
       | in-Some+in_ok-push-in-Some w ↦ record {
         sites = subst P (sym (ap (λ v. v.items) w.sites-is ∙ w.in_ok-push-in-Some.ensures.items))
-            (sites_more code n c.loop-entry.sites.items c.loop-entry.invariant.sites w.site_at.result w.site_at.ensures);
+            (sites_more code n c.loop-entry.sites.items c.loop-entry.invariant.sites w.site_at.result w.site_at.ensures.found);
         loose = subst Q (sym w.loose-is) (least_more (IsLooseIn code) n c.loop-entry.loose c.loop-entry.invariant.loose
-            (found_not_loose code n w.site_at.result w.site_at.ensures));
+            (found_not_loose code n w.site_at.result w.site_at.ensures.found));
         stray = c.stray_up_to-stray.ensures;
       }
       | in-None w ↦ record {

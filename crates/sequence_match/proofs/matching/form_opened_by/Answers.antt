@@ -23,12 +23,12 @@ returns-in-GotTpOff c =
 pub returns-in-GotPc32TlsDesc : goal.returns-in-GotPc32TlsDesc
 returns-in-GotPc32TlsDesc c =
     none_of_one c.args.code.now c.args.entry c.args.first.now c.requires.entry DescLea c.form_if.result (λ form. IsOpened c.args.code.now form c.args.entry)
-    (λ site m. let P : RelocationKind → Type 0 = λ kind. IsAmong site.form kind in subst P c.in-GotPc32TlsDesc.is m) c.form_if.ensures
+    (λ site m. let P : RelocationKind → Type 0 = λ kind. IsAmong site.form kind in subst P c.in-GotPc32TlsDesc.is m) c.form_if.ensures.opened
 
 pub returns-in-TlsDescCall : goal.returns-in-TlsDescCall
 returns-in-TlsDescCall c =
     none_of_one c.args.code.now c.args.entry c.args.first.now c.requires.entry DescCall c.form_if-in-TlsDescCall.result (λ form. IsOpened c.args.code.now form c.args.entry)
-    (λ site m. let P : RelocationKind → Type 0 = λ kind. IsAmong site.form kind in subst P c.in-TlsDescCall.is m) c.form_if-in-TlsDescCall.ensures
+    (λ site m. let P : RelocationKind → Type 0 = λ kind. IsAmong site.form kind in subst P c.in-TlsDescCall.is m) c.form_if-in-TlsDescCall.ensures.opened
 
 pub returns-in_default : goal.returns-in_default
 returns-in_default c = λ site is.

@@ -27,4 +27,4 @@ returns-in-Some-form_of c =
     let code = c.args.code.now in
     let P : ℕ → Type 0 = λ k. ReachesAt OfField code.relocations.now k c.in-Some.first in
     a_sequence code c.requires.ready c.args.form c.args.entry c.args.start c.requires.second c.in-Some.first c.site_at.result c.is_at.result
-    (subst P c.requires.place c.in-Some.ensures.0) c.site_at.ensures c.is_at.ensures
+    (subst P c.requires.place c.in-Some.ensures.0) c.site_at.ensures.found c.is_at.ensures

@@ -1,7 +1,7 @@
 use Rattle.std.proofs.Common.{take}
 use Rattle.command_trials.specs.Words.{AreKinds}
-use Rattle.command_trials.proofs.plan.try_kinds.Given as goal
+use Rattle.command_trials.proofs.plan.are_kinds.Given as goal
 
 -- each name so far is that of a kind
 abbrev pub invariant-loop-name : goal.invariant-loop-name
-invariant-loop-name g l = AreKinds (take l.name-index l.names)
+invariant-loop-name l = AreKinds (take l.name-index l.names)
