@@ -1,7 +1,8 @@
 //! Files in memory, and what commands over them answer.
 
-ghost use Rattle.std.specs.Prelude.{◌≡◌, ◌==◌, IsTrue};
+ghost use Rattle.std.specs.Prelude.{◌≡◌, ◌==◌, ◌↔◌, IsTrue};
 ghost use Rattle.std.specs.Thread.{IsSync};
+ghost use Rattle.command_trials.specs.Agreement.{printed_in};
 
 use crate::alarm::{Alarm, ensure};
 use crate::causes::{DONE, SINK, number_of, refusal_of};
@@ -63,7 +64,9 @@ fn owned(alloc: Global, words: &[&str]) -> Result<Vec<String>, AllocError> {
 }
 
 /// What was printed into the output of this number.
-fn bytes_at(outputs: &[MemorySink], number: usize) -> &[u8] {
+fn bytes_at(outputs: &[MemorySink], number: usize) -> &[u8]
+    ensures { result.now ≡ printed_in outputs.now number }
+{
     match outputs.get(number) {
         Some(out) => out.bytes(),
         None => &[],
@@ -116,7 +119,9 @@ impl<P: Program> Bench<P> {
     }
 
     /// What an answer printed. An image's names are bytes, so what `show` and `sites` print may be no text.
-    pub(crate) fn bytes(&self, answer: Answer) -> &[u8] {
+    pub(crate) fn bytes(&self, answer: Answer) -> &[u8]
+        ensures { result.now ≡ printed_in self.now.outputs.items answer.number }
+    {
         bytes_at(&self.outputs, answer.number)
     }
 
@@ -127,7 +132,8 @@ impl<P: Program> Bench<P> {
 
     /// Whether two commands answered the same.
     pub(crate) fn are_same(&self, first: Answer, second: Answer) -> bool
-        ensures { IsTrue result → first.status ≡ second.status }
+        ensures { IsTrue result ↔ (first.status ≡ second.status)
+            × (printed_in self.now.outputs.items first.number ≡ printed_in self.now.outputs.items second.number) }
     {
         first.status == second.status && self.bytes(first) == self.bytes(second)
     }

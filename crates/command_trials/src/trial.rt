@@ -1,7 +1,7 @@
 //! Every command over one job: what each answers, and that the answers fit one another.
 
 ghost use Rattle.std.specs.Prelude.{◌≡◌, ◌↔◌, IsTrue, OnOk};
-ghost use Rattle.command_trials.specs.Agreement.{Agree, IsLinked};
+ghost use Rattle.command_trials.specs.Agreement.{Agree, IsLinked, printed_in};
 
 use crate::alarm::{Alarm, ensure};
 use crate::bench::{Answer, Bench, Program};
@@ -65,7 +65,10 @@ fn test_settings<P: Program>(
     kept: Answer,
     check: Answer,
 ) -> Result<(), Alarm>
-    ensures { OnOk result (Agree run.status kept.status check.status) }
+    ensures { OnOk result (Agree
+        (record { status = run.status; text = printed_in bench.now.outputs.items run.number })
+        (record { status = kept.status; text = printed_in bench.now.outputs.items kept.number })
+        (record { status = check.status; text = printed_in bench.now.outputs.items check.number })) }
 {
     let is_verdict = check.status == DONE || check.status == UNCLEAN;
     let is_checked = if run.is_done() {
