@@ -1,6 +1,6 @@
 //! The dynamic array: where an image's tables lie.
 
-ghost use Rattle.std.specs.Prelude.{◌≡◌, ◌+◌, ◌-◌, ◌*◌, ◌^◌, ◌<◌, ◌≤◌, ◌↔◌, IsTrue};
+ghost use Rattle.std.specs.Prelude.{◌≡◌, ◌+◌, ◌-◌, ◌*◌, ◌^◌, ◌<◌, ◌≤◌, ◌↔◌, IsTrue, length};
 ghost use Rattle.image_rules.specs.declared.rule.EntryRule.TheVariants.{Hash, Strings, Symbols, Relocations};
 ghost use Rattle.image_rules.specs.declared.rule.EntryRule.TheVariants.{RelocationsSize};
 ghost use Rattle.image_faults.specs.Array.{entry as entry_of, place as place_of, HasTag, HoldsTable};
@@ -33,6 +33,14 @@ const WORD_SIZE: u64 = 4;
 const ENTRY_LIMIT: u64 = 16;
 
 impl Segments<'_> {
+    /// The file's length fits in 64 bits, and the last LOAD lies in the file. The call does nothing; it gives a proof
+    /// the first fact.
+    fn length_fits(&self)
+        ensures { length self.now.headers.bytes.now < 2 ^ 64 }
+    {
+        let _length = self.headers.bytes.len();
+    }
+
     /// An entry of the array.
     #[tactic(auto, unfolding(crate::specs::Array::entry))]
     pub fn entry(&self, number: u64) -> DynamicEntry
@@ -63,8 +71,7 @@ impl Segments<'_> {
         requires below { address ≤ self.now.last.vaddr + self.now.last.filesz }
         ensures { result ≡ place_of self.now.headers.bytes.now address }
     {
-        // The last LOAD lies in the file, and the file's length fits in 64 bits.
-        let _length = self.headers.bytes.len();
+        self.length_fits();
         self.last.offset + (address - self.last.vaddr)
     }
 
@@ -73,7 +80,7 @@ impl Segments<'_> {
         requires { number < ENTRY_LIMIT }
         ensures { result ≡ (last_of self.now.headers.bytes.now).offset + 16 * number }
     {
-        let _length = self.headers.bytes.len();
+        self.length_fits();
         self.last.offset + DynamicEntry::SIZE * number
     }
 

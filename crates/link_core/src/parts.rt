@@ -81,8 +81,7 @@ fn write_halves<R: Threads + Sync>(
     requires far { part.from + length bytes.old ≤ 2 ^ 30 }
     ensures { IsWritten plan.now part.from part.to bytes.old bytes.new }
 {
-    // Reading a field lets the proof use the plan's invariant.
-    let _inputs = &plan.inputs;
+    plan.is_given();
     if halvings == 0 || bytes.len() < WORTH_TWO_THREADS {
         return write_part(plan, part, bytes);
     }
@@ -140,8 +139,7 @@ pub fn write_fields<R: Threads + Sync>(rt: &R, plan: &Plan, file: &mut [u8])
     ensures written { file.new ≡ with_fields_from plan.now 0 plan.now.objects file.old }
     ensures filled { length file.new ≡ length (raw_file plan.now) }
 {
-    // Reading a field lets the proof use the plan's invariant.
-    let _inputs = &plan.inputs;
+    plan.is_given();
     let whole = FilePart { from: 0, to: None };
     write_halves(rt, plan, whole, HALVINGS, file);
 }

@@ -97,8 +97,7 @@ fn fill_field(plan: &Plan, from: u64, own: PlacedSection, relocation: &Relocatio
     if let RelocationKind::Nothing = relocation.kind {
         return;
     }
-    // What is known of a plan is known where a part of it is read.
-    let _inputs = &plan.inputs;
+    plan.is_given();
     let symbol = plan.symbol_value(own.object, relocation.symbol);
     if plan.is_replaced(symbol, relocation.kind) {
         return;
@@ -222,8 +221,7 @@ fn write_new_field(
     ensures written { file.new ≡ with_new_field plan.now object site.now (Some field.now) file.old }
     ensures filled { length file.new ≡ length (raw_file plan.now) }
 {
-    // What is known of a plan is known where a part of it is read.
-    let _inputs = &plan.inputs;
+    plan.is_given();
     let relocation = new_relocation(site, field);
     let place = address + relocation.offset;
     let symbol = plan.symbol_value(object, relocation.symbol);

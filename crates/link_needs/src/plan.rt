@@ -9,7 +9,7 @@ ghost use Rattle.relax_sites.specs.Choices.{IsChoiceOf};
 ghost use Rattle.sequence_forms.specs.declared.places.Site.{Site};
 ghost use Rattle.tls_relocs.specs.Fields.{width_of};
 ghost use Rattle.tls_symbols.specs.Bindings.{object_at};
-ghost use Rattle.link_needs.specs.Given.{FitsTable};
+ghost use Rattle.link_needs.specs.Given.{FitsTable, IsGiven};
 ghost use Rattle.link_needs.specs.Plans.{goes_by, number_by, value_of};
 ghost use Rattle.link_needs.specs.Linking.{choice, choices_from, choices_in, place as place_of, sites_at};
 ghost use Rattle.link_needs.specs.Needs.{calls_stub, has_stub, is_kept, is_stub_call, need_address, relocation_need};
@@ -177,6 +177,15 @@ fn goes(symbol: SymbolValue, kind: RelocationKind) -> bool
 }
 
 impl<'l, 's, 'a> Plan<'l, 's, 'a> {
+    /// A plan is of objects that were read and of sites that were found in them, and its table fits. The call does
+    /// nothing; it gives a proof these facts.
+    pub fn is_given(&self)
+        ensures given { IsGiven self.now }
+        ensures limits { FitsTable self.now }
+    {
+        let _inputs = &self.inputs;
+    }
+
     /// The address of the entry for a need; 0 if there is none.
     pub fn need_address(&self, need: Option<Need<'a>>) -> u64
         ensures { result ≡ need_address self.now need.entry }

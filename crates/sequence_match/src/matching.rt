@@ -39,6 +39,13 @@ pub struct Code<'a> {
 }
 
 impl Code<'_> {
+    /// The code's length fits in 64 bits. The call does nothing; it gives a proof this fact.
+    fn length_fits(&self)
+        ensures { length self.now.bytes.now < 2 ^ 64 }
+    {
+        let _length = self.bytes.len();
+    }
+
     /// The relocation whose field covers a byte, from the index of fields. `guess` is a guess of how many fields
     /// begin at or before the byte.
     fn field_indexed(&self, fields: &[Span], place: u64, guess: u32) -> Option<u32>
@@ -47,7 +54,7 @@ impl Code<'_> {
         requires inside { place < length self.now.bytes.now }
         ensures { IsFirstAt (ReachesAt OfField self.now.relocations.now place) result }
     {
-        let _length = self.bytes.len();
+        self.length_fits();
         let Some(last) = last_below(fields, place + 1, guess as usize) else {
             return None;
         };
@@ -485,7 +492,7 @@ fn is_second_of(code: &Code, entry: u32, site: &Site) -> bool
         ↔ IsSecond (row site.now.form).second (Names code.now.getters.now) code.now.relocations.now
         site.now.start entry }
 {
-    let _length = code.bytes.len();
+    code.length_fits();
     let Some(second) = site.form.row().second else {
         return false;
     };

@@ -9,20 +9,20 @@ use Rattle.link_core.proofs.parts.write_fields.Goals as goal
 pub write_halves-requires-clause-part : goal.write_halves-requires-clause-part
 write_halves-requires-clause-part g c κs within =
     let l = c.args.plan.now in
-    let given = subst IsGiven c.plan.view_is c.plan.invariant.given in
-    let limits = subst FitsTable c.plan.view_is c.plan.invariant.limits in
+    let given = c.is_given.ensures.given in
+    let limits = c.is_given.ensures.limits in
     subst (IsPart l 0 None) (sym c.requires.filled) (whole_is_part l given limits)
 
 pub write_halves-requires-clause-far : goal.write_halves-requires-clause-far
 write_halves-requires-clause-far g c =
     let l = c.args.plan.now in
-    let given = subst IsGiven c.plan.view_is c.plan.invariant.given in
-    let limits = subst FitsTable c.plan.view_is c.plan.invariant.limits in
+    let given = c.is_given.ensures.given in
+    let limits = c.is_given.ensures.limits in
     omega (arith, raw_near l given limits, c.requires.filled)
 
 pub returns-clause-written : goal.returns-clause-written
 returns-clause-written g c =
     let l = c.args.plan.now in
-    let given = subst IsGiven c.plan.view_is c.plan.invariant.given in
-    let limits = subst FitsTable c.plan.view_is c.plan.invariant.limits in
+    let given = c.is_given.ensures.given in
+    let limits = c.is_given.ensures.limits in
     c.write_halves.ensures.written ∙ whole_part l given limits c.args.file.now

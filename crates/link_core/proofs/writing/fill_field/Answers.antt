@@ -16,7 +16,7 @@ returns-in-Nothing-clause-written c =
 
 pub symbol_value-symbol-requires-clause-symbol : goal.symbol_value-symbol-requires-clause-symbol
 symbol_value-symbol-requires-clause-symbol c =
-    let given = subst IsGiven c.plan.view_is c.plan.invariant.given in
+    let given = c.is_given.ensures.given in
     names_symbol c.args.plan.now c.args.own.object c.args.own.section c.args.relocation.now given c.requires.object
     c.requires.own c.in_default.not-Nothing
 
@@ -35,8 +35,8 @@ returns-then-is_replaced c =
 pub overflow_add-place : goal.overflow_add-place
 overflow_add-place c =
     let l = c.args.plan.now in
-    let given = subst IsGiven c.plan.view_is c.plan.invariant.given in
-    let limits = subst FitsTable c.plan.view_is c.plan.invariant.limits in
+    let given = c.is_given.ensures.given in
+    let limits = c.is_given.ensures.limits in
     let room = field_room l c.args.own.object c.args.own.section c.args.relocation.now given limits c.requires.object
     c.requires.own in
     let begins = ap (λ a. unwrap_or a 0 + c.args.relocation.now.offset) c.requires.address in
@@ -44,7 +44,7 @@ overflow_add-place c =
 
 pub field-requires-clause-number : goal.field-requires-clause-number
 field-requires-clause-number c =
-    let given = subst IsGiven c.plan.view_is c.plan.invariant.given in
+    let given = c.is_given.ensures.given in
     names_symbol c.args.plan.now c.args.own.object c.args.own.section c.args.relocation.now given c.requires.object
     c.requires.own c.in_default.not-Nothing
 
@@ -52,8 +52,8 @@ pub put-requires : goal.put-requires
 put-requires c =
     let l = c.args.plan.now in
     let r = c.args.relocation.now in
-    let given = subst IsGiven c.plan.view_is c.plan.invariant.given in
-    let limits = subst FitsTable c.plan.view_is c.plan.invariant.limits in
+    let given = c.is_given.ensures.given in
+    let limits = c.is_given.ensures.limits in
     let room = part_room l c.args.from (length c.args.bytes.now) c.args.own.object c.args.own.section c.args.own.address r given
     limits c.requires.object c.requires.own c.requires.address c.requires.inside in
     record { room = rw c.in-Ok.ensures.width room.room; behind = rw c.in-Ok.ensures.width room.behind }

@@ -13,8 +13,8 @@ use Rattle.link_core.proofs.writing.write_new_field.Goals as goal
 pub new_relocation-relocation-requires : goal.new_relocation-relocation-requires
 new_relocation-relocation-requires c =
     let l = c.args.plan.now in
-    let given = subst IsGiven c.plan.view_is c.plan.invariant.given in
-    let limits = subst FitsTable c.plan.view_is c.plan.invariant.limits in
+    let given = c.is_given.ensures.given in
+    let limits = c.is_given.ensures.limits in
     let site = c.args.site.now in
     let room = site_room l c.args.object site given limits c.requires.object c.requires.own in
     new_small l c.args.object site (choice l c.args.object site) c.args.field.now room c.requires.field
@@ -22,8 +22,8 @@ new_relocation-relocation-requires c =
 pub overflow_add-place : goal.overflow_add-place
 overflow_add-place c =
     let l = c.args.plan.now in
-    let given = subst IsGiven c.plan.view_is c.plan.invariant.given in
-    let limits = subst FitsTable c.plan.view_is c.plan.invariant.limits in
+    let given = c.is_given.ensures.given in
+    let limits = c.is_given.ensures.limits in
     let site = c.args.site.now in
     let room = site_room l c.args.object site given limits c.requires.object c.requires.own in
     let fits = new_room l c.args.object site (choice l c.args.object site) c.args.field.now room c.requires.field in
@@ -33,8 +33,8 @@ overflow_add-place c =
 pub symbol_value-symbol-requires-clause-symbol : goal.symbol_value-symbol-requires-clause-symbol
 symbol_value-symbol-requires-clause-symbol c =
     let l = c.args.plan.now in
-    let given = subst IsGiven c.plan.view_is c.plan.invariant.given in
-    let limits = subst FitsTable c.plan.view_is c.plan.invariant.limits in
+    let given = c.is_given.ensures.given in
+    let limits = c.is_given.ensures.limits in
     let room = site_room l c.args.object c.args.site.now given limits c.requires.object c.requires.own in
     let same = ap (λ (r : Relocation). r.symbol) c.new_relocation-relocation.ensures in
     rw same room.usable.symbol
@@ -42,8 +42,8 @@ symbol_value-symbol-requires-clause-symbol c =
 pub field-requires-clause-number : goal.field-requires-clause-number
 field-requires-clause-number c =
     let l = c.args.plan.now in
-    let given = subst IsGiven c.plan.view_is c.plan.invariant.given in
-    let limits = subst FitsTable c.plan.view_is c.plan.invariant.limits in
+    let given = c.is_given.ensures.given in
+    let limits = c.is_given.ensures.limits in
     let room = site_room l c.args.object c.args.site.now given limits c.requires.object c.requires.own in
     let same = ap (λ (r : Relocation). r.symbol) c.new_relocation-relocation.ensures in
     rw same room.usable.symbol
@@ -51,8 +51,8 @@ field-requires-clause-number c =
 pub put-requires : goal.put-requires
 put-requires c =
     let l = c.args.plan.now in
-    let given = subst IsGiven c.plan.view_is c.plan.invariant.given in
-    let limits = subst FitsTable c.plan.view_is c.plan.invariant.limits in
+    let given = c.is_given.ensures.given in
+    let limits = c.is_given.ensures.limits in
     let site = c.args.site.now in
     let room = site_room l c.args.object site given limits c.requires.object c.requires.own in
     let fits = new_room l c.args.object site (choice l c.args.object site) c.args.field.now room c.requires.field in
