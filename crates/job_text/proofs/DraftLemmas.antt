@@ -1,18 +1,24 @@
 -- Where the images of a draft stand, when one more is declared.
 use Rattle.std.proofs.Common.{◌≡◌, ℕ, ◌+◌, ◌-◌, get_or, map, slice_set, slice_index_or, ◌<◌, Bool, true, false, cond, List, [], ◌∷◌, ◌++◌, length, Option, Some, None, refl, sym, ap, ◌∙◌, subst}
-use Rattle.std.proofs.Common.{arith, length-append}
+use Rattle.std.proofs.Common.{◌≤◌, arith, length-append}
+use Rattle.std.specs.Prelude.{IsTrue, if◌then◌else◌, is_some}
 use Rattle.std.proofs.lemmas.Bool.{false≢true}
 use Rattle.std.proofs.lemmas.List.{map-set, get_or-map, length-map, length-set}
 use Rattle.std.proofs.lemmas.Slice.Eq.{bytes_eq-Decides}
 use Rattle.std.proofs.lemmas.List.Elements.{All-weaker, All-set, All-get_or}
 use Rattle.std.specs.Borrow.{Bor}
-use Rattle.std.specs.HashMap.{HashMap}
+use Rattle.std.specs.HashMap.{HashMap, get_by}
 use Rattle.std.specs.List.{All, position_from}
 use Rattle.std.specs.Option.{IfSome, option_map}
 use Rattle.std.specs.Str.{bytes_eq}
 use Rattle.job_text.specs.Threads.{IsThread}
-use Rattle.job_text.specs.Drafts.{Declared, IsDraft, IsSlot, IsPlan, is_named, or_else, slot_among, program_slot}
-use Rattle.job_text.specs.LineEffects.{with_line}
+use Rattle.job_text.specs.Drafts.{Declared, IsDraft, IsSlot, IsPlan, image_count, is_named, or_else, slot_among, slot_of, program_slot}
+use Rattle.job_text.specs.LineEffects.{next_slot, with_image, with_line}
+use Rattle.job_text.specs.LineFaults.{is_program}
+use Rattle.job_text.specs.Listings.{IsListOf}
+use Rattle.job_text.proofs.MentionLemmas.{kept_by_late, kept_by_program, kept_by_start, listed_late, listed_program, listed_start}
+use Rattle.link_faults.specs.declared.image_kind.ImageKind.{ImageKind}
+use Rattle.link_faults.specs.declared.image_kind.ImageKind.TheVariants as kinds
 use Rattle.job_text.specs.declared.draft.Slot.{Slot}
 use Rattle.job_text.specs.declared.draft.Slot.TheVariants.{Program, Start, Late}
 use Rattle.job_text.specs.declared.draft.Plan.{Plan}
@@ -62,13 +68,6 @@ late_by true program starts lates name q image e none b =
     (rw (first.0, second.0, position_added (is_named name) 0 lates image (unmapped Late _ second.1) (same_name name image e)) (ap (λ k. Some (Late k)) (omega arith)))
 late_by false program starts lates name q image e none b = rw (position_missed (is_named q) 0 lates image (other_name name q image e b)) refl
 
--- a late image joins
-pub late_slot : (program : Option Image) (starts lates now : List Image) (name q : List ℕ) (image : Image) (n : ℕ) → image.name ≡ name → slot_among program starts lates name ≡ None
-    → now ≡ lates ++ image ∷ [] → n ≡ length lates
-    → cond (bytes_eq name q) (Some (Late n)) (slot_among program starts lates q) ≡ slot_among program starts now q
-late_slot program starts lates now name q image n e none pushed count =
-    rw (pushed, count) (sym (late_by (bytes_eq name q) program starts lates name q image e none refl))
-
 start_by : (b : Bool) (program : Option Image) (starts lates : List Image) (name q : List ℕ) (image : Image) → image.name ≡ name → slot_among program starts lates name ≡ None
     → bytes_eq name q ≡ b → slot_among program (starts ++ image ∷ []) lates q ≡ cond b (Some (Start (length starts))) (slot_among program starts lates q)
 unfolding slot_among
@@ -79,13 +78,6 @@ start_by true program starts lates name q image e none b =
     (rw (first.0, position_added (is_named name) 0 starts image (unmapped Start _ second.0) (same_name name image e)) (ap (λ k. Some (Start k)) (omega arith)))
 start_by false program starts lates name q image e none b = rw (position_missed (is_named q) 0 starts image (other_name name q image e b)) refl
 
--- a start image joins
-pub start_slot : (program : Option Image) (starts lates now : List Image) (name q : List ℕ) (image : Image) (n : ℕ) → image.name ≡ name → slot_among program starts lates name ≡ None
-    → now ≡ starts ++ image ∷ [] → n ≡ length starts
-    → cond (bytes_eq name q) (Some (Start n)) (slot_among program starts lates q) ≡ slot_among program now lates q
-start_slot program starts lates now name q image n e none pushed count =
-    rw (pushed, count) (sym (start_by (bytes_eq name q) program starts lates name q image e none refl))
-
 program_by : (b : Bool) (starts lates : List Image) (name q : List ℕ) (image : Image) → image.name ≡ name
     → bytes_eq name q ≡ b → slot_among (Some image) starts lates q ≡ cond b (Some Program) (slot_among None starts lates q)
 unfolding slot_among
@@ -93,12 +85,6 @@ program_by true starts lates name q image e b =
     subst (λ (n : List ℕ). slot_among (Some image) starts lates n ≡ Some Program) ((bytes_eq-Decides name q).0 b)
     (rw (same_name name image e) refl)
 program_by false starts lates name q image e b = rw (other_name name q image e b) refl
-
--- the program is declared
-pub program_at : (program : Option Image) (starts lates : List Image) (name q : List ℕ) (image : Image) → image.name ≡ name → program ≡ None
-    → cond (bytes_eq name q) (Some Program) (slot_among program starts lates q) ≡ slot_among (Some image) starts lates q
-program_at program starts lates name q image e none =
-    rw none (sym (program_by (bytes_eq name q) starts lates name q image e refl))
 
 -- a line joins those of its thread
 lines_added : {X : Type 0} (view : X → List Plan) (lines : List X) (i : ℕ) (old now : X) (plan : Plan) → i < length lines → old ≡ get_or lines i old → view now ≡ view old ++ plan ∷ []
@@ -162,34 +148,46 @@ plans_kept program program' starts starts' lates lates' lines keep all =
     All-weaker (All (IsPlan program starts lates)) (All (IsPlan program' starts' lates'))
     (λ plans h. All-weaker (IsPlan program starts lates) (IsPlan program' starts' lates') (λ plan p. record { placed = keep plan.slot p.placed; shown = p.shown }) plans h) lines all
 
-kept_by_start : (program : Option Image) (starts now lates : List Image) (image : Image) → now ≡ starts ++ image ∷ [] → (slot : Slot) → IsSlot program starts lates slot
-    → IsSlot program now lates slot
-kept_by_start program starts now lates image e Program h = h
-kept_by_start program starts now lates image e (Start k) h = rw e (omega (arith, length-append starts (image ∷ [])))
-kept_by_start program starts now lates image e (Late k) h = h
+-- an image joins a draft
+module _ {S : Type 0} (names now : HashMap (Bor (List ℕ)) Slot S) (d : Declared) (name : List ℕ) (image : Image) (draft : IsDraft names d)
+    (named : image.name ≡ name) (undeclared : slot_of d name ≡ None) (room : image_count d < 64) where
+  -- the map has its slot too
+  abbrev Joins : Slot → Type 0
+  Joins slot = (q : List ℕ) → get_by (λ key. bytes_eq q key.now) now ≡ cond (bytes_eq name q) (Some slot) (get_by (λ key. bytes_eq q key.now) names)
 
-kept_by_late : (program : Option Image) (starts lates now : List Image) (image : Image) → now ≡ lates ++ image ∷ [] → (slot : Slot) → IsSlot program starts lates slot
-    → IsSlot program starts now slot
-kept_by_late program starts lates now image e Program h = h
-kept_by_late program starts lates now image e (Start k) h = h
-kept_by_late program starts lates now image e (Late k) h = rw e (omega (arith, length-append lates (image ∷ [])))
+  joined : (program : Option Image) (starts lates : List Image) (slot : Slot) → (if is_some program then 1 else 0) + length starts + length lates ≤ 64
+      → ((q : List ℕ) → slot_among program starts lates q ≡ cond (bytes_eq name q) (Some slot) (slot_of d q))
+      → ((other : Slot) → IsSlot d.program d.starts d.lates other → IsSlot program starts lates other)
+      → IsListOf (IsSlot program starts lates) (d.mentions ++ slot ∷ []) → Joins slot
+      → IsDraft now (record d { program = program; starts = starts; lates = lates; mentions = d.mentions ++ slot ∷ [] })
+  joined program starts lates slot few found keep mentioned joins = record {
+    within = record {
+      few_images = few;
+      some_thread = draft.within.some_thread;
+      few_threads = draft.within.few_threads;
+      one_thread = draft.within.one_thread;
+      fuel_within = draft.within.fuel_within;
+    };
+    slots = λ q. joins q ∙ ap (λ rest. cond (bytes_eq name q) (Some slot) rest) (draft.slots q) ∙ sym (found q);
+    plans = plans_kept d.program program d.starts starts d.lates lates d.lines keep draft.plans;
+    order_named = draft.order_named;
+    mentioned = mentioned;
+  }
 
-kept_by_program : (program : Option Image) (starts lates : List Image) (image : Image) → (slot : Slot) → IsSlot program starts lates slot → IsSlot (Some image) starts lates slot
-kept_by_program program starts lates image Program h = refl
-kept_by_program program starts lates image (Start k) h = h
-kept_by_program program starts lates image (Late k) h = h
+  joined_program : d.program ≡ None → Joins Program → IsDraft now (record d { program = Some image; mentions = d.mentions ++ Program ∷ [] })
+  joined_program none = joined (Some image) d.starts d.lates Program (omega (arith, room))
+      (λ q. program_by (bytes_eq name q) d.starts d.lates name q image named refl ∙ ap (λ p. cond (bytes_eq name q) (Some Program) (slot_among p d.starts d.lates q)) (sym none))
+      (kept_by_program d.program d.starts d.lates image) (listed_program d.program d.starts d.lates image d.mentions none draft.mentioned)
 
-pub plans_with_start : (program : Option Image) (starts now lates : List Image) (image : Image) (lines : List (List Plan)) → now ≡ starts ++ image ∷ []
-    → All (All (IsPlan program starts lates)) lines → All (All (IsPlan program now lates)) lines
-plans_with_start program starts now lates image lines e = plans_kept program program starts now lates lates lines (kept_by_start program starts now lates image e)
-
-pub plans_with_late : (program : Option Image) (starts lates now : List Image) (image : Image) (lines : List (List Plan)) → now ≡ lates ++ image ∷ []
-    → All (All (IsPlan program starts lates)) lines → All (All (IsPlan program starts now)) lines
-plans_with_late program starts lates now image lines e = plans_kept program program starts starts lates now lines (kept_by_late program starts lates now image e)
-
-pub plans_with_program : (program : Option Image) (starts lates : List Image) (image : Image) (lines : List (List Plan))
-    → All (All (IsPlan program starts lates)) lines → All (All (IsPlan (Some image) starts lates)) lines
-plans_with_program program starts lates image lines = plans_kept program (Some image) starts starts lates lates lines (kept_by_program program starts lates image)
+  pub draft_with_image : (kind : ImageKind) → (IsTrue (is_program kind) → d.program ≡ None) → Joins (next_slot kind d) → IsDraft now (with_image image kind d)
+  draft_with_image kinds.Exe new = joined_program (new refl)
+  draft_with_image kinds.Pie new = joined_program (new refl)
+  draft_with_image kinds.Start new = joined d.program (d.starts ++ image ∷ []) d.lates (Start (length d.starts)) (omega (arith, room, length-append d.starts (image ∷ [])))
+      (λ q. start_by (bytes_eq name q) d.program d.starts d.lates name q image named undeclared refl)
+      (kept_by_start d.program d.starts d.lates image) (listed_start d.program d.starts d.lates image d.mentions draft.mentioned)
+  draft_with_image kinds.Late new = joined d.program d.starts (d.lates ++ image ∷ []) (Late (length d.lates)) (omega (arith, room, length-append d.lates (image ∷ [])))
+      (λ q. late_by (bytes_eq name q) d.program d.starts d.lates name q image named undeclared refl)
+      (kept_by_late d.program d.starts d.lates image) (listed_late d.program d.starts d.lates image d.mentions draft.mentioned)
 
 -- a thread's lines are replaced by others that are plans
 pub plans_with_line : {X : Type 0} (view : X → List Plan) (P : Plan → Type 0) (lines : List X) (i : ℕ) (now : X) → All (All P) (map view lines) → All P (view now)

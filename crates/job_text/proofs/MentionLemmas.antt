@@ -38,59 +38,63 @@ nothing = record { only = All-nil (IsSlot None [] []); every = none; once = λ i
 pub nothing_listed : (starts lates : List Image) (list : List Slot) → starts ≡ [] → lates ≡ [] → list ≡ [] → IsListOf (IsSlot None starts lates) list
 nothing_listed starts lates list s l e = rw (s, l, e) nothing
 
+-- slots stay slots as an image joins its group
+pub kept_by_program : (program : Option Image) (starts lates : List Image) (image : Image) (slot : Slot) → IsSlot program starts lates slot → IsSlot (Some image) starts lates slot
+kept_by_program program starts lates image Program h = refl
+kept_by_program program starts lates image (Start k) h = h
+kept_by_program program starts lates image (Late k) h = h
+
+pub kept_by_start : (program : Option Image) (starts lates : List Image) (image : Image) (slot : Slot) → IsSlot program starts lates slot
+    → IsSlot program (starts ++ image ∷ []) lates slot
+kept_by_start program starts lates image Program h = h
+kept_by_start program starts lates image (Start k) h = omega (arith, h, length-append starts (image ∷ []))
+kept_by_start program starts lates image (Late k) h = h
+
+pub kept_by_late : (program : Option Image) (starts lates : List Image) (image : Image) (slot : Slot) → IsSlot program starts lates slot
+    → IsSlot program starts (lates ++ image ∷ []) slot
+kept_by_late program starts lates image Program h = h
+kept_by_late program starts lates image (Start k) h = h
+kept_by_late program starts lates image (Late k) h = omega (arith, h, length-append lates (image ∷ []))
+
 -- the program is declared
 pub listed_program : (program : Option Image) (starts lates : List Image) (image : Image) (list : List Slot) → program ≡ None → IsListOf (IsSlot program starts lates) list
     → IsListOf (IsSlot (Some image) starts lates) (list ++ Program ∷ [])
-listed_program program starts lates image list e h = listed_more (IsSlot None starts lates) (IsSlot (Some image) starts lates) list Program keep refl (λ is. cc) which
+listed_program program starts lates image list e h =
+    listed_more (IsSlot None starts lates) (IsSlot (Some image) starts lates) list Program (kept_by_program None starts lates image) refl (λ is. cc) which
     (subst (λ (o : Option Image). IsListOf (IsSlot o starts lates) list) e h)
   where
-    keep : (slot : Slot) → IsSlot None starts lates slot → IsSlot (Some image) starts lates slot
-    keep Program is = refl
-    keep (Start k) is = is
-    keep (Late k) is = is
-
     which : (slot : Slot) → IsSlot (Some image) starts lates slot → IsSlot None starts lates slot ⊎ (Program ≡ slot)
     which Program is = inr refl
     which (Start k) is = inl is
     which (Late k) is = inl is
 
--- a number below a sum is below the first number, or it is that number
-below_or_last : (k n : ℕ) → k < n + 1 → (k < n) ⊎ (n ≡ k)
-below_or_last k n h = grind arith
+-- a number below a list's length is below that of the list before the last thing joined, or it is that length
+below_or_last : (k n m : ℕ) → m ≡ n + 1 → k < m → (k < n) ⊎ (n ≡ k)
+below_or_last k n m more h = grind arith
 
 -- a start image joins
-pub listed_start : (program : Option Image) (starts now lates : List Image) (image : Image) (n : ℕ) (list : List Slot) → now ≡ starts ++ image ∷ [] → n ≡ length starts
-    → IsListOf (IsSlot program starts lates) list → IsListOf (IsSlot program now lates) (list ++ Start n ∷ [])
-listed_start program starts now lates image n list e count h =
-    let more : length now ≡ length starts + 1 = rw e (length-append starts (image ∷ [])) in
-    listed_more (IsSlot program starts lates) (IsSlot program now lates) list (Start n) (keep more) (omega arith) (λ is. omega arith) (which more) h
+pub listed_start : (program : Option Image) (starts lates : List Image) (image : Image) (list : List Slot) → IsListOf (IsSlot program starts lates) list
+    → IsListOf (IsSlot program (starts ++ image ∷ []) lates) (list ++ Start (length starts) ∷ [])
+listed_start program starts lates image list h =
+    listed_more (IsSlot program starts lates) (IsSlot program (starts ++ image ∷ []) lates) list (Start (length starts)) (kept_by_start program starts lates image)
+    (omega (arith, length-append starts (image ∷ []))) (λ is. omega arith) which h
   where
-    keep : length now ≡ length starts + 1 → (slot : Slot) → IsSlot program starts lates slot → IsSlot program now lates slot
-    keep more Program is = is
-    keep more (Start k) is = omega arith
-    keep more (Late k) is = is
-
-    which : length now ≡ length starts + 1 → (slot : Slot) → IsSlot program now lates slot → IsSlot program starts lates slot ⊎ (Start n ≡ slot)
-    which more Program is = inl is
-    which more (Start k) is = elim (below_or_last k (length starts) (omega arith)) [ inl less ↦ inl less | inr last ↦ inr (ap Start (count ∙ last)) ]
-    which more (Late k) is = inl is
+    which : (slot : Slot) → IsSlot program (starts ++ image ∷ []) lates slot → IsSlot program starts lates slot ⊎ (Start (length starts) ≡ slot)
+    which Program is = inl is
+    which (Start k) is = elim (below_or_last k (length starts) _ (length-append starts (image ∷ [])) is) [ inl less ↦ inl less | inr last ↦ inr (ap Start last) ]
+    which (Late k) is = inl is
 
 -- a late image joins
-pub listed_late : (program : Option Image) (starts lates now : List Image) (image : Image) (n : ℕ) (list : List Slot) → now ≡ lates ++ image ∷ [] → n ≡ length lates
-    → IsListOf (IsSlot program starts lates) list → IsListOf (IsSlot program starts now) (list ++ Late n ∷ [])
-listed_late program starts lates now image n list e count h =
-    let more : length now ≡ length lates + 1 = rw e (length-append lates (image ∷ [])) in
-    listed_more (IsSlot program starts lates) (IsSlot program starts now) list (Late n) (keep more) (omega arith) (λ is. omega arith) (which more) h
+pub listed_late : (program : Option Image) (starts lates : List Image) (image : Image) (list : List Slot) → IsListOf (IsSlot program starts lates) list
+    → IsListOf (IsSlot program starts (lates ++ image ∷ [])) (list ++ Late (length lates) ∷ [])
+listed_late program starts lates image list h =
+    listed_more (IsSlot program starts lates) (IsSlot program starts (lates ++ image ∷ [])) list (Late (length lates)) (kept_by_late program starts lates image)
+    (omega (arith, length-append lates (image ∷ []))) (λ is. omega arith) which h
   where
-    keep : length now ≡ length lates + 1 → (slot : Slot) → IsSlot program starts lates slot → IsSlot program starts now slot
-    keep more Program is = is
-    keep more (Start k) is = is
-    keep more (Late k) is = omega arith
-
-    which : length now ≡ length lates + 1 → (slot : Slot) → IsSlot program starts now slot → IsSlot program starts lates slot ⊎ (Late n ≡ slot)
-    which more Program is = inl is
-    which more (Start k) is = inl is
-    which more (Late k) is = elim (below_or_last k (length lates) (omega arith)) [ inl less ↦ inl less | inr last ↦ inr (ap Late (count ∙ last)) ]
+    which : (slot : Slot) → IsSlot program starts (lates ++ image ∷ []) slot → IsSlot program starts lates slot ⊎ (Late (length lates) ≡ slot)
+    which Program is = inl is
+    which (Start k) is = inl is
+    which (Late k) is = elim (below_or_last k (length lates) _ (length-append lates (image ∷ [])) is) [ inl less ↦ inl less | inr last ↦ inr (ap Late last) ]
 
 contains_map : {X Y : Type 0} (f : X → Y) (list : List X) (x : X) → Contains list x → Contains (map f list) (f x)
 contains_map f list x (k, inside, is) =

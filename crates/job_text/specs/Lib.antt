@@ -2,6 +2,7 @@ pub mod Actions
 pub mod Drafts
 pub mod Flaws
 pub mod Grammar
+pub mod Groups
 pub mod Images
 pub mod Jobs
 pub mod Kinds

@@ -6,14 +6,13 @@ ghost use Rattle.job_text.specs.Actions.{IsAction};
 ghost use Rattle.job_text.specs.Threads.{IsThread};
 ghost use Rattle.job_text.specs.Drafts.{IsSlot, IsPlan, image_count, nothing_declared, slot_of};
 ghost use Rattle.job_text.specs.LineAnswers.{IsLineAnswer, IsOrderAnswer, IsRead};
-ghost use Rattle.job_text.specs.LineEffects.{action_of, with_heading, with_image, with_line, with_words};
+ghost use Rattle.job_text.specs.LineEffects.{action_of, next_slot, with_heading, with_image, with_line, with_words};
 ghost use Rattle.job_text.specs.LineFaults.{action_fault, fault_in_words, fault_under, has_long_object, is_image};
 ghost use Rattle.job_text.specs.LineFaults.{is_miscounted, is_program, symbol_fault, thread_named};
 ghost use Rattle.job_text.specs.Grammar.{heading_of};
 ghost use Rattle.job_text.specs.Words.{word_at, words_of};
 ghost use Rattle.job_text.specs.declared.grammar.Heading.TheVariants as heading;
 ghost use Rattle.job_text.specs.declared.grammar.Verb.TheVariants as verb;
-ghost use Rattle.link_faults.specs.declared.image_kind.ImageKind.TheVariants as kind;
 
 use crate::fault::{Flaw, JobFaultKind};
 use crate::grammar::{Heading, Verb, has_its_words, heading_of, is_image_name};
@@ -202,55 +201,30 @@ impl<'a> Draft<'a> {
         requires program { IsTrue (is_program image.kind) → self.old.program ≡ None }
         ensures { OnOk result (self.new ≡ with_image image image.kind self.old) }
     {
-        match image.kind {
-            ImageKind::Exe | ImageKind::Pie => self.declare_program(name, image),
-            ImageKind::Start => self.declare_start(name, image),
-            ImageKind::Late => self.declare_late(name, image),
-        }
-    }
-
-    fn declare_program(&mut self, name: &'a str, image: Image) -> Result<(), AllocError>
-        requires room { image_count self.old < 64 }
-        requires named { image.name ≡ name.now }
-        requires undeclared { slot_of self.old name.now ≡ None }
-        requires program { self.old.program ≡ None }
-        ensures { OnOk result (self.new ≡ with_image image kind.Exe self.old) }
-    {
-        self.mentions.reserve(1)?;
-        self.names.insert(name, Slot::Program)?;
-        self.program = Some(image);
-        self.mentions.push(Slot::Program).unwrap();
-        Ok(())
-    }
-
-    fn declare_start(&mut self, name: &'a str, image: Image) -> Result<(), AllocError>
-        requires room { image_count self.old < 64 }
-        requires named { image.name ≡ name.now }
-        requires undeclared { slot_of self.old name.now ≡ None }
-        ensures { OnOk result (self.new ≡ with_image image kind.Start self.old) }
-    {
-        let slot = Slot::Start(self.starts.len() as u8);
+        let slot = self.next_slot(image.kind);
         self.starts.reserve(1)?;
-        self.mentions.reserve(1)?;
-        self.names.insert(name, slot)?;
-        self.starts.push(image).unwrap();
-        self.mentions.push(slot).unwrap();
-        Ok(())
-    }
-
-    fn declare_late(&mut self, name: &'a str, image: Image) -> Result<(), AllocError>
-        requires room { image_count self.old < 64 }
-        requires named { image.name ≡ name.now }
-        requires undeclared { slot_of self.old name.now ≡ None }
-        ensures { OnOk result (self.new ≡ with_image image kind.Late self.old) }
-    {
-        let slot = Slot::Late(self.lates.len() as u8);
         self.lates.reserve(1)?;
         self.mentions.reserve(1)?;
         self.names.insert(name, slot)?;
-        self.lates.push(image).unwrap();
         self.mentions.push(slot).unwrap();
+        match image.kind {
+            ImageKind::Exe | ImageKind::Pie => self.program = Some(image),
+            ImageKind::Start => self.starts.push(image).unwrap(),
+            ImageKind::Late => self.lates.push(image).unwrap(),
+        }
         Ok(())
+    }
+
+    /// The slot that the next image of a kind takes.
+    fn next_slot(&self, kind: ImageKind) -> Slot
+        requires { image_count self.now < 64 }
+        ensures { result ≡ next_slot kind self.now }
+    {
+        match kind {
+            ImageKind::Exe | ImageKind::Pie => Slot::Program,
+            ImageKind::Start => Slot::Start(self.starts.len() as u8),
+            ImageKind::Late => Slot::Late(self.lates.len() as u8),
+        }
     }
 
     fn read_threads(&mut self, alloc: Global, words: &Words<'a>) -> Result<(), Flaw>
