@@ -1,4 +1,5 @@
 pub mod DraftLemmas
+pub mod Entries
 pub mod JobLemmas
 pub mod MentionLemmas
 pub mod NumberLemmas

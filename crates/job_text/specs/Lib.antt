@@ -11,6 +11,7 @@ pub mod LineAnswers
 pub mod LineEffects
 pub mod LineFaults
 pub mod Listings
+pub mod Numbering
 pub mod Numbers
 pub mod ProgramFirst
 pub mod Threads

@@ -17,6 +17,7 @@ ghost use Rattle.job_text.specs.declared.grammar.Verb.TheVariants as verb;
 use crate::fault::{Flaw, JobFaultKind};
 use crate::grammar::{Heading, Verb, has_its_words, heading_of, is_image_name};
 use crate::images::Image;
+use crate::numbering::index_of;
 use crate::numbers::number_within;
 use crate::operands::{has_long_object, objects_of, read_action};
 use crate::spelling::Name;
@@ -306,7 +307,7 @@ impl<'a> Draft<'a> {
         requires plan { IsPlan self.old.program self.old.starts self.old.lates plan }
         ensures { OnOk result (self.new ≡ with_line thread plan self.old) }
     {
-        let lines = &mut self.lines[thread as usize - 1];
+        let lines = &mut self.lines[index_of(thread)];
         lines.push(plan)?;
         Ok(())
     }

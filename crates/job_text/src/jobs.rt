@@ -12,6 +12,7 @@ ghost use Rattle.job_text.specs.Jobs.{IsAnswer, in_image_order, job_declared, jo
 use crate::draft::{Draft, Plan, Slot};
 use crate::fault::{Flaw, JobFault, JobFaultKind};
 use crate::images::Image;
+use crate::numbering::{at_number, index_of};
 use crate::thread_lines::ThreadLine;
 use crate::words::{is_skipped, text_of};
 use std::alloc::{AllocError, Global};
@@ -90,7 +91,7 @@ impl Job {
         requires { IsImageNumber self.now.images number }
         ensures { slice_get self.now.images (number - 1) ≡ Some result.now }
     {
-        &self.images[number as usize - 1]
+        &self.images[index_of(number)]
     }
 
     /// The number of the image with this name, if there is one.
@@ -128,14 +129,12 @@ impl Job {
     }
 
     /// The lines of a thread; none if there is no such thread.
+    #[tactic(auto, using(crate::proofs::Entries::entry_at))]
     pub fn lines(&self, thread: u32) -> &[ThreadLine]
         ensures value { result.now ≡ lines_of_thread self.now thread }
         ensures placed { All (IsLineOf self.now.images) result.now }
     {
-        if thread == 0 {
-            return &[];
-        }
-        match self.lines.get(thread as usize - 1) {
+        match at_number(self.lines.as_slice(), thread) {
             Some(lines) => lines.as_slice(),
             None => &[],
         }

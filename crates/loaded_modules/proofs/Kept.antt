@@ -1,9 +1,9 @@
 -- What is known of images: late ones come last, and the blocks of all lie close together.
-use Rattle.std.proofs.Common.{◌≡◌, ◌∙◌, ℕ, zero, suc, ◌+◌, ◌*◌, ◌^◌, ◌<◌, ◌≤◌, Bool, true, false, List, [], ◌∷◌, All, length, take, get_or, refl, sym, ap, subst, arith, inl, inr, ◌-◌, ◌%◌, ◌≢◌, Option, Some, None, map, option_map, Bor}
+use Rattle.std.proofs.Common.{◌≡◌, ◌∙◌, ℕ, zero, suc, ◌+◌, ◌*◌, ◌^◌, ◌<◌, ◌≤◌, Bool, true, false, List, [], ◌∷◌, All, length, take, get_or, refl, sym, ap, subst, arith, inl, inr, ◌-◌, ◌%◌, Option, Some, None, map}
 use Rattle.job_text.specs.Jobs.{JobParts}
+use Rattle.job_text.specs.Numbering.{at_number}
 use Rattle.loaded_modules.specs.Given.{AreModules}
-use Rattle.std.specs.Slice.{IsItemAt}
-use Rattle.std.proofs.lemmas.Option.{slice_get_past, slice_get_read, slice_get_within, get_or_from_slice_get, unwrap_or-slice_get}
+use Rattle.std.proofs.lemmas.Option.{slice_get_within, get_or_from_slice_get, unwrap_or-slice_get}
 use Rattle.std.specs.List.{slice_get}
 use Rattle.std.proofs.Math.Nat.{mod-lt}
 use Rattle.std.proofs.lemmas.List.{get_or_default, length-map, get_or-map}
@@ -121,15 +121,10 @@ last_low m are = let low = end_low (infos m) 0 are.each in omega (arith, low, ar
 
 -- ** images by their numbers
 
-pub at_none : (m : JobImages) (number : ℕ) → number ≡ 0 → None ≡ image_at m number
+pub image_is : (m : JobImages) (number : ℕ) → at_number m.images number ≡ image_at m number
 unfolding image_at
-at_none m zero is = refl
-at_none m (suc n) is = absurd (cc is)
-
-pub at_some : (m : JobImages) (number : ℕ) → number ≢ 0 → slice_get m.images (number - 1) ≡ image_at m number
-unfolding image_at
-at_some m zero is = absurd (is refl)
-at_some m (suc n) is = ap (slice_get m.images) (omega arith)
+image_is m zero = refl
+image_is m (suc n) = refl
 
 pub length-infos : (m : JobImages) → length m.kinds ≡ length m.images → length (infos m) ≡ length m.images
 unfolding infos
@@ -143,12 +138,6 @@ infos_are job images kinds same are some few kept =
     are_infos kinds images (omega (arith, long, are.each)) (omega (arith, long, some)) (omega (arith, long, few))
     (subst (λ (ks : List ImageKind). AllPairs (λ (a b : ImageKind). is_late a ≡ true → is_late b ≡ true) ks) (sym same) are.late_last)
     kept
-
--- ** what a read of a slice gives
-
-pub seen : {X : Type 0} (xs : List X) (i : ℕ) (r : Option (Bor X)) → IsItemAt xs i r → option_map (λ (b : Bor X). b.now) r ≡ slice_get xs i
-seen xs i None is = sym (slice_get_past xs i is.3)
-seen xs i (Some b) is = sym (slice_get_read xs (length xs) i b.now refl is.3.0 is.1)
 
 -- ** the rows of imports
 

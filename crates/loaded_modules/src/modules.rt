@@ -9,7 +9,7 @@ ghost use Rattle.loaded_modules.specs.Images.{image_at, infos, last_offset, stat
 use crate::exports::{Export, imports_of};
 use crate::infos::{infos_of, static_offsets};
 use image_file::Image;
-use job_text::Job;
+use job_text::{Job, at_number, index_of};
 use link_faults::ImageKind;
 use module_table::ImageInfo;
 use std::alloc::{AllocError, Global};
@@ -72,10 +72,7 @@ impl Modules {
     pub fn image(&self, number: u32) -> Option<&Image>
         ensures { option_map (λ image. image.now) result ≡ image_at self.now number }
     {
-        if number == 0 {
-            return None;
-        }
-        self.images.as_slice().get(number as usize - 1)
+        at_number(self.images.as_slice(), number)
     }
 
     /// The place of a symbol of an image, if a startup image shares its name.
@@ -84,7 +81,7 @@ impl Modules {
         requires symbol { symbol < length image.now.names }
         ensures { result ≡ export_of self.now (name_of image.now symbol) }
     {
-        let row = self.imports[number as usize - 1].as_slice();
+        let row = self.imports[index_of(number)].as_slice();
         row[symbol as usize]
     }
 

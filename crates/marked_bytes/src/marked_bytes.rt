@@ -55,11 +55,20 @@ fn value_at(values: &[u8], index: usize) -> u8
     }
 }
 
-/// A mark, by its number from 0.
-fn mark_at(marks: &[Byte], number: usize) -> Byte
-    ensures { result ≡ slice_index_or marks.now number Byte.Hidden }
+/// The index, counted from 0, of the mark with this number.
+fn mark_index(number: u32) -> usize
+    requires { 1 ≤ number }
+    ensures { result ≡ number - 1 }
 {
-    match marks.get(number) {
+    number as usize - 1
+}
+
+/// A mark, by its number.
+fn mark_at(marks: &[Byte], number: u32) -> Byte
+    requires { 1 ≤ number }
+    ensures { result ≡ slice_index_or marks.now (number - 1) Byte.Hidden }
+{
+    match marks.get(mark_index(number)) {
         Some(mark) => *mark,
         None => Byte::Hidden,
     }
@@ -83,14 +92,15 @@ fn put_slot(slots: &mut Vec<u32>, index: usize, slot: u32)
     slots[index] = slot;
 }
 
-/// Writes a mark, by its number from 0.
-fn put_mark(marks: &mut Vec<Byte>, number: usize, byte: Byte)
-    requires { number < length marks.old.items }
-    ensures items { marks.new.items ≡ slice_set marks.old.items number byte }
+/// Writes a mark, by its number.
+fn put_mark(marks: &mut Vec<Byte>, number: u32, byte: Byte)
+    requires some { 1 ≤ number }
+    requires within { number ≤ length marks.old.items }
+    ensures items { marks.new.items ≡ slice_set marks.old.items (number - 1) byte }
     ensures len { vec_len marks.new ≡ vec_len marks.old }
     ensures capacity { vec_capacity marks.new ≡ vec_capacity marks.old }
 {
-    marks[number] = byte;
+    marks[mark_index(number)] = byte;
 }
 
 /// Adds a mark, for which there is room, and gives its number, from 1.
@@ -166,7 +176,7 @@ impl MarkedBytes {
         if slot == 0 {
             return Byte::Value(value_at(&self.values, index));
         }
-        mark_at(&self.marks, slot as usize - 1)
+        mark_at(&self.marks, slot)
     }
 
     /// The byte at an index.
@@ -187,7 +197,7 @@ impl MarkedBytes {
         let index = index as usize;
         let slot = slot_at(&self.slots, index);
         if slot != 0 {
-            put_mark(&mut self.marks, slot as usize - 1, byte);
+            put_mark(&mut self.marks, slot, byte);
             return;
         }
         if let Byte::Value(value) = byte {

@@ -8,6 +8,7 @@ ghost use Rattle.module_data.specs.Pieces.{data_of, first_data, first_instance, 
 
 use crate::part::data_start;
 use crate::piece::ImageData;
+use job_text::at_number;
 use loaded_modules::{Instance, Modules};
 use std::alloc::{AllocError, Global};
 use std::marker::Model;
@@ -31,10 +32,7 @@ impl Model for Data {
 fn starts_at(modules: &Modules, number: u32) -> bool
     ensures { result ≡ starts_at modules.now number }
 {
-    if number == 0 {
-        return false;
-    }
-    match modules.infos().get(number as usize - 1) {
+    match at_number(modules.infos(), number) {
         Some(info) => !info.late,
         None => false,
     }

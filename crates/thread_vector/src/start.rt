@@ -4,6 +4,7 @@ ghost use Rattle.std.specs.Prelude.{◌≡◌, ◌≤◌, ◌<◌, ◌+◌, ◌-
 ghost use Rattle.thread_vector.specs.Starting.{AreFirst, IsFirst, startup_info};
 
 use crate::slot::Slot;
+use job_text::index_of;
 use loaded_modules::{Instance, Modules};
 use module_table::{ImageInfo, MOST_IDS};
 use std::alloc::{AllocError, Global};
@@ -13,7 +14,7 @@ fn startup_info(infos: &[ImageInfo], image: u32) -> Option<ImageInfo>
     requires { 1 ≤ image }
     ensures { result ≡ startup_info infos.now image }
 {
-    match infos.get(image as usize - 1) {
+    match infos.get(index_of(image)) {
         Some(info) => { if info.late { None } else { Some(*info) } }
         None => None,
     }

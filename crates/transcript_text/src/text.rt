@@ -7,7 +7,7 @@ ghost use Rattle.transcript_text.specs.Texts.{lines_text, threads_text, event_wo
 ghost use Rattle.transcript_text.specs.Texts.{events_text};
 
 use crate::outcomes::{Bytes, Line, Outcome};
-use job_text::Image;
+use job_text::{Image, index_of};
 use module_table::Event;
 use std::alloc::AllocError;
 
@@ -142,5 +142,5 @@ fn name_at(images: &[Image], number: u32) -> &str
     requires { IsImageNumber images.now number }
     ensures { result.now ≡ image_name images.now number }
 {
-    images[number as usize - 1].name.as_str()
+    images[index_of(number)].name.as_str()
 }

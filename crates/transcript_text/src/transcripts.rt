@@ -4,7 +4,7 @@ ghost use Rattle.std.specs.Prelude.{◌≡◌, ◌++◌, ◌∷◌, ◌<◌, [],
 
 use crate::outcomes::{Line, Outcome};
 use crate::text::{push_events, push_threads};
-use job_text::Job;
+use job_text::{Job, at_number};
 use module_table::Event;
 use std::alloc::{AllocError, Global};
 use std::marker::Model;
@@ -67,13 +67,11 @@ impl Transcript {
     }
 
     /// The lines of a thread, counted from 1; none if there is no such thread.
+    #[tactic(auto, using(job_text::proofs::Entries::entry_at))]
     pub fn lines(&self, thread: u32) -> &[Line]
         ensures { result.now ≡ of_thread self.now.threads thread }
     {
-        if thread == 0 {
-            return &[];
-        }
-        match self.threads.get(thread as usize - 1) {
+        match at_number(self.threads.as_slice(), thread) {
             Some(lines) => lines.as_slice(),
             None => &[],
         }

@@ -9,11 +9,12 @@ use Rattle.marked_bytes.specs.Kept.{AreSlots}
 use Rattle.marked_bytes.proofs.Cells.{added, inside, mark_added, mark_set, padded, room_left, value_set, zeros_change_none}
 use Rattle.marked_bytes.proofs.marked_bytes.MarkedBytes.set_byte.Goals as goal
 
-pub put_mark-requires : goal.put_mark-requires
-put_mark-requires c =
+pub put_mark-requires-clause-within : goal.put_mark-requires-clause-within
+put_mark-requires-clause-within c =
     let slot : c.slot_at-slot.result ≡ slice_index_or c.self.inside.slots.items c.args.index 0 =
     c.slot_at-slot.ensures ∙ ap (λ (xs : List ℕ). slice_index_or xs c.args.index 0) c.deref.ensures.value in
-    c.self.invariant.slots.within c.args.index (c.slot_at-slot.result - 1) (omega (arith, slot, c.if-slot-ne0.true))
+    let within = c.self.invariant.slots.within c.args.index (c.slot_at-slot.result - 1) (omega (arith, slot, c.if-slot-ne0.true)) in
+    omega (arith, within)
 
 pub returns-then-slot-ne0 : goal.returns-then-slot-ne0
 returns-then-slot-ne0 c =
