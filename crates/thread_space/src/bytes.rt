@@ -61,7 +61,7 @@ impl<'m> Bytes<Plain> for ThreadSpace<'m> {
     }
 
     fn write(&mut self, place: u64, byte: u8) {
-        let _seen = self.seen();
+        self.history_is_lawful();
         if self.is_on_stack(Access::Write, place) {
             self.set_stack_byte(place, byte);
         } else if let Some(instance) = self.block_at(place) {

@@ -56,7 +56,7 @@ fn list_live(dtv: &Dtv, room: Vec<Instance>) -> Vec<Instance>
     requires enough { 65 ≤ vec_capacity room }
     ensures { result.items ≡ live_in dtv.now.images dtv.now.past }
 {
-    let _seen = dtv.seen();
+    dtv.history_is_lawful();
     let mut live = room;
     for image in 0..NUMBERS {
         if let Some(instance) = dtv.instance(image) {
@@ -111,6 +111,13 @@ impl<'m> ThreadSpace<'m> {
         ensures left { IsLeftBy self.now.vector.images self.now.vector.past }
     {
         self.dtv.seen()
+    }
+
+    /// What the thread has seen is a history of the job's images. The call does nothing; it gives a proof this fact.
+    pub fn history_is_lawful(&self)
+        ensures { IsLeftBy self.now.vector.images self.now.vector.past }
+    {
+        self.seen();
     }
 
     /// Looks: takes the events that follow those that the thread has seen. If there is no memory for the list of live

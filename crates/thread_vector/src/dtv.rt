@@ -96,6 +96,13 @@ impl<'m> Dtv<'m> {
         self.table.seen()
     }
 
+    /// What the thread has seen is a history of the job's images. The call does nothing; it gives a proof this fact.
+    pub fn history_is_lawful(&self)
+        ensures { IsLeftBy self.now.images self.now.past }
+    {
+        self.seen();
+    }
+
     /// The thread, from 1.
     pub fn thread(&self) -> u32
         ensures { result ≡ self.now.thread }

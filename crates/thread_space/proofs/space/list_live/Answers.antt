@@ -32,5 +32,5 @@ loop-image-preserved c = elim c.match-instance.branch [
 
 pub returns : goal.returns
 returns c =
-    listed_all c.args.dtv.now.images c.args.dtv.now.past c.loop-image.image c.loop-image.live.items c.seen-seen.ensures.left
+    listed_all c.args.dtv.now.images c.args.dtv.now.past c.loop-image.image c.loop-image.live.items c.history_is_lawful.ensures
     c.loop-image.invariant.0 c.loop-image-test.false

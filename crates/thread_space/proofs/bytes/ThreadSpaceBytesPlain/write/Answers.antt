@@ -10,12 +10,12 @@ use Rattle.thread_space.proofs.bytes.ThreadSpaceBytesPlain.write.Goals as goal
 
 pub set_block_byte-requires : goal.set_block_byte-requires
 set_block_byte-requires c =
-    block_takes c.args.self.now c.args.self.now c.args.place c.args.byte c.in-Some.instance c.seen-seen.ensures.left
+    block_takes c.args.self.now c.args.self.now c.args.place c.args.byte c.in-Some.instance c.history_is_lawful.ensures
     (sym c.is_on_stack.ensures ∙ c.if-is_on_stack.false) (sym c.block_at.ensures ∙ c.in-Some.is)
 
 pub set_data_byte-requires : goal.set_data_byte-requires
 set_data_byte-requires c =
-    data_takes c.args.self.now c.args.self.now c.args.place c.args.byte c.in-Some-data_at.instance c.seen-seen.ensures.left
+    data_takes c.args.self.now c.args.self.now c.args.place c.args.byte c.in-Some-data_at.instance c.history_is_lawful.ensures
     (sym c.is_on_stack.ensures ∙ c.if-is_on_stack.false) (sym c.data_at.ensures ∙ c.in-Some-data_at.is)
 
 pub returns-then-is_on_stack-clause-written : goal.returns-then-is_on_stack-clause-written
@@ -30,7 +30,7 @@ returns-then-is_on_stack-clause-rest c =
 
 in_block : (c : goal.After-set_block_byte) → IsWritten c.args.self.now c.args.place c.args.byte c.set_block_byte.new.self
 in_block c =
-    block_is_written c.args.self.now c.set_block_byte.new.self c.args.place c.args.byte c.in-Some.instance c.seen-seen.ensures.left
+    block_is_written c.args.self.now c.set_block_byte.new.self c.args.place c.args.byte c.in-Some.instance c.history_is_lawful.ensures
     (sym c.is_on_stack.ensures ∙ c.if-is_on_stack.false) (sym c.block_at.ensures ∙ c.in-Some.is) c.set_block_byte.ensures
 
 pub returns-in-Some-clause-written : goal.returns-in-Some-clause-written
@@ -41,7 +41,7 @@ returns-in-Some-clause-rest c = (in_block c).shape
 
 in_data : (c : goal.After-set_data_byte) → IsWritten c.args.self.now c.args.place c.args.byte c.set_data_byte.new.self
 in_data c =
-    data_is_written c.args.self.now c.set_data_byte.new.self c.args.place c.args.byte c.in-Some-data_at.instance c.seen-seen.ensures.left
+    data_is_written c.args.self.now c.set_data_byte.new.self c.args.place c.args.byte c.in-Some-data_at.instance c.history_is_lawful.ensures
     (sym c.is_on_stack.ensures ∙ c.if-is_on_stack.false) (sym c.block_at.ensures ∙ c.in_default.is)
     (sym c.data_at.ensures ∙ c.in-Some-data_at.is) c.set_data_byte.ensures
 
