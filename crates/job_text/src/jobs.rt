@@ -76,6 +76,20 @@ impl Job {
         self.images.as_slice()
     }
 
+    /// A job has from 1 to 64 images, each of which a line mentions, and from 1 to 64 threads. The call does nothing; it
+    /// gives a proof these facts.
+    pub fn keeps_limits(&self)
+        ensures some_image { 1 ≤ length self.now.images }
+        ensures few_images { length self.now.images ≤ 64 }
+        ensures mentioned { (k : ℕ) → 1 ≤ k → k ≤ length self.now.images → Contains self.now.mentions k }
+        ensures some_thread { 1 ≤ length self.now.lines }
+        ensures few_threads { length self.now.lines ≤ 64 }
+    {
+        self.images();
+        self.mentions();
+        self.threads();
+    }
+
     /// The numbers of the images, each once, in the order of their lines.
     pub fn mentions(&self) -> &[u32]
         ensures value { result.now ≡ self.now.mentions }

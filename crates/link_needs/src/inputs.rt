@@ -8,6 +8,7 @@ ghost use Rattle.sequence_forms.specs.Forms.{is_initial};
 ghost use Rattle.tls_layout.specs.Places.{address_of, tls_offset_of};
 ghost use Rattle.tls_symbols.specs.Bindings.{IsBindingWithin, bound_to, may_import, object_at};
 ghost use Rattle.tls_symbols.specs.Definitions.{IsWithin};
+ghost use Rattle.link_needs.specs.Given.{IsGiven};
 ghost use Rattle.link_needs.specs.Linking.{address, address_in, choice, layout, offset, offset_in};
 
 use elf_object::{Object, RelocationKind, SymbolPlace};
@@ -80,6 +81,13 @@ impl<'l, 's, 'a> Inputs<'l, 's, 'a> {
         ensures { result ≡ list_any (λ own. list_any (λ (site : Site). is_initial site.form) own) self.now.sites }
     {
         any_initial(self.sites)
+    }
+
+    /// The objects were read, and the sites were found in them. The call does nothing; it gives a proof these facts.
+    pub fn is_given(&self)
+        ensures { IsGiven self.now }
+    {
+        let _objects = self.objects;
     }
 
     /// The object at this index in the list.

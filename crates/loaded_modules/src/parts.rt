@@ -20,6 +20,13 @@ pub(crate) struct LoadedImage<'m, 'i, 'l> {
     pub(crate) instance: &'l Instance,
 }
 
+/// Each symbol of an image has a name. The call does nothing; it gives a proof this fact.
+fn symbols_are_named(image: &Image)
+    ensures { length image.now.symbols ≡ length image.now.names }
+{
+    image.symbol_count();
+}
+
 impl LoadedImage<'_, '_, '_> {
     /// The target of a relocation.
     #[tactic(auto, unfolding(crate::specs::Loader::target_of))]
@@ -59,7 +66,7 @@ impl LoadedImage<'_, '_, '_> {
             (with_numbered self.now.modules.now self.now.image.now self.now.instance.now (lent_part part.entry) bytes
             (slice_get self.now.image.now.relocations number)) from window.new }
     {
-        let _symbols = self.image.symbol_count();
+        symbols_are_named(self.image);
         if let Some(relocation) = self.image.relocation(number) {
             let target = self.target(relocation);
             let words = words_of(self.image.kind(), self.instance, target, relocation);

@@ -118,8 +118,7 @@ fn bound_target(images: &[Inputs], inputs: &Inputs, number: usize, site: &Site) 
     ensures target { IsBound images.now inputs.now number site.now result }
     ensures numbered { IsNumbered result }
 {
-    // Reading a field lets the proof use the invariant of `inputs`.
-    let _objects = inputs.objects;
+    inputs.is_given();
     match inputs.bound(number, site.symbol, site.form.row().first) {
         Some(Binding::Here(found)) => Target::Own(found, inputs.offset(found)),
         Some(Binding::Startup(image)) => {
