@@ -1,5 +1,6 @@
 -- What threads do, turn by turn: a turn is a look at the events so far and the private steps up to the next look.
-use Rattle.std.specs.Prelude.{ℕ, zero, suc, ◌+◌, ◌-◌, ◌*◌, List, [], ◌∷◌, ◌++◌, length, replicate, slice_get, slice_set, Option, Some, None, option_and_then}
+use Rattle.std.specs.Prelude.{ℕ, zero, suc, ◌+◌, ◌-◌, ◌*◌, List, [], ◌∷◌, ◌++◌, length, replicate, slice_set, Option, Some, None, option_and_then}
+pub use Rattle.job_text.specs.Numbering.{at_number}
 use Rattle.guest_operands.specs.declared.stop.Stop.{Stop}
 use Rattle.guest_machine.specs.Run.{Stepping, Outcome, Ended, Waits, run}
 use Rattle.transcript_text.specs.declared.outcomes.Outcome.{Outcome as Answer}
@@ -97,11 +98,7 @@ abbrev pub with_event : {E : Type 0} → List E → Option E → List E
 with_event events None = events
 with_event events (Some e) = with_last events e
 
--- thread i, from 1
-abbrev pub at_number : {X : Type 0} → List X → ℕ → Option X
-at_number xs zero = None
-at_number xs (suc i) = slice_get xs i
-
+-- in place of what has a number, counted from 1, another
 abbrev pub with_number : {X : Type 0} → List X → ℕ → X → List X
 with_number xs zero x = xs
 with_number xs (suc i) x = slice_set xs i x

@@ -93,12 +93,12 @@ module _ {S R : Type 0} (is_done : R → Bool) (turned : S → R → S → R →
   going_at runs k None at going = absurd cc
   going_at runs k (Some r) at going = within runs k r at
 
-  pub going_there : (runs : List R) (thread : ℕ) → is_thread_over is_done runs thread ≡ false
-      → (thread ≡ suc (thread - 1)) × (thread - 1 < length runs)
-  going_there runs zero going = absurd cc
-  going_there runs (suc k) going =
-      let less = going_at runs k (slice_get runs k) refl going in
-      (omega arith, omega (arith, less))
+  pub going_there : (runs : List R) (thread k : ℕ) → k ≡ thread - 1 → is_thread_over is_done runs thread ≡ false
+      → (thread ≡ suc k) × (k < length runs)
+  going_there runs zero k is going = absurd cc
+  going_there runs (suc i) k is going =
+      let less = going_at runs i (slice_get runs i) refl going in
+      (omega (arith, is), omega (arith, is, less))
 
   pub going_done : (runs : List R) (thread k : ℕ) (r : R) → thread ≡ suc k → slice_get runs k ≡ Some r
       → is_thread_over is_done runs thread ≡ false → is_done r ≡ false

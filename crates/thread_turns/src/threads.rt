@@ -5,7 +5,7 @@ ghost use Rattle.thread_blocks.specs.Turns.{enough, finishing};
 ghost use Rattle.thread_turns.specs.Orders.{StayFit, TakesTurns, is_thread_over, progress};
 
 use crate::taker::TurnTaker;
-use job_text::Job;
+use job_text::{Job, at_number, index_of};
 use std::alloc::AllocError;
 
 /// Threads between two turns, and what they share.
@@ -21,10 +21,7 @@ impl<S: Drop, T: TurnTaker<S>> Threads<S, T> {
     fn is_over(&self, thread: u32) -> bool
         ensures { result ≡ is_thread_over T.is_done self.now.threads.items thread }
     {
-        if thread == 0 {
-            return true;
-        }
-        match self.threads.as_slice().get(thread as usize - 1) {
+        match at_number(self.threads.as_slice(), thread) {
             Some(thread) => thread.is_done(),
             None => true,
         }
@@ -37,7 +34,7 @@ impl<S: Drop, T: TurnTaker<S>> Threads<S, T> {
         requires going { is_thread_over T.is_done self.old.threads.items thread ≡ false }
         ensures { OnOk result (TakesTurns T.is_done T.turned (progress self.old) (thread ∷ []) (progress self.new)) }
     {
-        let index = thread as usize - 1;
+        let index = index_of(thread);
         let before = self.threads.remove(index);
         let after = before.turn(&mut self.shared)?;
         self.threads.insert(index, after)?;
