@@ -1,6 +1,5 @@
 -- What is known of a thread that raced stays when others add events.
 use Rattle.std.proofs.Common.{◌≡◌, ◌==◌, ◌+◌, ◌≤◌, ◌∙◌, ℕ, zero, suc, false, true, Bool, List, [], ◌∷◌, ◌++◌, length, refl, ap, subst, append_assoc, arith}
-use Rattle.std.specs.Prelude.{if◌then◌else◌}
 use Rattle.job_text.specs.Jobs.{JobParts}
 use Rattle.job_text.specs.Threads.{of_thread}
 use Rattle.job_text.specs.declared.thread_lines.ThreadLine.{ThreadLine}

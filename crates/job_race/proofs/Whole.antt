@@ -1,5 +1,5 @@
 -- Rows of all threads.
-use Rattle.std.proofs.Common.{◌≡◌, ◌+◌, ◌-◌, ◌≤◌, ◌<◌, ℕ, zero, suc, true, List, [], ◌∷◌, length, map, Some, sym, subst, arith}
+use Rattle.std.proofs.Common.{◌≡◌, ◌+◌, ◌≤◌, ℕ, zero, suc, List, [], ◌∷◌, length, map, Some, sym, subst, arith}
 use Rattle.std.specs.Prelude.{All, IfOk, Result, Ok, Err, slice_get}
 use Rattle.job_text.specs.declared.thread_lines.ThreadLine.{ThreadLine}
 use Rattle.job_text.specs.Images.{IsImageNumber}
@@ -14,10 +14,9 @@ use Rattle.thread_blocks.specs.JobLoads.{job_loads}
 use Rattle.thread_blocks.specs.Turns.{at_number}
 use Rattle.thread_turns.proofs.Ready.{lines_at}
 use Rattle.lawful_points.specs.Raced.{IsRaced, IsRacer}
-use Rattle.shared_modules.specs.Passes.{PassView, SharedView}
+use Rattle.shared_modules.specs.Passes.{PassView}
 use Rattle.job_turns.proofs.LastTurn.{named_images}
-use Rattle.racing_thread.specs.Racing.{HasRaced}
-use Rattle.job_race.specs.Rows.{AllRaced, CanRace, CountsLooks, HasRow}
+use Rattle.job_race.specs.Rows.{AllRaced, HasRow}
 
 module _ (m : JobImages) (job : JobParts) (history : List Event) where
   abbrev Racer : ℕ → List ThreadLine → List ShownLine → Type 0

@@ -1,6 +1,6 @@
 //! A job's threads, all at once.
 
-ghost use Rattle.std.specs.Prelude.{◌≡◌, [], false, All, IfOk, map};
+ghost use Rattle.std.specs.Prelude.{◌≡◌, ◌≤◌, [], false, All, IfOk, length, map};
 ghost use Rattle.loaded_modules.specs.Images.{infos, last_offset};
 ghost use Rattle.job_turns.specs.Alone.{has_data};
 ghost use Rattle.lawful_points.specs.Raced.{IsRaced};
@@ -10,9 +10,10 @@ ghost use Rattle.transcript_text.specs.Texts.{IsImageNumber};
 ghost use Rattle.job_race.specs.Rows.{CountsLooks};
 
 use crate::row::transcript_of;
-use crate::rows::race_threads;
+use crate::rows::{Span, race_threads};
 use job_text::Job;
 use loaded_modules::Modules;
+use racing_thread::laws::seen_is_lawful;
 use racing_thread::{Course, Gate};
 use shared_modules::{Pass, Shared};
 use std::alloc::{AllocError, Global};
@@ -20,6 +21,19 @@ use std::sync::Wait;
 use std::thread::Threads;
 use thread_space::JobNames;
 use transcript_text::Transcript;
+
+/// All threads that a job can have.
+const ALL: Span = Span {
+    first: 1,
+    count: 64,
+};
+
+/// A job has at most 64 threads. The call does nothing; it gives a proof this fact.
+fn threads_are_few(job: &Job)
+    ensures { length job.now.lines ≤ 64 }
+{
+    job.threads();
+}
 
 /// Runs all threads of a job at once over its images, and returns their lines and the history that they made. The pass
 /// is that of all threads before and after. The gate is called before and after each line of each thread. The only
@@ -55,14 +69,14 @@ pub fn race_job<R: Threads + Wait + Sync, G: Gate + Sync>(
         names: &names,
         gate,
     };
-    let (pass, row) = race_threads(rt, alloc, &course, shared, pass, 1, 64);
+    let (pass, row) = race_threads(rt, alloc, &course, shared, pass, ALL);
     let Course {
         job: _,
         names: _,
         gate: _,
     } = course;
-    let _seen = pass.seen();
-    let _threads = job.threads();
+    seen_is_lawful(&pass);
+    threads_are_few(job);
     let transcript = transcript_of(alloc, row);
     (pass, transcript)
 }

@@ -12,17 +12,23 @@ use std::alloc::{AllocError, Global};
 use std::sync::Wait;
 use std::thread::{Threads, join};
 
+/// The numbers of a row's threads: `count` from `first` on.
+#[derive(Clone, Copy)]
+pub(crate) struct Span {
+    pub(crate) first: u32,
+    pub(crate) count: u32,
+}
+
 /// Gives the first half of a row's threads to one pass.
-fn halve(shared: &Shared, pass: Pass, first: u32, count: u32) -> (Pass, Pass)
-    requires ready { IsReady first count shared.now pass }
-    requires two { 2 ≤ count }
+fn halve(shared: &Shared, pass: Pass, span: Span) -> (Pass, Pass)
+    requires ready { IsReady span.first span.count shared.now pass }
+    requires two { 2 ≤ span.count }
     ensures { result ≡ (left_pass pass, right_pass pass) }
 {
     shared.split(pass)
 }
 
-/// Runs `count` threads from number `first` on, each in a thread of the host. Those that the job does not have do
-/// nothing.
+/// Runs the threads with these numbers, each in a thread of the host. Those that the job does not have do nothing.
 #[cycle(rows)]
 pub(crate) fn race_threads<R: Threads + Wait + Sync, T: Racers + Sync>(
     rt: &R,
@@ -30,14 +36,14 @@ pub(crate) fn race_threads<R: Threads + Wait + Sync, T: Racers + Sync>(
     racers: &T,
     shared: &Shared,
     pass: Pass,
-    first: u32,
-    count: u32,
+    span: Span,
 ) -> (Pass, Result<Row, AllocError>)
-    requires can { CanRace (T.all_images racers.now) first count shared.now pass }
-    ensures ready { IsReady first count shared.now result.0 }
+    requires can { CanRace (T.all_images racers.now) span.first span.count shared.now pass }
+    ensures ready { IsReady span.first span.count shared.now result.0 }
     ensures raced { IfOk result.1
-        (HasRow (T.all_images racers.now) (T.whole_job racers.now) first count pass result.0) }
+        (HasRow (T.all_images racers.now) (T.whole_job racers.now) span.first span.count pass result.0) }
 {
+    let Span { first, count } = span;
     if first > racers.threads() {
         return (pass, Ok(Row::none(alloc)));
     }
@@ -45,27 +51,32 @@ pub(crate) fn race_threads<R: Threads + Wait + Sync, T: Racers + Sync>(
         return racers.race(rt, alloc, shared, pass, first);
     }
     let half = (count + 1) / 2;
-    let next = first + half;
-    let others = count - half;
-    let (left, right) = halve(shared, pass, first, count);
+    let front = Span { first, count: half };
+    let rest = Span {
+        first: first + half,
+        count: count - half,
+    };
+    let (left, right) = halve(shared, pass, span);
     let ((left, some), (right, more)) = join(
         rt,
         move || -> (Pass, Result<Row, AllocError>)
             requires sync { IsSync R.row }
             requires racers { IsSync T.row }
-            requires can { CanRace (T.all_images racers.now) first half shared.now left }
-            ensures ready { IsReady first half shared.entry.now result.0 }
+            requires can { CanRace (T.all_images racers.now) front.first front.count shared.now left }
+            ensures ready { IsReady front.first front.count shared.entry.now result.0 }
             ensures raced { IfOk result.1
-                (HasRow (T.all_images racers.entry.now) (T.whole_job racers.entry.now) first half left result.0) }
-        { race_threads(rt, alloc, racers, shared, left, first, half) },
+                (HasRow (T.all_images racers.entry.now) (T.whole_job racers.entry.now)
+                front.first front.count left result.0) }
+        { race_threads(rt, alloc, racers, shared, left, front) },
         move || -> (Pass, Result<Row, AllocError>)
             requires sync { IsSync R.row }
             requires racers { IsSync T.row }
-            requires can { CanRace (T.all_images racers.now) next others shared.now right }
-            ensures ready { IsReady next others shared.entry.now result.0 }
+            requires can { CanRace (T.all_images racers.now) rest.first rest.count shared.now right }
+            ensures ready { IsReady rest.first rest.count shared.entry.now result.0 }
             ensures raced { IfOk result.1
-                (HasRow (T.all_images racers.entry.now) (T.whole_job racers.entry.now) next others right result.0) }
-        { race_threads(rt, alloc, racers, shared, right, next, others) },
+                (HasRow (T.all_images racers.entry.now) (T.whole_job racers.entry.now)
+                rest.first rest.count right result.0) }
+        { race_threads(rt, alloc, racers, shared, right, rest) },
     );
     let pass = shared.join(left, right);
     let row = together(some, more);

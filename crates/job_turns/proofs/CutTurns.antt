@@ -7,18 +7,13 @@ use Rattle.std.proofs.Math.Seq.{drop-append_seam, take-append_seam, take-length}
 use Rattle.loaded_modules.specs.Images.{infos, last_offset}
 use Rattle.module_data.specs.Pieces.{Piece}
 use Rattle.module_table.specs.declared.events.Event.{Event}
-use Rattle.module_table.specs.declared.events.CloseRefusal.{CloseRefusal}
-use Rattle.module_table.specs.declared.events.CloseRefusal.TheVariants.{Permanent, NotOpen, OutOfMemory as NoRoomToClose}
-use Rattle.module_table.specs.declared.events.OpenRefusal.{OpenRefusal}
-use Rattle.module_table.specs.declared.events.OpenRefusal.TheVariants.{Unknown, Full, StaticFull, OutOfMemory as NoRoomToOpen}
-use Rattle.module_table.specs.History.{CloseRefused, History, IsLegal, OpenRefused, close_answer, closed_of, left, open_answer, opened_of, unless}
+use Rattle.module_table.specs.History.{History, IsLegal, close_answer, closed_of, left, open_answer, opened_of, unless}
 use Rattle.module_table.specs.Past.{after, close_refusal, is_legal, open_refusal, past, start}
 use Rattle.module_table.specs.Walks.{is_legal-append, seen-past}
-use Rattle.thread_blocks.specs.Lines.{refused_close, refused_open}
 use Rattle.thread_blocks.specs.Turns.{with_event}
 use Rattle.job_turns.specs.declared.asking.Ask.{Ask}
 use Rattle.job_turns.specs.declared.asking.LineAnswer.{LineAnswer}
-use Rattle.job_turns.specs.Asking.{IsClosesAnswer, IsOpensAnswer, answer_to, closed_at, opened_at}
+use Rattle.job_turns.specs.Asking.{answer_to, closed_at, opened_at}
 use Rattle.job_turns.specs.Standing.{Run, TakesTurn, ask_of}
 use Rattle.job_turns.specs.Turning.{AddsAsked, CanTurn, Turned, event_asked}
 use Rattle.job_turns.proofs.OneTurn.{rest_is, rest_leaves, seen_front}

@@ -9,7 +9,6 @@ use Rattle.loaded_modules.specs.Images.{JobImages, infos, last_offset}
 use Rattle.module_data.specs.Pieces.{first_data, first_piece}
 use Rattle.module_table.specs.declared.events.Event.{Event}
 use Rattle.module_table.specs.History.{IsLegal}
-use Rattle.module_table.specs.Past.{past, start}
 use Rattle.thread_blocks.specs.Held.{looked_at}
 use Rattle.thread_blocks.specs.JobLoads.{job_loads}
 use Rattle.thread_blocks.specs.JobWorlds.{job_start, numbered_lines, ready_from, thread_ready}

@@ -126,18 +126,15 @@ pub close_refused : (k : Kept) (line : Line) (refusal : CloseRefusal) → close_
     → BeginsClose line k (Says (Refused (refused_close refusal))) k
 close_refused k line refusal is = rw is (over_at_once _ k (Refused (refused_close refusal)) (λ seen h has_seen. refl))
 
-pub close_begins : (old new : Kept) (line : Line) (e : Event) → close_refusal old.vector.past line.told.image ≡ None → HasStartups old.vector
-    → e ≡ own_event old line false → Sees old e new
-    → BeginsClose line old (Says ClosedSo) new
-close_begins old new line e none startups is sees =
-    let here : Sees old (own_event old line false) new = subst (λ e. Sees old e new) is sees in
-    rw none (record {
-      keeps = here.keeps;
-      fresh = tt;
-      past = here.past;
-      begins = λ seen state asked has_seen. ap (SaysSo (Answered ClosedSo))
-          (looks_so old new (own_event old line false) here startups (close_accepts old.vector.past _ refl none) seen state asked has_seen (inl refl));
-    })
+pub close_begins : (old new : Kept) (line : Line) → close_refusal old.vector.past line.told.image ≡ None → HasStartups old.vector
+    → Sees old (own_event old line false) new → BeginsClose line old (Says ClosedSo) new
+close_begins old new line none startups sees = rw none (record {
+  keeps = sees.keeps;
+  fresh = tt;
+  past = sees.past;
+  begins = λ seen state asked has_seen. ap (SaysSo (Answered ClosedSo))
+      (looks_so old new (own_event old line false) sees startups (close_accepts old.vector.past _ refl none) seen state asked has_seen (inl refl));
+})
 
 -- ** opens
 
@@ -221,35 +218,34 @@ load_same : (was : Bool) (x : Instance) (old new : Kept) → LoadsNew was (Some 
 load_same true x old new same = (ap (λ k. k.vector) same, ap (λ k. length k.pieces) same)
 load_same false x old new puts = (puts.vector, ap length puts.data_is ∙ length_loaded old.vector.images x old.pieces)
 
-pub open_begins : (old mid new : Kept) (line : Line) (e : Event) (was : Bool) (instance : ℕ) → open_refusal old.vector.past line.told.image ≡ None
+pub open_begins : (old mid new : Kept) (line : Line) (was : Bool) (instance : ℕ) → open_refusal old.vector.past line.told.image ≡ None
     → HasStartups old.vector → length old.pieces ≡ length old.vector.images.images + 1
-    → e ≡ own_event old line true → Sees old e mid
+    → Sees old (own_event old line true) mid
     → was ≡ is_some (loaded_instance (infos old.vector.images) line.told.image (module_of old.vector.past line.told.image))
     → LoadsNew was (loaded_instance (infos mid.vector.images) line.told.image (module_of mid.vector.past line.told.image)) mid new
     → instance ≡ (module_of (opened old.vector.past line.told.image) line.told.image).instance
     → BeginsOpen line old (Says (OpenedSo instance)) new
-open_begins old mid new line e was instance none startups long is sees was_is load gives =
-    let here : Sees old (own_event old line true) mid = subst (λ e. Sees old e mid) is sees in
-    let found = found_then old mid line here none startups in
+open_begins old mid new line was instance none startups long sees was_is load gives =
+    let found = found_then old mid line sees none startups in
     let was_so : was ≡ is_loaded (module_of old.vector.past line.told.image) =
     was_is ∙ ap is_some (instance_is old.vector.images old.vector.past line.told.image) ∙ was_loaded _ _ in
-    let load : LoadsNew (is_loaded (module_of old.vector.past line.told.image)) (Some (x old mid line here none startups)) mid new =
+    let load : LoadsNew (is_loaded (module_of old.vector.past line.told.image)) (Some (x old mid line sees none startups)) mid new =
     subst (λ o. LoadsNew (is_loaded (module_of old.vector.past line.told.image)) o mid new) found
     (subst (λ t. LoadsNew t (loaded_instance (infos mid.vector.images) line.told.image (module_of mid.vector.past line.told.image)) mid new) was_so load) in
-    let same = load_same (is_loaded (module_of old.vector.past line.told.image)) (x old mid line here none startups) mid new load in
+    let same = load_same (is_loaded (module_of old.vector.past line.told.image)) (x old mid line sees none startups) mid new load in
     rw none (record {
       keeps = record {
-        thread = ap (λ v. v.thread) same.0 ∙ here.keeps.thread;
-        images = ap (λ v. v.images) same.0 ∙ here.keeps.images;
-        startups = λ has. subst HasStartups (sym same.0) (here.keeps.startups has);
-        pieces = same.1 ∙ here.keeps.pieces;
+        thread = ap (λ v. v.thread) same.0 ∙ sees.keeps.thread;
+        images = ap (λ v. v.images) same.0 ∙ sees.keeps.images;
+        startups = λ has. subst HasStartups (sym same.0) (sees.keeps.startups has);
+        pieces = same.1 ∙ sees.keeps.pieces;
       };
       fresh = tt;
-      past = ap (λ v. v.past) same.0 ∙ here.past;
+      past = ap (λ v. v.past) same.0 ∙ sees.past;
       begins = λ seen state asked has_seen.
-          opens_so old mid line here none startups seen state asked has_seen new long load
+          opens_so old mid line sees none startups seen state asked has_seen new long load
           ∙ ap (λ n. SaysSo (Answered (OpenedSo n)) (held_at (with_last seen (own_event old line true)) state asked new))
-          (sym (gives ∙ number_then old mid line here none startups));
+          (sym (gives ∙ number_then old mid line sees none startups));
     })
 
 -- ** lines of each kind

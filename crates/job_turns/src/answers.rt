@@ -2,50 +2,17 @@
 
 ghost use Rattle.std.specs.Prelude.{◌≡◌, IfOk, OnOk};
 ghost use Rattle.module_table.specs.History.{left};
-ghost use Rattle.job_turns.specs.declared.asking.Ask.TheVariants.{Opens, Closes};
 ghost use Rattle.job_turns.specs.Asking.{answer_to};
 ghost use Rattle.job_turns.specs.Turning.{AddsAsked};
 
 use crate::asking::{Ask, LineAnswer, refused_close, refused_open};
+use crate::laws::registry_is_lawful;
 use module_table::Registry;
 use std::alloc::AllocError;
 
-/// The answer to an open. The only error is out of memory.
-#[tactic(auto, unfolding(module_table::specs::History::open_answer, module_table::specs::History::opened_of))]
-fn open(
-    registry: &mut Registry,
-    thread: u32,
-    line: u32,
-    image: u32,
-) -> Result<Option<LineAnswer>, AllocError>
-    ensures answer { IfOk result (λ answer. answer ≡ answer_to (left registry.old) (Opens line image)) }
-    ensures adds { OnOk result (AddsAsked thread (Opens line image) registry.old registry.new) }
-{
-    match registry.open(thread, line, image) {
-        Ok(opened) => Ok(Some(LineAnswer::Opened(Ok(opened)))),
-        Err(refusal) => Ok(Some(LineAnswer::Opened(Err(refused_open(refusal)?)))),
-    }
-}
-
-/// The answer to a close. The only error is out of memory.
-#[tactic(auto, unfolding(module_table::specs::History::close_answer, module_table::specs::History::closed_of))]
-fn close(
-    registry: &mut Registry,
-    thread: u32,
-    line: u32,
-    image: u32,
-) -> Result<Option<LineAnswer>, AllocError>
-    ensures answer { IfOk result (λ answer. answer ≡ answer_to (left registry.old) (Closes line image)) }
-    ensures adds { OnOk result (AddsAsked thread (Closes line image) registry.old registry.new) }
-{
-    match registry.close(thread, line, image) {
-        Ok(closed) => Ok(Some(LineAnswer::Closed(Ok(closed)))),
-        Err(refusal) => Ok(Some(LineAnswer::Closed(Err(refused_close(refusal)?)))),
-    }
-}
-
 /// The answer to what a thread asks. An accepted open or close is added to the history. The only error is out of
 /// memory.
+#[tactic(auto, unfolding(module_table::specs::History::open_answer, module_table::specs::History::opened_of, module_table::specs::History::close_answer, module_table::specs::History::closed_of))]
 pub(crate) fn answer(
     registry: &mut Registry,
     thread: u32,
@@ -56,10 +23,16 @@ pub(crate) fn answer(
 {
     match ask {
         Ask::Done | Ask::Look(_) => {
-            registry.len();
+            registry_is_lawful(registry);
             Ok(None)
         }
-        Ask::Opens(line, image) => open(registry, thread, line, image),
-        Ask::Closes(line, image) => close(registry, thread, line, image),
+        Ask::Opens(line, image) => match registry.open(thread, line, image) {
+            Ok(opened) => Ok(Some(LineAnswer::Opened(Ok(opened)))),
+            Err(refusal) => Ok(Some(LineAnswer::Opened(Err(refused_open(refusal)?)))),
+        },
+        Ask::Closes(line, image) => match registry.close(thread, line, image) {
+            Ok(closed) => Ok(Some(LineAnswer::Closed(Ok(closed)))),
+            Err(refusal) => Ok(Some(LineAnswer::Closed(Err(refused_close(refusal)?)))),
+        },
     }
 }

@@ -6,7 +6,7 @@ ghost use Rattle.loaded_modules.specs.Images.{infos};
 ghost use Rattle.module_table.specs.History.{unless};
 ghost use Rattle.module_table.specs.Past.{accepts, close_refusal, module_of, open_refusal, opened};
 ghost use Rattle.thread_blocks.specs.Instances.{loaded_instance};
-ghost use Rattle.thread_blocks.specs.Lines.{refused_close, refused_open};
+ghost use Rattle.thread_blocks.specs.Lines.{event_at, refused_close, refused_open};
 ghost use Rattle.thread_blocks.specs.MachineTurns.{call_start};
 ghost use Rattle.job_turns.specs.Asking.{answer_to, ask_by, closed_at, opened_at};
 ghost use Rattle.thread_space.specs.Live.{HasStartups, IsLive};
@@ -15,6 +15,7 @@ ghost use Rattle.job_turns.specs.Starting.{part_shown, shown_of};
 ghost use Rattle.thread_vector.specs.Vectors.{held};
 
 use crate::asking::LineAnswer;
+use crate::laws::history_is_lawful;
 use address_map::{stack_end, thread_pointer};
 use guest_arithmetic::Plain;
 use guest_machine::Machine;
@@ -42,14 +43,22 @@ fn refused(refusal: LineRefusal) -> Started
 
 // ** calls
 
+/// The arguments of a call.
+#[derive(Clone, Copy)]
+struct Arguments {
+    a: u64,
+    b: u64,
+    c: u64,
+}
+
 /// A machine before a call of the function at this address.
-fn machine_at(thread: u32, place: u64, a: u64, b: u64, c: u64) -> Machine<Plain>
+fn machine_at(thread: u32, place: u64, to: Arguments) -> Machine<Plain>
     requires { thread ≤ 64 }
-    ensures state { result.state ≡ call_start plain_operations thread place a b c }
+    ensures state { result.state ≡ call_start plain_operations thread place to.a to.b to.c }
     ensures fresh { result.taken ≡ 0 }
 {
     let stack = stack_end(thread) - 8;
-    let mut machine = Machine::<Plain>::start(place, stack, a, b, c);
+    let mut machine = Machine::<Plain>::start(place, stack, to.a, to.b, to.c);
     machine.set_thread_pointer(thread_pointer(thread));
     machine
 }
@@ -61,12 +70,10 @@ fn call(
     names: &JobNames,
     image: u32,
     symbol: &[u8],
-    a: u64,
-    b: u64,
-    c: u64,
+    to: Arguments,
 ) -> Result<Started, AllocError>
     requires { names.now ≡ space.old.vector.images }
-    ensures { IfOk result (λ started. BeginsCall image symbol.now a b c space.old started space.new) }
+    ensures { IfOk result (λ started. BeginsCall image symbol.now to.a to.b to.c space.old started space.new) }
 {
     let Some(instance) = space.instance(image) else {
         return Ok(refused(LineRefusal::NotOpen));
@@ -75,20 +82,32 @@ fn call(
         return Ok(refused(LineRefusal::Symbol));
     };
     space.renew_stack()?;
-    Ok(Started::Calls(machine_at(space.thread(), place, a, b, c)))
+    Ok(Started::Calls(machine_at(space.thread(), place, to)))
 }
 
 // ** opens and closes
 
-/// Shows a thread its own event at once.
-fn see(space: &mut ThreadSpace, event: Event) -> Result<(), AllocError>
-    requires accepted { accepts space.old.vector.past event ≡ true }
+/// Shows a thread its own event at once: its line opens or closes an image.
+fn see(
+    space: &mut ThreadSpace,
+    number: u32,
+    line: &ThreadLine,
+    opens: bool,
+) -> Result<(), AllocError>
+    requires accepted { accepts space.old.vector.past
+        (event_at space.old.vector.thread number opens line.now.image) ≡ true }
     requires room { space.old.vector.past.seen + 1 < 2 ^ 62 }
-    ensures { OnOk result (Sees space.old event space.new) }
+    ensures { OnOk result (Sees space.old (event_at space.old.vector.thread number opens line.now.image) space.new) }
 {
-    let _before = space.seen();
+    let event = Event {
+        thread: space.thread(),
+        line: number,
+        opens,
+        image: line.image,
+    };
+    history_is_lawful(space);
     space.look(&[event])?;
-    let _after = space.seen();
+    history_is_lawful(space);
     Ok(())
 }
 
@@ -122,13 +141,7 @@ fn open_accepted(
         (λ started. BeginsOpen (record { number = number; told = line.now }) space.old started space.new) }
 {
     let was = space.instance(line.image).is_some();
-    let event = Event {
-        thread: space.thread(),
-        line: number,
-        opens: true,
-        image: line.image,
-    };
-    see(space, event)?;
+    see(space, number, line, true)?;
     load_new(space, was, line.image)?;
     Ok(Started::Says(Outcome::Opened(instance)))
 }
@@ -166,13 +179,7 @@ fn close_accepted(
     ensures { IfOk result
         (λ started. BeginsClose (record { number = number; told = line.now }) space.old started space.new) }
 {
-    let event = Event {
-        thread: space.thread(),
-        line: number,
-        opens: false,
-        image: line.image,
-    };
-    see(space, event)?;
+    see(space, number, line, false)?;
     Ok(Started::Says(Outcome::Closed))
 }
 
@@ -203,9 +210,9 @@ fn reach(space: &mut ThreadSpace, instance: &Instance) -> Result<(), AllocError>
     requires { IsLive space.old.vector.images space.old.vector.past instance.now }
     ensures { OnOk result (ReachesLive space.old instance.now space.new) }
 {
-    let _before = space.seen();
+    history_is_lawful(space);
     space.reach(instance.number)?;
-    let _after = space.seen();
+    history_is_lawful(space);
     Ok(())
 }
 
@@ -307,9 +314,11 @@ pub fn begin(
             names,
             line.image,
             symbol.as_str().as_bytes(),
-            *a,
-            *b,
-            *c,
+            Arguments {
+                a: *a,
+                b: *b,
+                c: *c,
+            },
         ),
         Action::Open => open(space, number, line, open_answer(answer)),
         Action::Close => close(space, number, line, close_answer(answer)),

@@ -10,6 +10,7 @@ ghost use Rattle.job_turns.specs.Standing.{IsFirstRun, IsGoing, TakesTurn, ask_o
 ghost use Rattle.job_turns.specs.Taking.{BeginsLine, HasStepsLeft, ResumesLine, run_after};
 
 use crate::asking::{Ask, LineAnswer};
+use crate::laws::history_is_lawful;
 use crate::taking::{Taken, take_begin, take_resume};
 use guest_arithmetic::Plain;
 use guest_machine::Machine;
@@ -87,19 +88,20 @@ fn ask_next(number: u32, line: Option<&ThreadLine>) -> Ask
     }
 }
 
-/// The parts of a thread that never change.
+/// The lines of a thread, and what it takes to run them.
 #[derive(Clone, Copy)]
 struct Script<'j, 'n, 'm> {
     alloc: Global,
     names: &'n JobNames<'m>,
     lines: &'j [ThreadLine],
     fuel: u64,
+    /// How many lines are begun.
+    begun: usize,
 }
 
 /// Rebuilds the runner after a turn. `points` are the event counts that the line's looks saw.
 fn ended<'j, 'n, 'm>(
     script: Script<'j, 'n, 'm>,
-    begun: usize,
     space: ThreadSpace<'m>,
     mut said: Vec<Line>,
     points: Vec<u64>,
@@ -109,16 +111,17 @@ fn ended<'j, 'n, 'm>(
     requires startups { HasStartups space.vector }
     requires fuel { script.fuel < 2 ^ 32 }
     requires lines { length script.lines.now < 2 ^ 31 }
-    requires begun { begun ≤ length script.lines.now }
+    requires begun { script.begun ≤ length script.lines.now }
     requires steps { HasStepsLeft (4 * script.fuel) taken }
-    ensures { IfOk result (λ r. r
-        ≡ run_after script.entry.lines.now begun script.entry.fuel said.items points.items taken space.entry) }
+    ensures { IfOk result (λ r. r ≡ run_after script.entry.lines.now script.entry.begun script.entry.fuel
+        said.items points.items taken space.entry) }
 {
     let Script {
         alloc,
         names,
         lines,
         fuel,
+        begun,
     } = script;
     let call = match taken {
         Taken::Over(outcome) => {
@@ -146,8 +149,7 @@ fn ended<'j, 'n, 'm>(
 
 /// Begins the next line of a thread that has looked and holds the data.
 fn begin_line<'j, 'n, 'm>(
-    script: Script<'j, 'n, 'm>,
-    begun: usize,
+    mut script: Script<'j, 'n, 'm>,
     mut space: ThreadSpace<'m>,
     said: Vec<Line>,
     line: &ThreadLine,
@@ -158,25 +160,26 @@ fn begin_line<'j, 'n, 'm>(
     requires startups { HasStartups space.vector }
     requires fuel { script.fuel < 2 ^ 32 }
     requires lines { length script.lines.now < 2 ^ 31 }
-    requires begun { begun < length script.lines.now }
+    requires begun { script.begun < length script.lines.now }
     requires room { space.vector.past.seen + 1 < 2 ^ 62 }
     requires pieces { length space.pieces ≡ length space.vector.images.images + 1 }
-    requires answer { answer ≡ answer_to space.vector.past (ask_by (begun + 1) line.now.image line.now.action) }
-    ensures { IfOk result (λ r. BeginsLine script.entry.lines.now begun script.entry.fuel line.now
+    requires answer { answer
+        ≡ answer_to space.vector.past (ask_by (script.begun + 1) line.now.image line.now.action) }
+    ensures { IfOk result (λ r. BeginsLine script.entry.lines.now script.entry.begun script.entry.fuel line.now
         space.entry said.items r pieces.new) }
 {
     let point = space.seen();
     let points = vec![in script.alloc; point]?;
-    let number = begun as u32 + 1;
+    script.begun += 1;
+    let number = script.begun as u32;
     let taken = take_begin(&mut space, script.names, number, line, answer, script.fuel)?;
     *pieces = space.take_data();
-    ended(script, begun + 1, space, said, points, taken)
+    ended(script, space, said, points, taken)
 }
 
 /// Goes on with a call of a thread that has looked and holds the data.
 fn resume_line<'j, 'n, 'm>(
     script: Script<'j, 'n, 'm>,
-    begun: usize,
     mut space: ThreadSpace<'m>,
     said: Vec<Line>,
     call: Pending,
@@ -186,9 +189,9 @@ fn resume_line<'j, 'n, 'm>(
     requires startups { HasStartups space.vector }
     requires fuel { script.fuel < 2 ^ 32 }
     requires lines { length script.lines.now < 2 ^ 31 }
-    requires begun { begun ≤ length script.lines.now }
+    requires begun { script.begun ≤ length script.lines.now }
     requires steps { call.machine.taken < 4 * script.fuel }
-    ensures { IfOk result (λ r. ResumesLine script.entry.lines.now begun script.entry.fuel
+    ensures { IfOk result (λ r. ResumesLine script.entry.lines.now script.entry.begun script.entry.fuel
         space.entry said.items call r pieces.new) }
 {
     let Pending {
@@ -199,7 +202,7 @@ fn resume_line<'j, 'n, 'm>(
     points.push(space.seen())?;
     let taken = take_resume(&mut space, machine, asked, script.fuel)?;
     *pieces = space.take_data();
-    ended(script, begun, space, said, points, taken)
+    ended(script, space, said, points, taken)
 }
 
 impl<'j, 'n, 'm> Runner<'j, 'n, 'm> {
@@ -221,7 +224,7 @@ impl<'j, 'n, 'm> Runner<'j, 'n, 'm> {
         }
         let fuel = job.fuel();
         let space = ThreadSpace::new(alloc, thread, names.modules())?;
-        let _seen = space.seen();
+        history_is_lawful(&space);
         Ok(Runner {
             alloc,
             names,
@@ -292,13 +295,14 @@ impl<'j, 'n, 'm> Runner<'j, 'n, 'm> {
             names,
             lines,
             fuel,
+            begun,
         };
         space.put_data(mem::replace(pieces, Data::none(alloc)));
         space.look(events)?;
-        let _seen = space.seen();
+        history_is_lawful(&space);
         match call {
-            Some(call) => resume_line(script, begun, space, said, call, pieces),
-            None => begin_line(script, begun, space, said, &lines[begun], answer, pieces),
+            Some(call) => resume_line(script, space, said, call, pieces),
+            None => begin_line(script, space, said, &lines[begun], answer, pieces),
         }
     }
 

@@ -37,6 +37,7 @@
 #![tactic(auto)]
 
 mod gates;
+pub mod laws;
 mod looks;
 mod racing;
 

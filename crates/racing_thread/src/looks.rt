@@ -1,10 +1,10 @@
 //! What a thread asks the shared history at a turn.
 
-ghost use Rattle.std.specs.Prelude.{◌≡◌, ◌∷◌, [], IfOk, OnOk, false, true};
+ghost use Rattle.std.specs.Prelude.{◌≡◌, ◌∷◌, [], IfOk, OnOk};
 ghost use Rattle.shared_modules.specs.Passes.{IsSamePass};
-ghost use Rattle.job_turns.specs.declared.asking.Ask.TheVariants.{Opens, Closes};
 ghost use Rattle.racing_thread.specs.Answers.{Answers, Looks};
 
+use crate::laws::seen_is_lawful;
 use job_turns::{Ask, LineAnswer, refused_close, refused_open};
 use module_table::Event;
 use shared_modules::{Pass, Shared};
@@ -30,67 +30,11 @@ fn look<R: Wait>(
     ensures looks { OnOk result (Looks pass.old events.new.items pass.new) }
     ensures same { IsSamePass pass.old pass.new }
 {
-    let _legal = pass.seen();
+    seen_is_lawful(pass);
     if shared.newer(pass) {
         shared.catch_up(rt, pass, events)?;
     }
     Ok(())
-}
-
-/// Opens an image for the thread's line. If that is accepted, it is this event.
-fn open<R: Wait>(
-    rt: &R,
-    shared: &Shared,
-    pass: &mut Pass,
-    event: Event,
-    events: &mut Vec<Event>,
-) -> Result<Answered, AllocError>
-    requires of { pass.old.shared ≡ shared.now }
-    requires alone { pass.old.threads ≡ event.thread ∷ [] }
-    requires all { events.old.items ≡ pass.old.seen }
-    requires opens { event.opens ≡ true }
-    ensures opens { IfOk result (λ answered. Answers event.thread (Opens event.line event.image)
-        pass.old events.new.items pass.new answered.answer answered.own) }
-    ensures same { IsSamePass pass.old pass.new }
-{
-    match shared.open(rt, pass, event.thread, event.line, event.image, events) {
-        Ok(opened) => Ok(Answered {
-            answer: Some(LineAnswer::Opened(Ok(opened))),
-            own: Some(event),
-        }),
-        Err(refusal) => Ok(Answered {
-            answer: Some(LineAnswer::Opened(Err(refused_open(refusal)?))),
-            own: None,
-        }),
-    }
-}
-
-/// Closes an image for the thread's line. If that is accepted, it is this event.
-fn close<R: Wait>(
-    rt: &R,
-    shared: &Shared,
-    pass: &mut Pass,
-    event: Event,
-    events: &mut Vec<Event>,
-) -> Result<Answered, AllocError>
-    requires of { pass.old.shared ≡ shared.now }
-    requires alone { pass.old.threads ≡ event.thread ∷ [] }
-    requires all { events.old.items ≡ pass.old.seen }
-    requires closes { event.opens ≡ false }
-    ensures closes { IfOk result (λ answered. Answers event.thread (Closes event.line event.image)
-        pass.old events.new.items pass.new answered.answer answered.own) }
-    ensures same { IsSamePass pass.old pass.new }
-{
-    match shared.close(rt, pass, event.thread, event.line, event.image, events) {
-        Ok(closed) => Ok(Answered {
-            answer: Some(LineAnswer::Closed(Ok(closed))),
-            own: Some(event),
-        }),
-        Err(refusal) => Ok(Answered {
-            answer: Some(LineAnswer::Closed(Err(refused_close(refusal)?))),
-            own: None,
-        }),
-    }
 }
 
 /// Answers what a thread asks at its turn. Adds to the list what the pass lacked of the history, without the thread's
@@ -118,23 +62,35 @@ pub(crate) fn answer<R: Wait>(
                 own: None,
             })
         }
-        Ask::Opens(line, image) => {
-            let event = Event {
-                thread,
-                line,
-                opens: true,
-                image,
-            };
-            open(rt, shared, pass, event, events)
-        }
-        Ask::Closes(line, image) => {
-            let event = Event {
-                thread,
-                line,
-                opens: false,
-                image,
-            };
-            close(rt, shared, pass, event, events)
-        }
+        Ask::Opens(line, image) => match shared.open(rt, pass, thread, line, image, events) {
+            Ok(opened) => Ok(Answered {
+                answer: Some(LineAnswer::Opened(Ok(opened))),
+                own: Some(Event {
+                    thread,
+                    line,
+                    opens: true,
+                    image,
+                }),
+            }),
+            Err(refusal) => Ok(Answered {
+                answer: Some(LineAnswer::Opened(Err(refused_open(refusal)?))),
+                own: None,
+            }),
+        },
+        Ask::Closes(line, image) => match shared.close(rt, pass, thread, line, image, events) {
+            Ok(closed) => Ok(Answered {
+                answer: Some(LineAnswer::Closed(Ok(closed))),
+                own: Some(Event {
+                    thread,
+                    line,
+                    opens: false,
+                    image,
+                }),
+            }),
+            Err(refusal) => Ok(Answered {
+                answer: Some(LineAnswer::Closed(Err(refused_close(refusal)?))),
+                own: None,
+            }),
+        },
     }
 }

@@ -1,5 +1,5 @@
 -- All threads are one row, and its transcript is told by what the row gave.
-use Rattle.std.proofs.Common.{◌≤◌, ℕ, IfOk, sym, subst, ap, ◌∙◌}
+use Rattle.std.proofs.Common.{IfOk, sym, subst, ap, ◌∙◌}
 use Rattle.loaded_modules.specs.Images.{JobImages}
 use Rattle.module_table.specs.History.{IsLegal}
 use Rattle.shared_modules.specs.declared.board.Images.{Images}
@@ -27,7 +27,7 @@ returns-clause-raced g c =
     c.race_threads-pass.ensures.raced in
     told_raced c.args.modules.now job c.args.pass new row c.transcript_of-transcript.result all
     c.transcript_of-transcript.ensures
-    (subst (λ (n : ℕ). n ≤ 64) c.threads-threads.ensures.value c.threads-threads.ensures.few)
+    c.threads_are_few.ensures
 
 pub returns-clause-named : goal.returns-clause-named
 returns-clause-named g c =
@@ -39,4 +39,4 @@ returns-clause-named g c =
     let images = ap (λ (shared : SharedView). shared.images) c.race_threads-pass.ensures.ready.of ∙ c.requires.images in
     told_named c.args.modules.now job c.args.pass new row c.transcript_of-transcript.result all
     c.transcript_of-transcript.ensures c.requires.job
-    (subst (λ (i : Images). IsLegal i.infos i.last_offset new.seen) images c.seen-seen.ensures.legal)
+    (subst (λ (i : Images). IsLegal i.infos i.last_offset new.seen) images c.seen_is_lawful.ensures)

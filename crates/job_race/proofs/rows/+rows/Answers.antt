@@ -9,8 +9,8 @@ use Rattle.job_race.proofs.rows.+rows.Goals as goal
 pub join-left-requires-after_bounds : goal.join-left-requires-after_bounds
 join-left-requires-after_bounds g t c κs within =
     let m = g.T.Racers.all_images c.args.racers.now in
-    let first = c.args.first in
-    let count = c.args.count in
+    let first = c.args.span.first in
+    let count = c.args.span.count in
     let half = (count + 1) / 2 in
     let shared = c.args.shared.now in
     let two : 2 ≤ count = omega (arith, c.if-count-eq1.false, c.requires.can.ready.some) in
@@ -24,18 +24,18 @@ join-left-requires-after_bounds g t c κs within =
 
 pub returns-clause-ready : goal.returns-clause-ready
 returns-clause-ready g t c =
-    let half = (c.args.count + 1) / 2 in
-    let whole : half + (c.args.count - half) ≡ c.args.count = omega arith in
-    subst (IsReady c.args.first c.args.count c.args.shared.now) (sym c.join-pass.ensures.joined)
-    (both_ready c.args.first half (c.args.count - half) c.args.count c.args.shared.now c.join-left.result.0.0
+    let half = (c.args.span.count + 1) / 2 in
+    let whole : half + (c.args.span.count - half) ≡ c.args.span.count = omega arith in
+    subst (IsReady c.args.span.first c.args.span.count c.args.shared.now) (sym c.join-pass.ensures.joined)
+    (both_ready c.args.span.first half (c.args.span.count - half) c.args.span.count c.args.shared.now c.join-left.result.0.0
     c.join-left.result.1.0 c.join-left.ensures.first.0 c.join-left.ensures.second.0 whole c.requires.can.ready.few)
 
 pub returns-clause-raced : goal.returns-clause-raced
 returns-clause-raced g t c =
     let m = g.T.Racers.all_images c.args.racers.now in
     let job = g.T.Racers.whole_job c.args.racers.now in
-    let first = c.args.first in
-    let count = c.args.count in
+    let first = c.args.span.first in
+    let count = c.args.span.count in
     let half = (count + 1) / 2 in
     let whole : half + (count - half) ≡ count = omega arith in
     let p = c.join-left.result.0.0 in

@@ -1,6 +1,5 @@
-use Rattle.std.proofs.Common.{◌∙◌, refl, ap, true}
+use Rattle.std.proofs.Common.{◌∙◌, refl, ap}
 use Rattle.std.specs.Prelude.{is_some}
-use Rattle.thread_blocks.specs.Lines.{event_at}
 use Rattle.job_turns.proofs.OpensBegun.{open_accepts, open_begins}
 use Rattle.job_turns.proofs.lines.open_accepted.Goals as goal
 
@@ -10,6 +9,5 @@ see-requires-clause-accepted c = open_accepts c.args.space.now.vector.past _ ref
 pub returns : goal.returns
 returns c =
     open_begins c.args.space.now c.see.new.space c.load_new.new.space (record { number = c.args.number; told = c.args.line.now })
-    (event_at c.thread.result c.args.number true c.args.line.now.image) c.is_some-was.result c.args.instance c.requires.accepted
-    c.requires.startups c.requires.pieces (ap (λ t. event_at t c.args.number true c.args.line.now.image) c.thread.ensures.value)
-    c.in_ok-see.ensures (c.is_some-was.ensures ∙ ap is_some c.instance.ensures) c.in_ok-load_new.ensures c.requires.instance
+    c.is_some-was.result c.args.instance c.requires.accepted c.requires.startups c.requires.pieces c.in_ok-see.ensures
+    (c.is_some-was.ensures ∙ ap is_some c.instance.ensures) c.in_ok-load_new.ensures c.requires.instance

@@ -21,14 +21,14 @@ returns-in_default-clause-ok c =
     rw c.place.ensures (none_has_now c.args.machine.now c.args.space.now c.args.asked (none-is c.numbered.result _ false c.numbered.ensures c.is_none.result c.is_none.ensures c.if-is_none.false) (sym c.with_id.ensures ∙ c.in_default.is))
 
 pub reach-requires : goal.reach-requires
-reach-requires c = id_live c.args.space.now c.args.asked.id c.in-Some.instance c.seen-history.ensures.left (sym c.with_id.ensures ∙ c.in-Some.is)
+reach-requires c = id_live c.args.space.now c.args.asked.id c.in-Some.instance c.history_is_lawful.ensures (sym c.with_id.ensures ∙ c.in-Some.is)
 
 pub returns-then-answer-clause-ok : goal.returns-then-answer-clause-ok
 returns-then-answer-clause-ok c =
     asked_answered c.args.machine.now c.args.space.now c.args.asked (none-is c.numbered.result _ false c.numbered.ensures c.is_none.result c.is_none.ensures c.if-is_none.false) c.in-Some.instance (sym c.with_id.ensures ∙ c.in-Some.is)
-    c.seen-history.ensures.left c.reach.new.self c.in_ok-reach.ensures.ok c.answer.new.machine c.answer.new.space c.answer.ensures.shape c.if-answer.ensures.answers
+    c.history_is_lawful.ensures c.reach.new.self c.in_ok-reach.ensures.ok c.answer.new.machine c.answer.new.space c.answer.ensures.shape c.if-answer.ensures.answers
 
 pub returns-else-answer-clause-ok : goal.returns-else-answer-clause-ok
 returns-else-answer-clause-ok c =
     rw c.place.ensures (asked_refused c.args.machine.now c.args.space.now c.args.asked (none-is c.numbered.result _ false c.numbered.ensures c.is_none.result c.is_none.ensures c.if-is_none.false) c.in-Some.instance (sym c.with_id.ensures ∙ c.in-Some.is)
-    c.seen-history.ensures.left c.reach.new.self c.in_ok-reach.ensures.ok c.answer.new.machine c.answer.new.space c.answer.ensures.shape c.if-answer.ensures.answers)
+    c.history_is_lawful.ensures c.reach.new.self c.in_ok-reach.ensures.ok c.answer.new.machine c.answer.new.space c.answer.ensures.shape c.if-answer.ensures.answers)

@@ -6,8 +6,8 @@ use Rattle.job_turns.proofs.taking.run_to.Goals as goal
 
 pub returns-in-Over : goal.returns-in-Over
 returns-in-Over c = runs_to c.args.limit c.args.machine c.args.space.now (ran.Over c.in-Over.stop) c.run_on.new.machine c.run_on.new.space
-    (taken.Over c.outcome_of.result) c.seen-seen.ensures.left c.in-Over.ensures c.outcome_of.ensures
+    (taken.Over c.outcome_of.result) c.history_is_lawful.ensures c.in-Over.ensures c.outcome_of.ensures
 
 pub returns-in-Waits : goal.returns-in-Waits
 returns-in-Waits c = runs_to c.args.limit c.args.machine c.args.space.now (ran.Waits c.in-Waits.asked) c.run_on.new.machine c.run_on.new.space
-    (taken.Waits c.run_on.new.machine c.in-Waits.asked) c.seen-seen.ensures.left c.in-Waits.ensures (refl, refl)
+    (taken.Waits c.run_on.new.machine c.in-Waits.asked) c.history_is_lawful.ensures c.in-Waits.ensures (refl, refl)

@@ -6,7 +6,7 @@ use Rattle.job_turns.proofs.runner.Runner.new.Goals as goal
 pub invariant_of-result : goal.invariant_of-result
 invariant_of-result c = record {
   names = sym (c.in_ok-space.ensures.images ∙ c.modules.ensures);
-  startups = new_startups c.args.thread c.modules.result.now c.in_ok-space.space c.in_ok-space.ensures c.seen-seen.ensures.left;
+  startups = new_startups c.args.thread c.modules.result.now c.in_ok-space.space c.in_ok-space.ensures c.history_is_lawful.ensures;
   fuel = c.fuel-fuel.ensures.little;
   lines = grind (arith, common_steps);
   begun = omega arith;

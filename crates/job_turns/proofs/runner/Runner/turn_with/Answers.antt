@@ -12,7 +12,7 @@ pub resume_line-requires-clause-startups : goal.resume_line-requires-clause-star
 resume_line-requires-clause-startups c =
     looked_startups c.self.inside.space c.put_data.new.self c.look.new.self c.args.events.now c.args.pieces.now
     (record { vector = c.put_data.ensures.vector; data_is = c.put_data.ensures.data_is ∙ c.replace.ensures.value; stack = c.put_data.ensures.stack })
-    c.in_ok-look.ensures.ok c.seen-seen.ensures.left c.self.invariant.startups
+    c.in_ok-look.ensures.ok c.history_is_lawful.ensures c.self.invariant.startups
 
 pub bounds-lines-begun : goal.bounds-lines-begun
 bounds-lines-begun c =
@@ -24,7 +24,7 @@ pub begin_line-requires-clause-startups : goal.begin_line-requires-clause-startu
 begin_line-requires-clause-startups c =
     looked_startups c.self.inside.space c.put_data.new.self c.look.new.self c.args.events.now c.args.pieces.now
     (record { vector = c.put_data.ensures.vector; data_is = c.put_data.ensures.data_is ∙ c.replace.ensures.value; stack = c.put_data.ensures.stack })
-    c.in_ok-look.ensures.ok c.seen-seen.ensures.left c.self.invariant.startups
+    c.in_ok-look.ensures.ok c.history_is_lawful.ensures c.self.invariant.startups
 
 pub begin_line-requires-clause-begun : goal.begin_line-requires-clause-begun
 begin_line-requires-clause-begun c =
@@ -36,14 +36,14 @@ pub begin_line-requires-clause-room : goal.begin_line-requires-clause-room
 begin_line-requires-clause-room c =
     looked_room c.self.inside.space c.put_data.new.self c.look.new.self c.args.events.now c.args.pieces.now
     (record { vector = c.put_data.ensures.vector; data_is = c.put_data.ensures.data_is ∙ c.replace.ensures.value; stack = c.put_data.ensures.stack })
-    c.in_ok-look.ensures.ok c.seen-seen.ensures.left c.self.invariant.startups 4611686018427387904
+    c.in_ok-look.ensures.ok c.history_is_lawful.ensures c.self.invariant.startups 4611686018427387904
     (subst (λ (r : Run). r.kept.vector.past.seen + length c.args.events.now + 1 < 4611686018427387904) (sym c.self.view_is) c.requires.room)
 
 pub begin_line-requires-clause-pieces : goal.begin_line-requires-clause-pieces
 begin_line-requires-clause-pieces c =
     looked_pieces c.self.inside.space c.put_data.new.self c.look.new.self c.args.events.now c.args.pieces.now
     (record { vector = c.put_data.ensures.vector; data_is = c.put_data.ensures.data_is ∙ c.replace.ensures.value; stack = c.put_data.ensures.stack })
-    c.in_ok-look.ensures.ok c.seen-seen.ensures.left c.self.invariant.startups
+    c.in_ok-look.ensures.ok c.history_is_lawful.ensures c.self.invariant.startups
     (subst (λ (r : Run). length c.args.pieces.now ≡ length r.kept.vector.images.images + 1) (sym c.self.view_is) c.requires.pieces)
 
 pub begin_line-requires-clause-answer : goal.begin_line-requires-clause-answer
@@ -54,7 +54,7 @@ begin_line-requires-clause-answer c =
     (subst (λ (r : Run). IsGoing (ask_of r)) (sym c.self.view_is) c.requires.going)) in
     looked_answer c.self.inside.space c.put_data.new.self c.look.new.self c.args.events.now c.args.pieces.now
     (record { vector = c.put_data.ensures.vector; data_is = c.put_data.ensures.data_is ∙ c.replace.ensures.value; stack = c.put_data.ensures.stack })
-    c.in_ok-look.ensures.ok c.seen-seen.ensures.left c.self.invariant.startups c.args.answer (c.self.inside.begun + 1) c.index-lines-begun.result
+    c.in_ok-look.ensures.ok c.history_is_lawful.ensures c.self.invariant.startups c.args.answer (c.self.inside.begun + 1) c.index-lines-begun.result
     (slice_get c.self.inside.lines.now c.self.inside.begun)
     (slice_get_read c.self.inside.lines.now _ c.self.inside.begun c.index-lines-begun.result refl within c.index-lines-begun.is)
     (subst (λ (call : Option Waiting). c.args.answer ≡ answer_to (after c.self.inside.space.vector.past c.args.events.now) (ask_now c.self.inside.begun c.self.inside.lines.now call)) c.in-None.is
@@ -75,7 +75,7 @@ returns-in-Some-clause-taken c =
     (λ r is. subst (λ (old : Run). TakesTurn old c.args.events.now c.args.pieces.now r c.resume_line.new.pieces) whole
     (resumes_line c.self.inside.space c.put_data.new.self c.look.new.self c.args.events.now c.args.pieces.now
     (record { vector = c.put_data.ensures.vector; data_is = c.put_data.ensures.data_is ∙ c.replace.ensures.value; stack = c.put_data.ensures.stack })
-    c.in_ok-look.ensures.ok c.seen-seen.ensures.left c.self.invariant.startups c.self.inside.lines.now c.self.inside.begun c.self.inside.fuel
+    c.in_ok-look.ensures.ok c.history_is_lawful.ensures c.self.invariant.startups c.self.inside.lines.now c.self.inside.begun c.self.inside.fuel
     c.self.inside.said.items c.in-Some.call r c.resume_line.new.pieces is))
     c.resume_line.ensures
 
@@ -98,7 +98,7 @@ returns-in-None-clause-taken c =
     (λ r is. subst (λ (old : Run). TakesTurn old c.args.events.now c.args.pieces.now r c.begin_line.new.pieces) whole
     (begins_line c.self.inside.space c.put_data.new.self c.look.new.self c.args.events.now c.args.pieces.now
     (record { vector = c.put_data.ensures.vector; data_is = c.put_data.ensures.data_is ∙ c.replace.ensures.value; stack = c.put_data.ensures.stack })
-    c.in_ok-look.ensures.ok c.seen-seen.ensures.left c.self.invariant.startups c.self.inside.lines.now c.self.inside.begun c.self.inside.fuel
+    c.in_ok-look.ensures.ok c.history_is_lawful.ensures c.self.invariant.startups c.self.inside.lines.now c.self.inside.begun c.self.inside.fuel
     c.self.inside.said.items c.index-lines-begun.result r c.begin_line.new.pieces
     (slice_get_read c.self.inside.lines.now _ c.self.inside.begun c.index-lines-begun.result refl within c.index-lines-begun.is) is))
     c.begin_line.ensures
