@@ -1,6 +1,6 @@
 //! A job's threads, all at once.
 
-ghost use Rattle.std.specs.Prelude.{◌≡◌, ◌≤◌, [], false, All, IfOk, length, map};
+ghost use Rattle.std.specs.Prelude.{◌≡◌, [], false, All, IfOk, map};
 ghost use Rattle.loaded_modules.specs.Images.{infos, last_offset};
 ghost use Rattle.job_turns.specs.Alone.{has_data};
 ghost use Rattle.lawful_points.specs.Raced.{IsRaced};
@@ -13,7 +13,6 @@ use crate::row::transcript_of;
 use crate::rows::{Span, race_threads};
 use job_text::Job;
 use loaded_modules::Modules;
-use racing_thread::laws::seen_is_lawful;
 use racing_thread::{Course, Gate};
 use shared_modules::{Pass, Shared};
 use std::alloc::{AllocError, Global};
@@ -27,13 +26,6 @@ const ALL: Span = Span {
     first: 1,
     count: 64,
 };
-
-/// A job has at most 64 threads. The call does nothing; it gives a proof this fact.
-fn threads_are_few(job: &Job)
-    ensures { length job.now.lines ≤ 64 }
-{
-    job.threads();
-}
 
 /// Runs all threads of a job at once over its images, and returns their lines and the history that they made. The pass
 /// is that of all threads before and after. The gate is called before and after each line of each thread. The only
@@ -75,8 +67,8 @@ pub fn race_job<R: Threads + Wait + Sync, G: Gate + Sync>(
         names: _,
         gate: _,
     } = course;
-    seen_is_lawful(&pass);
-    threads_are_few(job);
+    pass.history_is_lawful();
+    job.keeps_limits();
     let transcript = transcript_of(alloc, row);
     (pass, transcript)
 }

@@ -6,7 +6,6 @@ ghost use Rattle.job_turns.specs.Asking.{answer_to};
 ghost use Rattle.job_turns.specs.Turning.{AddsAsked};
 
 use crate::asking::{Ask, LineAnswer, refused_close, refused_open};
-use crate::laws::registry_is_lawful;
 use module_table::Registry;
 use std::alloc::AllocError;
 
@@ -23,7 +22,7 @@ pub(crate) fn answer(
 {
     match ask {
         Ask::Done | Ask::Look(_) => {
-            registry_is_lawful(registry);
+            registry.history_is_lawful();
             Ok(None)
         }
         Ask::Opens(line, image) => match registry.open(thread, line, image) {

@@ -15,7 +15,6 @@ ghost use Rattle.job_turns.specs.Starting.{part_shown, shown_of};
 ghost use Rattle.thread_vector.specs.Vectors.{held};
 
 use crate::asking::LineAnswer;
-use crate::laws::history_is_lawful;
 use address_map::{stack_end, thread_pointer};
 use guest_arithmetic::Plain;
 use guest_machine::Machine;
@@ -105,9 +104,9 @@ fn see(
         opens,
         image: line.image,
     };
-    history_is_lawful(space);
+    space.history_is_lawful();
     space.look(&[event])?;
-    history_is_lawful(space);
+    space.history_is_lawful();
     Ok(())
 }
 
@@ -210,9 +209,9 @@ fn reach(space: &mut ThreadSpace, instance: &Instance) -> Result<(), AllocError>
     requires { IsLive space.old.vector.images space.old.vector.past instance.now }
     ensures { OnOk result (ReachesLive space.old instance.now space.new) }
 {
-    history_is_lawful(space);
+    space.history_is_lawful();
     space.reach(instance.number)?;
-    history_is_lawful(space);
+    space.history_is_lawful();
     Ok(())
 }
 

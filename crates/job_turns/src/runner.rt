@@ -10,7 +10,6 @@ ghost use Rattle.job_turns.specs.Standing.{IsFirstRun, IsGoing, TakesTurn, ask_o
 ghost use Rattle.job_turns.specs.Taking.{BeginsLine, HasStepsLeft, ResumesLine, run_after};
 
 use crate::asking::{Ask, LineAnswer};
-use crate::laws::history_is_lawful;
 use crate::taking::{Taken, take_begin, take_resume};
 use guest_arithmetic::Plain;
 use guest_machine::Machine;
@@ -224,7 +223,7 @@ impl<'j, 'n, 'm> Runner<'j, 'n, 'm> {
         }
         let fuel = job.fuel();
         let space = ThreadSpace::new(alloc, thread, names.modules())?;
-        history_is_lawful(&space);
+        space.history_is_lawful();
         Ok(Runner {
             alloc,
             names,
@@ -299,7 +298,7 @@ impl<'j, 'n, 'm> Runner<'j, 'n, 'm> {
         };
         space.put_data(mem::replace(pieces, Data::none(alloc)));
         space.look(events)?;
-        history_is_lawful(&space);
+        space.history_is_lawful();
         match call {
             Some(call) => resume_line(script, space, said, call, pieces),
             None => begin_line(script, space, said, &lines[begun], answer, pieces),

@@ -11,7 +11,6 @@ ghost use Rattle.thread_blocks.specs.RunTime.{answer_word};
 ghost use Rattle.thread_space.specs.Kept.{memory_of, shape_of};
 ghost use Rattle.job_turns.specs.Running.{AnswersLook, Resumes, RunsOn, RunsPart, asked_in, asked_words, word_in};
 
-use crate::laws::history_is_lawful;
 use address_map::thread_pointer;
 use guest_arithmetic::Plain;
 use guest_machine::laws::plain_is_clean;
@@ -214,7 +213,7 @@ pub fn answer_asked(
     ensures ok { IfOk result (λ resumed. Resumes machine.old space.old asked resumed machine.new space.new) }
     ensures err { OnErr result ((space.new ≡ space.old) × (machine.new ≡ machine.old)) }
 {
-    history_is_lawful(space);
+    space.history_is_lawful();
     if space.numbered(asked.asking).is_none() {
         return Ok(Resumed::Unloaded);
     }

@@ -8,7 +8,6 @@ ghost use Rattle.thread_space.specs.Live.{HasStartups};
 ghost use Rattle.job_turns.specs.Taking.{BeginsTo, ResumesTo, RunsTo};
 
 use crate::asking::LineAnswer;
-use crate::laws::history_is_lawful;
 use crate::lines::{Started, begin};
 use crate::running::{Ran, Resumed, answer_asked, run_on};
 use guest_arithmetic::Plain;
@@ -47,7 +46,7 @@ fn run_to(space: &mut ThreadSpace, mut machine: Machine<Plain>, limit: u64) -> T
     requires { machine.taken ≤ limit }
     ensures { RunsTo limit machine space.old result space.new }
 {
-    history_is_lawful(space);
+    space.history_is_lawful();
     match run_on(space, &mut machine, limit) {
         Ran::Over(stop) => Taken::Over(outcome_of(stop)),
         Ran::Waits(asked) => Taken::Waits(machine, asked),

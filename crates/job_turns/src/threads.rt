@@ -5,7 +5,6 @@ ghost use Rattle.job_turns.specs.Transcripts.{transcript_of};
 ghost use Rattle.job_turns.specs.Progress.{IsFirst};
 ghost use Rattle.thread_turns.specs.Orders.{progress};
 
-use crate::laws::registry_is_lawful;
 use crate::runner::Runner;
 use crate::turning::Common;
 use job_text::Job;
@@ -29,7 +28,7 @@ pub(crate) fn first_threads<'j, 'n, 'm>(
     ensures few { IfOk result (λ x. length x.threads.items ≤ 64) }
 {
     let registry = Registry::new(alloc, modules.infos(), modules.last_offset())?;
-    registry_is_lawful(&registry);
+    registry.history_is_lawful();
     let pieces = Data::new(alloc, modules)?;
     let mut threads = Vec::new(alloc);
     for thread in 1..job.threads() + 1 {

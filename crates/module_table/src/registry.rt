@@ -69,6 +69,15 @@ impl Registry {
         self.events.len() as u64
     }
 
+    /// What was accepted is a history of the images, and not a long one. The call does nothing; it gives a proof these
+    /// facts.
+    pub fn history_is_lawful(&self)
+        ensures legal { IsLegal self.now.infos self.now.last_offset self.now.events }
+        ensures few { length self.now.events < 2 ^ 63 }
+    {
+        self.len();
+    }
+
     /// Whether an instance is live.
     pub fn live(&self, instance: u32) -> bool
         ensures { result ≡ live (left self.now) instance }

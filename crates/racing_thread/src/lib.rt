@@ -37,7 +37,6 @@
 #![tactic(auto)]
 
 mod gates;
-pub mod laws;
 mod looks;
 mod racing;
 

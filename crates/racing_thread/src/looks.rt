@@ -4,7 +4,6 @@ ghost use Rattle.std.specs.Prelude.{◌≡◌, ◌∷◌, [], IfOk, OnOk};
 ghost use Rattle.shared_modules.specs.Passes.{IsSamePass};
 ghost use Rattle.racing_thread.specs.Answers.{Answers, Looks};
 
-use crate::laws::seen_is_lawful;
 use job_turns::{Ask, LineAnswer, refused_close, refused_open};
 use module_table::Event;
 use shared_modules::{Pass, Shared};
@@ -30,7 +29,7 @@ fn look<R: Wait>(
     ensures looks { OnOk result (Looks pass.old events.new.items pass.new) }
     ensures same { IsSamePass pass.old pass.new }
 {
-    seen_is_lawful(pass);
+    pass.history_is_lawful();
     if shared.newer(pass) {
         shared.catch_up(rt, pass, events)?;
     }

@@ -9,7 +9,6 @@ ghost use Rattle.racing_thread.specs.Answers.{IsLevel, TakesRacingTurn};
 ghost use Rattle.racing_thread.specs.Racing.{HasRaced};
 
 use crate::gates::{Gate, pass_gate};
-use crate::laws::seen_is_lawful;
 use crate::looks::answer;
 use job_text::Job;
 use job_turns::Runner;
@@ -81,7 +80,7 @@ fn take_turns<R: Wait, G: Gate>(
         HasRaced course.now.names.now course.now.job.now thread pass.old pass.new raced.lines.items raced.events.items) }
     ensures same { IsSamePass pass.old pass.new }
 {
-    seen_is_lawful(pass);
+    pass.history_is_lawful();
     let mut events = Vec::new(alloc);
     let mut runner = Runner::new(alloc, thread, course.job, course.names)?;
     let mut line = 0;

@@ -238,4 +238,11 @@ impl Pass {
     {
         self.seen
     }
+
+    /// What the pass has seen is a history of the images. The call does nothing; it gives a proof this fact.
+    pub fn history_is_lawful(&self)
+        ensures { IsLegal self.now.shared.images.infos self.now.shared.images.last_offset self.now.seen }
+    {
+        self.seen();
+    }
 }

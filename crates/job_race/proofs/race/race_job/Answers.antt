@@ -27,7 +27,7 @@ returns-clause-raced g c =
     c.race_threads-pass.ensures.raced in
     told_raced c.args.modules.now job c.args.pass new row c.transcript_of-transcript.result all
     c.transcript_of-transcript.ensures
-    c.threads_are_few.ensures
+    c.keeps_limits.ensures.few_threads
 
 pub returns-clause-named : goal.returns-clause-named
 returns-clause-named g c =
@@ -39,4 +39,4 @@ returns-clause-named g c =
     let images = ap (λ (shared : SharedView). shared.images) c.race_threads-pass.ensures.ready.of ∙ c.requires.images in
     told_named c.args.modules.now job c.args.pass new row c.transcript_of-transcript.result all
     c.transcript_of-transcript.ensures c.requires.job
-    (subst (λ (i : Images). IsLegal i.infos i.last_offset new.seen) images c.seen_is_lawful.ensures)
+    (subst (λ (i : Images). IsLegal i.infos i.last_offset new.seen) images c.history_is_lawful.ensures)

@@ -15,7 +15,7 @@ loop-init g c = record {
       (sym c.new-events.ensures.items)
       (starts c.args.course.now.names.now c.args.course.now.job.now c.args.thread c.args.pass.now c.in_ok-runner.runner c.in_ok-runner.ensures
       c.requires.alone c.requires.fresh (ap (λ (s : SharedView). s.images) c.requires.of ∙ c.requires.images)
-      c.requires.data c.seen_is_lawful.ensures);
+      c.requires.data c.history_is_lawful.ensures);
 }
 
 pub returns-then-is_done-clause-raced : goal.returns-then-is_done-clause-raced
