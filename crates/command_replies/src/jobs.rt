@@ -6,7 +6,7 @@ ghost use Rattle.command_replies.specs.Faults.{NoStoreFault};
 ghost use Rattle.command_replies.specs.Steps.{IsNoImage, IsNoJob};
 
 use crate::fault::{CommandFault, InputRefusal};
-use job_text::{Job, JobFault, JobFaultKind};
+use job_text::{Job, JobFault, JobFaultKind, index_of};
 use std::alloc::Global;
 
 /// The job of a text.
@@ -31,7 +31,7 @@ pub fn image_place(job: &Job, name: &str) -> Result<usize, CommandFault>
     ensures refused { IfErr result (IsNoImage (image_number job.now.images name.now)) }
 {
     match job.number(name) {
-        Some(number) => Ok(number as usize - 1),
+        Some(number) => Ok(index_of(number)),
         None => Err(CommandFault::Refused(InputRefusal::Job {
             line: 0,
             kind: JobFaultKind::Name,

@@ -91,23 +91,16 @@ entry_low image (b, (is, spells)) name place says =
 
 -- ** moves
 
--- ** images by their numbers
-
-pub at_some : (m : JobImages) (number : ℕ) → (number ≡ 0 → ⊥) → slice_get m.images (number - 1) ≡ image_at m number
-unfolding image_at
-at_some m zero is = absurd (is refl)
-at_some m (suc n) is = ap (slice_get m.images) (omega arith)
-
 -- ** images one by one
 
 pub one_more : {X : Type 0} (xs : List X) (i : ℕ) (x : X) → slice_get xs i ≡ Some x → take (i + 1) xs ≡ take i xs ++ x ∷ []
 one_more xs i x is = take_more xs i x (slice_get_within xs i x is) ∙ ap (λ y. take i xs ++ y ∷ []) (get_or_from_slice_get xs i x x is)
 
 pub image_after : (m : JobImages) (i : ℕ) → slice_get m.images i ≡ image_at m (i + 1)
+unfolding image_at
 image_after m i =
-    let e : i + 1 - 1 ≡ i = omega arith in
-    let some : i + 1 ≡ 0 → ⊥ = λ h. omega (arith, h) in
-    ap (slice_get m.images) (sym e) ∙ at_some m (i + 1) some
+    let next : i + 1 ≡ suc i = omega arith in
+    rw next refl
 
 pub none_there : {X : Type 0} (xs : List X) (i : ℕ) → slice_get xs i ≡ None → i < length xs → ⊥
 none_there [] i none within = omega (arith, within)

@@ -7,6 +7,7 @@ ghost use Rattle.thread_blocks.specs.JobLoads.{job_loads};
 
 use image_file::image_is_spelled;
 use image_names::ImageNames;
+use job_text::at_number;
 use loaded_modules::{Instance, Modules};
 use std::alloc::{AllocError, Global};
 use std::marker::Model;
@@ -72,10 +73,7 @@ impl<'m> JobNames<'m> {
     fn of_image(&self, number: u32) -> Option<&ImageNames<'m>>
         ensures { option_map (λ names. names.now) result ≡ image_at self.now number }
     {
-        if number == 0 {
-            return None;
-        }
-        self.names.as_slice().get(number as usize - 1)
+        at_number(self.names.as_slice(), number)
     }
 
     /// The address of the function with a name in an instance, if it has one that can be called.
