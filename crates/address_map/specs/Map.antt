@@ -3,6 +3,20 @@
 -- Storage", section 3, variant II). Each other block has 2^24 addresses, by its instance's number.
 use Rattle.std.specs.Prelude.{ℕ, ◌+◌, ◌-◌, ◌*◌, ◌/◌, ◌^◌, nat_lt, if◌then◌else◌, Option, Some, None}
 
+-- ** the run time, below all images
+
+-- the address of `__tls_get_addr`
+abbrev pub getter_place : ℕ
+getter_place = 0x1000
+
+-- the address of the function of TLS descriptors
+abbrev pub descriptor_place : ℕ
+descriptor_place = 0x1800
+
+-- the address that a call of a job returns to
+abbrev pub return_place : ℕ
+return_place = 0x2000
+
 -- ** the parts of a thread
 
 -- the thread pointer (psABI, "Thread-Local Storage": the base of %fs)

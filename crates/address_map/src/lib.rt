@@ -4,6 +4,7 @@
 //! address tells by itself whose it is.
 //!
 //! ```text
+//! 0x1000, 0x1800, 0x2000              what code calls of the run time, and where a call returns to
 //! 0x400000 ..                         the executable, at the addresses that it was linked for
 //! 2^32 + i * 2^26 ..                  instance i of an image that is moved when it is loaded
 //! t * 2^40 + i * 2^24 ..              thread t's block of instance i, if it has an address of its own
@@ -22,7 +23,9 @@
 #![tactic(auto)]
 
 mod images;
+mod run_time;
 mod threads;
 
 pub use images::{moved_bias, own_addresses_tell, owner};
+pub use run_time::{DESCRIPTOR, GET_ADDRESS, RETURN};
 pub use threads::{STACK_SIZE, block_place, stack_end, stack_start, thread_pointer};

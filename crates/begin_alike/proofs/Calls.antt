@@ -1,7 +1,7 @@
 -- A call begins alike on both sides: with the same arguments and a fresh stack, at the same place.
 use Rattle.std.proofs.Common.{◌≡◌, ◌∙◌, ℕ, ◌+◌, ◌-◌, List, ◌++◌, All, length, replicate, Option, Some, None, refl, sym, ap, subst, inr, arith}
 use Rattle.std.proofs.lemmas.List.{length-append, length-replicate}
-use Rattle.address_map.specs.Map.{stack_size}
+use Rattle.address_map.specs.Map.{return_place, stack_size}
 use Rattle.guest_arithmetic.specs.Plain.{plain_operations}
 use Rattle.job_meaning.specs.declared.values.Byte.{Byte}
 use Rattle.job_meaning.specs.declared.values.Byte.TheVariants.{Value}
@@ -11,7 +11,7 @@ use Rattle.module_table.specs.declared.events.Event.{Event}
 use Rattle.thread_blocks.specs.Held.{Owner, owned}
 use Rattle.thread_blocks.specs.Instances.{Loads}
 use Rattle.thread_blocks.specs.Lines.{begun_at, begun_in}
-use Rattle.thread_blocks.specs.MachineTurns.{fresh_stack, return_place, word_bytes, zeros}
+use Rattle.thread_blocks.specs.MachineTurns.{fresh_stack, word_bytes, zeros}
 use Rattle.thread_blocks.specs.RunTime.{Runs}
 use Rattle.thread_blocks.specs.Turns.{Begun, Ending}
 use Rattle.thread_blocks.proofs.Begin.{call_start_alike, stack_alike}

@@ -1,5 +1,6 @@
 -- Runs with a number of steps left: of any steps, and of the machine.
 use Rattle.std.specs.Prelude.{ℕ, zero, suc, ◌≡◌, ◌+◌, ◌-◌, ◌||◌, ◌==◌, Bool, Result, Ok, Err, Option, Some, None, if◌then◌else◌}
+use Rattle.address_map.specs.Map.{descriptor_place, getter_place, return_place}
 use Rattle.guest_arithmetic.specs.declared.cause.Cause.{Cause}
 use Rattle.guest_arithmetic.specs.declared.cause.Cause.TheVariants.{Answer}
 use Rattle.guest_operands.specs.declared.stop.Stop.{Stop}
@@ -54,13 +55,13 @@ returned (Err cause) place = Unclean place Answer
 
 -- the addresses at which the machine stops for a look: `__tls_get_addr` and a descriptor's function
 abbrev pub is_look : ℕ → Bool
-is_look place = (place == 0x1000) || (place == 0x1800)
+is_look place = (place == getter_place) || (place == descriptor_place)
 
 module _ {W F B M : Type 0} (ops : Operations W F B) (acc : Accesses M B) (is_field : M → ℕ → Bool) where
-  -- the machine: 0x2000 ends a call
+  -- the machine: a call ends where it returns to
   unfoldable pub machine : Stepping (After W F M)
   machine = record {
-    over = λ at. if at.state.place == 0x2000
+    over = λ at. if at.state.place == return_place
         then Some (returned (ops.number_of at.state.registers.rax) at.state.place)
         else None;
     step = λ at. if is_look at.state.place

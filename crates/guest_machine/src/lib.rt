@@ -51,6 +51,7 @@ mod touch;
 
 pub use guest_operands::{Access, Registers, Size, Space, State, Stop};
 pub use machine::Machine;
-pub use run::{DESCRIPTOR, GET_ADDRESS, RETURN, is_look};
+pub use address_map::{DESCRIPTOR, GET_ADDRESS, RETURN};
+pub use run::is_look;
 pub use step::act;
 pub use touch::{Direction, Touch, Touches, touches_of};

@@ -4,17 +4,9 @@ ghost use Rattle.std.specs.Prelude.{◌≡◌};
 ghost use Rattle.guest_machine.specs.Run.{Runs, returned, is_look};
 
 use crate::step::step;
+use address_map::{DESCRIPTOR, GET_ADDRESS, RETURN};
 use guest_arithmetic::{Cause, Values};
 use guest_operands::{Space, State, Stop};
-
-/// The address that a call returns to.
-pub const RETURN: u64 = 0x2000;
-
-/// The address of `__tls_get_addr`.
-pub const GET_ADDRESS: u64 = 0x1000;
-
-/// The address of the function of a TLS descriptor.
-pub const DESCRIPTOR: u64 = 0x1800;
 
 /// What a call returned, from %rax.
 fn returned(answer: Result<u64, Cause>, place: u64) -> Stop

@@ -1,6 +1,7 @@
 -- How the code runs a thread's machine between two looks, and what its contracts state.
 use Rattle.std.specs.Prelude.{◌≡◌, ◌≤◌, ◌<◌, ◌+◌, ◌-◌, ◌==◌, ℕ, zero, suc, Bool, List, length, Option, Some, None, Result, if◌then◌else◌}
 use Rattle.std.specs.List.{find, list_any}
+use Rattle.address_map.specs.Map.{descriptor_place}
 use Rattle.guest_arithmetic.specs.Plain.{plain_operations}
 use Rattle.guest_operands.specs.declared.state.State.{State}
 use Rattle.guest_operands.specs.Access.{Refusal, both_reached, bytes_at}
@@ -65,7 +66,7 @@ asked_from k is_descriptor address (Some x) = asked_words k x is_descriptor addr
 
 unfoldable pub asked_in : Kept → State ℕ Bool → Option Asked
 asked_in k state =
-    let is_descriptor = state.place == 0x1800 in
+    let is_descriptor = state.place == descriptor_place in
     let address = if is_descriptor then state.registers.rax else state.registers.rdi in
     asked_from k is_descriptor address (asker_in k address)
 

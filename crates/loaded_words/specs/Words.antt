@@ -1,6 +1,7 @@
 -- The words of the global offset table of a loaded instance, a line for each kind of entry (Drepper, "ELF Handling For
 -- Thread-Local Storage", sections 3 and 4; psABI, "Relocation Types").
 use Rattle.std.specs.Prelude.{◌+◌, ◌*◌, ◌^◌, ℕ, List, [], ◌∷◌, Option, Some, None, unwrap_or}
+use Rattle.address_map.specs.Map.{descriptor_place, getter_place}
 use Rattle.got_pairs.specs.declared.need.Need.{Need}
 use Rattle.got_pairs.specs.declared.need.Need.TheVariants.{ModulePair, SymbolPair, Descriptor, SymbolWord}
 use Rattle.got_pairs.specs.declared.need.Need.TheVariants.{AddressWord, RuntimeWord}
@@ -43,7 +44,7 @@ module _ (m : JobImages) (kind : ImageKind) (x : Instance) where
 
   -- the address of the run time's function for descriptors, and both numbers in one word
   abbrev pub descriptor_of : Variable → List ℕ
-  descriptor_of v = 0x1800 ∷ (v.id * 2 ^ 32 + v.offset) ∷ []
+  descriptor_of v = descriptor_place ∷ (v.id * 2 ^ 32 + v.offset) ∷ []
 
   -- the distance of the variable from the thread pointer, modulo 2^64
   abbrev pub distance_of : Variable → List ℕ
@@ -55,4 +56,4 @@ module _ (m : JobImages) (kind : ImageKind) (x : Instance) where
   loaded_words (Descriptor t) = descriptor_of (variable_of t)
   loaded_words (SymbolWord t) = distance_of (variable_of t)
   loaded_words (AddressWord s p) = (p + bias_of kind x.number) ∷ []
-  loaded_words RuntimeWord = 0x1000 ∷ []
+  loaded_words RuntimeWord = getter_place ∷ []

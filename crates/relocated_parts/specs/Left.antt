@@ -4,6 +4,7 @@
 use Rattle.std.specs.Prelude.{◌+◌, ◌-◌, ◌*◌, ◌^◌, ◌&&◌, ℕ, ℤ, Bool, Option, Some, None, nat_le, nat_lt, if◌then◌else◌}
 use Rattle.std.specs.Int.{w64, cast_unsigned}
 use Rattle.std.specs.List.{find}
+use Rattle.address_map.specs.Map.{descriptor_place, getter_place}
 use Rattle.guest_arithmetic.specs.Values.{digit}
 use Rattle.image_faults.specs.declared.loader_kind.LoaderKind.{LoaderKind}
 use Rattle.image_faults.specs.declared.loader_kind.LoaderKind.TheVariants.{JumpSlot, Relative, Module, ModuleOffset}
@@ -23,12 +24,12 @@ use Rattle.loaded_modules.specs.Loader.{bias, target_of}
 module _ (kind : FileKind) (x : Instance) (id offset distance : ℕ) where
   -- the first word at its address; eight digits of it count, so it is taken modulo 2^64
   abbrev pub first_word : LoaderKind → ℤ → ℕ
-  first_word JumpSlot addend = 0x1000
+  first_word JumpSlot addend = getter_place
   first_word Relative addend = bias kind x.number + cast_unsigned w64 addend
   first_word Module addend = id
   first_word ModuleOffset addend = offset
   first_word ThreadOffset addend = offset + (2 ^ 64 - distance)
-  first_word Descriptor addend = 0x1800
+  first_word Descriptor addend = descriptor_place
 
 -- the second, which only a descriptor has
 abbrev pub second_word : ℕ → ℕ → ℕ

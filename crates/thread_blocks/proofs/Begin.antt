@@ -1,11 +1,11 @@
 -- A call begins alike over related values, since one definition serves both.
 use Rattle.std.proofs.Common.{ℕ, zero, suc, ◌+◌, ◌-◌, ◌≤◌, false, refl, arith}
-use Rattle.address_map.specs.Map.{pointer_of, stack_end, stack_size}
+use Rattle.address_map.specs.Map.{pointer_of, return_place, stack_end, stack_size}
 use Rattle.guest_machine.specs.Access.{bytes_from}
 use Rattle.guest_machine.specs.Follow.{All2, Alike, IsFollowed, SameState}
 use Rattle.guest_machine.specs.State.{start_of}
 use Rattle.guest_arithmetic.specs.Values.{Operations}
-use Rattle.thread_blocks.specs.MachineTurns.{return_place, zeros, word_bytes, fresh_stack, pointer_word, call_start}
+use Rattle.thread_blocks.specs.MachineTurns.{zeros, word_bytes, fresh_stack, pointer_word, call_start}
 use Rattle.thread_blocks.specs.Spaces.{SameRange}
 use Rattle.thread_blocks.proofs.Spaces.{all2-append}
 

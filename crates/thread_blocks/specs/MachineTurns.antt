@@ -1,6 +1,6 @@
 -- Calls of functions: the start of a call, the words on its stack, and the line in the transcript.
 use Rattle.std.specs.Prelude.{ℕ, ◌+◌, ◌-◌, true, false, List, ◌++◌, replicate, Option, Some, None, option_map}
-use Rattle.address_map.specs.Map.{pointer_of, stack_end, stack_size}
+use Rattle.address_map.specs.Map.{pointer_of, return_place, stack_end, stack_size}
 use Rattle.guest_operands.specs.declared.state.State.{State}
 use Rattle.guest_operands.specs.declared.stop.Stop.{Stop}
 use Rattle.guest_operands.specs.declared.stop.Stop.TheVariants.{Returned, Look, Address, Code, Unclean, Steps}
@@ -14,10 +14,6 @@ use Rattle.transcript_text.specs.declared.outcomes.Outcome.{Outcome as Answer}
 use Rattle.transcript_text.specs.declared.outcomes.Outcome.TheVariants.{Returned as ReturnedAnswer, Fault}
 use Rattle.thread_blocks.specs.Spaces.{Space}
 use Rattle.thread_blocks.specs.Turns.{Ending, Answered, Stopped, Said}
-
--- the address that a call returns to
-abbrev pub return_place : ℕ
-return_place = 0x2000
 
 unfoldable pub zeros : {B : Type 0} → B → ℕ → List B
 zeros zero_byte count = replicate count zero_byte

@@ -2,7 +2,7 @@
 -- Handling For Thread-Local Storage", section 3.4.6; psABI, "TLS Descriptors").
 use Rattle.std.specs.Prelude.{◌+◌, ◌-◌, ◌*◌, ◌/◌, ◌%◌, ◌^◌, ◌==◌, ◌&&◌, ℕ, Bool, true, false, List, ◌∷◌, length, Option, Some, None, Result, Ok, Err, nat_le, is_none, if◌then◌else◌}
 use Rattle.std.specs.List.{find, list_any}
-use Rattle.address_map.specs.Map.{pointer_of, stack_start}
+use Rattle.address_map.specs.Map.{descriptor_place, pointer_of, stack_start}
 use Rattle.guest_arithmetic.specs.Plain.{plain_operations}
 use Rattle.guest_arithmetic.specs.Values.{number_from}
 use Rattle.guest_operands.specs.declared.stop.Stop.{Stop}
@@ -71,7 +71,7 @@ module _ (l : Loads ℕ) (thread : ℕ) where
   -- %rdi holds the address of the words of `__tls_get_addr`, %rax that of a descriptor
   abbrev pub asked_at : After ℕ Bool (Space Event ℕ) → Option Asked
   asked_at at =
-      let is_descriptor = at.state.place == 0x1800 in
+      let is_descriptor = at.state.place == descriptor_place in
       let address = if is_descriptor then at.state.registers.rax else at.state.registers.rdi in
       asked_of at.memory is_descriptor address (asker at.memory.seen address)
 

@@ -2,7 +2,7 @@
 -- be read. Nothing here depends on how a linker chose or laid them.
 use Rattle.std.specs.Prelude.{◌≡◌, ◌≤◌, ◌<◌, ◌+◌, ◌*◌, ◌%◌, ◌^◌, ◌&&◌, ◌==◌, ◌⊎◌, ℕ, true, false, List, [], ◌∷◌, Some, slice_get}
 use Rattle.std.specs.List.{list_any}
-use Rattle.address_map.specs.Map.{pointer_of}
+use Rattle.address_map.specs.Map.{descriptor_place, getter_place, pointer_of}
 use Rattle.amd64_subset.specs.declared.instr.Decoded.{Decoded}
 use Rattle.amd64_subset.specs.declared.instr.Operation.TheVariants.{Jump}
 use Rattle.amd64_subset.specs.declared.instr.Target.TheVariants.{Indirect}
@@ -70,7 +70,7 @@ module _ (q : Loads ℕ) (x : Instance) where
     pub id : ℕ
     pub names : IsIdFor s id
     pub small : (id < 2 ^ 32) × (s.offset < 2 ^ 32)
-    pub first : HasWord address 0x1800
+    pub first : HasWord address descriptor_place
     pub second : HasWord (address + 8) (id * 2 ^ 32 + s.offset)
 
 -- a word is the distance of the sequence's variable from the thread pointer, for each thread. Threads have numbers up
@@ -97,13 +97,13 @@ module _ (g : Setting) (q : Loads ℕ) (x : Instance) (place : ℕ) (s : Sequenc
     pub far : ℕ
     pub goes : plus s.next second ≡ stub
     pub jumps : HasInstruction q x stub (displaced 6 2 (Jump (Indirect (InMemory of_next))) far)
-    pub word : HasWord q x (plus (stub + 6) far) 0x1000
+    pub word : HasWord q x (plus (stub + 6) far) getter_place
 
   -- gd-ind, ld-ind: lea pair(%rip), %rdi; call *word(%rip)
   pub record CallsWord (first second : ℕ) : Type 0 where
     pub code : HasCode q x place (kept_instructions s.form 0 first second)
     pub pair : HasPair q x s (plus (place + first_length s.form) first)
-    pub word : HasWord q x (plus s.next second) 0x1000
+    pub word : HasWord q x (plus s.next second) getter_place
 
   -- ie-mov, ie-add: mov word(%rip), %r or add word(%rip), %r
   pub record LoadsDistance (reg first word : ℕ) : Type 0 where

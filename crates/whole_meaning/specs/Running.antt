@@ -1,5 +1,6 @@
 -- Runs of the meaning: a sequence is one step, and so is any other instruction.
 use Rattle.std.specs.Prelude.{ℕ, ◌==◌, Bool, Option, Some, None, if◌then◌else◌}
+use Rattle.address_map.specs.Map.{return_place}
 use Rattle.guest_arithmetic.specs.declared.cause.Cause.TheVariants as cause
 use Rattle.guest_arithmetic.specs.Values.{Operations}
 use Rattle.guest_operands.specs.declared.stop.Stop.{Stop}
@@ -39,7 +40,7 @@ module _ {W F B M : Type 0} (ops : Operations W F B) (acc : Accesses M B) (mark 
 
   unfoldable pub meaning : Stepping (After W F M)
   meaning = record {
-    over = λ at. if at.state.place == 0x2000
+    over = λ at. if at.state.place == return_place
         then Some (returned (ops.number_of at.state.registers.rax) at.state.place)
         else None;
     step = λ at. meant_step at;
