@@ -3,7 +3,7 @@ use Rattle.std.proofs.Common.{◌≡◌, ◌+◌, ◌<◌, ◌∙◌, ℕ, zero,
 use Rattle.std.proofs.Common.{◌≢◌, ◌-◌, Result, Ok, Err, true, false, append-nil, sym, ap, append_assoc, arith}
 use Rattle.std.specs.List.{flat_map}
 use Rattle.std.specs.Option.{option_map}
-use Rattle.std.specs.Prelude.{◌==◌, IfErr, OnOk, negsuc, slice_get, unwrap_or}
+use Rattle.std.specs.Prelude.{◌==◌, OnOk, negsuc, slice_get, unwrap_or}
 use Rattle.std.proofs.lemmas.Bool.Decides.{nat_tests}
 use Rattle.got_pairs.specs.declared.entry.Entry.{Entry}
 use Rattle.got_pairs.specs.declared.need.Need.{Need}

@@ -1,17 +1,15 @@
 -- Fields that are written one after another.
-use Rattle.std.proofs.Common.{◌≡◌, ◌+◌, ◌-◌, ◌<◌, ◌∙◌, ◌&&◌, ℕ, Bool, true, false, List, ◌∷◌}
+use Rattle.std.proofs.Common.{◌≡◌, ◌+◌, ◌-◌, ◌<◌, ◌∙◌, ℕ, List, ◌∷◌}
 use Rattle.std.proofs.Common.{Option, Some, None, drop, refl, sym, ap}
-use Rattle.std.specs.Prelude.{fold, nat_le, if◌then◌else◌}
+use Rattle.std.specs.Prelude.{fold}
 use Rattle.std.specs.List.{range_with_len}
 use Rattle.object_faults.specs.Firsts.{nonzero}
 use Rattle.elf_object.specs.Lent.{relocation_target, relocations}
-use Rattle.placed_sections.specs.Files.{offset_of}
-use Rattle.tls_layout.specs.Sections.{Layout}
 use Rattle.tls_symbols.proofs.Search.{range_first}
 use Rattle.tls_symbols.proofs.Walked.{held_is, held_none}
 use Rattle.link_needs.specs.Linking.{Linking, object}
 use Rattle.link_core.specs.Parts.{part_with_field, part_with_fields, part_with_fields_from, part_with_held}
-use Rattle.link_core.specs.Parts.{is_before, part_with_table, start_at, start_in}
+use Rattle.link_core.specs.Parts.{part_with_table, start_in}
 
 -- ** the relocations that a section holds
 

@@ -1,5 +1,4 @@
 use Rattle.std.proofs.Common.{◌≡◌, ◌+◌, ◌-◌, ◌++◌, length, sym, subst, arith}
-use Rattle.link_needs.specs.Given.{FitsTable, IsGiven}
 use Rattle.link_core.specs.Parts.{IsPart, IsWritten}
 use Rattle.link_core.proofs.PartSplit.{ends_nearer, second_part}
 use Rattle.link_core.proofs.PartsWritten.{joined}
@@ -14,8 +13,8 @@ write_halves-returns g t c =
     let halves = c.split_at_mut-front in
     let front = halves.result.0.now in
     let back = halves.result.1.now in
-    let given = subst IsGiven c.plan.view_is c.plan.invariant.given in
-    let limits = subst FitsTable c.plan.view_is c.plan.invariant.limits in
+    let given = c.is_given.ensures.given in
+    let limits = c.is_given.ensures.limits in
     let low = c.if-cut-part.false in
     let near = c.cut_before-cut.ensures.near in
     let rest : from + length c.args.bytes.now - cut ≡ length back = omega (arith, halves.ensures.back_len, near, low) in

@@ -1,5 +1,4 @@
 use Rattle.std.proofs.Common.{◌∙◌, None, sym, subst, arith}
-use Rattle.link_needs.specs.Given.{FitsTable, IsGiven}
 use Rattle.link_core.specs.Parts.{IsPart}
 use Rattle.link_core.proofs.PartFields.{whole_part}
 use Rattle.link_core.proofs.PartSplit.{whole_is_part}

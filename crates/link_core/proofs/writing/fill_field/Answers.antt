@@ -1,9 +1,8 @@
-use Rattle.std.proofs.Common.{[], ◌∷◌, ◌∙◌, length, refl, ap, arith, sym, subst, ◌+◌, ◌-◌}
+use Rattle.std.proofs.Common.{[], ◌∷◌, ◌∙◌, length, refl, ap, arith, sym, ◌+◌, ◌-◌}
 use Rattle.std.specs.Prelude.{unwrap_or}
 use Rattle.placed_sections.specs.Files.{offset_of}
 use Rattle.tls_relocs.specs.Fields.{field_patch}
 use Rattle.tls_relocs.specs.Patches.{patched}
-use Rattle.link_needs.specs.Given.{FitsTable, IsGiven}
 use Rattle.link_needs.specs.Linking.{layout}
 use Rattle.link_core.proofs.WritingFields.{field_writes, names_symbol, nothing_writes, replaced_as, replaced_writes, unfit_writes}
 use Rattle.link_core.proofs.WritingRoom.{field_room, part_room}

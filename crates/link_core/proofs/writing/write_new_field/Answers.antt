@@ -1,9 +1,8 @@
-use Rattle.std.proofs.Common.{◌≡◌, ◌+◌, ◌-◌, ◌∙◌, [], ◌∷◌, Some, zero-add, ap, subst, arith}
+use Rattle.std.proofs.Common.{◌≡◌, ◌+◌, ◌-◌, ◌∙◌, [], ◌∷◌, Some, zero-add, ap, arith}
 use Rattle.elf_object.specs.declared.relocation.Relocation.{Relocation}
 use Rattle.placed_sections.specs.Files.{offset_of}
 use Rattle.tls_relocs.specs.Fields.{field_patch}
 use Rattle.tls_relocs.specs.Patches.{patched}
-use Rattle.link_needs.specs.Given.{FitsTable, IsGiven}
 use Rattle.link_needs.specs.Linking.{choice, layout, place}
 use Rattle.link_needs.specs.Values.{field}
 use Rattle.link_core.proofs.WritingRoom.{new_room, new_small, site_room}
