@@ -1,6 +1,6 @@
 //! Reads the objects of all images of a job.
 
-ghost use Rattle.std.specs.Prelude.{◌≡◌, ◌<◌, [], All, IfErr, IfOk, OnOk, length, map, slice_set};
+ghost use Rattle.std.specs.Prelude.{◌≡◌, ◌≤◌, ◌-◌, [], All, IfErr, IfOk, OnOk, length, map, slice_set};
 ghost use Rattle.std.specs.List.{AllZip};
 ghost use Rattle.job_text.specs.declared.images.Image.{Image as DeclaredImage};
 ghost use Rattle.job_link.specs.Given.{Allows, AreGiven, Given, IsGiven, IsTaken};
@@ -12,7 +12,7 @@ use crate::fetching::Files;
 use crate::images::{ImageObjects, ReadObject};
 use crate::writable::WritableSections;
 use elf_object::{FaultKind, ObjectFault};
-use job_text::{Image, Job, Name};
+use job_text::{Image, Job, Name, index_of};
 use rayon::prelude::*;
 use std::alloc::{AllocError, Global};
 use std::mem;
@@ -138,12 +138,13 @@ fn read_image<'j, 'a, R: Threads + Sync>(
     Ok(read)
 }
 
-/// Replaces the image at an index.
-fn put<'a>(images: &mut Vec<ImageObjects<'a>>, at: usize, read: ImageObjects<'a>)
-    requires { at < length images.old.items }
-    ensures { images.new.items ≡ slice_set images.old.items at read.entry }
+/// Replaces the image with this number.
+fn put<'a>(images: &mut Vec<ImageObjects<'a>>, number: u32, read: ImageObjects<'a>)
+    requires some { 1 ≤ number }
+    requires within { number ≤ length images.old.items }
+    ensures { images.new.items ≡ slice_set images.old.items (number - 1) read.entry }
 {
-    let _former = mem::replace(&mut images[at], read);
+    let _former = mem::replace(&mut images[index_of(number)], read);
 }
 
 /// Reads the objects of all images of a job; the images are in image order. They are read in the order in which the
@@ -164,7 +165,7 @@ pub fn read_objects<'j, 'a, R: Threads + Sync>(
     let mut images = empty_images(alloc, job)?;
     for number in job.mentions() {
         match read_image(rt, alloc, job.image(*number), files, writable) {
-            Ok(read) => put(&mut images, *number as usize - 1, read),
+            Ok(read) => put(&mut images, *number, read),
             Err(refusal) => return Err(refusal),
         }
     }
