@@ -49,9 +49,9 @@ mod stack;
 mod step;
 mod touch;
 
+pub use address_map::{DESCRIPTOR, GET_ADDRESS, RETURN};
 pub use guest_operands::{Access, Registers, Size, Space, State, Stop};
 pub use machine::Machine;
-pub use address_map::{DESCRIPTOR, GET_ADDRESS, RETURN};
 pub use run::is_look;
 pub use step::act;
 pub use touch::{Direction, Touch, Touches, touches_of};
