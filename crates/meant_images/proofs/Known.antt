@@ -1,7 +1,8 @@
 -- What is known of the images of a job, and what is ready of the image of a number.
-use Rattle.std.proofs.Common.{◌≡◌, ◌∙◌, ◌<◌, ◌≤◌, ◌-◌, ℕ, zero, suc, List, [], ◌∷◌, All, Bor, length, map, get_or, Option, Some, None, IfSome, refl, sym, ap, arith}
-use Rattle.std.specs.Prelude.{option_map, slice_get}
+use Rattle.std.proofs.Common.{◌≡◌, ◌∙◌, ◌<◌, ◌≤◌, ℕ, zero, suc, List, [], ◌∷◌, All, Bor, length, map, get_or, Option, Some, None, IfSome, inl, inr, refl, sym, arith}
+use Rattle.std.specs.Prelude.{IsSome, option_map, slice_get}
 use Rattle.std.proofs.lemmas.List.{length-map}
+use Rattle.std.proofs.lemmas.Option.{slice_get_cases, slice_get_within}
 use Rattle.job_text.specs.LateImages.{LateLast, is_late}
 use Rattle.link_faults.specs.declared.image_kind.ImageKind.TheVariants.{Exe}
 use Rattle.link_needs.specs.Linking.{Linking}
@@ -31,14 +32,19 @@ are_infos ls some few late each =
       each = each;
     }
 
--- the place of a number in a list
-pub place_of : {X : Type 0} (xs : List X) (n : ℕ) (x : X) → at_number xs n ≡ Some x → slice_get xs (n - 1) ≡ Some x
-place_of xs zero x at = absurd (cc at)
-place_of xs (suc i) x at = ap (slice_get xs) (omega arith) ∙ at
-
 -- what is read of the tables
-pub table_is : (ls : List Linking) (ts : List Tables) (i : ℕ) (l : Linking) (r : Option (Bor Tables))
+pub table_there : (ls : List Linking) (ts : List Tables) (number : ℕ) (l : Linking) (r : Option (Bor Tables)) → length ts ≡ length ls
+    → at_number ls number ≡ Some l → option_map (λ (b : Bor Tables). b.now) r ≡ at_number ts number → IsSome r
+table_there ls ts number l (Some b) long at is = refl
+table_there ls ts zero l None long at is = absurd (cc at)
+table_there ls ts (suc i) l None long at is = elim (slice_get_cases ts i).1 [
+  | inl here ↦ absurd (cc (is ∙ here.2))
+  | inr past ↦ absurd (omega (arith, long, past.0, slice_get_within ls i l at))
+]
+
+pub table_is : (ls : List Linking) (ts : List Tables) (number : ℕ) (l : Linking) (r : Option (Bor Tables))
     → ((i : ℕ) (l : Linking) (t : Tables) → slice_get ls i ≡ Some l → slice_get ts i ≡ Some t → AreTables ls l t)
-    → slice_get ls i ≡ Some l → option_map (λ (b : Bor Tables). b.now) r ≡ slice_get ts i → IfSome r (λ t. AreTables ls l t.now)
-table_is ls ts i l None each at is = tt
-table_is ls ts i l (Some b) each at is = each i l b.now at (sym is)
+    → at_number ls number ≡ Some l → option_map (λ (b : Bor Tables). b.now) r ≡ at_number ts number → IfSome r (λ t. AreTables ls l t.now)
+table_is ls ts number l None each at is = tt
+table_is ls ts zero l (Some b) each at is = absurd (cc at)
+table_is ls ts (suc i) l (Some b) each at is = each i l b.now at (sym is)

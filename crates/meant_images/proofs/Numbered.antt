@@ -1,7 +1,7 @@
 -- The definitions of an image have numbers, and what a name stands for that no image defines.
-use Rattle.std.proofs.Common.{◌≡◌, ◌∙◌, ◌-◌, ◌<◌, ◌≤◌, ℕ, zero, suc, List, [], length, Some, None, get_or, refl, ap, arith, sym}
+use Rattle.std.proofs.Common.{◌≡◌, ◌≤◌, ℕ, zero, suc, List, All, [], length, Some, None, refl, subst, arith}
 use Rattle.std.specs.Prelude.{option_and_then, unwrap_or}
-use Rattle.std.proofs.lemmas.Option.{slice_get-get_or}
+use Rattle.std.proofs.lemmas.Option.{get_or_from_slice_get, slice_get_within}
 use Rattle.elf_object.specs.Laws.{symbols_few}
 use Rattle.link_faults.specs.declared.symbol_ref.SymbolRef.{SymbolRef}
 use Rattle.link_needs.specs.Given.{IsGiven}
@@ -19,12 +19,12 @@ has_number l found few given within =
     record { object = omega (arith, few, inside); symbol = omega (arith, below, small) }
 
 -- a startup image by its number
-at_image : (ls : List Linking) (k : ℕ) (l : Linking) → 0 < k → k ≤ length ls → l ≡ get_or ls (k - 1) l → at_number ls k ≡ Some l
-at_image ls zero l pos few is = absurd (omega (arith, pos))
-at_image ls (suc i) l pos few is =
-    let same : suc i - 1 ≡ i = omega arith in
-    slice_get-get_or ls i l (omega (arith, few)) ∙ ap (λ (x : Linking). Some x) (ap (λ n. get_or ls n l) (sym same) ∙ sym is)
+pub image_found : (ls : List Linking) (k : ℕ) (l : Linking) → All HasFewObjects ls → at_number ls k ≡ Some l → (k ≤ length ls) × HasFewObjects l
+image_found ls zero l few at = absurd (cc at)
+image_found ls (suc i) l few at =
+    let within = slice_get_within ls i l at in
+    (omega (arith, within), subst HasFewObjects (get_or_from_slice_get ls i l l at) (few i l within))
 
-pub shared_none : (ls : List Linking) (k : ℕ) (l : Linking) (name : List ℕ) → 0 < k → k ≤ length ls → l ≡ get_or ls (k - 1) l
+pub shared_none : (ls : List Linking) (k : ℕ) (l : Linking) (name : List ℕ) → at_number ls k ≡ Some l
     → definition_of l.objects name ≡ None → no_variable ≡ unwrap_or (option_and_then (shared_by name k) (at_number ls k)) no_variable
-shared_none ls k l name pos few is none = rw (at_image ls k l pos few is, none) refl
+shared_none ls k l name at none = rw (at, none) refl

@@ -22,6 +22,7 @@ use crate::code_marks::{CodeMarks, bias_of};
 use crate::names::{function, info, is_in_room, variable};
 use elf_object::SectionClass;
 use guest_operands::Access;
+use job_text::at_number;
 use link_needs::Inputs;
 use loaded_modules::Instance;
 use marked_bytes::MarkedBytes;
@@ -237,10 +238,7 @@ impl<'i> MeantImages<'i> {
     fn image(&self, number: u32) -> Option<&'i Inputs<'i, 'i, 'i>>
         ensures { option_map (λ own. own.now) result ≡ at_number self.now number }
     {
-        if number == 0 {
-            return None;
-        }
-        self.inputs.get(number as usize - 1)
+        at_number(self.inputs, number)
     }
 
     /// The tables of the image with this number, from 1.
@@ -251,10 +249,7 @@ impl<'i> MeantImages<'i> {
         ensures sound { AreSound self.now }
     {
         let _images = self.inputs;
-        if number == 0 {
-            return None;
-        }
-        self.tables.as_slice().get(number as usize - 1)
+        at_number(self.tables.as_slice(), number)
     }
 
     /// The address of the function with this name in an instance, if there is one that can be called.

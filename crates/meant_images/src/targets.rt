@@ -8,6 +8,7 @@ ghost use Rattle.meant_images.specs.Targets.{variable_seen};
 ghost use Rattle.tls_symbols.specs.Bindings.{object_at};
 ghost use Rattle.whole_meaning.specs.Code.{definition_number};
 
+use job_text::at_number;
 use link_faults::{Binding, SymbolRef};
 use link_needs::Inputs;
 use sequence_match::{Form, Site};
@@ -98,10 +99,9 @@ fn shared_target(images: &[Inputs], image: u32, name: &[u8]) -> Target
     ensures target { IsShared images.now image name.now result }
     ensures numbered { IsNumbered result }
 {
-    if image == 0 || images.len() < image as usize {
+    let Some(shared) = at_number(images, image) else {
         return Target::Unknown;
-    }
-    let shared = &images[image as usize - 1];
+    };
     match shared.bindings.definition(name) {
         Some(found) => Target::Shared(image, found, shared.offset(found)),
         None => Target::Unknown,
