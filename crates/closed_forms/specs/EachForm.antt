@@ -35,7 +35,7 @@ use Rattle.link_needs.specs.Linking.{Linking}
 use Rattle.sequence_forms.specs.declared.forms.Form.TheVariants.{Gd, GdInd, LdInd, DescLea, DescCall, IeMov, IeAdd}
 use Rattle.thread_blocks.specs.Turns.{Stopped}
 use Rattle.closed_forms.specs.Library.{library}
-use Rattle.closed_jobs.specs.Worlds.{BothSay, Says, file}
+use Rattle.closed_jobs.specs.Worlds.{BothSay, Says, file, link_of_object}
 
 unfoldable pub program_object : List ℕ
 unfolding file
@@ -68,19 +68,14 @@ program_object = file (
 
 unfoldable pub program : Bool → Linking
 unfolding program_object
-program relax = record {
-  kind = Exe;
-  objects = program_object ∷ [];
-  startup = [] ∷ (codes "x" ∷ []) ∷ [];
-  sites = (record { section = 1; start = 0; len = 16; form = Gd; symbol = 4; reg = 0 }
-      ∷ record { section = 1; start = 18; len = 16; form = GdInd; symbol = 1; reg = 0 }
-      ∷ record { section = 1; start = 39; len = 13; form = LdInd; symbol = 1; reg = 0 }
-      ∷ record { section = 1; start = 58; len = 7; form = IeMov; symbol = 1; reg = 1 }
-      ∷ record { section = 1; start = 71; len = 7; form = DescLea; symbol = 4; reg = 0 }
-      ∷ record { section = 1; start = 78; len = 2; form = DescCall; symbol = 4; reg = 0 }
-      ∷ record { section = 1; start = 92; len = 7; form = IeAdd; symbol = 1; reg = 12 } ∷ []) ∷ [];
-  relax = relax;
-}
+program relax = link_of_object Exe program_object ([] ∷ (codes "x" ∷ []) ∷ []) relax
+    (record { section = 1; start = 0; len = 16; form = Gd; symbol = 4; reg = 0 }
+    ∷ record { section = 1; start = 18; len = 16; form = GdInd; symbol = 1; reg = 0 }
+    ∷ record { section = 1; start = 39; len = 13; form = LdInd; symbol = 1; reg = 0 }
+    ∷ record { section = 1; start = 58; len = 7; form = IeMov; symbol = 1; reg = 1 }
+    ∷ record { section = 1; start = 71; len = 7; form = DescLea; symbol = 4; reg = 0 }
+    ∷ record { section = 1; start = 78; len = 2; form = DescCall; symbol = 4; reg = 0 }
+    ∷ record { section = 1; start = 92; len = 7; form = IeAdd; symbol = 1; reg = 12 } ∷ [])
 
 abbrev pub links : Bool → List Linking
 links relax = program relax ∷ library relax ∷ []

@@ -29,7 +29,7 @@ use Rattle.link_needs.specs.Linking.{Linking}
 use Rattle.sequence_forms.specs.declared.forms.Form.TheVariants.{Ld, DescLea, DescCall}
 use Rattle.thread_blocks.specs.Turns.{Stopped}
 use Rattle.closed_forms.specs.Library.{library}
-use Rattle.closed_jobs.specs.Worlds.{Says, file}
+use Rattle.closed_jobs.specs.Worlds.{Says, file, link_of_object}
 
 unfoldable pub program_object : List ℕ
 unfolding file
@@ -70,15 +70,10 @@ program_object = file (
 
 unfoldable pub program : Bool → Linking
 unfolding program_object
-program relax = record {
-  kind = Pie;
-  objects = program_object ∷ [];
-  startup = [] ∷ (codes "x" ∷ []) ∷ [];
-  sites = (record { section = 1; start = 0; len = 7; form = DescLea; symbol = 9; reg = 0 }
-      ∷ record { section = 1; start = 14; len = 12; form = Ld; symbol = 3; reg = 0 }
-      ∷ record { section = 1; start = 61; len = 2; form = DescCall; symbol = 9; reg = 0 } ∷ []) ∷ [];
-  relax = relax;
-}
+program relax = link_of_object Pie program_object ([] ∷ (codes "x" ∷ []) ∷ []) relax
+    (record { section = 1; start = 0; len = 7; form = DescLea; symbol = 9; reg = 0 }
+    ∷ record { section = 1; start = 14; len = 12; form = Ld; symbol = 3; reg = 0 }
+    ∷ record { section = 1; start = 61; len = 2; form = DescCall; symbol = 9; reg = 0 } ∷ [])
 
 abbrev pub links : Bool → List Linking
 links relax = program relax ∷ library relax ∷ []

@@ -15,7 +15,7 @@ use Rattle.link_faults.specs.declared.image_kind.ImageKind.TheVariants.{Exe, Lat
 use Rattle.link_needs.specs.Linking.{Linking}
 use Rattle.thread_blocks.specs.Turns.{Answered, Stopped}
 use Rattle.transcript_text.specs.declared.outcomes.Outcome.TheVariants.{Opened, Closed}
-use Rattle.closed_jobs.specs.Worlds.{Says, file}
+use Rattle.closed_jobs.specs.Worlds.{Says, file, link_of_object}
 
 unfoldable pub program_object : List ℕ
 unfolding file
@@ -53,23 +53,11 @@ module_object = file (
 
 unfoldable pub program : Bool → Linking
 unfolding program_object
-program relax = record {
-  kind = Exe;
-  objects = program_object ∷ [];
-  startup = [] ∷ [];
-  sites = [] ∷ [];
-  relax = relax;
-}
+program relax = link_of_object Exe program_object ([] ∷ []) relax []
 
 unfoldable pub late : Bool → Linking
 unfolding module_object
-late relax = record {
-  kind = Late;
-  objects = module_object ∷ [];
-  startup = [] ∷ [];
-  sites = [] ∷ [];
-  relax = relax;
-}
+late relax = link_of_object Late module_object ([] ∷ []) relax []
 
 abbrev pub links : Bool → List Linking
 links relax = program relax ∷ late relax ∷ []

@@ -6,7 +6,7 @@
 use Rattle.std.specs.Prelude.{ℕ, Bool, List, [], ◌∷◌, codes}
 use Rattle.link_faults.specs.declared.image_kind.ImageKind.TheVariants.{Start}
 use Rattle.link_needs.specs.Linking.{Linking}
-use Rattle.closed_jobs.specs.Worlds.{file}
+use Rattle.closed_jobs.specs.Worlds.{file, link_of_object}
 
 unfoldable pub library_object : List ℕ
 unfolding file
@@ -24,10 +24,4 @@ library_object = file (
 
 unfoldable pub library : Bool → Linking
 unfolding library_object
-library relax = record {
-  kind = Start;
-  objects = library_object ∷ [];
-  startup = [] ∷ (codes "x" ∷ []) ∷ [];
-  sites = [] ∷ [];
-  relax = relax;
-}
+library relax = link_of_object Start library_object ([] ∷ (codes "x" ∷ []) ∷ []) relax []

@@ -19,7 +19,7 @@ use Rattle.sequence_forms.specs.declared.forms.Form.TheVariants.{Gd}
 use Rattle.thread_blocks.specs.Turns.{Answered, Stopped}
 use Rattle.transcript_text.specs.declared.outcomes.Outcome.TheVariants.{Opened}
 use Rattle.closed_forms.specs.LateData.{program}
-use Rattle.closed_jobs.specs.Worlds.{Says, file}
+use Rattle.closed_jobs.specs.Worlds.{Says, file, link_of_object}
 
 unfoldable pub module_object : List ℕ
 unfolding file
@@ -44,13 +44,8 @@ module_object = file (
 
 unfoldable pub late : Bool → Linking
 unfolding module_object
-late relax = record {
-  kind = Late;
-  objects = module_object ∷ [];
-  startup = [] ∷ [];
-  sites = (record { section = 1; start = 3; len = 16; form = Gd; symbol = 1; reg = 0 } ∷ []) ∷ [];
-  relax = relax;
-}
+late relax = link_of_object Late module_object ([] ∷ []) relax
+    (record { section = 1; start = 3; len = 16; form = Gd; symbol = 1; reg = 0 } ∷ [])
 
 abbrev pub links : Bool → List Linking
 links relax = program relax ∷ late relax ∷ []

@@ -18,7 +18,7 @@ use Rattle.link_faults.specs.declared.image_kind.ImageKind.TheVariants.{Exe}
 use Rattle.link_needs.specs.Linking.{Linking}
 use Rattle.sequence_forms.specs.declared.forms.Form.TheVariants.{Ld, DescLea, DescCall}
 use Rattle.thread_blocks.specs.Turns.{Stopped}
-use Rattle.closed_jobs.specs.Worlds.{Says, file}
+use Rattle.closed_jobs.specs.Worlds.{Says, file, link_of_object}
 
 unfoldable pub object : List ℕ
 unfolding file
@@ -45,15 +45,10 @@ object = file (
 
 unfoldable pub program : Bool → Linking
 unfolding object
-program relax = record {
-  kind = Exe;
-  objects = object ∷ [];
-  startup = [] ∷ [];
-  sites = (record { section = 1; start = 0; len = 12; form = Ld; symbol = 1; reg = 0 }
-      ∷ record { section = 1; start = 19; len = 7; form = DescLea; symbol = 1; reg = 0 }
-      ∷ record { section = 1; start = 26; len = 2; form = DescCall; symbol = 1; reg = 0 } ∷ []) ∷ [];
-  relax = relax;
-}
+program relax = link_of_object Exe object ([] ∷ []) relax
+    (record { section = 1; start = 0; len = 12; form = Ld; symbol = 1; reg = 0 }
+    ∷ record { section = 1; start = 19; len = 7; form = DescLea; symbol = 1; reg = 0 }
+    ∷ record { section = 1; start = 26; len = 2; form = DescCall; symbol = 1; reg = 0 } ∷ [])
 
 abbrev pub links : Bool → List Linking
 links relax = program relax ∷ []

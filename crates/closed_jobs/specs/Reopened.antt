@@ -24,7 +24,7 @@ use Rattle.sequence_forms.specs.declared.forms.Form.TheVariants.{Gd, IeMov}
 use Rattle.thread_blocks.specs.Turns.{Answered, Stopped}
 use Rattle.transcript_text.specs.declared.outcomes.LineFault.TheVariants.{Unloaded}
 use Rattle.transcript_text.specs.declared.outcomes.Outcome.TheVariants.{Opened, Closed, Fault}
-use Rattle.closed_jobs.specs.Worlds.{Says, file}
+use Rattle.closed_jobs.specs.Worlds.{Says, file, link_of_object}
 
 unfoldable pub program_object : List ℕ
 unfolding file
@@ -71,24 +71,14 @@ module_object = file (
 
 unfoldable pub program : Bool → Linking
 unfolding program_object
-program relax = record {
-  kind = Exe;
-  objects = program_object ∷ [];
-  startup = [] ∷ [];
-  sites = (record { section = 1; start = 0; len = 16; form = Gd; symbol = 1; reg = 0 } ∷ []) ∷ [];
-  relax = relax;
-}
+program relax = link_of_object Exe program_object ([] ∷ []) relax
+    (record { section = 1; start = 0; len = 16; form = Gd; symbol = 1; reg = 0 } ∷ [])
 
 unfoldable pub late : Bool → Linking
 unfolding module_object
-late relax = record {
-  kind = Late;
-  objects = module_object ∷ [];
-  startup = [] ∷ [];
-  sites = (record { section = 1; start = 0; len = 16; form = Gd; symbol = 3; reg = 0 }
-      ∷ record { section = 1; start = 19; len = 7; form = IeMov; symbol = 3; reg = 0 } ∷ []) ∷ [];
-  relax = relax;
-}
+late relax = link_of_object Late module_object ([] ∷ []) relax
+    (record { section = 1; start = 0; len = 16; form = Gd; symbol = 3; reg = 0 }
+    ∷ record { section = 1; start = 19; len = 7; form = IeMov; symbol = 3; reg = 0 } ∷ [])
 
 abbrev pub links : Bool → List Linking
 links relax = program relax ∷ late relax ∷ []

@@ -30,7 +30,7 @@ use Rattle.module_table.specs.declared.events.Event.{Event}
 use Rattle.sequence_forms.specs.declared.forms.Form.TheVariants.{Gd, Ld, IeMov, DescLea, DescCall}
 use Rattle.thread_blocks.specs.Instances.{numbered_instance}
 use Rattle.whole_meaning.specs.Spots.{bias_of}
-use Rattle.closed_jobs.specs.Worlds.{file, images_of, loads_of_links}
+use Rattle.closed_jobs.specs.Worlds.{file, images_of, link_of_object, loads_of_links}
 
 unfoldable pub app_object : List ℕ
 unfolding file
@@ -119,52 +119,37 @@ startup = (codes "a" ∷ []) ∷ (codes "y" ∷ []) ∷ []
 
 unfoldable pub app : Linking
 unfolding app_object
-app = record {
-  kind = Pie;
-  objects = app_object ∷ [];
-  startup = startup;
-  sites = (record { section = 1; start = 0; len = 16; form = Gd; symbol = 3; reg = 0 }
-      ∷ record { section = 1; start = 16; len = 16; form = Gd; symbol = 5; reg = 0 }
-      ∷ record { section = 1; start = 32; len = 7; form = DescLea; symbol = 3; reg = 0 }
-      ∷ record { section = 1; start = 39; len = 2; form = DescCall; symbol = 3; reg = 0 }
-      ∷ record { section = 1; start = 41; len = 7; form = DescLea; symbol = 5; reg = 0 }
-      ∷ record { section = 1; start = 48; len = 2; form = DescCall; symbol = 5; reg = 0 }
-      ∷ record { section = 1; start = 50; len = 7; form = IeMov; symbol = 3; reg = 0 }
-      ∷ record { section = 1; start = 57; len = 7; form = IeMov; symbol = 5; reg = 0 } ∷ []) ∷ [];
-  relax = false;
-}
+app = link_of_object Pie app_object startup false
+    (record { section = 1; start = 0; len = 16; form = Gd; symbol = 3; reg = 0 }
+    ∷ record { section = 1; start = 16; len = 16; form = Gd; symbol = 5; reg = 0 }
+    ∷ record { section = 1; start = 32; len = 7; form = DescLea; symbol = 3; reg = 0 }
+    ∷ record { section = 1; start = 39; len = 2; form = DescCall; symbol = 3; reg = 0 }
+    ∷ record { section = 1; start = 41; len = 7; form = DescLea; symbol = 5; reg = 0 }
+    ∷ record { section = 1; start = 48; len = 2; form = DescCall; symbol = 5; reg = 0 }
+    ∷ record { section = 1; start = 50; len = 7; form = IeMov; symbol = 3; reg = 0 }
+    ∷ record { section = 1; start = 57; len = 7; form = IeMov; symbol = 5; reg = 0 } ∷ [])
 
 unfoldable pub lib : Linking
 unfolding lib_object
-lib = record {
-  kind = Start;
-  objects = lib_object ∷ [];
-  startup = startup;
-  sites = (record { section = 1; start = 0; len = 12; form = Ld; symbol = 3; reg = 0 }
-      ∷ record { section = 1; start = 12; len = 16; form = Gd; symbol = 3; reg = 0 }
-      ∷ record { section = 1; start = 28; len = 7; form = DescLea; symbol = 3; reg = 0 }
-      ∷ record { section = 1; start = 35; len = 2; form = DescCall; symbol = 3; reg = 0 }
-      ∷ record { section = 1; start = 37; len = 7; form = IeMov; symbol = 3; reg = 0 } ∷ []) ∷ [];
-  relax = false;
-}
+lib = link_of_object Start lib_object startup false
+    (record { section = 1; start = 0; len = 12; form = Ld; symbol = 3; reg = 0 }
+    ∷ record { section = 1; start = 12; len = 16; form = Gd; symbol = 3; reg = 0 }
+    ∷ record { section = 1; start = 28; len = 7; form = DescLea; symbol = 3; reg = 0 }
+    ∷ record { section = 1; start = 35; len = 2; form = DescCall; symbol = 3; reg = 0 }
+    ∷ record { section = 1; start = 37; len = 7; form = IeMov; symbol = 3; reg = 0 } ∷ [])
 
 unfoldable pub plug : Linking
 unfolding plug_object
-plug = record {
-  kind = Late;
-  objects = plug_object ∷ [];
-  startup = startup;
-  sites = (record { section = 1; start = 0; len = 12; form = Ld; symbol = 3; reg = 0 }
-      ∷ record { section = 1; start = 12; len = 16; form = Gd; symbol = 3; reg = 0 }
-      ∷ record { section = 1; start = 28; len = 16; form = Gd; symbol = 5; reg = 0 }
-      ∷ record { section = 1; start = 44; len = 7; form = DescLea; symbol = 3; reg = 0 }
-      ∷ record { section = 1; start = 51; len = 2; form = DescCall; symbol = 3; reg = 0 }
-      ∷ record { section = 1; start = 53; len = 7; form = DescLea; symbol = 5; reg = 0 }
-      ∷ record { section = 1; start = 60; len = 2; form = DescCall; symbol = 5; reg = 0 }
-      ∷ record { section = 1; start = 62; len = 7; form = IeMov; symbol = 3; reg = 0 }
-      ∷ record { section = 1; start = 69; len = 7; form = IeMov; symbol = 5; reg = 0 } ∷ []) ∷ [];
-  relax = false;
-}
+plug = link_of_object Late plug_object startup false
+    (record { section = 1; start = 0; len = 12; form = Ld; symbol = 3; reg = 0 }
+    ∷ record { section = 1; start = 12; len = 16; form = Gd; symbol = 3; reg = 0 }
+    ∷ record { section = 1; start = 28; len = 16; form = Gd; symbol = 5; reg = 0 }
+    ∷ record { section = 1; start = 44; len = 7; form = DescLea; symbol = 3; reg = 0 }
+    ∷ record { section = 1; start = 51; len = 2; form = DescCall; symbol = 3; reg = 0 }
+    ∷ record { section = 1; start = 53; len = 7; form = DescLea; symbol = 5; reg = 0 }
+    ∷ record { section = 1; start = 60; len = 2; form = DescCall; symbol = 5; reg = 0 }
+    ∷ record { section = 1; start = 62; len = 7; form = IeMov; symbol = 3; reg = 0 }
+    ∷ record { section = 1; start = 69; len = 7; form = IeMov; symbol = 5; reg = 0 } ∷ [])
 
 abbrev pub links : List Linking
 links = app ∷ lib ∷ plug ∷ []

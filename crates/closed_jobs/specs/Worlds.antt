@@ -1,11 +1,13 @@
 -- A job in both worlds, from one list of links: what its linked images print, and what its objects mean.
-use Rattle.std.specs.Prelude.{◌≡◌, ℕ, ◌+◌, ◌*◌, ◌-◌, List, [], ◌∷◌, map, nat_lt, if◌then◌else◌}
+use Rattle.std.specs.Prelude.{◌≡◌, ℕ, ◌+◌, ◌*◌, ◌-◌, Bool, List, [], ◌∷◌, map, nat_lt, if◌then◌else◌}
 use Rattle.std.specs.List.{flat_map}
 use Rattle.job_text.specs.declared.thread_lines.ThreadLine.{ThreadLine}
 use Rattle.link_core.specs.Images.{image_of}
+use Rattle.link_faults.specs.declared.image_kind.ImageKind.{ImageKind}
 use Rattle.link_needs.specs.Linking.{Linking}
 use Rattle.loaded_modules.specs.Images.{JobImages}
 use Rattle.module_table.specs.declared.events.Event.{Event}
+use Rattle.sequence_forms.specs.declared.places.Site.{Site}
 use Rattle.thread_blocks.specs.Instances.{Loads}
 use Rattle.thread_blocks.specs.JobLoads.{job_loads}
 use Rattle.thread_blocks.specs.JobWorlds.{Shared, job_world}
@@ -25,6 +27,11 @@ bytes_of_digits (c ∷ d ∷ more) = (digit_of c * 16 + digit_of d) ∷ bytes_of
 
 unfoldable pub file : List (List ℕ) → List ℕ
 file lines = flat_map bytes_of_digits lines
+
+-- the link of one object, after the names that startup images export; whether its sequences may be rewritten, and these
+abbrev pub link_of_object : ImageKind → List ℕ → List (List (List ℕ)) → Bool → List Site → Linking
+link_of_object kind object startup relax sites =
+    record { kind = kind; objects = object ∷ []; startup = startup; sites = sites ∷ []; relax = relax }
 
 -- ** the two worlds
 

@@ -30,7 +30,7 @@ use Rattle.thread_blocks.specs.Turns.{Answered, Said, Stopped}
 use Rattle.transcript_text.specs.declared.outcomes.LineFault.TheVariants.{Unloaded}
 use Rattle.transcript_text.specs.declared.outcomes.Outcome.TheVariants.{Bytes, Closed, Fault, Opened}
 use Rattle.whole_meaning.specs.declared.unclean.UncleanStep.{UncleanStep}
-use Rattle.closed_jobs.specs.Worlds.{Says, bytes_of_digits, file}
+use Rattle.closed_jobs.specs.Worlds.{Says, bytes_of_digits, file, link_of_object}
 
 unfoldable pub program_object : List ℕ
 unfolding file
@@ -75,25 +75,14 @@ module_object = file (
 
 unfoldable pub program : Bool → Linking
 unfolding program_object
-program relax = record {
-  kind = Exe;
-  objects = program_object ∷ [];
-  startup = [] ∷ [];
-  sites = [] ∷ [];
-  relax = relax;
-}
+program relax = link_of_object Exe program_object ([] ∷ []) relax []
 
 unfoldable pub late : Bool → Linking
 unfolding module_object
-late relax = record {
-  kind = Late;
-  objects = module_object ∷ [];
-  startup = [] ∷ [];
-  sites = (record { section = 1; start = 0; len = 7; form = DescLea; symbol = 3; reg = 0 }
-      ∷ record { section = 1; start = 10; len = 2; form = DescCall; symbol = 3; reg = 0 }
-      ∷ record { section = 1; start = 16; len = 2; form = DescCall; symbol = 3; reg = 0 } ∷ []) ∷ [];
-  relax = relax;
-}
+late relax = link_of_object Late module_object ([] ∷ []) relax
+    (record { section = 1; start = 0; len = 7; form = DescLea; symbol = 3; reg = 0 }
+    ∷ record { section = 1; start = 10; len = 2; form = DescCall; symbol = 3; reg = 0 }
+    ∷ record { section = 1; start = 16; len = 2; form = DescCall; symbol = 3; reg = 0 } ∷ [])
 
 abbrev pub links : Bool → List Linking
 links relax = program relax ∷ late relax ∷ []

@@ -32,7 +32,7 @@ use Rattle.thread_blocks.specs.Turns.{Answered, Said, Stopped}
 use Rattle.transcript_text.specs.declared.outcomes.LineRefusal.TheVariants.{Length}
 use Rattle.transcript_text.specs.declared.outcomes.Outcome.TheVariants.{Bytes, Refused}
 use Rattle.whole_meaning.specs.declared.unclean.UncleanStep.{UncleanStep}
-use Rattle.closed_jobs.specs.Worlds.{Says, bytes_of_digits, file}
+use Rattle.closed_jobs.specs.Worlds.{Says, bytes_of_digits, file, link_of_object}
 
 unfoldable pub program_object : List ℕ
 unfolding file
@@ -61,16 +61,11 @@ program_object = file (
 
 unfoldable pub program : Bool → Linking
 unfolding program_object
-program relax = record {
-  kind = Exe;
-  objects = program_object ∷ [];
-  startup = (codes "v" ∷ []) ∷ [];
-  sites = (record { section = 1; start = 0; len = 7; form = IeMov; symbol = 4; reg = 0 }
-      ∷ record { section = 1; start = 12; len = 7; form = DescLea; symbol = 4; reg = 0 }
-      ∷ record { section = 1; start = 19; len = 7; form = IeMov; symbol = 4; reg = 1 }
-      ∷ record { section = 1; start = 30; len = 12; form = Ld; symbol = 4; reg = 0 } ∷ []) ∷ [];
-  relax = relax;
-}
+program relax = link_of_object Exe program_object ((codes "v" ∷ []) ∷ []) relax
+    (record { section = 1; start = 0; len = 7; form = IeMov; symbol = 4; reg = 0 }
+    ∷ record { section = 1; start = 12; len = 7; form = DescLea; symbol = 4; reg = 0 }
+    ∷ record { section = 1; start = 19; len = 7; form = IeMov; symbol = 4; reg = 1 }
+    ∷ record { section = 1; start = 30; len = 12; form = Ld; symbol = 4; reg = 0 } ∷ [])
 
 abbrev pub links : Bool → List Linking
 links relax = program relax ∷ []
