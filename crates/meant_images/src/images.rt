@@ -248,7 +248,6 @@ impl<'i> MeantImages<'i> {
             → IfSome result (λ t. AreTables self.now l t.now) }
         ensures sound { AreSound self.now }
     {
-        let _images = self.inputs;
         at_number(self.tables.as_slice(), number)
     }
 
