@@ -1,5 +1,5 @@
 -- The instances that are live after some events, and what is loaded of each.
-use Rattle.std.specs.Prelude.{◌+◌, ◌==◌, ℕ, Bool, true, false, suc, List, [], ◌∷◌, ◌++◌, take, Option, Some, None, nat_le, if◌then◌else◌}
+use Rattle.std.specs.Prelude.{◌==◌, ℕ, Bool, true, false, suc, List, [], ◌∷◌, ◌++◌, take, Option, Some, None, nat_le, if◌then◌else◌}
 use Rattle.std.specs.Prelude.{option_to_list}
 use Rattle.std.specs.List.{find, flat_map}
 use Rattle.address_map.specs.Map.{block_place}

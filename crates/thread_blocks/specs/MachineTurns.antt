@@ -1,5 +1,5 @@
 -- Calls of functions: the start of a call, the words on its stack, and the line in the transcript.
-use Rattle.std.specs.Prelude.{ℕ, ◌+◌, ◌-◌, true, false, List, ◌++◌, replicate, Option, Some, None, option_map}
+use Rattle.std.specs.Prelude.{ℕ, ◌-◌, true, false, List, ◌++◌, replicate, Option, Some, None, option_map}
 use Rattle.address_map.specs.Map.{pointer_of, return_place, stack_end, stack_size}
 use Rattle.guest_operands.specs.declared.state.State.{State}
 use Rattle.guest_operands.specs.declared.stop.Stop.{Stop}
