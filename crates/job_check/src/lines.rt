@@ -90,20 +90,11 @@ fn call(
 
 // ** opens and closes
 
-/// Enters the thread's own event into the history, and makes the thread see it: its line opens or closes an image.
-fn enter(
-    alloc: Global,
-    space: &mut MarkedMemory,
-    table: &mut ModuleTable,
-    number: u32,
-    line: &ThreadLine,
-    opens: bool,
-) -> Result<(), AllocError>
-    requires accepted { accepts table.old (event_at space.old.thread number opens line.now.image) ≡ true }
-    requires past { IsLeftBy space.old.images table.old }
+/// Enters the thread's own event into the history: its line opens or closes an image.
+fn enter(space: &MarkedMemory, table: &mut ModuleTable, number: u32, line: &ThreadLine, opens: bool)
+    requires accepted { accepts table.old (event_at space.now.thread number opens line.now.image) ≡ true }
     requires room { table.old.seen < 2 ^ 61 }
-    ensures past { table.new ≡ after_one table.old (event_at space.old.thread number opens line.now.image) }
-    ensures sees { OnOk result (Sees space.old table.new space.new) }
+    ensures { table.new ≡ after_one table.old (event_at space.now.thread number opens line.now.image) }
 {
     table.accept(Event {
         thread: space.thread(),
@@ -111,6 +102,13 @@ fn enter(
         opens,
         image: line.image,
     });
+}
+
+/// Makes the thread see the history as it is now.
+fn see(alloc: Global, space: &mut MarkedMemory, table: &ModuleTable) -> Result<(), AllocError>
+    requires { IsLeftBy space.old.images table.now }
+    ensures { OnOk result (Sees space.old table.now space.new) }
+{
     let live = live_instances(alloc, space.images(), table)?;
     space.hold(live, Vec::new(alloc), Wanted::Fixed)
 }
@@ -151,7 +149,8 @@ fn open(
         return Ok(CLEAN);
     }
     let was = table.module(line.image).is_loaded();
-    enter(alloc, space, table, number, line, true)?;
+    enter(space, table, number, line, true);
+    see(alloc, space, table)?;
     load_new(space, table, was, line.image)?;
     Ok(CLEAN)
 }
@@ -173,7 +172,8 @@ fn close(
     if table.close_refusal(line.image).is_some() {
         return Ok(CLEAN);
     }
-    enter(alloc, space, table, number, line, false)?;
+    enter(space, table, number, line, false);
+    see(alloc, space, table)?;
     Ok(CLEAN)
 }
 
