@@ -1,10 +1,9 @@
 -- Before the first turn.
-use Rattle.std.proofs.Common.{◌≡◌, ◌∙◌, ◌+◌, ◌-◌, ◌<◌, ◌≤◌, ◌^◌, ◌++◌, ℕ, zero, suc, true, List, [], ◌∷◌, Some, None, append-nil, get_or, length, refl, sym, ap, subst, arith}
-use Rattle.std.specs.Prelude.{nat_lt, slice_get, take}
+use Rattle.std.proofs.Common.{◌≡◌, ◌∙◌, ◌+◌, ◌<◌, ◌≤◌, ◌^◌, ◌++◌, ℕ, suc, true, List, [], ◌∷◌, Some, None, append-nil, get_or, length, refl, sym, ap, subst, arith}
+use Rattle.std.specs.Prelude.{slice_get, take}
 use Rattle.std.specs.List.{flat_map}
 use Rattle.std.proofs.lemmas.List.{length-map, take_all, take_more}
 use Rattle.std.proofs.lemmas.List.Concat.{flat_map-append}
-use Rattle.std.proofs.lemmas.Option.{get_or_from_slice_get}
 use Rattle.guest_operands.specs.Ranges.{Range}
 use Rattle.guest_operands.specs.State.{start_of}
 use Rattle.job_meaning.specs.declared.values.Byte.{Byte}
@@ -27,7 +26,6 @@ use Rattle.thread_blocks.specs.Turns.{Thread, ready}
 use Rattle.thread_turns.proofs.Ready.{lines_at, ready-length, ready_at}
 use Rattle.whole_meaning.specs.Jobs.{first_data, job_start, ready_from}
 use Rattle.whole_meaning.specs.Loads.{info_of, loads_of, meaning_of}
-use Rattle.whole_meaning.specs.Meanings.{Meaning}
 use Rattle.whole_meaning.specs.Threads.{Meant, meant_ready, ops}
 use Rattle.marked_memory.specs.declared.space.Wanted.TheVariants.{Fixed}
 use Rattle.job_check.specs.Histories.{IsHistory, IsLeftBy, infos_of, last_of}

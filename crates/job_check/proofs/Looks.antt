@@ -9,7 +9,7 @@ use Rattle.link_needs.specs.Linking.{Linking}
 use Rattle.loaded_modules.specs.declared.instance.Instance.{Instance}
 use Rattle.module_table.specs.declared.events.Event.{Event}
 use Rattle.module_table.specs.Past.{Past, module_of}
-use Rattle.thread_blocks.specs.Held.{Owned, held_of, loaded, loaded_at, looked, looked_at, owned_by, owners_of, ranges_in, reached, reached_at}
+use Rattle.thread_blocks.specs.Held.{Owned, held_of, loaded, loaded_at, looked, looked_at, owners_of, ranges_in, reached, reached_at}
 use Rattle.thread_blocks.specs.Instances.{Loads, instance_at, instances, instances_in, left_by, loaded_instance}
 use Rattle.whole_meaning.specs.Loads.{loads_of}
 use Rattle.whole_meaning.specs.Threads.{Meant}

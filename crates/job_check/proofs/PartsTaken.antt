@@ -14,7 +14,6 @@ use Rattle.whole_meaning.specs.Loads.{loads_of, meaning_of}
 use Rattle.whole_meaning.specs.Threads.{Meant, code_owner, meant_turns, resumed_for}
 use Rattle.job_check.specs.declared.lines.Started.{Started}
 use Rattle.job_check.specs.declared.lines.Started.TheVariants.{Says, Calls}
-use Rattle.job_check.specs.declared.running.Ran.TheVariants as ran
 use Rattle.job_check.specs.declared.running.Resumed.TheVariants as resumed
 use Rattle.job_check.specs.declared.thread.Taken.{Taken}
 use Rattle.job_check.specs.declared.thread.Taken.TheVariants.{Over}

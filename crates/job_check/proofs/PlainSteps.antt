@@ -32,7 +32,7 @@ use Rattle.whole_meaning.specs.Threads.{Memory, marked_in, meant_accesses, meant
 use Rattle.job_check.specs.declared.step.Stepped.{Stepped}
 use Rattle.job_check.specs.declared.step.Stepped.TheVariants.{Ends}
 use Rattle.marked_memory.specs.Kept.{HasSeen, Kept, mark_in, memory_of, shut_in}
-use Rattle.job_check.specs.Stepping.{Makes, StepsAs, code_in, done_in, linker_in, made, next_as, plain_next, space_of, stepped_of}
+use Rattle.job_check.specs.Stepping.{Makes, StepsAs, code_in, done_in, linker_in, next_as, plain_next, space_of, stepped_of}
 use Rattle.job_check.proofs.Memories.{fetch_image, touched_image}
 use Rattle.marked_memory.proofs.SpaceImages.{image_at, lent_image, memory_is}
 use Rattle.job_check.proofs.SequencesMade.{next_made, stays_made}

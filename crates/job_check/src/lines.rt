@@ -1,10 +1,11 @@
 //! The first look of a thread's line.
 
-ghost use Rattle.std.specs.Prelude.{◌≡◌, ◌≤◌, ◌<◌, ◌+◌, ◌^◌, ℕ, IfOk, OnOk, is_some, length, map};
+ghost use Rattle.std.specs.Prelude.{◌≡◌, ◌≤◌, ◌<◌, ◌+◌, ◌^◌, ℕ, true, IfOk, OnOk, is_some, length, map};
 ghost use Rattle.job_meaning.specs.Marked.{values_of};
-ghost use Rattle.module_table.specs.Past.{module_of};
+ghost use Rattle.module_table.specs.Past.{accepts, after_one, module_of};
 ghost use Rattle.thread_blocks.specs.Held.{block_bytes};
 ghost use Rattle.thread_blocks.specs.Instances.{block_start, instances_in, loaded_instance};
+ghost use Rattle.thread_blocks.specs.Lines.{event_at};
 ghost use Rattle.thread_blocks.specs.MachineTurns.{call_start};
 ghost use Rattle.whole_meaning.specs.Loads.{info_of};
 ghost use Rattle.whole_meaning.specs.Threads.{ops};
@@ -38,18 +39,26 @@ const CLEAN: Started = Started::Says(None);
 
 // ** calls
 
+/// The arguments of a call.
+#[derive(Clone, Copy)]
+struct Arguments {
+    a: u64,
+    b: u64,
+    c: u64,
+}
+
 /// The registers before a call of the function at `place`.
-fn registers_at(thread: u32, place: u64, a: u64, b: u64, c: u64) -> State<Word, Flag>
+fn registers_at(thread: u32, place: u64, to: Arguments) -> State<Word, Flag>
     requires { thread ≤ 64 }
-    ensures { result ≡ call_start ops thread place a b c }
+    ensures { result ≡ call_start ops thread place to.a to.b to.c }
 {
     let stack = stack_end(thread) - 8;
     let mut state = start::<MarkedValues>(
         place,
         stack,
-        Word::Number(a),
-        Word::Number(b),
-        Word::Number(c),
+        Word::Number(to.a),
+        Word::Number(to.b),
+        Word::Number(to.c),
     );
     state.thread_pointer = thread_pointer(thread);
     state
@@ -62,13 +71,11 @@ fn call(
     table: &ModuleTable,
     line: &ThreadLine,
     symbol: &[u8],
-    a: u64,
-    b: u64,
-    c: u64,
+    to: Arguments,
 ) -> Result<Started, AllocError>
     requires { space.old.live ≡ instances_in (infos_of space.old.images) table.now }
     ensures { IfOk result (λ started. (number : ℕ)
-        → BeginsCall (record { number = number; told = line.now }) symbol.now a b c
+        → BeginsCall (record { number = number; told = line.now }) symbol.now to.a to.b to.c
         table.now space.old started table.now space.new) }
 {
     let Some(instance) = live_instance(space.images(), table, line.image) else {
@@ -78,10 +85,24 @@ fn call(
         return Ok(CLEAN);
     };
     space.renew_stack()?;
-    Ok(Started::Calls(registers_at(space.thread(), place, a, b, c)))
+    Ok(Started::Calls(registers_at(space.thread(), place, to)))
 }
 
 // ** opens and closes
+
+/// Enters the thread's own event into the history: its line opens or closes an image.
+fn enter(space: &MarkedMemory, table: &mut ModuleTable, number: u32, line: &ThreadLine, opens: bool)
+    requires accepted { accepts table.old (event_at space.now.thread number opens line.now.image) ≡ true }
+    requires room { table.old.seen < 2 ^ 61 }
+    ensures { table.new ≡ after_one table.old (event_at space.now.thread number opens line.now.image) }
+{
+    table.accept(Event {
+        thread: space.thread(),
+        line: number,
+        opens,
+        image: line.image,
+    });
+}
 
 /// Makes the thread see the history as it is now.
 fn see(alloc: Global, space: &mut MarkedMemory, table: &ModuleTable) -> Result<(), AllocError>
@@ -128,13 +149,7 @@ fn open(
         return Ok(CLEAN);
     }
     let was = table.module(line.image).is_loaded();
-    let event = Event {
-        thread: space.thread(),
-        line: number,
-        opens: true,
-        image: line.image,
-    };
-    table.accept(event);
+    enter(space, table, number, line, true);
     see(alloc, space, table)?;
     load_new(space, table, was, line.image)?;
     Ok(CLEAN)
@@ -157,13 +172,7 @@ fn close(
     if table.close_refusal(line.image).is_some() {
         return Ok(CLEAN);
     }
-    let event = Event {
-        thread: space.thread(),
-        line: number,
-        opens: false,
-        image: line.image,
-    };
-    table.accept(event);
+    enter(space, table, number, line, false);
     see(alloc, space, table)?;
     Ok(CLEAN)
 }
@@ -305,9 +314,17 @@ pub(crate) fn begin(
         Starts (record { number = number; told = line.now }) table.old space.old started table.new space.new) }
 {
     match &line.action {
-        Action::Call { symbol, a, b, c } => {
-            call(space, table, line, symbol.as_str().as_bytes(), *a, *b, *c)
-        }
+        Action::Call { symbol, a, b, c } => call(
+            space,
+            table,
+            line,
+            symbol.as_str().as_bytes(),
+            Arguments {
+                a: *a,
+                b: *b,
+                c: *c,
+            },
+        ),
         Action::Open => open(alloc, space, table, number, line),
         Action::Close => close(alloc, space, table, number, line),
         Action::Peek { symbol, length } => peek(

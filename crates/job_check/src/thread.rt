@@ -126,28 +126,35 @@ fn take_resume(space: &mut MarkedMemory, line: u32, call: Waiting) -> Result<Tak
 
 // ** turns
 
-/// What never changes of a thread.
+/// The lines of a thread, and what it takes to run them.
 #[derive(Clone, Copy)]
 struct Script<'j> {
     alloc: Global,
     lines: &'j [ThreadLine],
     fuel: u64,
+    /// The number of lines that have begun.
+    begun: usize,
 }
 
 /// Rebuilds the thread after a turn.
 fn ended<'j, 'm>(
     script: Script<'j>,
-    begun: usize,
     space: MarkedMemory<'m>,
     unclean: Option<UncleanStep>,
     taken: Taken,
 ) -> MeantThread<'j, 'm>
     requires lines { length script.lines.now < 2 ^ 31 }
-    requires begun { begun ≤ length script.lines.now }
+    requires begun { script.begun ≤ length script.lines.now }
     requires lent { space.lent ≡ None }
-    ensures { result ≡ run_after script.entry.lines.now script.entry.fuel begun unclean taken space.entry }
+    ensures { result
+        ≡ run_after script.entry.lines.now script.entry.fuel script.entry.begun unclean taken space.entry }
 {
-    let Script { alloc, lines, fuel } = script;
+    let Script {
+        alloc,
+        lines,
+        fuel,
+        begun,
+    } = script;
     let (call, unclean) = match taken {
         Taken::Over(found) => (None, unclean.or(found)),
         Taken::Waits(call) => (Some(call), unclean),
@@ -165,8 +172,7 @@ fn ended<'j, 'm>(
 
 /// Begins the next line. The thread has looked, and has the data.
 fn begin_line<'j, 'm>(
-    script: Script<'j>,
-    begun: usize,
+    mut script: Script<'j>,
     mut space: MarkedMemory<'m>,
     unclean: Option<UncleanStep>,
     line: &ThreadLine,
@@ -174,38 +180,38 @@ fn begin_line<'j, 'm>(
     shared: &mut Vec<OwnedRange>,
 ) -> Result<MeantThread<'j, 'm>, AllocError>
     requires lines { length script.lines.now < 2 ^ 31 }
-    requires begun { begun < length script.lines.now }
+    requires begun { script.begun < length script.lines.now }
     requires live { space.live ≡ instances_in (infos_of space.images) table.old }
     requires past { IsLeftBy space.images table.old }
     requires room { table.old.seen < 2 ^ 61 }
     requires lent { space.lent ≡ None }
-    ensures { IfOk result (λ r. BeginsLine script.entry.lines.now script.entry.fuel begun unclean line.now
-        table.old space.entry r table.new shared.new.items) }
+    ensures { IfOk result (λ r. BeginsLine script.entry.lines.now script.entry.fuel script.entry.begun unclean
+        line.now table.old space.entry r table.new shared.new.items) }
 {
-    let number = begun as u32 + 1;
+    script.begun += 1;
+    let number = script.begun as u32;
     let taken = take_begin(script.alloc, &mut space, table, number, line, script.fuel)?;
     *shared = space.take_data()?;
-    Ok(ended(script, begun + 1, space, unclean, taken))
+    Ok(ended(script, space, unclean, taken))
 }
 
 /// Continues a call. The thread has looked, and has the data.
 fn resume_line<'j, 'm>(
     script: Script<'j>,
-    begun: usize,
     mut space: MarkedMemory<'m>,
     unclean: Option<UncleanStep>,
     call: Waiting,
     shared: &mut Vec<OwnedRange>,
 ) -> Result<MeantThread<'j, 'm>, AllocError>
     requires lines { length script.lines.now < 2 ^ 31 }
-    requires begun { begun ≤ length script.lines.now }
+    requires begun { script.begun ≤ length script.lines.now }
     requires lent { space.lent ≡ None }
-    ensures { IfOk result (λ r. ResumesLine script.entry.lines.now script.entry.fuel begun unclean call
-        space.entry r shared.new.items) }
+    ensures { IfOk result (λ r. ResumesLine script.entry.lines.now script.entry.fuel script.entry.begun unclean
+        call space.entry r shared.new.items) }
 {
-    let taken = take_resume(&mut space, begun as u32, call)?;
+    let taken = take_resume(&mut space, script.begun as u32, call)?;
     *shared = space.take_data()?;
-    Ok(ended(script, begun, space, unclean, taken))
+    Ok(ended(script, space, unclean, taken))
 }
 
 /// What all threads share: the state that the history leaves, and the data of all instances.
@@ -303,13 +309,18 @@ impl<'j, 'm> MeantThread<'j, 'm> {
             call,
             unclean,
         } = self;
-        let script = Script { alloc, lines, fuel };
+        let script = Script {
+            alloc,
+            lines,
+            fuel,
+            begun,
+        };
         let live = live_instances(alloc, space.images(), table)?;
         let handed = mem::replace(shared, Vec::new(alloc));
         space.hold(live, handed, Wanted::Fixed)?;
         match call {
-            Some(call) => resume_line(script, begun, space, unclean, call, shared),
-            None => begin_line(script, begun, space, unclean, &lines[begun], table, shared),
+            Some(call) => resume_line(script, space, unclean, call, shared),
+            None => begin_line(script, space, unclean, &lines[begun], table, shared),
         }
     }
 }

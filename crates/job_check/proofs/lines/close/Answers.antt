@@ -1,14 +1,13 @@
-use Rattle.std.proofs.Common.{◌∙◌, false, refl, sym, ap, subst}
+use Rattle.std.proofs.Common.{◌∙◌, refl, sym, ap, subst}
 use Rattle.std.specs.Prelude.{is_some}
-use Rattle.module_table.specs.Past.{after_one, close_refusal}
-use Rattle.thread_blocks.specs.Lines.{event_at}
+use Rattle.module_table.specs.Past.{close_refusal}
 use Rattle.job_check.specs.Histories.{IsLeftBy}
 use Rattle.job_check.proofs.Histories.{left_more}
 use Rattle.job_check.proofs.OpensBegun.{close_accepts, close_begins, close_refused, none_of}
 use Rattle.job_check.proofs.lines.close.Goals as goal
 
-pub accept-requires-clause-accepted : goal.accept-requires-clause-accepted
-accept-requires-clause-accepted c =
+pub enter-requires-clause-accepted : goal.enter-requires-clause-accepted
+enter-requires-clause-accepted c =
     let none = none_of (close_refusal c.args.table.now c.args.line.now.image)
     (ap is_some (sym c.close_refusal.ensures) ∙ sym c.if-is_some.ensures) in
     close_accepts c.args.table.now _ refl none
@@ -17,7 +16,7 @@ pub see-requires : goal.see-requires
 see-requires c =
     let none = none_of (close_refusal c.args.table.now c.args.line.now.image)
     (ap is_some (sym c.close_refusal.ensures) ∙ sym c.if-is_some.ensures) in
-    subst (IsLeftBy c.args.space.now.images) (sym c.accept.ensures)
+    subst (IsLeftBy c.args.space.now.images) (sym c.enter.ensures)
     (left_more c.args.space.now.images c.args.table.now _ c.requires.past (close_accepts c.args.table.now _ refl none))
 
 pub returns-then-is_some : goal.returns-then-is_some
@@ -27,9 +26,7 @@ returns-then-is_some c =
 
 pub returns : goal.returns
 returns c =
-    let image = c.args.line.now.image in
     let p = c.args.table.now in
-    let none = none_of (close_refusal p image) (ap is_some (sym c.close_refusal.ensures) ∙ sym c.if-is_some.ensures) in
-    let then = c.accept.ensures ∙ ap (λ t. after_one p (event_at t c.args.number false image)) c.thread.ensures.value in
-    close_begins (record { number = c.args.number; told = c.args.line.now }) p c.accept.new.self c.args.space.now c.see.new.space
-    none then c.in_ok-see.ensures
+    let none = none_of (close_refusal p c.args.line.now.image) (ap is_some (sym c.close_refusal.ensures) ∙ sym c.if-is_some.ensures) in
+    close_begins (record { number = c.args.number; told = c.args.line.now }) p c.enter.new.table c.args.space.now c.see.new.space
+    none c.enter.ensures c.in_ok-see.ensures

@@ -1,15 +1,14 @@
-use Rattle.std.proofs.Common.{◌∙◌, true, refl, sym, ap, subst}
+use Rattle.std.proofs.Common.{◌∙◌, refl, sym, ap, subst}
 use Rattle.std.specs.Prelude.{is_some}
 use Rattle.module_table.specs.Modules.{is_loaded}
-use Rattle.module_table.specs.Past.{after_one, open_refusal}
-use Rattle.thread_blocks.specs.Lines.{event_at}
+use Rattle.module_table.specs.Past.{open_refusal}
 use Rattle.job_check.specs.Histories.{IsLeftBy}
 use Rattle.job_check.proofs.Histories.{left_more}
 use Rattle.job_check.proofs.OpensBegun.{open_accepts, open_begins, open_refused, none_of}
 use Rattle.job_check.proofs.lines.open.Goals as goal
 
-pub accept-requires-clause-accepted : goal.accept-requires-clause-accepted
-accept-requires-clause-accepted c =
+pub enter-requires-clause-accepted : goal.enter-requires-clause-accepted
+enter-requires-clause-accepted c =
     let none = none_of (open_refusal c.args.table.now c.args.line.now.image)
     (ap is_some (sym c.open_refusal.ensures) ∙ sym c.if-is_some.ensures) in
     open_accepts c.args.table.now _ refl none
@@ -18,7 +17,7 @@ pub see-requires : goal.see-requires
 see-requires c =
     let none = none_of (open_refusal c.args.table.now c.args.line.now.image)
     (ap is_some (sym c.open_refusal.ensures) ∙ sym c.if-is_some.ensures) in
-    subst (IsLeftBy c.args.space.now.images) (sym c.accept.ensures)
+    subst (IsLeftBy c.args.space.now.images) (sym c.enter.ensures)
     (left_more c.args.space.now.images c.args.table.now _ c.requires.past (open_accepts c.args.table.now _ refl none))
 
 pub returns-then-is_some : goal.returns-then-is_some
@@ -28,10 +27,8 @@ returns-then-is_some c =
 
 pub returns : goal.returns
 returns c =
-    let image = c.args.line.now.image in
     let p = c.args.table.now in
-    let none = none_of (open_refusal p image) (ap is_some (sym c.open_refusal.ensures) ∙ sym c.if-is_some.ensures) in
-    let then = c.accept.ensures ∙ ap (λ t. after_one p (event_at t c.args.number true image)) c.thread.ensures.value in
-    open_begins (record { number = c.args.number; told = c.args.line.now }) p c.accept.new.self c.args.space.now c.see.new.space
-    c.load_new.new.space c.is_loaded-was.result none (c.is_loaded-was.ensures ∙ ap is_loaded c.module.ensures) then c.in_ok-see.ensures
-    c.in_ok-load_new.ensures
+    let none = none_of (open_refusal p c.args.line.now.image) (ap is_some (sym c.open_refusal.ensures) ∙ sym c.if-is_some.ensures) in
+    open_begins (record { number = c.args.number; told = c.args.line.now }) p c.enter.new.table c.args.space.now c.see.new.space
+    c.load_new.new.space c.is_loaded-was.result none (c.is_loaded-was.ensures ∙ ap is_loaded c.module.ensures) c.enter.ensures
+    c.in_ok-see.ensures c.in_ok-load_new.ensures
