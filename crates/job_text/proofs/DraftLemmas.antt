@@ -13,7 +13,8 @@ use Rattle.std.specs.Option.{IfSome, option_map}
 use Rattle.std.specs.Str.{bytes_eq}
 use Rattle.job_text.specs.Threads.{IsThread}
 use Rattle.job_text.specs.Drafts.{Declared, IsDraft, IsSlot, IsPlan, image_count, is_named, or_else, slot_among, slot_of, program_slot}
-use Rattle.job_text.specs.LineEffects.{next_slot, with_image, with_line}
+use Rattle.job_text.specs.LineAnswers.{next_slot}
+use Rattle.job_text.specs.LineEffects.{with_image, with_line}
 use Rattle.job_text.specs.LineFaults.{is_program}
 use Rattle.job_text.specs.Listings.{IsListOf}
 use Rattle.job_text.proofs.MentionLemmas.{kept_by_late, kept_by_program, kept_by_start, listed_late, listed_program, listed_start}

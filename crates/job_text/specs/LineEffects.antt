@@ -7,7 +7,6 @@ use Rattle.job_text.specs.Grammar.{heading_of}
 use Rattle.job_text.specs.Numbers.{number}
 use Rattle.job_text.specs.Words.{is_skipped, word_at, words_of}
 use Rattle.job_text.specs.declared.draft.Slot.TheVariants as slot
-use Rattle.job_text.specs.declared.draft.Slot.{Slot}
 use Rattle.job_text.specs.declared.draft.Plan.{Plan}
 use Rattle.job_text.specs.declared.grammar.Heading.TheVariants as heading
 use Rattle.job_text.specs.declared.grammar.Heading.{Heading}
@@ -22,13 +21,6 @@ use Rattle.job_text.specs.declared.thread_lines.Action.{Action}
 -- the number that a word of a line without a fault writes
 abbrev pub number_at : ℕ → List (List ℕ) → ℕ
 number_at k words = unwrap_or (number (word_at k words)) 0
-
--- the slot that the next image of a kind takes
-abbrev pub next_slot : ImageKind → Declared → Slot
-next_slot image.Exe d = slot.Program
-next_slot image.Pie d = slot.Program
-next_slot image.Start d = slot.Start (length d.starts)
-next_slot image.Late d = slot.Late (length d.lates)
 
 -- an image joins its group, and is mentioned after those before it
 abbrev pub with_image : Image → ImageKind → Declared → Declared

@@ -5,8 +5,8 @@ ghost use Rattle.std.specs.Prelude.{IfSome, IsTrue, OnOk, None, length, map, rep
 ghost use Rattle.job_text.specs.Actions.{IsAction};
 ghost use Rattle.job_text.specs.Threads.{IsThread};
 ghost use Rattle.job_text.specs.Drafts.{IsSlot, IsPlan, image_count, nothing_declared, slot_of};
-ghost use Rattle.job_text.specs.LineAnswers.{IsLineAnswer, IsOrderAnswer, IsRead};
-ghost use Rattle.job_text.specs.LineEffects.{action_of, next_slot, with_heading, with_image, with_line, with_words};
+ghost use Rattle.job_text.specs.LineAnswers.{IsLineAnswer, IsOrderAnswer, IsRead, next_slot};
+ghost use Rattle.job_text.specs.LineEffects.{action_of, with_heading, with_image, with_line, with_words};
 ghost use Rattle.job_text.specs.LineFaults.{action_fault, fault_in_words, fault_under, has_long_object, is_image};
 ghost use Rattle.job_text.specs.LineFaults.{is_miscounted, is_program, symbol_fault, thread_named};
 ghost use Rattle.job_text.specs.Grammar.{heading_of};
