@@ -33,10 +33,9 @@ const WORD_SIZE: u64 = 4;
 const ENTRY_LIMIT: u64 = 16;
 
 impl Segments<'_> {
-    /// The file's length fits in 64 bits, and the last LOAD lies in the file. The call does nothing; it gives a proof
-    /// the first fact.
+    /// A file is shorter than 2^63 bytes. The call does nothing; it gives a proof this fact.
     fn length_fits(&self)
-        ensures { length self.now.headers.bytes.now < 2 ^ 64 }
+        ensures { length self.now.headers.bytes.now < 2 ^ 63 }
     {
         let _length = self.headers.bytes.len();
     }
