@@ -1,5 +1,5 @@
 -- What a command answers, and how that relates to the store and to the number that the program ends with.
-use Rattle.std.specs.Prelude.{◌≡◌, ℕ, ◌⊎◌, List, Option}
+use Rattle.std.specs.Prelude.{◌≡◌, ◌≤◌, ℕ, ◌⊎◌, List, Option}
 use Rattle.ports.specs.Counts.{Counted}
 use Rattle.ports.specs.Files.{Files}
 use Rattle.command_replies.specs.declared.replies.Answer.{Answer}
@@ -9,20 +9,11 @@ use Rattle.command_replies.specs.declared.statuses.Status.TheVariants as status
 use Rattle.command_replies.specs.Delivery.{store_line}
 use Rattle.command_replies.specs.Statuses.{code_of, IsLate}
 
--- a status of a command whose files were fetched: not that of the words, nor that of a store that failed
-abbrev pub IsOfFiles : Status → Type 0
-IsOfFiles status.Done = Unit {0}
-IsOfFiles status.Usage = ⊥
-IsOfFiles status.Store = ⊥
-IsOfFiles status.Job = Unit {0}
-IsOfFiles status.Object = Unit {0}
-IsOfFiles status.Link = Unit {0}
-IsOfFiles status.Image = Unit {0}
-IsOfFiles status.Unclean = Unit {0}
-
--- the store's count of faults rose if the answer is that the store failed, and only then
+-- the store's count of faults rose if the answer is that the store failed, and only then; a reply has no status of the
+-- words, nor of a store that failed
 abbrev pub AnswerCounts : ℕ → ℕ → Answer → Type 0
-AnswerCounts before now (Replies reply) = (now ≡ before) × IsOfFiles reply.status
+AnswerCounts before now (Replies reply) =
+    (now ≡ before) × ((code_of reply.status ≡ 0) ⊎ (5 ≤ code_of reply.status))
 AnswerCounts before now StoreFails = Counted before now
 AnswerCounts before now NoMemory = now ≡ before
 

@@ -31,12 +31,10 @@ mod jobs;
 mod refusal;
 mod replies;
 mod statuses;
-mod unlinked;
 
-pub use fault::{CommandFault, InputRefusal};
+pub use fault::CommandFault;
 pub use fetched::whole_file;
 pub use jobs::{image_place, job_of};
-pub use refusal::reply_of;
+pub use refusal::{image_refusal, job_refusal, link_refusal, object_refusal};
 pub use replies::{Answer, Reply, deliver, say, say_no_memory};
 pub use statuses::Status;
-pub use unlinked::link_refusal;
