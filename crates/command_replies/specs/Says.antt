@@ -8,6 +8,7 @@ use Rattle.image_rules.specs.FaultNames.{kind_name as image_kind_name}
 use Rattle.job_text.specs.declared.fault.JobFault.{JobFault}
 use Rattle.job_text.specs.declared.fault.JobFault.TheVariants as job
 use Rattle.job_text.specs.declared.fault.JobFaultKind.{JobFaultKind}
+use Rattle.job_text.specs.declared.images.Image.{Image}
 use Rattle.job_text.specs.Kinds.{kind_text}
 use Rattle.link_faults.specs.declared.fault.LinkFault.{LinkFault}
 use Rattle.link_faults.specs.declared.fault.LinkFault.TheVariants as link
@@ -56,25 +57,30 @@ HasFile (Some bytes) P = P bytes
 abbrev pub Is : ℕ → List ℕ → ℕ → List ℕ → Type 0
 Is own words status text = (status ≡ own) × (text ≡ words)
 
--- ---- the refusals: a status, and the line of the first fault; out of memory is no refusal
+-- ---- the line of a first fault; out of memory has none, since it is no refusal
 
 -- of a job
-abbrev pub JobFaultSays : JobFault → ℕ → List ℕ → Type 0
-JobFaultSays job.OutOfMemory status text = ⊥
-JobFaultSays (job.At line kind) status text = Is 5 (job_fault_text line kind) status text
+abbrev pub IsJobLine : JobFault → List ℕ → Type 0
+IsJobLine job.OutOfMemory text = ⊥
+IsJobLine (job.At line kind) text = text ≡ job_fault_text line kind
 
 -- of an object, by its name in the job
-abbrev pub ObjectFaultSays : List ℕ → ObjectFault → ℕ → List ℕ → Type 0
-ObjectFaultSays name object.OutOfMemory status text = ⊥
-ObjectFaultSays name (object.At section entry kind) status text = Is 6 (fault_text name section entry kind) status text
+abbrev pub IsObjectLine : List ℕ → ObjectFault → List ℕ → Type 0
+IsObjectLine name object.OutOfMemory text = ⊥
+IsObjectLine name (object.At section entry kind) text = text ≡ fault_text name section entry kind
 
--- of an image that does not link, by its name in the job, and the names of its objects
-abbrev pub LinkFaultSays : List ℕ → List (List ℕ) → LinkFault → ℕ → List ℕ → Type 0
-LinkFaultSays name names link.OutOfMemory status text = ⊥
-LinkFaultSays name names (link.At kind object section entry) status text =
-    Is 7 (link_line name kind (shown_object names object) section entry) status text
+-- of an image of the job that does not link
+abbrev pub IsLinkLine : Option Image → LinkFault → List ℕ → Type 0
+IsLinkLine None fault text = ⊥
+IsLinkLine (Some own) link.OutOfMemory text = ⊥
+IsLinkLine (Some own) (link.At kind object section entry) text =
+    text ≡ link_line own.name kind (shown_object own.objects object) section entry
 
 -- of the bytes of an image
-abbrev pub ImageFaultSays : ImageFault → ℕ → List ℕ → Type 0
-ImageFaultSays image.OutOfMemory status text = ⊥
-ImageFaultSays (image.At offset kind) status text = Is 8 (image_fault_text offset kind) status text
+abbrev pub IsImageLine : ImageFault → List ℕ → Type 0
+IsImageLine image.OutOfMemory text = ⊥
+IsImageLine (image.At offset kind) text = text ≡ image_fault_text offset kind
+
+-- the refusal of a job with a fault
+abbrev pub JobFaultSays : JobFault → ℕ → List ℕ → Type 0
+JobFaultSays fault status text = (status ≡ 5) × IsJobLine fault text

@@ -21,7 +21,8 @@
 //! ```
 //!
 //! A step of a command returns a value or a [`CommandFault`], as [`whole_file`], [`job_of`] and [`image_place`] do. All
-//! steps together give an [`Answer`], which [`deliver`] writes; [`reply_of`] makes the reply of a refusal. `specs/` has
+//! steps together give an [`Answer`], which [`deliver`] writes. A fault of the input goes as it is up to the [`Reply`] that
+//! says it ([`object_refusal`] and its like). `specs/` has
 //! the lines (`Says`), what a step may return (`Steps`, `Faults`) and what a status means (`Statuses`, `Delivery`).
 #![tactic(auto)]
 

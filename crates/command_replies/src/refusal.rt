@@ -1,21 +1,21 @@
 //! The refusals of faults: the status and the line of each. Want of memory is no refusal.
-ghost use Rattle.std.specs.Prelude.{◌≡◌, ◌≤◌, IfOk};
-ghost use Rattle.command_replies.specs.Says.{ImageFaultSays, JobFaultSays, LinkFaultSays, ObjectFaultSays};
+ghost use Rattle.std.specs.Prelude.{◌≡◌, ◌<◌, IfOk, length, slice_get};
+ghost use Rattle.command_replies.specs.Says.{IsImageLine, IsJobLine, IsLinkLine, IsObjectLine};
 ghost use Rattle.command_replies.specs.Says.{fault_text, image_fault_text, job_fault_text, link_line, shown_object};
 ghost use Rattle.command_replies.specs.Statuses.{code_of};
 
 use crate::replies::Reply;
 use crate::statuses::Status;
 use image_rules::ImageFault;
-use job_text::{Image, JobFault, JobFaultKind, Name};
+use job_text::{Job, JobFault, JobFaultKind, Name};
 use link_faults::{LinkFault, LinkFaultKind};
 use object_rules::{FaultKind, ObjectFault};
 use std::alloc::{AllocError, Global};
 
 /// The refusal of a job.
 pub fn job_refusal(alloc: Global, fault: JobFault) -> Result<Reply, AllocError>
-    ensures refuses { IfOk result (λ reply. 5 ≤ code_of reply.status) }
-    ensures says { IfOk result (λ reply. JobFaultSays fault (code_of reply.status) reply.text.items) }
+    ensures code { IfOk result (λ reply. code_of reply.status ≡ 5) }
+    ensures line { IfOk result (λ reply. IsJobLine fault reply.text.items) }
 {
     match fault {
         JobFault::OutOfMemory => Err(AllocError),
@@ -28,9 +28,8 @@ pub fn job_refusal(alloc: Global, fault: JobFault) -> Result<Reply, AllocError>
 
 /// The refusal of the object of this name.
 pub fn object_refusal(alloc: Global, name: &str, fault: ObjectFault) -> Result<Reply, AllocError>
-    ensures refuses { IfOk result (λ reply. 5 ≤ code_of reply.status) }
-    ensures says { IfOk result (λ reply.
-        ObjectFaultSays name.now fault (code_of reply.status) reply.text.items) }
+    ensures code { IfOk result (λ reply. code_of reply.status ≡ 6) }
+    ensures line { IfOk result (λ reply. IsObjectLine name.now fault reply.text.items) }
 {
     match fault {
         ObjectFault::OutOfMemory => Err(AllocError),
@@ -45,11 +44,16 @@ pub fn object_refusal(alloc: Global, name: &str, fault: ObjectFault) -> Result<R
     }
 }
 
-/// The refusal of an image that does not link.
-pub fn link_refusal(alloc: Global, image: &Image, fault: LinkFault) -> Result<Reply, AllocError>
-    ensures refuses { IfOk result (λ reply. 5 ≤ code_of reply.status) }
-    ensures says { IfOk result (λ reply. LinkFaultSays image.now.name image.now.objects fault
-        (code_of reply.status) reply.text.items) }
+/// The refusal of the image of this number, counted from 0, which does not link.
+pub fn link_refusal(
+    alloc: Global,
+    job: &Job,
+    number: usize,
+    fault: LinkFault,
+) -> Result<Reply, AllocError>
+    requires { number < length job.now.images }
+    ensures code { IfOk result (λ reply. code_of reply.status ≡ 7) }
+    ensures line { IfOk result (λ reply. IsLinkLine (slice_get job.now.images number) fault reply.text.items) }
 {
     match fault {
         LinkFault::OutOfMemory => Err(AllocError),
@@ -59,6 +63,7 @@ pub fn link_refusal(alloc: Global, image: &Image, fault: LinkFault) -> Result<Re
             section,
             entry,
         } => {
+            let image = &job.images()[number];
             let object = shown_object(image.objects.as_slice(), object);
             Ok(Reply {
                 status: Status::Link,
@@ -70,8 +75,8 @@ pub fn link_refusal(alloc: Global, image: &Image, fault: LinkFault) -> Result<Re
 
 /// The refusal of the bytes of an image.
 pub fn image_refusal(alloc: Global, fault: ImageFault) -> Result<Reply, AllocError>
-    ensures refuses { IfOk result (λ reply. 5 ≤ code_of reply.status) }
-    ensures says { IfOk result (λ reply. ImageFaultSays fault (code_of reply.status) reply.text.items) }
+    ensures code { IfOk result (λ reply. code_of reply.status ≡ 8) }
+    ensures line { IfOk result (λ reply. IsImageLine fault reply.text.items) }
 {
     match fault {
         ImageFault::OutOfMemory => Err(AllocError),

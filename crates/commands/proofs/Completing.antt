@@ -19,7 +19,9 @@ use Rattle.command_replies.specs.Replies.{AnswerCounts, IsAnswer}
 use Rattle.command_replies.specs.Says.{HasFile}
 use Rattle.command_replies.specs.Statuses.{IsLate, SinkShown, code_of}
 use Rattle.generated_laws.specs.Sound.{IsFaultless}
-use Rattle.image_faults.specs.Faults.{IsImage}
+use Rattle.image_faults.specs.Faults.{IsImage, IsFault}
+use Rattle.image_rules.specs.declared.fault.ImageFault.{ImageFault}
+use Rattle.image_rules.specs.declared.fault.ImageFault.TheVariants as image_fault
 use Rattle.job_link.specs.declared.writable.WritableSections.{WritableSections}
 use Rattle.job_link.specs.declared.writable.WritableSections.TheVariants.{Kept, Refused}
 use Rattle.job_link.specs.Given.{Allows, Given, AreGiven, IsSound}
@@ -119,10 +121,14 @@ has_declared job name declared = let (k, e) = numbered job.images name declared 
 
 -- ** what an image says
 
+no_fault : (b : List ℕ) (fault : ImageFault) → IsImage b → IsFault b fault → ⊥
+no_fault b image_fault.OutOfMemory is never = never
+no_fault b (image_fault.At offset kind) is none = is none.rule none.entry none.first.here
+
 shown_done : (o : Option (List ℕ)) (status : ℕ) (text : List ℕ) → HasFile o IsImage → HasFile o (λ b. ListingSays b status text) → status ≡ 0
 shown_done None status text is says = absurd is
 shown_done (Some b) status text is (inl listed) = listed.status_is
-shown_done (Some b) status text is (inr none) = absurd (is none.first.rule none.first.entry none.first.first.here)
+shown_done (Some b) status text is (inr none) = absurd (no_fault b none.fault is none.first)
 
 -- ** the law: what a command says of what it is given, where nothing is wrong with it
 

@@ -2,12 +2,10 @@
 use Rattle.std.proofs.Common.{◌≡◌, ◌≤◌, ℕ, List, Option, Some, None, IfSome, ◌⊎◌, inl, inr, refl, sym, subst, arith}
 use Rattle.command_line.specs.declared.tasks.Command.{Command}
 use Rattle.command_replies.specs.Delivery.{Delivered}
-use Rattle.command_replies.specs.Replies.{AnswerCounts, IsAnswer, IsOfFiles}
+use Rattle.command_replies.specs.Replies.{AnswerCounts, IsAnswer}
 use Rattle.command_replies.specs.Statuses.{code_of}
 use Rattle.command_replies.specs.declared.replies.Answer.{Answer}
 use Rattle.command_replies.specs.declared.replies.Answer.TheVariants.{Replies, StoreFails, NoMemory}
-use Rattle.command_replies.specs.declared.statuses.Status.{Status}
-use Rattle.command_replies.specs.declared.statuses.Status.TheVariants as status
 use Rattle.ports.specs.Files.{Files}
 use Rattle.ports.specs.Sinks.{SinkView}
 use Rattle.commands.specs.Replies.{AnswerSays, MaySay, Shows}
@@ -17,19 +15,9 @@ delivered_weaker : (P Q : ℕ → List ℕ → Type 0) (old new : SinkView) (cod
 delivered_weaker P Q old new code more (inl line) = inl line
 delivered_weaker P Q old new code more (inr (own, (text, (may, delivers)))) = inr (own, (text, (more own text may, delivers)))
 
-own_code : (s : Status) → IsOfFiles s → (code_of s ≡ 0) ⊎ (5 ≤ code_of s)
-own_code status.Done h = inl refl
-own_code status.Usage h = absurd h
-own_code status.Store h = absurd h
-own_code status.Job h = inr (omega arith)
-own_code status.Object h = inr (omega arith)
-own_code status.Link h = inr (omega arith)
-own_code status.Image h = inr (omega arith)
-own_code status.Unclean h = inr (omega arith)
-
 answer_may : (files after : Option Files) (command : Command) (answer : Answer) (before now own : ℕ) (text : List ℕ) → AnswerCounts before now answer → IfSome files (λ fs. AnswerSays fs after command answer)
     → IsAnswer answer own text → MaySay files after command own text
-answer_may None after command (Replies reply) before now own text counts says is = inr (subst (λ (c : ℕ). (c ≡ 0) ⊎ (5 ≤ c)) (sym is.0) (own_code reply.status counts.1))
+answer_may None after command (Replies reply) before now own text counts says is = inr (subst (λ (c : ℕ). (c ≡ 0) ⊎ (5 ≤ c)) (sym is.0) counts.1)
 answer_may (Some fs) after command (Replies reply) before now own text counts says is = inr (rw (is.0, is.1) says)
 answer_may None after command StoreFails before now own text counts says is = inl is
 answer_may (Some fs) after command StoreFails before now own text counts says is = inl is

@@ -17,8 +17,8 @@ use crate::races::raced;
 use crate::telling::Telling;
 use crate::told::told;
 use command_line::{Command, Rewriting, Task};
-use command_replies::{Answer, CommandFault, InputRefusal, Reply, Status, reply_of, whole_file};
-use image_file::{Image, ImageFault, read_owned};
+use command_replies::{Answer, CommandFault, Reply, Status, image_refusal, whole_file};
+use image_file::{Image, read_owned};
 use image_text::push_shown;
 use ports::Store;
 use std::alloc::{AllocError, Global};
@@ -49,10 +49,7 @@ pub fn answer<R: Threads + Sync, S: Store>(
         }),
         Err(CommandFault::Store) => Answer::StoreFails,
         Err(CommandFault::OutOfMemory) => Answer::NoMemory,
-        Err(CommandFault::Refused(refusal)) => match reply_of(alloc, &refusal) {
-            Ok(reply) => Answer::Replies(reply),
-            Err(_) => Answer::NoMemory,
-        },
+        Err(CommandFault::Refused(reply)) => Answer::Replies(reply),
     }
 }
 
@@ -80,10 +77,7 @@ pub fn race_answer<R: Threads + Wait + Sync, S: Store>(
         }),
         Err(CommandFault::Store) => Answer::StoreFails,
         Err(CommandFault::OutOfMemory) => Answer::NoMemory,
-        Err(CommandFault::Refused(refusal)) => match reply_of(alloc, &refusal) {
-            Ok(reply) => Answer::Replies(reply),
-            Err(_) => Answer::NoMemory,
-        },
+        Err(CommandFault::Refused(reply)) => Answer::Replies(reply),
     }
 }
 
@@ -172,10 +166,7 @@ fn show_file(alloc: Global, bytes: Vec<u8>) -> Result<Vec<u8>, CommandFault>
 {
     match read_owned(bytes) {
         Ok(image) => Ok(listing_of(alloc, &image)?),
-        Err(ImageFault::OutOfMemory) => Err(CommandFault::OutOfMemory),
-        Err(ImageFault::At { offset, kind }) => {
-            Err(CommandFault::Refused(InputRefusal::Image { offset, kind }))
-        }
+        Err(fault) => Err(CommandFault::Refused(image_refusal(alloc, fault)?)),
     }
 }
 

@@ -25,8 +25,8 @@ race_ready-requires-clause-linked g c κs within =
       links_are = c.in-Ok.ensures.ready;
     }
 
-pub unlinked-requires : goal.unlinked-requires
-unlinked-requires g c =
+pub link_refusal-requires : goal.link_refusal-requires
+link_refusal-requires g c =
     let (bytes, are, small) = c.requires.given in
     names_image c.args.job.now c.args.images.now c.is_allowed.result (count_is bytes c.args.job.now c.args.images.now are) c.in-Err.refusal c.in-Err.ensures.refused
 
@@ -35,7 +35,7 @@ returns-in-Ok-clause-says g c =
     linked_say IsRace c.is_allowed.result (is_allowed c.args.rewriting) c.is_allowed.ensures c.args.job.now c.args.images.now c.in-Ok.ready.items c.in-Ok.ensures.links
     c.in-Ok.ensures.ready c.race_ready.result c.race_ready.ensures.says
 
-pub returns-clause-says : goal.returns-clause-says
-returns-clause-says g c =
-    unlinked_say IsRace c.is_allowed.result (is_allowed c.args.rewriting) c.is_allowed.ensures c.args.job.now c.args.images.now c.in-Err.refusal c.unlinked.result
-    c.in-Err.ensures.refused c.unlinked.ensures.says
+pub returns-in_ok-link_refusal-in-Err-clause-says : goal.returns-in_ok-link_refusal-in-Err-clause-says
+returns-in_ok-link_refusal-in-Err-clause-says g c =
+    unlinked_say IsRace c.is_allowed.result (is_allowed c.args.rewriting) c.is_allowed.ensures c.args.job.now c.args.images.now c.in-Err.refusal c.in_ok-link_refusal-in-Err.field-0
+    c.in-Err.ensures.refused c.in_ok-link_refusal-in-Err.ensures.code c.in_ok-link_refusal-in-Err.ensures.line
