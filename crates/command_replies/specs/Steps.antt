@@ -36,16 +36,12 @@ Asks names old new (Err (fault.Refused reply)) = new ≡ with_names names old
 
 -- ---- refusals
 
--- a refusal that says so, or want of memory
-abbrev pub IsRefusal : (ℕ → List ℕ → Type 0) → CommandFault → Type 0
-IsRefusal Says fault.Store = ⊥
-IsRefusal Says fault.OutOfMemory = Unit {0}
-IsRefusal Says (fault.Refused reply) = Says (code_of reply.status) reply.text.items
-
 -- why there is no job
 abbrev pub IsNoJob : Result JobParts JobFault → CommandFault → Type 0
 IsNoJob (Ok job) f = f ≡ fault.OutOfMemory
-IsNoJob (Err told) f = IsRefusal (JobFaultSays told) f
+IsNoJob (Err told) fault.Store = ⊥
+IsNoJob (Err told) fault.OutOfMemory = Unit {0}
+IsNoJob (Err told) (fault.Refused reply) = JobFaultSays told (code_of reply.status) reply.text.items
 
 -- the job has no image of the name
 abbrev pub IsNoImage : Option ℕ → JobFault → Type 0

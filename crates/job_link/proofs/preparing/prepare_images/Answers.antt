@@ -28,7 +28,7 @@ loop-number-preserved c =
     let same = beside images c.args.startup.now relax g c.requires.startup in
     record {
       ready =
-          c.in_ok-push-in-Ok.ensures.items
+          c.in-Ok-push.ensures.items
           ∙ ap (λ (all : List Linking). all ++ c.in-Ok.ready ∷ []) c.loop-number.invariant.ready
           ∙ ap (λ (last : Linking). map (link_in images relax) (take i images) ++ last ∷ [])
           (c.in-Ok.ensures.ready ∙ same)
