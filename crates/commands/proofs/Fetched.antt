@@ -1,14 +1,9 @@
 -- What is said over the files that were fetched, and of images that do not link.
 use Rattle.std.proofs.Common.{◌≡◌, ◌∙◌, ◌<◌, ◌≤◌, ℕ, Bool, length, Option, Some, None, IfSome, List, Result, Err, inl, inr, sym, ap, subst, arith}
-use Rattle.std.specs.Prelude.{slice_get}
 use Rattle.std.specs.List.{Contains}
 use Rattle.std.proofs.lemmas.List.{length-map}
 use Rattle.std.proofs.lemmas.Option.{slice_get_within}
 use Rattle.command_replies.specs.declared.fault.CommandFault.{CommandFault}
-use Rattle.command_replies.specs.declared.fault.CommandFault.TheVariants as fault
-use Rattle.command_replies.specs.declared.replies.Reply.{Reply}
-use Rattle.command_replies.specs.Says.{IsLinkLine}
-use Rattle.command_replies.specs.Statuses.{code_of}
 use Rattle.command_replies.specs.Steps.{Comes}
 use Rattle.job_link.specs.declared.preparing.ImageRefusal.{ImageRefusal}
 use Rattle.job_link.specs.declared.writable.WritableSections.{WritableSections}
@@ -55,11 +50,6 @@ names_image job images relax count r is = omega (arith, count, slice_get_within 
 module _ (E : Ending) (relax own : Bool) (same : relax ≡ own) (job : JobParts) (images : List Given) where
   in_own : (r : Result Text CommandFault) → Comes items (ImagesSay E relax job images) r → Comes items (ImagesSay E own job images) r
   in_own r = subst (λ (b : Bool). Comes items (ImagesSay E b job images) r) same
-
-  pub unlinked_say : (r : ImageRefusal) (reply : Reply) → IsFirstUnlinked images relax r.number r.fault → code_of reply.status ≡ 7
-      → IsLinkLine (slice_get job.images r.number) r.fault reply.text.items → Comes items (ImagesSay E own job images) (Err (fault.Refused reply))
-  unlinked_say r reply is seven line =
-      in_own (Err (fault.Refused reply)) (inr (record { number = r.number; fault = r.fault; first = is; says = (seven, line) }))
 
   pub linked_say : (ls : List Linking) → AllLink images relax → ls ≡ links_of images relax → (r : Result Text CommandFault)
       → Comes items (E job ls) r → Comes items (ImagesSay E own job images) r

@@ -37,14 +37,14 @@ module _ (image out name : List ℕ) (relax : Bool) (after : Option Files) where
         says = (refl, ap (λ (b : List ℕ). linked_text image (length b)) is.1);
       }
 
-  unput : (fs : Files) (f : CommandFault) (before now : ℕ) → StoreCounts before now (Err {T = Text} f) → Comes items (Made fs) (Err f) → Comes items (Put fs) (Err f)
+  unput : (fs : Files) (f : CommandFault) (before now : ℕ) → StoreCounts {T = Text} before now (Err f) → Comes items (Made fs) (Err f) → Comes items (Put fs) (Err f)
   unput fs fault.Store before now counts says = tt
   unput fs fault.OutOfMemory before now counts says = tt
   unput fs (fault.Refused reply) before now counts says =
       file_more (OfImage image (λ own number. IsFile)) (OfImage image (λ own number. IsPut fs after image out)) relax Kept _ _ _ _
       (λ P high own. own) (Some image) fs (λ job ls of. absurd (omega (arith, of.says.says.0, counts.1))) (file_at fs name) says
 
-  pub unput_says : (old : Option Files) (f : CommandFault) (before now : ℕ) → StoreCounts before now (Err {T = Text} f) → IfSome old (λ fs. Comes items (Made fs) (Err f))
+  pub unput_says : (old : Option Files) (f : CommandFault) (before now : ℕ) → StoreCounts {T = Text} before now (Err f) → IfSome old (λ fs. Comes items (Made fs) (Err f))
       → IfSome old (λ fs. Comes items (Put fs) (Err f))
   unput_says None f before now counts says = tt
   unput_says (Some fs) f before now counts says = unput fs f before now counts says

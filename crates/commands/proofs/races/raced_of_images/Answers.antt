@@ -1,7 +1,7 @@
 use Rattle.std.proofs.Common.{◌≤◌, length, subst, arith}
 use Rattle.command_line.specs.Rewritings.{is_allowed}
 use Rattle.commands.specs.Races.{IsRace}
-use Rattle.commands.proofs.Fetched.{count_is, linked_say, names_image, unlinked_say}
+use Rattle.commands.proofs.Fetched.{count_is, linked_say, names_image}
 use Rattle.commands.proofs.races.raced_of_images.Goals as goal
 
 pub prepare_images-requires-clause-few : goal.prepare_images-requires-clause-few
@@ -34,8 +34,3 @@ pub returns-in-Ok-clause-says : goal.returns-in-Ok-clause-says
 returns-in-Ok-clause-says g c =
     linked_say IsRace c.is_allowed.result (is_allowed c.args.rewriting) c.is_allowed.ensures c.args.job.now c.args.images.now c.in-Ok.ready.items c.in-Ok.ensures.links
     c.in-Ok.ensures.ready c.race_ready.result c.race_ready.ensures.says
-
-pub returns-in_ok-link_refusal-in-Err-clause-says : goal.returns-in_ok-link_refusal-in-Err-clause-says
-returns-in_ok-link_refusal-in-Err-clause-says g c =
-    unlinked_say IsRace c.is_allowed.result (is_allowed c.args.rewriting) c.is_allowed.ensures c.args.job.now c.args.images.now c.in-Err.refusal c.in_ok-link_refusal-in-Err.field-0
-    c.in-Err.ensures.refused c.in_ok-link_refusal-in-Err.ensures.code c.in_ok-link_refusal-in-Err.ensures.line
