@@ -7,7 +7,8 @@ ghost use Rattle.commands.specs.Completes.{Completes, DidNotFail};
 ghost use Rattle.commands.specs.Replies.{Asked, AskedWords, Shows, ShowsWords, WordsLeave};
 ghost use Rattle.commands.specs.Commands.{CommandLeaves};
 
-use crate::command::{answer, race_answer};
+use crate::command::output;
+use crate::races::raced;
 use command_line::{Command, Rewriting, Task, WordsFault, read_words};
 use command_replies::{Status, deliver, say, say_no_memory};
 use ports::{Sink, Store};
@@ -74,7 +75,7 @@ fn command_shown<R: Threads + Wait + Sync, S: Store, K: Sink>(
 }
 
 /// Runs a command that waits for no other thread.
-#[tactic(auto, using(crate::proofs::Kept::answer_kept))]
+#[tactic(auto, using(crate::proofs::Kept::output_kept))]
 pub fn tlsld_plain<R: Threads + Sync, S: Store, K: Sink>(
     rt: &R,
     alloc: Global,
@@ -96,12 +97,12 @@ pub fn tlsld_plain<R: Threads + Sync, S: Store, K: Sink>(
         → DidNotFail (K.view out.old).faults (K.view out.new).faults
         → Completes fs (Command.Plain task.now) result) }
 {
-    let answer = answer(rt, alloc, task, store);
-    deliver(out, &answer)
+    let output = output(rt, alloc, task, store);
+    deliver(out, &output)
 }
 
 /// Runs `race`, whose threads wait for one another.
-#[tactic(auto, using(crate::proofs::Kept::answer_kept))]
+#[tactic(auto, using(crate::proofs::Kept::output_kept))]
 fn race_shown<R: Threads + Wait + Sync, S: Store, K: Sink>(
     rt: &R,
     alloc: Global,
@@ -123,7 +124,7 @@ fn race_shown<R: Threads + Wait + Sync, S: Store, K: Sink>(
         → DidNotFail (K.view out.old).faults (K.view out.new).faults
         → Completes fs (Command.Race job.now rewriting) result) }
 {
-    let raced = race_answer(rt, alloc, job, rewriting, store);
+    let raced = raced(rt, alloc, store, job, rewriting);
     deliver(out, &raced)
 }
 
