@@ -1,16 +1,18 @@
 -- Why a command gives no output, and how that relates to the store.
-use Rattle.std.specs.Prelude.{◌≡◌, ℕ, Option, Result, Ok, Err}
+use Rattle.std.specs.Prelude.{◌≡◌, ◌≤◌, ℕ, Option, Result, Ok, Err}
 use Rattle.ports.specs.Counts.{Counted}
 use Rattle.ports.specs.Files.{Files}
 use Rattle.command_replies.specs.declared.fault.CommandFault.{CommandFault}
 use Rattle.command_replies.specs.declared.fault.CommandFault.TheVariants as fault
+use Rattle.command_replies.specs.Statuses.{code_of}
 
--- the store's count of faults rose if the command gave up because of the store, and only then
+-- the store's count of faults rose if the command gave up because of the store, and only then; a refusal has a status
+-- of its own
 abbrev pub StoreCounts : {T : Type 0} → ℕ → ℕ → Result T CommandFault → Type 0
 StoreCounts before now (Ok x) = now ≡ before
 StoreCounts before now (Err fault.Store) = Counted before now
 StoreCounts before now (Err fault.OutOfMemory) = now ≡ before
-StoreCounts before now (Err (fault.Refused r)) = now ≡ before
+StoreCounts before now (Err (fault.Refused reply)) = (now ≡ before) × (5 ≤ code_of reply.status)
 
 -- the files are as before if a command is refused or the store failed; if it succeeded, or ran out of memory for
 -- saying so, they may differ
@@ -18,13 +20,13 @@ abbrev pub KeepsFiles : {T : Type 0} → Option Files → Option Files → Resul
 KeepsFiles before after (Ok x) = Unit {0}
 KeepsFiles before after (Err fault.OutOfMemory) = Unit {0}
 KeepsFiles before after (Err fault.Store) = after ≡ before
-KeepsFiles before after (Err (fault.Refused refusal)) = after ≡ before
+KeepsFiles before after (Err (fault.Refused reply)) = after ≡ before
 
--- the command did not give up because of the store
+-- the command did not give up because of the store; a refusal has a status of its own
 abbrev pub IsNoStoreFault : CommandFault → Type 0
 IsNoStoreFault fault.Store = ⊥
 IsNoStoreFault fault.OutOfMemory = Unit {0}
-IsNoStoreFault (fault.Refused r) = Unit {0}
+IsNoStoreFault (fault.Refused reply) = 5 ≤ code_of reply.status
 
 abbrev pub NoStoreFault : {T : Type 0} → Result T CommandFault → Type 0
 NoStoreFault (Ok x) = Unit {0}
@@ -34,4 +36,4 @@ NoStoreFault (Err f) = IsNoStoreFault f
 abbrev pub IsFetchFault : CommandFault → Type 0
 IsFetchFault fault.Store = Unit {0}
 IsFetchFault fault.OutOfMemory = Unit {0}
-IsFetchFault (fault.Refused r) = ⊥
+IsFetchFault (fault.Refused reply) = ⊥

@@ -1,15 +1,22 @@
--- What a command says, a status and a text: the lines of refusals, and the refusal of a job with a fault.
+-- What a command says, a status and a text: the lines of refusals.
 use Rattle.std.specs.Prelude.{◌≡◌, ℕ, List, ◌++◌, codes, slice_get, unwrap_or, Option, Some, None}
 use Rattle.std.specs.Fmt.{decimal}
 use Rattle.image_rules.specs.declared.fault.FaultKind.{FaultKind as ImageFaultKind}
+use Rattle.image_rules.specs.declared.fault.ImageFault.{ImageFault}
+use Rattle.image_rules.specs.declared.fault.ImageFault.TheVariants as image
 use Rattle.image_rules.specs.FaultNames.{kind_name as image_kind_name}
 use Rattle.job_text.specs.declared.fault.JobFault.{JobFault}
-use Rattle.job_text.specs.declared.fault.JobFault.TheVariants.{OutOfMemory, At}
+use Rattle.job_text.specs.declared.fault.JobFault.TheVariants as job
 use Rattle.job_text.specs.declared.fault.JobFaultKind.{JobFaultKind}
+use Rattle.job_text.specs.declared.images.Image.{Image}
 use Rattle.job_text.specs.Kinds.{kind_text}
+use Rattle.link_faults.specs.declared.fault.LinkFault.{LinkFault}
+use Rattle.link_faults.specs.declared.fault.LinkFault.TheVariants as link
 use Rattle.link_faults.specs.declared.fault.LinkFaultKind.{LinkFaultKind}
 use Rattle.link_faults.specs.FaultNames.{kind_name as link_kind_name}
 use Rattle.object_rules.specs.declared.fault.FaultKind.{FaultKind as ObjectFaultKind}
+use Rattle.object_rules.specs.declared.fault.ObjectFault.{ObjectFault}
+use Rattle.object_rules.specs.declared.fault.ObjectFault.TheVariants as object
 use Rattle.object_rules.specs.FaultNames.{kind_name as object_kind_name}
 
 -- ---- the lines
@@ -50,7 +57,30 @@ HasFile (Some bytes) P = P bytes
 abbrev pub Is : ℕ → List ℕ → ℕ → List ℕ → Type 0
 Is own words status text = (status ≡ own) × (text ≡ words)
 
--- the refusal of a job with a fault: 5 and the first fault; out of memory is not a fault of the job
+-- ---- the line of a first fault; out of memory has none, since it is no refusal
+
+-- of a job
+abbrev pub IsJobLine : JobFault → List ℕ → Type 0
+IsJobLine job.OutOfMemory text = ⊥
+IsJobLine (job.At line kind) text = text ≡ job_fault_text line kind
+
+-- of an object, by its name in the job
+abbrev pub IsObjectLine : List ℕ → ObjectFault → List ℕ → Type 0
+IsObjectLine name object.OutOfMemory text = ⊥
+IsObjectLine name (object.At section entry kind) text = text ≡ fault_text name section entry kind
+
+-- of an image of the job that does not link
+abbrev pub IsLinkLine : Option Image → LinkFault → List ℕ → Type 0
+IsLinkLine None fault text = ⊥
+IsLinkLine (Some own) link.OutOfMemory text = ⊥
+IsLinkLine (Some own) (link.At kind object section entry) text =
+    text ≡ link_line own.name kind (shown_object own.objects object) section entry
+
+-- of the bytes of an image
+abbrev pub IsImageLine : ImageFault → List ℕ → Type 0
+IsImageLine image.OutOfMemory text = ⊥
+IsImageLine (image.At offset kind) text = text ≡ image_fault_text offset kind
+
+-- the refusal of a job with a fault
 abbrev pub JobFaultSays : JobFault → ℕ → List ℕ → Type 0
-JobFaultSays OutOfMemory status text = ⊥
-JobFaultSays (At line kind) status text = Is 5 (job_fault_text line kind) status text
+JobFaultSays fault status text = (status ≡ 5) × IsJobLine fault text

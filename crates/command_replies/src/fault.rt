@@ -1,9 +1,7 @@
 //! Why a command gives no output.
 ghost use Rattle.std.specs.Prelude.{◌≡◌};
 
-use job_text::JobFaultKind;
-use link_faults::LinkFaultKind;
-use object_rules::FaultKind;
+use crate::replies::Reply;
 use ports::{FetchFault, PutFault};
 use std::alloc::{AllocError, AllocFailed};
 
@@ -14,42 +12,8 @@ pub enum CommandFault {
     Store,
     /// Memory ran out.
     OutOfMemory,
-    /// The input is refused.
-    Refused(InputRefusal),
-}
-
-/// What is refused of the input, and why.
-#[derive(Drop)]
-pub enum InputRefusal {
-    /// The job, at a line counted from 1; 0 means the job as a whole.
-    Job {
-        line: u64,
-        kind: JobFaultKind,
-    },
-    /// The object of this name.
-    Object {
-        name: String,
-        section: u64,
-        entry: u64,
-        kind: FaultKind,
-    },
-    /// The image of this name does not link; the object is `-` if the fault is at none.
-    Link {
-        image: String,
-        kind: LinkFaultKind,
-        object: String,
-        section: u64,
-        entry: u64,
-    },
-    /// The image, at an offset in its file.
-    Image {
-        offset: u64,
-        kind: image_rules::FaultKind,
-    },
-    /// The job is unclean: the whole line says at which step, and why.
-    Unclean {
-        line: String,
-    },
+    /// The input is refused: a status, and the line that says what, and why.
+    Refused(Reply),
 }
 
 impl From<FetchFault> for CommandFault {

@@ -5,7 +5,8 @@ ghost use Rattle.job_text.specs.Jobs.{job_of as job_of_text};
 ghost use Rattle.command_replies.specs.Faults.{NoStoreFault};
 ghost use Rattle.command_replies.specs.Steps.{IsNoImage, IsNoJob};
 
-use crate::fault::{CommandFault, InputRefusal};
+use crate::fault::CommandFault;
+use crate::refusal::job_refusal;
 use job_text::{Job, JobFault, JobFaultKind, index_of};
 use std::alloc::Global;
 
@@ -17,24 +18,21 @@ pub fn job_of(alloc: Global, text: &[u8]) -> Result<Job, CommandFault>
 {
     match Job::read(alloc, text) {
         Ok(job) => Ok(job),
-        Err(JobFault::OutOfMemory) => Err(CommandFault::OutOfMemory),
-        Err(JobFault::At { line, kind }) => {
-            Err(CommandFault::Refused(InputRefusal::Job { line, kind }))
-        }
+        Err(fault) => Err(CommandFault::Refused(job_refusal(alloc, fault)?)),
     }
 }
 
 /// The place in image order, counted from 0, of the image with this name.
-pub fn image_place(job: &Job, name: &str) -> Result<usize, CommandFault>
+pub fn image_place(job: &Job, name: &str) -> Result<usize, JobFault>
     ensures place { IfOk result (λ place. image_number job.now.images name.now ≡ Some (place + 1)) }
     ensures within { IfOk result (λ place. place < length job.now.images) }
-    ensures refused { IfErr result (IsNoImage (image_number job.now.images name.now)) }
+    ensures missing { IfErr result (IsNoImage (image_number job.now.images name.now)) }
 {
     match job.number(name) {
         Some(number) => Ok(index_of(number)),
-        None => Err(CommandFault::Refused(InputRefusal::Job {
+        None => Err(JobFault::At {
             line: 0,
             kind: JobFaultKind::Name,
-        })),
+        }),
     }
 }

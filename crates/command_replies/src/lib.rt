@@ -20,9 +20,10 @@
 //! 9  unclean t1 l1 at 0000000000400013 undefined   the first unclean step of thread 1, in its line 1
 //! ```
 //!
-//! A step of a command returns a value or a [`CommandFault`], as [`whole_file`], [`job_of`] and [`image_place`] do. All
-//! steps together give an [`Answer`], which [`deliver`] writes; [`reply_of`] makes the reply of a refusal. `specs/` has
-//! the lines (`Says`), what a step may return (`Steps`, `Faults`) and what a status means (`Statuses`, `Delivery`).
+//! A step of a command returns a value or a [`CommandFault`], as [`whole_file`] and [`job_of`] do, and [`deliver`]
+//! writes what all steps together give. A fault of the input goes as its reader found it up to the [`Reply`] that says
+//! it ([`object_refusal`] and its like). `specs/` has the lines (`Says`), what a step may return (`Steps`, `Faults`)
+//! and what a status means (`Statuses`, `Delivery`).
 #![tactic(auto)]
 
 mod fault;
@@ -31,12 +32,10 @@ mod jobs;
 mod refusal;
 mod replies;
 mod statuses;
-mod unlinked;
 
-pub use fault::{CommandFault, InputRefusal};
+pub use fault::CommandFault;
 pub use fetched::whole_file;
 pub use jobs::{image_place, job_of};
-pub use refusal::reply_of;
-pub use replies::{Answer, Reply, deliver, say, say_no_memory};
+pub use refusal::{image_refusal, job_refusal, link_refusal, object_refusal};
+pub use replies::{Reply, deliver, say, say_no_memory};
 pub use statuses::Status;
-pub use unlinked::link_refusal;

@@ -1,62 +1,88 @@
-//! The line of a refusal.
-ghost use Rattle.std.specs.Prelude.{◌≡◌, IfOk};
-ghost use Rattle.command_replies.specs.Says.{fault_text, image_fault_text, job_fault_text, link_line};
-ghost use Rattle.command_replies.specs.Steps.{refusal_code, refusal_text};
-ghost use Rattle.command_replies.specs.Replies.{IsOfFiles};
+//! The refusals of faults: the status and the line of each. Want of memory is no refusal.
+ghost use Rattle.std.specs.Prelude.{◌≡◌, ◌<◌, IfOk, length, slice_get};
+ghost use Rattle.command_replies.specs.Says.{IsImageLine, IsJobLine, IsLinkLine, IsObjectLine};
+ghost use Rattle.command_replies.specs.Says.{fault_text, image_fault_text, job_fault_text, link_line, shown_object};
 ghost use Rattle.command_replies.specs.Statuses.{code_of};
 
-use crate::fault::InputRefusal;
 use crate::replies::Reply;
 use crate::statuses::Status;
-use job_text::JobFaultKind;
-use link_faults::LinkFaultKind;
-use object_rules::FaultKind;
+use image_rules::ImageFault;
+use job_text::{Job, JobFault, JobFaultKind, Name};
+use link_faults::{LinkFault, LinkFaultKind};
+use object_rules::{FaultKind, ObjectFault};
 use std::alloc::{AllocError, Global};
 
-/// The reply of a refusal.
-pub fn reply_of(alloc: Global, refusal: &InputRefusal) -> Result<Reply, AllocError>
-    ensures status { IfOk result (λ reply. IsOfFiles reply.status) }
-    ensures code { IfOk result (λ reply. code_of reply.status ≡ refusal_code refusal.now) }
-    ensures text { IfOk result (λ reply. reply.text.items ≡ refusal_text refusal.now) }
+/// The refusal of a job.
+pub fn job_refusal(alloc: Global, fault: JobFault) -> Result<Reply, AllocError>
+    ensures code { IfOk result (λ reply. code_of reply.status ≡ 5) }
+    ensures line { IfOk result (λ reply. IsJobLine fault reply.text.items) }
 {
-    match refusal {
-        InputRefusal::Job { line, kind } => Ok(Reply {
+    match fault {
+        JobFault::OutOfMemory => Err(AllocError),
+        JobFault::At { line, kind } => Ok(Reply {
             status: Status::Job,
-            text: job_line(alloc, *line, *kind)?,
+            text: job_line(alloc, line, kind)?,
         }),
-        InputRefusal::Object {
-            name,
+    }
+}
+
+/// The refusal of the object of this name.
+pub fn object_refusal(alloc: Global, name: &str, fault: ObjectFault) -> Result<Reply, AllocError>
+    ensures code { IfOk result (λ reply. code_of reply.status ≡ 6) }
+    ensures line { IfOk result (λ reply. IsObjectLine name.now fault reply.text.items) }
+{
+    match fault {
+        ObjectFault::OutOfMemory => Err(AllocError),
+        ObjectFault::At {
             section,
             entry,
             kind,
         } => Ok(Reply {
             status: Status::Object,
-            text: object_line(alloc, name.as_str(), *section, *entry, *kind)?,
+            text: object_line(alloc, name, section, entry, kind)?,
         }),
-        InputRefusal::Link {
-            image,
+    }
+}
+
+/// The refusal of the image of this number, counted from 0, which does not link.
+pub fn link_refusal(
+    alloc: Global,
+    job: &Job,
+    number: usize,
+    fault: LinkFault,
+) -> Result<Reply, AllocError>
+    requires { number < length job.now.images }
+    ensures code { IfOk result (λ reply. code_of reply.status ≡ 7) }
+    ensures line { IfOk result (λ reply. IsLinkLine (slice_get job.now.images number) fault reply.text.items) }
+{
+    match fault {
+        LinkFault::OutOfMemory => Err(AllocError),
+        LinkFault::At {
             kind,
             object,
             section,
             entry,
-        } => Ok(Reply {
-            status: Status::Link,
-            text: link_line(
-                alloc,
-                image.as_str(),
-                *kind,
-                object.as_str(),
-                *section,
-                *entry,
-            )?,
-        }),
-        InputRefusal::Image { offset, kind } => Ok(Reply {
+        } => {
+            let image = &job.images()[number];
+            let object = shown_object(image.objects.as_slice(), object);
+            Ok(Reply {
+                status: Status::Link,
+                text: link_line(alloc, image.name.as_str(), kind, object, section, entry)?,
+            })
+        }
+    }
+}
+
+/// The refusal of the bytes of an image.
+pub fn image_refusal(alloc: Global, fault: ImageFault) -> Result<Reply, AllocError>
+    ensures code { IfOk result (λ reply. code_of reply.status ≡ 8) }
+    ensures line { IfOk result (λ reply. IsImageLine fault reply.text.items) }
+{
+    match fault {
+        ImageFault::OutOfMemory => Err(AllocError),
+        ImageFault::At { offset, kind } => Ok(Reply {
             status: Status::Image,
-            text: image_line(alloc, *offset, *kind)?,
-        }),
-        InputRefusal::Unclean { line } => Ok(Reply {
-            status: Status::Unclean,
-            text: Vec::from_slice(alloc, line.as_bytes())?,
+            text: image_line(alloc, offset, kind)?,
         }),
     }
 }
@@ -65,6 +91,18 @@ fn job_line(alloc: Global, line: u64, kind: JobFaultKind) -> Result<Vec<u8>, All
     ensures { IfOk result (λ text. text.items ≡ job_fault_text line kind) }
 {
     Ok(format!(in alloc; "job {line} {kind}\n")?.into_bytes())
+}
+
+fn object_line(
+    alloc: Global,
+    name: &str,
+    section: u64,
+    entry: u64,
+    kind: FaultKind,
+) -> Result<Vec<u8>, AllocError>
+    ensures { IfOk result (λ text. text.items ≡ fault_text name.now section entry kind) }
+{
+    Ok(format!(in alloc; "object {name} section {section} entry {entry} {kind}\n")?.into_bytes())
 }
 
 fn link_line(
@@ -83,18 +121,6 @@ fn link_line(
     Ok(text)
 }
 
-fn object_line(
-    alloc: Global,
-    name: &str,
-    section: u64,
-    entry: u64,
-    kind: FaultKind,
-) -> Result<Vec<u8>, AllocError>
-    ensures { IfOk result (λ text. text.items ≡ fault_text name.now section entry kind) }
-{
-    Ok(format!(in alloc; "object {name} section {section} entry {entry} {kind}\n")?.into_bytes())
-}
-
 fn image_line(
     alloc: Global,
     offset: u64,
@@ -103,4 +129,17 @@ fn image_line(
     ensures { IfOk result (λ text. text.items ≡ image_fault_text offset kind) }
 {
     Ok(format!(in alloc; "image {offset} {kind}\n")?.into_bytes())
+}
+
+/// The name of the object at fault; `-` if the fault is at none.
+fn shown_object(names: &[Name], object: Option<u64>) -> &str
+    ensures { result.now ≡ shown_object names.now object }
+{
+    match object {
+        None => "-",
+        Some(number) => match names.get(number as usize) {
+            Some(name) => name.as_str(),
+            None => "-",
+        },
+    }
 }

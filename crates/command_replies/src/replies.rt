@@ -1,8 +1,9 @@
-//! What a command answers, and how it reaches the sink.
+//! How what a command gives reaches the sink.
 ghost use Rattle.command_replies.specs.Delivery.{Says, Delivers, Delivered, memory_line};
 ghost use Rattle.command_replies.specs.Statuses.{IsLate, SinkShown, code_of};
-ghost use Rattle.command_replies.specs.Replies.{IsDelivered, IsAnswer};
+ghost use Rattle.command_replies.specs.Replies.{IsDelivered, IsOwn};
 
+use crate::fault::CommandFault;
 use crate::statuses::Status;
 use ports::{PutFault, Sink};
 
@@ -12,21 +13,11 @@ const OUT_OF_MEMORY: &[u8] = b"out of memory\n";
 /// The line of a command whose store failed.
 const STORE_FAULT: &[u8] = b"store fault\n";
 
-/// The output of a command, or a refusal: a status for the system, and a text for the sink.
+/// A refusal: a status for the system, and a text for the sink.
 #[derive(Drop)]
 pub struct Reply {
     pub status: Status,
     pub text: Vec<u8>,
-}
-
-/// The end of a command.
-#[derive(Drop)]
-pub enum Answer {
-    Replies(Reply),
-    /// The store failed.
-    StoreFails,
-    /// Memory ran out.
-    NoMemory,
 }
 
 /// Writes the text, and returns the status to end with: its own; 4 if the sink failed; if the sink ran out of
@@ -54,15 +45,16 @@ pub fn say_no_memory<K: Sink>(out: &mut K) -> u8
     }
 }
 
-/// Writes the answer's text, and returns the status to end with.
-pub fn deliver<K: Sink>(out: &mut K, answer: &Answer) -> u8
-    ensures delivered { Delivered (IsAnswer answer.now) (K.view out.old) (K.view out.new) result }
+/// Writes the command's output, or the line that says why there is none, and returns the status to end with.
+pub fn deliver<K: Sink>(out: &mut K, output: &Result<Vec<u8>, CommandFault>) -> u8
+    ensures delivered { Delivered (IsOwn (λ text. text.items) output.now) (K.view out.old) (K.view out.new) result }
     ensures sink { SinkShown (K.view out.old).faults (K.view out.new).faults result }
-    ensures own { IsDelivered answer.now result }
+    ensures own { IsDelivered output.now result }
 {
-    match answer {
-        Answer::Replies(reply) => say(out, reply.status, reply.text.as_slice()),
-        Answer::StoreFails => say(out, Status::Store, STORE_FAULT),
-        Answer::NoMemory => say_no_memory(out),
+    match output {
+        Ok(text) => say(out, Status::Done, text.as_slice()),
+        Err(CommandFault::Store) => say(out, Status::Store, STORE_FAULT),
+        Err(CommandFault::OutOfMemory) => say_no_memory(out),
+        Err(CommandFault::Refused(reply)) => say(out, reply.status, reply.text.as_slice()),
     }
 }

@@ -1,11 +1,9 @@
 -- Names asked for, one after another.
 use Rattle.std.proofs.Common.{◌≡◌, ◌∙◌, ℕ, suc, List, [], ◌∷◌, length, take, Option, Some, None, IfSome, Result, Ok, Err, ◌⊎◌, inl, inr, ◌≤◌, refl, sym, ap, subst, append_assoc, arith}
 use Rattle.command_line.specs.declared.tasks.Command.{Command}
-use Rattle.command_replies.specs.declared.replies.Answer.{Answer}
-use Rattle.command_replies.specs.declared.replies.Answer.TheVariants.{Replies, StoreFails, NoMemory}
 use Rattle.command_replies.specs.Replies.{IsDelivered}
 use Rattle.command_replies.specs.Statuses.{IsLate}
-use Rattle.commands.specs.Replies.{Asked, AsksOfAnswer}
+use Rattle.commands.specs.Replies.{Asked}
 use Rattle.commands.specs.Commands.{command_names}
 use Rattle.std.proofs.Math.Seq.{take-length}
 use Rattle.command_replies.specs.Steps.{Asks, AsksFront, with_names}
@@ -65,12 +63,13 @@ answered code (inr (inl one)) (inr five) = omega arith
 answered code (inr (inr four)) (inl zero) = omega arith
 answered code (inr (inr four)) (inr five) = omega arith
 
-pub asked_of : (fs : Files) (asked : Command) (answer : Answer) (old new : Option Names) (code : ℕ) → AsksOfAnswer fs asked old new answer → IsDelivered answer code → Asked fs asked old new code
-asked_of fs asked (Replies reply) old new code e delivered = record { front = asks_all (command_names fs asked) old new e; all = λ own. e }
-asked_of fs asked StoreFails old new code front delivered = record { front = front; all = λ own. absurd (answered code delivered own) }
-asked_of fs asked NoMemory old new code front delivered = record { front = front; all = λ own. absurd (answered code (inr delivered) own) }
+pub asked_of : {T : Type 0} (fs : Files) (asked : Command) (r : Result T CommandFault) (old new : Option Names) (code : ℕ) → Asks (command_names fs asked) old new r → IsDelivered r code → Asked fs asked old new code
+asked_of fs asked (Ok x) old new code e delivered = record { front = asks_all (command_names fs asked) old new e; all = λ own. e }
+asked_of fs asked (Err fault.Store) old new code front delivered = record { front = front; all = λ own. absurd (answered code delivered own) }
+asked_of fs asked (Err fault.OutOfMemory) old new code front delivered = record { front = front; all = λ own. absurd (answered code (inr delivered) own) }
+asked_of fs asked (Err (fault.Refused reply)) old new code e delivered = record { front = asks_all (command_names fs asked) old new e; all = λ own. e }
 
-pub asked_by : (files : Option Files) (asked : Command) (answer : Answer) (old new : Option Names) (code : ℕ) → IfSome files (λ fs. AsksOfAnswer fs asked old new answer) → IsDelivered answer code
+pub asked_by : {T : Type 0} (files : Option Files) (asked : Command) (r : Result T CommandFault) (old new : Option Names) (code : ℕ) → IfSome files (λ fs. Asks (command_names fs asked) old new r) → IsDelivered r code
     → IfSome files (λ fs. Asked fs asked old new code)
-asked_by None asked answer old new code asks delivered = tt
-asked_by (Some fs) asked answer old new code asks delivered = asked_of fs asked answer old new code asks delivered
+asked_by None asked r old new code asks delivered = tt
+asked_by (Some fs) asked r old new code asks delivered = asked_of fs asked r old new code asks delivered

@@ -1,5 +1,5 @@
 -- A command that is given nothing wrong completes.
-use Rattle.std.proofs.Common.{◌≡◌, ◌+◌, ◌<◌, ℕ, suc, Bool, true, false, cond, not, List, [], ◌∷◌, length, map, Option, Some, None, IfSome, Result, Ok, ◌⊎◌, inl, inr, ⊎_elim, refl, sym, ap, subst, arith}
+use Rattle.std.proofs.Common.{◌≡◌, ◌+◌, ◌<◌, ℕ, suc, Bool, true, false, cond, not, List, [], ◌∷◌, length, map, Option, Some, None, IfSome, Result, Ok, Err, ◌⊎◌, inl, inr, ⊎_elim, refl, sym, ap, subst, arith}
 use Rattle.std.specs.Prelude.{is_some, unwrap_or}
 use Rattle.std.specs.List.{Contains, position_or_len}
 use Rattle.std.specs.Option.{option_map}
@@ -12,14 +12,18 @@ use Rattle.command_line.specs.declared.tasks.Task.{Task}
 use Rattle.command_line.specs.declared.tasks.Task.TheVariants.{Run, Check, Link, Sites, Show, Gen}
 use Rattle.command_line.specs.Rewritings.{is_allowed}
 use Rattle.command_line.specs.Words.{asked, takes_words}
-use Rattle.command_replies.specs.declared.replies.Answer.{Answer}
-use Rattle.command_replies.specs.declared.replies.Answer.TheVariants.{Replies, StoreFails, NoMemory}
+use Rattle.command_replies.specs.declared.fault.CommandFault.{CommandFault}
+use Rattle.command_replies.specs.declared.fault.CommandFault.TheVariants as fault
 use Rattle.command_replies.specs.Delivery.{Delivered, Delivers, Says, memory_line}
-use Rattle.command_replies.specs.Replies.{AnswerCounts, IsAnswer}
+use Rattle.command_replies.specs.Replies.{IsOwn}
+use Rattle.command_replies.specs.Faults.{StoreCounts}
 use Rattle.command_replies.specs.Says.{HasFile}
+use Rattle.command_replies.specs.Steps.{Comes}
 use Rattle.command_replies.specs.Statuses.{IsLate, SinkShown, code_of}
 use Rattle.generated_laws.specs.Sound.{IsFaultless}
-use Rattle.image_faults.specs.Faults.{IsImage}
+use Rattle.image_faults.specs.Faults.{IsImage, IsFault}
+use Rattle.image_rules.specs.declared.fault.ImageFault.{ImageFault}
+use Rattle.image_rules.specs.declared.fault.ImageFault.TheVariants as image_fault
 use Rattle.job_link.specs.declared.writable.WritableSections.{WritableSections}
 use Rattle.job_link.specs.declared.writable.WritableSections.TheVariants.{Kept, Refused}
 use Rattle.job_link.specs.Given.{Allows, Given, AreGiven, IsSound}
@@ -38,7 +42,6 @@ use Rattle.commands.specs.Completes.{Completes, DidNotFail, IsDone, IsDoneTask, 
 use Rattle.commands.specs.Jobs.{Ending, FileSays, JobSays, NamedSays, ObjectsSay, has, objects_of}
 use Rattle.commands.specs.Links.{AreLines, IsPut, OfImage}
 use Rattle.commands.specs.Listings.{ListingSays}
-use Rattle.commands.specs.Replies.{AnswerSays}
 use Rattle.commands.specs.RunJobs.{IsRun}
 use Rattle.commands.specs.Tasks.{TaskSays}
 use Rattle.commands.specs.Commands.{CommandSays}
@@ -48,6 +51,7 @@ use Rattle.commands.proofs.Membership.{In, in_contains, of_all}
 use Rattle.commands.proofs.Mentioned.{in_once}
 use Rattle.commands.proofs.NoFault.{DoesLink, never_refused}
 use Rattle.commands.proofs.SameGiven.{same_images}
+use Rattle.commands.proofs.Saying.{Text, items}
 use Rattle.commands.proofs.Words.{not_asked}
 
 -- ** a good job is not refused
@@ -119,10 +123,14 @@ has_declared job name declared = let (k, e) = numbered job.images name declared 
 
 -- ** what an image says
 
+no_fault : (b : List ℕ) (fault : ImageFault) → IsImage b → IsFault b fault → ⊥
+no_fault b image_fault.OutOfMemory is never = never
+no_fault b (image_fault.At offset kind) is none = is none.rule none.entry none.first.here
+
 shown_done : (o : Option (List ℕ)) (status : ℕ) (text : List ℕ) → HasFile o IsImage → HasFile o (λ b. ListingSays b status text) → status ≡ 0
 shown_done None status text is says = absurd is
 shown_done (Some b) status text is (inl listed) = listed.status_is
-shown_done (Some b) status text is (inr none) = absurd (is none.first.rule none.first.entry none.first.first.here)
+shown_done (Some b) status text is (inr none) = absurd (no_fault b none.fault is none.first)
 
 -- ** the law: what a command says of what it is given, where nothing is wrong with it
 
@@ -189,22 +197,23 @@ own_done : (command : Command) (own code : ℕ) → IsDone command own → (code
 own_done command own code done (inl is) = inl (subst (IsDone command) (sym is) done)
 own_done command own code done (inr is) = inr is
 
-answer_done : (fs : Files) (after : Option Files) (command : Command) (answer : Answer) (before now own : ℕ) (text : List ℕ) → IsGood fs command → AnswerCounts before now answer
-    → AnswerSays fs after command answer → DidNotFail before now → IsAnswer answer own text → IsDone command own
-answer_done fs after command (Replies reply) before now own text good counts says fine is =
+output_done : (fs : Files) (after : Option Files) (command : Command) (r : Result Text CommandFault) (before now own : ℕ) (text : List ℕ) → IsGood fs command → StoreCounts before now r
+    → Comes items (CommandSays fs after command) r → DidNotFail before now → IsOwn items r own text → IsDone command own
+output_done fs after command (Ok x) before now own text good counts says fine is = subst (IsDone command) (sym is.0) (command_done fs after command 0 x.items good says)
+output_done fs after command (Err fault.Store) before now own text good counts says fine is = absurd (fine counts.1)
+output_done fs after command (Err fault.OutOfMemory) before now own text good counts says fine is = absurd is
+output_done fs after command (Err (fault.Refused reply)) before now own text good counts says fine is =
     subst (IsDone command) (sym is.0) (command_done fs after command (code_of reply.status) reply.text.items good says)
-answer_done fs after command StoreFails before now own text good counts says fine is = absurd (fine counts.1)
-answer_done fs after command NoMemory before now own text good counts says fine is = absurd is
 
--- an answer that is delivered
-pub answer_completes : (files after : Option Files) (command : Command) (answer : Answer) (before now : ℕ) (old new : SinkView) (code : ℕ) → AnswerCounts before now answer
-    → IfSome files (λ fs. AnswerSays fs after command answer) → Delivered (IsAnswer answer) old new code
+-- an output that is delivered
+pub output_completes : (files after : Option Files) (command : Command) (r : Result Text CommandFault) (before now : ℕ) (old new : SinkView) (code : ℕ) → StoreCounts before now r
+    → IfSome files (λ fs. Comes items (CommandSays fs after command) r) → Delivered (IsOwn items r) old new code
     → IfSome files (λ fs. DidNotFail before now → DidNotFail old.faults new.faults → Completes fs command code)
-answer_completes None after command answer before now old new code counts says is = tt
-answer_completes (Some fs) after command answer before now old new code counts says (inl line) =
+output_completes None after command r before now old new code counts says is = tt
+output_completes (Some fs) after command r before now old new code counts says (inl line) =
     λ store sink good. ⊎_elim (λ one. inr one) (λ one. inr one) (of_sink memory_line 1 old new code sink line)
-answer_completes (Some fs) after command answer before now old new code counts says (inr (own, (text, (may, put)))) =
-    λ store sink good. own_done command own code (answer_done fs after command answer before now own text good counts says store may) (delivered text own old new code sink put)
+output_completes (Some fs) after command r before now old new code counts says (inr (own, (text, (may, put)))) =
+    λ store sink good. own_done command own code (output_done fs after command r before now own text good counts says store may) (delivered text own old new code sink put)
 
 -- ** words
 

@@ -1,24 +1,20 @@
 -- What is said over the files that were fetched, and of images that do not link.
-use Rattle.std.proofs.Common.{◌≡◌, ◌∙◌, ◌≤◌, ℕ, Bool, length, Option, Some, None, IfSome, List, Result, Err, inl, inr, sym, ap, subst, arith}
+use Rattle.std.proofs.Common.{◌≡◌, ◌∙◌, ◌<◌, ◌≤◌, ℕ, Bool, length, Option, Some, None, IfSome, List, Result, Err, inl, inr, sym, ap, subst, arith}
 use Rattle.std.specs.List.{Contains}
 use Rattle.std.proofs.lemmas.List.{length-map}
 use Rattle.std.proofs.lemmas.Option.{slice_get_within}
 use Rattle.command_replies.specs.declared.fault.CommandFault.{CommandFault}
-use Rattle.command_replies.specs.declared.fault.CommandFault.TheVariants as fault
 use Rattle.command_replies.specs.Steps.{Comes}
 use Rattle.job_link.specs.declared.preparing.ImageRefusal.{ImageRefusal}
-use Rattle.job_link.specs.declared.preparing.ImageRefusal.TheVariants as refusal
 use Rattle.job_link.specs.declared.writable.WritableSections.{WritableSections}
 use Rattle.job_link.specs.Given.{Given, AreGiven}
-use Rattle.job_link.specs.Linked.{AllLink}
+use Rattle.job_link.specs.Linked.{AllLink, IsFirstUnlinked}
 use Rattle.job_link.specs.Mentions.{AreFilesOf, Fetched, bytes_at, bytes_in, object_names}
-use Rattle.job_link.specs.Refusals.{IsImageRefusal}
 use Rattle.job_text.specs.declared.images.Image.{Image}
 use Rattle.job_text.specs.Jobs.{JobParts}
 use Rattle.link_needs.specs.Linking.{Linking}
 use Rattle.ports.specs.Files.{Files}
 use Rattle.commands.specs.Jobs.{BytesSay, Ending, ImagesSay, ObjectsSay, links_of}
-use Rattle.commands.specs.Refusals.{IsImageRefusalOf, NamesImage}
 use Rattle.commands.proofs.Mentioned.{given_at, unread_at}
 use Rattle.commands.proofs.Saying.{Text, comes_by, items}
 
@@ -46,29 +42,14 @@ pub count_is : (bytes : List ℕ → List ℕ) (job : JobParts) (images : List G
 count_is bytes job images are =
     sym (length-map images (λ (g : Given). g.kind)) ∙ ap length are.kinds ∙ length-map job.images (λ (image : Image). image.kind)
 
-pub names_image : (job : JobParts) (images : List Given) (relax : Bool) → length images ≡ length job.images → (r : ImageRefusal) → IsImageRefusal images relax r → NamesImage job r
-names_image job images relax count refusal.OutOfMemory is = tt
-names_image job images relax count (refusal.At number kind object section entry) is =
-    omega (arith, count, slice_get_within images number is.image is.there)
+pub names_image : (job : JobParts) (images : List Given) (relax : Bool) → length images ≡ length job.images → (r : ImageRefusal) → IsFirstUnlinked images relax r.number r.fault
+    → r.number < length job.images
+names_image job images relax count r is = omega (arith, count, slice_get_within images r.number is.image is.there)
 
 -- own: the setting, as the command has it
 module _ (E : Ending) (relax own : Bool) (same : relax ≡ own) (job : JobParts) (images : List Given) where
   in_own : (r : Result Text CommandFault) → Comes items (ImagesSay E relax job images) r → Comes items (ImagesSay E own job images) r
   in_own r = subst (λ (b : Bool). Comes items (ImagesSay E b job images) r) same
-
-  pub unlinked_say : (r : ImageRefusal) (f : CommandFault) → IsImageRefusal images relax r → IsImageRefusalOf job r f → Comes items (ImagesSay E own job images) (Err f)
-  unlinked_say refusal.OutOfMemory f is of = subst (λ v. Comes items (ImagesSay E own job images) (Err v)) (sym of) tt
-  unlinked_say (refusal.At number kind object section entry) fault.Store is of = tt
-  unlinked_say (refusal.At number kind object section entry) fault.OutOfMemory is of = tt
-  unlinked_say (refusal.At number kind object section entry) (fault.Refused told) is of = in_own (Err (fault.Refused told)) (inr (record {
-    number = number;
-    kind = kind;
-    object = object;
-    section = section;
-    entry = entry;
-    first = is;
-    says = of;
-  }))
 
   pub linked_say : (ls : List Linking) → AllLink images relax → ls ≡ links_of images relax → (r : Result Text CommandFault)
       → Comes items (E job ls) r → Comes items (ImagesSay E own job images) r

@@ -11,7 +11,6 @@ use Rattle.job_link.specs.Mentions.{AreFilesOf, Fetched, bytes_at, bytes_in, men
 use Rattle.dynamic_symbols.specs.Names.{distinct}
 use Rattle.job_text.specs.declared.images.Image.{Image}
 use Rattle.job_text.specs.Jobs.{JobParts}
-use Rattle.object_rules.specs.declared.fault.ObjectFault.TheVariants.{At}
 use Rattle.ports.specs.Files.{Files}
 use Rattle.commands.specs.Jobs.{IsUnread}
 use Rattle.commands.proofs.Membership.{In, in_at, at_in, in_contains, in_filter, in_filter_map, in_flat, map_same}
@@ -76,13 +75,11 @@ module _ (fs : Files) (job : JobParts) (files : Fetched) (are : AreFilesOf fs (o
   pub unread_at : (w : WritableSections) (status : ℕ) (text : List ℕ) → IsUnread w (bytes_in files) job status text → IsUnread w (bytes_at fs) job status text
   unread_at w status text un = record {
     name = un.name;
-    section = un.section;
-    entry = un.entry;
-    kind = un.kind;
+    fault = un.fault;
     first = record {
       at = un.first.at;
       there = un.first.there;
-      here = subst (λ b. IsFileFault w b (At un.section un.entry un.kind)) (of_mention un.name (in_at (mentions_of job) un.first.at un.name un.first.there)) un.first.here;
+      here = subst (λ b. IsFileFault w b un.fault) (of_mention un.name (in_at (mentions_of job) un.first.at un.name un.first.there)) un.first.here;
       before = λ k other h g. subst (IsTaken w) (of_mention other (in_at (mentions_of job) k other g)) (un.first.before k other h g);
     };
     says = un.says;

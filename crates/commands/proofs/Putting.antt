@@ -1,25 +1,16 @@
 -- A file that is put, and what is said of it.
-use Rattle.std.proofs.Common.{◌≡◌, ◌∙◌, ◌≤◌, ℕ, Bool, List, length, Option, Some, None, IfSome, IfOk, Result, Ok, Err, ◌⊎◌, inl, inr, refl, ap, arith, lit≤}
+use Rattle.std.proofs.Common.{◌≡◌, ◌∙◌, ◌≤◌, ℕ, Bool, List, length, Option, Some, None, IfSome, IfOk, Result, Ok, Err, ◌⊎◌, inl, inr, refl, ap, arith}
 use Rattle.std.specs.Prelude.{IfErr, OnOk}
 use Rattle.command_replies.specs.declared.fault.CommandFault.{CommandFault}
 use Rattle.command_replies.specs.declared.fault.CommandFault.TheVariants as fault
-use Rattle.command_replies.specs.declared.fault.InputRefusal.{InputRefusal}
-use Rattle.command_replies.specs.declared.fault.InputRefusal.TheVariants.{Job, Object, Link, Image, Unclean}
-use Rattle.command_replies.specs.Faults.{IsFetchFault}
-use Rattle.command_replies.specs.Steps.{Comes, refusal_code}
+use Rattle.command_replies.specs.Faults.{IsFetchFault, StoreCounts}
+use Rattle.command_replies.specs.Steps.{Comes}
 use Rattle.job_link.specs.declared.writable.WritableSections.TheVariants.{Kept}
 use Rattle.link_needs.specs.Linking.{Linking}
 use Rattle.ports.specs.Files.{Files, file_at, with_file}
 use Rattle.commands.specs.Jobs.{FileSays}
 use Rattle.commands.specs.Links.{IsFile, IsPut, Leaves, OfImage, linked_text}
 use Rattle.commands.proofs.Saying.{Said, Text, file_more, items}
-
-some_code : (refusal : InputRefusal) → 5 ≤ refusal_code refusal
-some_code (Job line kind) = lit≤ tt
-some_code (Object name section entry kind) = lit≤ tt
-some_code (Link image kind object section entry) = lit≤ tt
-some_code (Image offset kind) = lit≤ tt
-some_code (Unclean line) = lit≤ tt
 
 module _ (image out name : List ℕ) (relax : Bool) (after : Option Files) where
   -- what the image's file is, and what is said where it is put
@@ -46,16 +37,17 @@ module _ (image out name : List ℕ) (relax : Bool) (after : Option Files) where
         says = (refl, ap (λ (b : List ℕ). linked_text image (length b)) is.1);
       }
 
-  unput : (fs : Files) (f : CommandFault) → Comes items (Made fs) (Err f) → Comes items (Put fs) (Err f)
-  unput fs fault.Store says = tt
-  unput fs fault.OutOfMemory says = tt
-  unput fs (fault.Refused refusal) says =
+  unput : (fs : Files) (f : CommandFault) (before now : ℕ) → StoreCounts {T = Text} before now (Err f) → Comes items (Made fs) (Err f) → Comes items (Put fs) (Err f)
+  unput fs fault.Store before now counts says = tt
+  unput fs fault.OutOfMemory before now counts says = tt
+  unput fs (fault.Refused reply) before now counts says =
       file_more (OfImage image (λ own number. IsFile)) (OfImage image (λ own number. IsPut fs after image out)) relax Kept _ _ _ _
-      (λ P high own. own) (Some image) fs (λ job ls of. absurd (omega (arith, of.says.says.0, some_code refusal))) (file_at fs name) says
+      (λ P high own. own) (Some image) fs (λ job ls of. absurd (omega (arith, of.says.says.0, counts.1))) (file_at fs name) says
 
-  pub unput_says : (old : Option Files) (f : CommandFault) → IfSome old (λ fs. Comes items (Made fs) (Err f)) → IfSome old (λ fs. Comes items (Put fs) (Err f))
-  unput_says None f says = tt
-  unput_says (Some fs) f says = unput fs f says
+  pub unput_says : (old : Option Files) (f : CommandFault) (before now : ℕ) → StoreCounts {T = Text} before now (Err f) → IfSome old (λ fs. Comes items (Made fs) (Err f))
+      → IfSome old (λ fs. Comes items (Put fs) (Err f))
+  unput_says None f before now counts says = tt
+  unput_says (Some fs) f before now counts says = unput fs f before now counts says
 
   module _ (old mid : Option Files) (same : mid ≡ old) (file : List ℕ) (made : IfSome old (λ fs. Made fs 0 file)) where
     pub put_says : (r : Result Text CommandFault) → IfOk r (λ text. text.items ≡ linked_text image (length file)) → OnOk r (after ≡ with_file out file mid) → IfErr r IsFetchFault

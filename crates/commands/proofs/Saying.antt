@@ -7,12 +7,10 @@ use Rattle.command_replies.specs.Steps.{Comes}
 use Rattle.job_link.specs.declared.writable.WritableSections.{WritableSections}
 use Rattle.job_link.specs.Given.{Given}
 use Rattle.job_text.specs.declared.fault.JobFault.{JobFault}
-use Rattle.job_text.specs.declared.fault.JobFault.TheVariants as job_fault
 use Rattle.job_text.specs.Jobs.{JobParts, job_of}
 use Rattle.link_needs.specs.Linking.{Linking}
 use Rattle.ports.specs.Files.{Files}
 use Rattle.commands.specs.Jobs.{BytesSay, Ending, ImagesSay, IsUnlinked, IsUnread, JobSays, NamedSays, ObjectsSay, has, links_of}
-use Rattle.commands.specs.Purposes.{IsMissing}
 
 abbrev pub Text : Type 0
 Text = Vec ℕ Global
@@ -27,7 +25,7 @@ pub comes_by : (P Q : Said) (r : Result Text CommandFault) → ((status : ℕ) (
 comes_by P Q (Ok text) more says = more 0 text.items says
 comes_by P Q (Err fault.Store) more says = tt
 comes_by P Q (Err fault.OutOfMemory) more says = tt
-comes_by P Q (Err (fault.Refused refusal)) more says = more _ _ says
+comes_by P Q (Err (fault.Refused reply)) more says = more _ _ says
 
 pub says_by : (old : Option Files) (P Q : Files → Said) (r : Result Text CommandFault)
     → ((fs : Files) → old ≡ Some fs → (status : ℕ) (text : List ℕ) → P fs status text → Q fs status text)
@@ -59,8 +57,7 @@ module _ (E F : Ending) (relax : Bool) (w : WritableSections) (s s' : ℕ) (t t'
     where
       of_job : (r : Result JobParts JobFault) → JobSays image E relax w fs r s t → JobSays image F relax w fs r s' t'
       of_job (Ok job) own = named_more job (ends job) fs (has job image) own
-      of_job (Err job_fault.OutOfMemory) own = absurd own
-      of_job (Err (job_fault.At line kind)) own = refuses (JobFaultSays (job_fault.At line kind)) (λ is. omega (arith, is.0)) own
+      of_job (Err fault) own = refuses (JobFaultSays fault) (λ is. omega (arith, is.0)) own
 
 -- of one job that has its image
 pub objects_named : (E F : Ending) (relax : Bool) (w : WritableSections) (fs : Files) (job : JobParts) (b : Bool) → b ≡ true
@@ -69,5 +66,3 @@ pub objects_named : (E F : Ending) (relax : Bool) (w : WritableSections) (fs : F
 objects_named E F relax w fs job b is ends status text says =
     subst (λ (named : Bool). NamedSays F relax w fs job named status text) (sym is)
     (named_more E F relax w status status text text (λ P high own. own) job (λ ls. ends ls status text) fs true says)
-
--- ** a job that has no image of the name

@@ -1,41 +1,34 @@
--- What an answer shows.
-use Rattle.std.proofs.Common.{◌≡◌, ◌≤◌, ℕ, List, Option, Some, None, IfSome, ◌⊎◌, inl, inr, refl, sym, subst, arith}
+-- What an output shows.
+use Rattle.std.proofs.Common.{◌≤◌, ℕ, List, Option, Some, None, IfSome, Result, Ok, Err, inl, inr, sym, subst}
 use Rattle.command_line.specs.declared.tasks.Command.{Command}
 use Rattle.command_replies.specs.Delivery.{Delivered}
-use Rattle.command_replies.specs.Replies.{AnswerCounts, IsAnswer, IsOfFiles}
-use Rattle.command_replies.specs.Statuses.{code_of}
-use Rattle.command_replies.specs.declared.replies.Answer.{Answer}
-use Rattle.command_replies.specs.declared.replies.Answer.TheVariants.{Replies, StoreFails, NoMemory}
-use Rattle.command_replies.specs.declared.statuses.Status.{Status}
-use Rattle.command_replies.specs.declared.statuses.Status.TheVariants as status
+use Rattle.command_replies.specs.Replies.{IsOwn}
+use Rattle.command_replies.specs.declared.fault.CommandFault.{CommandFault}
+use Rattle.command_replies.specs.declared.fault.CommandFault.TheVariants as fault
+use Rattle.command_replies.specs.Faults.{StoreCounts}
+use Rattle.command_replies.specs.Steps.{Comes}
 use Rattle.ports.specs.Files.{Files}
 use Rattle.ports.specs.Sinks.{SinkView}
-use Rattle.commands.specs.Replies.{AnswerSays, MaySay, Shows}
+use Rattle.commands.specs.Replies.{MaySay, Shows}
+use Rattle.commands.specs.Commands.{CommandSays}
+use Rattle.commands.proofs.Saying.{Text, items}
 
 -- what may say more says as much
 delivered_weaker : (P Q : ℕ → List ℕ → Type 0) (old new : SinkView) (code : ℕ) → ((own : ℕ) (text : List ℕ) → P own text → Q own text) → Delivered P old new code → Delivered Q old new code
 delivered_weaker P Q old new code more (inl line) = inl line
 delivered_weaker P Q old new code more (inr (own, (text, (may, delivers)))) = inr (own, (text, (more own text may, delivers)))
 
-own_code : (s : Status) → IsOfFiles s → (code_of s ≡ 0) ⊎ (5 ≤ code_of s)
-own_code status.Done h = inl refl
-own_code status.Usage h = absurd h
-own_code status.Store h = absurd h
-own_code status.Job h = inr (omega arith)
-own_code status.Object h = inr (omega arith)
-own_code status.Link h = inr (omega arith)
-own_code status.Image h = inr (omega arith)
-own_code status.Unclean h = inr (omega arith)
+output_may : (files after : Option Files) (command : Command) (r : Result Text CommandFault) (before now own : ℕ) (text : List ℕ) → StoreCounts before now r
+    → IfSome files (λ fs. Comes items (CommandSays fs after command) r) → IsOwn items r own text → MaySay files after command own text
+output_may None after command (Ok x) before now own text counts says is = inr (inl is.0)
+output_may (Some fs) after command (Ok x) before now own text counts says is = inr (rw (is.0, is.1) says)
+output_may None after command (Err fault.Store) before now own text counts says is = inl is
+output_may (Some fs) after command (Err fault.Store) before now own text counts says is = inl is
+output_may files after command (Err fault.OutOfMemory) before now own text counts says is = absurd is
+output_may None after command (Err (fault.Refused reply)) before now own text counts says is = inr (inr (subst (λ (c : ℕ). 5 ≤ c) (sym is.0) counts.1))
+output_may (Some fs) after command (Err (fault.Refused reply)) before now own text counts says is = inr (rw (is.0, is.1) says)
 
-answer_may : (files after : Option Files) (command : Command) (answer : Answer) (before now own : ℕ) (text : List ℕ) → AnswerCounts before now answer → IfSome files (λ fs. AnswerSays fs after command answer)
-    → IsAnswer answer own text → MaySay files after command own text
-answer_may None after command (Replies reply) before now own text counts says is = inr (subst (λ (c : ℕ). (c ≡ 0) ⊎ (5 ≤ c)) (sym is.0) (own_code reply.status counts.1))
-answer_may (Some fs) after command (Replies reply) before now own text counts says is = inr (rw (is.0, is.1) says)
-answer_may None after command StoreFails before now own text counts says is = inl is
-answer_may (Some fs) after command StoreFails before now own text counts says is = inl is
-answer_may files after command NoMemory before now own text counts says is = absurd is
-
-pub answer_shows : (files after : Option Files) (command : Command) (answer : Answer) (before now : ℕ) (old new : SinkView) (code : ℕ) → AnswerCounts before now answer
-    → IfSome files (λ fs. AnswerSays fs after command answer) → Delivered (IsAnswer answer) old new code → Shows files after command old new code
-answer_shows files after command answer before now old new code counts says delivered =
-    delivered_weaker (IsAnswer answer) (MaySay files after command) old new code (λ own text is. answer_may files after command answer before now own text counts says is) delivered
+pub output_shows : (files after : Option Files) (command : Command) (r : Result Text CommandFault) (before now : ℕ) (old new : SinkView) (code : ℕ) → StoreCounts before now r
+    → IfSome files (λ fs. Comes items (CommandSays fs after command) r) → Delivered (IsOwn items r) old new code → Shows files after command old new code
+output_shows files after command r before now old new code counts says delivered =
+    delivered_weaker (IsOwn items r) (MaySay files after command) old new code (λ own text is. output_may files after command r before now own text counts says is) delivered

@@ -1,21 +1,21 @@
 -- What a command about a job says over the files of a store: how the job is refused, in which order; and, if all its
 -- images link, what the command's own last step says.
-use Rattle.std.specs.Prelude.{◌⊎◌, ℕ, Bool, true, false, List, [], ◌∷◌, map, slice_get}
+use Rattle.std.specs.Prelude.{◌≡◌, ◌⊎◌, ℕ, Bool, true, false, List, [], ◌∷◌, map, slice_get}
 use Rattle.std.specs.Prelude.{Option, Some, None, IsSome, Result, Ok, Err, is_some}
 use Rattle.std.specs.List.{All}
 use Rattle.std.specs.Option.{option_map_or}
-use Rattle.command_replies.specs.Says.{HasFile, Is, JobFaultSays, fault_text, job_fault_text, link_line, shown_object}
+use Rattle.command_replies.specs.Says.{HasFile, Is, IsLinkLine, IsObjectLine, JobFaultSays, job_fault_text}
 use Rattle.job_link.specs.declared.writable.WritableSections.{WritableSections}
 use Rattle.job_link.specs.Given.{Given, AreGiven, IsFirstFaulty}
 use Rattle.job_link.specs.Linked.{AllLink, IsFirstUnlinked, link_in}
-use Rattle.job_link.specs.Mentions.{bytes_at, object_names}
+use Rattle.job_link.specs.Mentions.{bytes_at, mentions_of, object_names}
 use Rattle.job_text.specs.declared.fault.JobFault.{JobFault}
 use Rattle.job_text.specs.declared.fault.JobFaultKind.TheVariants.{Name}
 use Rattle.job_text.specs.Images.{image_number}
 use Rattle.job_text.specs.Jobs.{JobParts, job_of}
-use Rattle.link_faults.specs.declared.fault.LinkFaultKind.{LinkFaultKind}
+use Rattle.link_faults.specs.declared.fault.LinkFault.{LinkFault}
 use Rattle.link_needs.specs.Linking.{Linking}
-use Rattle.object_rules.specs.declared.fault.FaultKind.{FaultKind}
+use Rattle.object_rules.specs.declared.fault.ObjectFault.{ObjectFault}
 use Rattle.ports.specs.Files.{Files, file_at}
 
 -- ---- the refusals
@@ -24,31 +24,20 @@ use Rattle.ports.specs.Files.{Files, file_at}
 abbrev pub objects_of : JobParts → ℕ → List (List ℕ)
 objects_of job number = option_map_or (λ image. image.objects) (slice_get job.images number) []
 
--- an image of the job that does not link, by its number from 0
-abbrev pub link_fault_text : JobParts → ℕ → LinkFaultKind → Option ℕ → ℕ → ℕ → List ℕ
-link_fault_text job number kind object section entry =
-    link_line (option_map_or (λ image. image.name) (slice_get job.images number) []) kind
-    (shown_object (objects_of job number) object) section entry
-
 -- an object has a fault: 6, and the first fault; w: whether data that programs write is kept, or is a fault
 pub record IsUnread (w : WritableSections) (bytes : List ℕ → List ℕ) (job : JobParts)
     (status : ℕ) (text : List ℕ) : Type 0 where
   pub name : List ℕ
-  pub section : ℕ
-  pub entry : ℕ
-  pub kind : FaultKind
-  pub first : IsFirstFaulty w bytes job name section entry kind
-  pub says : Is 6 (fault_text name section entry kind) status text
+  pub fault : ObjectFault
+  pub first : IsFirstFaulty w bytes (mentions_of job) name fault
+  pub says : (status ≡ 6) × IsObjectLine name fault text
 
 -- an image does not link: 7, and the first fault
 pub record IsUnlinked (relax : Bool) (job : JobParts) (images : List Given) (status : ℕ) (text : List ℕ) : Type 0 where
   pub number : ℕ
-  pub kind : LinkFaultKind
-  pub object : Option ℕ
-  pub section : ℕ
-  pub entry : ℕ
-  pub first : IsFirstUnlinked images relax number kind object section entry
-  pub says : Is 7 (link_fault_text job number kind object section entry) status text
+  pub fault : LinkFault
+  pub first : IsFirstUnlinked images relax number fault
+  pub says : (status ≡ 7) × IsLinkLine (slice_get job.images number) fault text
 
 -- ---- a job whose images all link
 

@@ -8,7 +8,6 @@ pub mod Links
 pub mod Listings
 pub mod Purposes
 pub mod Races
-pub mod Refusals
 pub mod Replies
 pub mod RunJobs
 pub mod Runs

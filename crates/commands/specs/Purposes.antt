@@ -2,11 +2,9 @@
 use Rattle.std.specs.Prelude.{◌≡◌, ◌+◌, ◌<◌, ℕ, Bool, true, false, List, Option, Some, None, Result, length}
 use Rattle.command_line.specs.declared.tasks.Rewriting.{Rewriting}
 use Rattle.command_line.specs.Rewritings.{is_allowed}
-use Rattle.command_replies.specs.declared.fault.CommandFault.{CommandFault}
-use Rattle.command_replies.specs.declared.fault.CommandFault.TheVariants.{Refused}
-use Rattle.command_replies.specs.declared.fault.InputRefusal.TheVariants.{Job}
 use Rattle.job_link.specs.declared.writable.WritableSections.TheVariants.{Kept}
 use Rattle.job_text.specs.declared.fault.JobFault.{JobFault}
+use Rattle.job_text.specs.declared.fault.JobFault.TheVariants.{At}
 use Rattle.job_text.specs.declared.fault.JobFaultKind.TheVariants.{Name}
 use Rattle.job_text.specs.Images.{image_number}
 use Rattle.job_text.specs.Jobs.{JobParts}
@@ -60,10 +58,10 @@ IsWithin found.Check job = Unit {0}
 IsWithin (found.File place) job = place < length job.images
 IsWithin (found.Sites place) job = place < length job.images
 
--- the refusal of a name without an image
-abbrev pub IsMissing : Bool → CommandFault → Type 0
-IsMissing true f = ⊥
-IsMissing false f = f ≡ Refused (Job 0 Name)
+-- the fault of a name without an image
+abbrev pub IsMissing : Bool → JobFault → Type 0
+IsMissing true fault = ⊥
+IsMissing false fault = fault ≡ At 0 Name
 
 abbrev pub Makes : Placed → JobParts → List Linking → ℕ → List ℕ → Type 0
 Makes (found.Run telling) job ls status text = IsRun telling job ls status text

@@ -1,27 +1,11 @@
--- How the answer of a command relates to the store's files, and what the top calls promise.
+-- What the top calls promise.
 use Rattle.std.specs.Prelude.{◌≡◌, ◌≤◌, ℕ, ◌⊎◌, List, Option, Some, None}
 use Rattle.command_line.specs.declared.tasks.Command.{Command}
 use Rattle.command_replies.specs.Steps.{AsksFront, with_names}
-use Rattle.command_replies.specs.Statuses.{code_of}
 use Rattle.command_replies.specs.Delivery.{Delivered, store_line, usage_line}
-use Rattle.command_replies.specs.declared.replies.Answer.{Answer}
-use Rattle.command_replies.specs.declared.replies.Answer.TheVariants.{Replies, StoreFails, NoMemory}
 use Rattle.ports.specs.Files.{Files}
 use Rattle.ports.specs.Sinks.{SinkView}
 use Rattle.commands.specs.Commands.{CommandLeaves, CommandSays, command_names}
-
--- the answer is what the command says over these files, with the second files after it; or the store
--- fails, or memory runs out
-abbrev pub AnswerSays : Files → Option Files → Command → Answer → Type 0
-AnswerSays fs after asked (Replies reply) = CommandSays fs after asked (code_of reply.status) reply.text.items
-AnswerSays fs after asked StoreFails = Unit {0}
-AnswerSays fs after asked NoMemory = Unit {0}
-
--- the names asked for are a prefix of the command's names, and all of them if it replies
-abbrev pub AsksOfAnswer : Files → Command → Option (List (List ℕ)) → Option (List (List ℕ)) → Answer → Type 0
-AsksOfAnswer fs asked old new (Replies reply) = new ≡ with_names (command_names fs asked) old
-AsksOfAnswer fs asked old new StoreFails = AsksFront (command_names fs asked) old new
-AsksOfAnswer fs asked old new NoMemory = AsksFront (command_names fs asked) old new
 
 -- ---- the whole command
 

@@ -6,7 +6,7 @@ ghost use Rattle.commands.specs.Checks.{VerdictSays, verdict};
 ghost use Rattle.commands.specs.InOrder.{AreLinked};
 ghost use Rattle.job_link.specs.Given.{Given};
 
-use command_replies::{CommandFault, InputRefusal};
+use command_replies::{CommandFault, Reply, Status};
 use job_check::{check_job, verdict_text};
 use job_link::inputs_of;
 use job_text::Job;
@@ -41,9 +41,12 @@ pub fn verdict_line(
     ensures cause { NoStoreFault result }
 {
     let verdict = verdict_of(alloc, job, ready)?;
-    let line = verdict_text(alloc, verdict)?;
+    let text = verdict_text(alloc, verdict)?.into_bytes();
     match verdict {
-        None => Ok(line.into_bytes()),
-        Some(_) => Err(CommandFault::Refused(InputRefusal::Unclean { line })),
+        None => Ok(text),
+        Some(_) => Err(CommandFault::Refused(Reply {
+            status: Status::Unclean,
+            text,
+        })),
     }
 }

@@ -2,10 +2,8 @@
 ghost use Rattle.std.specs.Prelude.{◌≡◌, [], ◌∷◌, IfOk, IfSome};
 ghost use Rattle.command_line.specs.Words.{IsInLimits};
 ghost use Rattle.command_replies.specs.Faults.{StoreCounts, NoStoreFault, KeepsFiles};
-ghost use Rattle.command_replies.specs.Replies.{AnswerCounts, AnswerKeeps};
 ghost use Rattle.command_replies.specs.Steps.{Asks, Comes};
 ghost use Rattle.image_text.specs.Shown.{shown};
-ghost use Rattle.commands.specs.Replies.{AnswerSays, AsksOfAnswer};
 ghost use Rattle.commands.specs.Links.{SitesSays, image_names};
 ghost use Rattle.commands.specs.Listings.{ListingSays};
 ghost use Rattle.commands.specs.Tasks.{ShowSays, TaskLeaves, TaskSays, task_names};
@@ -13,83 +11,19 @@ ghost use Rattle.commands.specs.Tasks.{ShowSays, TaskLeaves, TaskSays, task_name
 use crate::generated::generated;
 use crate::links::link;
 use crate::purpose::Purpose;
-use crate::races::raced;
 use crate::telling::Telling;
 use crate::told::told;
-use command_line::{Command, Rewriting, Task};
-use command_replies::{Answer, CommandFault, InputRefusal, Reply, Status, reply_of, whole_file};
-use image_file::{Image, ImageFault, read_owned};
+use command_line::{Rewriting, Task};
+use command_replies::{CommandFault, image_refusal, whole_file};
+use image_file::{Image, read_owned};
 use image_text::push_shown;
 use ports::Store;
 use std::alloc::{AllocError, Global};
-use std::sync::Wait;
 use std::thread::Threads;
-
-/// The answer of a task.
-#[tactic(auto, using(crate::proofs::Asked::asks_all))]
-pub fn answer<R: Threads + Sync, S: Store>(
-    rt: &R,
-    alloc: Global,
-    task: &Task,
-    store: &mut S,
-) -> Answer
-    requires { IsInLimits task.now }
-    ensures files { TaskLeaves (S.files store.old) (S.files store.new) task.now }
-    ensures kept { AnswerKeeps (S.files store.old) (S.files store.new) result }
-    ensures cause { AnswerCounts (S.faults store.old) (S.faults store.new) result }
-    ensures says { IfSome (S.files store.old)
-        (λ fs. AnswerSays fs (S.files store.new) (Command.Plain task.now) result) }
-    ensures asks { IfSome (S.files store.old) (λ fs. AsksOfAnswer fs (Command.Plain task.now)
-        (S.asked store.old) (S.asked store.new) result) }
-{
-    match output(rt, alloc, task, store) {
-        Ok(text) => Answer::Replies(Reply {
-            status: Status::Done,
-            text,
-        }),
-        Err(CommandFault::Store) => Answer::StoreFails,
-        Err(CommandFault::OutOfMemory) => Answer::NoMemory,
-        Err(CommandFault::Refused(refusal)) => match reply_of(alloc, &refusal) {
-            Ok(reply) => Answer::Replies(reply),
-            Err(_) => Answer::NoMemory,
-        },
-    }
-}
-
-/// The answer of `race` for the job in the file of that name.
-#[tactic(auto, using(crate::proofs::Asked::asks_all))]
-pub fn race_answer<R: Threads + Wait + Sync, S: Store>(
-    rt: &R,
-    alloc: Global,
-    job: &str,
-    rewriting: Rewriting,
-    store: &mut S,
-) -> Answer
-    ensures files { S.files store.new ≡ S.files store.old }
-    ensures kept { AnswerKeeps (S.files store.old) (S.files store.new) result }
-    ensures cause { AnswerCounts (S.faults store.old) (S.faults store.new) result }
-    ensures says { IfSome (S.files store.old)
-        (λ fs. AnswerSays fs (S.files store.new) (Command.Race job.now rewriting) result) }
-    ensures asks { IfSome (S.files store.old) (λ fs. AsksOfAnswer fs (Command.Race job.now rewriting)
-        (S.asked store.old) (S.asked store.new) result) }
-{
-    match raced(rt, alloc, store, job, rewriting) {
-        Ok(text) => Answer::Replies(Reply {
-            status: Status::Done,
-            text,
-        }),
-        Err(CommandFault::Store) => Answer::StoreFails,
-        Err(CommandFault::OutOfMemory) => Answer::NoMemory,
-        Err(CommandFault::Refused(refusal)) => match reply_of(alloc, &refusal) {
-            Ok(reply) => Answer::Replies(reply),
-            Err(_) => Answer::NoMemory,
-        },
-    }
-}
 
 /// The output of a task, or its refusal.
 #[tactic(auto, using(crate::proofs::Kept::keeps_same))]
-fn output<R: Threads + Sync, S: Store>(
+pub fn output<R: Threads + Sync, S: Store>(
     rt: &R,
     alloc: Global,
     task: &Task,
@@ -172,10 +106,7 @@ fn show_file(alloc: Global, bytes: Vec<u8>) -> Result<Vec<u8>, CommandFault>
 {
     match read_owned(bytes) {
         Ok(image) => Ok(listing_of(alloc, &image)?),
-        Err(ImageFault::OutOfMemory) => Err(CommandFault::OutOfMemory),
-        Err(ImageFault::At { offset, kind }) => {
-            Err(CommandFault::Refused(InputRefusal::Image { offset, kind }))
-        }
+        Err(fault) => Err(CommandFault::Refused(image_refusal(alloc, fault)?)),
     }
 }
 

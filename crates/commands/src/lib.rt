@@ -53,7 +53,6 @@ mod site_lines;
 mod telling;
 mod told;
 mod top;
-mod unlinked;
 
 pub use laws::checked_links_are_run;
 pub use top::{tlsld, tlsld_plain};

@@ -4,8 +4,8 @@ ghost use Rattle.commands.specs.Jobs.{has};
 ghost use Rattle.commands.specs.Purposes.{Finds, IsMissing, IsWithin, wanted_by};
 
 use crate::telling::Telling;
-use command_replies::{CommandFault, image_place};
-use job_text::Job;
+use command_replies::image_place;
+use job_text::{Job, JobFault};
 
 /// What a command does with a job whose images all link, with the image by its name.
 #[derive(Clone, Copy)]
@@ -31,7 +31,7 @@ pub enum Ending {
 
 impl<'n> Purpose<'n> {
     /// Finds the image in this job; it is refused if it has no image of that name.
-    pub fn ending(self, job: &Job) -> Result<Ending, CommandFault>
+    pub fn ending(self, job: &Job) -> Result<Ending, JobFault>
         ensures ending { IfOk result (Finds self.entry job.now) }
         ensures within { IfOk result (λ ending. IsWithin ending job.now) }
         ensures missing { IfErr result (IsMissing (has job.now (wanted_by self.entry))) }

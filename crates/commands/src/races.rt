@@ -20,9 +20,8 @@ ghost use Rattle.loaded_bytes.specs.Small.{AreBytes};
 use crate::laws::images_are_in_order;
 use crate::race_runs::told_race;
 use crate::runs::are_of_few;
-use crate::unlinked::{unlinked, unread};
 use command_line::Rewriting;
-use command_replies::{CommandFault, job_of, whole_file};
+use command_replies::{CommandFault, job_of, link_refusal, object_refusal, whole_file};
 use job_link::{
     Files, ImageObjects, WritableSections, fetch_objects, prepare_images, read_objects,
     startup_exports,
@@ -114,7 +113,10 @@ fn raced_of_files<R: Threads + Wait + Sync>(
     files.are_bytes();
     match read_objects(rt, alloc, job, files, WritableSections::Refused) {
         Ok(images) => raced_of_images(rt, alloc, job, images.as_slice(), rewriting),
-        Err(refusal) => Err(unread(alloc, refusal)),
+        Err(refusal) => {
+            let reply = object_refusal(alloc, refusal.name, refusal.fault)?;
+            Err(CommandFault::Refused(reply))
+        }
     }
 }
 
@@ -137,7 +139,10 @@ fn raced_of_images<R: Threads + Wait + Sync>(
     let startup = startup_exports(alloc, images)?;
     match prepare_images(alloc, images, startup.as_slice(), rewriting.is_allowed()) {
         Ok(ready) => race_ready(rt, alloc, job, images, ready),
-        Err(refusal) => Err(unlinked(alloc, job, refusal)),
+        Err(refusal) => {
+            let reply = link_refusal(alloc, job, refusal.number, refusal.fault)?;
+            Err(CommandFault::Refused(reply))
+        }
     }
 }
 

@@ -19,9 +19,10 @@ ghost use Rattle.loaded_bytes.specs.Small.{AreBytes};
 use crate::endings::ended;
 use crate::laws::images_are_in_order;
 use crate::purpose::{Ending, Purpose};
-use crate::unlinked::{unlinked, unread};
 use command_line::Rewriting;
-use command_replies::{CommandFault, job_of, whole_file};
+use command_replies::{
+    CommandFault, job_of, job_refusal, link_refusal, object_refusal, whole_file,
+};
 use job_link::{
     Files, ImageObjects, WritableSections, fetch_objects, prepare_images, read_objects,
     startup_exports,
@@ -95,7 +96,7 @@ fn told_of_job<R: Threads + Sync, S: Store>(
 {
     match purpose.ending(job) {
         Ok(ending) => told_of_objects(rt, alloc, store, job, rewriting, ending),
-        Err(fault) => Err(fault),
+        Err(fault) => Err(CommandFault::Refused(job_refusal(alloc, fault)?)),
     }
 }
 
@@ -139,7 +140,10 @@ pub fn told_of_files<R: Threads + Sync>(
     files.are_bytes();
     match read_objects(rt, alloc, job, files, WritableSections::Kept) {
         Ok(images) => told_of_images(rt, alloc, job, images.as_slice(), rewriting, ending),
-        Err(refusal) => Err(unread(alloc, refusal)),
+        Err(refusal) => {
+            let reply = object_refusal(alloc, refusal.name, refusal.fault)?;
+            Err(CommandFault::Refused(reply))
+        }
     }
 }
 
@@ -164,6 +168,9 @@ fn told_of_images<R: Threads + Sync>(
     let startup = startup_exports(alloc, images)?;
     match prepare_images(alloc, images, startup.as_slice(), rewriting.is_allowed()) {
         Ok(ready) => ended(rt, alloc, job, images, ready, ending),
-        Err(refusal) => Err(unlinked(alloc, job, refusal)),
+        Err(refusal) => {
+            let reply = link_refusal(alloc, job, refusal.number, refusal.fault)?;
+            Err(CommandFault::Refused(reply))
+        }
     }
 }

@@ -7,8 +7,9 @@ ghost use Rattle.commands.specs.Completes.{Completes, DidNotFail};
 ghost use Rattle.commands.specs.Replies.{Asked, AskedWords, Shows, ShowsWords, WordsLeave};
 ghost use Rattle.commands.specs.Commands.{CommandLeaves};
 
-use crate::command::{answer, race_answer};
-use command_line::{Command, Rewriting, Task, WordsFault, read_words};
+use crate::command::output;
+use crate::races::raced;
+use command_line::{Command, Task, WordsFault, read_words};
 use command_replies::{Status, deliver, say, say_no_memory};
 use ports::{Sink, Store};
 use std::alloc::Global;
@@ -45,7 +46,8 @@ pub fn tlsld<R: Threads + Wait + Sync, S: Store, K: Sink>(
     }
 }
 
-/// Runs a command and puts its answer.
+/// Runs a command and puts what it gives.
+#[tactic(auto, using(crate::proofs::Kept::output_kept))]
 fn command_shown<R: Threads + Wait + Sync, S: Store, K: Sink>(
     rt: &R,
     alloc: Global,
@@ -68,13 +70,14 @@ fn command_shown<R: Threads + Wait + Sync, S: Store, K: Sink>(
     match command {
         Command::Plain(task) => tlsld_plain(rt, alloc, task, store, out),
         Command::Race { job, rewriting } => {
-            race_shown(rt, alloc, job.as_str(), *rewriting, store, out)
+            let raced = raced(rt, alloc, store, job.as_str(), *rewriting);
+            deliver(out, &raced)
         }
     }
 }
 
 /// Runs a command that waits for no other thread.
-#[tactic(auto, using(crate::proofs::Kept::answer_kept))]
+#[tactic(auto, using(crate::proofs::Kept::output_kept))]
 pub fn tlsld_plain<R: Threads + Sync, S: Store, K: Sink>(
     rt: &R,
     alloc: Global,
@@ -96,35 +99,8 @@ pub fn tlsld_plain<R: Threads + Sync, S: Store, K: Sink>(
         → DidNotFail (K.view out.old).faults (K.view out.new).faults
         → Completes fs (Command.Plain task.now) result) }
 {
-    let answer = answer(rt, alloc, task, store);
-    deliver(out, &answer)
-}
-
-/// Runs `race`, whose threads wait for one another.
-#[tactic(auto, using(crate::proofs::Kept::answer_kept))]
-fn race_shown<R: Threads + Wait + Sync, S: Store, K: Sink>(
-    rt: &R,
-    alloc: Global,
-    job: &str,
-    rewriting: Rewriting,
-    store: &mut S,
-    out: &mut K,
-) -> u8
-    ensures taken { result ≢ 2 }
-    ensures store { StoreShown (S.faults store.old) (S.faults store.new) result }
-    ensures sink { SinkShown (K.view out.old).faults (K.view out.new).faults result }
-    ensures kept { FilesShown (S.files store.old) (S.files store.new) result }
-    ensures files { CommandLeaves (S.files store.old) (S.files store.new) (Command.Race job.now rewriting) }
-    ensures shows { Shows (S.files store.old) (S.files store.new) (Command.Race job.now rewriting)
-        (K.view out.old) (K.view out.new) result }
-    ensures asked { IfSome (S.files store.old)
-        (λ fs. Asked fs (Command.Race job.now rewriting) (S.asked store.old) (S.asked store.new) result) }
-    ensures completes { IfSome (S.files store.old) (λ fs. DidNotFail (S.faults store.old) (S.faults store.new)
-        → DidNotFail (K.view out.old).faults (K.view out.new).faults
-        → Completes fs (Command.Race job.now rewriting) result) }
-{
-    let raced = race_answer(rt, alloc, job, rewriting, store);
-    deliver(out, &raced)
+    let output = output(rt, alloc, task, store);
+    deliver(out, &output)
 }
 
 /// Puts the line for words that are not accepted.

@@ -9,15 +9,13 @@ use Rattle.std.proofs.lemmas.Option.{slice_get-get_or}
 use Rattle.link_core.specs.Faults.{IsLinkFault, Links}
 use Rattle.link_needs.specs.Linking.{link_of, Linking}
 use Rattle.link_faults.specs.declared.fault.LinkFault.{LinkFault}
-use Rattle.link_faults.specs.declared.fault.LinkFault.TheVariants as link
 use Rattle.link_faults.specs.declared.image_kind.ImageKind.{ImageKind}
 use Rattle.sequence_forms.specs.declared.places.Site.{Site}
 use Rattle.sequence_match.specs.Faults.{AreSites}
 use Rattle.tls_symbols.specs.Bindings.{exported_names}
 use Rattle.job_link.specs.Beside.{link_beside}
 use Rattle.job_link.specs.Given.{Given, IsGiven}
-use Rattle.job_link.specs.Linked.{exports_of, is_startup, link_in, AllLink}
-use Rattle.job_link.specs.Refusals.{refusal_of, IsImageRefusal}
+use Rattle.job_link.specs.Linked.{exports_of, is_startup, link_in, AllLink, IsFirstUnlinked}
 use Rattle.job_link.proofs.Pushed.{below_or_at}
 
 -- the link that code makes of an image
@@ -117,10 +115,8 @@ module _ (images : List Given) (relax : Bool) (i : ℕ) (g : Given) (is : g ≡ 
 
   -- the first that does not link
   pub first_refused : (fault : LinkFault) → LinkBelow i → IsLinkFault (link_in images relax g) fault
-      → IsImageRefusal images relax (refusal_of i fault)
-  first_refused link.OutOfMemory before here = tt
-  first_refused (link.At kind object section entry) before here =
-      record { image = g; there = there; here = here; before = before }
+      → IsFirstUnlinked images relax i fault
+  first_refused fault before here = record { image = g; there = there; here = here; before = before }
 
 -- each of them links, once the last one does
 pub all_link : (images : List Given) (relax : Bool) (n : ℕ) → length images ≤ n

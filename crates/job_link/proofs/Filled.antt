@@ -1,5 +1,5 @@
 -- Images that are read one after another.
-use Rattle.std.proofs.Common.{◌≡◌, ◌∙◌, ◌+◌, ◌-◌, ◌<◌, ◌≤◌, inl, inr, ℕ, zero, suc, List, [], ◌∷◌, ◌++◌, Some, Bor}
+use Rattle.std.proofs.Common.{◌≡◌, ◌∙◌, ◌+◌, ◌-◌, ◌<◌, ◌≤◌, inl, inr, ℕ, zero, suc, List, [], ◌∷◌, ◌++◌, Some}
 use Rattle.std.proofs.Common.{refl, map, sym, ap, subst, append_assoc, length, take, drop, get_or, set, arith}
 use Rattle.std.specs.Prelude.{slice_get}
 use Rattle.std.specs.List.{All, Contains}
@@ -8,18 +8,13 @@ use Rattle.std.proofs.lemmas.List.{ext_get_or, get_or-map, get_or-set_other, get
 use Rattle.std.proofs.lemmas.List.{length-take-le, map-set, set-get_or, take-append-drop}
 use Rattle.std.proofs.lemmas.List.Elements.{All-get_or, All-map, All-set, All-weaker, Contains-push_cases}
 use Rattle.std.proofs.lemmas.Option.{get_or_from_slice_get, slice_get-get_or, slice_get_within}
-use Rattle.object_rules.specs.declared.fault.ObjectFault.{ObjectFault}
-use Rattle.object_rules.specs.declared.fault.ObjectFault.TheVariants as object
 use Rattle.job_text.specs.declared.images.Image.{Image}
 use Rattle.job_text.specs.Jobs.{JobParts}
 use Rattle.link_faults.specs.declared.image_kind.ImageKind.{ImageKind}
 use Rattle.job_link.specs.declared.reading.ReadRefusal.{ReadRefusal}
-use Rattle.job_link.specs.declared.reading.ReadRefusal.TheVariants as unread
 use Rattle.job_link.specs.declared.writable.WritableSections.{WritableSections}
 use Rattle.job_link.specs.Given.{Allows, AreGiven, Given, IsFileFault, IsGiven, IsTaken}
-use Rattle.job_link.specs.Mentions.{mentions_of}
-use Rattle.job_link.specs.Reads.{kinds_of, objects_of, read_refusal_of, IsReadIn, IsRefusalIn, IsRefusalOf}
-use Rattle.job_link.specs.Refusals.{IsReadRefusal}
+use Rattle.job_link.specs.Reads.{kinds_of, objects_of, IsReadIn, IsReadRefusal, IsRefusalOf}
 
 -- ** images
 
@@ -155,23 +150,16 @@ taken_before writable bytes xs all k other e =
     subst (λ (name : List ℕ). IsTaken writable (bytes name)) (get_or_from_slice_get xs k other other e)
     (All-get_or (λ name. IsTaken writable (bytes name)) xs k other (slice_get_within xs k other e) all)
 
--- what is told of a file by its fault
-pub told_of : (writable : WritableSections) (bytes : List ℕ → List ℕ) (name : Bor (List ℕ)) (fault : ObjectFault)
-    → IsFileFault writable (bytes name.now) fault → IsRefusalOf writable bytes name.now (read_refusal_of name fault)
-told_of writable bytes name object.OutOfMemory here = tt
-told_of writable bytes name (object.At section entry kind) here = (refl, here)
-
 -- a refusal behind objects that are taken
 pub refused_at : (writable : WritableSections) (bytes : List ℕ → List ℕ) (names : List (List ℕ)) (i : ℕ)
     (refusal : ReadRefusal) → i < length names → All (λ name. IsTaken writable (bytes name)) (take i names)
-    → IsRefusalOf writable bytes (get_or names i []) refusal → IsRefusalIn writable bytes names refusal
-refused_at writable bytes names i unread.OutOfMemory inside taken here = tt
-refused_at writable bytes names i (unread.At name section entry kind) inside taken here = record {
+    → IsRefusalOf writable bytes (get_or names i []) refusal → IsReadRefusal writable bytes names refusal
+refused_at writable bytes names i refusal inside taken here = inr (record {
   at = i;
   there = slice_get-get_or names i [] inside ∙ ap Some (sym here.0);
-  here = subst (λ (n : List ℕ). IsFileFault writable (bytes n) (object.At section entry kind)) (sym here.0) here.1;
+  here = subst (λ (n : List ℕ). IsFileFault writable (bytes n) refusal.fault) (sym here.0) here.1;
   before = λ k other less e. taken_before writable bytes (take i names) taken k other (up_to k other less e);
-}
+})
   where
     up_to : (k : ℕ) (other : List ℕ) → k < i → slice_get names k ≡ Some other → slice_get (take i names) k ≡ Some other
     up_to k other less e =
@@ -180,28 +168,28 @@ refused_at writable bytes names i (unread.At name section entry kind) inside tak
         (ap (λ (xs : List (List ℕ)). slice_get xs k) (take-append-drop i names) ∙ e)
 
 -- an image behind those that are taken
-pub refused_in : (writable : WritableSections) (bytes : List ℕ → List ℕ) (job : JobParts)
-    (names more rest : List (List ℕ)) (refusal : ReadRefusal) → mentions_of job ≡ (names ++ more) ++ rest
-    → All (λ name. IsTaken writable (bytes name)) names → IsRefusalIn writable bytes more refusal
-    → IsReadRefusal writable bytes job refusal
-refused_in writable bytes job names more rest unread.OutOfMemory all taken is = tt
-refused_in writable bytes job names more rest (unread.At name section entry kind) all taken is = record {
+pub refused_in : (writable : WritableSections) (bytes : List ℕ → List ℕ) (all names more rest : List (List ℕ))
+    (refusal : ReadRefusal) → all ≡ (names ++ more) ++ rest
+    → All (λ name. IsTaken writable (bytes name)) names → IsReadRefusal writable bytes more refusal
+    → IsReadRefusal writable bytes all refusal
+refused_in writable bytes all names more rest refusal are taken (inl none) = inl none
+refused_in writable bytes all names more rest refusal are taken (inr is) = inr (record {
   at = length names + is.at;
-  there = ap (λ (xs : List (List ℕ)). slice_get xs (length names + is.at)) all
-      ∙ within (names ++ more) rest (length names + is.at) name.now (after names more is.at ∙ is.there);
+  there = ap (λ (xs : List (List ℕ)). slice_get xs (length names + is.at)) are
+      ∙ within (names ++ more) rest (length names + is.at) refusal.name.now (after names more is.at ∙ is.there);
   here = is.here;
   before = λ k other less e.
       let e' : slice_get (names ++ (more ++ rest)) k ≡ Some other =
-      ap (λ (xs : List (List ℕ)). slice_get xs k) (sym (all ∙ append_assoc names more rest)) ∙ e in
+      ap (λ (xs : List (List ℕ)). slice_get xs k) (sym (are ∙ append_assoc names more rest)) ∙ e in
       elim (cases_lt k (length names)) [
         | inl early ↦
             taken_before writable bytes names taken k other (front names (more ++ rest) k other early e')
         | inr late ↦
             let at : length names + (k - length names) ≡ k = omega arith in
             let low : k - length names < is.at = omega arith in
-            let below : k - length names < length more = omega (arith, slice_get_within more is.at name.now is.there) in
+            let below : k - length names < length more = omega (arith, slice_get_within more is.at refusal.name.now is.there) in
             let e'' : slice_get (more ++ rest) (k - length names) ≡ Some other =
             sym (after names (more ++ rest) (k - length names)) ∙ ap (slice_get (names ++ (more ++ rest))) at ∙ e' in
             is.before (k - length names) other low (front more rest (k - length names) other below e'')
       ];
-}
+})

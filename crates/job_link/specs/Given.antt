@@ -14,7 +14,6 @@ use Rattle.sequence_forms.specs.declared.places.Site.{Site}
 use Rattle.sequence_match.specs.Faults.{AreSites, Nowhere, IsFault as IsSequenceFault}
 use Rattle.job_link.specs.declared.writable.WritableSections.{WritableSections}
 use Rattle.job_link.specs.declared.writable.WritableSections.TheVariants.{Kept, Refused}
-use Rattle.job_link.specs.Mentions.{mentions_of}
 
 -- ** one file
 
@@ -74,12 +73,11 @@ pub record AreGiven (bytes : List ℕ → List ℕ) (job : JobParts) (images : L
       ≡ map (λ (image : Image). map bytes image.objects) job.images
   pub given : All IsGiven images
 
--- ** the first file that is refused, in the order in which the job mentions them
+-- ** the first of these names whose file is refused, and its fault
 
-pub record IsFirstFaulty (writable : WritableSections) (bytes : List ℕ → List ℕ) (job : JobParts) (name : List ℕ)
-    (section entry : ℕ) (kind : FaultKind) : Type 0 where
+pub record IsFirstFaulty (writable : WritableSections) (bytes : List ℕ → List ℕ) (names : List (List ℕ))
+    (name : List ℕ) (fault : ObjectFault) : Type 0 where
   pub at : ℕ
-  pub there : slice_get (mentions_of job) at ≡ Some name
-  pub here : IsFileFault writable (bytes name) (At section entry kind)
-  pub before : (k : ℕ) (other : List ℕ) → k < at → slice_get (mentions_of job) k ≡ Some other
-      → IsTaken writable (bytes other)
+  pub there : slice_get names at ≡ Some name
+  pub here : IsFileFault writable (bytes name) fault
+  pub before : (k : ℕ) (other : List ℕ) → k < at → slice_get names k ≡ Some other → IsTaken writable (bytes other)

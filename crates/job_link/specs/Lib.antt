@@ -5,5 +5,4 @@ pub mod Linked
 pub mod Mentions
 pub mod NoFault
 pub mod Reads
-pub mod Refusals
 pub mod Walks

@@ -1,10 +1,9 @@
 -- The images of a job, linked in image order, and the first that does not link.
-use Rattle.std.specs.Prelude.{◌≡◌, ◌<◌, ℕ, Bool, true, false, List, Option, Some, filter, map, slice_get}
+use Rattle.std.specs.Prelude.{◌≡◌, ◌<◌, ℕ, Bool, true, false, List, Some, filter, map, slice_get}
 use Rattle.std.specs.List.{All}
 use Rattle.link_core.specs.Faults.{IsLinkFault, Links}
 use Rattle.link_needs.specs.Linking.{Linking}
-use Rattle.link_faults.specs.declared.fault.LinkFault.TheVariants.{At}
-use Rattle.link_faults.specs.declared.fault.LinkFaultKind.{LinkFaultKind}
+use Rattle.link_faults.specs.declared.fault.LinkFault.{LinkFault}
 use Rattle.link_faults.specs.declared.image_kind.ImageKind.{ImageKind}
 use Rattle.link_faults.specs.declared.image_kind.ImageKind.TheVariants.{Exe, Pie, Start, Late}
 use Rattle.tls_symbols.specs.Bindings.{exported_names}
@@ -36,9 +35,8 @@ abbrev pub AllLink : List Given → Bool → Type 0
 AllLink images relax = All (λ g. Links (link_in images relax g)) images
 
 -- image `number`, counted from 0, is the first that does not link, and this is its first fault
-pub record IsFirstUnlinked (images : List Given) (relax : Bool) (number : ℕ) (kind : LinkFaultKind)
-    (object : Option ℕ) (section entry : ℕ) : Type 0 where
+pub record IsFirstUnlinked (images : List Given) (relax : Bool) (number : ℕ) (fault : LinkFault) : Type 0 where
   pub image : Given
   pub there : slice_get images number ≡ Some image
-  pub here : IsLinkFault (link_in images relax image) (At kind object section entry)
+  pub here : IsLinkFault (link_in images relax image) fault
   pub before : (k : ℕ) (g : Given) → k < number → slice_get images k ≡ Some g → Links (link_in images relax g)

@@ -5,53 +5,23 @@
 ghost use Rattle.std.specs.Prelude.{◌≡◌, ◌≤◌, ◌<◌, ◌-◌, ◌^◌, All, IfErr, IfOk, OnOk, length, map};
 ghost use Rattle.link_core.specs.Faults.{IsLinkFault, IsSound, Links};
 ghost use Rattle.link_core.specs.Images.{linked_of};
-ghost use Rattle.job_link.specs.Linked.{exports_of, is_startup as starts, link_in, AllLink};
+ghost use Rattle.job_link.specs.Linked.{exports_of, is_startup as starts, link_in, AllLink, IsFirstUnlinked};
 ghost use Rattle.job_link.specs.Beside.{link_beside};
-ghost use Rattle.job_link.specs.Refusals.{refusal_of, IsImageRefusal};
 
 use crate::images::ImageObjects;
 use link_core::{Linked, ReadyLink, prepare};
-use link_faults::{ImageKind, LinkFault, LinkFaultKind};
+use link_faults::{ImageKind, LinkFault};
 use link_needs::Inputs;
-use std::alloc::{AllocError, AllocFailed, Global};
+use std::alloc::{AllocError, Global};
 use std::thread::Threads;
 use tls_symbols::{Exports, exports};
 
-/// Why the images of a job do not link.
-#[derive(Clone, Copy)]
-pub enum ImageRefusal {
-    /// Memory ran out for an image.
-    OutOfMemory,
-    /// The first image that does not link, by its number in image order, counted from 0, and its first fault.
-    At {
-        image: usize,
-        kind: LinkFaultKind,
-        object: Option<u64>,
-        section: u64,
-        entry: u64,
-    },
-}
-
-impl From<AllocError> for ImageRefusal {
-    ghost use Rattle.std.specs.Prelude.{◌≡◌};
-    ghost use Rattle.job_link.specs.declared.preparing.ImageRefusal.TheVariants.{OutOfMemory as NoRoom};
-
-    ghost from_gives = { λ _ refusal. refusal ≡ NoRoom };
-
-    fn from(_error: AllocError) -> ImageRefusal {
-        ImageRefusal::OutOfMemory
-    }
-}
-
-impl<T: Drop> From<AllocFailed<T>> for ImageRefusal {
-    ghost use Rattle.std.specs.Prelude.{◌≡◌};
-    ghost use Rattle.job_link.specs.declared.preparing.ImageRefusal.TheVariants.{OutOfMemory as NoRoom};
-
-    ghost from_gives = { λ _ refusal. refusal ≡ NoRoom };
-
-    fn from(_error: AllocFailed<T>) -> ImageRefusal {
-        ImageRefusal::OutOfMemory
-    }
+/// Why the images of a job are not ready: the first that does not link, by its number in image order, counted from 0,
+/// and its first fault.
+#[derive(Drop)]
+pub struct ImageRefusal {
+    pub number: usize,
+    pub fault: LinkFault,
 }
 
 /// Whether an image is the program, or a module that starts with it.
@@ -118,27 +88,6 @@ fn ready_one<'i, 'a>(
     }
 }
 
-/// The refusal of the image of this number.
-fn refused(image: usize, fault: LinkFault) -> ImageRefusal
-    ensures { result ≡ refusal_of image fault }
-{
-    match fault {
-        LinkFault::OutOfMemory => ImageRefusal::OutOfMemory,
-        LinkFault::At {
-            kind,
-            object,
-            section,
-            entry,
-        } => ImageRefusal::At {
-            image,
-            kind,
-            object,
-            section,
-            entry,
-        },
-    }
-}
-
 /// Makes the images of a job, given in image order, ready, or returns the first that does not link. `startup` is what
 /// the startup images export, and `relax` says whether sequences may be rewritten. No byte of an image is laid.
 pub fn prepare_images<'i, 'a>(
@@ -151,13 +100,19 @@ pub fn prepare_images<'i, 'a>(
     requires startup { startup.now ≡ exports_of images.now }
     ensures ready { IfOk result (λ all. all.items ≡ map (link_in images.now relax) images.now) }
     ensures links { OnOk result (AllLink images.now relax) }
-    ensures refused { IfErr result (IsImageRefusal images.now relax) }
+    ensures refused { IfErr result (λ refusal. IsFirstUnlinked images.now relax refusal.number refusal.fault) }
 {
-    let mut all = Vec::with_capacity(alloc, images.len())?;
+    let mut all = Vec::new(alloc);
     for (number, image) in images.iter().enumerate() {
         match ready_one(alloc, image, startup, relax) {
-            Ok(ready) => all.push(ready)?,
-            Err(fault) => return Err(refused(number, fault)),
+            Ok(ready) => match all.push(ready) {
+                Ok(()) => {}
+                Err(_) => {
+                    let fault = LinkFault::OutOfMemory;
+                    return Err(ImageRefusal { number, fault });
+                }
+            },
+            Err(fault) => return Err(ImageRefusal { number, fault }),
         }
     }
     Ok(all)

@@ -4,42 +4,38 @@ ghost use Rattle.std.specs.Prelude.{◌≡◌, ◌≤◌, ◌-◌, [], All, IfEr
 ghost use Rattle.std.specs.List.{AllZip};
 ghost use Rattle.job_text.specs.declared.images.Image.{Image as DeclaredImage};
 ghost use Rattle.job_link.specs.Given.{Allows, AreGiven, Given, IsGiven, IsTaken};
-ghost use Rattle.job_link.specs.Mentions.{bytes_in};
-ghost use Rattle.job_link.specs.Reads.{kinds_of, read_refusal_of, IsReading, IsRefusalIn};
-ghost use Rattle.job_link.specs.Refusals.{IsReadRefusal};
+ghost use Rattle.job_link.specs.Mentions.{bytes_in, mentions_of};
+ghost use Rattle.job_link.specs.Reads.{kinds_of, IsReading, IsReadRefusal};
 
 use crate::fetching::Files;
 use crate::images::{ImageObjects, ReadObject};
 use crate::writable::WritableSections;
-use elf_object::{FaultKind, ObjectFault};
+use elf_object::ObjectFault;
 use job_text::{Image, Job, Name, index_of};
 use rayon::prelude::*;
 use std::alloc::{AllocError, Global};
 use std::mem;
 use std::thread::Threads;
 
-/// Why the objects of a job cannot be read.
-#[derive(Clone, Copy)]
-pub enum ReadRefusal<'j> {
-    /// Memory ran out.
-    OutOfMemory,
-    /// The first object that has a fault, by its name in the job, and its first fault.
-    At {
-        name: &'j str,
-        section: u64,
-        entry: u64,
-        kind: FaultKind,
-    },
+/// Why the objects of a job cannot be read: the first that has a fault, by its name in the job, and its first fault.
+/// The name is empty if memory ran out for no object.
+#[derive(Drop)]
+pub struct ReadRefusal<'j> {
+    pub name: &'j str,
+    pub fault: ObjectFault,
 }
 
 impl From<AllocError> for ReadRefusal<'_> {
     ghost use Rattle.std.specs.Prelude.{◌≡◌};
-    ghost use Rattle.job_link.specs.declared.reading.ReadRefusal.TheVariants.{OutOfMemory as NoRoom};
+    ghost use Rattle.object_rules.specs.declared.fault.ObjectFault.TheVariants.{OutOfMemory as NoRoom};
 
-    ghost from_gives = { λ _ refusal. refusal ≡ NoRoom };
+    ghost from_gives = { λ _ refusal. refusal.fault ≡ NoRoom };
 
     fn from(_error: AllocError) -> Self {
-        ReadRefusal::OutOfMemory
+        ReadRefusal {
+            name: "",
+            fault: ObjectFault::OutOfMemory,
+        }
     }
 }
 
@@ -57,25 +53,6 @@ fn empty_images<'a>(alloc: Global, job: &Job) -> Result<Vec<ImageObjects<'a>>, A
     Ok(images)
 }
 
-/// The refusal of an object of this name.
-fn refused(name: &str, fault: ObjectFault) -> ReadRefusal<'_>
-    ensures { result ≡ read_refusal_of name.entry fault }
-{
-    match fault {
-        ObjectFault::OutOfMemory => ReadRefusal::OutOfMemory,
-        ObjectFault::At {
-            section,
-            entry,
-            kind,
-        } => ReadRefusal::At {
-            name,
-            section,
-            entry,
-            kind,
-        },
-    }
-}
-
 /// Reads the object of this name.
 fn read_object<'j, 'a>(
     alloc: Global,
@@ -87,7 +64,7 @@ fn read_object<'j, 'a>(
 {
     match ReadObject::read(alloc, files.file(name), writable) {
         Ok(read) => Ok(read),
-        Err(fault) => Err(refused(name, fault)),
+        Err(fault) => Err(ReadRefusal { name, fault }),
     }
 }
 
@@ -125,7 +102,7 @@ fn read_image<'j, 'a, R: Threads + Sync>(
     ensures given { IfOk result IsGiven }
     ensures taken { OnOk result (All (λ name. IsTaken writable (bytes_in files.now name)) image.now.objects) }
     ensures allowed { IfOk result (λ read. All (Allows writable) read.objects) }
-    ensures refused { IfErr result (IsRefusalIn writable (bytes_in files.now) image.now.objects) }
+    ensures refused { IfErr result (IsReadRefusal writable (bytes_in files.now) image.now.objects) }
 {
     let readings = read_each(rt, alloc, image.objects.as_slice(), files, writable)?;
     let mut read = ImageObjects::new(alloc, image.kind);
@@ -160,7 +137,7 @@ pub fn read_objects<'j, 'a, R: Threads + Sync>(
     ensures read { IfOk result (λ images. AreGiven (bytes_in files.now) job.now images.items) }
     ensures allowed { IfOk result (λ images. All (λ (image : Given). All (Allows writable) image.objects)
         images.items) }
-    ensures refused { IfErr result (IsReadRefusal writable (bytes_in files.now) job.now) }
+    ensures refused { IfErr result (IsReadRefusal writable (bytes_in files.now) (mentions_of job.now)) }
 {
     let mut images = empty_images(alloc, job)?;
     for number in job.mentions() {

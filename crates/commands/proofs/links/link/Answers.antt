@@ -22,4 +22,4 @@ returns-in-Ok-clause-asks g c =
 
 pub returns-in-Err-clause-says : goal.returns-in-Err-clause-says
 returns-in-Err-clause-says g c =
-    unput_says c.args.image.now c.args.out.now c.args.job.now (is_allowed c.args.rewriting) (g.S.Store.files c.told.new.store) (g.S.Store.files c.args.store.now) c.in-Err.fault c.in-Err.ensures.says
+    unput_says c.args.image.now c.args.out.now c.args.job.now (is_allowed c.args.rewriting) (g.S.Store.files c.told.new.store) (g.S.Store.files c.args.store.now) c.in-Err.fault _ _ c.in-Err.ensures.cause c.in-Err.ensures.says

@@ -1,7 +1,7 @@
 use Rattle.std.proofs.Common.{◌≤◌, length, subst, arith}
 use Rattle.command_line.specs.Rewritings.{is_allowed}
 use Rattle.commands.specs.Races.{IsRace}
-use Rattle.commands.proofs.Fetched.{count_is, linked_say, names_image, unlinked_say}
+use Rattle.commands.proofs.Fetched.{count_is, linked_say, names_image}
 use Rattle.commands.proofs.races.raced_of_images.Goals as goal
 
 pub prepare_images-requires-clause-few : goal.prepare_images-requires-clause-few
@@ -25,8 +25,8 @@ race_ready-requires-clause-linked g c κs within =
       links_are = c.in-Ok.ensures.ready;
     }
 
-pub unlinked-requires : goal.unlinked-requires
-unlinked-requires g c =
+pub link_refusal-requires : goal.link_refusal-requires
+link_refusal-requires g c =
     let (bytes, are, small) = c.requires.given in
     names_image c.args.job.now c.args.images.now c.is_allowed.result (count_is bytes c.args.job.now c.args.images.now are) c.in-Err.refusal c.in-Err.ensures.refused
 
@@ -34,8 +34,3 @@ pub returns-in-Ok-clause-says : goal.returns-in-Ok-clause-says
 returns-in-Ok-clause-says g c =
     linked_say IsRace c.is_allowed.result (is_allowed c.args.rewriting) c.is_allowed.ensures c.args.job.now c.args.images.now c.in-Ok.ready.items c.in-Ok.ensures.links
     c.in-Ok.ensures.ready c.race_ready.result c.race_ready.ensures.says
-
-pub returns-clause-says : goal.returns-clause-says
-returns-clause-says g c =
-    unlinked_say IsRace c.is_allowed.result (is_allowed c.args.rewriting) c.is_allowed.ensures c.args.job.now c.args.images.now c.in-Err.refusal c.unlinked.result
-    c.in-Err.ensures.refused c.unlinked.ensures.says

@@ -3,7 +3,6 @@ use Rattle.link_core.specs.Faults.{IsLinkFault, Links}
 use Rattle.link_needs.specs.Linking.{Linking}
 use Rattle.job_link.specs.LinkLaws.{exports_few}
 use Rattle.job_link.specs.Linked.{link_in}
-use Rattle.job_link.specs.Refusals.{IsImageRefusal}
 use Rattle.job_link.proofs.Exported.{all_link, beside, first_refused, links_more, made_more}
 use Rattle.job_link.proofs.preparing.prepare_images.Goals as goal
 
@@ -16,10 +15,9 @@ returns-in-Err-clause-refused c =
     let images = c.args.images.now in
     let g = c.index-images-number.result in
     let same = beside images c.args.startup.now c.args.relax g c.requires.startup in
-    subst (IsImageRefusal images c.args.relax) (sym c.refused.ensures)
-    (first_refused images c.args.relax c.loop-number.number g c.index-images-number.is c.loop-number-test.true
+    first_refused images c.args.relax c.loop-number.number g c.index-images-number.is c.loop-number-test.true
     c.in-Err.fault c.loop-number.invariant.links
-    (subst (λ (l : Linking). IsLinkFault l c.in-Err.fault) same c.in-Err.ensures.fault))
+    (subst (λ (l : Linking). IsLinkFault l c.in-Err.fault) same c.in-Err.ensures.fault)
 
 pub loop-number-preserved : goal.loop-number-preserved
 loop-number-preserved c =
@@ -30,7 +28,7 @@ loop-number-preserved c =
     let same = beside images c.args.startup.now relax g c.requires.startup in
     record {
       ready =
-          c.in_ok-push-in-Ok.ensures.items
+          c.in-Ok-push.ensures.items
           ∙ ap (λ (all : List Linking). all ++ c.in-Ok.ready ∷ []) c.loop-number.invariant.ready
           ∙ ap (λ (last : Linking). map (link_in images relax) (take i images) ++ last ∷ [])
           (c.in-Ok.ensures.ready ∙ same)

@@ -21,7 +21,7 @@ returns-in-Err-clause-refused g c =
     let all : mentions_of job ≡ (names_in job (take i items) ++ image.objects) ++ names_in job (drop (i + 1) items) =
     mentions_are job ∙ ap (names_in job) (sym c.loop-number.invariant.items)
     ∙ names_around job items i image inside c.image.ensures in
-    refused_in c.args.writable (bytes_in c.args.files.now) job (names_in job (take i items)) image.objects
+    refused_in c.args.writable (bytes_in c.args.files.now) (mentions_of job) (names_in job (take i items)) image.objects
     (names_in job (drop (i + 1) items)) c.in-Err.refusal all
     c.loop-number.invariant.taken c.in-Err.ensures.refused
 
