@@ -70,7 +70,7 @@ fn race_linked<R: Threads + Wait + Sync>(
     linked_threads_print();
     racers_are_in_history();
     racers_print_their_points();
-    let _threads = job.threads();
+    job.keeps_limits();
     let modules = modules_again(alloc, job, all)?;
     race_modules(rt, alloc, job, &modules)
 }
@@ -121,6 +121,6 @@ fn race_shared<R: Threads + Wait + Sync>(
 {
     let (pass, transcript) = race_job(rt, alloc, job, modules, &shared, pass, &NoGate);
     let registry = shared.finish(pass);
-    let _accepted = registry.len();
+    registry.history_is_lawful();
     transcript
 }

@@ -92,7 +92,7 @@ fn raced_of_job<R: Threads + Wait + Sync, S: Store>(
         (JobSays None IsRace (is_allowed rewriting) Refused fs (Ok job.now)) result) }
     ensures asks { Asks (job_names None (Ok job.now)) (S.asked store.old) (S.asked store.new) result }
 {
-    let _mentions = job.mentions();
+    job.keeps_limits();
     let files = fetch_objects(rt, alloc, store, job)?;
     raced_of_files(rt, alloc, job, &files, rewriting)
 }
@@ -135,7 +135,7 @@ fn raced_of_images<R: Threads + Wait + Sync>(
     ensures says { Comes (λ text. text.items) (ImagesSay IsRace (is_allowed rewriting) job.now images.now) result }
     ensures cause { NoStoreFault result }
 {
-    let _images = job.images();
+    job.keeps_limits();
     let startup = startup_exports(alloc, images)?;
     match prepare_images(alloc, images, startup.as_slice(), rewriting.is_allowed()) {
         Ok(ready) => race_ready(rt, alloc, job, images, ready),

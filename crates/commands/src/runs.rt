@@ -62,7 +62,7 @@ fn run_linked(alloc: Global, job: &Job, all: Vec<Linked>) -> Result<Transcript, 
     linked_jobs_print();
     transcripts_tell_their_threads();
     verdict_knows_no_setting();
-    let _threads = job.threads();
+    job.keeps_limits();
     let modules = modules_again(alloc, job, all)?;
     run_job(alloc, job, &modules)
 }

@@ -117,7 +117,7 @@ fn told_of_objects<R: Threads + Sync, S: Store>(
         (ObjectsSay (Makes ending) (is_allowed rewriting) Kept fs job.now) result) }
     ensures asks { Asks (object_names job.now) (S.asked store.old) (S.asked store.new) result }
 {
-    let _mentions = job.mentions();
+    job.keeps_limits();
     let files = fetch_objects(rt, alloc, store, job)?;
     told_of_files(rt, alloc, job, &files, rewriting, ending)
 }
@@ -164,7 +164,7 @@ fn told_of_images<R: Threads + Sync>(
         (ImagesSay (Makes ending) (is_allowed rewriting) job.now images.now) result }
     ensures cause { NoStoreFault result }
 {
-    let _images = job.images();
+    job.keeps_limits();
     let startup = startup_exports(alloc, images)?;
     match prepare_images(alloc, images, startup.as_slice(), rewriting.is_allowed()) {
         Ok(ready) => ended(rt, alloc, job, images, ready, ending),

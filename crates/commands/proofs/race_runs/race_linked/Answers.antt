@@ -14,5 +14,5 @@ race_modules-requires-clause-alone g c κs within =
 pub returns-clause-ran : goal.returns-clause-ran
 returns-clause-ran g c =
     raced c.linked_threads_print.ensures c.racers_are_in_history.ensures c.racers_print_their_points.ensures c.args.job.now
-    (subst (λ n. n ≤ 64) c.threads-threads.ensures.value c.threads-threads.ensures.few) c.args.all.items c.in_ok-modules.modules
+    c.keeps_limits.ensures.few_threads c.args.all.items c.in_ok-modules.modules
     c.in_ok-modules.ensures.back c.race_modules.result c.race_modules.ensures.ran

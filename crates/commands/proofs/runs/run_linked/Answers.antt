@@ -9,5 +9,5 @@ pub returns-clause-ran : goal.returns-clause-ran
 returns-clause-ran c =
     ran c.linked_jobs_print.ensures c.transcripts_tell_their_threads.ensures c.verdict_knows_no_setting.ensures
     c.args.job.now
-    (subst (λ n. n ≤ 64) c.threads-threads.ensures.value c.threads-threads.ensures.few) c.args.all.items c.in_ok-modules.modules c.in_ok-modules.ensures.back c.run_job.result
+    c.keeps_limits.ensures.few_threads c.args.all.items c.in_ok-modules.modules c.in_ok-modules.ensures.back c.run_job.result
     c.run_job.ensures.transcript

@@ -7,15 +7,15 @@ use Rattle.commands.proofs.told.told_of_images.Goals as goal
 pub prepare_images-requires-clause-few : goal.prepare_images-requires-clause-few
 prepare_images-requires-clause-few g c =
     let (bytes, are, small) = c.requires.given in
-    let few = subst (λ is. length is ≤ 64) c.images-images.ensures.value c.images-images.ensures.few in
+    let few = c.keeps_limits.ensures.few_images in
     omega (arith, count_is bytes c.args.job.now c.args.images.now are, few)
 
 pub ended-requires-clause-linked : goal.ended-requires-clause-linked
 ended-requires-clause-linked g c κs within =
     let (bytes, are, small) = c.requires.given in
     record {
-      some = subst (λ is. 1 ≤ length is) c.images-images.ensures.value c.images-images.ensures.some;
-      few = subst (λ is. length is ≤ 64) c.images-images.ensures.value c.images-images.ensures.few;
+      some = c.keeps_limits.ensures.some_image;
+      few = c.keeps_limits.ensures.few_images;
       order = c.requires.order;
       bytes = bytes;
       small = small;

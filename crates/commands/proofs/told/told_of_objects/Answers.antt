@@ -11,7 +11,7 @@ use Rattle.commands.proofs.told.told_of_objects.Goals as goal
 pub returns-clause-says : goal.returns-clause-says
 returns-clause-says g c =
     files_say (Makes c.args.ending) (is_allowed c.args.rewriting) Kept (g.S.Store.files c.args.store.now) c.args.job.now c.in_ok-files.files c.in_ok-files.ensures.bytes
-    (λ k a b. subst (λ ms. Contains ms k) c.mentions-mentions.ensures.value (c.mentions-mentions.ensures.every k a b)) c.told_of_files.result c.told_of_files.ensures.says
+    c.keeps_limits.ensures.mentioned c.told_of_files.result c.told_of_files.ensures.says
 
 pub returns-clause-asks : goal.returns-clause-asks
 returns-clause-asks g c =
