@@ -22,7 +22,7 @@
 //! linker chooses; `sites` (`site_lines`) prints what stands in the place of each sequence; and `link` (`links`) writes
 //! only its image, and puts the file into the store, whole. `gen` (`generated`) is `run` of a job that it makes instead
 //! of fetching it. `race` (`races`) is `run` without an order: each thread of the job in a thread of its own
-//! (`race_runs`). Only `race` may wait, so its steps and its answer stand next to those of the others, which are tasks.
+//! (`race_runs`). Only `race` may wait, so its steps stand next to those of the others, which are tasks.
 //!
 //! `run` and `check` are tied: if `check` says `clean`, `run` prints what the objects mean, event by event and line by
 //! line, whether sequences were rewritten or not (`specs/Runs`, `HasRun`, by the laws of `linked_jobs`).

@@ -4,7 +4,7 @@
 //! refused: threads that run at once would all write the same bytes. The steps stand here once more, since those of
 //! `run` may be called by callers that allow no waiting. The job's `order` lines are read, and have no effect.
 //! `race_runs` runs the threads.
-ghost use Rattle.std.specs.Prelude.{◌≡◌, ℕ, List, All, IfSome, None, Ok, map};
+ghost use Rattle.std.specs.Prelude.{◌≡◌, ℕ, List, All, IfSome, None, map};
 ghost use Rattle.command_line.specs.Rewritings.{is_allowed};
 ghost use Rattle.command_replies.specs.Faults.{KeepsFiles, NoStoreFault, StoreCounts};
 ghost use Rattle.command_replies.specs.Steps.{Asks, Comes};
@@ -72,29 +72,13 @@ fn raced_of_text<R: Threads + Wait + Sync, S: Store>(
 {
     images_are_in_order();
     match job_of(alloc, text) {
-        Ok(job) => raced_of_job(rt, alloc, store, &job, rewriting),
+        Ok(job) => {
+            job.keeps_limits();
+            let files = fetch_objects(rt, alloc, store, &job)?;
+            raced_of_files(rt, alloc, &job, &files, rewriting)
+        }
         Err(fault) => Err(fault),
     }
-}
-
-/// Races a job whose objects are fetched.
-fn raced_of_job<R: Threads + Wait + Sync, S: Store>(
-    rt: &R,
-    alloc: Global,
-    store: &mut S,
-    job: &Job,
-    rewriting: Rewriting,
-) -> Result<Vec<u8>, CommandFault>
-    requires order { AreInOrder (map (λ image. image.kind) job.now.images) }
-    ensures files { S.files store.new ≡ S.files store.old }
-    ensures cause { StoreCounts (S.faults store.old) (S.faults store.new) result }
-    ensures says { IfSome (S.files store.old) (λ fs. Comes (λ text. text.items)
-        (JobSays None IsRace (is_allowed rewriting) Refused fs (Ok job.now)) result) }
-    ensures asks { Asks (job_names None (Ok job.now)) (S.asked store.old) (S.asked store.new) result }
-{
-    job.keeps_limits();
-    let files = fetch_objects(rt, alloc, store, job)?;
-    raced_of_files(rt, alloc, job, &files, rewriting)
 }
 
 /// Races a job with these files. None of its objects may have data that programs write.

@@ -3,7 +3,7 @@
 //! `run`, `check`, `link` and `sites` take these steps, and so does `gen`, which begins with files that it
 //! made. The command (`Purpose`) decides only the last step (`endings`). Each function returns the
 //! command's output, or a refusal.
-ghost use Rattle.std.specs.Prelude.{◌≡◌, ℕ, List, IfSome, Ok, map};
+ghost use Rattle.std.specs.Prelude.{◌≡◌, ℕ, List, IfSome, map};
 ghost use Rattle.command_line.specs.Rewritings.{is_allowed};
 ghost use Rattle.command_replies.specs.Faults.{NoStoreFault, StoreCounts};
 ghost use Rattle.command_replies.specs.Steps.{Asks, Comes};
@@ -54,7 +54,7 @@ pub fn told<R: Threads + Sync, S: Store>(
     }
 }
 
-/// Reads the job of a text, and goes on.
+/// Reads the job of a text, and goes on. An image that it does not have is refused before its objects are fetched.
 fn told_of_text<R: Threads + Sync, S: Store>(
     rt: &R,
     alloc: Global,
@@ -72,35 +72,15 @@ fn told_of_text<R: Threads + Sync, S: Store>(
 {
     images_are_in_order();
     match job_of(alloc, text) {
-        Ok(job) => told_of_job(rt, alloc, store, &job, rewriting, purpose),
+        Ok(job) => match purpose.ending(&job) {
+            Ok(ending) => told_of_objects(rt, alloc, store, &job, rewriting, ending),
+            Err(fault) => Err(CommandFault::Refused(job_refusal(alloc, fault)?)),
+        },
         Err(fault) => Err(fault),
     }
 }
 
-/// Fetches the objects of a job, and goes on. An image that the job does not have is refused before that.
-fn told_of_job<R: Threads + Sync, S: Store>(
-    rt: &R,
-    alloc: Global,
-    store: &mut S,
-    job: &Job,
-    rewriting: Rewriting,
-    purpose: Purpose,
-) -> Result<Vec<u8>, CommandFault>
-    requires order { AreInOrder (map (λ image. image.kind) job.now.images) }
-    ensures files { S.files store.new ≡ S.files store.old }
-    ensures cause { StoreCounts (S.faults store.old) (S.faults store.new) result }
-    ensures says { IfSome (S.files store.old) (λ fs. Comes (λ text. text.items)
-        (JobTold purpose.entry rewriting fs (Ok job.now)) result) }
-    ensures asks { Asks (job_names (wanted_by purpose.entry) (Ok job.now))
-        (S.asked store.old) (S.asked store.new) result }
-{
-    match purpose.ending(job) {
-        Ok(ending) => told_of_objects(rt, alloc, store, job, rewriting, ending),
-        Err(fault) => Err(CommandFault::Refused(job_refusal(alloc, fault)?)),
-    }
-}
-
-/// Goes on with a job whose objects are fetched.
+/// Fetches the objects of a job, and goes on.
 fn told_of_objects<R: Threads + Sync, S: Store>(
     rt: &R,
     alloc: Global,

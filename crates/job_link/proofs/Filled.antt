@@ -1,6 +1,6 @@
 -- Images that are read one after another.
 use Rattle.std.proofs.Common.{◌≡◌, ◌∙◌, ◌+◌, ◌-◌, ◌<◌, ◌≤◌, inl, inr, ℕ, zero, suc, List, [], ◌∷◌, ◌++◌, Some}
-use Rattle.std.proofs.Common.{refl, map, sym, ap, subst, append_assoc, length, take, drop, get_or, set, arith}
+use Rattle.std.proofs.Common.{map, sym, ap, subst, append_assoc, length, take, drop, get_or, set, arith}
 use Rattle.std.specs.Prelude.{slice_get}
 use Rattle.std.specs.List.{All, Contains}
 use Rattle.std.proofs.lemmas.Bool.{cases_eq, cases_lt}

@@ -1,0 +1,19 @@
+use Rattle.std.proofs.Common.{subst}
+use Rattle.std.specs.List.{Contains}
+use Rattle.command_line.specs.Rewritings.{is_allowed}
+use Rattle.job_link.specs.declared.writable.WritableSections.TheVariants.{Refused}
+use Rattle.job_link.specs.Mentions.{object_names}
+use Rattle.commands.specs.Races.{IsRace}
+use Rattle.commands.proofs.Asked.{asks_whole}
+use Rattle.commands.proofs.Fetched.{files_say}
+use Rattle.commands.proofs.races.raced_of_text.Goals as goal
+
+pub returns-in_ok-files-in-Ok-clause-says : goal.returns-in_ok-files-in-Ok-clause-says
+returns-in_ok-files-in-Ok-clause-says g c =
+    rw c.in-Ok.ensures.job (files_say IsRace (is_allowed c.args.rewriting) Refused (g.S.Store.files c.args.store.now) c.in-Ok.job c.in_ok-files-in-Ok.files c.in_ok-files-in-Ok.ensures.bytes
+    c.keeps_limits.ensures.mentioned c.raced_of_files.result c.raced_of_files.ensures.says)
+
+pub returns-in_ok-files-in-Ok-clause-asks : goal.returns-in_ok-files-in-Ok-clause-asks
+returns-in_ok-files-in-Ok-clause-asks g c =
+    rw c.in-Ok.ensures.job
+    (asks_whole (object_names c.in-Ok.job) (g.S.Store.asked c.args.store.now) (g.S.Store.asked c.fetch_objects.new.store) c.raced_of_files.result c.in_ok-files-in-Ok.ensures.asked)
