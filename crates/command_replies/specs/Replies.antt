@@ -1,4 +1,4 @@
--- How what a command gives relates to the number that the program ends with, and to its text.
+-- How a command's output, or its refusal, relates to the number that the program ends with, and to its text.
 use Rattle.std.specs.Prelude.{◌≡◌, ℕ, ◌⊎◌, List, Result, Ok, Err}
 use Rattle.command_replies.specs.declared.fault.CommandFault.{CommandFault}
 use Rattle.command_replies.specs.declared.fault.CommandFault.TheVariants as fault

@@ -1,4 +1,4 @@
-//! How what a command gives reaches the sink.
+//! How a command's output, or the line of its refusal, reaches the sink.
 ghost use Rattle.command_replies.specs.Delivery.{Says, Delivers, Delivered, memory_line};
 ghost use Rattle.command_replies.specs.Statuses.{IsLate, SinkShown, code_of};
 ghost use Rattle.command_replies.specs.Replies.{IsDelivered, IsOwn};

@@ -7,7 +7,7 @@ use std::alloc::AllocError;
 use std::io;
 use thiserror::Error;
 
-/// Why a run ends early.
+/// Why a run of trials, whose words are as they must be, ends early.
 #[derive(Clone, Copy, Debug, Error)]
 pub enum Alarm {
     /// Memory ran out.
@@ -19,12 +19,19 @@ pub enum Alarm {
     /// The counts could not be printed.
     #[error("the counts can't be printed")]
     Output,
-    /// The words are no count, seed and kinds of inputs.
-    #[error("words: COUNT SEED KIND..")]
-    Words,
     /// An answer is otherwise than it must be.
     #[error("{what}")]
     Answer { what: &'static str },
+}
+
+/// Why trials end early.
+#[derive(Clone, Copy, Debug, Error)]
+pub enum Ended {
+    /// The words are no count, seed and kinds of inputs.
+    #[error("words: COUNT SEED KIND..")]
+    Words,
+    #[error("{alarm}")]
+    Alarm { alarm: Alarm },
 }
 
 impl From<AllocError> for Alarm {

@@ -31,6 +31,6 @@ mod samples;
 mod tally;
 mod trial;
 
-pub use alarm::Alarm;
+pub use alarm::{Alarm, Ended};
 pub use bench::Program;
 pub use plan::try_words;

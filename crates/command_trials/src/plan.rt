@@ -1,10 +1,10 @@
 //! So many changed inputs of a kind, one after another.
 
-ghost use Rattle.std.specs.Prelude.{◌≡◌, Err, IfSome, None, OnOk, drop, false, is_ok, true};
-ghost use Rattle.command_trials.specs.declared.alarm.Alarm.TheVariants.{Words};
+ghost use Rattle.std.specs.Prelude.{◌≡◌, Err, IfSome, None, OnOk, drop, false, is_some, true};
+ghost use Rattle.command_trials.specs.declared.alarm.Ended.TheVariants.{Words};
 ghost use Rattle.command_trials.specs.Words.{AreKinds, AreWords, Gives, IsNumber, IsPlan, is_kind};
 
-use crate::alarm::Alarm;
+use crate::alarm::{Alarm, Ended};
 use crate::bench::{Bench, Program};
 use crate::inputs::{
     lay_objects, linked_images, try_changed_image, try_changed_job, try_changed_object,
@@ -48,14 +48,14 @@ fn kinds_in(words: &[String]) -> &[String]
 }
 
 /// The kind of that name.
-fn kind_of(name: &str) -> Result<Kind, Alarm>
-    ensures { is_ok result ≡ is_kind name.now }
+fn kind_of(name: &str) -> Option<Kind>
+    ensures { is_some result ≡ is_kind name.now }
 {
     match name {
-        "jobs" => Ok(Kind::Jobs),
-        "objects" => Ok(Kind::Objects),
-        "images" => Ok(Kind::Images),
-        _ => Err(Alarm::Words),
+        "jobs" => Some(Kind::Jobs),
+        "objects" => Some(Kind::Objects),
+        "images" => Some(Kind::Images),
+        _ => None,
     }
 }
 
@@ -65,7 +65,7 @@ fn are_kinds(names: &[String]) -> bool
     ensures others { result ≡ false → AreKinds names.now → ⊥ }
 {
     for name in names {
-        if kind_of(name.as_str()).is_err() {
+        if kind_of(name.as_str()).is_none() {
             return false;
         }
     }
@@ -113,22 +113,22 @@ fn try_inputs<R: Threads + Wait + Print + Sync, P: Program>(
     Ok(())
 }
 
-/// Tries changed inputs of the kind of this name, and prints the counts.
+/// Tries changed inputs of the kind, and prints the counts under its name.
 fn try_kind<R: Threads + Wait + Print + Sync, P: Program>(
     rt: &R,
     bench: &mut Bench<P>,
     samples: &Samples,
+    kind: Kind,
     name: &str,
     plan: Plan,
 ) -> Result<(), Alarm> {
-    let kind = kind_of(name)?;
     lay_objects(bench, samples)?;
     try_inputs(rt, bench, samples, kind, plan)?;
     bench.tally.print(rt, name)?;
     Ok(())
 }
 
-/// Tries changed inputs of each of these kinds.
+/// Tries changed inputs of each of the kinds of these names.
 fn try_kinds<R: Threads + Wait + Print + Sync, P: Program>(
     rt: &R,
     bench: &mut Bench<P>,
@@ -137,31 +137,51 @@ fn try_kinds<R: Threads + Wait + Print + Sync, P: Program>(
     plan: Plan,
 ) -> Result<(), Alarm> {
     for name in names {
-        try_kind(rt, bench, samples, name.as_str(), plan)?;
+        if let Some(kind) = kind_of(name.as_str()) {
+            try_kind(rt, bench, samples, kind, name.as_str(), plan)?;
+        }
     }
     Ok(())
 }
 
+/// Fetches the samples, and tries changed inputs of the kinds of these names.
+fn try_plan<R: Threads + Wait + Print + Sync, P: Program, S: Store>(
+    rt: &R,
+    alloc: Global,
+    program: P,
+    store: &mut S,
+    names: &[String],
+    plan: Plan,
+) -> Result<(), Alarm>
+    ensures { S.files store.new ≡ S.files store.old }
+{
+    let samples = Samples::fetch(alloc, store)?;
+    let mut bench = Bench::new(alloc, program)?;
+    let seed = plan.seed;
+    println!(rt; "seed {seed}")?;
+    try_kinds(rt, &mut bench, &samples, names, plan)
+}
+
 /// Tries changed inputs, by words: how many of each kind, a seed, and kinds, which are `jobs`, `objects` and `images`.
-/// `store` has what is changed. Prints the counts of each kind. The error says what is wrong with the first answer that
-/// is otherwise than it must be, and the line before it names the input.
+/// `store` has what is changed. Prints the counts of each kind. The error says that the words are otherwise, or what is
+/// wrong with the first answer that is otherwise than it must be; then the line before it names the input.
 pub fn try_words<R: Threads + Wait + Print + Sync, P: Program, S: Store>(
     rt: &R,
     alloc: Global,
     program: P,
     store: &mut S,
     words: &[String],
-) -> Result<(), Alarm>
+) -> Result<(), Ended>
     ensures files { S.files store.new ≡ S.files store.old }
     ensures words { OnOk result (AreWords words.now) }
     ensures usage { (AreWords words.now → ⊥) → result ≡ Err Words }
+    ensures taken { result ≡ Err Words → AreWords words.now → ⊥ }
 {
     let Some(plan) = plan_of(words) else {
-        return Err(Alarm::Words);
+        return Err(Ended::Words);
     };
-    let samples = Samples::fetch(alloc, store)?;
-    let mut bench = Bench::new(alloc, program)?;
-    let seed = plan.seed;
-    println!(rt; "seed {seed}")?;
-    try_kinds(rt, &mut bench, &samples, kinds_in(words), plan)
+    match try_plan(rt, alloc, program, store, kinds_in(words), plan) {
+        Ok(()) => Ok(()),
+        Err(alarm) => Err(Ended::Alarm { alarm }),
+    }
 }

@@ -48,17 +48,17 @@ struct Arguments {
 }
 
 /// The registers before a call of the function at `place`.
-fn registers_at(thread: u32, place: u64, to: Arguments) -> State<Word, Flag>
+fn registers_at(thread: u32, place: u64, given: Arguments) -> State<Word, Flag>
     requires { thread ≤ 64 }
-    ensures { result ≡ call_start ops thread place to.a to.b to.c }
+    ensures { result ≡ call_start ops thread place given.a given.b given.c }
 {
     let stack = stack_end(thread) - 8;
     let mut state = start::<MarkedValues>(
         place,
         stack,
-        Word::Number(to.a),
-        Word::Number(to.b),
-        Word::Number(to.c),
+        Word::Number(given.a),
+        Word::Number(given.b),
+        Word::Number(given.c),
     );
     state.thread_pointer = thread_pointer(thread);
     state
@@ -71,11 +71,11 @@ fn call(
     table: &ModuleTable,
     line: &ThreadLine,
     symbol: &[u8],
-    to: Arguments,
+    given: Arguments,
 ) -> Result<Started, AllocError>
     requires { space.old.live ≡ instances_in (infos_of space.old.images) table.now }
     ensures { IfOk result (λ started. (number : ℕ)
-        → BeginsCall (record { number = number; told = line.now }) symbol.now to.a to.b to.c
+        → BeginsCall (record { number = number; told = line.now }) symbol.now given.a given.b given.c
         table.now space.old started table.now space.new) }
 {
     let Some(instance) = live_instance(space.images(), table, line.image) else {
@@ -85,7 +85,7 @@ fn call(
         return Ok(CLEAN);
     };
     space.renew_stack()?;
-    Ok(Started::Calls(registers_at(space.thread(), place, to)))
+    Ok(Started::Calls(registers_at(space.thread(), place, given)))
 }
 
 // ** opens and closes

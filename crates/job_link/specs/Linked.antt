@@ -34,7 +34,7 @@ link_in images relax g = record {
 abbrev pub AllLink : List Given → Bool → Type 0
 AllLink images relax = All (λ g. Links (link_in images relax g)) images
 
--- image `number`, counted from 0, is the first that does not link, and this is its first fault
+-- the images before image `number`, counted from 0, link; this is its first fault, or memory ran out for it
 pub record IsFirstUnlinked (images : List Given) (relax : Bool) (number : ℕ) (fault : LinkFault) : Type 0 where
   pub image : Given
   pub there : slice_get images number ≡ Some image

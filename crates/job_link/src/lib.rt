@@ -21,7 +21,7 @@
 //! The rule that the crate keeps: **each file is fetched once, and each step does what the job says or names the
 //! first thing that stops it.** A step takes its things in one order and reports the first that fails: everything
 //! before it is sound, and nothing is said of what comes after it, though other objects of the same image may have
-//! been read. Memory may run out in any step, which is an answer of its own.
+//! been read. Memory may run out in any step, a fault of which nothing more is said.
 //!
 //! Take a job whose two images share an object:
 //!

@@ -16,8 +16,8 @@ use std::alloc::{AllocError, Global};
 use std::thread::Threads;
 use tls_symbols::{Exports, exports};
 
-/// Why the images of a job are not ready: the first that does not link, by its number in image order, counted from 0,
-/// and its first fault.
+/// Why the images of a job are not ready. `number` is that of an image, in image order, counted from 0: those before it
+/// link, and `fault` is its first fault, or memory ran out for it.
 #[derive(Drop)]
 pub struct ImageRefusal {
     pub number: usize,
@@ -102,6 +102,7 @@ pub fn prepare_images<'i, 'a>(
     ensures links { OnOk result (AllLink images.now relax) }
     ensures refused { IfErr result (λ refusal. IsFirstUnlinked images.now relax refusal.number refusal.fault) }
 {
+    // Want of memory has an image too, so each refusal names one of the job's.
     let mut all = Vec::new(alloc);
     for (number, image) in images.iter().enumerate() {
         match ready_one(alloc, image, startup, relax) {

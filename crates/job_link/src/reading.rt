@@ -18,7 +18,7 @@ use std::mem;
 use std::thread::Threads;
 
 /// Why the objects of a job cannot be read: the first that has a fault, by its name in the job, and its first fault.
-/// The name is empty if memory ran out for no object.
+/// If memory ran out, that is the fault, and the name may be any.
 #[derive(Drop)]
 pub struct ReadRefusal<'j> {
     pub name: &'j str,

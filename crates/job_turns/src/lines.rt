@@ -51,13 +51,13 @@ struct Arguments {
 }
 
 /// A machine before a call of the function at this address.
-fn machine_at(thread: u32, place: u64, to: Arguments) -> Machine<Plain>
+fn machine_at(thread: u32, place: u64, given: Arguments) -> Machine<Plain>
     requires { thread ≤ 64 }
-    ensures state { result.state ≡ call_start plain_operations thread place to.a to.b to.c }
+    ensures state { result.state ≡ call_start plain_operations thread place given.a given.b given.c }
     ensures fresh { result.taken ≡ 0 }
 {
     let stack = stack_end(thread) - 8;
-    let mut machine = Machine::<Plain>::start(place, stack, to.a, to.b, to.c);
+    let mut machine = Machine::<Plain>::start(place, stack, given.a, given.b, given.c);
     machine.set_thread_pointer(thread_pointer(thread));
     machine
 }
@@ -69,10 +69,10 @@ fn call(
     names: &JobNames,
     image: u32,
     symbol: &[u8],
-    to: Arguments,
+    given: Arguments,
 ) -> Result<Started, AllocError>
     requires { names.now ≡ space.old.vector.images }
-    ensures { IfOk result (λ started. BeginsCall image symbol.now to.a to.b to.c space.old started space.new) }
+    ensures { IfOk result (λ started. BeginsCall image symbol.now given.a given.b given.c space.old started space.new) }
 {
     let Some(instance) = space.instance(image) else {
         return Ok(refused(LineRefusal::NotOpen));
@@ -81,7 +81,7 @@ fn call(
         return Ok(refused(LineRefusal::Symbol));
     };
     space.renew_stack()?;
-    Ok(Started::Calls(machine_at(space.thread(), place, to)))
+    Ok(Started::Calls(machine_at(space.thread(), place, given)))
 }
 
 // ** opens and closes

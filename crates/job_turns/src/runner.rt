@@ -47,7 +47,7 @@ pub struct Runner<'j, 'n, 'm> {
     names: &'n JobNames<'m>,
     lines: &'j [ThreadLine],
     fuel: u64,
-    /// How many lines are begun.
+    /// The number of lines that have begun.
     begun: usize,
     space: ThreadSpace<'m>,
     call: Option<Pending>,
@@ -94,7 +94,7 @@ struct Script<'j, 'n, 'm> {
     names: &'n JobNames<'m>,
     lines: &'j [ThreadLine],
     fuel: u64,
-    /// How many lines are begun.
+    /// The number of lines that have begun.
     begun: usize,
 }
 

@@ -11,7 +11,7 @@ pub loop-name-preserved : goal.loop-name-preserved
 loop-name-preserved c =
     let kind : IsKindWord c.name-item.result =
     subst (λ (bytes : List ℕ). IsTrue (is_kind bytes)) c.as_str.ensures.value
-    (sym c.kind_of.ensures ∙ c.if-is_err.ensures.negation) in
+    (sym c.kind_of.ensures ∙ c.if-is_none.ensures) in
     All-more IsKindWord c.args.names.now c.loop-name.name-index c.name-item.result c.loop-name-test.true c.loop-name.invariant
     (subst IsKindWord c.name-item.is kind)
 

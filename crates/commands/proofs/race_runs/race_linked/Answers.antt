@@ -1,4 +1,3 @@
-use Rattle.std.proofs.Common.{◌≤◌, subst}
 use Rattle.commands.proofs.Raced.{raced, shares_none}
 use Rattle.commands.proofs.race_runs.race_linked.Goals as goal
 

@@ -1,5 +1,3 @@
-use Rattle.std.proofs.Common.{subst}
-use Rattle.std.specs.List.{Contains}
 use Rattle.command_line.specs.Rewritings.{is_allowed}
 use Rattle.job_link.specs.declared.writable.WritableSections.TheVariants.{Refused}
 use Rattle.job_link.specs.Mentions.{object_names}

@@ -1,4 +1,3 @@
-use Rattle.std.proofs.Common.{◌≤◌, subst}
 use Rattle.commands.proofs.Transcribed.{ran}
 use Rattle.commands.proofs.runs.run_linked.Goals as goal
 

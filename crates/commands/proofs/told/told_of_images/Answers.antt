@@ -1,4 +1,4 @@
-use Rattle.std.proofs.Common.{◌≤◌, length, subst, arith}
+use Rattle.std.proofs.Common.{arith}
 use Rattle.command_line.specs.Rewritings.{is_allowed}
 use Rattle.commands.specs.Purposes.{Makes}
 use Rattle.commands.proofs.Fetched.{count_is, linked_say, names_image}

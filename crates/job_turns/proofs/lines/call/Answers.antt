@@ -8,21 +8,21 @@ use Rattle.job_turns.proofs.lines.call.Goals as goal
 pub returns-in_default : goal.returns-in_default
 returns-in_default c =
     rw c.refused.ensures
-    (call_closed c.args.space.now c.args.image c.args.symbol.now c.args.to.a c.args.to.b c.args.to.c (sym c.in_default.ensures))
+    (call_closed c.args.space.now c.args.image c.args.symbol.now c.args.given.a c.args.given.b c.args.given.c (sym c.in_default.ensures))
 
 pub returns-in_default-function : goal.returns-in_default-function
 returns-in_default-function c =
     rw c.refused-in_default-function.ensures
-    (call_unknown c.args.space.now c.args.image c.args.symbol.now c.args.to.a c.args.to.b c.args.to.c c.in-Some.instance (sym c.in-Some.ensures)
+    (call_unknown c.args.space.now c.args.image c.args.symbol.now c.args.given.a c.args.given.b c.args.given.c c.in-Some.instance (sym c.in-Some.ensures)
     (ap (λ m. (job_loads m).function c.in-Some.instance c.args.symbol.now) (sym c.requires) ∙ sym c.in_default-function.ensures))
 
 pub returns : goal.returns
 returns c =
     let fresh = c.in_ok-renew_stack.ensures.ok in
     let thread = c.thread.ensures.value ∙ ap (λ v. v.thread) fresh.vector in
-    call_begins c.args.space.now c.args.image c.args.symbol.now c.args.to.a c.args.to.b c.args.to.c c.in-Some.instance c.in-Some-function.place
+    call_begins c.args.space.now c.args.image c.args.symbol.now c.args.given.a c.args.given.b c.args.given.c c.in-Some.instance c.in-Some-function.place
     c.renew_stack.new.self c.machine_at.result (sym c.in-Some.ensures)
     (ap (λ m. (job_loads m).function c.in-Some.instance c.args.symbol.now) (sym c.requires) ∙ sym c.in-Some-function.ensures) fresh
     (c.machine_at.ensures.state
-    ∙ ap (λ t. call_start plain_operations t c.in-Some-function.place c.args.to.a c.args.to.b c.args.to.c) thread)
+    ∙ ap (λ t. call_start plain_operations t c.in-Some-function.place c.args.given.a c.args.given.b c.args.given.c) thread)
     c.machine_at.ensures.fresh
