@@ -9,7 +9,7 @@ ghost use Rattle.commands.specs.Listings.{ListingSays};
 ghost use Rattle.commands.specs.Tasks.{ShowSays, TaskLeaves, TaskSays, task_names};
 
 use crate::generated::generated;
-use crate::links::link;
+use crate::links::{Put, link};
 use crate::purpose::Purpose;
 use crate::telling::Telling;
 use crate::told::told;
@@ -52,15 +52,13 @@ pub fn output<R: Threads + Sync, S: Store>(
             image,
             out,
             rewriting,
-        } => link(
-            rt,
-            alloc,
-            store,
-            job.as_str(),
-            image.as_str(),
-            out.as_str(),
-            *rewriting,
-        ),
+        } => {
+            let put = Put {
+                image: image.as_str(),
+                out: out.as_str(),
+            };
+            link(rt, alloc, store, job.as_str(), put, *rewriting)
+        }
         Task::Sites { job, image } => sites(rt, alloc, store, job.as_str(), image.as_str()),
         Task::Show { file } => show(alloc, store, file.as_str()),
         Task::Gen { count } => generated(rt, alloc, *count),

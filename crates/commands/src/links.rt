@@ -13,25 +13,32 @@ use ports::Store;
 use std::alloc::{AllocError, Global};
 use std::thread::Threads;
 
+/// An image of a job, and the file that it is put into, by their names.
+#[derive(Clone, Copy)]
+pub struct Put<'a> {
+    pub image: &'a str,
+    pub out: &'a str,
+}
+
 /// `link JOB IMAGE OUT`: puts the image into the file OUT, and says how long it is.
 pub fn link<R: Threads + Sync, S: Store>(
     rt: &R,
     alloc: Global,
     store: &mut S,
     job: &str,
-    image: &str,
-    out: &str,
+    put: Put,
     rewriting: Rewriting,
 ) -> Result<Vec<u8>, CommandFault>
     ensures files { Leaves (S.files store.old) (S.files store.new)
-        (λ fs. LinkSays fs (S.files store.new) job.now image.now out.now rewriting) }
+        (λ fs. LinkSays fs (S.files store.new) job.now put.entry.image.now put.entry.out.now rewriting) }
     ensures kept { KeepsFiles (S.files store.old) (S.files store.new) result }
     ensures cause { StoreCounts (S.faults store.old) (S.faults store.new) result }
     ensures says { IfSome (S.files store.old) (λ fs. Comes (λ text. text.items)
-        (LinkSays fs (S.files store.new) job.now image.now out.now rewriting) result) }
-    ensures asks { IfSome (S.files store.old) (λ fs. Asks (image_names fs job.now image.now)
+        (LinkSays fs (S.files store.new) job.now put.entry.image.now put.entry.out.now rewriting) result) }
+    ensures asks { IfSome (S.files store.old) (λ fs. Asks (image_names fs job.now put.entry.image.now)
         (S.asked store.old) (S.asked store.new) result) }
 {
+    let Put { image, out } = put;
     match told(rt, alloc, store, job, rewriting, Purpose::File { image }) {
         Ok(file) => put_image(alloc, store, image, out, file),
         Err(fault) => Err(fault),

@@ -90,28 +90,27 @@ fn write_halves<R: Threads + Sync>(
         return write_part(plan, part, bytes);
     }
     let (front, back) = bytes.split_at_mut((cut - part.from) as usize);
-    write_both(rt, plan, part, cut, halvings - 1, front, back);
+    write_both(rt, plan, part, halvings - 1, front, back);
 }
 
-/// Writes the fields of the two halves of a part at the same time.
+/// Writes the fields of the two halves of a part at the same time. The part is cut behind its front.
 #[cycle(halves)]
 fn write_both<R: Threads + Sync>(
     rt: &R,
     plan: &Plan,
     part: FilePart,
-    cut: u64,
     halvings: u32,
     front: &mut [u8],
     back: &mut [u8],
 )
-    requires front { IsPart plan.now part.from (Some cut) (length front.old) }
-    requires cut { part.from + length front.old ≡ cut }
-    requires back { IsPart plan.now cut part.to (length back.old) }
-    requires ends { EndsBehind (cut + length back.old) part.to }
-    requires far { cut + length back.old ≤ 2 ^ 30 }
-    ensures front { IsWritten plan.now part.from (Some cut) front.old front.new }
-    ensures back { IsWritten plan.now cut part.to back.old back.new }
+    requires front { IsPart plan.now part.from (Some (part.from + length front.old)) (length front.old) }
+    requires back { IsPart plan.now (part.from + length front.old) part.to (length back.old) }
+    requires ends { EndsBehind (part.from + length front.old + length back.old) part.to }
+    requires far { part.from + length front.old + length back.old ≤ 2 ^ 30 }
+    ensures front { IsWritten plan.now part.from (Some (part.from + length front.old)) front.old front.new }
+    ensures back { IsWritten plan.now (part.from + length front.old) part.to back.old back.new }
 {
+    let cut = part.from + front.len() as u64;
     let before = FilePart {
         from: part.from,
         to: Some(cut),

@@ -1,4 +1,4 @@
-use Rattle.std.proofs.Common.{◌≡◌, ◌+◌, ◌-◌, ◌++◌, length, sym, subst, arith}
+use Rattle.std.proofs.Common.{◌≡◌, ◌+◌, ◌-◌, ◌++◌, Some, length, sym, subst, arith}
 use Rattle.link_core.specs.Parts.{IsPart, IsWritten}
 use Rattle.link_core.proofs.PartSplit.{ends_nearer, second_part}
 use Rattle.link_core.proofs.PartsWritten.{joined}
@@ -21,7 +21,9 @@ write_halves-returns g t c =
     let part : IsPart l cut to (length back) =
     subst (IsPart l cut to) rest
     (second_part l from cut to (length c.args.bytes.now) (omega arith) (omega arith) c.requires.part) in
+    let same : from + length front ≡ cut = omega (arith, halves.ensures.front_len, low) in
     subst (λ xs. IsWritten l from to xs (c.write_both.new.front ++ c.write_both.new.back)) (sym halves.ensures.value)
     (joined l given limits from cut to front c.write_both.new.front back c.write_both.new.back (omega arith) (ends_nearer cut (from + length c.args.bytes.now) to (omega (arith, near)) c.requires.ends)
     halves.ensures.front_len c.cut_before-cut.ensures.cut part
-    c.write_both.ensures.front c.write_both.ensures.back)
+    (subst (λ k. IsWritten l from (Some k) front c.write_both.new.front) same c.write_both.ensures.front)
+    (subst (λ k. IsWritten l k to back c.write_both.new.back) same c.write_both.ensures.back))
