@@ -1,6 +1,6 @@
 //! The instances of images.
 
-ghost use Rattle.std.specs.Prelude.{◌≡◌, ◌+◌, ◌<◌, ◌≤◌, ◌^◌};
+ghost use Rattle.std.specs.Prelude.{◌≡◌, ◌<◌, ◌^◌};
 ghost use Rattle.address_map.specs.Map.{moved_bias, owner_at};
 
 /// The load bias of an instance of an image that is moved, by its number: the distance from where the image was laid
@@ -22,9 +22,3 @@ pub fn owner(place: u64) -> u64
     }
     (place - (1 << 32)) / (1 << 26)
 }
-
-/// The addresses of an instance that is moved tell its number. The call does nothing; it gives a proof this fact.
-pub fn own_addresses_tell(number: u32, offset: u64)
-    requires { offset < 2 ^ 26 }
-    ensures { owner_at (moved_bias number + offset) ≡ number }
-{}

@@ -1,4 +1,4 @@
-//! Which addresses a job's threads and the instances of its images have.
+//! Which addresses a job's threads, the instances of its images and the run time have.
 //!
 //! All threads of a job live in one address space, and so do all images that it loads. Nothing in it is looked for: an
 //! address tells by itself whose it is.
@@ -17,15 +17,15 @@
 //! variant II; that the word at the thread pointer is its own address is the psABI's rule ("Thread-Local Storage").
 //! How far an image is moved is its *load bias*.
 //!
-//! The rule that the crate keeps: **each of these numbers has one definition** (`specs/Map`), and an address of an
-//! instance that is moved tells the instance's number ([`own_addresses_tell`]). What a job means, how
-//! it is run and how it is checked all name it. Threads are numbered from 1 to 64, and instances have 32 bits.
+//! The rule that the crate keeps: **each of these numbers has one definition** (`specs/Map`), and an instance's addresses
+//! tell its number (`specs/Laws`). What a job means, how it is run and how it is checked all name it. Threads are
+//! numbered from 1 to 64, and instances have 32 bits.
 #![tactic(auto)]
 
 mod images;
 mod run_time;
 mod threads;
 
-pub use images::{moved_bias, own_addresses_tell, owner};
+pub use images::{moved_bias, owner};
 pub use run_time::{DESCRIPTOR, GET_ADDRESS, RETURN};
 pub use threads::{STACK_SIZE, block_place, stack_end, stack_start, thread_pointer};

@@ -3,8 +3,9 @@
 -- on is the linker's room.
 use Rattle.std.proofs.Common.{◌≡◌, ◌∙◌, ◌+◌, ◌<◌, ◌≤◌, ◌^◌, ◌&&◌, ◌⊎◌, ℕ, Bool, true, false, List, [], ◌∷◌, All, Option, Some, None, refl, sym, inl, inr, arith}
 use Rattle.std.specs.List.{list_all}
-use Rattle.std.proofs.lemmas.Bool.{and_parts, lt-ltb}
+use Rattle.std.proofs.lemmas.Bool.{and_parts}
 use Rattle.std.proofs.lemmas.List.Elements.{All-cons, All-nil}
+use Rattle.address_map.specs.Laws.{fixed_addresses_tell}
 use Rattle.address_map.specs.Map.{owner_at}
 use Rattle.guest_machine.specs.Ranges.{Range, byte_in, holds}
 use Rattle.guest_operands.specs.declared.space.Access.{Access}
@@ -32,12 +33,8 @@ room_is false place = refl
 
 -- ** places of its own
 
-pub owner_is : (place : ℕ) → place < 2 ^ 32 → owner_at place ≡ 1
-unfolding owner_at
-owner_is place below = rw (lt-ltb place (2 ^ 32) below) refl
-
 is_own : (place : ℕ) → (0x400000 ≤ place) × (place < 0x4400000) → IsPlaceOf app place
-is_own place b = (owner_is place (omega (arith, b.1)), (b.0, omega (arith, b.1)))
+is_own place b = (fixed_addresses_tell place (omega (arith, b.1)), (b.0, omega (arith, b.1)))
 
 fixed_lies : (relax : Bool) → list_all (lies_within 0x400000 0x4400000) ((q relax).fixed app) ≡ true
 unfolding q
@@ -69,7 +66,7 @@ pub ends : (relax : Bool) (place k byte : ℕ) → k < 4 → byte_in Run ((q rel
     → owner_at (place + k) ≡ 1
 ends relax place k byte few e =
     let b = found_within Run 0x400000 0x4400000 place byte ((q relax).fixed app) (fixed_lies relax) e in
-    owner_is (place + k) (omega (arith, b.1, few))
+    fixed_addresses_tell (place + k) (omega (arith, b.1, few))
 
 -- ** tables, and data
 

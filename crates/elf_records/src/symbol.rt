@@ -3,7 +3,8 @@
 ghost use Rattle.std.specs.Prelude.{◌≡◌, ◌+◌, ◌*◌, ◌<◌, ◌≤◌, length, take, drop};
 ghost use Rattle.elf_records.specs.Fields.{IsReadAt, splice};
 ghost use Rattle.elf_records.specs.Records.{symbol_at, symbol_binding, symbol_bytes, symbol_kind, symbol_visibility};
-ghost use Rattle.elf_records.specs.Symbols.{binding_numbered, is_tls, is_visible, type_numbered, visibility_numbered};
+ghost use Rattle.elf_records.specs.Symbols.{binding_number, binding_numbered, is_tls, is_visible, type_number};
+ghost use Rattle.elf_records.specs.Symbols.{type_numbered, visibility_number, visibility_numbered};
 
 use crate::field::{fits, put_u8, put_u16, put_u32, put_u64, u8_at, u16_at, u32_at, u64_at};
 
@@ -90,7 +91,36 @@ pub enum Visibility {
     Protected,
 }
 
+impl SymbolBinding {
+    /// The number of the binding in the file.
+    pub fn number(self) -> u8
+        ensures value { result ≡ binding_number self }
+        ensures small { result < 16 }
+    {
+        match self {
+            SymbolBinding::Local => STB_LOCAL,
+            SymbolBinding::Global => STB_GLOBAL,
+            SymbolBinding::Weak => STB_WEAK,
+        }
+    }
+}
+
 impl SymbolType {
+    /// The number of the type in the file.
+    pub fn number(self) -> u8
+        ensures value { result ≡ type_number self }
+        ensures small { result < 16 }
+    {
+        match self {
+            SymbolType::NoType => STT_NOTYPE,
+            SymbolType::Object => STT_OBJECT,
+            SymbolType::Func => STT_FUNC,
+            SymbolType::Section => STT_SECTION,
+            SymbolType::File => STT_FILE,
+            SymbolType::Tls => STT_TLS,
+        }
+    }
+
     /// Whether each thread has a copy of what the symbol names.
     pub fn is_tls(self) -> bool
         ensures { result ≡ is_tls self }
@@ -100,6 +130,18 @@ impl SymbolType {
 }
 
 impl Visibility {
+    /// The number of the visibility in the file.
+    pub fn number(self) -> u8
+        ensures { result ≡ visibility_number self }
+    {
+        match self {
+            Visibility::Default => STV_DEFAULT,
+            Visibility::Internal => STV_INTERNAL,
+            Visibility::Hidden => STV_HIDDEN,
+            Visibility::Protected => STV_PROTECTED,
+        }
+    }
+
     /// Whether code of other images may name the symbol.
     pub fn is_visible(self) -> bool
         ensures { result ≡ is_visible self }

@@ -28,6 +28,15 @@ loader_kind n =
     if n == R_X86_64_TLSDESC then Some Descriptor else
     None
 
+-- the number of a type
+abbrev pub kind_number : LoaderKind → ℕ
+kind_number JumpSlot = R_X86_64_JUMP_SLOT
+kind_number Relative = R_X86_64_RELATIVE
+kind_number Module = R_X86_64_DTPMOD64
+kind_number ModuleOffset = R_X86_64_DTPOFF64
+kind_number ThreadOffset = R_X86_64_TPOFF64
+kind_number Descriptor = R_X86_64_TLSDESC
+
 -- how many bytes a relocation of this number writes
 abbrev pub field_width : ℕ → ℕ
 field_width n = if n == R_X86_64_TLSDESC then 16 else 8

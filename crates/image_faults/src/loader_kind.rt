@@ -1,7 +1,7 @@
 //! The types of relocation that a loader carries out.
 
 ghost use Rattle.std.specs.Prelude.{◌≡◌};
-ghost use Rattle.image_faults.specs.Relocations.{loader_kind, field_width};
+ghost use Rattle.image_faults.specs.Relocations.{field_width, kind_number, loader_kind};
 
 use elf_records::relocation::{
     R_X86_64_DTPMOD64, R_X86_64_DTPOFF64, R_X86_64_JUMP_SLOT, R_X86_64_RELATIVE, R_X86_64_TLSDESC,
@@ -26,6 +26,20 @@ pub enum LoaderKind {
 }
 
 impl LoaderKind {
+    /// The number of the type.
+    pub fn number(self) -> u32
+        ensures { result ≡ kind_number self }
+    {
+        match self {
+            LoaderKind::JumpSlot => R_X86_64_JUMP_SLOT,
+            LoaderKind::Relative => R_X86_64_RELATIVE,
+            LoaderKind::Module => R_X86_64_DTPMOD64,
+            LoaderKind::ModuleOffset => R_X86_64_DTPOFF64,
+            LoaderKind::ThreadOffset => R_X86_64_TPOFF64,
+            LoaderKind::Descriptor => R_X86_64_TLSDESC,
+        }
+    }
+
     /// The type with this number.
     pub fn numbered(number: u32) -> Option<LoaderKind>
         ensures { result ≡ loader_kind number }

@@ -8,7 +8,9 @@ use Rattle.image_file.specs.declared.part.TlsPart.{TlsPart}
 use Rattle.image_file.specs.declared.symbol.ImageSymbol.{ImageSymbol}
 use Rattle.image_file.specs.declared.relocation.ImageRelocation.{ImageRelocation}
 use Rattle.image_file.specs.Spelled.{Part, Spelled}
-use Rattle.image_text.specs.Words.{kind_word, class_word, import_word, type_number, loader_number}
+use Rattle.elf_records.specs.Symbols.{type_number}
+use Rattle.image_faults.specs.Relocations.{kind_number}
+use Rattle.image_text.specs.Words.{class_word, import_word, kind_word}
 
 -- a number as 16 hexadecimal digits
 abbrev pub hex16 : ℕ → List ℕ
@@ -43,7 +45,7 @@ symbol_line named =
 -- a relocation: its place, its type, its symbol's number, its addend
 unfoldable pub relocation_line : ImageRelocation → List ℕ
 relocation_line relocation =
-    codes "reloc " ++ hex16 relocation.place ++ codes " " ++ decimal (loader_number relocation.kind) ++ codes " "
+    codes "reloc " ++ hex16 relocation.place ++ codes " " ++ decimal (kind_number relocation.kind) ++ codes " "
     ++ decimal relocation.symbol ++ codes " " ++ signed_decimal relocation.addend ++ codes "\n"
 
 -- the line of static TLS, if the image uses it

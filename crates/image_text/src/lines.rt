@@ -1,19 +1,12 @@
 //! The lines of an image's text, one at a time.
 
 ghost use Rattle.std.specs.Prelude.{◌≡◌, ◌++◌, OnOk};
-ghost use Rattle.image_text.specs.Words.{kind_word, class_word, import_word, type_number, loader_number};
+ghost use Rattle.image_text.specs.Words.{class_word, import_word, kind_word};
 ghost use Rattle.image_text.specs.Shown.{kind_line, part_line, tls_line, relro_line, symbol_line};
 ghost use Rattle.image_file.specs.Spelled.{lent_part};
 ghost use Rattle.image_text.specs.Shown.{relocation_line, flag_line};
 
-use elf_records::relocation::{
-    R_X86_64_DTPMOD64, R_X86_64_DTPOFF64, R_X86_64_JUMP_SLOT, R_X86_64_RELATIVE, R_X86_64_TLSDESC,
-    R_X86_64_TPOFF64,
-};
-use elf_records::symbol::{STT_FILE, STT_FUNC, STT_NOTYPE, STT_OBJECT, STT_SECTION, STT_TLS};
-use image_file::{
-    FileKind, ImagePart, ImageRelocation, ImageSymbol, LoaderKind, PartClass, SymbolType, TlsPart,
-};
+use image_file::{FileKind, ImagePart, ImageRelocation, ImageSymbol, PartClass, TlsPart};
 use std::alloc::AllocError;
 
 /// The word for the kind of an image.
@@ -43,34 +36,6 @@ fn import_word(is_defined: bool) -> &'static str
     ensures { result.now ≡ import_word is_defined }
 {
     if is_defined { "" } else { "import " }
-}
-
-/// The number of a symbol's type.
-fn type_number(kind: SymbolType) -> u8
-    ensures { result ≡ type_number kind }
-{
-    match kind {
-        SymbolType::NoType => STT_NOTYPE,
-        SymbolType::Object => STT_OBJECT,
-        SymbolType::Func => STT_FUNC,
-        SymbolType::Section => STT_SECTION,
-        SymbolType::File => STT_FILE,
-        SymbolType::Tls => STT_TLS,
-    }
-}
-
-/// The number of a relocation's type.
-fn loader_number(kind: LoaderKind) -> u32
-    ensures { result ≡ loader_number kind }
-{
-    match kind {
-        LoaderKind::JumpSlot => R_X86_64_JUMP_SLOT,
-        LoaderKind::Relative => R_X86_64_RELATIVE,
-        LoaderKind::Module => R_X86_64_DTPMOD64,
-        LoaderKind::ModuleOffset => R_X86_64_DTPOFF64,
-        LoaderKind::ThreadOffset => R_X86_64_TPOFF64,
-        LoaderKind::Descriptor => R_X86_64_TLSDESC,
-    }
 }
 
 /// Appends the line with the kind of the image.
@@ -125,7 +90,7 @@ pub fn push_symbol(text: &mut Vec<u8>, symbol: ImageSymbol, name: &[u8]) -> Resu
     ensures { OnOk result (text.new.items ≡ text.old.items ++ symbol_line (symbol, name.now)) }
 {
     let value = symbol.value;
-    let number = type_number(symbol.kind);
+    let number = symbol.kind.number();
     let import = import_word(symbol.is_defined);
     let front = format!(in *text.allocator(); "symbol {value:016x} {number} {import}")?;
     text.extend_from_slice(front.as_bytes())?;
@@ -139,7 +104,7 @@ pub fn push_relocation(text: &mut Vec<u8>, relocation: ImageRelocation) -> Resul
     ensures { OnOk result (text.new.items ≡ text.old.items ++ relocation_line relocation) }
 {
     let place = relocation.place;
-    let number = loader_number(relocation.kind);
+    let number = relocation.kind.number();
     let symbol = relocation.symbol;
     let addend = relocation.addend;
     let line = format!(in *text.allocator(); "reloc {place:016x} {number} {symbol} {addend}\n")?;

@@ -7,7 +7,7 @@ use Rattle.elf_records.specs.declared.symbol.TheConstants.{SHN_UNDEF, STB_GLOBAL
 use Rattle.image_faults.specs.declared.loader_kind.LoaderKind.{LoaderKind}
 use Rattle.image_faults.specs.declared.loader_kind.LoaderKind.TheVariants.{JumpSlot, Relative, Module, ModuleOffset}
 use Rattle.image_faults.specs.declared.loader_kind.LoaderKind.TheVariants.{ThreadOffset, Descriptor}
-use Rattle.image_faults.specs.Relocations.{field_width, loader_kind}
+use Rattle.image_faults.specs.Relocations.{field_width, kind_number, loader_kind}
 use Rattle.elf_records.specs.declared.symbol.SymbolBinding.{SymbolBinding}
 use Rattle.elf_records.specs.declared.symbol.SymbolBinding.TheVariants.{Local, Global, Weak}
 use Rattle.elf_records.specs.declared.symbol.SymbolType.{SymbolType}
@@ -16,9 +16,10 @@ use Rattle.elf_records.specs.declared.symbol.Visibility.{Visibility}
 use Rattle.elf_records.specs.declared.symbol.Visibility.TheVariants.{Default, Internal, Hidden, Protected}
 use Rattle.image_file.specs.declared.symbol.ImageSymbol.{ImageSymbol}
 use Rattle.image_file.specs.declared.relocation.ImageRelocation.{ImageRelocation}
-use Rattle.elf_records.specs.Symbols.{binding_numbered, type_numbered, visibility_numbered}
+use Rattle.elf_records.specs.Symbols.{binding_number, binding_numbered, type_number, type_numbered, visibility_number}
+use Rattle.elf_records.specs.Symbols.{visibility_numbered}
 use Rattle.image_file.specs.Spelled.{relocation_of, symbol_of}
-use Rattle.image_writer.specs.Tables.{binding_number, kind_number, relocation_entry, symbol_entry, type_number, visibility_number}
+use Rattle.image_writer.specs.Tables.{relocation_entry, symbol_entry}
 use Rattle.image_writer.specs.Linkable.{width}
 
 -- the number of a binding, read as what it stands for

@@ -22,7 +22,8 @@ use Rattle.image_file.specs.declared.relocation.ImageRelocation.{ImageRelocation
 use Rattle.image_writer.specs.Outlined.{outline_of, part}
 use Rattle.image_writer.specs.Page.{load_header}
 use Rattle.image_writer.specs.Contents.{Contents, all_names, symbol}
-use Rattle.image_writer.specs.Tables.{finished, name_start, relocation_entry, strings, symbol_entry, symbol_total, type_number}
+use Rattle.image_writer.specs.Tables.{finished, name_start, relocation_entry, strings, symbol_entry, symbol_total}
+use Rattle.elf_records.specs.Symbols.{type_number}
 use Rattle.image_writer.specs.Linkable.{AreRising, Holds, IsImport, IsRightRelocation, IsRightSymbol, IsRuntime}
 use Rattle.image_writer.specs.Linkable.{MayName, width}
 use Rattle.image_writer.proofs.Headed.{IsHeaded}

@@ -13,23 +13,12 @@ use Rattle.elf_records.specs.declared.relocation.Rela.{Rela}
 use Rattle.elf_records.specs.declared.dynamic.TheConstants.{DT_NULL, DT_HASH, DT_STRTAB, DT_SYMTAB, DT_RELA, DT_RELASZ}
 use Rattle.elf_records.specs.declared.dynamic.TheConstants.{DT_RELAENT, DT_STRSZ, DT_SYMENT, DT_FLAGS, DT_FLAGS_1}
 use Rattle.elf_records.specs.declared.dynamic.TheConstants.{DF_STATIC_TLS, DF_1_PIE}
-use Rattle.elf_records.specs.declared.symbol.TheConstants.{SHN_UNDEF, STB_LOCAL, STB_GLOBAL, STB_WEAK, STT_NOTYPE}
-use Rattle.elf_records.specs.declared.symbol.TheConstants.{STT_OBJECT, STT_FUNC, STT_SECTION, STT_FILE, STT_TLS}
-use Rattle.elf_records.specs.declared.symbol.TheConstants.{STV_DEFAULT, STV_INTERNAL, STV_HIDDEN, STV_PROTECTED}
-use Rattle.elf_records.specs.declared.relocation.TheConstants.{R_X86_64_JUMP_SLOT, R_X86_64_RELATIVE}
-use Rattle.elf_records.specs.declared.relocation.TheConstants.{R_X86_64_DTPMOD64, R_X86_64_DTPOFF64, R_X86_64_TPOFF64}
-use Rattle.elf_records.specs.declared.relocation.TheConstants.{R_X86_64_TLSDESC}
+use Rattle.elf_records.specs.declared.symbol.TheConstants.{SHN_UNDEF}
+use Rattle.elf_records.specs.Symbols.{binding_number, type_number, visibility_number}
 use Rattle.image_rules.specs.declared.places.FileKind.{FileKind}
 use Rattle.image_rules.specs.declared.places.FileKind.TheVariants.{Exe, Pie, Module}
-use Rattle.image_faults.specs.declared.loader_kind.LoaderKind.{LoaderKind}
-use Rattle.image_faults.specs.declared.loader_kind.LoaderKind.TheVariants as loader
+use Rattle.image_faults.specs.Relocations.{kind_number}
 use Rattle.image_file.specs.declared.part.PartClass.TheVariants.{ReadOnly}
-use Rattle.elf_records.specs.declared.symbol.SymbolBinding.{SymbolBinding}
-use Rattle.elf_records.specs.declared.symbol.SymbolBinding.TheVariants.{Local, Global, Weak}
-use Rattle.elf_records.specs.declared.symbol.SymbolType.{SymbolType}
-use Rattle.elf_records.specs.declared.symbol.SymbolType.TheVariants.{NoType, Object, Func, Section, File, Tls}
-use Rattle.elf_records.specs.declared.symbol.Visibility.{Visibility}
-use Rattle.elf_records.specs.declared.symbol.Visibility.TheVariants.{Default, Internal, Hidden, Protected}
 use Rattle.image_file.specs.declared.symbol.ImageSymbol.{ImageSymbol}
 use Rattle.image_file.specs.declared.relocation.ImageRelocation.{ImageRelocation}
 use Rattle.image_file.specs.Spelled.{Part, Spelled}
@@ -110,26 +99,6 @@ chain n k = if k == 0 then 0 else (if k + 1 == n then 0 else k + 1)
 unfoldable pub hash_words : ℕ → List ℕ
 hash_words n = 1 ∷ n ∷ (if n == 1 then 0 else 1) ∷ tabled (chain n) n
 
--- the numbers of a symbol's binding, type and visibility
-abbrev pub binding_number : SymbolBinding → ℕ
-binding_number Local = STB_LOCAL
-binding_number Global = STB_GLOBAL
-binding_number Weak = STB_WEAK
-
-abbrev pub type_number : SymbolType → ℕ
-type_number NoType = STT_NOTYPE
-type_number Object = STT_OBJECT
-type_number Func = STT_FUNC
-type_number Section = STT_SECTION
-type_number File = STT_FILE
-type_number Tls = STT_TLS
-
-abbrev pub visibility_number : Visibility → ℕ
-visibility_number Default = STV_DEFAULT
-visibility_number Internal = STV_INTERNAL
-visibility_number Hidden = STV_HIDDEN
-visibility_number Protected = STV_PROTECTED
-
 -- the entry of a symbol whose name begins at this offset of the names; a defined one is in section 1
 unfoldable pub symbol_entry : ImageSymbol → ℕ → SymbolEntry
 symbol_entry s at = record {
@@ -147,15 +116,6 @@ name_start c k = sum_by (λ name. length name + 1) (take k (all_names c))
 
 unfoldable pub symbol_rows : Contents → List SymbolEntry
 symbol_rows c = tabled (λ k. symbol_entry (symbol c k) (name_start c k)) (symbol_total c)
-
--- the number of a relocation's type
-abbrev pub kind_number : LoaderKind → ℕ
-kind_number loader.JumpSlot = R_X86_64_JUMP_SLOT
-kind_number loader.Relative = R_X86_64_RELATIVE
-kind_number loader.Module = R_X86_64_DTPMOD64
-kind_number loader.ModuleOffset = R_X86_64_DTPOFF64
-kind_number loader.ThreadOffset = R_X86_64_TPOFF64
-kind_number loader.Descriptor = R_X86_64_TLSDESC
 
 -- the entry of a relocation
 unfoldable pub relocation_entry : ImageRelocation → Rela

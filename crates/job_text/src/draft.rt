@@ -203,6 +203,7 @@ impl<'a> Draft<'a> {
         ensures { OnOk result (self.new ≡ with_image image image.kind self.old) }
     {
         let slot = self.next_slot(image.kind);
+        // All room first, for either group, so that nothing fails once the name has its entry.
         self.starts.reserve(1)?;
         self.lates.reserve(1)?;
         self.mentions.reserve(1)?;

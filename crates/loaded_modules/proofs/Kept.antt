@@ -119,13 +119,6 @@ pub last_low : (m : JobImages) → AreInfos (infos m) → last_offset m < 2 ^ 27
 unfolding last_offset
 last_low m are = let low = end_low (infos m) 0 are.each in omega (arith, low, are.few)
 
--- ** images by their numbers
-
-pub image_is : (m : JobImages) (number : ℕ) → at_number m.images number ≡ image_at m number
-unfolding image_at
-image_is m zero = refl
-image_is m (suc n) = refl
-
 pub length-infos : (m : JobImages) → length m.kinds ≡ length m.images → length (infos m) ≡ length m.images
 unfolding infos
 length-infos m same = length-infos_of m.kinds m.images same ∙ same

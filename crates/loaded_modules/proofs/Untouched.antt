@@ -10,7 +10,7 @@ use Rattle.image_file.specs.declared.relocation.ImageRelocation.{ImageRelocation
 use Rattle.image_file.specs.Spelled.{Part, Spelled}
 use Rattle.loaded_modules.specs.declared.instance.Instance.{Instance}
 use Rattle.loaded_modules.specs.declared.relocating.Target.{Target}
-use Rattle.loaded_modules.specs.declared.TheConstants.{TLS_DESCRIPTOR}
+use Rattle.address_map.specs.Map.{descriptor_place}
 use Rattle.loaded_modules.specs.Images.{JobImages}
 use Rattle.loaded_modules.specs.Loader.{lies_in, relocation_bytes, target_of, with_written, written_bytes}
 use Rattle.loaded_modules.specs.Words.{with_numbered, IsWindow}
@@ -27,8 +27,8 @@ short kind x t Module addend = word _
 short kind x t ModuleOffset addend = word _
 short kind x t ThreadOffset addend = word _
 short kind x t Descriptor addend =
-    let both = length-append (bytes_of 8 TLS_DESCRIPTOR) (bytes_of 8 ((t.id * 2 ^ 32 + t.offset) % 2 ^ 64)) in
-    let one = length-bytes_of 8 TLS_DESCRIPTOR in
+    let both = length-append (bytes_of 8 descriptor_place) (bytes_of 8 ((t.id * 2 ^ 32 + t.offset) % 2 ^ 64)) in
+    let one = length-bytes_of 8 descriptor_place in
     let two = length-bytes_of 8 ((t.id * 2 ^ 32 + t.offset) % 2 ^ 64) in
     omega (arith, both, one, two)
 

@@ -2,10 +2,11 @@
 -- (gABI, "Program Header": PT_TLS), whether it uses static TLS (gABI, "Dynamic Section": DF_STATIC_TLS), and where
 -- the blocks of the images that start with the program lie (Drepper, "ELF Handling For Thread-Local Storage",
 -- section 3, variant II).
-use Rattle.std.specs.Prelude.{ℕ, zero, suc, List, [], ◌∷◌, take, Option, Some, None, slice_get}
+use Rattle.std.specs.Prelude.{ℕ, List, [], ◌∷◌, take, Option, Some, None}
 use Rattle.image_file.specs.declared.part.TlsPart.{TlsPart}
 use Rattle.image_file.specs.Spelled.{Spelled}
 pub use Rattle.job_text.specs.LateImages.{is_late}
+use Rattle.job_text.specs.Numbering.{at_number}
 use Rattle.link_faults.specs.declared.image_kind.ImageKind.{ImageKind}
 use Rattle.module_table.specs.declared.modules.ImageInfo.{ImageInfo}
 use Rattle.module_table.specs.Laws.{startup_end}
@@ -50,8 +51,7 @@ static_offset m number = startup_end (take number (infos m)) 0
 
 -- an image, by its number, counted from 1
 unfoldable pub image_at : JobImages → ℕ → Option Spelled
-image_at m zero = None
-image_at m (suc index) = slice_get m.images index
+image_at m number = at_number m.images number
 
 -- how many bytes each thread's block of an image has, by the image's number
 abbrev pub size_of : Option Spelled → ℕ

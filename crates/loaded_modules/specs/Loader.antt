@@ -8,7 +8,7 @@ use Rattle.std.specs.Int.{w64, cast_unsigned}
 use Rattle.std.specs.List.{find}
 use Rattle.std.specs.Option.{option_or}
 use Rattle.std.specs.Str.{bytes_eq}
-use Rattle.address_map.specs.Map.{moved_bias}
+use Rattle.address_map.specs.Map.{descriptor_place, getter_place, moved_bias}
 use Rattle.elf_records.specs.Fields.{bytes_of, splice}
 use Rattle.image_faults.specs.declared.loader_kind.LoaderKind.{LoaderKind}
 use Rattle.image_faults.specs.declared.loader_kind.LoaderKind.TheVariants.{JumpSlot, Relative, Module, ModuleOffset}
@@ -24,7 +24,6 @@ use Rattle.link_faults.specs.declared.image_kind.ImageKind.{ImageKind}
 use Rattle.loaded_modules.specs.declared.exports.Export.{Export}
 use Rattle.loaded_modules.specs.declared.instance.Instance.{Instance}
 use Rattle.loaded_modules.specs.declared.relocating.Target.{Target}
-use Rattle.loaded_modules.specs.declared.TheConstants.{TLS_GET_ADDR, TLS_DESCRIPTOR}
 use Rattle.loaded_modules.specs.Images.{JobImages, image_at, is_late, static_offset}
 
 -- ---- where an instance lies
@@ -94,12 +93,12 @@ word_difference a b = (a + (2 ^ 64 - b)) % 2 ^ 64
 
 -- the bytes that the loader writes at a relocation's place, by its type
 abbrev pub written_bytes : FileKind → Instance → Target → LoaderKind → ℤ → List ℕ
-written_bytes kind x t JumpSlot addend = bytes_of 8 TLS_GET_ADDR
+written_bytes kind x t JumpSlot addend = bytes_of 8 getter_place
 written_bytes kind x t Relative addend = bytes_of 8 ((bias kind x.number + cast_unsigned w64 addend) % 2 ^ 64)
 written_bytes kind x t Module addend = bytes_of 8 t.id
 written_bytes kind x t ModuleOffset addend = bytes_of 8 t.offset
 written_bytes kind x t ThreadOffset addend = bytes_of 8 (word_difference t.offset t.distance)
-written_bytes kind x t Descriptor addend = bytes_of 8 TLS_DESCRIPTOR ++ bytes_of 8 ((t.id * 2 ^ 32 + t.offset) % 2 ^ 64)
+written_bytes kind x t Descriptor addend = bytes_of 8 descriptor_place ++ bytes_of 8 ((t.id * 2 ^ 32 + t.offset) % 2 ^ 64)
 
 unfoldable pub relocation_bytes : JobImages → Spelled → Instance → ImageRelocation → List ℕ
 relocation_bytes m image x r = written_bytes image.kind x (target_of m image x r) r.kind r.addend

@@ -53,9 +53,3 @@ mod searches;
 pub use exports::Export;
 pub use instance::Instance;
 pub use modules::Modules;
-
-/// The address of `__tls_get_addr`, which the loader writes for JUMP_SLOT (psABI, "Relocation Types").
-pub const TLS_GET_ADDR: u64 = address_map::GET_ADDRESS;
-
-/// The address of the function in a TLS descriptor, its first word (psABI, "TLS Descriptors").
-pub const TLS_DESCRIPTOR: u64 = address_map::DESCRIPTOR;

@@ -8,8 +8,7 @@ ghost use Rattle.loaded_modules.specs.Words.{words_bytes, IsWindow};
 ghost use Rattle.image_file.specs.Spelled.{lent_part};
 
 use crate::instance::Instance;
-use crate::{TLS_DESCRIPTOR, TLS_GET_ADDR};
-use address_map::moved_bias;
+use address_map::{DESCRIPTOR, GET_ADDRESS, moved_bias};
 use image_file::{FileKind, ImagePart, ImageRelocation, LoaderKind};
 
 /// A thread-local symbol as the loader finds it.
@@ -74,7 +73,7 @@ pub(crate) fn words_of(
     ensures { words_bytes result ≡ written_bytes kind instance.now target relocation.kind relocation.addend }
 {
     match relocation.kind {
-        LoaderKind::JumpSlot => Words::one(TLS_GET_ADDR),
+        LoaderKind::JumpSlot => Words::one(GET_ADDRESS),
         LoaderKind::Relative => {
             let moved = bias(kind, instance.number);
             Words::one(moved.wrapping_add(relocation.addend.cast_unsigned()))
@@ -85,7 +84,7 @@ pub(crate) fn words_of(
         LoaderKind::Descriptor => {
             let high = target.id.wrapping_mul(1 << 32);
             Words {
-                first: TLS_DESCRIPTOR,
+                first: DESCRIPTOR,
                 second: Some(high.wrapping_add(target.offset)),
             }
         }

@@ -1,7 +1,8 @@
 -- The data of a job's images: one piece for each image.
-use Rattle.std.specs.Prelude.{◌+◌, ◌==◌, ◌&&◌, ℕ, zero, suc, Bool, false, not, nat_lt, List, [], map, length}
+use Rattle.std.specs.Prelude.{◌+◌, ◌==◌, ◌&&◌, ℕ, Bool, false, not, nat_lt, List, [], map, length}
 use Rattle.std.specs.Prelude.{Option, Some, None, option_and_then, slice_get, slice_set, if◌then◌else◌}
 use Rattle.std.specs.List.{range_with_len}
+use Rattle.job_text.specs.Numbering.{at_number}
 use Rattle.module_table.specs.declared.modules.ImageInfo.{ImageInfo}
 use Rattle.loaded_modules.specs.declared.instance.Instance.{Instance}
 use Rattle.loaded_modules.specs.Images.{JobImages, infos, static_offset}
@@ -44,8 +45,7 @@ starts (Some info) = not info.late
 
 -- whether an image starts with the program, by its number
 abbrev pub starts_at : JobImages → ℕ → Bool
-starts_at m zero = false
-starts_at m (suc index) = starts (slice_get (infos m) index)
+starts_at m number = starts (at_number (infos m) number)
 
 -- the instance of such an image: its number is the instance's, and its module id
 abbrev pub first_instance : JobImages → ℕ → Instance

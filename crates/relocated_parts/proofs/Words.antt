@@ -16,7 +16,7 @@ use Rattle.image_file.specs.declared.relocation.ImageRelocation.{ImageRelocation
 use Rattle.image_file.specs.Spelled.{Spelled}
 use Rattle.image_writer.specs.Linkable.{width}
 use Rattle.loaded_modules.specs.declared.instance.Instance.{Instance}
-use Rattle.loaded_modules.specs.declared.TheConstants.{TLS_GET_ADDR, TLS_DESCRIPTOR}
+use Rattle.address_map.specs.Map.{descriptor_place, getter_place}
 use Rattle.loaded_modules.specs.Images.{JobImages}
 use Rattle.loaded_modules.specs.Loader.{bias, target_of, written_bytes}
 use Rattle.relocated_parts.specs.Left.{digit_of_two, first_word, second_word}
@@ -70,15 +70,15 @@ two n second k below = elim (cases_lt k 8) [
 module _ (m : JobImages) (image : Spelled) (x : Instance) (r : ImageRelocation) where
   pub written_long : (k : LoaderKind) (addend : ℤ)
       → length (written_bytes image.kind x (target_of m image x r) k addend) ≡ width k
-  written_long JumpSlot addend = length-bytes_of 8 TLS_GET_ADDR
+  written_long JumpSlot addend = length-bytes_of 8 getter_place
   written_long Relative addend = length-bytes_of 8 _
   written_long Module addend = length-bytes_of 8 _
   written_long ModuleOffset addend = length-bytes_of 8 _
   written_long ThreadOffset addend = length-bytes_of 8 _
   written_long Descriptor addend =
       let t = target_of m image x r in
-      let both = length-append (bytes_of 8 TLS_DESCRIPTOR) (bytes_of 8 ((t.id * 2 ^ 32 + t.offset) % 2 ^ 64)) in
-      let first = length-bytes_of 8 TLS_DESCRIPTOR in
+      let both = length-append (bytes_of 8 descriptor_place) (bytes_of 8 ((t.id * 2 ^ 32 + t.offset) % 2 ^ 64)) in
+      let first = length-bytes_of 8 descriptor_place in
       let second = length-bytes_of 8 ((t.id * 2 ^ 32 + t.offset) % 2 ^ 64) in
       omega (arith, both, first, second)
 

@@ -4,11 +4,10 @@ use Rattle.std.proofs.Common.{List, [], ◌∷◌, ◌++◌}
 use Rattle.std.proofs.Common.{Option, Some, None, IfSome, length, map, inl, inr, refl, sym, ap, arith, if◌then◌else◌}
 use Rattle.std.specs.Prelude.{drop, nat_le, nat_lt, slice_get}
 use Rattle.std.specs.List.{All}
-use Rattle.std.proofs.lemmas.Bool.{le-ltb, lt-ltb}
 use Rattle.std.proofs.lemmas.Bool.Decides.{nat_tests}
 use Rattle.std.proofs.lemmas.List.{length-take}
 use Rattle.std.proofs.lemmas.List.Elements.{All-append, All-cons, All-nil}
-use Rattle.address_map.specs.Map.{owner_at}
+use Rattle.address_map.specs.Laws.{fixed_addresses_tell, moved_addresses_tell}
 use Rattle.memory_image.proofs.Laid.{extent_low}
 use Rattle.elf_records.specs.Fields.{part_at}
 use Rattle.guest_operands.specs.declared.space.Access.{Access}
@@ -64,20 +63,18 @@ module _ (ls : List Linking) (history : List Event) (l : Linking) (x : Instance)
   -- the number is in the address of what is moved
   moved : (place : ℕ) → 0 + (2 ^ 32 + x.number * 2 ^ 26) ≤ place → place < 0 + 2 ^ 26 + (2 ^ 32 + x.number * 2 ^ 26)
       → IsPlaceOf x place
-  unfolding owner_at
   moved place low high =
       let given = known_given (job_loads (images_of ls)) history known.legal x.number x known.known in (
-        rw (le-ltb place (2 ^ 32) (omega (arith, low))) (omega (arith, low, high)),
+        moved_addresses_tell x.number place (omega (arith, low)) (omega (arith, high)),
         (omega (arith, low), omega (arith, high, given.low)),
       )
 
   -- and a program that is not is instance 1
   own_place : (kind : ImageKind) → l.kind ≡ kind → (place : ℕ) → base_of kind + bias_of kind x.number ≤ place
       → place < base_of kind + 2 ^ 26 + bias_of kind x.number → IsPlaceOf x place
-  unfolding owner_at
   own_place Exe e place low high =
       let one : x.number ≡ 1 = (placed ls l x history known is.image).number (ap is_module e) in
-      (rw (lt-ltb place (2 ^ 32) (omega (arith, high))) (sym one), (omega (arith, low), omega (arith, high)))
+      (fixed_addresses_tell place (omega (arith, high)) ∙ sym one, (omega (arith, low), omega (arith, high)))
   own_place Pie e place low high = moved place low high
   own_place Start e place low high = moved place low high
   own_place Late e place low high = moved place low high
