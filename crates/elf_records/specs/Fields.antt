@@ -50,8 +50,3 @@ FitAll (f ∷ fs) = (f.1 < 256 ^ f.0) × FitAll fs
 abbrev pub Reads : ℕ → ℕ → List (ℕ × ℕ) → List ℕ → Type 0
 Reads at k [] bytes = Unit {0}
 Reads at k (f ∷ fs) bytes = (number_at f.0 (at + k) bytes ≡ f.1) × Reads at (k + f.0) fs bytes
-
--- the same from `at` itself on
-abbrev pub ReadsAll : ℕ → List (ℕ × ℕ) → List ℕ → Type 0
-ReadsAll at [] bytes = Unit {0}
-ReadsAll at (f ∷ fs) bytes = (number_at f.0 at bytes ≡ f.1) × Reads at f.0 fs bytes

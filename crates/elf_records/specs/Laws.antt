@@ -7,7 +7,7 @@ use Rattle.std.proofs.lemmas.List.{drop-append-le, drop-drop, drop-take, get_or-
 use Rattle.std.proofs.lemmas.List.{take-append-le, take_rest, drop_at, take_at}
 use Rattle.byteorder.specs.Endian.{little_from}
 use Rattle.byteorder.specs.Numbers.{length-bytes_low_first, little_from-lt, little_from-take, little_number-reads_back}
-use Rattle.elf_records.specs.Fields.{FitAll, Reads, ReadsAll, bytes_of, number_at, part_at, spelled, splice, width}
+use Rattle.elf_records.specs.Fields.{FitAll, Reads, bytes_of, number_at, part_at, spelled, splice, width}
 
 -- a number read after the first i bytes is a number i bytes further on
 pub number_at-drop : (n at i : ℕ) (xs : List ℕ) → number_at n at (drop i xs) ≡ number_at n (i + at) xs
@@ -243,20 +243,18 @@ reads_again at k (f ∷ fs) front back place fits =
     let rest = reads_again at (k + f.0) fs (front ++ bytes_of f.0 f.1) back next fits.1 in
     (rw inner here, rw outer rest)
 
--- the same from the place itself
-pub reads_all : (at : ℕ) (fs : List (ℕ × ℕ)) (front back : List ℕ) → length front ≡ at → FitAll fs
-    → ReadsAll at fs (front ++ (spelled fs ++ back))
-unfolding spelled
-reads_all at [] front back place fits = tt
-reads_all at (f ∷ fs) front back place fits =
-    let inner : (bytes_of f.0 f.1 ++ spelled fs) ++ back ≡ bytes_of f.0 f.1
-    ++ (spelled fs ++ back) = append_assoc (bytes_of f.0 f.1) (spelled fs) back in
-    let outer : front ++ ((bytes_of f.0 f.1 ++ spelled fs) ++ back) ≡ (front ++ bytes_of f.0 f.1)
-    ++ (spelled fs ++ back) =
-    ap (λ b. front ++ b) inner ∙ sym (append_assoc front (bytes_of f.0 f.1) (spelled fs ++ back)) in
-    let width : length (bytes_of f.0 f.1) ≡ f.0 = length-bytes_of f.0 f.1 in
-    let joined = length-append front (bytes_of f.0 f.1) in
-    let next : length (front ++ bytes_of f.0 f.1) ≡ at + f.0 = omega arith in
-    let here = number_again f.0 f.1 at front (spelled fs ++ back) place fits.0 in
-    let rest = reads_again at f.0 fs (front ++ bytes_of f.0 f.1) back next fits.1 in
-    (rw inner here, rw outer rest)
+-- a row inside m bytes depends only on those bytes
+pub reads-own : (m at k : ℕ) (fs : List (ℕ × ℕ)) (xs : List ℕ) → k + width fs ≤ m → Reads at k fs xs
+    → Reads 0 k fs (part_at m at xs)
+reads-own m at k [] xs within reads = tt
+reads-own m at k (f ∷ fs) xs within reads =
+    let here : number_at f.0 k (part_at m at xs) ≡ f.1 = number_at-own f.0 k m at xs (omega arith) ∙ reads.0 in
+    (rw (zero-add k) here, reads-own m at (k + f.0) fs xs (omega arith) reads.1)
+
+-- a row in the part from i to j is the row i bytes further on in the whole
+pub reads-part : (at i j k : ℕ) (fs : List (ℕ × ℕ)) (xs : List ℕ) → at + k + width fs ≤ j - i
+    → Reads (i + at) k fs xs → Reads at k fs (slice_range xs i j)
+reads-part at i j k [] xs within reads = tt
+reads-part at i j k (f ∷ fs) xs within reads =
+    let here = number_at-field f.0 k at i j xs (omega arith) ∙ reads.0 in
+    (here, reads-part at i j (k + f.0) fs xs (omega arith) reads.1)
