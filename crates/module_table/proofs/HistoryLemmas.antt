@@ -10,7 +10,7 @@ use Rattle.module_table.specs.declared.events.CloseRefusal.{CloseRefusal}
 use Rattle.module_table.specs.declared.events.CloseRefusal.TheVariants.{Permanent, NotOpen, OutOfMemory as NoRoomToClose}
 use Rattle.module_table.specs.Modules.{is_loaded, is_permanent}
 use Rattle.module_table.specs.Past.{Past, module_of, start, past, after_one, open_refusal, close_refusal, next_offset, accepts}
-use Rattle.module_table.specs.History.{History, left, IsLegal, Adds, opened_of, closed_of, open_answer, close_answer, OpenRefused, CloseRefused}
+use Rattle.module_table.specs.History.{History, open_event, close_event, left, IsLegal, Adds, opened_of, closed_of, open_answer, close_answer, OpenRefused, CloseRefused}
 use Rattle.module_table.specs.Walks.{past-append, legal_push}
 
 pub past_more : (infos : List ImageInfo) (last_offset : ℕ) (events : List Event) (e : Event) → past infos last_offset (events ++ e ∷ []) ≡ after_one (past infos last_offset events) e
@@ -49,7 +49,7 @@ refused_open h image Full e = rw (← e) refl
 refused_open h image StaticFull e = rw (← e) refl
 refused_open h image NoRoomToOpen e = absurd (not_memory (left h) image (sym e))
 
-pub open_accepted : (h : History) (thread line image : ℕ) → None ≡ open_refusal (left h) image → accepts (left h) (record { thread = thread; line = line; opens = true; image = image }) ≡ true
+pub open_accepted : (h : History) (thread line image : ℕ) → None ≡ open_refusal (left h) image → accepts (left h) (open_event thread line image) ≡ true
 unfolding accepts
 open_accepted h thread line image e = rw (← e) refl
 
@@ -57,7 +57,7 @@ pub open_unheld : (h : History) (image : ℕ) → None ≡ open_refusal (left h)
 unfolding open_answer
 open_unheld h image e none = (rw (← e) refl, none)
 
-pub opened_is : (h h' : History) (thread line image : ℕ) → Adds h (record { thread = thread; line = line; opens = true; image = image }) h' → None ≡ open_refusal (left h) image
+pub opened_is : (h h' : History) (thread line image : ℕ) → Adds h (open_event thread line image) h' → None ≡ open_refusal (left h) image
     → open_answer h image ≡ Ok (record { instance = (module_of (left h') image).instance; id = (module_of (left h') image).id; at = length h.events })
 unfolding open_answer opened_of after_one
 opened_is h h' thread line image adds e = rw (← e, left_more h h' _ adds) refl
@@ -79,7 +79,7 @@ refused_close h image Permanent e = rw (← e) refl
 refused_close h image NotOpen e = rw (← e) refl
 refused_close h image NoRoomToClose e = absurd (not_memory_close (left h) image (sym e))
 
-pub close_accepted : (h : History) (thread line image : ℕ) → None ≡ close_refusal (left h) image → accepts (left h) (record { thread = thread; line = line; opens = false; image = image }) ≡ true
+pub close_accepted : (h : History) (thread line image : ℕ) → None ≡ close_refusal (left h) image → accepts (left h) (close_event thread line image) ≡ true
 unfolding accepts
 close_accepted h thread line image e = rw (← e) refl
 
@@ -87,7 +87,7 @@ pub close_unheld : (h : History) (image : ℕ) → None ≡ close_refusal (left 
 unfolding close_answer
 close_unheld h image e none = (rw (← e) refl, none)
 
-pub closed_is : (h h' : History) (thread line image : ℕ) → Adds h (record { thread = thread; line = line; opens = false; image = image }) h' → None ≡ close_refusal (left h) image
+pub closed_is : (h h' : History) (thread line image : ℕ) → Adds h (close_event thread line image) h' → None ≡ close_refusal (left h) image
     → close_answer h image ≡ Ok (record { at = length h.events; gone = not (is_loaded (module_of (left h') image)) })
 unfolding close_answer closed_of after_one
 closed_is h h' thread line image adds e = rw (← e, left_more h h' _ adds) refl

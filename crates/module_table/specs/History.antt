@@ -1,5 +1,5 @@
 -- What contracts see of a registry, and its answers as functions of the history.
-use Rattle.std.specs.Prelude.{◌≡◌, ◌<◌, ◌^◌, ℕ, true, not, List, [], ◌∷◌, ◌++◌, length, Option, Some, None}
+use Rattle.std.specs.Prelude.{◌≡◌, ◌<◌, ◌^◌, ℕ, true, false, not, List, [], ◌∷◌, ◌++◌, length, Option, Some, None}
 use Rattle.std.specs.Prelude.{Result, Ok, Err, IsOk}
 use Rattle.module_table.specs.declared.modules.ImageInfo.{ImageInfo}
 use Rattle.module_table.specs.declared.events.Event.{Event}
@@ -30,6 +30,14 @@ pub record IsLegal (infos : List ImageInfo) (last_offset : ℕ) (events : List E
   pub images : AreInfos infos
   pub low : last_offset < 2 ^ 27
   pub each : is_legal (start infos last_offset) events ≡ true
+
+-- ---- events: a thread's line opens an image, or closes it
+
+abbrev pub open_event : ℕ → ℕ → ℕ → Event
+open_event thread line image = record { thread = thread; line = line; opens = true; image = image }
+
+abbrev pub close_event : ℕ → ℕ → ℕ → Event
+close_event thread line image = record { thread = thread; line = line; opens = false; image = image }
 
 -- ---- changes; the reserved memory is left out
 

@@ -1,5 +1,8 @@
 //! The events of the history, and the results of an open and of a close.
 
+ghost use Rattle.std.specs.Prelude.{◌≡◌};
+ghost use Rattle.module_table.specs.History.{open_event, close_event};
+
 use thiserror::Error;
 
 /// A successful open or close of a late image, as the history of modules keeps it.
@@ -13,6 +16,30 @@ pub struct Event {
     pub opens: bool,
     /// The image, numbered from 1 in image order.
     pub image: u32,
+}
+
+impl Event {
+    /// A thread's line opened the image.
+    pub fn open(thread: u32, line: u32, image: u32) -> Event
+        ensures { result ≡ open_event thread line image }
+    {
+        Event {
+            thread,
+            line,
+            opens: true,
+            image,
+        }
+    }
+
+    /// A thread's line closed the image.
+    pub fn close(thread: u32, line: u32, image: u32) -> Event
+        ensures { result ≡ close_event thread line image }
+    {
+        Event {
+            opens: false,
+            ..Event::open(thread, line, image)
+        }
+    }
 }
 
 /// The result of an open: the live instance of the image.

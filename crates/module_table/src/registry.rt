@@ -1,11 +1,11 @@
 //! The registry of modules: one list of opens and closes, which decides everything else.
 
-ghost use Rattle.std.specs.Prelude.{◌≡◌, ◌<◌, ◌≤◌, ◌^◌, [], drop, length, true, IfOk, IfErr, OnErr, OnOk, Ok, false};
+ghost use Rattle.std.specs.Prelude.{◌≡◌, ◌<◌, ◌≤◌, ◌^◌, [], drop, length, true, IfOk, IfErr, OnErr, OnOk, Ok};
 ghost use Rattle.module_table.specs.Modules.{AreInfos};
 ghost use Rattle.module_table.specs.Past.{start, module_of, live, offset, current, instance_of, accepts};
 ghost use Rattle.module_table.specs.Past.{open_refusal, close_refusal};
 ghost use Rattle.module_table.specs.History.{left, IsLegal, IsSame, Adds, open_answer, close_answer, OpenRefused};
-ghost use Rattle.module_table.specs.History.{CloseRefused};
+ghost use Rattle.module_table.specs.History.{CloseRefused, open_event, close_event};
 
 use crate::events::{CloseRefusal, Closed, Event, OpenRefusal, Opened};
 use crate::modules::{ImageInfo, Module};
@@ -170,8 +170,7 @@ impl Registry {
     #[tactic(auto, using(crate::proofs::HistoryLemmas::opening))]
     pub fn open(&mut self, thread: u32, line: u32, image: u32) -> Result<Opened, OpenRefusal>
         ensures opened { IfOk result (λ opened. open_answer self.old image ≡ Ok opened) }
-        ensures adds { OnOk result
-            (Adds self.old (record { thread = thread; line = line; opens = true; image = image }) self.new) }
+        ensures adds { OnOk result (Adds self.old (open_event thread line image) self.new) }
         ensures refused { IfErr result (OpenRefused self.old image) }
         ensures same { OnErr result (IsSame self.old self.new) }
         ensures legal { IsLegal self.new.infos self.new.last_offset self.new.events }
@@ -181,13 +180,7 @@ impl Registry {
         if let Some(refusal) = self.open_refusal(image) {
             return Err(refusal);
         }
-        let opening = Event {
-            thread,
-            line,
-            opens: true,
-            image,
-        };
-        if self.add(opening).is_err() {
+        if self.add(Event::open(thread, line, image)).is_err() {
             return Err(OpenRefusal::OutOfMemory);
         }
         let module = self.module(image);
@@ -209,8 +202,7 @@ impl Registry {
     #[tactic(auto, using(crate::proofs::HistoryLemmas::closing))]
     pub fn close(&mut self, thread: u32, line: u32, image: u32) -> Result<Closed, CloseRefusal>
         ensures closed { IfOk result (λ closed. close_answer self.old image ≡ Ok closed) }
-        ensures adds { OnOk result
-            (Adds self.old (record { thread = thread; line = line; opens = false; image = image }) self.new) }
+        ensures adds { OnOk result (Adds self.old (close_event thread line image) self.new) }
         ensures refused { IfErr result (CloseRefused self.old image) }
         ensures same { OnErr result (IsSame self.old self.new) }
         ensures legal { IsLegal self.new.infos self.new.last_offset self.new.events }
@@ -220,13 +212,7 @@ impl Registry {
         if let Some(refusal) = self.close_refusal(image) {
             return Err(refusal);
         }
-        let closing = Event {
-            thread,
-            line,
-            opens: false,
-            image,
-        };
-        if self.add(closing).is_err() {
+        if self.add(Event::close(thread, line, image)).is_err() {
             return Err(CloseRefusal::OutOfMemory);
         }
         let gone = !self.module(image).is_loaded();
