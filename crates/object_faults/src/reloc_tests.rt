@@ -1,7 +1,7 @@
 //! What may be wrong with the relocations of one section: one test for each kind of fault.
 
 ghost use Rattle.std.specs.Prelude.{◌≡◌, ◌≢◌, ◌+◌, ◌*◌, ◌<◌, ◌≤◌, ◌↔◌, ℕ, IsTrue, MatchOption, length};
-ghost use Rattle.object_rules.specs.declared.fault.FaultKind.TheVariants.{RelocSymbol, RelocKind, RelocRange};
+ghost use Rattle.object_rules.specs.Kinds.{of_reloc};
 ghost use Rattle.elf_records.specs.Records.{rela_kind, rela_symbol};
 ghost use Rattle.object_faults.specs.Parts.{IsSection, rela as entry_of, section as section_header, symbol_count};
 ghost use Rattle.object_faults.specs.Classes.{kept_class};
@@ -17,6 +17,7 @@ use elf_records::relocation::{R_X86_64_NONE, width_of};
 use elf_records::section_header::SHT_RELA;
 use elf_records::symbol::SHN_ABS;
 use elf_records::{Rela, RelocationKind, rela_numbered};
+use object_rules::RelocFault;
 
 /// A section of relocations whose target linking keeps.
 #[derive(Clone, Copy)]
@@ -114,45 +115,25 @@ fn field_end(tables: &Tables, section: u64, relocs: &RelocTable, rela: Rela) -> 
     Some(rela.offset + width)
 }
 
-/// The relocation names no symbol, or a symbol that has no place in the image.
+/// Whether a kind of fault of relocations stands at an entry of a section.
 #[tactic(auto, unfolding(crate::specs::Faults::Stands))]
-pub fn reloc_symbol(tables: &Tables, section: u64, relocs: &RelocTable, entry: u64) -> bool
+pub fn reloc_stands(
+    fault: RelocFault,
+    tables: &Tables,
+    section: u64,
+    relocs: &RelocTable,
+    entry: u64,
+) -> bool
     requires relocs { AreRelocs tables.now.bytes.now section relocs.now }
     requires entry { entry < relocs.now.count }
-    ensures { IsTrue result ↔ Stands RelocSymbol tables.now.bytes.now section entry }
+    ensures { IsTrue result ↔ Stands (of_reloc fault) tables.now.bytes.now section entry }
 {
-    names_no_place(tables, rela_in(tables, section, relocs, entry))
-}
-
-/// The relocation's type is unknown to linking, or not allowed in the target.
-#[tactic(auto, unfolding(crate::specs::Faults::Stands))]
-pub fn reloc_kind(tables: &Tables, section: u64, relocs: &RelocTable, entry: u64) -> bool
-    requires relocs { AreRelocs tables.now.bytes.now section relocs.now }
-    requires entry { entry < relocs.now.count }
-    ensures { IsTrue result ↔ Stands RelocKind tables.now.bytes.now section entry }
-{
-    is_miskinded(
-        tables,
-        section,
-        relocs,
-        rela_in(tables, section, relocs, entry),
-    )
-}
-
-/// The relocation's field passes the end of the target.
-#[tactic(auto, unfolding(crate::specs::Faults::Stands))]
-pub fn reloc_range(tables: &Tables, section: u64, relocs: &RelocTable, entry: u64) -> bool
-    requires relocs { AreRelocs tables.now.bytes.now section relocs.now }
-    requires entry { entry < relocs.now.count }
-    ensures { IsTrue result ↔ Stands RelocRange tables.now.bytes.now section entry }
-{
-    field_end(
-        tables,
-        section,
-        relocs,
-        rela_in(tables, section, relocs, entry),
-    )
-    .is_none()
+    let rela = rela_in(tables, section, relocs, entry);
+    match fault {
+        RelocFault::Symbol => names_no_place(tables, rela),
+        RelocFault::Kind => is_miskinded(tables, section, relocs, rela),
+        RelocFault::Range => field_end(tables, section, relocs, rela).is_none(),
+    }
 }
 
 /// The bytes of a target that a relocation fills: offsets from `start` up to `end`, without `end`.

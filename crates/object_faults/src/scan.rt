@@ -3,10 +3,9 @@
 ghost use Rattle.std.specs.Prelude.{◌<◌, ◌↔◌, IsTrue};
 ghost use Rattle.object_faults.specs.Parts.{IsSection};
 ghost use Rattle.object_rules.specs.Kinds.{of_section, of_symbol, of_reloc};
-ghost use Rattle.object_faults.specs.Tables.{AreRelocs};
 ghost use Rattle.object_faults.specs.Faults.{Stands, number, NoneBelow, Answers, IsFirstAt, IsSymbol};
 
-use crate::reloc_tests::{RelocTable, reloc_kind, reloc_range, reloc_symbol, reloc_table};
+use crate::reloc_tests::{reloc_stands, reloc_table};
 use crate::section_tests::{section_align, section_kind, section_name, too_large};
 use crate::symbol_tests::{symbol_kind, symbol_name, symbol_range, symbol_section};
 use crate::tables::Tables;
@@ -77,25 +76,6 @@ pub fn ask_symbols(fault: SymbolFault, tables: &Tables) -> Result<(), ObjectFaul
     match first_symbol(fault, tables) {
         Some(entry) => Err(fault_at(section, entry, fault.kind())),
         None => Ok(()),
-    }
-}
-
-/// Whether a kind of fault of relocations stands at an entry of a section.
-fn reloc_stands(
-    fault: RelocFault,
-    tables: &Tables,
-    section: u64,
-    relocs: &RelocTable,
-    entry: u64,
-) -> bool
-    requires relocs { AreRelocs tables.now.bytes.now section relocs.now }
-    requires entry { entry < relocs.now.count }
-    ensures { IsTrue result ↔ Stands (of_reloc fault) tables.now.bytes.now section entry }
-{
-    match fault {
-        RelocFault::Symbol => reloc_symbol(tables, section, relocs, entry),
-        RelocFault::Kind => reloc_kind(tables, section, relocs, entry),
-        RelocFault::Range => reloc_range(tables, section, relocs, entry),
     }
 }
 
