@@ -7,15 +7,15 @@ use crate::forms::Form;
 pub struct Site {
     /// The section that it lies in.
     pub section: u32,
+    /// The symbol that its first relocation names: the variable, or for local dynamic forms the symbol that
+    /// the assembler put there.
+    pub symbol: u32,
     /// The offset of its first byte in that section.
     pub start: u64,
     /// How many bytes it has.
     pub len: u64,
     /// Its row in the table.
     pub form: Form,
-    /// The symbol that its first relocation names: the variable, or for local dynamic forms the symbol that
-    /// the assembler put there.
-    pub symbol: u32,
     /// The register that it writes, from 0 to 15, for the two forms that name one; else 0.
     pub reg: u8,
 }
