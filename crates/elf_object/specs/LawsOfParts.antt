@@ -8,6 +8,7 @@ use Rattle.object_rules.specs.declared.fault.FaultKind.TheVariants.{SymbolSectio
 use Rattle.object_faults.specs.declared.class.SectionClass.{SectionClass}
 use Rattle.object_faults.specs.declared.class.SectionClass.TheVariants.{Executable, ReadOnly, Tls, Writable}
 use Rattle.elf_records.specs.declared.symbol.SymbolBinding.TheVariants.{Local, Global, Weak}
+use Rattle.elf_records.specs.declared.symbol.SymbolType.{SymbolType}
 use Rattle.elf_records.specs.declared.symbol.SymbolType.TheVariants.{NoType, Object, Func, Section, File}
 use Rattle.elf_records.specs.declared.symbol.SymbolType.TheVariants.{Tls as ThreadLocal}
 use Rattle.elf_object.specs.declared.symbol.SymbolPlace.TheVariants.{Undefined, Absolute, InSection}
@@ -111,59 +112,37 @@ place_absolute b e h = of_place (nat_lt 0 e) ((symbol b e).shndx == 0) ((symbol 
     of_place true false false n h a = absurd (cc)
     of_place false zero abs n h a = absurd (cc)
 
--- the type with this number
-func_is : (n : ℕ) → type_numbered n ≡ Func → n ≡ 2
-func_is n h = of_type (n == 0) (n == 1) (n == 2) (n == 3) (n == 4) n h (same n)
+-- what a type says of its number, of those that thread-local storage has or may not have; its own begin at 5
+abbrev Numbers : SymbolType → ℕ → Type 0
+Numbers Func n = n ≡ 2
+Numbers File n = n ≡ 4
+Numbers ThreadLocal n = 5 ≤ n
+Numbers type n = Unit {0}
+
+numbers : (n : ℕ) (type : SymbolType) → type_numbered n ≡ type → Numbers type n
+numbers n type h =
+    subst (λ t. Numbers t n) h (of_type (n == 0) (n == 1) (n == 2) (n == 3) (n == 4) n (second n) (fourth n) (large n))
   where
-    same : (n : ℕ) → (n == 2) ≡ true → n ≡ 2
-    same n h = grind (arith, nat_tests)
+    second : (n : ℕ) → (n == 2) ≡ true → n ≡ 2
+    second n h = grind (arith, nat_tests)
 
-    of_type : (a b c d e : Bool) (n : ℕ)
-        → (if a then NoType else if b then Object else if c then Func else if d then Section else if e then File
-        else ThreadLocal) ≡ Func
-        → (c ≡ true → n ≡ 2) → n ≡ 2
-    of_type true b c d e n h k = absurd (cc)
-    of_type false true c d e n h k = absurd (cc)
-    of_type false false true d e n h k = k refl
-    of_type false false false true e n h k = absurd (cc)
-    of_type false false false false true n h k = absurd (cc)
-    of_type false false false false false n h k = absurd (cc)
+    fourth : (n : ℕ) → (n == 4) ≡ true → n ≡ 4
+    fourth n h = grind (arith, nat_tests)
 
-file_is : (n : ℕ) → type_numbered n ≡ File → n ≡ 4
-file_is n h = of_type (n == 0) (n == 1) (n == 2) (n == 3) (n == 4) n h (same n)
-  where
-    same : (n : ℕ) → (n == 4) ≡ true → n ≡ 4
-    same n h = grind (arith, nat_tests)
-
-    of_type : (a b c d e : Bool) (n : ℕ)
-        → (if a then NoType else if b then Object else if c then Func else if d then Section else if e then File
-        else ThreadLocal) ≡ File
-        → (e ≡ true → n ≡ 4) → n ≡ 4
-    of_type true b c d e n h k = absurd (cc)
-    of_type false true c d e n h k = absurd (cc)
-    of_type false false true d e n h k = absurd (cc)
-    of_type false false false true e n h k = absurd (cc)
-    of_type false false false false true n h k = k refl
-    of_type false false false false false n h k = absurd (cc)
-
--- the type numbers of thread-local storage are at least 5
-thread_local_is : (n : ℕ) → type_numbered n ≡ ThreadLocal → 5 ≤ n
-thread_local_is n h = of_type (n == 0) (n == 1) (n == 2) (n == 3) (n == 4) n h (large n)
-  where
     large : (n : ℕ) → (n == 0) ≡ false → (n == 1) ≡ false → (n == 2) ≡ false → (n == 3) ≡ false
         → (n == 4) ≡ false → 5 ≤ n
     large n a b c d e = grind (arith, nat_tests)
 
-    of_type : (a b c d e : Bool) (n : ℕ)
-        → (if a then NoType else if b then Object else if c then Func else if d then Section else if e then File
-        else ThreadLocal) ≡ ThreadLocal
-        → (a ≡ false → b ≡ false → c ≡ false → d ≡ false → e ≡ false → 5 ≤ n) → 5 ≤ n
-    of_type true b c d e n h k = absurd (cc)
-    of_type false true c d e n h k = absurd (cc)
-    of_type false false true d e n h k = absurd (cc)
-    of_type false false false true e n h k = absurd (cc)
-    of_type false false false false true n h k = absurd (cc)
-    of_type false false false false false n h k = k refl refl refl refl refl
+    of_type : (a b c d e : Bool) (n : ℕ) → (c ≡ true → n ≡ 2) → (e ≡ true → n ≡ 4)
+        → (a ≡ false → b ≡ false → c ≡ false → d ≡ false → e ≡ false → 5 ≤ n)
+        → Numbers (if a then NoType else if b then Object else if c then Func else if d then Section else if e then File
+        else ThreadLocal) n
+    of_type true b c d e n two four more = tt
+    of_type false true c d e n two four more = tt
+    of_type false false true d e n two four more = two refl
+    of_type false false false true e n two four more = tt
+    of_type false false false false true n two four more = four refl
+    of_type false false false false false n two four more = more refl refl refl refl refl
 
 type_of : (b : List ℕ) (e : ℕ) → 0 < e → symbol_type b e ≡ type_numbered (type_number (symbol b e))
 unfolding symbol_type
@@ -204,12 +183,12 @@ no_code_at b object e above below within tls =
       λ func. object SymbolKind (symbol_table b) e (
         is_symbol b e above below,
         inr
-            (inr (inl ((within, kept), inl (func_is _ (sym (type_of b e above) ∙ func))))),
+            (inr (inl ((within, kept), inl (numbers _ Func (sym (type_of b e above) ∙ func))))),
       ),
       λ file. object SymbolKind (symbol_table b) e (
         is_symbol b e above below,
         inr
-            (inr (inl ((within, kept), inr (file_is _ (sym (type_of b e above) ∙ file))))),
+            (inr (inl ((within, kept), inr (numbers _ File (sym (type_of b e above) ∙ file))))),
       ),
     )
 
@@ -222,7 +201,7 @@ tls_at b object e above below within defined tls =
     let s = (symbol b e).shndx in
     let n = type_number (symbol b e) in
     let fault = object SymbolKind (symbol_table b) e in
-    let large = thread_local_is n (sym (type_of b e above) ∙ tls) in
+    let large = numbers n ThreadLocal (sym (type_of b e above) ∙ tls) in
     elim (tls_or_not (kept_class (section b s))) [
       | inl kept ↦ rw (class_of_section b s within) kept
       | inr other ↦ absurd (elim (kinds n large) [
