@@ -3,10 +3,10 @@
 use Rattle.std.specs.Prelude.{ℕ, ◌+◌, ◌*◌, ◌==◌, Bool, List, [], ◌∷◌, ◌++◌, codes, length, if◌then◌else◌}
 use Rattle.std.specs.List.{flat_map}
 use Rattle.elf_records.specs.Records.{header_bytes, section_bytes, symbol_bytes, rela_bytes}
-use Rattle.elf_records.specs.declared.file_header.Header.{Header}
 use Rattle.elf_records.specs.declared.relocation.Rela.{Rela}
 use Rattle.elf_records.specs.declared.section_header.SectionHeader.{SectionHeader}
 use Rattle.elf_records.specs.declared.symbol.SymbolEntry.{SymbolEntry}
+use Rattle.object_builder.specs.Headers.{object_header}
 
 -- the parts of the object: the names of its function and its variable, the code and its relocations, the variable's
 -- initial bytes, how many zeros follow them, and whether the code calls `__tls_get_addr`
@@ -109,25 +109,6 @@ sections_of s =
 
 -- ** the file
 
--- 64 bits, little-endian, relocatable, for x86-64; its section headers follow it
-unfoldable pub file_header : Header
-file_header = record {
-  ident = 0x7f ∷ codes "ELF" ++ (2 ∷ 1 ∷ 1 ∷ 0 ∷ 0 ∷ 0 ∷ 0 ∷ 0 ∷ 0 ∷ 0 ∷ 0 ∷ 0 ∷ []);
-  e_type = 1;
-  e_machine = 62;
-  e_version = 1;
-  e_entry = 0;
-  e_phoff = 0;
-  e_shoff = 64;
-  e_flags = 0;
-  e_ehsize = 64;
-  e_phentsize = 0;
-  e_phnum = 0;
-  e_shentsize = 64;
-  e_shnum = 8;
-  e_shstrndx = 7;
-}
-
 -- the bytes after the headers
 unfoldable pub contents_of : Shape → List ℕ
 contents_of s =
@@ -135,4 +116,4 @@ contents_of s =
     ++ flat_map rela_bytes s.relocations))))
 
 unfoldable pub object_bytes : Shape → List ℕ
-object_bytes s = header_bytes file_header ++ (flat_map section_bytes (sections_of s) ++ contents_of s)
+object_bytes s = header_bytes (object_header 8) ++ (flat_map section_bytes (sections_of s) ++ contents_of s)

@@ -4,13 +4,12 @@ ghost use Rattle.generated_job.specs.Drafts.{shape_held, IsShort};
 ghost use Rattle.generated_job.specs.Shapes.{symbol_of, symbols_of, names_of, section_of, sections_of, object_bytes};
 ghost use Rattle.generated_job.specs.Shapes.{zeros_alignment};
 
-use elf_records::file_header::{EM_X86_64, ET_REL, EV_CURRENT};
 use elf_records::section_header::{
     SHF_ALLOC, SHF_EXECINSTR, SHF_TLS, SHF_WRITE, SHT_NOBITS, SHT_NULL, SHT_PROGBITS, SHT_RELA,
     SHT_STRTAB, SHT_SYMTAB,
 };
-use elf_records::{Header, Rela, SectionHeader, SymbolEntry};
-use object_builder::{put_header, put_relocations, put_sections, put_symbols};
+use elf_records::{Rela, SectionHeader, SymbolEntry};
+use object_builder::{object_header, put_header, put_relocations, put_sections, put_symbols};
 use std::alloc::{AllocError, Global};
 
 /// The parts of an object with one function and one thread-local variable.
@@ -55,31 +54,12 @@ const SYMTAB: u32 = 5;
 
 const STRTAB: u32 = 6;
 
-const SHSTRTAB: u16 = 7;
-
 // Bindings times 16 plus types of symbols.
 const GLOBAL_NOTYPE: u8 = 0x10;
 
 const GLOBAL_FUNC: u8 = 0x12;
 
 const GLOBAL_TLS: u8 = 0x16;
-
-const FILE_HEADER: Header = Header {
-    ident: *b"\x7fELF\x02\x01\x01\0\0\0\0\0\0\0\0\0",
-    e_type: ET_REL,
-    e_machine: EM_X86_64,
-    e_version: EV_CURRENT,
-    e_entry: 0,
-    e_phoff: 0,
-    e_shoff: Header::SIZE,
-    e_flags: 0,
-    e_ehsize: Header::SIZE as u16,
-    e_phentsize: 0,
-    e_phnum: 0,
-    e_shentsize: SectionHeader::SIZE as u16,
-    e_shnum: SECTIONS,
-    e_shstrndx: SHSTRTAB,
-};
 
 impl ObjectShape<'_> {
     /// The bytes of the object's file.
@@ -91,7 +71,7 @@ impl ObjectShape<'_> {
         let names = self.names(alloc)?;
         let sections = self.sections(symbols.as_slice(), names.as_slice());
         let mut bytes = Vec::new(alloc);
-        put_header(&mut bytes, &FILE_HEADER)?;
+        put_header(&mut bytes, &object_header(SECTIONS))?;
         put_sections(&mut bytes, &sections)?;
         bytes.extend_from_slice(self.code)?;
         bytes.extend_from_slice(self.initial)?;

@@ -1,8 +1,8 @@
 //! An object as records, before they are written.
 
 use crate::given::{Section, Symbol};
+use crate::header::object_header;
 use crate::put::{put_header, put_relocations, put_sections, put_symbols};
-use elf_records::file_header::{EM_X86_64, ET_REL, EV_CURRENT};
 use elf_records::section_header::{SHT_NULL, SHT_RELA, SHT_STRTAB, SHT_SYMTAB};
 use elf_records::symbol::STB_LOCAL;
 use elf_records::{Header, Rela, SectionHeader, SymbolEntry};
@@ -111,8 +111,9 @@ fn nothing(alloc: Global, layout: &Layout) -> Result<Draft, AllocError> {
         value: 0,
         size: 0,
     };
+    let sections = layout.table.saturating_add(3);
     Ok(Draft {
-        header: file_header(layout.table.saturating_add(3)),
+        header: object_header(u16::try_from(sections).unwrap_or(u16::MAX)),
         sections: vec![in alloc; section_of(0, SHT_NULL, 0, 0)]?,
         contents: Vec::new(alloc),
         relocations: Vec::new(alloc),
@@ -120,27 +121,6 @@ fn nothing(alloc: Global, layout: &Layout) -> Result<Draft, AllocError> {
         names: vec![in alloc; 0]?,
         section_names: vec![in alloc; 0]?,
     })
-}
-
-/// The file header of an object with `sections` sections, number 0 included.
-fn file_header(sections: u32) -> Header {
-    let count = u16::try_from(sections).unwrap_or(u16::MAX);
-    Header {
-        ident: *b"\x7fELF\x02\x01\x01\0\0\0\0\0\0\0\0\0",
-        e_type: ET_REL,
-        e_machine: EM_X86_64,
-        e_version: EV_CURRENT,
-        e_entry: 0,
-        e_phoff: 0,
-        e_shoff: Header::SIZE,
-        e_flags: 0,
-        e_ehsize: Header::SIZE as u16,
-        e_phentsize: 0,
-        e_phnum: 0,
-        e_shentsize: SectionHeader::SIZE as u16,
-        e_shnum: count,
-        e_shstrndx: count.saturating_sub(1),
-    }
 }
 
 /// The header of a section of `size` bytes that begins at `offset` in the file.

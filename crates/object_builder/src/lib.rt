@@ -26,8 +26,10 @@
 
 mod draft;
 mod given;
+mod header;
 mod put;
 
 pub use draft::{Draft, draft_of, object_of};
 pub use given::{Section, Symbol, rela};
+pub use header::object_header;
 pub use put::{put_header, put_relocations, put_sections, put_symbols};
