@@ -6,8 +6,7 @@ use Rattle.elf_records.specs.declared.file_header.Header.{Header}
 use Rattle.elf_records.specs.declared.section_header.SectionHeader.{SectionHeader}
 use Rattle.elf_records.specs.declared.symbol.SymbolEntry.{SymbolEntry}
 use Rattle.generated_job.specs.Drafts.{IsShort}
-use Rattle.object_builder.specs.Headers.{object_header}
-use Rattle.generated_job.specs.Shapes.{Shape, contents_of, getter_name, getter_name_at, names_of, object_bytes}
+use Rattle.generated_job.specs.Shapes.{Shape, contents_of, file_header, getter_name, getter_name_at, names_of, object_bytes}
 use Rattle.generated_job.specs.Shapes.{section_names, section_of, sections_of, symbol_of, symbols_at, symbols_of, variable_name_at, zeros_alignment}
 
 -- ** symbols
@@ -105,10 +104,10 @@ eight a b c d e f g h =
 pub file_known : (s : Shape) (b₀ b₁ b₂ b₃ b₄ b₅ b₆ b₇ b₈ : List ℕ) (top : Header) (sections : List SectionHeader) (symbols : List SymbolEntry)
     (names titles : List ℕ) → b₀ ≡ [] → b₁ ≡ b₀ ++ header_bytes top → b₂ ≡ b₁ ++ flat_map section_bytes sections → b₃ ≡ b₂ ++ s.code
     → b₄ ≡ b₃ ++ s.initial → b₅ ≡ b₄ ++ flat_map symbol_bytes symbols → b₆ ≡ b₅ ++ names → b₇ ≡ b₆ ++ titles
-    → b₈ ≡ b₇ ++ flat_map rela_bytes s.relocations → top ≡ object_header 8 → sections ≡ sections_of s → symbols ≡ symbols_of s
+    → b₈ ≡ b₇ ++ flat_map rela_bytes s.relocations → top ≡ file_header → sections ≡ sections_of s → symbols ≡ symbols_of s
     → names ≡ names_of s → titles ≡ section_names → b₈ ≡ object_bytes s
 unfolding object_bytes contents_of
 file_known s b₀ b₁ b₂ b₃ b₄ b₅ b₆ b₇ b₈ top sections symbols names titles e₀ e₁ e₂ e₃ e₄ e₅ e₆ e₇ e₈ to se sy na ti =
     rw (e₈, e₇, e₆, e₅, e₄, e₃, e₂, e₁, e₀, to, se, sy, na, ti)
-    (eight (header_bytes (object_header 8)) (flat_map section_bytes (sections_of s)) s.code s.initial (flat_map symbol_bytes (symbols_of s)) (names_of s)
+    (eight (header_bytes file_header) (flat_map section_bytes (sections_of s)) s.code s.initial (flat_map symbol_bytes (symbols_of s)) (names_of s)
     section_names (flat_map rela_bytes s.relocations))

@@ -1,6 +1,6 @@
 //! The shared history, and the passes by which threads use it.
-ghost use Rattle.std.specs.Prelude.{◌≡◌, ◌≤◌, ◌<◌, ◌↔◌, length, true, false, IfOk, IfErr, OnOk, OnErr, IsTrue};
-ghost use Rattle.module_table.specs.History.{IsLegal};
+ghost use Rattle.std.specs.Prelude.{◌≡◌, ◌≤◌, ◌<◌, ◌↔◌, length, false, IfOk, IfErr, OnOk, OnErr, IsTrue};
+ghost use Rattle.module_table.specs.History.{IsLegal, open_event, close_event};
 ghost use Rattle.shared_modules.specs.Views.{times, images_of};
 ghost use Rattle.shared_modules.specs.Passes.{first_pass, left_pass, right_pass, joined, Agree, IsLoaded, IsTried};
 ghost use Rattle.shared_modules.specs.Passes.{IsSamePass, IsCaught, IsTold, IsOpened, IsOpenRefused, IsClosed};
@@ -149,9 +149,8 @@ impl Shared {
     ) -> Result<Opened, OpenRefusal>
         requires of { pass.old.shared ≡ self.now }
         requires speaks { 1 ≤ times thread pass.old.threads }
-        ensures opened { IfOk result (λ opened. IsOpened pass.old
-            (record { thread = thread; line = line; opens = true; image = image }) opened
-            pass.new into.old.items into.new.items) }
+        ensures opened { IfOk result (λ opened.
+            IsOpened pass.old (open_event thread line image) opened pass.new into.old.items into.new.items) }
         ensures refused { IfErr result (IsOpenRefused pass.old image pass.new into.old.items into.new.items) }
         ensures same { IsSamePass pass.old pass.new }
     {
@@ -186,9 +185,8 @@ impl Shared {
     ) -> Result<Closed, CloseRefusal>
         requires of { pass.old.shared ≡ self.now }
         requires speaks { 1 ≤ times thread pass.old.threads }
-        ensures closed { IfOk result (λ closed. IsClosed pass.old
-            (record { thread = thread; line = line; opens = false; image = image }) closed
-            pass.new into.old.items into.new.items) }
+        ensures closed { IfOk result (λ closed.
+            IsClosed pass.old (close_event thread line image) closed pass.new into.old.items into.new.items) }
         ensures refused { IfErr result (IsCloseRefused pass.old image pass.new into.old.items into.new.items) }
         ensures same { IsSamePass pass.old pass.new }
     {
