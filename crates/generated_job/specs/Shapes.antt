@@ -3,6 +3,7 @@
 use Rattle.std.specs.Prelude.{ℕ, ◌+◌, ◌*◌, ◌==◌, Bool, List, [], ◌∷◌, ◌++◌, codes, length, if◌then◌else◌}
 use Rattle.std.specs.List.{flat_map}
 use Rattle.elf_records.specs.Records.{header_bytes, section_bytes, symbol_bytes, rela_bytes}
+use Rattle.elf_records.specs.declared.file_header.Header.{Header}
 use Rattle.elf_records.specs.declared.relocation.Rela.{Rela}
 use Rattle.elf_records.specs.declared.section_header.SectionHeader.{SectionHeader}
 use Rattle.elf_records.specs.declared.symbol.SymbolEntry.{SymbolEntry}
@@ -109,6 +110,9 @@ sections_of s =
 
 -- ** the file
 
+unfoldable pub file_header : Header
+file_header = object_header 8
+
 -- the bytes after the headers
 unfoldable pub contents_of : Shape → List ℕ
 contents_of s =
@@ -116,4 +120,4 @@ contents_of s =
     ++ flat_map rela_bytes s.relocations))))
 
 unfoldable pub object_bytes : Shape → List ℕ
-object_bytes s = header_bytes (object_header 8) ++ (flat_map section_bytes (sections_of s) ++ contents_of s)
+object_bytes s = header_bytes file_header ++ (flat_map section_bytes (sections_of s) ++ contents_of s)

@@ -4,7 +4,7 @@ use Rattle.elf_records.specs.declared.file_header.Header.{Header}
 
 -- 64 bits, little-endian, relocatable, for x86-64; its section headers follow it, number 0 among them, and the last has
 -- their names
-unfoldable pub object_header : ℕ → Header
+abbrev pub object_header : ℕ → Header
 object_header sections = record {
   ident = 0x7f ∷ codes "ELF" ++ (2 ∷ 1 ∷ 1 ∷ 0 ∷ 0 ∷ 0 ∷ 0 ∷ 0 ∷ 0 ∷ 0 ∷ 0 ∷ 0 ∷ []);
   e_type = 1;

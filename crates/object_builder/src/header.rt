@@ -7,7 +7,6 @@ use elf_records::file_header::{EM_X86_64, ET_REL, EV_CURRENT};
 use elf_records::{Header, SectionHeader};
 
 /// The file header of an object with `sections` sections, number 0 included.
-#[tactic(auto, unfolding(crate::specs::Headers::object_header))]
 pub fn object_header(sections: u16) -> Header
     ensures { result ≡ object_header sections }
 {
