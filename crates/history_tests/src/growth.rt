@@ -19,15 +19,12 @@ fn opened_so_often(rt: &impl Abort, alloc: Global, opens: u32) -> Result<Registr
     };
     let plug = ImageInfo {
         late: true,
-        statics: false,
         size: 8,
-        align: 4,
+        ..program
     };
     let fixed = ImageInfo {
-        late: true,
         statics: true,
-        size: 8,
-        align: 4,
+        ..plug
     };
     let mut registry = Registry::new(alloc, &[program, plug, fixed], 4)?;
     for line in 0..opens {
@@ -60,49 +57,23 @@ fn are_alike(one: &Registry, other: &Registry) -> bool {
     true
 }
 
-/// Opens image 3 in a copy whose list of events is full, and again if the first try fails.
-fn open_twice(
+/// A call that was refused memory left a registry as it was. Says so in a line.
+fn left_alone(
     rt: &(impl Abort + Print),
+    tried: &Registry,
     registry: &Registry,
-    want: Opened,
-) -> Result<(), AllocError> {
-    let mut tried = registry.copy()?;
-    let mut answer = tried.open(2, 1, 3);
-    if answer == Err(OpenRefusal::OutOfMemory) {
-        assert!(rt;
-            are_alike(&tried, registry),
-            "an open that was refused left something"
-        );
-        let _ = println!(rt; "refused: Registry::open, event {}", want.at);
-        answer = tried.open(2, 1, 3);
-    }
-    assert!(rt; answer == Ok(want), "an open: {answer:?}");
-    assert!(rt; tried.len() == registry.len() + 1 && tried.offset(want.instance) == Some(12));
-    Ok(())
+    call: &str,
+    at: u64,
+) {
+    assert!(rt;
+        are_alike(tried, registry),
+        "a refused {call} left something"
+    );
+    let _ = println!(rt; "refused: Registry::{call}, event {at}");
 }
 
-/// Closes image 2 in a copy whose list of events is full, and again if the first try fails.
-fn close_twice(
-    rt: &(impl Abort + Print),
-    registry: &Registry,
-    want: Closed,
-) -> Result<(), AllocError> {
-    let mut tried = registry.copy()?;
-    let mut answer = tried.close(2, 1, 2);
-    if answer == Err(CloseRefusal::OutOfMemory) {
-        assert!(rt;
-            are_alike(&tried, registry),
-            "a close that was refused left something"
-        );
-        let _ = println!(rt; "refused: Registry::close, event {}", want.at);
-        answer = tried.close(2, 1, 2);
-    }
-    assert!(rt; answer == Ok(want), "a close: {answer:?}");
-    assert!(rt; tried.len() == registry.len() + 1 && !tried.live(2));
-    Ok(())
-}
-
-/// An open of image 3 after `opens` opens of image 2.
+/// Opens image 3 after `opens` opens of image 2, in a copy whose list of events is full, and again if the first try
+/// fails.
 fn open_behind(
     rt: &(impl Abort + Print),
     alloc: Global,
@@ -110,13 +81,29 @@ fn open_behind(
     want: Opened,
 ) -> Result<(), AllocError> {
     let registry = opened_so_often(rt, alloc, opens)?;
-    open_twice(rt, &registry, want)
+    let mut tried = registry.copy()?;
+    let mut answer = tried.open(2, 1, 3);
+    if answer == Err(OpenRefusal::OutOfMemory) {
+        left_alone(rt, &tried, &registry, "open", want.at);
+        answer = tried.open(2, 1, 3);
+    }
+    assert!(rt; answer == Ok(want), "an open: {answer:?}");
+    assert!(rt; tried.len() == registry.len() + 1 && tried.offset(want.instance) == Some(12));
+    Ok(())
 }
 
-/// A close of image 2 after its one open.
+/// Closes image 2 after its one open, likewise.
 fn close_behind(rt: &(impl Abort + Print), alloc: Global, want: Closed) -> Result<(), AllocError> {
     let registry = opened_so_often(rt, alloc, 1)?;
-    close_twice(rt, &registry, want)
+    let mut tried = registry.copy()?;
+    let mut answer = tried.close(2, 1, 2);
+    if answer == Err(CloseRefusal::OutOfMemory) {
+        left_alone(rt, &tried, &registry, "close", want.at);
+        answer = tried.close(2, 1, 2);
+    }
+    assert!(rt; answer == Ok(want), "a close: {answer:?}");
+    assert!(rt; tried.len() == registry.len() + 1 && !tried.live(2));
+    Ok(())
 }
 
 #[test]
