@@ -1,8 +1,6 @@
 -- What threads that ran at once say: the machine's lines, and where a thread is clean what it means.
-use Rattle.std.proofs.Common.{◌≡◌, ◌∙◌, ◌≤◌, ℕ, zero, suc, false, List, All, Vec, Global, [], ◌∷◌, length, map, Some, None, ◌⊎◌, inl, inr, Result, Ok, Err, IfOk, refl, sym, ap, subst, arith}
+use Rattle.std.proofs.Common.{◌≡◌, ◌∙◌, ◌≤◌, ℕ, false, List, All, Vec, Global, length, map, Some, ◌⊎◌, Result, Ok, Err, IfOk, sym, ap, subst}
 use Rattle.std.specs.Prelude.{take}
-use Rattle.std.proofs.lemmas.Option.{slice_get_within}
-use Rattle.begin_alike.proofs.Printed.{verdict_clean}
 use Rattle.begin_alike.specs.Laws.{meant_thread}
 use Rattle.job_text.specs.declared.thread_lines.ThreadLine.{ThreadLine}
 use Rattle.job_text.specs.Jobs.{JobParts}
@@ -29,33 +27,13 @@ use Rattle.thread_blocks.specs.Turns.{Thread, at_number}
 use Rattle.thread_blocks.specs.TurnsAlike.{HasUnclean}
 use Rattle.transcript_text.specs.declared.outcomes.Line.{Line as ShownLine}
 use Rattle.transcript_text.specs.Texts.{Shown, transcript_text}
-use Rattle.whole_meaning.specs.Jobs.{verdict_of}
 use Rattle.whole_meaning.specs.Loads.{meaning_of}
 use Rattle.whole_meaning.specs.Threads.{Meant}
 use Rattle.commands.specs.InOrder.{AreLinks}
 use Rattle.commands.specs.Races.{AreRaced, HasRace, IsRaceTold}
 use Rattle.commands.specs.Runs.{AreModulesBack, IsMeant, meant_lines}
+use Rattle.linked_jobs.proofs.Telling.{alone_clean, few_threads, second_of, some_thread}
 use Rattle.commands.proofs.Transcribed.{images_are, modules_are, modules_linked}
-
--- ** threads
-
--- they are numbered from 1
-some_thread : {X : Type 0} (xs : List X) (n : ℕ) (x : X) → at_number xs n ≡ Some x → 1 ≤ n
-some_thread xs zero x e = cc
-some_thread xs (suc i) x e = omega arith
-
-few_threads : {X : Type 0} (xs : List X) (n : ℕ) (x : X) → at_number xs n ≡ Some x → length xs ≤ 64 → n ≤ 64
-few_threads xs zero x e few = omega arith
-few_threads xs (suc i) x e few = let below = slice_get_within xs i x e in omega (arith, below, few)
-
--- the verdict on one thread alone
-alone_clean : (t : Thread Meant Line Event) → verdict_of (t.said ∷ []) ≡ None → HasUnclean t.said → ⊥
-alone_clean t clean = verdict_clean (t ∷ []) clean zero t refl
-
--- of two answers the second, where the first is none
-second_of : {A B : Type 0} → (A → ⊥) → A ⊎ B → B
-second_of none (inl a) = absurd (none a)
-second_of none (inr b) = b
 
 -- ** a job
 

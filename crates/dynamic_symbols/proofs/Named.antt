@@ -12,63 +12,24 @@ use Rattle.elf_object.specs.Lent.{symbol_binding, symbol_name, symbol_place}
 use Rattle.elf_object.specs.Parts.{symbol_count}
 use Rattle.link_faults.specs.declared.symbol_ref.SymbolRef.{SymbolRef}
 use Rattle.tls_symbols.specs.Bindings.{object_at}
-use Rattle.tls_symbols.specs.Definitions.{defines, definition_of, first_from, first_in, found_or, is_defined, or_weak, same_binding, IsWithin}
-use Rattle.tls_symbols.proofs.Within.{Dropped, dropped_is, find_found, find_nothing}
+use Rattle.tls_symbols.specs.Definitions.{defines, definition_of, first_from, first_in, found_or, is_defined, or_weak, same_binding}
+use Rattle.tls_symbols.proofs.Within.{dropped_is, find_nothing}
 use Rattle.dynamic_symbols.specs.Laws.{IsShared, NamesAreDistinct, SymbolsAreShared, SymbolsHaveTheNames}
 use Rattle.dynamic_symbols.specs.Names.{defined_at, defined_in, defined_names, defined_symbols, is_definition, name_of}
 use Rattle.dynamic_symbols.proofs.Lists.{all_cons, all_distinct, all_first, all_flat_at, all_flat_range, all_nil, all_rest, distinct_names}
-use Rattle.tls_symbols.proofs.ExportLaw.{both, not_local}
+use Rattle.tls_symbols.proofs.ExportLaw.{definition_defines}
 
 -- ** the definition of a name
 
--- the symbol defines the name for all objects
-record Defines (objects : List (List ℕ)) (name : List ℕ) (found : SymbolRef) : Type 0 where
-  shares : IsShared objects found
-  named : name ≡ name_of objects found
-
-some_same : (x y : SymbolRef) → Some x ≡ Some y → x ≡ y
-some_same x y e = cc
-
-module _ (objects : List (List ℕ)) (name : List ℕ) (binding : SymbolBinding) (shared : same_binding Local binding ≡ false) where
-  defined_here : (o e : ℕ) (b : List ℕ) → o < length objects → object_at objects o ≡ b → first_in binding name b ≡ Some e → Defines objects name (record { object = o; symbol = e })
-  unfolding first_in
-  defined_here o e b within here is =
-      let found = find_found (defines b binding name) 1 (symbol_count b - 1) e is in
-      let test = both (same_binding binding (symbol_binding b e)) (is_defined (symbol_place b e) && bytes_eq name (symbol_name b e)) found.passes in
-      let rest = both (is_defined (symbol_place b e)) (bytes_eq name (symbol_name b e)) test.1 in
-      let there : IsWithin objects (record { object = o; symbol = e }) = record {
-        object = within;
-        symbol = subst (λ c. e < symbol_count c) (sym here) (omega (arith, found.low, found.high));
-      } in
-      record {
-        shares = record {
-          within = there;
-          above = found.low;
-          shared = subst (λ c. same_binding Local (symbol_binding c e) ≡ false) (sym here) (not_local binding (symbol_binding b e) shared test.0);
-          defined = subst (λ c. is_defined (symbol_place c e) ≡ true) (sym here) rest.0;
-        };
-        named = (bytes_eq-Decides name (symbol_name b e)).0 rest.1 ∙ ap (λ c. symbol_name c e) (sym here);
-      }
-
-  first_defines : (more : List (List ℕ)) (o : ℕ) (found : SymbolRef) → drop o objects ≡ more → first_from binding name o more ≡ Some found → Defines objects name found
-  first_defines [] o found e is = absurd (cc)
-  first_defines (b ∷ more) o found e is = by_symbol (first_in binding name b) refl (λ h d. first_defines more (o + 1) found h d) is
-    where
-      at : Dropped objects o [] b more
-      at = dropped_is objects o [] b more e
-
-      by_symbol : (x : Option ℕ) → first_in binding name b ≡ x → (drop (o + 1) objects ≡ more → first_from binding name (o + 1) more ≡ Some found → Defines objects name found)
-          → found_or o x (first_from binding name (o + 1) more) ≡ Some found → Defines objects name found
-      by_symbol (Some x) here rest is = subst (Defines objects name) (some_same _ _ is) (defined_here o x b at.within at.here here)
-      by_symbol None here rest is = rest at.rest is
-
-definition_defines : (objects : List (List ℕ)) (name : List ℕ) (found : SymbolRef) → definition_of objects name ≡ Some found → Defines objects name found
-unfolding definition_of
-definition_defines objects name found is = by_strong (first_from Global name 0 objects) refl is
-  where
-    by_strong : (strong : Option SymbolRef) → first_from Global name 0 objects ≡ strong → or_weak strong (first_from Weak name 0 objects) ≡ Some found → Defines objects name found
-    by_strong (Some x) here is = first_defines objects name Global refl objects 0 found refl (here ∙ is)
-    by_strong None here is = first_defines objects name Weak refl objects 0 found refl is
+shares : (objects : List (List ℕ)) (name : List ℕ) (found : SymbolRef) → definition_of objects name ≡ Some found → IsShared objects found
+shares objects name found is =
+    let d = definition_defines objects name found is in
+    record {
+      within = record { object = d.object; symbol = d.symbol };
+      above = d.above;
+      shared = d.shared;
+      defined = d.defined;
+    }
 
 -- ** a name that a symbol defines has one
 
@@ -184,7 +145,7 @@ bound_shared objects (x ∷ xs) = by (definition_of objects x) refl (bound_share
   where
     by : (found : Option SymbolRef) → definition_of objects x ≡ found → All (IsShared objects) (filter_map (definition_of objects) xs)
         → All (IsShared objects) (cons_option found (filter_map (definition_of objects) xs))
-    by (Some found) is rest = all_cons (IsShared objects) found (filter_map (definition_of objects) xs) (definition_defines objects x found is).shares rest
+    by (Some found) is rest = all_cons (IsShared objects) found (filter_map (definition_of objects) xs) (shares objects x found is) rest
     by None is rest = rest
 
 pub symbols_shared : SymbolsAreShared

@@ -85,7 +85,7 @@ module _ {W F B W' F' B' : Type 0} (same : Alike W F B W' F' B') (ops : Operatio
     overflow = changed-same changes.overflow f.overflow f'.overflow h.overflow;
   }
 
-  settled-same : (changes : Changes) (f f' : Frame) (s : State W F) (s' : State W' F') → f.next ≡ f'.next → SameState same s s' → SameState same (settled ops changes f s) (settled ops' changes f' s')
+  pub settled-same : (changes : Changes) (f f' : Frame) (s : State W F) (s' : State W' F') → f.next ≡ f'.next → SameState same s s' → SameState same (settled ops changes f s) (settled ops' changes f' s')
   settled-same changes f f' s s' e h = record {
     registers = h.registers;
     flags = changes-same changes s.flags s'.flags h.flags;

@@ -9,12 +9,12 @@ use Rattle.module_table.specs.declared.modules.Module.{Module}
 use Rattle.module_table.specs.declared.events.Event.{Event}
 use Rattle.module_table.specs.declared.events.CloseRefusal.{CloseRefusal}
 use Rattle.module_table.specs.Modules.{AreInfos, is_loaded, is_permanent, no_module}
-use Rattle.module_table.specs.Past.{Past, module_of, start, past, after, after_one, opened, loaded, retained, released, with_uses, new_instance, first_module, first_modules, startup_count, close_refusal, accepts, is_legal}
+use Rattle.module_table.specs.Past.{Past, module_of, start, past, after, after_one, opened, loaded, retained, released, with_uses, new_instance, first_module, startup_count, close_refusal, accepts, is_legal}
 use Rattle.module_table.specs.History.{IsLegal}
 use Rattle.module_table.specs.Tables.{IsPast}
 use Rattle.module_table.proofs.Along.{past_step}
 use Rattle.module_table.proofs.Refusals.{can_load, accepts_open, accepts_close}
-use Rattle.module_table.proofs.Starting.{past_start}
+use Rattle.module_table.proofs.Starting.{get_or-first_modules, past_start}
 use Rattle.module_table.proofs.Steps.{loaded_within}
 
 -- an image that started with the program, as image k: its number is its id
@@ -121,13 +121,6 @@ early (x ∷ xs) k d last l = elim (cases_Bool x.late) [
     at_one zero m here first rest = (omega arith, first)
     at_one (suc j) m here first rest = let r = rest j (omega (arith, m, here)) in (omega (arith, r.0), r.1)
 
-get_first : (infos : List ImageInfo) (image k : ℕ) (d : ImageInfo) (e : Module) → k < length infos
-    → get_or (first_modules infos image) k e ≡ first_module (get_or infos k d) (image + k)
-get_first [] image k d e l = absurd (omega arith)
-get_first (x ∷ xs) image zero d e l = ap (first_module x) (omega arith)
-get_first (x ∷ xs) image (suc k) d e l =
-    get_first xs (image + 1) k d e (omega arith) ∙ ap (first_module (get_or xs k d)) (omega arith)
-
 first_is : (info : ImageInfo) (k : ℕ) → info.late ≡ false → IsStartup k (first_module info k)
 first_is info k f = rw f (record { early = refl; loaded = refl; instance = refl; id = refl })
 
@@ -138,7 +131,7 @@ stays_start infos last k are l =
     let e = early infos k no_module.info are.late_last l in
     let number : 1 + k ≡ suc k = omega arith in
     subst (IsStartup (suc k)) (sym
-    (get_first infos 1 k no_module.info no_module e.0 ∙ ap (first_module (get_or infos k no_module.info)) number))
+    (get_or-first_modules infos 1 k no_module.info no_module e.0 ∙ ap (first_module (get_or infos k no_module.info)) number))
     (first_is (get_or infos k no_module.info) (suc k) e.1)
 
 -- the law: so it is behind each legal history

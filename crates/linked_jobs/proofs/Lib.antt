@@ -4,6 +4,6 @@ mod Orders
 pub mod Printing
 mod Runs
 mod Standing
-mod Telling
+pub mod Telling
 mod Tied
 mod WithoutData

@@ -29,20 +29,20 @@ use Rattle.linked_jobs.proofs.WithoutData.{shares_none}
 use Rattle.linked_jobs.specs.Laws.{TranscriptsTellTheirThreads}
 
 -- threads are numbered from 1
-some_thread : {X : Type 0} (xs : List X) (n : ℕ) (x : X) → at_number xs n ≡ Some x → 1 ≤ n
+pub some_thread : {X : Type 0} (xs : List X) (n : ℕ) (x : X) → at_number xs n ≡ Some x → 1 ≤ n
 some_thread xs zero x e = cc
 some_thread xs (suc i) x e = omega arith
 
-few_threads : {X : Type 0} (xs : List X) (n : ℕ) (x : X) → at_number xs n ≡ Some x → length xs ≤ 64 → n ≤ 64
+pub few_threads : {X : Type 0} (xs : List X) (n : ℕ) (x : X) → at_number xs n ≡ Some x → length xs ≤ 64 → n ≤ 64
 few_threads xs zero x e few = omega arith
 few_threads xs (suc i) x e few = let below = slice_get_within xs i x e in omega (arith, below, few)
 
 -- the verdict on one thread alone
-alone_clean : (t : Thread Meant Line Event) → verdict_of (t.said ∷ []) ≡ None → HasUnclean t.said → ⊥
+pub alone_clean : (t : Thread Meant Line Event) → verdict_of (t.said ∷ []) ≡ None → HasUnclean t.said → ⊥
 alone_clean t clean = verdict_clean (t ∷ []) clean zero t refl
 
 -- of two answers the second, where the first is none
-second_of : {A B : Type 0} → (A → ⊥) → A ⊎ B → B
+pub second_of : {A B : Type 0} → (A → ⊥) → A ⊎ B → B
 second_of none (inl a) = absurd (none a)
 second_of none (inr b) = b
 

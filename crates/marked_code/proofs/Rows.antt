@@ -13,13 +13,9 @@ use Rattle.amd64_subset.specs.declared.operand.Operand.{Operand}
 use Rattle.amd64_subset.specs.declared.operand.Operand.TheVariants.{InMemory, Register as InRegister}
 use Rattle.amd64_subset.specs.declared.operand.Operands.TheVariants.{IntoRegister, IntoMemory, Immediate}
 use Rattle.guest_arithmetic.specs.declared.cause.Cause.{Cause}
-use Rattle.guest_arithmetic.specs.declared.effect.Change.{Change}
-use Rattle.guest_arithmetic.specs.declared.effect.Change.TheVariants.{Set, Unsettled, Kept}
 use Rattle.guest_arithmetic.specs.declared.effect.Changes.{Changes}
 use Rattle.guest_arithmetic.specs.declared.effect.Effect.{Effect}
-use Rattle.guest_arithmetic.specs.declared.flags.Flags.{Flags}
 use Rattle.guest_arithmetic.specs.Arithmetic.{low, compute_effect, product_effect}
-use Rattle.guest_arithmetic.specs.Flags.{changed, with_changes}
 use Rattle.guest_arithmetic.specs.Values.{Operations}
 use Rattle.guest_operands.specs.declared.frame.Frame.{Frame}
 use Rattle.guest_operands.specs.declared.slot.Slot.TheVariants.{Register as OfSlot}
@@ -30,40 +26,14 @@ use Rattle.guest_operands.specs.Access.{Refusal, Refused, Shut, Accesses, load_o
 use Rattle.guest_operands.specs.Operand.{address_of, number_at, carried, weighed, taken_at, taken, put}
 use Rattle.guest_operands.specs.State.{register_of}
 use Rattle.guest_operands.specs.Use.{◌>>=◌, plus, After, left}
-use Rattle.guest_machine.specs.Follow.{Uses, Reaches, Follows, Alike, IsFollowed, SameFlags, SameState, SameAfter}
+use Rattle.guest_machine.specs.Follow.{Uses, Reaches, Follows, Alike, IsFollowed, SameState, SameAfter}
 use Rattle.guest_machine.specs.Step.{immediate_of, is_cleared, settled, finished, concluded, move_in, move_of, compute_in, compute_out, compute_plain, compute_number, compute_of, test_of, multiply_of, pushed, call_of, jump_of, act}
+use Rattle.guest_machine.proofs.FollowRows.{settled-same}
 use Rattle.guest_machine.proofs.Follow.{follows-then, follows-clean, follows-there, uses-same, uses-both, same_register, same_word, same_stack, same_place, number_at-uses, unmoved-uses}
 use Rattle.whole_meaning.specs.Fields.{operand_in, read_in}
 
 module _ {W F B W' F' B' : Type 0} (same : Alike W F B W' F' B') (ops : Operations W F B) (ops' : Operations W' F' B')
     (followed : IsFollowed same ops ops') where
-  -- ** flags, as guest_machine's FollowRows has them
-
-  changed-same : (change : Change) (f : F) (f' : F') → same.flag f f'
-      → same.flag (changed ops change f) (changed ops' change f')
-  changed-same (Set truth) f f' h = followed.flag truth
-  changed-same Unsettled f f' h = followed.unsettled f f' h
-  changed-same Kept f f' h = h
-
-  changes-same : (changes : Changes) (f : Flags F) (f' : Flags F') → SameFlags same f f'
-      → SameFlags same (with_changes ops changes f) (with_changes ops' changes f')
-  unfolding with_changes
-  changes-same changes f f' h = record {
-    zero = changed-same changes.zero f.zero f'.zero h.zero;
-    sign = changed-same changes.sign f.sign f'.sign h.sign;
-    carry = changed-same changes.carry f.carry f'.carry h.carry;
-    overflow = changed-same changes.overflow f.overflow f'.overflow h.overflow;
-  }
-
-  settled-same : (changes : Changes) (f f' : Frame) (s : State W F) (s' : State W' F') → f.next ≡ f'.next
-      → SameState same s s' → SameState same (settled ops changes f s) (settled ops' changes f' s')
-  settled-same changes f f' s s' e h = record {
-    registers = h.registers;
-    flags = changes-same changes s.flags s'.flags h.flags;
-    place = e;
-    thread_pointer = h.thread_pointer;
-  }
-
   -- two uses of what was taken
   abbrev TakenAlike : Taken → Taken → Type 0
   TakenAlike p q = (p.number ≡ q.number) × (p.other ≡ q.other)
@@ -95,7 +65,7 @@ module _ {W F B W' F' B' : Type 0} (same : Alike W F B W' F' B') (ops : Operatio
 
       dropped : (changes changes' : Changes) → changes ≡ changes'
           → Then (left (settled ops changes f s) m) (left (settled ops' changes' f' s') m')
-      dropped changes changes' e = rw (← e) (record { state = settled-same changes f f' s s' next h; memory = k })
+      dropped changes changes' e = rw (← e) (record { state = settled-same same ops ops' followed changes f f' s s' next h; memory = k })
 
       finished-same : (to : Register) (effect effect' : Effect) → effect ≡ effect'
           → Follows Then (finished ops acc Quad (OfSlot to) effect f s m)
@@ -103,7 +73,7 @@ module _ {W F B W' F' B' : Type 0} (same : Alike W F B W' F' B') (ops : Operatio
       unfolding finished put
       finished-same to effect effect' e = rw (← e)
           (record {
-            state = settled-same effect.changes f f' _ _ next
+            state = settled-same same ops ops' followed effect.changes f f' _ _ next
                 (same_word same s s' h to _ _ (followed.word effect.number));
             memory = k;
           })

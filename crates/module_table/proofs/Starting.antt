@@ -29,7 +29,7 @@ startup_low (x ∷ xs) (suc k) d last l early = elim (cases_Bool x.late) [
       omega arith
 ]
 
-get_or-first_modules : (infos : List ImageInfo) (image k : ℕ) (d : ImageInfo) (e : Module) → k < length infos → get_or (first_modules infos image) k e ≡ first_module (get_or infos k d) (image + k)
+pub get_or-first_modules : (infos : List ImageInfo) (image k : ℕ) (d : ImageInfo) (e : Module) → k < length infos → get_or (first_modules infos image) k e ≡ first_module (get_or infos k d) (image + k)
 get_or-first_modules [] image k d e l = absurd (omega arith)
 get_or-first_modules (x ∷ xs) image zero d e l = ap (first_module x) (omega arith)
 get_or-first_modules (x ∷ xs) image (suc k) d e l = get_or-first_modules xs (image + 1) k d e (omega arith) ∙ ap (first_module (get_or xs k d)) (omega arith)

@@ -31,7 +31,7 @@ use Rattle.lawful_points.specs.Laws.{AtFronts}
 use Rattle.shared_data.specs.Told.{called, steps_of}
 use Rattle.static_blocks.proofs.Looking.{held_shape}
 use Rattle.static_blocks.proofs.Shapes.{Shape, found_shape, written_shape}
-use Rattle.static_blocks.proofs.Steps.{OutHolds, run_holds, resumed_holds}
+use Rattle.thread_blocks.proofs.Steps.{OutHolds, run_holds, resumed_holds}
 
 -- what is known of each live instance: it is the one of its number
 module _ (l : Loads ℕ) (thread : ℕ) (history : List Event) (known : ℕ → Option Instance)

@@ -3,7 +3,6 @@ pub mod Live
 pub mod Shapes
 pub mod Looking
 pub mod Places
-pub mod Steps
 pub mod Keeping
 pub mod Filling
 pub mod Own

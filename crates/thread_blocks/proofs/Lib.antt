@@ -10,6 +10,7 @@ pub mod Orders
 pub mod Blocks
 pub mod BlocksBegun
 pub mod Alone
+pub mod Steps
 pub mod OwnBlocks
 pub mod Own
 pub mod JobRuns

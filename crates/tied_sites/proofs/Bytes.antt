@@ -1,6 +1,6 @@
 -- What is loaded in the place of a site: of a rewritten one its row, and of a kept one, outside its fields, the bytes
 -- that the object has there.
-use Rattle.std.proofs.Common.{◌≡◌, ◌∙◌, ◌+◌, ◌-◌, ◌<◌, ◌≤◌, ◌&&◌, ◌==◌, ℕ, Bool, true, false, not, Option, Some}
+use Rattle.std.proofs.Common.{◌≡◌, ◌∙◌, ◌+◌, ◌-◌, ◌<◌, ◌≤◌, ◌&&◌, ℕ, Bool, true, false, not, Option, Some}
 use Rattle.std.proofs.Common.{None, length, refl, ap, arith}
 use Rattle.std.specs.Prelude.{nat_le, nat_lt, slice_index_or}
 use Rattle.std.specs.List.{Contains, find}
@@ -14,6 +14,7 @@ use Rattle.link_needs.specs.Given.{IsGiven}
 use Rattle.link_needs.specs.Linking.{Linking, choice, object, sites_at}
 use Rattle.link_needs.specs.Needs.{is_kept}
 use Rattle.link_needs.specs.Values.{is_replaced}
+use Rattle.link_core.proofs.TogetherFound.{covers_is, covers_so}
 use Rattle.loaded_bytes.proofs.Finds.{found_is, none_found, none_passes}
 use Rattle.loaded_bytes.specs.Bytes.{field_byte, loaded_byte}
 use Rattle.sequence_forms.specs.declared.places.Site.{Site}
@@ -22,14 +23,6 @@ use Rattle.sequence_match.specs.Faults.{IsSite}
 use Rattle.sequence_match.specs.Sites.{Covers}
 
 -- ** tests
-
-covers_is : (m n a k e : ℕ) (kept : Bool) → ((m == n) && (nat_le a k && nat_lt k e) && not kept) ≡ true
-    → (m ≡ n) × (a ≤ k) × (k < e) × (kept ≡ false)
-covers_is m n a k e kept h = grind (arith, nat_tests)
-
-covers_so : (m n a k e : ℕ) (kept : Bool) → m ≡ n → a ≤ k → k < e → kept ≡ false
-    → ((m == n) && (nat_le a k && nat_lt k e) && not kept) ≡ true
-covers_so m n a k e kept same low high off = grind (arith, nat_tests)
 
 field_is : (a k e : ℕ) (gone : Bool) → ((nat_le a k && nat_lt k e) && not gone) ≡ true
     → (a ≤ k) × (k < e) × (gone ≡ false)

@@ -50,6 +50,7 @@ pub record Defines (objects : List (List ℕ)) (name : List ℕ) (found : Symbol
   pub above : 1 ≤ found.symbol
   pub symbol : found.symbol < symbol_count (object_at objects found.object)
   pub shared : same_binding Local (symbol_binding (object_at objects found.object) found.symbol) ≡ false
+  pub defined : is_defined (symbol_place (object_at objects found.object) found.symbol) ≡ true
   pub named : name ≡ symbol_name (object_at objects found.object) found.symbol
 
 pub not_local : (x y : SymbolBinding) → same_binding Local x ≡ false → same_binding x y ≡ true → same_binding Local y ≡ false
@@ -76,6 +77,7 @@ module _ (objects : List (List ℕ)) (name : List ℕ) (binding : SymbolBinding)
         above = found.low;
         symbol = subst (λ c. e < symbol_count c) (sym here) (omega (arith, found.low, found.high));
         shared = subst (λ c. same_binding Local (symbol_binding c e) ≡ false) (sym here) (not_local binding (symbol_binding b e) shared test.0);
+        defined = subst (λ c. is_defined (symbol_place c e) ≡ true) (sym here) rest.0;
         named = (bytes_eq-Decides name (symbol_name b e)).0 rest.1 ∙ ap (λ c. symbol_name c e) (sym here);
       }
 
@@ -91,7 +93,7 @@ module _ (objects : List (List ℕ)) (name : List ℕ) (binding : SymbolBinding)
       by_symbol (Some x) here rest is = subst (Defines objects name) (some_same _ _ is) (defined_here o x b at.within at.here here)
       by_symbol None here rest is = rest at.rest is
 
-definition_defines : (objects : List (List ℕ)) (name : List ℕ) (found : SymbolRef) → definition_of objects name ≡ Some found → Defines objects name found
+pub definition_defines : (objects : List (List ℕ)) (name : List ℕ) (found : SymbolRef) → definition_of objects name ≡ Some found → Defines objects name found
 unfolding definition_of
 definition_defines objects name found is = by_strong (first_from Global name 0 objects) refl is
   where

@@ -91,7 +91,7 @@ module _ (l : Loads ℕ) (thread : ℕ) (Keeps : List Owner → Space Event ℕ 
 
   -- ** steps
 
-  abbrev NextHolds : Next Runs → Type 0
+  abbrev pub NextHolds : Next Runs → Type 0
   NextHolds (Goes h) = Holds h
   NextHolds (Ends stop) = Unit {0}
   NextHolds (Looks h) = Holds h
@@ -123,7 +123,7 @@ module _ (l : Loads ℕ) (thread : ℕ) (Keeps : List Owner → Space Event ℕ 
   next_holds h (Ends stop) holds fine = tt
   next_holds h (Looks at) holds fine = asked_holds h (asked_at l thread at) holds
 
-  step_holds : (h : Runs) → Holds h → NextHolds ((thread_steps l thread).step h)
+  pub step_holds : (h : Runs) → Holds h → NextHolds ((thread_steps l thread).step h)
   unfolding thread_steps
   step_holds h holds = next_holds h _ holds (machine_fine h.owners h.after holds)
 
