@@ -103,6 +103,13 @@ impl<'m> Dtv<'m> {
         self.seen();
     }
 
+    /// The slots hold the blocks of what the thread has seen. The call does nothing; it gives a proof this fact.
+    fn blocks_fit(&self)
+        ensures { IsVector self.now }
+    {
+        let _slots = &self.slots;
+    }
+
     /// The thread, from 1.
     pub fn thread(&self) -> u32
         ensures { result ≡ self.now.thread }
@@ -226,7 +233,7 @@ impl<'m> Dtv<'m> {
         ensures leaves { Leaves self.old self.new (after self.old.past events.now) }
         ensures blocks { (i : ℕ) → held self.new i ≡ caught_up self.old (after self.old.past events.now) i }
     {
-        let _ = &self.table;
+        self.blocks_fit();
         for event in events {
             self.take(*event);
         }
@@ -291,7 +298,7 @@ impl<'m> Dtv<'m> {
         ensures long { (bytes : List ℕ) → held self.now instance ≡ Some bytes
             → length bytes ≡ block_length self.now.past instance }
     {
-        let _ = &self.table;
+        self.blocks_fit();
         self.block(instance).is_some()
     }
 
@@ -359,7 +366,7 @@ impl<'m> Dtv<'m> {
         ensures refused { IfErr result (IsRefused self.old asking id) }
         ensures err { OnErr result (self.new ≡ self.old) }
     {
-        let _ = &self.table;
+        self.blocks_fit();
         if !self.live(asking) {
             return Err(AddressRefusal::Unloaded);
         }
@@ -380,7 +387,7 @@ impl<'m> Dtv<'m> {
         ensures high { result.from + result.size ≤ length (slot_of self.now.slots result.slot).bytes }
         ensures block { held self.now instance ≡ Some (bytes_at self.now.slots result) }
     {
-        let _ = &self.table;
+        self.blocks_fit();
         let Some(image) = self.image_of(instance) else {
             return Place {
                 slot: 0,

@@ -1,5 +1,4 @@
 -- Event by event.
-use Rattle.thread_vector.specs.Views.{vector_of}
 use Rattle.std.proofs.Common.{get_or, false, ap, sym, ◌∙◌, ◌≤◌, refl, arith}
 use Rattle.module_table.specs.Past.{after_one}
 use Rattle.thread_vector.specs.Vectors.{caught_up}
@@ -8,7 +7,7 @@ use Rattle.thread_vector.proofs.Stepping.{caught_first, caught_more, made_grows,
 use Rattle.thread_vector.proofs.dtv.Dtv.catch_up.Goals as goal
 
 pub loop-event-init : goal.loop-event-init
-loop-event-init c = (refl, c.requires.legal, omega arith, refl, refl, rw (← c.self.view_is) (λ i h. none_held (vector_of c.self.inside) i c.self.invariant.left h), λ i. caught_first c.args.self.now i)
+loop-event-init c = (refl, c.requires.legal, omega arith, refl, refl, λ i h. none_held c.args.self.now i c.blocks_fit.ensures.left h, λ i. caught_first c.args.self.now i)
 
 pub take-requires-clause-accepted : goal.take-requires-clause-accepted
 take-requires-clause-accepted c = (legal_next c.loop-event.self.past c.args.events.now c.loop-event.event-index _ (omega arith) c.loop-event.invariant.1).0

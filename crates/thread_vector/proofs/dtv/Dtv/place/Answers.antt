@@ -37,10 +37,10 @@ returns-in-None-clause-place c =
     ∙ sym (place_some (vector_of c.self.inside) c.args.instance c.in-Some.image image) ∙ ap (λ (v : Vector). place_of v c.args.instance) c.self.view_is)
 
 pub returns-in_default-clause-low : goal.returns-in_default-clause-low
-returns-in_default-clause-low c = (is_placed c.args.self.now c.args.instance _ (rw (← c.self.view_is) (placed (vector_of c.self.inside) c.args.instance c.self.invariant (rw c.self.view_is c.requires))) (returns-in_default-clause-place c)).low
+returns-in_default-clause-low c = (is_placed c.args.self.now c.args.instance _ (placed c.args.self.now c.args.instance c.blocks_fit.ensures c.requires) (returns-in_default-clause-place c)).low
 
 pub returns-in_default-clause-block : goal.returns-in_default-clause-block
-returns-in_default-clause-block c = (is_placed c.args.self.now c.args.instance _ (rw (← c.self.view_is) (placed (vector_of c.self.inside) c.args.instance c.self.invariant (rw c.self.view_is c.requires))) (returns-in_default-clause-place c)).block
+returns-in_default-clause-block c = (is_placed c.args.self.now c.args.instance _ (placed c.args.self.now c.args.instance c.blocks_fit.ensures c.requires) (returns-in_default-clause-place c)).block
 
 pub returns-in-Some-offset-clause-low : goal.returns-in-Some-offset-clause-low
 returns-in-Some-offset-clause-low c = (is_placed c.args.self.now c.args.instance _ (rw (← c.self.view_is) (placed (vector_of c.self.inside) c.args.instance c.self.invariant (rw c.self.view_is c.requires))) (returns-in-Some-offset-clause-place c)).low
