@@ -129,28 +129,13 @@ fn relocations(generator: &mut Generator, bytes: &[u8]) -> Option<Table> {
     })
 }
 
-/// Gives a field of an entry another number, or once in eight times moves the whole.
-fn change_table(
-    generator: &mut Generator,
-    bytes: &mut [u8],
-    table: Table,
-    fields: &[Field],
-) -> Option<()>
-    ensures { differing bytes.old bytes.new ≤ 128 }
-{
-    if generator.is_one_in(8) {
-        return table.move_entry(generator, bytes);
-    }
-    table.change_field(generator, bytes, fields)
-}
-
 /// Changes a program header.
 #[tactic(auto, using(crate::proofs::Differing::differing_self))]
 fn change_segment(generator: &mut Generator, bytes: &mut [u8]) -> Option<()>
     ensures { differing bytes.old bytes.new ≤ 128 }
 {
     let table = segments(bytes);
-    change_table(generator, bytes, table, &SEGMENT)
+    table.change(generator, bytes, &SEGMENT, 8)
 }
 
 /// Changes an entry of the dynamic array.
@@ -159,7 +144,7 @@ fn change_entry(generator: &mut Generator, bytes: &mut [u8]) -> Option<()>
     ensures { differing bytes.old bytes.new ≤ 128 }
 {
     let table = dynamic(generator, bytes)?;
-    change_table(generator, bytes, table, &ENTRY)
+    table.change(generator, bytes, &ENTRY, 8)
 }
 
 /// Changes a symbol.
@@ -168,7 +153,7 @@ fn change_symbol(generator: &mut Generator, bytes: &mut [u8]) -> Option<()>
     ensures { differing bytes.old bytes.new ≤ 128 }
 {
     let table = symbols(generator, bytes)?;
-    change_table(generator, bytes, table, &SYMBOL)
+    table.change(generator, bytes, &SYMBOL, 8)
 }
 
 /// Changes a relocation.
@@ -177,7 +162,7 @@ fn change_relocation(generator: &mut Generator, bytes: &mut [u8]) -> Option<()>
     ensures { differing bytes.old bytes.new ≤ 128 }
 {
     let table = relocations(generator, bytes)?;
-    change_table(generator, bytes, table, &RELOCATION)
+    table.change(generator, bytes, &RELOCATION, 8)
 }
 
 /// Changes a byte of the names, or one of the next sixty-three behind them.

@@ -99,11 +99,7 @@ fn table_in(bytes: &[u8], section: u64) -> Table {
 fn change_section(generator: &mut Generator, bytes: &mut [u8]) -> Option<()>
     ensures { differing bytes.old bytes.new ≤ 128 }
 {
-    let table = sections(bytes);
-    if generator.is_one_in(12) {
-        return table.move_entry(generator, bytes);
-    }
-    table.change_field(generator, bytes, &SECTION)
+    sections(bytes).change(generator, bytes, &SECTION, 12)
 }
 
 /// Gives a field of a symbol another number, or moves the whole.
@@ -112,10 +108,7 @@ fn change_symbol(generator: &mut Generator, bytes: &mut [u8]) -> Option<()>
     ensures { differing bytes.old bytes.new ≤ 128 }
 {
     let table = table_of(generator, bytes, SYMBOLS)?;
-    if generator.is_one_in(8) {
-        return table.move_entry(generator, bytes);
-    }
-    table.change_field(generator, bytes, &SYMBOL)
+    table.change(generator, bytes, &SYMBOL, 8)
 }
 
 /// Gives a field of a relocation another number, or moves the whole.
@@ -124,10 +117,7 @@ fn change_relocation(generator: &mut Generator, bytes: &mut [u8]) -> Option<()>
     ensures { differing bytes.old bytes.new ≤ 128 }
 {
     let table = table_of(generator, bytes, RELOCATIONS)?;
-    if generator.is_one_in(4) {
-        return table.move_entry(generator, bytes);
-    }
-    table.change_field(generator, bytes, &RELOCATION)
+    table.change(generator, bytes, &RELOCATION, 4)
 }
 
 /// Changes a byte of code next to where a relocation stands.

@@ -105,6 +105,22 @@ impl Table {
         Some(())
     }
 
+    /// Gives one of these fields of an entry another number, or once in `times` times moves the whole.
+    pub(crate) fn change(
+        self,
+        generator: &mut Generator,
+        bytes: &mut [u8],
+        fields: &[Field],
+        times: u64,
+    ) -> Option<()>
+        ensures { differing bytes.old bytes.new ≤ 128 }
+    {
+        if generator.is_one_in(times) {
+            return self.move_entry(generator, bytes);
+        }
+        self.change_field(generator, bytes, fields)
+    }
+
     /// Gives an entry the bytes of another one, and that one its bytes, or not.
     #[tactic(auto, using(crate::proofs::Differing::differing_self, crate::proofs::Differing::differing_across))]
     pub(crate) fn move_entry(self, generator: &mut Generator, bytes: &mut [u8]) -> Option<()>
