@@ -11,28 +11,6 @@ use std::process::Abort;
 use std::sync::Wait;
 use std::test::Fail;
 
-/// The event that a thread opens an image.
-pub(crate) fn opening(thread: u32, line: u32, image: u32) -> Event
-    ensures { result.thread ≡ thread }
-{
-    Event {
-        thread,
-        line,
-        opens: true,
-        image,
-    }
-}
-
-/// The event that a thread closes an image.
-pub(crate) fn closing(thread: u32, line: u32, image: u32) -> Event
-    ensures { result.thread ≡ thread }
-{
-    Event {
-        opens: false,
-        ..opening(thread, line, image)
-    }
-}
-
 /// A pass's first of 32 threads opens or closes an image, as the event says. The text has the answer, and then how many
 /// events the pass had not seen.
 fn call<R: Wait>(
@@ -84,13 +62,41 @@ fn a_pass_finds_what_the_other_did(rt: HostRuntime) -> Result<(), Fail> {
     let alloc = rt.alloc();
     let (shared, pass) = started(alloc)?;
     let (mut left, mut right) = halve(&shared, pass, 1, 64);
-    ask(&rt, alloc, &shared, &mut left, opening(1, 1, 2), opened)?;
+    ask(&rt, alloc, &shared, &mut left, Event::open(1, 1, 2), opened)?;
     assert!(rt; shared.newer(&mut right) && !shared.newer(&mut left));
-    ask(&rt, alloc, &shared, &mut right, opening(33, 1, 9), unknown)?;
+    ask(
+        &rt,
+        alloc,
+        &shared,
+        &mut right,
+        Event::open(33, 1, 9),
+        unknown,
+    )?;
     assert!(rt; !shared.newer(&mut right) && right.seen() == 1);
-    ask(&rt, alloc, &shared, &mut right, closing(33, 2, 2), closed)?;
-    ask(&rt, alloc, &shared, &mut left, closing(1, 2, 2), not_open)?;
-    ask(&rt, alloc, &shared, &mut left, closing(1, 3, 1), permanent)?;
+    ask(
+        &rt,
+        alloc,
+        &shared,
+        &mut right,
+        Event::close(33, 2, 2),
+        closed,
+    )?;
+    ask(
+        &rt,
+        alloc,
+        &shared,
+        &mut left,
+        Event::close(1, 2, 2),
+        not_open,
+    )?;
+    ask(
+        &rt,
+        alloc,
+        &shared,
+        &mut left,
+        Event::close(1, 3, 1),
+        permanent,
+    )?;
     let mut events = Vec::new(alloc);
     shared.catch_up(&rt, &mut right, &mut events)?;
     let pass = shared.join(left, right);

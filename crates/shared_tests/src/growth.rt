@@ -5,7 +5,6 @@
 ghost use Rattle.std.specs.Prelude.{IfOk};
 ghost use Rattle.shared_tests.specs.Races.{IsReady};
 
-use crate::calls::{closing, opening};
 use crate::race::open_and_close;
 use crate::start::{halve, started};
 use module_table::{Event, OpenRefusal, Opened};
@@ -19,10 +18,10 @@ use std::test::Fail;
 /// Whether a list has what the second pass did: it opened and closed image 2, twice.
 fn is_lacked(events: &[Event]) -> bool {
     let lacked = [
-        opening(33, 1, 2),
-        closing(33, 2, 2),
-        opening(33, 1, 2),
-        closing(33, 2, 2),
+        Event::open(33, 1, 2),
+        Event::close(33, 2, 2),
+        Event::open(33, 1, 2),
+        Event::close(33, 2, 2),
     ];
     events == lacked.as_slice()
 }

@@ -4,7 +4,6 @@ ghost use Rattle.std.specs.Prelude.{◌≡◌, ◌≤◌, ◌+◌, ◌-◌, ◌*
 ghost use Rattle.std.specs.Thread.{IsSync};
 ghost use Rattle.shared_tests.specs.Races.{IsReady};
 
-use crate::calls::opening;
 use crate::start::{halve, started};
 use module_table::Event;
 use shared_modules::{Pass, Shared};
@@ -173,7 +172,7 @@ fn threads_open_and_close_at_once(rt: HostRuntime) -> Result<(), Fail> {
 fn a_look_finds_what_another_thread_did(rt: HostRuntime) -> Result<(), Fail> {
     let (shared, pass) = started(rt.alloc())?;
     let (mut pass, events) = watch(&rt, rt.alloc(), &shared, pass);
-    assert!(rt; events.first() == Some(&opening(33, 1, 2)));
+    assert!(rt; events.first() == Some(&Event::open(33, 1, 2)));
     assert!(rt; !shared.newer(&mut pass) && pass.seen() == 1);
     Ok(())
 }
