@@ -64,12 +64,7 @@ pub(crate) fn answer<R: Wait>(
         Ask::Opens(line, image) => match shared.open(rt, pass, thread, line, image, events) {
             Ok(opened) => Ok(Answered {
                 answer: Some(LineAnswer::Opened(Ok(opened))),
-                own: Some(Event {
-                    thread,
-                    line,
-                    opens: true,
-                    image,
-                }),
+                own: Some(Event::open(thread, line, image)),
             }),
             Err(refusal) => Ok(Answered {
                 answer: Some(LineAnswer::Opened(Err(refused_open(refusal)?))),
@@ -79,12 +74,7 @@ pub(crate) fn answer<R: Wait>(
         Ask::Closes(line, image) => match shared.close(rt, pass, thread, line, image, events) {
             Ok(closed) => Ok(Answered {
                 answer: Some(LineAnswer::Closed(Ok(closed))),
-                own: Some(Event {
-                    thread,
-                    line,
-                    opens: false,
-                    image,
-                }),
+                own: Some(Event::close(thread, line, image)),
             }),
             Err(refusal) => Ok(Answered {
                 answer: Some(LineAnswer::Closed(Err(refused_close(refusal)?))),
