@@ -1,8 +1,8 @@
 -- An image as text: a line for each thing that it spells.
-use Rattle.std.specs.Prelude.{ℕ, ◌-◌, ◌^◌, List, [], ◌++◌, length, drop, codes, Bool, false}
+use Rattle.std.specs.Prelude.{ℕ, ◌-◌, List, [], ◌++◌, length, drop, codes, Bool}
 use Rattle.std.specs.Prelude.{Option, slice_get, option_to_list, option_and_then, if◌then◌else◌}
 use Rattle.std.specs.List.{flat_map, zip}
-use Rattle.std.specs.Fmt.{decimal, signed_decimal, digits, padded_integral, format_spec}
+use Rattle.std.specs.Fmt.{decimal, signed_decimal}
 use Rattle.image_rules.specs.declared.places.FileKind.{FileKind}
 use Rattle.image_file.specs.declared.part.TlsPart.{TlsPart}
 use Rattle.image_file.specs.declared.symbol.ImageSymbol.{ImageSymbol}
@@ -10,11 +10,8 @@ use Rattle.image_file.specs.declared.relocation.ImageRelocation.{ImageRelocation
 use Rattle.image_file.specs.Spelled.{Part, Spelled}
 use Rattle.elf_records.specs.Symbols.{type_number}
 use Rattle.image_faults.specs.Relocations.{kind_number}
+use Rattle.transcript_text.specs.Texts.{hex16}
 use Rattle.image_text.specs.Words.{class_word, import_word, kind_word}
-
--- a number as 16 hexadecimal digits
-abbrev pub hex16 : ℕ → List ℕ
-hex16 n = padded_integral (format_spec 32 0 4 16 (2 ^ 64 - 1)) false [] (digits 16 false n)
 
 -- the kind of the image
 unfoldable pub kind_line : FileKind → List ℕ

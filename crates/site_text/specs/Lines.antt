@@ -1,15 +1,12 @@
 -- Sites as text: a line for each.
-use Rattle.std.specs.Prelude.{ℕ, ◌-◌, ◌^◌, List, [], ◌∷◌, ◌++◌, codes, false}
+use Rattle.std.specs.Prelude.{ℕ, ◌-◌, List, [], ◌∷◌, ◌++◌, codes}
 use Rattle.std.specs.List.{flat_map, zip}
-use Rattle.std.specs.Fmt.{decimal, digits, padded_integral, format_spec}
+use Rattle.std.specs.Fmt.{decimal}
 use Rattle.elf_object.specs.Lent.{symbol_name}
 use Rattle.sequence_forms.specs.declared.places.Site.{Site}
 use Rattle.relax_sites.specs.declared.choices.Choice.{Choice}
+use Rattle.transcript_text.specs.Texts.{hex16}
 use Rattle.site_text.specs.Names.{choice_name, form_name}
-
--- a number as 16 hexadecimal digits
-abbrev pub hex16 : ℕ → List ℕ
-hex16 n = padded_integral (format_spec 32 0 4 16 (2 ^ 64 - 1)) false [] (digits 16 false n)
 
 -- a name as it is printed: `-` for an empty one
 abbrev pub shown_name : List ℕ → List ℕ
