@@ -86,21 +86,28 @@ fn same(rt: &impl Abort, found: &str, want: &str, at: &str) {
     assert!(rt; found == want, "{found}: {at}");
 }
 
-/// Checks how one call stops.
-fn check(rt: &impl Abort, alloc: Global, line: &str) -> Result<(), Fail> {
-    let (call, want) = line.split_once(": ").ok_or("an answer")?;
-    same(rt, stopped(alloc, call)?.as_str(), want, line);
+/// What a row asks: the accesses of an instruction, or how a call stops.
+fn answer(alloc: Global, row: &str) -> Result<String, Fail> {
+    match row.strip_prefix("touches ") {
+        Some(digits) => touched(alloc, digits),
+        None => stopped(alloc, row),
+    }
+}
+
+/// Checks each row of a table but its comments.
+fn check(rt: &impl Abort, alloc: Global, table: &str) -> Result<(), Fail> {
+    for line in table.lines() {
+        if !line.starts_with("//") {
+            let (row, want) = line.split_once(": ").ok_or("an answer")?;
+            same(rt, answer(alloc, row)?.as_str(), want, line);
+        }
+    }
     Ok(())
 }
 
 #[test]
 fn calls_stop(rt: HostRuntime) -> Result<(), Fail> {
-    for line in RUNS.lines() {
-        if !line.starts_with("//") {
-            check(&rt, rt.alloc(), line)?;
-        }
-    }
-    Ok(())
+    check(&rt, rt.alloc(), RUNS)
 }
 
 #[test]
@@ -132,30 +139,18 @@ fn touched(alloc: Global, digits: &str) -> Result<String, Fail> {
     Ok(format!(in alloc; "{touches:?}")?)
 }
 
-/// Each line: an instruction, and its accesses.
+/// Each line: an instruction, and its accesses in a call with 3, 5 and 7.
 const TOUCHED: &str = "\
 // call *8(%rdi): its target is loaded, then the return address is pushed
-ff5708 Touches { first: Some(Touch { direction: Load, size: Quad, address: 11 }), second: Some(Touch { direction: Store, size: Quad, address: 8323064 }) }
+touches ff5708: Touches { first: Some(Touch { direction: Load, size: Quad, address: 11 }), second: Some(Touch { direction: Store, size: Quad, address: 8323064 }) }
 // mov %ecx, (%rsi)
-890e Touches { first: Some(Touch { direction: Store, size: Long, address: 5 }), second: None }
+touches 890e: Touches { first: Some(Touch { direction: Store, size: Long, address: 5 }), second: None }
 // lea (%rsi), %rax, and no instruction
-488d06 Touches { first: None, second: None }
-0fffff Touches { first: None, second: None }
+touches 488d06: Touches { first: None, second: None }
+touches 0fffff: Touches { first: None, second: None }
 ";
-
-/// Checks the accesses of one instruction.
-fn check_touched(rt: &impl Abort, alloc: Global, line: &str) -> Result<(), Fail> {
-    let (digits, want) = line.split_once(' ').ok_or("an answer")?;
-    same(rt, touched(alloc, digits)?.as_str(), want, line);
-    Ok(())
-}
 
 #[test]
 fn what_is_touched(rt: HostRuntime) -> Result<(), Fail> {
-    for line in TOUCHED.lines() {
-        if !line.starts_with("//") {
-            check_touched(&rt, rt.alloc(), line)?;
-        }
-    }
-    Ok(())
+    check(&rt, rt.alloc(), TOUCHED)
 }
