@@ -17,9 +17,8 @@ fn registry(alloc: Global) -> Result<Registry, AllocError> {
     };
     let late = ImageInfo {
         late: true,
-        statics: false,
         size: 8,
-        align: 4,
+        ..program
     };
     Registry::new(alloc, &[program, late], 4)
 }
