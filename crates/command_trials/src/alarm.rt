@@ -30,6 +30,7 @@ pub enum Ended {
     /// The words are no count, seed and kinds of inputs.
     #[error("words: COUNT SEED KIND..")]
     Words,
+    /// An alarm of the trials.
     #[error("{alarm}")]
     Alarm { alarm: Alarm },
 }
