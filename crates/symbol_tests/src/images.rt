@@ -1,6 +1,6 @@
 //! Makes images from drafted objects, and writes the bindings of their names as text.
 
-ghost use Rattle.std.specs.Prelude.{◌≡◌, ◌<◌, length};
+ghost use Rattle.std.specs.Prelude.{◌≡◌, ◌≤◌, ◌<◌, IfOk, length};
 ghost use Rattle.tls_symbols.specs.Bindings.{object_at};
 
 use elf_object::Object;
@@ -131,15 +131,20 @@ pub(crate) fn read<'a>(alloc: Global, files: &'a [Vec<u8>]) -> Result<Vec<Object
     Ok(objects)
 }
 
-/// The exports of images of these objects, one after another.
+/// The exports of at most 100 images of these objects, one after another.
 pub(crate) fn exports_of<'a>(
     alloc: Global,
     images: &'a [Vec<Vec<u8>>],
-) -> Result<Vec<Exports<'a>>, Fail> {
+) -> Result<Vec<Exports<'a>>, Fail>
+    ensures { IfOk result (λ startup. length startup.items ≤ 100) }
+{
     let mut startup = Vec::new(alloc);
     for image in images {
         let objects = read(alloc, image.as_slice())?;
         startup.push(exports(alloc, objects.as_slice())?)?;
+    }
+    if startup.len() > 100 {
+        return Err(Fail::from("more than 100 images"));
     }
     Ok(startup)
 }
@@ -173,9 +178,6 @@ pub(crate) fn said(
 ) -> Result<String, Fail> {
     let objects = read(alloc, files)?;
     let startup = exports_of(alloc, images)?;
-    if startup.len() > 100 {
-        return Ok(String::new(alloc));
-    }
     match resolve(alloc, objects.as_slice(), startup.as_slice()) {
         Ok(bindings) => Ok(all_said(alloc, &bindings, objects.as_slice())?),
         Err(LinkFault::OutOfMemory) => Ok(String::from_str(alloc, "memory")?),

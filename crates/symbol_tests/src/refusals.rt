@@ -9,7 +9,7 @@ use link_faults::{ImageKind, LinkFault};
 use link_needs::{ask_kind, ask_tls, has_few_relocations, relocation_count};
 use std::alloc::Global;
 use std::test::Fail;
-use tls_symbols::{Bindings, Exports, resolve};
+use tls_symbols::{Bindings, resolve};
 
 /// Each line: the kind of the image, the size of its TLS segment, the result, and the object, whose symbols are a
 /// variable, a function and a variable of the program. Its relocations are in section 3: 0 is NONE, 10 is 32, 11 is
@@ -65,28 +65,14 @@ fn told(
     }
 }
 
-/// The result for an image of these objects, with these startup images.
-fn said_beside(
-    alloc: Global,
-    objects: &[Object],
-    startup: &[Exports],
-    kind: ImageKind,
-    size: u64,
-) -> Result<String, Fail> {
-    if startup.len() > 100 {
-        return Ok(String::new(alloc));
-    }
-    let bindings = resolve(alloc, objects, startup)?;
-    told(alloc, objects, &bindings, kind, size)
-}
-
 /// The result for an image of this object, with this kind and this size of its TLS segment.
 fn said(alloc: Global, words: &str, kind: ImageKind, size: u64) -> Result<String, Fail> {
     let files = files_of(alloc, words)?;
     let program = images_of(alloc, "|v:y")?;
     let objects = read(alloc, files.as_slice())?;
     let startup = exports_of(alloc, program.as_slice())?;
-    said_beside(alloc, objects.as_slice(), startup.as_slice(), kind, size)
+    let bindings = resolve(alloc, objects.as_slice(), startup.as_slice())?;
+    told(alloc, objects.as_slice(), &bindings, kind, size)
 }
 
 /// Whether the result of a case is that of its line.
