@@ -1,6 +1,5 @@
 -- Turns in one order and then in another, and turns of a thread that is over.
 use Rattle.std.proofs.Common.{◌≡◌, ◌++◌, ◌+◌, ◌-◌, ◌<◌, ◌≤◌, ℕ, zero, suc, Bool, true, false, List, [], ◌∷◌, add-one, arith, get_or, length, take, replicate, Option, Some, None, refl, sym, ap, subst, ◌∙◌}
-use Rattle.std.specs.List.{insert, remove}
 use Rattle.std.proofs.lemmas.List.{replicate-append-replicate, take_more}
 use Rattle.std.specs.Prelude.{nat_lt, slice_get, slice_set}
 use Rattle.std.proofs.lemmas.Option.{slice_get-get_or}
@@ -8,7 +7,7 @@ use native.Mathlib.Nat.{mul-suc}
 use Rattle.job_text.specs.Threads.{of_thread}
 use Rattle.thread_blocks.specs.Turns.{at_number, enough, finishing}
 use Rattle.thread_turns.specs.Orders.{HasTurned, Progress, StayFit, TakesOne, TakesOwn, TakesTurns, is_over, is_thread_over}
-use Rattle.thread_turns.proofs.Lists.{finishing_more, put_back, set-length, within}
+use Rattle.thread_turns.proofs.Lists.{finishing_more, set-length, within}
 
 -- ---- threads of definitions that the code stands for
 
@@ -105,13 +104,12 @@ module _ {S R : Type 0} (is_done : R → Bool) (turned : S → R → S → R →
   going_done runs thread k r number at going =
       ap (is_over is_done) (sym at) ∙ ap (is_thread_over is_done runs) (sym number) ∙ going
 
-  -- a thread that is taken out, takes its turn and is put back
+  -- a thread that took its turn
   pub takes_put : (x y : Progress S R) (thread k : ℕ) (r r' : R) → thread ≡ suc k → slice_get x.runs k ≡ Some r
-      → is_done r ≡ false → turned x.shared r y.shared r' → y.runs ≡ insert (remove x.runs k) k r'
+      → is_done r ≡ false → turned x.shared r y.shared r' → y.runs ≡ slice_set x.runs k r'
       → TakesTurns is_done turned x (thread ∷ []) y
   takes_put x y thread k r r' number at going has are =
-      rw (number, at, going)
-      (y, record { after = r'; turns = has; runs_are = are ∙ put_back x.runs k r' (within x.runs k r at) }, refl)
+      rw (number, at, going) (y, record { after = r'; turns = has; runs_are = are }, refl)
 
   -- one turn more of an order
   pub takes_next : (x y z : Progress S R) (order : List ℕ) (k d : ℕ) → k < length order

@@ -18,13 +18,19 @@
 //! [`Threads`] takes the turns. Its clauses (`specs/Orders`, `TakesTurns`) say that what it leaves came about by one
 //! turn after another in the given order, each as the trait says.
 //!
+//! The threads above run lines of a job, over plain numbers or over marked values. What their turns are made of is here
+//! once (`parts`): a thread's lines ([`Script`]), and how a first look, a run, a look in the middle of a call or a turn
+//! ends.
+//!
 //! The crates above compare this with definitions of the same turns. They do so for one turn; what every turn keeps,
 //! every order keeps, if a turn of a thread that is over changes nothing (`proofs/Orders`, `order_stands`).
 #![tactic(auto)]
 
+mod parts;
 mod taker;
 mod threads;
 
+pub use parts::{Arguments, Ended, Resumed, Script, Started};
 pub use taker::TurnTaker;
 pub use threads::Threads;
 

@@ -27,7 +27,8 @@ impl<S: Drop, T: TurnTaker<S>> Threads<S, T> {
         }
     }
 
-    /// Takes a turn of a thread that has something left to do.
+    /// Takes a turn of a thread that has something left to do. The last thread stands in its place for so long, so
+    /// that no other moves.
     fn go(&mut self, thread: u32) -> Result<(), AllocError>
         requires laws { StayFit T.can_turn T.turned T.fit }
         requires fit { T.fit self.old.shared self.old.threads.items }
@@ -35,9 +36,11 @@ impl<S: Drop, T: TurnTaker<S>> Threads<S, T> {
         ensures { OnOk result (TakesTurns T.is_done T.turned (progress self.old) (thread ∷ []) (progress self.new)) }
     {
         let index = index_of(thread);
-        let before = self.threads.remove(index);
+        let before = self.threads.swap_remove(index);
+        let last = self.threads.len();
         let after = before.turn(&mut self.shared)?;
-        self.threads.insert(index, after)?;
+        self.threads.push(after)?;
+        self.threads.swap(index, last);
         Ok(())
     }
 
