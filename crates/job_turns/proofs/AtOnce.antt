@@ -13,7 +13,7 @@ use Rattle.thread_blocks.specs.declared.asked.Asked.{Asked}
 use Rattle.thread_blocks.specs.Instances.{Loads, instances, is_startup_id}
 use Rattle.thread_blocks.specs.JobLoads.{job_loads}
 use Rattle.thread_blocks.specs.RunTime.{Runs as Thread, answer_word, asked_at, asked_next, found_at_once, goes_answered}
-use Rattle.job_turns.specs.declared.running.Ran.TheVariants as ran
+use Rattle.thread_turns.specs.declared.parts.Ended.TheVariants as ran
 use Rattle.thread_space.specs.Kept.{HasSeen, Kept, held_at, live_in, memory_of, shape_of}
 use Rattle.job_turns.specs.Running.{AnswersLook, asked_in}
 use Rattle.job_turns.proofs.Answering.{answer_made, answer_refused, asked_is, live_seen}

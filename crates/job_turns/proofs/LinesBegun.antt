@@ -20,11 +20,10 @@ use Rattle.thread_blocks.specs.MachineTurns.{call_start}
 use Rattle.thread_blocks.specs.RunTime.{Runs, shows}
 use Rattle.thread_blocks.specs.Turns.{Answered, Begun, Says as SaysSo, with_event}
 use Rattle.thread_vector.specs.Vectors.{held}
-use Rattle.job_turns.specs.declared.lines.Started.{Started}
-use Rattle.job_turns.specs.declared.lines.Started.TheVariants.{Says, Calls}
+use Rattle.job_turns.specs.Starting.{Begins, BeginsCall, BeginsPeek, ReachesLive, Started, Starts, part_shown, shown_of, started_as}
+use Rattle.thread_turns.specs.declared.parts.Started.TheVariants.{Says, Calls}
 use Rattle.thread_space.specs.Kept.{HasSeen, Kept, held_at, owned_of}
 use Rattle.thread_space.specs.Live.{HasStartups, IsLive}
-use Rattle.job_turns.specs.Starting.{Begins, BeginsCall, BeginsPeek, ReachesLive, Starts, part_shown, shown_of, started_as}
 use Rattle.thread_space.specs.Steps.{HasFreshStack}
 use Rattle.job_turns.proofs.HeldWith.{block_held, found_at, held_with, reached_with, same_thread, seen_with}
 use Rattle.thread_space.proofs.Looks.{reach_kept}

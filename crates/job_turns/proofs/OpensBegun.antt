@@ -28,11 +28,10 @@ use Rattle.thread_vector.specs.Holding.{IsLeftBy}
 use Rattle.thread_vector.specs.Vectors.{loaded_as}
 use Rattle.thread_vector.proofs.Events.{shape_of}
 use Rattle.thread_vector.proofs.Facts.{facts}
-use Rattle.job_turns.specs.declared.lines.Started.{Started}
-use Rattle.job_turns.specs.declared.lines.Started.TheVariants.{Says}
+use Rattle.job_turns.specs.Starting.{BeginsCall, BeginsClose, BeginsOpen, BeginsPeek, LoadsNew, Sees, Started, Starts}
+use Rattle.thread_turns.specs.declared.parts.Started.TheVariants.{Says}
 use Rattle.thread_space.specs.Kept.{HasSeen, Kept, held_at, owned_of}
 use Rattle.thread_space.specs.Live.{HasStartups}
-use Rattle.job_turns.specs.Starting.{BeginsCall, BeginsClose, BeginsOpen, BeginsPeek, LoadsNew, Sees, Starts}
 use Rattle.thread_space.specs.Steps.{HasData}
 use Rattle.job_turns.proofs.HeldWith.{found_at, held_with, left_is, loaded_with, looked_with, seen_with}
 use Rattle.job_turns.proofs.LinesBegun.{over_at_once, starts_so}

@@ -18,7 +18,7 @@ use Rattle.thread_blocks.specs.RunTime.{Runs as Thread, answer_word, answered, r
 use Rattle.thread_blocks.specs.Turns.{Answered, Calls, Says, Stopped}
 use Rattle.transcript_text.specs.declared.outcomes.LineFault.TheVariants.{Unloaded as UnloadedFault}
 use Rattle.transcript_text.specs.declared.outcomes.Outcome.TheVariants.{Fault}
-use Rattle.job_turns.specs.declared.running.Resumed.TheVariants as goes
+use Rattle.thread_turns.specs.declared.parts.Resumed.TheVariants as goes
 use Rattle.thread_space.specs.Kept.{HasSeen, Kept, held_at, live_in, memory_of, owned_of, shape_of}
 use Rattle.thread_space.specs.Live.{IsLive}
 use Rattle.job_turns.specs.Running.{IsSameThread, Resumes}

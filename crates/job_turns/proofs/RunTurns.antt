@@ -13,10 +13,9 @@ use Rattle.thread_blocks.specs.Instances.{Loads}
 use Rattle.thread_blocks.specs.JobLoads.{job_loads}
 use Rattle.thread_blocks.specs.RunTime.{asked_at, asked_next, thread_accesses, thread_steps}
 use Rattle.thread_blocks.specs.Spaces.{Space, no_field}
-use Rattle.job_turns.specs.declared.running.Ran.{Ran}
-use Rattle.job_turns.specs.declared.running.Ran.TheVariants as ran
+use Rattle.job_turns.specs.Running.{AnswersLook, Ran, RunsOn, RunsPart, RunsUpTo, bare, goes_on, left_run, next_after, space_in}
+use Rattle.thread_turns.specs.declared.parts.Ended.TheVariants as ran
 use Rattle.thread_space.specs.Kept.{HasSeen, Kept, held_at, memory_of, shape_of}
-use Rattle.job_turns.specs.Running.{AnswersLook, RunsOn, RunsPart, RunsUpTo, bare, goes_on, left_run, next_after, space_in}
 use Rattle.thread_space.proofs.Rests.{run_ends, run_left, run_waits}
 use Rattle.job_turns.proofs.RunningOn.{runs_on}
 use Rattle.job_turns.proofs.SameThread.{held_after, held_still, same_thread}

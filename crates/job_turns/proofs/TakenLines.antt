@@ -15,17 +15,14 @@ use Rattle.thread_blocks.specs.Lines.{Line, event_by}
 use Rattle.thread_blocks.specs.MachineTurns.{answer_of, answer_of_stop}
 use Rattle.thread_blocks.specs.RunTime.{Runs, thread_steps, thread_turns}
 use Rattle.thread_blocks.specs.Turns.{Answered, Begun, Calls as CallsOn, Ending, Said, Says as SaysSo, Stopped, after_look, after_run, over_with, with_event}
-use Rattle.job_turns.specs.declared.lines.Started.TheVariants.{Says, Calls}
-use Rattle.job_turns.specs.declared.running.Ran.{Ran}
-use Rattle.job_turns.specs.declared.running.Ran.TheVariants as ran
-use Rattle.job_turns.specs.declared.running.Resumed.{Resumed}
-use Rattle.job_turns.specs.declared.running.Resumed.TheVariants as resumed
-use Rattle.job_turns.specs.declared.taking.Taken.{Taken}
-use Rattle.job_turns.specs.declared.taking.Taken.TheVariants.{Over, Waits}
+use Rattle.thread_turns.specs.declared.parts.Started.TheVariants.{Says, Calls}
+use Rattle.job_turns.specs.Running.{Ran, Resumes, RunsOn, outcome_of_run, resumed_as}
+use Rattle.thread_turns.specs.declared.parts.Resumed.{Resumed}
+use Rattle.thread_turns.specs.declared.parts.Resumed.TheVariants as resumed
+use Rattle.job_turns.specs.Taking.{BeginsTo, HasStepsLeft, IsOver, KeepsJob, ResumesTo, RunsTo, Taken, TookAs, loads_in}
+use Rattle.thread_turns.specs.declared.parts.Ended.TheVariants.{Over, Waits}
 use Rattle.thread_space.specs.Kept.{HasSeen, Kept, held_at, owned_of}
-use Rattle.job_turns.specs.Running.{Resumes, RunsOn, outcome_of_run, resumed_as}
 use Rattle.job_turns.specs.Starting.{Starts}
-use Rattle.job_turns.specs.Taking.{BeginsTo, HasStepsLeft, IsOver, KeepsJob, ResumesTo, RunsTo, TookAs, loads_in}
 use Rattle.thread_space.proofs.Owners.{owned_again}
 
 -- ---- a line that is over where the thread keeps this
@@ -72,27 +69,27 @@ module _ {S : Type 0} (x : Stepping S) where
 
 -- what the code makes of how a run came to an end: the outcome of its stop, or the machine that waits
 abbrev pub TakenAs : Ran → Standing ℕ Bool → Taken → Type 0
-TakenAs (ran.Over stop) m (Over outcome) = answer_of_stop stop ≡ Some outcome
-TakenAs (ran.Over stop) m (Waits machine asked) = ⊥
-TakenAs (ran.Waits wanted) m (Over outcome) = ⊥
-TakenAs (ran.Waits wanted) m (Waits machine asked) = (machine ≡ m) × (asked ≡ wanted)
+TakenAs (Over stop) m (Over outcome) = answer_of_stop stop ≡ Some outcome
+TakenAs (Over stop) m (Waits (machine, asked)) = ⊥
+TakenAs (Waits wanted) m (Over outcome) = ⊥
+TakenAs (Waits wanted) m (Waits (machine, asked)) = (machine ≡ m) × (asked ≡ wanted)
 
 took_run : (limit : ℕ) (result : Ran) (m : Standing ℕ Bool) (taken : Taken) (k : Kept) (now seen : List Event) (asked : Option Asked)
     (points : List ℕ) (todo : List Line) (said : List Said) → TakenAs result m taken
     → TookAs limit k taken points now todo said seen
     (after_run todo said seen points (outcome_of_run now asked result (limit - m.taken) m.state k))
-took_run limit (ran.Over stop) m (Over outcome) k now seen asked points todo said is =
+took_run limit (Over stop) m (Over outcome) k now seen asked points todo said is =
     over_at k now m.state asked (Stopped stop) outcome points todo said seen is
-took_run limit (ran.Over stop) m (Waits machine wanted) k now seen asked points todo said is = absurd is
-took_run limit (ran.Waits wanted) m (Over outcome) k now seen asked points todo said is = absurd is
-took_run limit (ran.Waits wanted) m (Waits machine asked') k now seen asked points todo said is = rw (is.0, is.1) refl
+took_run limit (Over stop) m (Waits (machine, wanted)) k now seen asked points todo said is = absurd is
+took_run limit (Waits wanted) m (Over outcome) k now seen asked points todo said is = absurd is
+took_run limit (Waits wanted) m (Waits (machine, asked')) k now seen asked points todo said is = rw (is.0, is.1) refl
 
 waits_steps : (limit : ℕ) (result : Ran) (m : Standing ℕ Bool) (taken : Taken) (k : Kept) (now : List Event) (x : Stepping Runs) (n : ℕ) (s : Runs)
     → run x n s ≡ outcome_of_run now None result (limit - m.taken) m.state k → TakenAs result m taken → HasStepsLeft limit taken
-waits_steps limit (ran.Over stop) m (Over outcome) k now x n s ends is = tt
-waits_steps limit (ran.Over stop) m (Waits machine asked) k now x n s ends is = absurd is
-waits_steps limit (ran.Waits wanted) m (Over outcome) k now x n s ends is = absurd is
-waits_steps limit (ran.Waits wanted) m (Waits machine asked) k now x n s ends is =
+waits_steps limit (Over stop) m (Over outcome) k now x n s ends is = tt
+waits_steps limit (Over stop) m (Waits (machine, asked)) k now x n s ends is = absurd is
+waits_steps limit (Waits wanted) m (Over outcome) k now x n s ends is = absurd is
+waits_steps limit (Waits wanted) m (Waits (machine, asked)) k now x n s ends is =
     let has : 1 ≤ limit - m.taken = subst (HasStep x) ends (run_has_step x n s) in
     subst (λ (at : Standing ℕ Bool). at.taken < limit) (sym is.0) (omega arith)
 

@@ -11,10 +11,9 @@ use Rattle.thread_blocks.specs.Lines.{Line, begin_line, begun_by, event_by}
 use Rattle.thread_blocks.specs.MachineTurns.{shown}
 use Rattle.thread_blocks.specs.RunTime.{Runs, resume_line, shows, thread_turns}
 use Rattle.thread_blocks.specs.Turns.{Idle, Mid, Phase, Said, after_look, next_line, turn_at, with_event, with_last}
-use Rattle.job_turns.specs.declared.taking.Taken.{Taken}
+use Rattle.job_turns.specs.Taking.{BeginsTo, ResumesTo, Taken, emptied, loads_in, run_after}
 use Rattle.thread_space.specs.Kept.{HasSeen, Kept, blocks_of, held_at, owned_of}
 use Rattle.job_turns.specs.Standing.{IsIdle, IsMid, PhaseIs, StandsAfter, Waiting, waits_at}
-use Rattle.job_turns.specs.Taking.{BeginsTo, ResumesTo, emptied, loads_in, run_after}
 use Rattle.thread_space.proofs.Owners.{owned_again}
 use Rattle.job_turns.proofs.TurnsTaken.{look_held, took_stands}
 

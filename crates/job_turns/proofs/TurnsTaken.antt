@@ -16,9 +16,8 @@ use Rattle.thread_blocks.specs.declared.asked.Asked.{Asked}
 use Rattle.thread_blocks.specs.Turns.{Ending, Mid, Said, Thread}
 use Rattle.thread_space.specs.Kept.{HasSeen, Kept, blocks_of, held_at, owned_of}
 use Rattle.job_turns.specs.Standing.{Run, StandsAfter, Waiting}
-use Rattle.job_turns.specs.declared.taking.Taken.{Taken}
-use Rattle.job_turns.specs.declared.taking.Taken.TheVariants.{Over, Waits}
-use Rattle.job_turns.specs.Taking.{IsOver, TookAs, emptied, run_after}
+use Rattle.job_turns.specs.Taking.{IsOver, Taken, TookAs, emptied, run_after}
+use Rattle.thread_turns.specs.declared.parts.Ended.TheVariants.{Over, Waits}
 use Rattle.thread_space.proofs.Owners.{blocks_of_owned, data_of_owned, owned_again}
 
 -- what is put into a thread's hands is in them
@@ -121,5 +120,5 @@ pub took_stands : (lines : List ThreadLine) (begun fuel : ℕ) (said : List Prin
     → StandsAfter (run_after lines begun fuel said points taken (emptied k)) k.pieces now t
 took_stands lines begun fuel said (Over outcome) k points now todo before seen t took has_seen rest same =
     over_stands lines begun fuel said k outcome points now todo before seen t took has_seen rest same
-took_stands lines begun fuel said (Waits machine asked) k points now todo before seen t took has_seen rest same =
+took_stands lines begun fuel said (Waits (machine, asked)) k points now todo before seen t took has_seen rest same =
     waits_stands lines begun fuel said k machine asked points now todo before seen t took has_seen rest same

@@ -1,5 +1,5 @@
 -- A turn of a runner is one of each thread that it stands for.
-use Rattle.std.proofs.Common.{◌≡◌, ℕ, ◌+◌, ◌<◌, List, [], ◌∷◌, ◌++◌, length, drop, get_or, Option, Some, None, inl, inr, refl, sym, ap, subst, ◌∙◌}
+use Rattle.std.proofs.Common.{◌≡◌, ℕ, ◌+◌, ◌<◌, ◌^◌, List, [], ◌∷◌, ◌++◌, length, drop, get_or, Option, Some, None, inl, inr, refl, sym, ap, subst, ◌∙◌}
 use native.Mathlib.Numerals.{unary_clauses}
 use Rattle.std.specs.Prelude.{slice_get}
 use Rattle.std.proofs.lemmas.List.{drop_more}
@@ -19,15 +19,14 @@ use Rattle.thread_blocks.specs.JobWorlds.{numbered_lines, with_data}
 use Rattle.thread_blocks.specs.Lines.{Line, event_by}
 use Rattle.thread_blocks.specs.RunTime.{Runs, thread_turns}
 use Rattle.thread_blocks.specs.Turns.{Thread, event_of, turn, with_event, with_last}
-use Rattle.job_turns.specs.declared.taking.Taken.{Taken}
-use Rattle.job_turns.specs.declared.taking.Taken.TheVariants.{Over, Waits}
+use Rattle.job_turns.specs.Taking.{BeginsLine, CanBegin, ResumesLine, Taken, emptied, loads_in, run_after}
+use Rattle.thread_turns.specs.declared.parts.Ended.TheVariants.{Over, Waits}
 use Rattle.job_turns.specs.declared.asking.LineAnswer.{LineAnswer}
 use Rattle.job_turns.specs.Asking.{answer_to, ask_by, ask_next}
 use Rattle.thread_space.specs.Kept.{HasSeen, Kept, blocks_of, owned_of, shared_of}
 use Rattle.thread_space.specs.Live.{HasStartups}
 use Rattle.job_turns.specs.Standing.{IsGoing, IsSameRunner, Run, StandsAfter, StandsFor, TakesTurn, Waiting}
 use Rattle.thread_space.specs.Steps.{HasData, IsNew, Looks}
-use Rattle.job_turns.specs.Taking.{BeginsLine, ResumesLine, emptied, loads_in, run_after}
 use Rattle.thread_space.proofs.Looks.{look_kept}
 use Rattle.thread_space.proofs.StartKept.{start_has}
 use Rattle.thread_space.proofs.StartupBlocks.{look_startups}
@@ -66,7 +65,7 @@ taken_same : (lines : List ThreadLine) (begun fuel : ℕ) (said : List Printed) 
     → (r.lines ≡ lines) × (r.fuel ≡ fuel) × (r.kept ≡ k)
 taken_same lines begun fuel said points (Over outcome) k r is =
     (ap (λ (x : Run). x.lines) is, ap (λ (x : Run). x.fuel) is, ap (λ (x : Run). x.kept) is)
-taken_same lines begun fuel said points (Waits machine asked) k r is =
+taken_same lines begun fuel said points (Waits (machine, asked)) k r is =
     (ap (λ (x : Run). x.lines) is, ap (λ (x : Run). x.fuel) is, ap (λ (x : Run). x.kept) is)
 
 -- ---- a turn
@@ -91,12 +90,20 @@ module _ (k put k1 : Kept) (events : List Event) (d : List Piece) (given : HasDa
   pub looked_startups : HasStartups k1.vector
   looked_startups = look_startups k.vector k1.vector images_is left blocks_are startups
 
-  pub looked_pieces : length d ≡ length k.vector.images.images + 1 → length k1.pieces ≡ length k1.vector.images.images + 1
+  looked_pieces : length d ≡ length k.vector.images.images + 1 → length k1.pieces ≡ length k1.vector.images.images + 1
   looked_pieces long = ap length pieces_are ∙ long ∙ ap (λ (m : JobImages). length m.images + 1) (sym images_is)
 
-  pub looked_room : (most : ℕ) → k.vector.past.seen + length events + 1 < most → k1.vector.past.seen + 1 < most
+  looked_room : (most : ℕ) → k.vector.past.seen + length events + 1 < most → k1.vector.past.seen + 1 < most
   looked_room most room =
       subst (λ seen. seen + 1 < most) (sym (ap (λ (p : Past). p.seen) past_is ∙ seen-after k.vector.past events)) room
+
+  pub looked_ready : k.vector.past.seen + length events + 1 < 2 ^ 62 → length d ≡ length k.vector.images.images + 1
+      → CanBegin k1
+  looked_ready room long = record {
+    room = looked_room 4611686018427387904 room;
+    startups = looked_startups;
+    pieces = looked_pieces long;
+  }
 
   pub looked_answer : (answer : Option LineAnswer) (number : ℕ) (line : ThreadLine) (next : Option ThreadLine) → next ≡ Some line
       → answer ≡ answer_to (after k.vector.past events) (ask_next number next)

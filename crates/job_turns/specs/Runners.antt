@@ -6,12 +6,12 @@ use Rattle.job_turns.specs.Standing.{Run, Waiting}
 
 abbrev pub run_of : Inside → Run
 run_of r = record {
-  lines = r.lines.now;
-  begun = r.begun;
-  fuel = r.fuel;
+  lines = r.script.lines.now;
+  begun = r.script.begun;
+  fuel = r.script.fuel;
   kept = r.space;
   call = r.call;
-  said = r.said.items;
+  said = r.script.said.items;
 }
 
 -- a call that waits has a step left for its look
@@ -22,7 +22,7 @@ HasSteps fuel (Some c) = c.machine.taken < 4 * fuel
 pub record HoldsRun (r : Inside) : Type 0 where
   pub names : r.names.now ≡ r.space.vector.images
   pub startups : HasStartups r.space.vector
-  pub fuel : r.fuel < 2 ^ 32
-  pub lines : length r.lines.now < 2 ^ 31
-  pub begun : r.begun ≤ length r.lines.now
-  pub steps : HasSteps r.fuel r.call
+  pub fuel : r.script.fuel < 2 ^ 32
+  pub lines : length r.script.lines.now < 2 ^ 31
+  pub begun : r.script.begun ≤ length r.script.lines.now
+  pub steps : HasSteps r.script.fuel r.call

@@ -4,6 +4,7 @@ use Rattle.std.specs.List.{find, list_any}
 use Rattle.address_map.specs.Map.{descriptor_place}
 use Rattle.guest_arithmetic.specs.Plain.{plain_operations}
 use Rattle.guest_operands.specs.declared.state.State.{State}
+use Rattle.guest_operands.specs.declared.stop.Stop.{Stop}
 use Rattle.guest_operands.specs.Access.{Refusal, both_reached, bytes_at}
 use Rattle.guest_operands.specs.Ranges.{range_accesses}
 use Rattle.guest_operands.specs.Use.{After}
@@ -21,12 +22,12 @@ use Rattle.thread_blocks.specs.JobLoads.{job_loads}
 use Rattle.thread_blocks.specs.RunTime.{Runs, asked_at, asked_by, asked_next, has_words, pair, resumed_by, thread_accesses, thread_steps, word_of}
 use Rattle.thread_blocks.specs.Spaces.{Space, no_field}
 use Rattle.thread_blocks.specs.Turns.{Answered, Begun, Calls, Says, Stopped}
-use Rattle.job_turns.specs.declared.running.Ran.{Ran}
-use Rattle.job_turns.specs.declared.running.Ran.TheVariants as ran
-use Rattle.job_turns.specs.declared.running.Resumed.{Resumed}
-use Rattle.job_turns.specs.declared.running.Resumed.TheVariants as resumed
 use Rattle.thread_space.specs.Kept.{HasSeen, Kept, held_at, live_in, memory_of, owned_of, shape_of}
 use Rattle.thread_space.specs.Live.{HasStartups}
+use Rattle.thread_turns.specs.declared.parts.Ended.{Ended as EndedWith}
+use Rattle.thread_turns.specs.declared.parts.Ended.TheVariants as ran
+use Rattle.thread_turns.specs.declared.parts.Resumed.{Resumed}
+use Rattle.thread_turns.specs.declared.parts.Resumed.TheVariants as resumed
 
 -- a thread's memory after these events
 abbrev pub space_in : List Event → Kept → Space Event ℕ
@@ -71,6 +72,9 @@ asked_in k state =
     asked_from k is_descriptor address (asker_in k address)
 
 -- ---- the result of a run
+
+abbrev pub Ran : Type 0
+Ran = EndedWith Stop Asked
 
 -- the same thread of the same job, which has seen the same events
 pub record IsSameThread (old new : Kept) : Type 0 where

@@ -1,6 +1,7 @@
 -- The first look of a thread's line, in the code.
 use Rattle.std.specs.Prelude.{◌≡◌, ℕ, ◌+◌, Bool, true, false, List, length, slice_range, nat_le, Option, Some, None, option_to_list, if◌then◌else◌}
 use Rattle.guest_arithmetic.specs.Plain.{plain_operations}
+use Rattle.guest_machine.specs.Machine.{Standing}
 use Rattle.guest_operands.specs.declared.state.State.{State}
 use Rattle.loaded_modules.specs.declared.instance.Instance.{Instance}
 use Rattle.module_table.specs.declared.events.Event.{Event}
@@ -15,15 +16,18 @@ use Rattle.thread_blocks.specs.JobLoads.{job_loads}
 use Rattle.thread_blocks.specs.Lines.{Line, begun_by, begun_close, begun_in, begun_open, begun_peek, event_at, event_by, unless_refused}
 use Rattle.thread_blocks.specs.RunTime.{Runs, shows}
 use Rattle.thread_blocks.specs.Turns.{Answered, Begun, Says as SaysSo, Calls as CallsOn, with_event}
+use Rattle.thread_turns.specs.declared.parts.Started.{Started as StartedWith}
+use Rattle.thread_turns.specs.declared.parts.Started.TheVariants.{Says, Calls}
 use Rattle.thread_vector.specs.Holding.{IsLeftBy}
 use Rattle.thread_vector.specs.Vectors.{caught_up, held, reached}
-use Rattle.job_turns.specs.declared.lines.Started.{Started}
-use Rattle.job_turns.specs.declared.lines.Started.TheVariants.{Says, Calls}
 use Rattle.thread_space.specs.Kept.{HasSeen, Kept, held_at}
 use Rattle.thread_space.specs.Steps.{HasData}
 use Rattle.job_turns.specs.Taking.{KeepsJob}
 
 -- ---- the result of a first look
+
+abbrev pub Started : Type 0
+Started = StartedWith Outcome (Standing ℕ Bool)
 
 -- the thread keeps this after these events; its machine's state stays, or is that of the call
 abbrev pub started_as : List Event → State ℕ Bool → Option Asked → Started → Kept → Begun Runs

@@ -1,5 +1,5 @@
 -- The steps of a turn after its look: they end the line, or the call waits for its next look.
-use Rattle.std.specs.Prelude.{◌≡◌, ◌<◌, ◌-◌, ◌*◌, ℕ, Bool, List, [], ◌∷◌, ◌++◌, ◌+◌, length, Option, Some, None}
+use Rattle.std.specs.Prelude.{◌≡◌, ◌<◌, ◌-◌, ◌*◌, ◌^◌, ℕ, Bool, List, [], ◌∷◌, ◌++◌, ◌+◌, length, Option, Some, None}
 use Rattle.guest_arithmetic.specs.Plain.{plain_operations}
 use Rattle.guest_machine.specs.Machine.{Standing}
 use Rattle.guest_machine.specs.Run.{run}
@@ -17,11 +17,14 @@ use Rattle.thread_blocks.specs.Lines.{Line, begun_by, event_by}
 use Rattle.thread_blocks.specs.MachineTurns.{answer_of}
 use Rattle.thread_blocks.specs.RunTime.{Runs, resumed_by, shows, thread_steps, thread_turns}
 use Rattle.thread_blocks.specs.Turns.{Ending, Mid, Said, Thread, after_look, after_run, over_with, with_event, with_last}
-use Rattle.job_turns.specs.declared.taking.Taken.{Taken}
-use Rattle.job_turns.specs.declared.taking.Taken.TheVariants as taken
 use Rattle.thread_space.specs.Kept.{HasSeen, Kept, held_at, owned_of}
 use Rattle.thread_space.specs.Live.{HasStartups}
+use Rattle.thread_turns.specs.declared.parts.Ended.{Ended}
+use Rattle.thread_turns.specs.declared.parts.Ended.TheVariants as taken
 use Rattle.job_turns.specs.Standing.{Run, Waiting}
+
+abbrev pub Taken : Type 0
+Taken = Ended Outcome (Standing ℕ Bool × Asked)
 
 -- a thread whose line is over with this outcome, and that keeps this after these events
 pub record IsOver (k : Kept) (outcome : Outcome) (points : List ℕ)
@@ -39,7 +42,7 @@ pub record IsOver (k : Kept) (outcome : Outcome) (points : List ℕ)
 abbrev pub TookAs : ℕ → Kept → Taken → List ℕ → List Event → List Line → List Said → List Event → Thread Runs Line Event
     → Type 0
 TookAs limit k (taken.Over outcome) points now todo said seen t = IsOver k outcome points now todo said seen t
-TookAs limit k (taken.Waits machine asked) points now todo said seen t = t ≡ record {
+TookAs limit k (taken.Waits (machine, asked)) points now todo said seen t = t ≡ record {
   todo = todo;
   phase = Mid (limit - machine.taken) points (held_at now machine.state (Some asked) k);
   said = said;
@@ -58,10 +61,16 @@ pub record KeepsJob (old new : Kept) : Type 0 where
   pub startups : HasStartups old.vector → HasStartups new.vector
   pub pieces : length new.pieces ≡ length old.pieces
 
+-- what a line needs to begin: room for its event in the history, and the memory of its job
+pub record CanBegin (k : Kept) : Type 0 where
+  pub room : k.vector.past.seen + 1 < 2 ^ 62
+  pub startups : HasStartups k.vector
+  pub pieces : length k.pieces ≡ length k.vector.images.images + 1
+
 -- a call that waits has a step left for its look
 abbrev pub HasStepsLeft : ℕ → Taken → Type 0
 HasStepsLeft limit (taken.Over outcome) = Unit {0}
-HasStepsLeft limit (taken.Waits machine asked) = machine.taken < limit
+HasStepsLeft limit (taken.Waits (machine, asked)) = machine.taken < limit
 
 -- a call runs, from its machine's steps so far, up to its end or its next look
 pub record RunsTo (limit : ℕ) (m : Standing ℕ Bool) (k : Kept) (result : Taken) (new : Kept) : Type 0 where
@@ -117,7 +126,7 @@ run_after lines begun fuel said points (taken.Over outcome) k = record {
   call = None;
   said = said ++ record { points = points; outcome = outcome } ∷ [];
 }
-run_after lines begun fuel said points (taken.Waits machine asked) k = record {
+run_after lines begun fuel said points (taken.Waits (machine, asked)) k = record {
   lines = lines;
   begun = begun;
   fuel = fuel;

@@ -1,6 +1,6 @@
 //! The first look of a thread's line.
 
-ghost use Rattle.std.specs.Prelude.{◌≡◌, ◌≤◌, ◌<◌, ◌+◌, ◌-◌, ◌^◌, ℕ, true, None, Some, Result, IfOk, OnOk, length, option_map};
+ghost use Rattle.std.specs.Prelude.{◌≡◌, ◌≤◌, ◌<◌, ◌+◌, ◌-◌, ◌^◌, ℕ, true, None, Some, Result, IfOk, OnOk, option_map};
 ghost use Rattle.guest_arithmetic.specs.Plain.{plain_operations};
 ghost use Rattle.loaded_modules.specs.Images.{infos};
 ghost use Rattle.module_table.specs.History.{unless};
@@ -9,9 +9,11 @@ ghost use Rattle.thread_blocks.specs.Instances.{loaded_instance};
 ghost use Rattle.thread_blocks.specs.Lines.{event_at, refused_close, refused_open};
 ghost use Rattle.thread_blocks.specs.MachineTurns.{call_start};
 ghost use Rattle.job_turns.specs.Asking.{answer_to, ask_by, closed_at, opened_at};
-ghost use Rattle.thread_space.specs.Live.{HasStartups, IsLive};
+ghost use Rattle.thread_space.specs.Live.{IsLive};
 ghost use Rattle.job_turns.specs.Starting.{BeginsCall, BeginsClose, BeginsOpen, BeginsPeek, LoadsNew, ReachesLive, Sees, Starts};
 ghost use Rattle.job_turns.specs.Starting.{part_shown, shown_of};
+ghost use Rattle.job_turns.specs.Taking.{CanBegin};
+ghost use Rattle.thread_turns.specs.declared.parts.Started.TheVariants.{Says};
 ghost use Rattle.thread_vector.specs.Vectors.{held};
 
 use crate::asking::LineAnswer;
@@ -23,32 +25,19 @@ use loaded_modules::Instance;
 use module_table::{Closed, Event, Opened};
 use std::alloc::{AllocError, Global};
 use thread_space::{JobNames, ThreadSpace};
+use thread_turns::Arguments;
 use transcript_text::{Bytes, LineRefusal, Outcome};
 
 /// The result of a line's first look.
-#[derive(Drop)]
-pub enum Started {
-    /// The line is over.
-    Says(Outcome),
-    /// A call begins, on this machine.
-    Calls(Machine<Plain>),
-}
+pub(crate) type Started = thread_turns::Started<Outcome, Machine<Plain>>;
 
 fn refused(refusal: LineRefusal) -> Started
-    ensures { result ≡ Started.Says (Outcome.Refused refusal) }
+    ensures { result ≡ Says (Outcome.Refused refusal) }
 {
     Started::Says(Outcome::Refused(refusal))
 }
 
 // ** calls
-
-/// The arguments of a call.
-#[derive(Clone, Copy)]
-struct Arguments {
-    a: u64,
-    b: u64,
-    c: u64,
-}
 
 /// A machine before a call of the function at this address.
 fn machine_at(thread: u32, place: u64, given: Arguments) -> Machine<Plain>
@@ -133,9 +122,7 @@ fn open_accepted(
 ) -> Result<Started, AllocError>
     requires accepted { open_refusal space.old.vector.past line.now.image ≡ None }
     requires instance { instance ≡ (module_of (opened space.old.vector.past line.now.image) line.now.image).instance }
-    requires room { space.old.vector.past.seen + 1 < 2 ^ 62 }
-    requires startups { HasStartups space.old.vector }
-    requires pieces { length space.old.pieces ≡ length space.old.vector.images.images + 1 }
+    requires ready { CanBegin space.old }
     ensures { IfOk result
         (λ started. BeginsOpen (record { number = number; told = line.now }) space.old started space.new) }
 {
@@ -154,9 +141,7 @@ fn open(
 ) -> Result<Started, AllocError>
     requires answer { answer ≡ unless (option_map refused_open (open_refusal space.old.vector.past line.now.image))
         (opened_at space.old.vector.past line.now.image) }
-    requires room { space.old.vector.past.seen + 1 < 2 ^ 62 }
-    requires startups { HasStartups space.old.vector }
-    requires pieces { length space.old.pieces ≡ length space.old.vector.images.images + 1 }
+    requires ready { CanBegin space.old }
     ensures { IfOk result
         (λ started. BeginsOpen (record { number = number; told = line.now }) space.old started space.new) }
 {
@@ -173,8 +158,7 @@ fn close_accepted(
     line: &ThreadLine,
 ) -> Result<Started, AllocError>
     requires accepted { close_refusal space.old.vector.past line.now.image ≡ None }
-    requires room { space.old.vector.past.seen + 1 < 2 ^ 62 }
-    requires startups { HasStartups space.old.vector }
+    requires ready { CanBegin space.old }
     ensures { IfOk result
         (λ started. BeginsClose (record { number = number; told = line.now }) space.old started space.new) }
 {
@@ -191,8 +175,7 @@ fn close(
 ) -> Result<Started, AllocError>
     requires answer { answer ≡ unless (option_map refused_close (close_refusal space.old.vector.past line.now.image))
         (closed_at space.old.vector.past line.now.image) }
-    requires room { space.old.vector.past.seen + 1 < 2 ^ 62 }
-    requires startups { HasStartups space.old.vector }
+    requires ready { CanBegin space.old }
     ensures { IfOk result
         (λ started. BeginsClose (record { number = number; told = line.now }) space.old started space.new) }
 {
@@ -292,7 +275,7 @@ fn close_answer(answer: Option<LineAnswer>) -> Result<Closed, LineRefusal>
 
 /// The first look of the line with number `number`, from 1, of a thread that has seen all events. A registry has
 /// already answered an open or a close of the image, and holds its event; here the thread sees that event.
-pub fn begin(
+pub(crate) fn begin(
     space: &mut ThreadSpace,
     names: &JobNames,
     number: u32,
@@ -301,9 +284,7 @@ pub fn begin(
 ) -> Result<Started, AllocError>
     requires names { names.now ≡ space.old.vector.images }
     requires answer { answer ≡ answer_to space.old.vector.past (ask_by number line.now.image line.now.action) }
-    requires room { space.old.vector.past.seen + 1 < 2 ^ 62 }
-    requires startups { HasStartups space.old.vector }
-    requires pieces { length space.old.pieces ≡ length space.old.vector.images.images + 1 }
+    requires ready { CanBegin space.old }
     ensures { IfOk result (λ started. Starts (record { number = number; told = line.now })
         space.old started space.new) }
 {

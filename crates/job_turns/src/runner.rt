@@ -7,7 +7,7 @@ ghost use Rattle.job_turns.specs.Alone.{TakesOwnTurn, has_data};
 ghost use Rattle.job_turns.specs.Asking.{answer_to, ask_by, ask_next};
 ghost use Rattle.thread_space.specs.Live.{HasStartups};
 ghost use Rattle.job_turns.specs.Standing.{IsFirstRun, IsGoing, TakesTurn, ask_of};
-ghost use Rattle.job_turns.specs.Taking.{BeginsLine, HasStepsLeft, ResumesLine, run_after};
+ghost use Rattle.job_turns.specs.Taking.{BeginsLine, CanBegin, HasStepsLeft, ResumesLine, run_after};
 
 use crate::asking::{Ask, LineAnswer};
 use crate::taking::{Taken, take_begin, take_resume};
@@ -43,15 +43,10 @@ impl Model for Pending {
 /// One thread of a job, which takes its turns. Contracts see a `Run`.
 #[derive(Drop)]
 pub struct Runner<'j, 'n, 'm> {
-    alloc: Global,
+    script: Script<'j>,
     names: &'n JobNames<'m>,
-    lines: &'j [ThreadLine],
-    fuel: u64,
-    /// The number of lines that have begun.
-    begun: usize,
     space: ThreadSpace<'m>,
     call: Option<Pending>,
-    said: Vec<Line>,
 }
 
 impl<'j, 'n, 'm> Model for Runner<'j, 'n, 'm> {
@@ -87,111 +82,90 @@ fn ask_next(number: u32, line: Option<&ThreadLine>) -> Ask
     }
 }
 
-/// The lines of a thread, and what it takes to run them.
-#[derive(Clone, Copy)]
-struct Script<'j, 'n, 'm> {
-    alloc: Global,
-    names: &'n JobNames<'m>,
-    lines: &'j [ThreadLine],
-    fuel: u64,
-    /// The number of lines that have begun.
-    begun: usize,
-}
+/// The lines of a thread, and those of the transcript that are over.
+type Script<'j> = thread_turns::Script<'j, Vec<Line>>;
 
 /// Rebuilds the runner after a turn. `points` are the event counts that the line's looks saw.
 fn ended<'j, 'n, 'm>(
-    script: Script<'j, 'n, 'm>,
+    mut script: Script<'j>,
+    names: &'n JobNames<'m>,
     space: ThreadSpace<'m>,
-    mut said: Vec<Line>,
     points: Vec<u64>,
     taken: Taken,
 ) -> Result<Runner<'j, 'n, 'm>, AllocError>
-    requires names { script.names.now ≡ space.vector.images }
+    requires names { names.now ≡ space.vector.images }
     requires startups { HasStartups space.vector }
     requires fuel { script.fuel < 2 ^ 32 }
     requires lines { length script.lines.now < 2 ^ 31 }
     requires begun { script.begun ≤ length script.lines.now }
     requires steps { HasStepsLeft (4 * script.fuel) taken }
     ensures { IfOk result (λ r. r ≡ run_after script.entry.lines.now script.entry.begun script.entry.fuel
-        said.items points.items taken space.entry) }
+        script.entry.said.items points.items taken space.entry) }
 {
-    let Script {
-        alloc,
-        names,
-        lines,
-        fuel,
-        begun,
-    } = script;
     let call = match taken {
         Taken::Over(outcome) => {
             let points = Points::new(points);
-            said.push(Line { points, outcome })?;
+            script.said.push(Line { points, outcome })?;
             None
         }
-        Taken::Waits(machine, asked) => Some(Pending {
+        Taken::Waits((machine, asked)) => Some(Pending {
             machine,
             asked,
             points,
         }),
     };
     Ok(Runner {
-        alloc,
+        script,
         names,
-        lines,
-        fuel,
-        begun,
         space,
         call,
-        said,
     })
 }
 
 /// Begins the next line of a thread that has looked and holds the data.
 fn begin_line<'j, 'n, 'm>(
-    mut script: Script<'j, 'n, 'm>,
+    mut script: Script<'j>,
+    names: &'n JobNames<'m>,
     mut space: ThreadSpace<'m>,
-    said: Vec<Line>,
     line: &ThreadLine,
     answer: Option<LineAnswer>,
     pieces: &mut Data,
 ) -> Result<Runner<'j, 'n, 'm>, AllocError>
-    requires names { script.names.now ≡ space.vector.images }
-    requires startups { HasStartups space.vector }
+    requires names { names.now ≡ space.vector.images }
     requires fuel { script.fuel < 2 ^ 32 }
     requires lines { length script.lines.now < 2 ^ 31 }
     requires begun { script.begun < length script.lines.now }
-    requires room { space.vector.past.seen + 1 < 2 ^ 62 }
-    requires pieces { length space.pieces ≡ length space.vector.images.images + 1 }
+    requires ready { CanBegin space }
     requires answer { answer
         ≡ answer_to space.vector.past (ask_by (script.begun + 1) line.now.image line.now.action) }
     ensures { IfOk result (λ r. BeginsLine script.entry.lines.now script.entry.begun script.entry.fuel line.now
-        space.entry said.items r pieces.new) }
+        space.entry script.entry.said.items r pieces.new) }
 {
     let point = space.seen();
     let points = vec![in script.alloc; point]?;
     script.begun += 1;
     let number = script.begun as u32;
-    let taken = take_begin(&mut space, script.names, number, line, answer, script.fuel)?;
+    let taken = take_begin(&mut space, names, number, line, answer, script.fuel)?;
     *pieces = space.take_data();
-    ended(script, space, said, points, taken)
+    ended(script, names, space, points, taken)
 }
 
 /// Goes on with a call of a thread that has looked and holds the data.
 fn resume_line<'j, 'n, 'm>(
-    script: Script<'j, 'n, 'm>,
+    script: Script<'j>,
+    names: &'n JobNames<'m>,
     mut space: ThreadSpace<'m>,
-    said: Vec<Line>,
     call: Pending,
     pieces: &mut Data,
 ) -> Result<Runner<'j, 'n, 'm>, AllocError>
-    requires names { script.names.now ≡ space.vector.images }
+    requires names { names.now ≡ space.vector.images }
     requires startups { HasStartups space.vector }
     requires fuel { script.fuel < 2 ^ 32 }
     requires lines { length script.lines.now < 2 ^ 31 }
     requires begun { script.begun ≤ length script.lines.now }
     requires steps { call.machine.taken < 4 * script.fuel }
     ensures { IfOk result (λ r. ResumesLine script.entry.lines.now script.entry.begun script.entry.fuel
-        space.entry said.items call r pieces.new) }
+        space.entry script.entry.said.items call r pieces.new) }
 {
     let Pending {
         machine,
@@ -201,7 +175,7 @@ fn resume_line<'j, 'n, 'm>(
     points.push(space.seen())?;
     let taken = take_resume(&mut space, machine, asked, script.fuel)?;
     *pieces = space.take_data();
-    ended(script, space, said, points, taken)
+    ended(script, names, space, points, taken)
 }
 
 impl<'j, 'n, 'm> Runner<'j, 'n, 'm> {
@@ -217,22 +191,14 @@ impl<'j, 'n, 'm> Runner<'j, 'n, 'm> {
         requires high { thread ≤ 64 }
         ensures { IfOk result (λ r. IsFirstRun thread names.now job.now r) }
     {
-        let lines = job.lines(thread);
-        if lines.len() >= 0x8000_0000 {
-            return Err(AllocError);
-        }
-        let fuel = job.fuel();
+        let script = Script::new(alloc, thread, job, Vec::new(alloc))?;
         let space = ThreadSpace::new(alloc, thread, names.modules())?;
         space.history_is_lawful();
         Ok(Runner {
-            alloc,
+            script,
             names,
-            lines,
-            fuel,
-            begun: 0,
             space,
             call: None,
-            said: Vec::new(alloc),
         })
     }
 
@@ -255,9 +221,10 @@ impl<'j, 'n, 'm> Runner<'j, 'n, 'm> {
     pub fn asks(&self) -> Ask
         ensures { result ≡ ask_of self.now }
     {
+        let script = &self.script;
         match &self.call {
-            Some(_) => Ask::Look(self.begun as u32),
-            None => ask_next(self.begun as u32 + 1, self.lines.get(self.begun)),
+            Some(_) => Ask::Look(script.begun as u32),
+            None => ask_next(script.begun as u32 + 1, script.lines.get(script.begun)),
         }
     }
 
@@ -280,28 +247,20 @@ impl<'j, 'n, 'm> Runner<'j, 'n, 'm> {
         ensures pieces { OnOk result (length pieces.new ≡ length pieces.old) }
     {
         let Runner {
-            alloc,
+            script,
             names,
-            lines,
-            fuel,
-            begun,
             mut space,
             call,
-            said,
         } = self;
-        let script = Script {
-            alloc,
-            names,
-            lines,
-            fuel,
-            begun,
-        };
-        space.put_data(mem::replace(pieces, Data::none(alloc)));
+        space.put_data(mem::replace(pieces, Data::none(script.alloc)));
         space.look(events)?;
         space.history_is_lawful();
         match call {
-            Some(call) => resume_line(script, space, said, call, pieces),
-            None => begin_line(script, space, said, &lines[begun], answer, pieces),
+            Some(call) => resume_line(script, names, space, call, pieces),
+            None => {
+                let line = &script.lines[script.begun];
+                begin_line(script, names, space, line, answer, pieces)
+            }
         }
     }
 
@@ -319,7 +278,7 @@ impl<'j, 'n, 'm> Runner<'j, 'n, 'm> {
         requires answer { answer ≡ answer_to (after self.kept.vector.past events.now) (ask_of self) }
         ensures { IfOk result (λ r. TakesOwnTurn self.entry events.now r) }
     {
-        let mut none = Data::new(self.alloc, self.names.modules())?;
+        let mut none = Data::new(self.script.alloc, self.names.modules())?;
         self.turn_with(events, answer, &mut none)
     }
 
@@ -327,6 +286,6 @@ impl<'j, 'n, 'm> Runner<'j, 'n, 'm> {
     pub fn lines(self) -> Vec<Line>
         ensures { result.items ≡ self.entry.said }
     {
-        self.said
+        self.script.said
     }
 }

@@ -20,31 +20,15 @@ use loaded_modules::Instance;
 use std::alloc::AllocError;
 use thread_blocks::Asked;
 use thread_space::ThreadSpace;
+use thread_turns::{Ended, Resumed};
 
 /// The numbers of the registers that may hold the address of the words that ask.
 const RAX: u8 = 0;
 
 const RDI: u8 = 7;
 
-/// How a run of a thread's machine ended.
-#[derive(Clone, Copy)]
-pub enum Ran {
-    /// The call is over, or it stopped.
-    Over(Stop),
-    /// The machine asks for a block, and needs a look.
-    Waits(Asked),
-}
-
-/// The result of a look in the middle of a call.
-#[derive(Clone, Copy)]
-pub enum Resumed {
-    /// The call goes on.
-    Goes,
-    /// It stopped.
-    Stops(Stop),
-    /// The instance that asked is closed.
-    Unloaded,
-}
+/// How a run of a thread's machine ended: the call is over or stopped, or it asks for a block and needs a look.
+pub(crate) type Ran = Ended<Stop, Asked>;
 
 // ** questions
 
@@ -189,7 +173,7 @@ fn run_part(space: &mut ThreadSpace, machine: &mut Machine<Plain>, limit: u64) -
 
 /// Runs a thread's machine for at most `limit` steps, up to its end or to its next look. Questions about startup
 /// images are answered on the way.
-pub fn run_on(space: &mut ThreadSpace, machine: &mut Machine<Plain>, limit: u64) -> Ran
+pub(crate) fn run_on(space: &mut ThreadSpace, machine: &mut Machine<Plain>, limit: u64) -> Ran
     requires { machine.old.taken ≤ limit }
     ensures { RunsOn limit machine.old space.old result machine.new space.new }
 {
@@ -204,7 +188,7 @@ pub fn run_on(space: &mut ThreadSpace, machine: &mut Machine<Plain>, limit: u64)
 
 /// Answers the question after a look, with the thread's block of the instance that has the id now. If there is no
 /// memory for the block, nothing has changed.
-pub fn answer_asked(
+pub(crate) fn answer_asked(
     space: &mut ThreadSpace,
     machine: &mut Machine<Plain>,
     asked: Asked,

@@ -1,31 +1,25 @@
 //! The steps of a turn after its look.
 
-ghost use Rattle.std.specs.Prelude.{◌≡◌, ◌≤◌, ◌<◌, ◌+◌, ◌*◌, ◌^◌, IfOk, Some, length};
+ghost use Rattle.std.specs.Prelude.{◌≡◌, ◌≤◌, ◌<◌, ◌+◌, ◌*◌, ◌^◌, IfOk, Some};
 ghost use Rattle.guest_machine.specs.Clean.{IsClean};
 ghost use Rattle.thread_blocks.specs.MachineTurns.{answer_of_stop};
 ghost use Rattle.job_turns.specs.Asking.{answer_to, ask_by};
-ghost use Rattle.thread_space.specs.Live.{HasStartups};
-ghost use Rattle.job_turns.specs.Taking.{BeginsTo, ResumesTo, RunsTo};
+ghost use Rattle.job_turns.specs.Taking.{BeginsTo, CanBegin, ResumesTo, RunsTo};
 
 use crate::asking::LineAnswer;
 use crate::lines::{Started, begin};
-use crate::running::{Ran, Resumed, answer_asked, run_on};
+use crate::running::{Ran, answer_asked, run_on};
 use guest_arithmetic::Plain;
 use guest_machine::{Machine, Stop};
 use job_text::ThreadLine;
 use std::alloc::AllocError;
 use thread_blocks::Asked;
 use thread_space::{JobNames, ThreadSpace};
+use thread_turns::{Ended, Resumed};
 use transcript_text::{LineFault, Outcome};
 
-/// How a turn ends.
-#[derive(Drop)]
-pub enum Taken {
-    /// The line is over.
-    Over(Outcome),
-    /// The call waits for its next look.
-    Waits(Machine<Plain>, Asked),
-}
+/// How a turn ends: the line is over, or its call waits for its next look.
+pub(crate) type Taken = Ended<Outcome, (Machine<Plain>, Asked)>;
 
 /// A stop, as the transcript shows it.
 fn outcome_of(stop: Stop) -> Outcome
@@ -49,7 +43,7 @@ fn run_to(space: &mut ThreadSpace, mut machine: Machine<Plain>, limit: u64) -> T
     space.history_is_lawful();
     match run_on(space, &mut machine, limit) {
         Ran::Over(stop) => Taken::Over(outcome_of(stop)),
-        Ran::Waits(asked) => Taken::Waits(machine, asked),
+        Ran::Waits(asked) => Taken::Waits((machine, asked)),
     }
 }
 
@@ -64,9 +58,7 @@ pub(crate) fn take_begin(
 ) -> Result<Taken, AllocError>
     requires images { names.now ≡ space.old.vector.images }
     requires fuel { fuel < 2 ^ 32 }
-    requires room { space.old.vector.past.seen + 1 < 2 ^ 62 }
-    requires startups { HasStartups space.old.vector }
-    requires pieces { length space.old.pieces ≡ length space.old.vector.images.images + 1 }
+    requires ready { CanBegin space.old }
     requires answer { answer ≡ answer_to space.old.vector.past (ask_by number line.now.image line.now.action) }
     ensures { IfOk result (λ taken. BeginsTo fuel (record { number = number; told = line.now })
         space.old taken space.new) }

@@ -8,4 +8,4 @@ see-requires-clause-accepted c = close_accepts c.args.space.now.vector.past _ re
 pub returns : goal.returns
 returns c =
     close_begins c.args.space.now c.see.new.space (record { number = c.args.number; told = c.args.line.now }) c.requires.accepted
-    c.requires.startups c.in_ok-see.ensures
+    c.requires.ready.startups c.in_ok-see.ensures

@@ -9,5 +9,5 @@ see-requires-clause-accepted c = open_accepts c.args.space.now.vector.past _ ref
 pub returns : goal.returns
 returns c =
     open_begins c.args.space.now c.see.new.space c.load_new.new.space (record { number = c.args.number; told = c.args.line.now })
-    c.is_some-was.result c.args.instance c.requires.accepted c.requires.startups c.requires.pieces c.in_ok-see.ensures
+    c.is_some-was.result c.args.instance c.requires.accepted c.requires.ready.startups c.requires.ready.pieces c.in_ok-see.ensures
     (c.is_some-was.ensures ∙ ap is_some c.instance.ensures) c.in_ok-load_new.ensures c.requires.instance

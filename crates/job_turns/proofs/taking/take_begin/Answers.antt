@@ -1,6 +1,5 @@
 use Rattle.std.proofs.Common.{subst}
-use Rattle.job_turns.specs.declared.lines.Started.{Started}
-use Rattle.job_turns.specs.Starting.{Starts}
+use Rattle.job_turns.specs.Starting.{Started, Starts}
 use Rattle.job_turns.proofs.TakenLines.{calls_begins, says_begins}
 use Rattle.job_turns.proofs.taking.take_begin.Goals as goal
 

@@ -2,8 +2,8 @@ use Rattle.std.proofs.Common.{refl, subst}
 use Rattle.transcript_text.specs.declared.outcomes.LineFault.TheVariants.{Unloaded as UnloadedFault}
 use Rattle.transcript_text.specs.declared.outcomes.Outcome.TheVariants.{Fault}
 use Rattle.thread_blocks.specs.Turns.{Answered, Stopped}
-use Rattle.job_turns.specs.declared.running.Resumed.{Resumed}
-use Rattle.job_turns.specs.declared.running.Resumed.TheVariants as resumed
+use Rattle.thread_turns.specs.declared.parts.Resumed.{Resumed}
+use Rattle.thread_turns.specs.declared.parts.Resumed.TheVariants as resumed
 use Rattle.job_turns.specs.Running.{Resumes}
 use Rattle.job_turns.proofs.TakenLines.{ends_resumes, goes_resumes}
 use Rattle.job_turns.proofs.taking.take_resume.Goals as goal
