@@ -24,7 +24,7 @@ use Rattle.thread_turns.proofs.Lists.{none_drop}
 
 -- ---- nothing is left
 
-never_done : (line image : ℕ) (action : Action) → ask_by line image action ≡ Done → ⊥
+pub never_done : (line image : ℕ) (action : Action) → ask_by line image action ≡ Done → ⊥
 never_done line image (Call symbol a b c) done = cc
 never_done line image Open done = cc
 never_done line image Close done = cc

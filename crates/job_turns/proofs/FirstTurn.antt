@@ -31,7 +31,7 @@ module _ (m : JobImages) (legal : IsLegal (infos m) (last_offset m) []) (thread 
   left_now : IsLeftBy k.vector.images k.vector.past
   left_now = rw (new.images, new.past) (record { events = []; legal = legal; left = sym (begins m) })
 
-  seen_none : HasSeen k.vector []
+  pub seen_none : HasSeen k.vector []
   seen_none = rw (new.images, new.past) (begins m)
 
   ready_blocks : looked_at (job_loads m) thread [] [] ≡ blocks_of k.vector
@@ -46,7 +46,7 @@ module _ (m : JobImages) (legal : IsLegal (infos m) (last_offset m) []) (thread 
     stack = sym new.stack;
   }
 
-first_runner_stands : (m : JobImages) (job : JobParts) (legal : IsLegal (infos m) (last_offset m) []) (thread : ℕ) (r : Run)
+pub first_runner_stands : (m : JobImages) (job : JobParts) (legal : IsLegal (infos m) (last_offset m) []) (thread : ℕ) (r : Run)
     (own : List ThreadLine) → IsFirstRun thread m job r → of_thread job.lines thread ≡ own
     → StandsFor r (ready (thread_ready (job_loads m) thread) (numbered_lines 1 own))
 first_runner_stands m job legal thread r own first lines = record {

@@ -31,7 +31,7 @@ use Rattle.job_turns.proofs.Standings.{Behind, stands_then}
 
 -- ---- nothing left to do
 
-is_done_done : (ask : Ask) → is_done ask ≡ true → ask ≡ Done
+pub is_done_done : (ask : Ask) → is_done ask ≡ true → ask ≡ Done
 is_done_done Done done = refl
 is_done_done (Look line) done = cc
 is_done_done (Opens line image) done = cc

@@ -1,5 +1,5 @@
 -- A thread that races, before its first turn and behind its last.
-use Rattle.std.proofs.Common.{◌≡◌, ◌∙◌, ◌+◌, ℕ, true, false, List, [], ◌∷◌, map, Some, refl, sym, ap, subst, arith}
+use Rattle.std.proofs.Common.{◌≡◌, ◌∙◌, ◌+◌, ℕ, false, List, [], ◌∷◌, map, Some, refl, sym, ap, subst, arith}
 use Rattle.job_text.specs.Jobs.{JobParts}
 use Rattle.job_text.specs.Threads.{of_thread}
 use Rattle.loaded_modules.specs.Images.{JobImages, infos, last_offset}
@@ -25,7 +25,8 @@ use Rattle.job_turns.specs.Progress.{is_done}
 use Rattle.job_turns.specs.Standing.{IsFirstRun, IsGoing, Run, ask_of}
 use Rattle.racing_thread.specs.Racing.{HasRaced, lines_in}
 use Rattle.racing_thread.specs.Tallies.{Mark, marks_of, tally_from}
-use Rattle.racing_thread.proofs.FirstThread.{first_runner, is_finished, seen_none}
+use Rattle.job_turns.proofs.FirstTurn.{seen_none}
+use Rattle.racing_thread.proofs.FirstThread.{first_runner, is_finished}
 use Rattle.racing_thread.proofs.Going.{Behind, Going}
 use Rattle.racing_thread.proofs.Marking.{first_marks, last_marks, shown_marks}
 
@@ -109,12 +110,6 @@ module _ (m : JobImages) (job : JobParts) (thread : ℕ) (first : PassView) (r :
   }
 
 -- ** the loop
-
-pub done_is : (ask : Ask) → is_done ask ≡ true → ask ≡ Done
-done_is Done done = refl
-done_is (Look line) done = cc
-done_is (Opens line image) done = cc
-done_is (Closes line image) done = cc
 
 pub going_is : (ask : Ask) → is_done ask ≡ false → IsGoing ask
 going_is Done done = cc

@@ -1,8 +1,6 @@
 -- Before the first turn, and behind the last one.
-use Rattle.std.proofs.Common.{◌≡◌, ◌+◌, ℕ, false, List, [], ◌∷◌, drop, Option, Some, None, refl, sym, subst, ◌∙◌}
+use Rattle.std.proofs.Common.{◌≡◌, ◌+◌, ℕ, false, List, [], ◌∷◌, drop, Option, Some, None, refl, sym, subst}
 use Rattle.std.specs.Prelude.{slice_get}
-use Rattle.job_text.specs.declared.thread_lines.Action.{Action}
-use Rattle.job_text.specs.declared.thread_lines.Action.TheVariants.{Call, Open, Close, Peek}
 use Rattle.job_text.specs.declared.thread_lines.ThreadLine.{ThreadLine}
 use Rattle.job_text.specs.Jobs.{JobParts}
 use Rattle.job_text.specs.Threads.{of_thread}
@@ -11,51 +9,25 @@ use Rattle.module_table.specs.declared.events.Event.{Event}
 use Rattle.module_table.specs.History.{IsLegal}
 use Rattle.lawful_points.specs.Orders.{is_over}
 use Rattle.lawful_points.specs.Raced.{first_of}
-use Rattle.thread_blocks.specs.Held.{looked_at}
 use Rattle.thread_blocks.specs.JobLoads.{job_loads}
-use Rattle.thread_blocks.specs.JobWorlds.{numbered_lines, thread_ready}
+use Rattle.thread_blocks.specs.JobWorlds.{numbered_lines}
 use Rattle.thread_blocks.specs.Lines.{Line}
 use Rattle.thread_blocks.specs.RunTime.{Runs}
 use Rattle.thread_blocks.specs.Turns.{Idle, Mid, IsFinished, Phase, Thread}
-use Rattle.thread_space.specs.Kept.{HasSeen, Kept, blocks_of}
-use Rattle.thread_space.specs.Steps.{IsNew}
-use Rattle.thread_space.proofs.Owners.{owned_again}
-use Rattle.thread_space.proofs.StartKept.{begins, start_kept}
-use Rattle.thread_vector.specs.Holding.{IsLeftBy}
-use Rattle.thread_vector.specs.Vectors.{fresh, held}
+use Rattle.thread_space.specs.Kept.{Kept}
 use Rattle.job_turns.specs.declared.asking.Ask.TheVariants.{Done}
-use Rattle.job_turns.specs.Asking.{ask_by, ask_next}
-use Rattle.job_turns.specs.Standing.{IsFirstRun, IsGoing, IsIdle, PhaseIs, Run, StandsFor, Waiting, ask_now, ask_of}
+use Rattle.job_turns.specs.Asking.{ask_next}
+use Rattle.job_turns.specs.Standing.{IsFirstRun, IsGoing, PhaseIs, Run, StandsFor, Waiting, ask_now, ask_of}
+use Rattle.job_turns.proofs.FinishedTurns.{never_done}
+use Rattle.job_turns.proofs.FirstTurn.{first_runner_stands}
 use Rattle.thread_turns.proofs.Lists.{at_drop, none_drop}
 
 -- ** a runner before its first turn
 
-module _ (m : JobImages) (legal : IsLegal (infos m) (last_offset m) []) (thread : ℕ) (k : Kept) (new : IsNew thread m k) where
-  left_now : IsLeftBy k.vector.images k.vector.past
-  left_now = rw (new.images, new.past) (record { events = []; legal = legal; left = sym (begins m) })
-
-  pub seen_none : HasSeen k.vector []
-  seen_none = rw (new.images, new.past) (begins m)
-
-  ready_blocks : looked_at (job_loads m) thread [] [] ≡ blocks_of k.vector
-  ready_blocks =
-      rw (← new.images, ← new.thread_is)
-      (start_kept k.vector left_now (rw new.images new.past) (λ i. subst (λ y. held k.vector i ≡ fresh y k.vector.past i) (sym new.images) (new.blocks i)))
-
-  ready_idle : IsIdle k (thread_ready (job_loads m) thread)
-  ready_idle = record {
-    seen = seen_none;
-    blocks = owned_again _ ∙ ready_blocks;
-    stack = sym new.stack;
-  }
-
 pub first_runner : (m : JobImages) (job : JobParts) (legal : IsLegal (infos m) (last_offset m) []) (thread : ℕ) (r : Run)
     → IsFirstRun thread m job r → StandsFor r (first_of (job_loads m) thread (of_thread job.lines thread))
-first_runner m job legal thread r first = record {
-  todo = rw (first.begun, first.lines) refl;
-  said = rw first.said refl;
-  phase = rw first.call (ready_idle m legal thread r.kept first.kept);
-}
+first_runner m job legal thread r first =
+    first_runner_stands m job legal thread r (of_thread job.lines thread) first refl
 
 -- ** a thread that has something left to do
 
@@ -81,12 +53,6 @@ is_going r t stands going =
     phase_going r.kept r.fuel r.begun r.lines r.call t.todo t.phase stands.todo stands.phase going
 
 -- ** and one that has not
-
-never_done : (line image : ℕ) (action : Action) → ask_by line image action ≡ Done → ⊥
-never_done line image (Call symbol a b c) done = cc
-never_done line image Open done = cc
-never_done line image Close done = cc
-never_done line image (Peek symbol size) done = cc
 
 next_over : (begun : ℕ) (lines : List ThreadLine) (h : Runs) (line : Option ThreadLine) → slice_get lines begun ≡ line
     → ask_next (begun + 1) line ≡ Done → IsFinished (numbered_lines (begun + 1) (drop begun lines)) (Idle h)

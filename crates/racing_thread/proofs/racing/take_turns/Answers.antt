@@ -3,7 +3,8 @@ use Rattle.std.proofs.Common.{◌∙◌, ap, refl, sym, subst}
 use Rattle.shared_modules.specs.Passes.{SharedView}
 use Rattle.job_turns.specs.Standing.{IsGoing}
 use Rattle.racing_thread.specs.Racing.{HasRaced}
-use Rattle.racing_thread.proofs.Ends.{done_is, ends, going_is, same_along, starts}
+use Rattle.job_turns.proofs.OneTurn.{is_done_done}
+use Rattle.racing_thread.proofs.Ends.{ends, going_is, same_along, starts}
 use Rattle.racing_thread.proofs.Going.{Going, goes_on}
 use Rattle.racing_thread.proofs.racing.take_turns.Goals as goal
 
@@ -24,7 +25,7 @@ returns-then-is_done-clause-raced g c =
     (sym c.lines-lines.ensures)
     (ends c.args.course.now.names.now c.args.course.now.job.now c.args.thread c.args.pass.now c.loop.runner c.loop.events.items c.loop.pass
     c.loop.invariant.going
-    (sym c.asks-ask.ensures ∙ done_is c.asks-ask.result (sym c.is_done.ensures ∙ c.if-is_done.true)))
+    (sym c.asks-ask.ensures ∙ is_done_done c.asks-ask.result (sym c.is_done.ensures ∙ c.if-is_done.true)))
 
 pub loop-preserved : goal.loop-preserved
 loop-preserved g c = record {
