@@ -26,12 +26,11 @@ use Rattle.whole_meaning.specs.declared.unclean.UncleanStep.{UncleanStep}
 use Rattle.whole_meaning.specs.Jobs.{unclean_ending}
 use Rattle.whole_meaning.specs.Loads.{loads_of, meaning_of}
 use Rattle.whole_meaning.specs.Threads.{Meant, ops, shown_as, shown_at, variable_start}
-use Rattle.job_check.specs.declared.lines.Started.{Started}
-use Rattle.job_check.specs.declared.lines.Started.TheVariants.{Says, Calls}
+use Rattle.job_check.specs.Lines.{Begins, BeginsCall, BeginsPeek, BegunAs, HasLeft, KeepsThread, Started, Starts, peek_line, shown_step, shows, step_in}
+use Rattle.thread_turns.specs.declared.parts.Started.TheVariants.{Says, Calls}
 use Rattle.marked_memory.specs.declared.space.Wanted.TheVariants.{BlockOf}
 use Rattle.job_check.specs.Histories.{infos_of}
 use Rattle.marked_memory.specs.Kept.{HasSeen, Kept, held_at}
-use Rattle.job_check.specs.Lines.{Begins, BeginsCall, BeginsPeek, BegunAs, HasLeft, KeepsThread, Starts, peek_line, shown_step, shows, step_in}
 use Rattle.marked_memory.specs.Spaces.{with_held}
 use Rattle.job_check.proofs.Histories.{left_with}
 use Rattle.job_check.proofs.Looks.{found_at, live_is, reach_is}

@@ -19,11 +19,10 @@ use Rattle.thread_blocks.specs.Lines.{Line, event_at, refused_close, refused_ope
 use Rattle.thread_blocks.specs.Turns.{Ending, with_last}
 use Rattle.whole_meaning.specs.Loads.{loads_of}
 use Rattle.whole_meaning.specs.Threads.{ops}
-use Rattle.job_check.specs.declared.lines.Started.{Started}
-use Rattle.job_check.specs.declared.lines.Started.TheVariants.{Says}
+use Rattle.job_check.specs.Lines.{BeginsClose, BeginsOpen, HasLeft, KeepsThread, LoadsNew, Sees, Started, Starts, shows}
+use Rattle.thread_turns.specs.declared.parts.Started.TheVariants.{Says}
 use Rattle.job_check.specs.Histories.{infos_of}
 use Rattle.marked_memory.specs.Kept.{HasSeen, Kept, held_at}
-use Rattle.job_check.specs.Lines.{BeginsClose, BeginsOpen, HasLeft, KeepsThread, LoadsNew, Sees, Starts, shows}
 use Rattle.marked_memory.specs.Spaces.{with_held}
 use Rattle.job_check.proofs.Histories.{left_with}
 use Rattle.job_check.proofs.LinesBegun.{over_at_once, starts_so}

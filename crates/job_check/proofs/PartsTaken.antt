@@ -12,16 +12,14 @@ use Rattle.thread_blocks.specs.Turns.{Begun, Calls as CallsOn, Says as SaysSo, S
 use Rattle.whole_meaning.specs.declared.unclean.UncleanStep.{UncleanStep}
 use Rattle.whole_meaning.specs.Loads.{loads_of, meaning_of}
 use Rattle.whole_meaning.specs.Threads.{Meant, code_owner, meant_turns, resumed_for}
-use Rattle.job_check.specs.declared.lines.Started.{Started}
-use Rattle.job_check.specs.declared.lines.Started.TheVariants.{Says, Calls}
-use Rattle.job_check.specs.declared.running.Resumed.TheVariants as resumed
-use Rattle.job_check.specs.declared.thread.Taken.{Taken}
-use Rattle.job_check.specs.declared.thread.Taken.TheVariants.{Over}
+use Rattle.job_check.specs.Lines.{BegunAs, HasLeft, KeepsThread, Started, Starts}
+use Rattle.thread_turns.specs.declared.parts.Started.TheVariants.{Says, Calls}
+use Rattle.thread_turns.specs.declared.parts.Resumed.TheVariants as resumed
+use Rattle.job_check.specs.Taking.{BeginsTo, IsOver, ResumesTo, RunsTo, Taken, TookAs}
+use Rattle.thread_turns.specs.declared.parts.Ended.TheVariants.{Over}
 use Rattle.job_check.specs.declared.thread.Waiting.{Waiting}
 use Rattle.marked_memory.specs.Kept.{HasSeen, Kept, held_at}
-use Rattle.job_check.specs.Lines.{BegunAs, HasLeft, KeepsThread, Starts}
 use Rattle.job_check.specs.Running.{KeepsJob, Resumes}
-use Rattle.job_check.specs.Taking.{BeginsTo, IsOver, ResumesTo, RunsTo, TookAs}
 
 -- ** runs
 

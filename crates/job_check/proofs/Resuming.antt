@@ -15,8 +15,8 @@ use Rattle.thread_blocks.specs.Instances.{numbered_instance}
 use Rattle.whole_meaning.specs.declared.sequences.Sequence.{Sequence}
 use Rattle.whole_meaning.specs.Loads.{loads_of, meaning_of}
 use Rattle.whole_meaning.specs.Threads.{Meant, Memory, code_owner, resumed, resumed_at, resumed_by, resumed_for, sequence_does}
-use Rattle.job_check.specs.declared.running.Resumed.{Resumed}
-use Rattle.job_check.specs.declared.running.Resumed.TheVariants.{Goes, Unloaded}
+use Rattle.thread_turns.specs.declared.parts.Resumed.{Resumed}
+use Rattle.thread_turns.specs.declared.parts.Resumed.TheVariants.{Goes, Unloaded}
 use Rattle.marked_memory.specs.declared.space.Wanted.TheVariants.{BlockOf}
 use Rattle.marked_memory.specs.Kept.{HasSeen, Kept, held_at, owner_in, sequence_in}
 use Rattle.job_check.specs.Running.{KeepsJob, Resumes, resumed_as}

@@ -10,11 +10,10 @@ use Rattle.module_table.specs.declared.events.Event.{Event}
 use Rattle.whole_meaning.specs.Loads.{meaning_of}
 use Rattle.whole_meaning.specs.Running.{meaning}
 use Rattle.whole_meaning.specs.Threads.{Meant, meant_steps, ops}
-use Rattle.job_check.specs.declared.running.Ran.{Ran}
-use Rattle.job_check.specs.declared.running.Ran.TheVariants.{Ended, Waits}
+use Rattle.job_check.specs.Running.{KeepsJob, Ran, RunsOn, Steps, ran_as}
+use Rattle.thread_turns.specs.declared.parts.Ended.TheVariants.{Over, Waits}
 use Rattle.job_check.specs.declared.step.Stepped.TheVariants.{Goes, Looks, Ends}
 use Rattle.marked_memory.specs.Kept.{HasSeen, Kept, held_at}
-use Rattle.job_check.specs.Running.{KeepsJob, RunsOn, Steps, ran_as}
 use Rattle.job_check.specs.Stepping.{Asks}
 
 pub keeps_same : (k : Kept) → KeepsJob k k
@@ -54,9 +53,9 @@ module _ (count : ℕ) (first : State Word Flag) (start : Kept) (state : State W
 
   -- the call is over
   pub run_over : (left : ℕ) (stop : Stop) → (state.place == 0x2000) ≡ true → stop ≡ returned (ops.number_of state.registers.rax) state.place
-      → Reaches count first start left state k → RunsOn count first start (Ended stop left) state k
+      → Reaches count first start left state k → RunsOn count first start (Over (stop, left)) state k
   unfolding meant_steps meaning
-  run_over left stop here is reaches = ended left (Ended stop left) state k reaches (keeps_same k)
+  run_over left stop here is reaches = ended left (Over (stop, left)) state k reaches (keeps_same k)
       (λ seen has. run-over (stepping k) left (held_at seen state k) stop (rw here (ap Some (sym is))))
 
   goes-on : (seen : List Event) → (state.place == 0x2000) ≡ false → (stepping k).over (held_at seen state k) ≡ None
@@ -65,8 +64,8 @@ module _ (count : ℕ) (first : State Word Flag) (start : Kept) (state : State W
 
   -- no step is left
   pub run_spent : (stop : Stop) → (state.place == 0x2000) ≡ false → Asks stop state k
-      → Reaches count first start 0 state k → RunsOn count first start (Ended stop 0) state k
-  run_spent stop elsewhere asks reaches = ended 0 (Ended stop 0) state k reaches (keeps_same k)
+      → Reaches count first start 0 state k → RunsOn count first start (Over (stop, 0)) state k
+  run_spent stop elsewhere asks reaches = ended 0 (Over (stop, 0)) state k reaches (keeps_same k)
       (λ seen has. run-spent (stepping k) (held_at seen state k) (goes-on seen elsewhere)
       ∙ ap (λ (stop : Stop). EndedWith stop 0 (held_at seen state k)) (asks seen has))
 
@@ -80,9 +79,9 @@ module _ (count : ℕ) (first : State Word Flag) (start : Kept) (state : State W
   stays-held stop state' k' seen steps = rw (steps.stays.0, steps.stays.1) refl
 
   pub run_ends : (left : ℕ) (stop : Stop) (state' : State Word Flag) (k' : Kept) → (left ≡ 0 → ⊥) → (state.place == 0x2000) ≡ false → Steps state k (Ends stop) state' k'
-      → Reaches count first start left state k → RunsOn count first start (Ended stop left) state' k'
+      → Reaches count first start left state k → RunsOn count first start (Over (stop, left)) state' k'
   run_ends zero stop state' k' some elsewhere steps reaches = absurd (some refl)
-  run_ends (suc more) stop state' k' some elsewhere steps reaches = ended (suc more) (Ended stop (suc more)) state' k' reaches steps.keeps
+  run_ends (suc more) stop state' k' some elsewhere steps reaches = ended (suc more) (Over (stop, suc more)) state' k' reaches steps.keeps
       (λ seen has. run-ends (stepping k) more (held_at seen state k) stop (goes-on seen elsewhere) (steps.steps seen has)
       ∙ ap (EndedWith stop (suc more)) (stays-held stop state' k' seen steps))
 

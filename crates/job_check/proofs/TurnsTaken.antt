@@ -14,13 +14,12 @@ use Rattle.thread_blocks.specs.Turns.{Mid, Said, Thread}
 use Rattle.whole_meaning.specs.declared.unclean.UncleanStep.{UncleanStep}
 use Rattle.whole_meaning.specs.Jobs.{first_in, unclean_ending}
 use Rattle.whole_meaning.specs.Threads.{Meant}
-use Rattle.job_check.specs.declared.thread.Taken.{Taken}
-use Rattle.job_check.specs.declared.thread.Taken.TheVariants.{Over, Waits}
+use Rattle.job_check.specs.Taking.{IsOver, Taken, TookAs}
+use Rattle.thread_turns.specs.declared.parts.Ended.TheVariants.{Over, Waits}
 use Rattle.job_check.specs.declared.thread.Waiting.{Waiting}
 use Rattle.marked_memory.specs.Kept.{Kept, held_at}
 use Rattle.job_check.specs.Lines.{HasLeft}
 use Rattle.job_check.specs.Standing.{StandsAfter, emptied, run_after}
-use Rattle.job_check.specs.Taking.{IsOver, TookAs}
 use Rattle.job_check.proofs.Looks.{held_with}
 use Rattle.job_check.proofs.OwnedApart.{blocks_twice, data_of_blocks, owned_again}
 

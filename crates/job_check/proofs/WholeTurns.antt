@@ -21,15 +21,14 @@ use Rattle.whole_meaning.specs.Loads.{loads_of, meaning_of}
 use Rattle.whole_meaning.specs.Threads.{Meant, begin_meant, code_owner, meant_show, meant_turns, ops, resume_meant, resumed_for}
 use Rattle.marked_memory.specs.declared.space.Wanted.{Wanted}
 use Rattle.marked_memory.specs.declared.space.Wanted.TheVariants.{Fixed}
-use Rattle.job_check.specs.declared.thread.Taken.{Taken}
-use Rattle.job_check.specs.declared.thread.Taken.TheVariants.{Over, Waits}
+use Rattle.job_check.specs.Taking.{BeginsTo, ResumesTo, Taken}
+use Rattle.thread_turns.specs.declared.parts.Ended.TheVariants.{Over, Waits}
 use Rattle.job_check.specs.declared.thread.Waiting.{Waiting}
 use Rattle.job_check.specs.Histories.{infos_of}
 use Rattle.marked_memory.specs.Kept.{HasSeen, Kept, held_at}
 use Rattle.job_check.specs.Lines.{HasLeft}
 use Rattle.marked_memory.specs.Spaces.{with_held}
 use Rattle.job_check.specs.Standing.{BeginsLine, IsIdle, IsMid, IsSameThread, PhaseIs, ResumesLine, Run, StandsAfter, TakesTurn, emptied, is_done_with, run_after}
-use Rattle.job_check.specs.Taking.{BeginsTo, ResumesTo}
 use Rattle.thread_turns.proofs.Lists.{at_drop}
 use Rattle.job_check.proofs.Looks.{held_with, live_is, look_is}
 use Rattle.job_check.proofs.OwnedApart.{owned_again}

@@ -1,5 +1,5 @@
 -- The first look of a thread's line, as the code takes it.
-use Rattle.std.specs.Prelude.{◌≡◌, ◌+◌, ℕ, Bool, true, false, List, [], Option, Some, None, option_and_then, option_to_list}
+use Rattle.std.specs.Prelude.{◌≡◌, ◌<◌, ◌+◌, ◌^◌, ℕ, Bool, true, false, List, [], Option, Some, None, option_and_then, option_to_list}
 use Rattle.guest_arithmetic.specs.declared.cause.Cause.{Cause}
 use Rattle.guest_operands.specs.declared.state.State.{State}
 use Rattle.guest_operands.specs.declared.stop.Stop.{Stop}
@@ -18,8 +18,8 @@ use Rattle.whole_meaning.specs.declared.unclean.UncleanStep.{UncleanStep}
 use Rattle.whole_meaning.specs.Jobs.{unclean_ending, unclean_stop}
 use Rattle.whole_meaning.specs.Loads.{loads_of, meaning_of}
 use Rattle.whole_meaning.specs.Threads.{Meant, byte_cause as cause_of_byte, is_for as is_for_cause, meant_show, ops, unclean_bytes as first_unclean, unclean_for as lowest_unclean}
-use Rattle.job_check.specs.declared.lines.Started.{Started}
-use Rattle.job_check.specs.declared.lines.Started.TheVariants.{Says, Calls}
+use Rattle.thread_turns.specs.declared.parts.Started.{Started as StartedWith}
+use Rattle.thread_turns.specs.declared.parts.Started.TheVariants.{Says, Calls}
 use Rattle.marked_memory.specs.declared.space.Wanted.TheVariants.{DataOf, Fixed}
 use Rattle.job_check.specs.Histories.{IsLeftBy, infos_of}
 use Rattle.marked_memory.specs.Kept.{HasSeen, Kept, held_at}
@@ -29,6 +29,10 @@ use Rattle.marked_memory.specs.Spaces.{with_held}
 -- the events leave this state
 abbrev pub HasLeft : Kept → List Event → Past → Type 0
 HasLeft k seen p = left_by (loads_of k.images) seen ≡ p
+
+-- a line at its first look
+abbrev pub Started : Type 0
+Started = StartedWith (Option UncleanStep) (State Word Flag)
 
 -- how the line begins, for a thread that has seen these events and had these registers: it is over, with this unclean
 -- step or none; or a call begins, with these registers
@@ -44,6 +48,12 @@ pub record KeepsThread (old new : Kept) : Type 0 where
   pub thread : new.thread ≡ old.thread
   pub images : new.images ≡ old.images
   pub lent : new.lent ≡ old.lent
+
+-- what a line needs to begin: the thread has looked at a history that leaves this state, with room for its event
+pub record CanBegin (k : Kept) (p : Past) : Type 0 where
+  pub live : k.live ≡ instances_in (infos_of k.images) p
+  pub past : IsLeftBy k.images p
+  pub room : p.seen < 2 ^ 61
 
 -- after the look the line begins as the definition says
 pub record Starts (line : Line) (p : Past) (k : Kept) (started : Started) (p' : Past) (k' : Kept) : Type 0 where

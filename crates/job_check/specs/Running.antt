@@ -3,6 +3,7 @@
 use Rattle.std.specs.Prelude.{◌≡◌, ℕ, List}
 use Rattle.guest_machine.specs.Run.{Next, Goes as GoesTo, Ends as EndsWith, Looks as LooksAt, Outcome, Ended as EndedWith, Waits as WaitsAt, run}
 use Rattle.guest_operands.specs.declared.state.State.{State}
+use Rattle.guest_operands.specs.declared.stop.Stop.{Stop}
 use Rattle.job_meaning.specs.declared.values.Flag.{Flag}
 use Rattle.job_meaning.specs.declared.values.Word.{Word}
 use Rattle.module_table.specs.declared.events.Event.{Event}
@@ -11,10 +12,10 @@ use Rattle.transcript_text.specs.declared.outcomes.LineFault.TheVariants.{Unload
 use Rattle.transcript_text.specs.declared.outcomes.Outcome.TheVariants.{Fault}
 use Rattle.whole_meaning.specs.Loads.{meaning_of}
 use Rattle.whole_meaning.specs.Threads.{Meant, code_owner, meant_steps, resumed_for}
-use Rattle.job_check.specs.declared.running.Ran.{Ran}
-use Rattle.job_check.specs.declared.running.Ran.TheVariants.{Ended, Waits}
-use Rattle.job_check.specs.declared.running.Resumed.{Resumed}
-use Rattle.job_check.specs.declared.running.Resumed.TheVariants.{Goes as GoesOn, Unloaded, Ends as EndsSo}
+use Rattle.thread_turns.specs.declared.parts.Ended.{Ended}
+use Rattle.thread_turns.specs.declared.parts.Ended.TheVariants.{Over, Waits}
+use Rattle.thread_turns.specs.declared.parts.Resumed.{Resumed}
+use Rattle.thread_turns.specs.declared.parts.Resumed.TheVariants.{Goes as GoesOn, Unloaded, Stops as EndsSo}
 use Rattle.job_check.specs.declared.step.Stepped.{Stepped}
 use Rattle.job_check.specs.declared.step.Stepped.TheVariants.{Goes, Looks, Ends}
 use Rattle.marked_memory.specs.Kept.{HasSeen, Kept, held_at}
@@ -49,8 +50,11 @@ pub record Steps (state : State Word Flag) (k : Kept) (stepped : Stepped) (state
 
 -- ** runs
 
+abbrev pub Ran : Type 0
+Ran = Ended (Stop × ℕ) ℕ
+
 abbrev pub ran_as : Ran → Meant → Outcome Meant
-ran_as (Ended stop left) h = EndedWith stop left h
+ran_as (Over (stop, left)) h = EndedWith stop left h
 ran_as (Waits left) h = WaitsAt left h
 
 -- a run of at most `count` steps

@@ -21,13 +21,12 @@ use Rattle.whole_meaning.specs.Jobs.{first_in}
 use Rattle.whole_meaning.specs.Loads.{loads_of, meaning_of}
 use Rattle.whole_meaning.specs.Threads.{Meant, meant_turns}
 use Rattle.marked_memory.specs.declared.space.Wanted.TheVariants.{Fixed}
-use Rattle.job_check.specs.declared.thread.Taken.{Taken}
-use Rattle.job_check.specs.declared.thread.Taken.TheVariants.{Over, Waits}
+use Rattle.thread_turns.specs.declared.parts.Ended.TheVariants.{Over, Waits}
 use Rattle.job_check.specs.declared.thread.Waiting.{Waiting}
 use Rattle.job_check.specs.Histories.{infos_of, last_of}
 use Rattle.marked_memory.specs.Kept.{Kept, held_at}
 use Rattle.marked_memory.specs.Spaces.{with_held}
-use Rattle.job_check.specs.Taking.{BeginsTo, ResumesTo}
+use Rattle.job_check.specs.Taking.{BeginsTo, ResumesTo, Taken}
 
 -- what contracts see of a thread: its lines and how many have begun, the most steps of a call, what its memory keeps,
 -- the call that waits, if one does, and its first unclean step so far

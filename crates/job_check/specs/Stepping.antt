@@ -23,8 +23,8 @@ use Rattle.whole_meaning.specs.Reading.{acted, done, marked_step, own_touches}
 use Rattle.whole_meaning.specs.Threads.{Meant, Memory, meant_accesses, meant_mark, meant_shut, meant_steps, ops, resumed_at, sequence_does}
 use Rattle.job_check.specs.declared.step.Stepped.{Stepped}
 use Rattle.job_check.specs.declared.step.Stepped.TheVariants.{Goes, Looks, Ends}
-use Rattle.job_check.specs.declared.running.Resumed.{Resumed}
-use Rattle.job_check.specs.declared.running.Resumed.TheVariants.{Goes as GoesOn, Ends as EndsSo}
+use Rattle.thread_turns.specs.declared.parts.Resumed.{Resumed}
+use Rattle.thread_turns.specs.declared.parts.Resumed.TheVariants.{Goes as GoesOn, Stops as EndsSo}
 use Rattle.marked_memory.specs.Kept.{HasSeen, Kept, held_at, mark_in, memory_of, shape_of, shut_in}
 use Rattle.job_check.specs.Running.{KeepsJob, StaysUnless, resumed_as}
 

@@ -12,12 +12,15 @@ use Rattle.whole_meaning.specs.declared.unclean.UncleanStep.{UncleanStep}
 use Rattle.whole_meaning.specs.Jobs.{unclean_ending}
 use Rattle.whole_meaning.specs.Loads.{meaning_of}
 use Rattle.whole_meaning.specs.Threads.{Meant, code_owner, meant_show, meant_steps, meant_turns, ops, resumed_for}
-use Rattle.job_check.specs.declared.thread.Taken.{Taken}
-use Rattle.job_check.specs.declared.thread.Taken.TheVariants.{Over, Waits}
+use Rattle.thread_turns.specs.declared.parts.Ended.{Ended}
+use Rattle.thread_turns.specs.declared.parts.Ended.TheVariants.{Over, Waits}
 use Rattle.job_check.specs.declared.thread.Waiting.{Waiting}
 use Rattle.marked_memory.specs.Kept.{HasSeen, Kept, held_at}
 use Rattle.job_check.specs.Lines.{HasLeft, KeepsThread}
 use Rattle.job_check.specs.Running.{KeepsJob}
+
+abbrev pub Taken : Type 0
+Taken = Ended (Option UncleanStep) Waiting
 
 -- a thread whose line of this number is over, and that has this memory and has seen these events
 pub record IsOver (line : ℕ) (k : Kept) (unclean : Option UncleanStep) (points : List ℕ) (now : List Event)

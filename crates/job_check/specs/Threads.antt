@@ -5,15 +5,15 @@ use Rattle.job_check.specs.Standing.{Run}
 
 abbrev pub run_of : Inside → Run
 run_of r = record {
-  lines = r.lines.now;
-  fuel = r.fuel;
-  begun = r.begun;
+  lines = r.script.lines.now;
+  fuel = r.script.fuel;
+  begun = r.script.begun;
   kept = r.space;
   call = r.call;
-  unclean = r.unclean;
+  unclean = r.script.said;
 }
 
 pub record HoldsRun (r : Inside) : Type 0 where
-  pub lines : length r.lines.now < 2 ^ 31
-  pub begun : r.begun ≤ length r.lines.now
+  pub lines : length r.script.lines.now < 2 ^ 31
+  pub begun : r.script.begun ≤ length r.script.lines.now
   pub lent : r.space.lent ≡ None

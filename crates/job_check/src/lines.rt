@@ -1,16 +1,15 @@
 //! The first look of a thread's line.
 
-ghost use Rattle.std.specs.Prelude.{◌≡◌, ◌≤◌, ◌<◌, ◌+◌, ◌^◌, ℕ, true, IfOk, OnOk, is_some, length, map};
+ghost use Rattle.std.specs.Prelude.{◌≡◌, ◌≤◌, ◌<◌, ◌+◌, ◌^◌, ℕ, true, IfOk, OnOk, is_some, length};
 ghost use Rattle.job_meaning.specs.Marked.{values_of};
 ghost use Rattle.module_table.specs.Past.{accepts, after_one, module_of};
 ghost use Rattle.thread_blocks.specs.Held.{block_bytes};
 ghost use Rattle.thread_blocks.specs.Instances.{block_start, instances_in, loaded_instance};
 ghost use Rattle.thread_blocks.specs.Lines.{event_at};
 ghost use Rattle.thread_blocks.specs.MachineTurns.{call_start};
-ghost use Rattle.whole_meaning.specs.Loads.{info_of};
 ghost use Rattle.whole_meaning.specs.Threads.{ops};
 ghost use Rattle.job_check.specs.Histories.{IsLeftBy, infos_of};
-ghost use Rattle.job_check.specs.Lines.{BeginsCall, BeginsClose, BeginsOpen, BeginsPeek, LoadsNew, Sees, Starts, byte_cause, is_for, shown_step, step_in, unclean_bytes, unclean_for};
+ghost use Rattle.job_check.specs.Lines.{BeginsCall, BeginsClose, BeginsOpen, BeginsPeek, CanBegin, LoadsNew, Sees, Starts, byte_cause, is_for, shown_step, step_in, unclean_bytes, unclean_for};
 
 use crate::live::{live_instance, live_instances};
 use crate::verdict::unclean_stop;
@@ -23,29 +22,17 @@ use loaded_modules::Instance;
 use marked_memory::{MarkedMemory, Wanted, block_start};
 use module_table::{Event, ModuleTable};
 use std::alloc::{AllocError, Global};
+use thread_turns::Arguments;
 use whole_meaning::UncleanStep;
 
-/// What a line does at its first look.
-#[derive(Clone, Copy, Debug)]
-pub(crate) enum Started {
-    /// The line is over, with its unclean step if it shows bytes that are not numbers.
-    Says(Option<UncleanStep>),
-    /// A call begins, with these registers.
-    Calls(State<Word, Flag>),
-}
+/// What a line does at its first look: it is over, with its unclean step if it shows bytes that are not numbers, or a
+/// call begins, with these registers.
+pub(crate) type Started = thread_turns::Started<Option<UncleanStep>, State<Word, Flag>>;
 
 /// A line that is over and clean.
 const CLEAN: Started = Started::Says(None);
 
 // ** calls
-
-/// The arguments of a call.
-#[derive(Clone, Copy)]
-struct Arguments {
-    a: u64,
-    b: u64,
-    c: u64,
-}
 
 /// The registers before a call of the function at `place`.
 fn registers_at(thread: u32, place: u64, given: Arguments) -> State<Word, Flag>
@@ -90,20 +77,6 @@ fn call(
 
 // ** opens and closes
 
-/// Enters the thread's own event into the history: its line opens or closes an image.
-fn enter(space: &MarkedMemory, table: &mut ModuleTable, number: u32, line: &ThreadLine, opens: bool)
-    requires accepted { accepts table.old (event_at space.now.thread number opens line.now.image) ≡ true }
-    requires room { table.old.seen < 2 ^ 61 }
-    ensures { table.new ≡ after_one table.old (event_at space.now.thread number opens line.now.image) }
-{
-    table.accept(Event {
-        thread: space.thread(),
-        line: number,
-        opens,
-        image: line.image,
-    });
-}
-
 /// Makes the thread see the history as it is now.
 fn see(alloc: Global, space: &mut MarkedMemory, table: &ModuleTable) -> Result<(), AllocError>
     requires { IsLeftBy space.old.images table.now }
@@ -111,6 +84,31 @@ fn see(alloc: Global, space: &mut MarkedMemory, table: &ModuleTable) -> Result<(
 {
     let live = live_instances(alloc, space.images(), table)?;
     space.hold(live, Vec::new(alloc), Wanted::Fixed)
+}
+
+/// Enters the thread's own event into the history, and shows it to the thread: its line opens or closes an image.
+fn enter(
+    alloc: Global,
+    space: &mut MarkedMemory,
+    table: &mut ModuleTable,
+    number: u32,
+    line: &ThreadLine,
+    opens: bool,
+) -> Result<(), AllocError>
+    requires accepted { accepts table.old (event_at space.old.thread number opens line.now.image) ≡ true }
+    requires ready { CanBegin space.old table.old }
+    ensures enters { OnOk result
+        (table.new ≡ after_one table.old (event_at space.old.thread number opens line.now.image)) }
+    ensures sees { OnOk result (Sees space.old table.new space.new) }
+{
+    table.accept(Event {
+        thread: space.thread(),
+        line: number,
+        opens,
+        image: line.image,
+    });
+    see(alloc, space, table)?;
+    Ok(())
 }
 
 /// Fills the data of an image, unless it was loaded before.
@@ -139,9 +137,7 @@ fn open(
     number: u32,
     line: &ThreadLine,
 ) -> Result<Started, AllocError>
-    requires live { space.old.live ≡ instances_in (infos_of space.old.images) table.old }
-    requires past { IsLeftBy space.old.images table.old }
-    requires room { table.old.seen < 2 ^ 61 }
+    requires ready { CanBegin space.old table.old }
     ensures { IfOk result (λ started.
         BeginsOpen (record { number = number; told = line.now }) table.old space.old started table.new space.new) }
 {
@@ -149,8 +145,7 @@ fn open(
         return Ok(CLEAN);
     }
     let was = table.module(line.image).is_loaded();
-    enter(space, table, number, line, true);
-    see(alloc, space, table)?;
+    enter(alloc, space, table, number, line, true)?;
     load_new(space, table, was, line.image)?;
     Ok(CLEAN)
 }
@@ -163,17 +158,14 @@ fn close(
     number: u32,
     line: &ThreadLine,
 ) -> Result<Started, AllocError>
-    requires live { space.old.live ≡ instances_in (infos_of space.old.images) table.old }
-    requires past { IsLeftBy space.old.images table.old }
-    requires room { table.old.seen < 2 ^ 61 }
+    requires ready { CanBegin space.old table.old }
     ensures { IfOk result (λ started.
         BeginsClose (record { number = number; told = line.now }) table.old space.old started table.new space.new) }
 {
     if table.close_refusal(line.image).is_some() {
         return Ok(CLEAN);
     }
-    enter(space, table, number, line, false);
-    see(alloc, space, table)?;
+    enter(alloc, space, table, number, line, false)?;
     Ok(CLEAN)
 }
 
@@ -307,9 +299,7 @@ pub(crate) fn begin(
     number: u32,
     line: &ThreadLine,
 ) -> Result<Started, AllocError>
-    requires live { space.old.live ≡ instances_in (map info_of space.old.images) table.old }
-    requires past { IsLeftBy space.old.images table.old }
-    requires room { table.old.seen < 2 ^ 61 }
+    requires ready { CanBegin space.old table.old }
     ensures { IfOk result (λ started.
         Starts (record { number = number; told = line.now }) table.old space.old started table.new space.new) }
 {

@@ -15,27 +15,11 @@ use guest_operands::{State, Stop};
 use job_meaning::{Flag, MarkedValues, Word};
 use marked_memory::MarkedMemory;
 use std::alloc::AllocError;
+use thread_turns::{Ended, Resumed};
 use whole_meaning::Sequence;
 
-/// How a run ends.
-#[derive(Clone, Copy, Debug)]
-pub(crate) enum Ran {
-    /// It stopped, with this number of steps left.
-    Ended(Stop, u64),
-    /// A sequence looks, with this number of steps left; its own step is one of them.
-    Waits(u64),
-}
-
-/// How a call goes on after a look.
-#[derive(Clone, Copy, Debug)]
-pub(crate) enum Resumed {
-    /// The sequence is done, and the call goes on.
-    Goes,
-    /// The instance that contains the code is gone.
-    Unloaded,
-    /// The sequence stops.
-    Ends(Stop),
-}
+/// How a run ends, with this number of steps left: it stopped, or a sequence looks, whose own step is one of them.
+pub(crate) type Ran = Ended<(Stop, u64), u64>;
 
 /// The stop of a call that returned, from %rax.
 fn returned(answer: Result<u64, Cause>, place: u64) -> Stop
@@ -83,15 +67,15 @@ pub(crate) fn run(
     loop {
         if state.place == RETURN {
             let answer = MarkedValues::number_of(state.registers.rax);
-            return Ok(Ran::Ended(returned(answer, state.place), left));
+            return Ok(Ran::Over((returned(answer, state.place), left)));
         }
         if left == 0 {
-            return Ok(Ran::Ended(asked(state, space)?, left));
+            return Ok(Ran::Over((asked(state, space)?, left)));
         }
         match step(state, space)? {
             Stepped::Goes => left -= 1,
             Stepped::Looks => return Ok(Ran::Waits(left)),
-            Stepped::Ends(stop) => return Ok(Ran::Ended(stop, left)),
+            Stepped::Ends(stop) => return Ok(Ran::Over((stop, left))),
         }
     }
 }
@@ -102,7 +86,7 @@ fn as_resumed(done: Result<(), Stop>) -> Resumed
 {
     match done {
         Ok(()) => Resumed::Goes,
-        Err(stop) => Resumed::Ends(stop),
+        Err(stop) => Resumed::Stops(stop),
     }
 }
 

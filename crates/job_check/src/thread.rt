@@ -2,15 +2,15 @@
 
 ghost use Rattle.std.specs.Prelude.{◌≡◌, ◌≤◌, ◌<◌, ◌+◌, ◌^◌, ℕ, [], false, None, IfOk, length};
 ghost use Rattle.module_table.specs.Past.{start};
-ghost use Rattle.thread_blocks.specs.Instances.{instances_in};
 ghost use Rattle.job_check.specs.Histories.{IsHistory, IsLeftBy, infos_of, last_of};
+ghost use Rattle.job_check.specs.Lines.{CanBegin};
 ghost use Rattle.job_check.specs.Progress.{CanTurn, Share, Turned};
 ghost use Rattle.job_check.specs.Standing.{BeginsLine, IsFirstRun, ResumesLine, TakesTurn, is_done, run_after};
 ghost use Rattle.job_check.specs.Taking.{BeginsTo, ResumesTo, RunsTo};
 
 use crate::lines::{Started, begin};
 use crate::live::live_instances;
-use crate::running::{Ran, Resumed, resume, run};
+use crate::running::{Ran, resume, run};
 use crate::verdict::unclean_stop;
 use guest_operands::State;
 use job_meaning::{Flag, Word};
@@ -21,7 +21,7 @@ use module_table::ModuleTable;
 use std::alloc::{AllocError, Global};
 use std::marker::Model;
 use std::mem;
-use thread_turns::{MOST_EVENTS, TurnTaker};
+use thread_turns::{Ended, MOST_EVENTS, Resumed, TurnTaker};
 use whole_meaning::UncleanStep;
 
 /// A call that waits for its next look.
@@ -32,28 +32,18 @@ pub(crate) struct Waiting {
     pub(crate) steps: u64,
 }
 
-/// How a turn ends.
-#[derive(Clone, Copy, Debug)]
-pub(crate) enum Taken {
-    /// The line is over: unclean at this step, or clean.
-    Over(Option<UncleanStep>),
-    /// The call waits for its next look.
-    Waits(Waiting),
-}
+/// How a turn ends: the line is over, unclean at this step or clean, or its call waits for its next look.
+pub(crate) type Taken = Ended<Option<UncleanStep>, Waiting>;
+
+/// The lines of a thread, and their first unclean step so far.
+type Script<'j> = thread_turns::Script<'j, Option<UncleanStep>>;
 
 /// One thread of a job between two turns. Contracts see a `Run`.
 #[derive(Drop)]
 pub(crate) struct MeantThread<'j, 'm> {
-    alloc: Global,
-    lines: &'j [ThreadLine],
-    /// The most steps of a call.
-    fuel: u64,
-    /// The number of lines that have begun.
-    begun: usize,
+    script: Script<'j>,
     space: MarkedMemory<'m>,
     call: Option<Waiting>,
-    /// Its first unclean step so far.
-    unclean: Option<UncleanStep>,
 }
 
 impl<'j, 'm> Model for MeantThread<'j, 'm> {
@@ -82,7 +72,7 @@ fn run_to(
 {
     let ran = run(&mut state, space, count)?;
     match ran {
-        Ran::Ended(stop, _) => Ok(Taken::Over(unclean_stop(space.thread(), line, stop))),
+        Ran::Over((stop, _)) => Ok(Taken::Over(unclean_stop(space.thread(), line, stop))),
         Ran::Waits(steps) => Ok(Taken::Waits(Waiting { state, steps })),
     }
 }
@@ -96,9 +86,7 @@ fn take_begin(
     line: &ThreadLine,
     fuel: u64,
 ) -> Result<Taken, AllocError>
-    requires live { space.old.live ≡ instances_in (infos_of space.old.images) table.old }
-    requires past { IsLeftBy space.old.images table.old }
-    requires room { table.old.seen < 2 ^ 61 }
+    requires ready { CanBegin space.old table.old }
     requires lent { space.old.lent ≡ None }
     ensures { IfOk result (λ taken.
         BeginsTo fuel (record { number = number; told = line.now }) table.old space.old taken table.new space.new) }
@@ -120,53 +108,35 @@ fn take_resume(space: &mut MarkedMemory, line: u32, call: Waiting) -> Result<Tak
     match resumed {
         Resumed::Goes => run_to(space, state, line, steps.saturating_sub(1)),
         Resumed::Unloaded => Ok(Taken::Over(None)),
-        Resumed::Ends(stop) => Ok(Taken::Over(unclean_stop(space.thread(), line, stop))),
+        Resumed::Stops(stop) => Ok(Taken::Over(unclean_stop(space.thread(), line, stop))),
     }
 }
 
 // ** turns
 
-/// The lines of a thread, and what it takes to run them.
-#[derive(Clone, Copy)]
-struct Script<'j> {
-    alloc: Global,
-    lines: &'j [ThreadLine],
-    fuel: u64,
-    /// The number of lines that have begun.
-    begun: usize,
-}
-
 /// Rebuilds the thread after a turn.
 fn ended<'j, 'm>(
-    script: Script<'j>,
+    mut script: Script<'j>,
     space: MarkedMemory<'m>,
-    unclean: Option<UncleanStep>,
     taken: Taken,
 ) -> MeantThread<'j, 'm>
     requires lines { length script.lines.now < 2 ^ 31 }
     requires begun { script.begun ≤ length script.lines.now }
     requires lent { space.lent ≡ None }
-    ensures { result
-        ≡ run_after script.entry.lines.now script.entry.fuel script.entry.begun unclean taken space.entry }
+    ensures { result ≡ run_after script.entry.lines.now script.entry.fuel script.entry.begun script.entry.said
+        taken space.entry }
 {
-    let Script {
-        alloc,
-        lines,
-        fuel,
-        begun,
-    } = script;
-    let (call, unclean) = match taken {
-        Taken::Over(found) => (None, unclean.or(found)),
-        Taken::Waits(call) => (Some(call), unclean),
+    let call = match taken {
+        Taken::Over(found) => {
+            script.said = script.said.or(found);
+            None
+        }
+        Taken::Waits(call) => Some(call),
     };
     MeantThread {
-        alloc,
-        lines,
-        fuel,
-        begun,
+        script,
         space,
         call,
-        unclean,
     }
 }
 
@@ -174,44 +144,40 @@ fn ended<'j, 'm>(
 fn begin_line<'j, 'm>(
     mut script: Script<'j>,
     mut space: MarkedMemory<'m>,
-    unclean: Option<UncleanStep>,
     line: &ThreadLine,
     table: &mut ModuleTable,
     shared: &mut Vec<OwnedRange>,
 ) -> Result<MeantThread<'j, 'm>, AllocError>
     requires lines { length script.lines.now < 2 ^ 31 }
     requires begun { script.begun < length script.lines.now }
-    requires live { space.live ≡ instances_in (infos_of space.images) table.old }
-    requires past { IsLeftBy space.images table.old }
-    requires room { table.old.seen < 2 ^ 61 }
+    requires ready { CanBegin space table.old }
     requires lent { space.lent ≡ None }
-    ensures { IfOk result (λ r. BeginsLine script.entry.lines.now script.entry.fuel script.entry.begun unclean
+    ensures { IfOk result (λ r. BeginsLine script.entry.lines.now script.entry.fuel script.entry.begun script.entry.said
         line.now table.old space.entry r table.new shared.new.items) }
 {
     script.begun += 1;
     let number = script.begun as u32;
     let taken = take_begin(script.alloc, &mut space, table, number, line, script.fuel)?;
     *shared = space.take_data()?;
-    Ok(ended(script, space, unclean, taken))
+    Ok(ended(script, space, taken))
 }
 
 /// Continues a call. The thread has looked, and has the data.
 fn resume_line<'j, 'm>(
     script: Script<'j>,
     mut space: MarkedMemory<'m>,
-    unclean: Option<UncleanStep>,
     call: Waiting,
     shared: &mut Vec<OwnedRange>,
 ) -> Result<MeantThread<'j, 'm>, AllocError>
     requires lines { length script.lines.now < 2 ^ 31 }
     requires begun { script.begun ≤ length script.lines.now }
     requires lent { space.lent ≡ None }
-    ensures { IfOk result (λ r. ResumesLine script.entry.lines.now script.entry.fuel script.entry.begun unclean
+    ensures { IfOk result (λ r. ResumesLine script.entry.lines.now script.entry.fuel script.entry.begun script.entry.said
         call space.entry r shared.new.items) }
 {
     let taken = take_resume(&mut space, script.begun as u32, call)?;
     *shared = space.take_data()?;
-    Ok(ended(script, space, unclean, taken))
+    Ok(ended(script, space, taken))
 }
 
 /// What all threads share: the state that the history leaves, and the data of all instances.
@@ -231,9 +197,10 @@ impl<'j, 'm> TurnTaker<Common> for MeantThread<'j, 'm> {
     ghost fit = { Share };
 
     fn is_done(&self) -> bool {
+        let script = &self.script;
         match &self.call {
             Some(_) => false,
-            None => self.lines.len() <= self.begun,
+            None => script.lines.len() <= script.begun,
         }
     }
 
@@ -261,22 +228,14 @@ impl<'j, 'm> MeantThread<'j, 'm> {
         requires start { table.now ≡ start (infos_of images.now) (last_of images.now) }
         ensures { IfOk result (IsFirstRun thread images.now job.now) }
     {
-        let lines = job.lines(thread);
-        if lines.len() >= 0x8000_0000 {
-            return Err(AllocError);
-        }
-        let fuel = job.fuel();
+        let script = Script::new(alloc, thread, job, None)?;
         let mut space = MarkedMemory::new(alloc, thread, images)?;
         let live = live_instances(alloc, images, table)?;
         space.hold(live, Vec::new(alloc), Wanted::Fixed)?;
         Ok(MeantThread {
-            alloc,
-            lines,
-            fuel,
-            begun: 0,
+            script,
             space,
             call: None,
-            unclean: None,
         })
     }
 
@@ -284,7 +243,8 @@ impl<'j, 'm> MeantThread<'j, 'm> {
     pub(crate) fn unclean(&self) -> Option<UncleanStep>
         ensures { result ≡ self.now.unclean }
     {
-        self.unclean
+        let script = &self.script;
+        script.said
     }
 
     /// Takes the thread's next turn: a look at the whole history, and the steps up to the next look. During the turn
@@ -301,26 +261,20 @@ impl<'j, 'm> MeantThread<'j, 'm> {
         ensures { IfOk result (λ r. TakesTurn self.entry table.old shared.old.items r table.new shared.new.items) }
     {
         let MeantThread {
-            alloc,
-            lines,
-            fuel,
-            begun,
+            script,
             mut space,
             call,
-            unclean,
         } = self;
-        let script = Script {
-            alloc,
-            lines,
-            fuel,
-            begun,
-        };
+        let alloc = script.alloc;
         let live = live_instances(alloc, space.images(), table)?;
         let handed = mem::replace(shared, Vec::new(alloc));
         space.hold(live, handed, Wanted::Fixed)?;
         match call {
-            Some(call) => resume_line(script, space, unclean, call, shared),
-            None => begin_line(script, space, unclean, &lines[begun], table, shared),
+            Some(call) => resume_line(script, space, call, shared),
+            None => {
+                let line = &script.lines[script.begun];
+                begin_line(script, space, line, table, shared)
+            }
         }
     }
 }

@@ -1,8 +1,6 @@
-use Rattle.std.proofs.Common.{◌∙◌, refl, sym, ap, subst}
+use Rattle.std.proofs.Common.{◌∙◌, refl, sym, ap}
 use Rattle.std.specs.Prelude.{is_some}
 use Rattle.module_table.specs.Past.{close_refusal}
-use Rattle.job_check.specs.Histories.{IsLeftBy}
-use Rattle.job_check.proofs.Histories.{left_more}
 use Rattle.job_check.proofs.OpensBegun.{close_accepts, close_begins, close_refused, none_of}
 use Rattle.job_check.proofs.lines.close.Goals as goal
 
@@ -12,21 +10,14 @@ enter-requires-clause-accepted c =
     (ap is_some (sym c.close_refusal.ensures) ∙ sym c.if-is_some.ensures) in
     close_accepts c.args.table.now _ refl none
 
-pub see-requires : goal.see-requires
-see-requires c =
-    let none = none_of (close_refusal c.args.table.now c.args.line.now.image)
-    (ap is_some (sym c.close_refusal.ensures) ∙ sym c.if-is_some.ensures) in
-    subst (IsLeftBy c.args.space.now.images) (sym c.enter.ensures)
-    (left_more c.args.space.now.images c.args.table.now _ c.requires.past (close_accepts c.args.table.now _ refl none))
-
 pub returns-then-is_some : goal.returns-then-is_some
 returns-then-is_some c =
-    close_refused (record { number = c.args.number; told = c.args.line.now }) c.args.table.now c.args.space.now c.requires.live
+    close_refused (record { number = c.args.number; told = c.args.line.now }) c.args.table.now c.args.space.now c.requires.ready.live
     (close_refusal c.args.table.now c.args.line.now.image) refl (ap is_some (sym c.close_refusal.ensures) ∙ sym c.if-is_some.ensures)
 
 pub returns : goal.returns
 returns c =
     let p = c.args.table.now in
     let none = none_of (close_refusal p c.args.line.now.image) (ap is_some (sym c.close_refusal.ensures) ∙ sym c.if-is_some.ensures) in
-    close_begins (record { number = c.args.number; told = c.args.line.now }) p c.enter.new.table c.args.space.now c.see.new.space
-    none c.enter.ensures c.in_ok-see.ensures
+    close_begins (record { number = c.args.number; told = c.args.line.now }) p c.enter.new.table c.args.space.now c.enter.new.space
+    none c.in_ok-enter.ensures.enters c.in_ok-enter.ensures.sees

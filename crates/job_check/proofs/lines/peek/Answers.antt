@@ -4,7 +4,7 @@ use Rattle.thread_blocks.specs.Held.{block_bytes}
 use Rattle.thread_blocks.specs.Instances.{block_start, loaded_instance}
 use Rattle.thread_blocks.specs.Lines.{Line}
 use Rattle.whole_meaning.specs.Loads.{loads_of}
-use Rattle.job_check.specs.declared.lines.Started.TheVariants.{Says}
+use Rattle.thread_turns.specs.declared.parts.Started.TheVariants.{Says}
 use Rattle.job_check.specs.Histories.{infos_of}
 use Rattle.job_check.specs.Lines.{BeginsPeek, step_in}
 use Rattle.job_check.proofs.LinesBegun.{keeps, peek_begins, peek_closed, peek_unknown}

@@ -14,6 +14,6 @@ returns c = record {
   begins = c.in_ok-taken.ensures;
   shared = c.in_ok-shared.ensures.taken;
   is = c.ended.ensures
-      ∙ ap (run_after c.args.script.lines.now c.args.script.fuel (c.args.script.begun + 1) c.args.unclean c.in_ok-taken.taken)
+      ∙ ap (run_after c.args.script.lines.now c.args.script.fuel (c.args.script.begun + 1) c.args.script.said c.in_ok-taken.taken)
       c.in_ok-shared.ensures.blocks;
 }

@@ -14,6 +14,6 @@ returns c = record {
   resumes = c.in_ok-taken.ensures c.args.script.fuel;
   shared = c.in_ok-shared.ensures.taken;
   is = c.ended.ensures
-      ∙ ap (run_after c.args.script.lines.now c.args.script.fuel c.args.script.begun c.args.unclean c.in_ok-taken.taken)
+      ∙ ap (run_after c.args.script.lines.now c.args.script.fuel c.args.script.begun c.args.script.said c.in_ok-taken.taken)
       c.in_ok-shared.ensures.blocks;
 }

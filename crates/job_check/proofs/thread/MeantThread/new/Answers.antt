@@ -18,7 +18,7 @@ hold-requires c =
 
 pub invariant_of-result : goal.invariant_of-result
 invariant_of-result c = record {
-  lines = omega arith;
-  begun = omega arith;
+  lines = c.in_ok-script.ensures.few;
+  begun = omega (arith, c.in_ok-script.ensures.begun);
   lent = ap (λ (k : Kept). k.lent) c.in_ok-hold.ensures.held ∙ held_lent _ _ _ _ ∙ ap (λ (k : Kept). k.lent) c.in_ok-space.ensures;
 }

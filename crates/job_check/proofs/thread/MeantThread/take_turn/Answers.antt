@@ -1,5 +1,5 @@
-use Rattle.std.proofs.Common.{◌≡◌, ◌∙◌, ◌<◌, Option, Some, None, false, length, refl, sym, ap, subst}
-use Rattle.std.proofs.lemmas.Option.{slice_get_read}
+use Rattle.std.proofs.Common.{◌≡◌, ◌∙◌, ◌<◌, Option, Some, None, false, get_or, length, sym, ap, subst}
+use Rattle.std.proofs.lemmas.Option.{slice_get-get_or}
 use Rattle.std.proofs.lemmas.Result.{IfOk-weaker}
 use Rattle.thread_blocks.specs.Instances.{instances_in}
 use Rattle.marked_memory.specs.declared.space.Wanted.TheVariants.{Fixed}
@@ -30,34 +30,31 @@ begin_line-requires-clause-lent c =
     ap (λ (y : Kept). y.lent) c.in_ok-hold.ensures.held
     ∙ held_lent c.in_ok-live.live.items c.replace-handed.result.items Fixed c.self.inside.space ∙ c.self.invariant.lent
 
-pub begin_line-requires-clause-live : goal.begin_line-requires-clause-live
-begin_line-requires-clause-live c =
+pub begin_line-requires-clause-ready : goal.begin_line-requires-clause-ready
+begin_line-requires-clause-ready c =
     let k = c.self.inside.space in
     let p = c.args.table.now in
     let items = c.in_ok-live.ensures ∙ ap (λ ls. instances_in (infos_of ls) p) c.images.ensures in
-    let images = ap (λ (y : Kept). y.images) c.in_ok-hold.ensures.held
-    ∙ held_images c.in_ok-live.live.items c.replace-handed.result.items Fixed k in
-    ap (λ (y : Kept). y.live) c.in_ok-hold.ensures.held ∙ held_live c.in_ok-live.live.items c.replace-handed.result.items Fixed k ∙ items
-    ∙ ap (λ ls. instances_in (infos_of ls) p) (sym images)
-
-pub begin_line-requires-clause-past : goal.begin_line-requires-clause-past
-begin_line-requires-clause-past c =
-    let k = c.self.inside.space in
-    let p = c.args.table.now in
     let left = subst (λ (r : Run). IsLeftBy r.kept.images p) (sym c.self.view_is) c.requires.past in
     let images = ap (λ (y : Kept). y.images) c.in_ok-hold.ensures.held
     ∙ held_images c.in_ok-live.live.items c.replace-handed.result.items Fixed k in
-    subst (λ ls. IsLeftBy ls p) (sym images) left
+    record {
+      live = ap (λ (y : Kept). y.live) c.in_ok-hold.ensures.held
+          ∙ held_live c.in_ok-live.live.items c.replace-handed.result.items Fixed k ∙ items
+          ∙ ap (λ ls. instances_in (infos_of ls) p) (sym images);
+      past = subst (λ ls. IsLeftBy ls p) (sym images) left;
+      room = c.requires.room;
+    }
 
 pub returns-in-Some : goal.returns-in-Some
 returns-in-Some c =
     let k = c.self.inside.space in
     let p = c.args.table.now in
     let d = c.args.shared.now.items in
-    let lines = c.self.inside.lines.now in
-    let fuel = c.self.inside.fuel in
-    let begun = c.self.inside.begun in
-    let unclean = c.self.inside.unclean in
+    let lines = c.self.inside.script.lines.now in
+    let fuel = c.self.inside.script.fuel in
+    let begun = c.self.inside.script.begun in
+    let unclean = c.self.inside.script.said in
     let items = c.in_ok-live.ensures ∙ ap (λ ls. instances_in (infos_of ls) p) c.images.ensures in
     let held = held_now k p c.in_ok-live.live.items c.replace-handed.result.items d c.hold.new.self c.in_ok-hold.ensures.held items
     (ap (λ v. v.items) c.replace-handed.ensures.value) in
@@ -75,11 +72,11 @@ returns-in-None c =
     let k = c.self.inside.space in
     let p = c.args.table.now in
     let d = c.args.shared.now.items in
-    let lines = c.self.inside.lines.now in
-    let fuel = c.self.inside.fuel in
-    let begun = c.self.inside.begun in
-    let unclean = c.self.inside.unclean in
-    let line = c.index-lines-begun.result in
+    let lines = c.self.inside.script.lines.now in
+    let fuel = c.self.inside.script.fuel in
+    let begun = c.self.inside.script.begun in
+    let unclean = c.self.inside.script.said in
+    let line = get_or lines begun c.index-script-script.result in
     let items = c.in_ok-live.ensures ∙ ap (λ ls. instances_in (infos_of ls) p) c.images.ensures in
     let held = held_now k p c.in_ok-live.live.items c.replace-handed.result.items d c.hold.new.self c.in_ok-hold.ensures.held items
     (ap (λ v. v.items) c.replace-handed.ensures.value) in
@@ -91,6 +88,6 @@ returns-in-None c =
     IfOk-weaker c.begin_line.result _ _
     (λ r is. subst (λ (old : Run). TakesTurn old p d r c.begin_line.new.table c.begin_line.new.shared.items) whole
     (begins_line k p d lines fuel begun unclean line r c.begin_line.new.table c.begin_line.new.shared.items
-    (slice_get_read lines _ begun line refl within c.index-lines-begun.is)
+    (slice_get-get_or lines begun c.index-script-script.result within)
     (subst (λ s. BeginsLine lines fuel begun unclean line p s r c.begin_line.new.table c.begin_line.new.shared.items) held is)))
     c.begin_line.ensures
