@@ -4,7 +4,7 @@ use Rattle.racing_thread.proofs.looks.answer.Goals as goal
 
 pub returns-in-Ok-clause-answers : goal.returns-in-Ok-clause-answers
 returns-in-Ok-clause-answers g c =
-    rw (c.in-Opens.is, c.open-2.ensures)
+    rw (c.in-Opens.is, c.open-in-Ok.ensures)
     (opens c.args.pass.now c.args.events.now.items c.requires.all c.open.new.pass c.open.new.into.items c.args.thread
     c.in-Opens.line c.in-Opens.image c.in-Ok.opened c.in-Ok.ensures.opened)
 
@@ -19,7 +19,7 @@ returns-in_ok-refused_open-in-Err-clause-answers g c =
 
 pub returns-in-Ok-close-clause-answers : goal.returns-in-Ok-close-clause-answers
 returns-in-Ok-close-clause-answers g c =
-    rw (c.in-Closes.is, c.close-2.ensures)
+    rw (c.in-Closes.is, c.close-in-Ok-close.ensures)
     (closes c.args.pass.now c.args.events.now.items c.requires.all c.close.new.pass c.close.new.into.items c.args.thread
     c.in-Closes.line c.in-Closes.image c.in-Ok-close.closed c.in-Ok-close.ensures.closed)
 
