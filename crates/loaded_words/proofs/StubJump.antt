@@ -1,21 +1,30 @@
 -- The stub is one instruction, and jumps through the run time's word.
-use Rattle.std.proofs.Common.{◌≡◌, ◌∙◌, ◌+◌, ◌-◌, ◌*◌, ◌%◌, ◌^◌, ◌<◌, ◌≤◌, ℕ, suc, Bool, true, false, [], ◌∷◌}
-use Rattle.std.proofs.Common.{Some, refl, sym, ap, arith}
+use Rattle.std.proofs.Common.{◌≡◌, ◌∙◌, ◌+◌, ◌-◌, ◌*◌, ◌%◌, ◌^◌, ◌<◌, ◌≤◌, ℕ, suc, Bool, true, false, List, [], ◌∷◌, Option}
+use Rattle.std.proofs.Common.{None, Some, IsSome, refl, sym, ap, arith}
 use Rattle.std.specs.Prelude.{pos, negsuc, ◌+ℤ◌, ◌-ℤ◌, slice_index_or, unwrap_or, if◌then◌else◌}
 use Rattle.std.specs.Int.{w32, cast_unsigned}
 use Rattle.std.proofs.lemmas.Bool.{le-ltb, lt-ltb}
 use Rattle.std.proofs.lemmas.List.{take_all}
 use Rattle.std.proofs.lemmas.Nat.{from_le_bytes-to_le_bytes_4}
 use Rattle.std.proofs.lemmas.Option.{slice_get-get_or}
+use Rattle.amd64_subset.specs.declared.instr.Decoded.{Decoded}
 use Rattle.amd64_subset.specs.declared.instr.Operation.TheVariants.{Jump}
 use Rattle.amd64_subset.specs.declared.instr.Target.TheVariants.{Indirect}
 use Rattle.amd64_subset.specs.declared.operand.Operand.TheVariants.{InMemory}
-use Rattle.amd64_subset.specs.Decoding.{decoded}
+use Rattle.amd64_subset.specs.Decoding.{body_at, decoded, end_branch_at, escaped_at, instruction_at, operated_at, row_at}
+use Rattle.amd64_subset.specs.Meaning.{numbered_body, operand_body, operation_of}
 use Rattle.amd64_subset.specs.Number.{signed_of}
+use Rattle.amd64_subset.specs.Prefix.{prefixes_at, rex_at}
+use Rattle.amd64_subset.specs.Reading.{numbers_at}
+use Rattle.amd64_subset.specs.Register.{number_of, register_of}
+use Rattle.amd64_subset.specs.Row.{arithmetic_of, condition_of, escaped_row_of, fixed_row_of, group_action, row_of, shift_of}
+use Rattle.amd64_subset.specs.Row.{takes}
+use Rattle.amd64_subset.specs.Selectors.{allowed, displacement_size, memory_in, selectors_at, sib_at}
 use Rattle.amd64_subset.specs.Spelling.{field_of}
 use Rattle.elf_records.specs.declared.relocation.RelocationKind.TheVariants.{GotPcRel}
 use Rattle.elf_records.specs.Fields.{bytes_of, part_at}
 use Rattle.got_pairs.specs.declared.need.Need.TheVariants.{RuntimeWord}
+use Rattle.got_pairs.specs.Needs.{start_of}
 use Rattle.guest_operands.specs.declared.space.Access.TheVariants.{Run}
 use Rattle.guest_operands.specs.Ranges.{byte_in}
 use Rattle.guest_operands.specs.Use.{plus}
@@ -29,7 +38,7 @@ use Rattle.link_faults.specs.ImageKinds.{is_moved}
 use Rattle.link_needs.proofs.Reached.{stubs_have_their_word}
 use Rattle.link_needs.specs.Given.{FitsTable, IsGiven}
 use Rattle.link_needs.specs.Linking.{Linking}
-use Rattle.link_needs.specs.Needs.{entry_by, got_start, need_address, stub_start}
+use Rattle.link_needs.specs.Needs.{entries, entry_by, got_start, need_address, stub_start}
 use Rattle.loaded_bytes.specs.Laws.{images_of}
 use Rattle.sequence_laws.specs.Instructions.{displaced, of_next}
 use Rattle.thread_blocks.specs.JobLoads.{job_loads}
@@ -37,11 +46,17 @@ use Rattle.tls_relocs.specs.declared.fields.Field.TheVariants.{Empty}
 use Rattle.tls_relocs.specs.Fields.{field_bytes}
 use Rattle.tls_relocs.specs.Values.{stored_field}
 use Rattle.whole_meaning.specs.Spots.{bias_of}
-use Rattle.sequence_laws.proofs.Ones.{reads}
 use Rattle.loaded_words.proofs.Stub.{stub_byte}
 use Rattle.loaded_words.specs.Laws.{StubIsLoaded}
 
 -- ** how the six bytes are read
+
+reads : List ℕ → Option Decoded
+unfolding
+    end_branch_at escaped_at row_at operated_at body_at instruction_at decoded numbered_body operation_of operand_body
+    signed_of rex_at prefixes_at numbers_at register_of number_of condition_of fixed_row_of row_of escaped_row_of
+    arithmetic_of shift_of group_action takes allowed displacement_size memory_in sib_at selectors_at
+reads bytes = decoded bytes
 
 -- jmp *far(%rip)
 jump_read : (a b c d : ℕ)
