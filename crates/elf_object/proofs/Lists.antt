@@ -1,6 +1,10 @@
 -- The relocations that are left, one after another.
-use Rattle.std.proofs.Common.{◌≡◌, ◌+◌, ◌*◌, ◌-◌, ◌<◌, ◌≤◌, ℕ, true, suc, List, [], ◌∷◌, length, nat_lt, refl, arith, add-one}
+use Rattle.std.proofs.Common.{◌≡◌, ◌+◌, ◌*◌, ◌-◌, ◌<◌, ◌≤◌, ◌∙◌, ℕ, true, suc, List, [], ◌∷◌, length, map, Some, nat_lt, refl, ap, arith, add-one}
+use Rattle.std.specs.List.{range_with_len, slice_get}
 use Rattle.std.proofs.lemmas.Bool.Decides.{nat_tests}
+use Rattle.std.proofs.lemmas.List.FromFn.{get_or-map-range_with_len, length-map-range_with_len}
+use Rattle.std.proofs.lemmas.Option.{slice_get-get_or}
+use Rattle.elf_object.specs.declared.relocation.Relocation.{Relocation}
 use Rattle.elf_object.specs.Parts.{section, entry_count}
 use Rattle.elf_object.specs.Laws.{length-relocations_from}
 use Rattle.elf_object.specs.Lent.{relocation_at, relocations_from, relocations_in}
@@ -27,3 +31,20 @@ relocations_counted b r some =
 pub relocations_uncounted : (b : List ℕ) (r : ℕ) → r ≡ 0 → length (relocations_in b r) ≡ 0
 unfolding relocations_in
 relocations_uncounted b r none = rw none refl
+
+-- relocation number i of those from a number on
+pub relocations_nth : (b : List ℕ) (at next n i : ℕ) → i < n
+    → slice_get (relocations_from b at next n) i ≡ Some (relocation_at (at + 24 * (next + i)) b)
+unfolding relocations_from
+relocations_nth b at next n i less =
+    let f : ℕ → Relocation = λ k. relocation_at (at + 24 * k) b in
+    let first : Relocation = f next in
+    slice_get-get_or (map f (range_with_len next n)) i first (omega (arith, less, length-map-range_with_len f next n))
+    ∙ ap Some (get_or-map-range_with_len f next n i (next + i) first less refl)
+
+-- it is in the table
+pub nth_inside : (b : List ℕ) (at next end i : ℕ) (left : List Relocation) → relocations_from b at next (end - next) ≡ left → i < length left
+    → next + i < end
+nth_inside b at next end i left is less =
+    let count = ap length is in
+    omega (arith, less, count, length-relocations_from b at next (end - next))

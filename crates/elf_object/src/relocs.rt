@@ -1,6 +1,6 @@
-//! The relocations of one section, as an iterator.
+//! The relocations of one section, as an iterator, and by number.
 
-ghost use Rattle.std.specs.Prelude.{◌≡◌, ◌+◌, ◌*◌, ◌-◌, ◌^◌, ◌<◌, ◌≤◌, length};
+ghost use Rattle.std.specs.Prelude.{◌≡◌, ◌+◌, ◌*◌, ◌-◌, ◌^◌, ◌<◌, ◌≤◌, Some, length, slice_get};
 ghost use Rattle.std.specs.Iterator.{YieldsFirst, item_count};
 ghost use Rattle.elf_object.specs.Parts.{IsRela};
 ghost use Rattle.elf_object.specs.Tables.{AreTargets};
@@ -65,6 +65,23 @@ impl<'a> Relocs<'a> {
             next: 0,
             end: count,
         }
+    }
+
+    /// How many relocations remain.
+    #[inline(always)]
+    pub fn len(&self) -> u64
+        ensures { result ≡ length self.now }
+    {
+        self.end.saturating_sub(self.next)
+    }
+
+    /// The relocation after so many others that remain. Reads it from the file.
+    #[inline(always)]
+    pub fn at(&self, index: u64) -> Relocation
+        requires { index < length self.now }
+        ensures { slice_get self.now index ≡ Some result }
+    {
+        relocation_at(self.bytes, self.at + Rela::SIZE * (self.next + index))
     }
 }
 

@@ -1,6 +1,6 @@
 -- The relocation of a number, and the one whose field covers a byte.
-use Rattle.std.proofs.Common.{◌≡◌, ◌<◌, ◌⊎◌, ◌∙◌, ℕ, List, Some, length, get_or, sym, ap, inl, inr, arith}
-use Rattle.std.proofs.lemmas.Option.{same_Some, slice_get-get_or}
+use Rattle.std.proofs.Common.{◌≡◌, ◌<◌, ◌⊎◌, ℕ, List, inl, inr, arith}
+use Rattle.std.proofs.lemmas.Option.{same_Some}
 use Rattle.elf_object.specs.declared.relocation.Relocation.{Relocation}
 use Rattle.sequence_match.specs.declared.index.Reach.TheVariants.{OfField}
 use Rattle.sequence_match.specs.Code.{AreApart, ReachesAt}
@@ -9,9 +9,6 @@ use Rattle.sequence_match.specs.Sites.{Covers, IsEntry, IsBare}
 -- the entry at an index is one
 pub same_entry : (xs : List Relocation) (e : ℕ) (x y : Relocation) → IsEntry xs e x → IsEntry xs e y → x ≡ y
 same_entry xs e x y a b = same_Some x y (cc)
-
-pub gives_entry : (xs : List Relocation) (e : ℕ) (x : Relocation) → e < length xs → x ≡ get_or xs e x → IsEntry xs e x
-gives_entry xs e x below read = slice_get-get_or xs e x below ∙ ap Some (sym read)
 
 -- a byte that is reached by no field is bare
 pub bare_of : (xs : List Relocation) (k : ℕ) → ((e : ℕ) → ReachesAt OfField xs k e → ⊥) → IsBare xs k

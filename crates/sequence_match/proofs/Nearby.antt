@@ -1,7 +1,6 @@
 -- Relocations that rise: neighbours tell which field covers a byte.
 use Rattle.std.proofs.Common.{◌≡◌, ◌+◌, ◌-◌, ◌<◌, ◌≤◌, ◌⊎◌, ℕ, List, length, get_or, sym, ap, subst, inl, inr, arith}
 use Rattle.std.specs.List.{AllWithin}
-use Rattle.std.proofs.lemmas.List.{get_or_default}
 use Rattle.std.proofs.lemmas.Option.{slice_get_within, get_or_from_slice_get}
 use Rattle.elf_records.specs.declared.relocation.RelocationKind.{RelocationKind}
 use Rattle.elf_records.specs.declared.relocation.RelocationKind.TheVariants.{Nothing}
@@ -22,14 +21,14 @@ RiseUpTo xs n = (i j : ℕ) (d : Relocation) → i < j → j < n → j < length 
 before_or_at : (i n : ℕ) → i < n → (i + 1 ≡ n) ⊎ (i + 1 < n)
 before_or_at i n h = grind arith
 
-pub up_more : (xs : List Relocation) (n : ℕ) (d : Relocation) → RiseUpTo xs n → 1 ≤ n → (get_or xs (n - 1) d).offset < (get_or xs n d).offset
+pub up_more : (xs : List Relocation) (n : ℕ) (x y : Relocation) → RiseUpTo xs n → 1 ≤ n → IsEntry xs (n - 1) x → IsEntry xs n y → x.offset < y.offset
     → RiseUpTo xs (n + 1)
-up_more xs n d rise some next i j e less below inside =
+up_more xs n x y rise some before entry next i j e less below inside =
     elim (below_or_at j n below) [
       | inl earlier ↦ rise i j e less earlier inside
       | inr at ↦
-          let here = ap (λ x. x.offset) (get_or_default xs n d e (omega (arith, at, inside))) in
-          let there = ap (λ x. x.offset) (get_or_default xs (n - 1) d e (omega (arith, at, inside))) in
+          let here = ap (λ z. z.offset) (get_or_from_slice_get xs n y e entry) in
+          let there = ap (λ z. z.offset) (get_or_from_slice_get xs (n - 1) x e before) in
           let P : ℕ → Type 0 = λ m. (get_or xs i e).offset < (get_or xs m e).offset in
           subst P (sym at)
           (elim (before_or_at i n (omega (arith, at, less))) [
@@ -38,8 +37,8 @@ up_more xs n d rise some next i j e less below inside =
                 let eq : n - 1 ≡ i = omega (arith, last) in
                 subst Q eq (omega (arith, next, here, there))
             | inr lower ↦
-                let before = rise i (n - 1) e (omega arith) (omega arith) (omega (arith, at, inside)) in
-                omega (arith, before, next, here, there)
+                let under = rise i (n - 1) e (omega arith) (omega arith) (omega (arith, at, inside)) in
+                omega (arith, under, next, here, there)
           ])
     ]
 
@@ -62,10 +61,10 @@ module _ (xs : List Relocation) (rise : Rise xs) where
   at_or_later n k h = grind arith
 
   -- from one that stands above a place on, all do
-  pub above_from : (place n : ℕ) (d : Relocation) → n < length xs → place < (get_or xs n d).offset
+  pub above_from : (place n : ℕ) (x : Relocation) → IsEntry xs n x → place < x.offset
       → AllWithin (λ x. place < x.offset) xs n (length xs)
-  above_from place n d some above k e from inside =
-      let same = ap (λ x. x.offset) (get_or_default xs n d e some) in
+  above_from place n x entry above k e from inside =
+      let same = ap (λ z. z.offset) (get_or_from_slice_get xs n x e entry) in
       elim (at_or_later n k from) [
         | inl at ↦ let P : ℕ → Type 0 = λ m. place < (get_or xs m e).offset in subst P at (omega (arith, same, above))
         | inr later ↦ omega (arith, rise n k e later inside, same, above)

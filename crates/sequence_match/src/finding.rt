@@ -19,7 +19,7 @@ use crate::matching::{
     Code, Indexes, form_of, is_loose, is_of_sequence, is_stray, names_getter, site_at,
 };
 use crate::near::rise;
-use elf_object::{FaultKind, Object, ObjectFault, Relocation, SectionClass, SymbolPlace};
+use elf_object::{FaultKind, Object, ObjectFault, Relocation, Relocs, SectionClass, SymbolPlace};
 use elf_records::symbol::GET_ADDRESS_NAME;
 use sequence_forms::Site;
 use std::alloc::{AllocError, Global};
@@ -120,21 +120,6 @@ fn has_use(object: &Object, getters: &[bool], section: u32) -> bool
         .any(|relocation| is_use(getters, &relocation))
 }
 
-/// The relocations of a section.
-fn relocations_of(
-    alloc: Global,
-    object: &Object,
-    section: u32,
-) -> Result<Vec<Relocation>, AllocError>
-    ensures relocations { IfOk result (λ found. found.items ≡ relocations_in_file object.now section) }
-    ensures few { IfOk result (λ found. length found.items ≤ 2 ^ 20) }
-{
-    // Not over `Uses` of `tls_symbols`, which stands above: sequences are known before names are bound.
-    let mut relocations = Vec::with_capacity(alloc, object.relocation_count(section) as usize)?;
-    relocations.extend(object.relocs(section))?;
-    Ok(relocations)
-}
-
 impl Asked {
     fn kind(self) -> FaultKind
         ensures { result ≡ kind_of self }
@@ -184,7 +169,7 @@ fn openings_in(alloc: Global, code: &Code) -> Result<Findings, AllocError>
     ensures loose { IfOk result (λ openings. IsFirstAt (IsLooseIn code.now) openings.loose) }
     ensures stray { IfOk result (λ openings. IsFirstAt (IsStrayIn code.now) openings.stray) }
 {
-    let mut sites = Vec::with_capacity(alloc, code.relocations.len())?;
+    let mut sites = Vec::with_capacity(alloc, code.relocations.len() as usize)?;
     let mut loose = None;
     let mut stray = None;
     for entry in 0..code.relocations.len() as u32 {
@@ -249,7 +234,7 @@ fn search_with(
     object: &Object,
     getters: &[bool],
     section: u32,
-    relocations: &[Relocation],
+    relocations: &Relocs,
     indexes: Option<Indexes>,
 ) -> Result<Findings, AllocError>
     requires getters { AreGetters object.now getters.now }
@@ -279,18 +264,18 @@ fn search_section(
     requires { AreGetters object.now getters.now }
     ensures { IfOk result (AreFindings object.now section) }
 {
-    let found = relocations_of(alloc, object, section)?;
-    let relocations = found.as_slice();
-    if rise(relocations) {
-        return search_with(alloc, object, getters, section, relocations, None);
+    // Not over `Uses` of `tls_symbols`, which stands above: sequences are known before names are bound.
+    let relocations = object.relocs(section);
+    if rise(&relocations) {
+        return search_with(alloc, object, getters, section, &relocations, None);
     }
-    let fields = index(alloc, Reach::OfField, relocations)?;
-    let calls = index(alloc, Reach::OfCall, relocations)?;
+    let fields = index(alloc, Reach::OfField, &relocations)?;
+    let calls = index(alloc, Reach::OfCall, &relocations)?;
     let indexes = Indexes {
         fields: fields.as_slice(),
         calls: calls.as_slice(),
     };
-    search_with(alloc, object, getters, section, relocations, Some(indexes))
+    search_with(alloc, object, getters, section, &relocations, Some(indexes))
 }
 
 /// The findings in a section. Only a section with a use is searched.

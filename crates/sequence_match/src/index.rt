@@ -6,7 +6,7 @@ ghost use Rattle.std.specs.List.{AllWithin};
 ghost use Rattle.std.specs.List.Sorted.{IsNonDecreasingBy, IsPermutation};
 ghost use Rattle.sequence_match.specs.Code.{AreSpans, IsFirstFrom, IsIndex, IsLastBelow, IsRising, IsSplit, order_of, reach_width};
 
-use elf_object::{Relocation, RelocationKind};
+use elf_object::{RelocationKind, Relocs};
 use elf_records::relocation_row::{FieldForm, SequencePart};
 use std::alloc::{AllocError, Global};
 
@@ -62,16 +62,13 @@ impl Span {
 }
 
 /// The spans of the relocations that reach a byte, in the order of the file.
-fn spans_of(
-    alloc: Global,
-    reach: Reach,
-    relocations: &[Relocation],
-) -> Result<Vec<Span>, AllocError>
+fn spans_of(alloc: Global, reach: Reach, relocations: &Relocs) -> Result<Vec<Span>, AllocError>
     requires few { length relocations.now ≤ 2 ^ 20 }
     ensures { IfOk result (λ spans. AreSpans reach relocations.now (length relocations.now) spans.items) }
 {
     let mut spans = Vec::new(alloc);
-    for (entry, relocation) in relocations.iter().enumerate() {
+    for entry in 0..relocations.len() {
+        let relocation = relocations.at(entry);
         let width = reach.width(relocation.kind) as u32;
         if width > 0 {
             spans.push(Span {
@@ -109,11 +106,7 @@ fn rising(mut spans: Vec<Span>) -> Result<Vec<Span>, AllocError>
 }
 
 /// The spans of the relocations that reach a byte, sorted.
-pub fn index(
-    alloc: Global,
-    reach: Reach,
-    relocations: &[Relocation],
-) -> Result<Vec<Span>, AllocError>
+pub fn index(alloc: Global, reach: Reach, relocations: &Relocs) -> Result<Vec<Span>, AllocError>
     requires few { length relocations.now ≤ 2 ^ 20 }
     ensures { IfOk result (λ spans. IsIndex reach relocations.now spans.items) }
 {

@@ -12,7 +12,7 @@ ghost use Rattle.sequence_match.specs.Faults.{IsLoose, IsOfSequence, IsStray};
 
 use crate::index::{Span, first_from, last_below};
 use crate::near::{field_near, is_bare_near};
-use elf_object::{Relocation, RelocationKind};
+use elf_object::{Relocation, RelocationKind, Relocs};
 use elf_records::relocation_row::{FieldValue, SequencePart, TableEntry};
 use sequence_forms::{Call, Cell, Form, Row, Second, Site, TO_END};
 
@@ -27,18 +27,18 @@ pub struct Indexes<'a> {
 
 /// The code of one section, and its relocations.
 #[derive(Clone, Copy)]
-pub struct Code<'a> {
+pub struct Code<'a, 'o> {
     pub section: u32,
     /// The bytes; empty for a section that is not code.
     pub bytes: &'a [u8],
-    pub relocations: &'a [Relocation],
+    pub relocations: &'a Relocs<'o>,
     /// For each symbol, whether it is the undefined `__tls_get_addr`.
     pub getters: &'a [bool],
     /// `None` if the relocations rise by offset as they stand, so that neighbours serve as an index.
     pub indexes: Option<Indexes<'a>>,
 }
 
-impl Code<'_> {
+impl Code<'_, '_> {
     /// The code's length fits in 64 bits. The call does nothing; it gives a proof this fact.
     fn length_fits(&self)
         ensures { length self.now.bytes.now < 2 ^ 64 }
@@ -223,7 +223,7 @@ fn has_call(code: &Code, second: Second, start: u64, near: u32) -> bool
         ↔ ((f : ℕ) × IsSecond (Some second) (Names code.now.getters.now) code.now.relocations.now start f) }
 {
     match code.field_over(start + second.at, near) {
-        Some(entry) => calls(second, code.getters, start, relocation_at(code, entry)),
+        Some(entry) => calls(second, code.getters, start, &relocation_at(code, entry)),
         None => false,
     }
 }
@@ -343,12 +343,11 @@ fn form_of_two(code: &Code, form: Form, other: Form, entry: u32, first: &Relocat
 }
 
 /// A relocation of the code, by its number.
-#[tactic(auto, using(crate::proofs::Entries::gives_entry))]
-fn relocation_at<'a>(code: &Code<'a>, entry: u32) -> &'a Relocation
+fn relocation_at(code: &Code, entry: u32) -> Relocation
     requires { entry < length code.now.relocations.now }
-    ensures { IsEntry code.now.relocations.now entry result.now }
+    ensures { IsEntry code.now.relocations.now entry result }
 {
-    &code.relocations[entry as usize]
+    code.relocations.at(entry as u64)
 }
 
 /// The form of the sequence that relocation number `entry` opens.
@@ -376,7 +375,7 @@ pub fn form_of(code: &Code, entry: u32) -> Option<Form>
     requires entry { entry < length code.now.relocations.now }
     ensures { MatchOption result (IsNoFirst code.now entry) (λ form. IsOpened code.now form entry) }
 {
-    form_opened_by(code, entry, relocation_at(code, entry))
+    form_opened_by(code, entry, &relocation_at(code, entry))
 }
 
 /// The sequence of this form that relocation number `entry` opens.
@@ -456,7 +455,7 @@ fn is_second_of_form(code: &Code, form: Form, entry: u32) -> bool
         return false;
     }
     let start = relocation.offset - second.at;
-    if !calls(second, code.getters, start, relocation) {
+    if !calls(second, code.getters, start, &relocation) {
         return false;
     }
     let left = (code.bytes.len() as u64).saturating_sub(start);
@@ -496,7 +495,12 @@ fn is_second_of(code: &Code, entry: u32, site: &Site) -> bool
     let Some(second) = site.form.row().second else {
         return false;
     };
-    calls(second, code.getters, site.start, relocation_at(code, entry))
+    calls(
+        second,
+        code.getters,
+        site.start,
+        &relocation_at(code, entry),
+    )
 }
 
 /// Whether a relocation is the second one of a sequence. `known` is a sequence to try first.

@@ -8,17 +8,17 @@ ghost use Rattle.sequence_match.specs.Code.{AreApart, AreBare, CoversIn, IsLastF
 ghost use Rattle.sequence_match.specs.Sites.{Covers};
 ghost use Rattle.sequence_match.specs.declared.index.Reach.TheVariants.{OfField};
 
-use elf_object::Relocation;
+use elf_object::{Relocation, Relocs};
 
 /// The width of the widest field, in bytes.
 const WIDEST: u64 = 8;
 
 /// Whether each relocation stands above the one before it.
-pub fn rise(relocations: &[Relocation]) -> bool
+pub fn rise(relocations: &Relocs) -> bool
     ensures { IsTrue result ↔ Rise relocations.now }
 {
     for index in 1..relocations.len() {
-        if relocations[index].offset <= relocations[index - 1].offset {
+        if relocations.at(index).offset <= relocations.at(index - 1).offset {
             return false;
         }
     }
@@ -27,7 +27,7 @@ pub fn rise(relocations: &[Relocation]) -> bool
 
 /// A number from which on all relocations stand above a place: the first such number from `near` on.
 #[inline(always)]
-fn first_above(relocations: &[Relocation], place: u64, near: u32) -> u32
+fn first_above(relocations: &Relocs, place: u64, near: u32) -> u32
     requires rise { Rise relocations.now }
     requires few { length relocations.now ≤ 2 ^ 20 }
     ensures end { result ≤ length relocations.now }
@@ -35,7 +35,7 @@ fn first_above(relocations: &[Relocation], place: u64, near: u32) -> u32
 {
     let count = relocations.len() as u32;
     for entry in near..count {
-        if place < relocations[entry as usize].offset {
+        if place < relocations.at(entry as u64).offset {
             return entry;
         }
     }
@@ -63,7 +63,7 @@ fn is_last_below(relocation: &Relocation, place: u64) -> bool
 /// The relocation whose field covers a place. All from number `end` on stand above it. It reads only relocations from
 /// `end` down to the first below the place that has a field, or that is at least [`WIDEST`] bytes below.
 #[inline(always)]
-fn field_below(relocations: &[Relocation], place: u64, end: u32) -> Option<u32>
+fn field_below(relocations: &Relocs, place: u64, end: u32) -> Option<u32>
     requires rise { Rise relocations.now }
     requires apart { AreApart relocations.now }
     requires end { end ≤ length relocations.now }
@@ -72,11 +72,11 @@ fn field_below(relocations: &[Relocation], place: u64, end: u32) -> Option<u32>
 {
     for step in 0..end {
         let entry = end - 1 - step;
-        let relocation = &relocations[entry as usize];
-        if covers(relocation, place) {
+        let relocation = relocations.at(entry as u64);
+        if covers(&relocation, place) {
             return Some(entry);
         }
-        if is_last_below(relocation, place) {
+        if is_last_below(&relocation, place) {
             return None;
         }
     }
@@ -85,7 +85,7 @@ fn field_below(relocations: &[Relocation], place: u64, end: u32) -> Option<u32>
 
 /// The relocation whose field covers a place. The search begins near number `near`.
 #[inline(always)]
-pub fn field_near(relocations: &[Relocation], place: u64, near: u32) -> Option<u32>
+pub fn field_near(relocations: &Relocs, place: u64, near: u32) -> Option<u32>
     requires rise { Rise relocations.now }
     requires apart { AreApart relocations.now }
     requires few { length relocations.now ≤ 2 ^ 20 }
@@ -108,7 +108,7 @@ fn covers_any(relocation: &Relocation, from: u64, to: u64) -> bool
 
 /// Whether no field covers a byte from `from` up to `to`. All relocations from number `end` on are at `to` or above.
 #[inline(always)]
-fn is_bare_below(relocations: &[Relocation], from: u64, to: u64, end: u32) -> bool
+fn is_bare_below(relocations: &Relocs, from: u64, to: u64, end: u32) -> bool
     requires rise { Rise relocations.now }
     requires apart { AreApart relocations.now }
     requires some { from < to }
@@ -117,11 +117,11 @@ fn is_bare_below(relocations: &[Relocation], from: u64, to: u64, end: u32) -> bo
     ensures { IsTrue result ↔ AreBare relocations.now from to }
 {
     for step in 0..end {
-        let relocation = &relocations[(end - 1 - step) as usize];
-        if covers_any(relocation, from, to) {
+        let relocation = relocations.at((end - 1 - step) as u64);
+        if covers_any(&relocation, from, to) {
             return false;
         }
-        if is_last_below(relocation, from) {
+        if is_last_below(&relocation, from) {
             return true;
         }
     }
@@ -130,7 +130,7 @@ fn is_bare_below(relocations: &[Relocation], from: u64, to: u64, end: u32) -> bo
 
 /// Whether no field covers a byte from `from` up to `to`. The search begins near number `near`.
 #[inline(always)]
-pub fn is_bare_near(relocations: &[Relocation], from: u64, to: u64, near: u32) -> bool
+pub fn is_bare_near(relocations: &Relocs, from: u64, to: u64, near: u32) -> bool
     requires rise { Rise relocations.now }
     requires apart { AreApart relocations.now }
     requires few { length relocations.now ≤ 2 ^ 20 }

@@ -1,7 +1,4 @@
-use Rattle.std.proofs.Common.{◌+◌, ◌∙◌, ◌++◌, ◌∷◌, ℕ, pos, List, [], get_or, sym, ap, subst, arith}
-use Rattle.std.proofs.lemmas.Option.{slice_get-get_or}
-use Rattle.elf_records.specs.declared.relocation.RelocationKind.TheVariants.{Nothing}
-use Rattle.elf_object.specs.declared.relocation.Relocation.{Relocation}
+use Rattle.std.proofs.Common.{◌+◌, ◌∙◌, ◌++◌, ◌∷◌, ℕ, List, [], sym, ap, subst, arith}
 use Rattle.sequence_match.specs.declared.index.Span.{Span}
 use Rattle.sequence_match.specs.Code.{AreSpans}
 use Rattle.sequence_match.proofs.Spans.{spans_more, spans_same}
@@ -12,9 +9,8 @@ pub loop-entry-preserved : goal.loop-entry-preserved
 loop-entry-preserved c =
     let n = c.loop-entry.entry in
     let xs = c.args.relocations.now in
-    let nothing : Relocation = record { offset = 0; kind = Nothing; symbol = 0; addend = pos 0 } in
-    let x : Relocation = get_or xs n nothing in
-    let entry = slice_get-get_or xs n nothing c.loop-entry-test.true in
+    let x = c.at-relocation.result in
+    let entry = c.at-relocation.ensures in
     let P : List Span → Type 0 = λ spans. AreSpans c.args.reach xs (n + 1) spans in
     let span : ℕ → Span = λ width. record { offset = x.offset; width = width; entry = n } in
     elim c.if-width-gt0.branch [

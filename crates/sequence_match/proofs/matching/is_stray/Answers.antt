@@ -4,5 +4,5 @@ use Rattle.sequence_match.proofs.matching.is_stray.Goals as goal
 
 pub returns-else-not-names_getter : goal.returns-else-not-names_getter
 returns-else-not-names_getter c =
-    stray_is c.args.code.now c.args.entry c.relocation_at-relocation.result.now c.is_second_by.result c.relocation_at-relocation.ensures c.in_default.not-Nothing
+    stray_is c.args.code.now c.args.entry c.relocation_at-relocation.result c.is_second_by.result c.relocation_at-relocation.ensures c.in_default.not-Nothing
     (c.names_getter.ensures.0 (search rules)) c.is_second_by.ensures

@@ -1,7 +1,4 @@
-use Rattle.std.proofs.Common.{◌-◌, ◌<◌, ℕ, get_or, pos, arith, rules}
-use Rattle.std.proofs.lemmas.Option.{slice_get-get_or}
-use Rattle.elf_records.specs.declared.relocation.RelocationKind.TheVariants.{Nothing}
-use Rattle.elf_object.specs.declared.relocation.Relocation.{Relocation}
+use Rattle.std.proofs.Common.{◌-◌, ◌<◌, ℕ, arith, rules}
 use Rattle.sequence_match.specs.Sites.{Covers}
 use Rattle.sequence_match.proofs.Nearby.{above_not, first_over, none_left, none_lower, none_seen, one_seen}
 use Rattle.sequence_match.proofs.Seconds.{none_where_false}
@@ -13,33 +10,25 @@ loop-step-init c = none_seen c.args.relocations.now (λ y. Covers y c.args.place
 pub loop-step-preserved : goal.loop-step-preserved
 loop-step-preserved c =
     let xs = c.args.relocations.now in
-    let n : ℕ = c.args.end - 1 - c.loop-step.step in
-    let nothing : Relocation = record { offset = 0; kind = Nothing; symbol = 0; addend = pos 0 } in
     let less : c.loop-step.step < c.args.end = omega arith in
-    let entry = slice_get-get_or xs n nothing (omega (arith, c.requires.end, less)) in
-    one_seen xs (λ y. Covers y c.args.place) c.args.end c.loop-step.step (get_or xs n nothing) less entry c.loop-step.invariant
+    one_seen xs (λ y. Covers y c.args.place) c.args.end c.loop-step.step c.at-relocation.result less c.at-relocation.ensures c.loop-step.invariant
     (none_where_false _ _ c.covers.ensures c.if-covers.false)
 
 pub returns-then-covers : goal.returns-then-covers
 returns-then-covers c =
     let xs = c.args.relocations.now in
     let n : ℕ = c.args.end - 1 - c.loop-step.step in
-    let nothing : Relocation = record { offset = 0; kind = Nothing; symbol = 0; addend = pos 0 } in
-    let less : c.loop-step.step < c.args.end = omega arith in
-    let entry = slice_get-get_or xs n nothing (omega (arith, c.requires.end, less)) in
-    first_over xs c.args.place n (get_or xs n nothing) c.requires.apart entry (c.covers.ensures.0 (search rules))
+    first_over xs c.args.place n c.at-relocation.result c.requires.apart c.at-relocation.ensures (c.covers.ensures.0 (search rules))
 
 pub returns-then-is_last_below : goal.returns-then-is_last_below
 returns-then-is_last_below c = λ f h.
     let xs = c.args.relocations.now in
     let n : ℕ = c.args.end - 1 - c.loop-step.step in
-    let nothing : Relocation = record { offset = 0; kind = Nothing; symbol = 0; addend = pos 0 } in
     let less : c.loop-step.step < c.args.end = omega arith in
-    let entry = slice_get-get_or xs n nothing (omega (arith, c.requires.end, less)) in
     let last = c.is_last_below.ensures.0 (search rules) in
-    none_left xs (λ y. Covers y c.args.place) c.args.end c.loop-step.step (get_or xs n nothing) less entry c.loop-step.invariant
+    none_left xs (λ y. Covers y c.args.place) c.args.end c.loop-step.step c.at-relocation.result less c.at-relocation.ensures c.loop-step.invariant
     (none_where_false _ _ c.covers.ensures c.if-covers.false)
-    (none_lower xs c.args.place n c.args.place (get_or xs n nothing) c.requires.rise c.requires.apart entry last (omega arith)) f h.0 h.1 h.2
+    (none_lower xs c.args.place n c.args.place c.at-relocation.result c.requires.rise c.requires.apart c.at-relocation.ensures last (omega arith)) f h.0 h.1 h.2
 
 pub returns : goal.returns
 returns c = λ f h. c.loop-step.invariant f h.0 (omega arith) h.1 h.2

@@ -1,7 +1,4 @@
-use Rattle.std.proofs.Common.{◌-◌, ◌<◌, ℕ, get_or, pos, arith, rules}
-use Rattle.std.proofs.lemmas.Option.{slice_get-get_or}
-use Rattle.elf_records.specs.declared.relocation.RelocationKind.TheVariants.{Nothing}
-use Rattle.elf_object.specs.declared.relocation.Relocation.{Relocation}
+use Rattle.std.proofs.Common.{◌-◌, ◌<◌, ℕ, arith, rules}
 use Rattle.sequence_match.specs.Code.{CoversIn}
 use Rattle.sequence_match.proofs.Nearby.{above_not_any, none_left, none_lower, none_seen, one_seen}
 use Rattle.sequence_match.proofs.Seconds.{none_where_false}
@@ -15,11 +12,8 @@ loop-step-init c =
 pub loop-step-preserved : goal.loop-step-preserved
 loop-step-preserved c =
     let xs = c.args.relocations.now in
-    let n : ℕ = c.args.end - 1 - c.loop-step.step in
-    let nothing : Relocation = record { offset = 0; kind = Nothing; symbol = 0; addend = pos 0 } in
     let less : c.loop-step.step < c.args.end = omega arith in
-    let entry = slice_get-get_or xs n nothing (omega (arith, c.requires.end, less)) in
-    one_seen xs (λ y. CoversIn y c.args.from c.args.to) c.args.end c.loop-step.step (get_or xs n nothing) less entry c.loop-step.invariant
+    one_seen xs (λ y. CoversIn y c.args.from c.args.to) c.args.end c.loop-step.step c.at-relocation.result less c.at-relocation.ensures c.loop-step.invariant
     (none_where_false _ _ c.covers_any.ensures c.if-covers_any.false)
 
 pub returns-then-covers_any : goal.returns-then-covers_any
@@ -28,11 +22,8 @@ returns-then-covers_any c = (
   λ bare.
       let xs = c.args.relocations.now in
       let n : ℕ = c.args.end - 1 - c.loop-step.step in
-      let nothing : Relocation = record { offset = 0; kind = Nothing; symbol = 0; addend = pos 0 } in
-      let less : c.loop-step.step < c.args.end = omega arith in
-      let entry = slice_get-get_or xs n nothing (omega (arith, c.requires.end, less)) in
       let here = c.covers_any.ensures.0 (search rules) in
-      absurd (bare here.0 here.1 here.2 n (get_or xs n nothing) entry here.3),
+      absurd (bare here.0 here.1 here.2 n c.at-relocation.result c.at-relocation.ensures here.3),
 )
 
 pub returns-then-is_last_below : goal.returns-then-is_last_below
@@ -40,13 +31,11 @@ returns-then-is_last_below c = (
   λ t k low high f y at covers.
       let xs = c.args.relocations.now in
       let n : ℕ = c.args.end - 1 - c.loop-step.step in
-      let nothing : Relocation = record { offset = 0; kind = Nothing; symbol = 0; addend = pos 0 } in
       let less : c.loop-step.step < c.args.end = omega arith in
-      let entry = slice_get-get_or xs n nothing (omega (arith, c.requires.end, less)) in
       let last = c.is_last_below.ensures.0 (search rules) in
-      none_left xs (λ y. CoversIn y c.args.from c.args.to) c.args.end c.loop-step.step (get_or xs n nothing) less entry c.loop-step.invariant
+      none_left xs (λ y. CoversIn y c.args.from c.args.to) c.args.end c.loop-step.step c.at-relocation.result less c.at-relocation.ensures c.loop-step.invariant
       (none_where_false _ _ c.covers_any.ensures c.if-covers_any.false)
-      (λ g z lower there h. none_lower xs c.args.from n h.0 (get_or xs n nothing) c.requires.rise c.requires.apart entry last h.1 g z lower there h.3)
+      (λ g z lower there h. none_lower xs c.args.from n h.0 c.at-relocation.result c.requires.rise c.requires.apart c.at-relocation.ensures last h.1 g z lower there h.3)
       f y at (k, low, high, covers),
   λ h. (search rules),
 )
