@@ -1,6 +1,6 @@
 //! What a thread does in a turn.
 
-ghost use Rattle.std.specs.Prelude.{◌≡◌, Bool, false, List, IfOk};
+ghost use Rattle.std.specs.Prelude.{◌≡◌, Bool, false, List, OnOk};
 
 use std::alloc::AllocError;
 
@@ -23,8 +23,8 @@ pub trait TurnTaker<S>: Drop {
         ensures { result ≡ is_done self.now };
 
     /// Takes the thread's next turn. Fails only when memory runs out.
-    fn turn(self, shared: &mut S) -> Result<Self, AllocError>
-        requires going { is_done self ≡ false }
-        requires can { can_turn shared.old self }
-        ensures { IfOk result (λ after. turned shared.old self shared.new after) };
+    fn turn(&mut self, shared: &mut S) -> Result<(), AllocError>
+        requires going { is_done self.old ≡ false }
+        requires can { can_turn shared.old self.old }
+        ensures { OnOk result (turned shared.old self.old shared.new self.new) };
 }

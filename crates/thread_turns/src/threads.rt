@@ -27,8 +27,7 @@ impl<S: Drop, T: TurnTaker<S>> Threads<S, T> {
         }
     }
 
-    /// Takes a turn of a thread that has something left to do. The last thread stands in its place for so long, so
-    /// that no other moves.
+    /// Takes a turn of a thread that has something left to do.
     fn go(&mut self, thread: u32) -> Result<(), AllocError>
         requires laws { StayFit T.can_turn T.turned T.fit }
         requires fit { T.fit self.old.shared self.old.threads.items }
@@ -36,11 +35,7 @@ impl<S: Drop, T: TurnTaker<S>> Threads<S, T> {
         ensures { OnOk result (TakesTurns T.is_done T.turned (progress self.old) (thread ∷ []) (progress self.new)) }
     {
         let index = index_of(thread);
-        let before = self.threads.swap_remove(index);
-        let last = self.threads.len();
-        let after = before.turn(&mut self.shared)?;
-        self.threads.push(after)?;
-        self.threads.swap(index, last);
+        self.threads[index].turn(&mut self.shared)?;
         Ok(())
     }
 
@@ -56,7 +51,7 @@ impl<S: Drop, T: TurnTaker<S>> Threads<S, T> {
         self.go(thread)
     }
 
-    /// Takes turns of threads, in this order. Fails only when memory runs out; then a thread may be gone.
+    /// Takes turns of threads, in this order. Fails only when memory runs out, in the middle of a turn.
     pub fn take_order(&mut self, order: &[u32]) -> Result<(), AllocError>
         requires laws { StayFit T.can_turn T.turned T.fit }
         requires fit { T.fit self.old.shared self.old.threads.items }
