@@ -1,8 +1,6 @@
 -- Lists side by side, and an element of a list that is replaced.
-use Rattle.std.proofs.Common.{◌≡◌, ◌≢◌, ◌<◌, ◌+◌, ◌-◌, ◌++◌, ◌⊎◌, inl, inr, get_or, ℕ, zero, suc, List, [], ◌∷◌, length, map, take, drop, Some, None, refl, sym, ap, subst, ◌∙◌, append-nil, append_assoc, replicate, arith}
+use Rattle.std.proofs.Common.{◌≡◌, ◌+◌, ◌++◌, ℕ, zero, suc, List, [], ◌∷◌, length, map, take, drop, Some, None, refl, sym, ap, subst, ◌∙◌, append-nil, append_assoc, replicate, arith}
 use Rattle.std.specs.Prelude.{slice_get, slice_set}
-use Rattle.std.specs.List.{SameBelow, SwappedAt}
-use Rattle.std.proofs.lemmas.List.{get_or-set_other, get_or-set_same, same_lists}
 use Rattle.thread_blocks.specs.Turns.{enough, finishing}
 
 module _ {X : Type 0} where
@@ -19,11 +17,6 @@ module _ {X : Type 0} where
   none_drop (y ∷ xs) zero none = absurd cc
   none_drop (y ∷ xs) (suc k) none = none_drop xs k none
 
-  pub within : (xs : List X) (k : ℕ) (x : X) → slice_get xs k ≡ Some x → k < length xs
-  within [] k x at = absurd cc
-  within (y ∷ xs) zero x at = omega arith
-  within (y ∷ xs) (suc k) x at = let less = within xs k x at in omega arith
-
   -- ---- in its place another
 
   pub set_same : (xs : List X) (k : ℕ) (x : X) → slice_get xs k ≡ Some x → slice_set xs k x ≡ xs
@@ -35,29 +28,6 @@ module _ {X : Type 0} where
   set-length [] k x = refl
   set-length (y ∷ xs) zero x = refl
   set-length (y ∷ xs) (suc k) x = ap suc (set-length xs k x)
-
-  -- taken out, while the last one is in its place, and put back
-  pub put_back : (xs rest ys zs : List X) (k m n : ℕ) (x : X) → m ≡ length xs → n + 1 ≡ m → length zs ≡ m → k < length xs
-      → ((d : X) → k + 1 < m → get_or rest k d ≡ get_or xs (m - 1) d)
-      → ((j : ℕ) (d : X) → j ≢ k → j + 1 < m → get_or rest j d ≡ get_or xs j d)
-      → SameBelow rest ys n → ((d : X) → get_or ys n d ≡ x) → SwappedAt ys zs k n → zs ≡ slice_set xs k x
-  put_back xs rest ys zs k m n x many short long less moved stays front last swapped =
-      same_lists zs (slice_set xs k x) (long ∙ many ∙ sym (set-length xs k x))
-      (λ j d low. here j d (omega (arith, low, long)) (same_or j k)) where
-        same_or : (j k : ℕ) → (j ≡ k) ⊎ (j ≢ k)
-        same_or j k = grind arith
-
-        other : (j : ℕ) (d : X) → j < m → j ≢ k → (j ≡ n) ⊎ (j ≢ n) → get_or zs j d ≡ get_or xs j d
-        other j d low ne (inl is) =
-            let end : m - 1 ≡ j = omega (arith, short, is) in
-            rw is (swapped.1 d) ∙ front k d (omega (arith, less, many, ne, is, short))
-            ∙ moved d (omega (arith, less, many, short, ne, is)) ∙ ap (λ i. get_or xs i d) end
-        other j d low ne (inr not) =
-            swapped.2 j d ne not ∙ front j d (omega (arith, low, not, short)) ∙ stays j d ne (omega (arith, low, short, not))
-
-        here : (j : ℕ) (d : X) → j < m → (j ≡ k) ⊎ (j ≢ k) → get_or zs j d ≡ get_or (slice_set xs k x) j d
-        here j d low (inl is) = rw is (swapped.0 d ∙ last d ∙ sym (get_or-set_same xs k x d less))
-        here j d low (inr ne) = other j d low ne (same_or j n) ∙ sym (get_or-set_other xs k j x d ne)
 
 module _ {X Y : Type 0} where
   -- of two lists as long as each other

@@ -2,12 +2,12 @@
 use Rattle.std.proofs.Common.{◌≡◌, ◌++◌, ◌+◌, ◌-◌, ◌<◌, ◌≤◌, ℕ, zero, suc, Bool, true, false, List, [], ◌∷◌, add-one, arith, get_or, length, take, replicate, Option, Some, None, refl, sym, ap, subst, ◌∙◌}
 use Rattle.std.proofs.lemmas.List.{replicate-append-replicate, take_more}
 use Rattle.std.specs.Prelude.{nat_lt, slice_get, slice_set}
-use Rattle.std.proofs.lemmas.Option.{slice_get-get_or}
+use Rattle.std.proofs.lemmas.Option.{slice_get-get_or, slice_get_within}
 use native.Mathlib.Nat.{mul-suc}
 use Rattle.job_text.specs.Threads.{of_thread}
 use Rattle.thread_blocks.specs.Turns.{at_number, enough, finishing}
 use Rattle.thread_turns.specs.Orders.{HasTurned, Progress, StayFit, TakesOne, TakesOwn, TakesTurns, is_over, is_thread_over}
-use Rattle.thread_turns.proofs.Lists.{finishing_more, set-length, within}
+use Rattle.thread_turns.proofs.Lists.{finishing_more, set-length}
 
 -- ---- threads of definitions that the code stands for
 
@@ -90,7 +90,7 @@ module _ {S R : Type 0} (is_done : R → Bool) (turned : S → R → S → R →
   -- a thread that is not over is there
   going_at : (runs : List R) (k : ℕ) (r : Option R) → slice_get runs k ≡ r → is_over is_done r ≡ false → k < length runs
   going_at runs k None at going = absurd cc
-  going_at runs k (Some r) at going = within runs k r at
+  going_at runs k (Some r) at going = slice_get_within runs k r at
 
   pub going_there : (runs : List R) (thread k : ℕ) → k ≡ thread - 1 → is_thread_over is_done runs thread ≡ false
       → (thread ≡ suc k) × (k < length runs)
