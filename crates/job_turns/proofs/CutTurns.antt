@@ -1,7 +1,7 @@
 -- What a turn of a runner needs and leaves, from what the registry answers: the events that the thread has not seen, with
 -- its own event cut off.
 use Rattle.std.proofs.Common.{◌≡◌, ◌+◌, ◌≤◌, ◌++◌, ℕ, true, List, [], ◌∷◌, length, take, drop, Option, Some, None, Result, Ok, Err, refl, sym, ap, subst, ◌∙◌, length-append, arith}
-use Rattle.std.specs.Prelude.{IfOk, OnOk, option_map}
+use Rattle.std.specs.Prelude.{OnOk, option_map}
 use Rattle.std.proofs.lemmas.Bool.{and_parts}
 use Rattle.std.proofs.Math.Seq.{drop-append_seam, take-append_seam, take-length}
 use Rattle.loaded_modules.specs.Images.{infos, last_offset}
@@ -103,13 +103,13 @@ module _ (h : History) (d : List Piece) (r : Run) (can : CanTurn h d r) (at : �
           → answer ≡ answer_to (after r.kept.vector.past (take (length known) news)) asked
       cut_answer answer asked is same = is ∙ rw (cut_is, left_is, same) refl
 
-      pub cut_turned : {X : Type 0} (d' : List Piece) (result : Result Run X) → thread ≡ r.kept.vector.thread → ask ≡ ask_of r
-          → IfOk result (λ after. TakesTurn r (take (length known) news) d after d') → OnOk result (length d' ≡ length d)
-          → IfOk result (λ after. Turned h d r h' d' after)
-      cut_turned d' (Ok after) thread_is ask_is takes long = record {
+      pub cut_turned : {T E : Type 0} (d' : List Piece) (r' : Run) (result : Result T E) → thread ≡ r.kept.vector.thread
+          → ask ≡ ask_of r → OnOk result (TakesTurn r (take (length known) news) d r' d') → OnOk result (length d' ≡ length d)
+          → OnOk result (Turned h d r h' d' r')
+      cut_turned d' r' (Ok done) thread_is ask_is takes long = record {
         adds = subst (λ n. AddsAsked n (ask_of r) h h') thread_is (subst (λ a. AddsAsked thread a h h') ask_is adds);
         pieces_are = long;
-        takes = subst (λ rest. TakesTurn r rest d after d')
+        takes = subst (λ rest. TakesTurn r rest d r' d')
             (cut_is ∙ sym (rest_is r h.events can.front can.rest can.events_are can.has_seen)) takes;
       }
-      cut_turned d' (Err why) thread_is ask_is takes long = tt
+      cut_turned d' r' (Err why) thread_is ask_is takes long = tt

@@ -1,21 +1,23 @@
 -- What a line comes to that opens or closes its image.
 use Rattle.std.proofs.Common.{◌≡◌, ◌∙◌, ◌+◌, ◌⊎◌, ℕ, Bool, true, false, List, [], ◌∷◌, Option, Some, None, Result, Ok, Err, length, refl, sym, ap, subst, inl, inr, arith}
-use Rattle.std.specs.Prelude.{IfOk, is_some, nat_lt, if◌then◌else◌}
+use Rattle.std.specs.Prelude.{is_some, nat_lt, option_map, if◌then◌else◌}
 use Rattle.std.proofs.lemmas.Bool.{lt-ltb}
 use Rattle.std.proofs.lemmas.List.{get_or-set_same, length-set}
 use Rattle.guest_arithmetic.specs.Plain.{plain_operations}
 use Rattle.guest_operands.specs.declared.state.State.{State}
+use Rattle.job_text.specs.declared.thread_lines.Action.{Action}
 use Rattle.job_text.specs.declared.thread_lines.Action.TheVariants.{Call, Open, Close, Peek}
 use Rattle.loaded_modules.specs.declared.instance.Instance.{Instance}
 use Rattle.loaded_modules.specs.Images.{JobImages, infos}
 use Rattle.module_data.specs.Pieces.{Piece, loaded as with_piece}
-use Rattle.module_table.specs.declared.events.CloseRefusal.{CloseRefusal}
+use Rattle.module_table.specs.declared.events.Closed.{Closed}
 use Rattle.module_table.specs.declared.events.Event.{Event}
-use Rattle.module_table.specs.declared.events.OpenRefusal.{OpenRefusal}
+use Rattle.module_table.specs.declared.events.Opened.{Opened}
 use Rattle.module_table.specs.History.{unless}
 use Rattle.module_table.specs.Modules.{is_loaded, no_module}
 use Rattle.module_table.specs.Past.{Past, accepts, after_one, close_refusal, is_legal, module_of, open_refusal, opened, retained}
 use Rattle.module_table.proofs.Steps.{loaded_within}
+use Rattle.transcript_text.specs.declared.outcomes.LineRefusal.{LineRefusal}
 use Rattle.transcript_text.specs.declared.outcomes.Outcome.TheVariants.{Closed as ClosedSo, Opened as OpenedSo, Refused}
 use Rattle.thread_blocks.specs.declared.asked.Asked.{Asked}
 use Rattle.thread_blocks.specs.Held.{loaded_at, loaded as loading, looked, looked_at}
@@ -28,6 +30,9 @@ use Rattle.thread_vector.specs.Holding.{IsLeftBy}
 use Rattle.thread_vector.specs.Vectors.{loaded_as}
 use Rattle.thread_vector.proofs.Events.{shape_of}
 use Rattle.thread_vector.proofs.Facts.{facts}
+use Rattle.job_turns.specs.declared.asking.LineAnswer.{LineAnswer}
+use Rattle.job_turns.specs.declared.asking.LineAnswer.TheVariants.{Opened as OpenAnswer, Closed as CloseAnswer}
+use Rattle.job_turns.specs.Asking.{answer_to, ask_by, closed_at, opened_at}
 use Rattle.job_turns.specs.Starting.{BeginsCall, BeginsClose, BeginsOpen, BeginsPeek, LoadsNew, Sees, Started, Starts}
 use Rattle.thread_turns.specs.declared.parts.Started.TheVariants.{Says}
 use Rattle.thread_space.specs.Kept.{HasSeen, Kept, held_at, owned_of}
@@ -41,9 +46,21 @@ use Rattle.thread_space.proofs.Looks.{see_kept}
 
 -- ** answers
 
-pub accepted_by : {A R : Type 0} (o : Option R) (answer said : A) → Ok said ≡ unless o answer → (o ≡ None) × (said ≡ answer)
-accepted_by None answer said is = (refl, cc)
-accepted_by (Some why) answer said is = absurd (cc is)
+refused_by : {A R S : Type 0} (f : R → S) (o : Option R) (answer : A) (said : S) → Err said ≡ unless (option_map f o) answer
+    → (why : R) × (o ≡ Some why) × (said ≡ f why)
+refused_by f None answer said is = absurd cc
+refused_by f (Some why) answer said is = (why, refl, cc)
+
+-- what the registry said of a line that opens or closes its image
+pub open_said : (p : Past) (number image : ℕ) (action : Action) (answer : Option LineAnswer) → action ≡ Open
+    → answer ≡ answer_to p (ask_by number image action)
+    → answer ≡ Some (OpenAnswer (unless (option_map refused_open (open_refusal p image)) (opened_at p image)))
+open_said p number image action answer opens is = is ∙ ap (λ a. answer_to p (ask_by number image a)) opens
+
+pub close_said : (p : Past) (number image : ℕ) (action : Action) (answer : Option LineAnswer) → action ≡ Close
+    → answer ≡ answer_to p (ask_by number image action)
+    → answer ≡ Some (CloseAnswer (unless (option_map refused_close (close_refusal p image)) (closed_at p image)))
+close_said p number image action answer closes is = is ∙ ap (λ a. answer_to p (ask_by number image a)) closes
 
 pub open_accepts : (p : Past) (e : Event) → e.opens ≡ true → open_refusal p e.image ≡ None → accepts p e ≡ true
 unfolding accepts
@@ -121,9 +138,13 @@ module _ (old mid : Kept) (e : Event) (sees : Sees old e mid) (startups : HasSta
 abbrev own_event : Kept → Line → Bool → Event
 own_event k line opens = event_at k.vector.thread line.number opens line.told.image
 
-pub close_refused : (k : Kept) (line : Line) (refusal : CloseRefusal) → close_refusal k.vector.past line.told.image ≡ Some refusal
-    → BeginsClose line k (Says (Refused (refused_close refusal))) k
-close_refused k line refusal is = rw is (over_at_once _ k (Refused (refused_close refusal)) (λ seen h has_seen. refl))
+pub close_refused : (k : Kept) (line : Line) (answer : Closed) (said : LineRefusal)
+    → Err said ≡ unless (option_map refused_close (close_refusal k.vector.past line.told.image)) answer
+    → BeginsClose line k (Says (Refused said)) k
+close_refused k line answer said is =
+    let why = refused_by refused_close (close_refusal k.vector.past line.told.image) answer said is in
+    subst (λ said. BeginsClose line k (Says (Refused said)) k) (sym why.2)
+    (rw why.1 (over_at_once _ k (Refused (refused_close why.0)) (λ seen h has_seen. refl)))
 
 pub close_begins : (old new : Kept) (line : Line) → close_refusal old.vector.past line.told.image ≡ None → HasStartups old.vector
     → Sees old (own_event old line false) new → BeginsClose line old (Says ClosedSo) new
@@ -137,9 +158,13 @@ close_begins old new line none startups sees = rw none (record {
 
 -- ** opens
 
-pub open_refused : (k : Kept) (line : Line) (refusal : OpenRefusal) → open_refusal k.vector.past line.told.image ≡ Some refusal
-    → BeginsOpen line k (Says (Refused (refused_open refusal))) k
-open_refused k line refusal is = rw is (over_at_once _ k (Refused (refused_open refusal)) (λ seen h has_seen. refl))
+pub open_refused : (k : Kept) (line : Line) (answer : Opened) (said : LineRefusal)
+    → Err said ≡ unless (option_map refused_open (open_refusal k.vector.past line.told.image)) answer
+    → BeginsOpen line k (Says (Refused said)) k
+open_refused k line answer said is =
+    let why = refused_by refused_open (open_refusal k.vector.past line.told.image) answer said is in
+    subst (λ said. BeginsOpen line k (Says (Refused said)) k) (sym why.2)
+    (rw why.1 (over_at_once _ k (Refused (refused_open why.0)) (λ seen h has_seen. refl)))
 
 was_loaded : (t : Bool) (x : Instance) → is_some (if t then Some x else None) ≡ t
 was_loaded true x = refl
@@ -271,7 +296,3 @@ module _ (line : Line) (old new : Kept) (result : Started) where
       (λ seen has_seen. rw is (ap (λ p. unless_refused (close_refusal p line.told.image) (own_event old line false)) (left_is old seen has_seen)))
       (λ seen h has_seen. rw is
       (ap (λ p. begun_close plain_operations (job_loads old.vector.images) (shows (job_loads old.vector.images) old.vector.thread) old.vector.thread line seen h (close_refusal p line.told.image)) (left_is old seen has_seen)))
-
-pub if_ok : {A E : Type 0} (P Q : A → Type 0) (r : Result A E) → ((x : A) → P x → Q x) → IfOk r P → IfOk r Q
-if_ok P Q (Ok x) on is = on x is
-if_ok P Q (Err e) on is = is

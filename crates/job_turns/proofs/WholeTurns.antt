@@ -72,7 +72,7 @@ taken_same lines begun fuel said points (Waits (machine, asked)) k r is =
 
 module _ (k put k1 : Kept) (events : List Event) (d : List Piece) (given : HasData k d put) (looks : Looks put events k1)
     (left : IsLeftBy k1.vector.images k1.vector.past) (startups : HasStartups k.vector) where
-  images_is : k1.vector.images ≡ k.vector.images
+  pub images_is : k1.vector.images ≡ k.vector.images
   images_is = looks.leaves.images ∙ ap (λ (v : Vector). v.images) given.vector
 
   thread_is : k1.vector.thread ≡ k.vector.thread

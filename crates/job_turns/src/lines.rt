@@ -1,18 +1,17 @@
 //! The first look of a thread's line.
 
-ghost use Rattle.std.specs.Prelude.{◌≡◌, ◌≤◌, ◌<◌, ◌+◌, ◌-◌, ◌^◌, ℕ, true, None, Some, Result, IfOk, OnOk, option_map};
+ghost use Rattle.std.specs.Prelude.{◌≡◌, ◌≤◌, ◌<◌, ◌+◌, ◌-◌, ◌^◌, ℕ, true, None, Some, Result, IfOk, OnErr, OnOk};
 ghost use Rattle.guest_arithmetic.specs.Plain.{plain_operations};
 ghost use Rattle.loaded_modules.specs.Images.{infos};
-ghost use Rattle.module_table.specs.History.{unless};
 ghost use Rattle.module_table.specs.Past.{accepts, close_refusal, module_of, open_refusal, opened};
 ghost use Rattle.thread_blocks.specs.Instances.{loaded_instance};
-ghost use Rattle.thread_blocks.specs.Lines.{event_at, refused_close, refused_open};
+ghost use Rattle.thread_blocks.specs.Lines.{event_at};
 ghost use Rattle.thread_blocks.specs.MachineTurns.{call_start};
-ghost use Rattle.job_turns.specs.Asking.{answer_to, ask_by, closed_at, opened_at};
+ghost use Rattle.job_turns.specs.Asking.{answer_to, ask_by};
 ghost use Rattle.thread_space.specs.Live.{IsLive};
 ghost use Rattle.job_turns.specs.Starting.{BeginsCall, BeginsClose, BeginsOpen, BeginsPeek, LoadsNew, ReachesLive, Sees, Starts};
 ghost use Rattle.job_turns.specs.Starting.{part_shown, shown_of};
-ghost use Rattle.job_turns.specs.Taking.{CanBegin};
+ghost use Rattle.job_turns.specs.Taking.{CanBegin, KeepsJob};
 ghost use Rattle.thread_turns.specs.declared.parts.Started.TheVariants.{Says};
 ghost use Rattle.thread_vector.specs.Vectors.{held};
 
@@ -61,7 +60,9 @@ fn call(
     given: Arguments,
 ) -> Result<Started, AllocError>
     requires { names.now ≡ space.old.vector.images }
-    ensures { IfOk result (λ started. BeginsCall image symbol.now given.a given.b given.c space.old started space.new) }
+    ensures begins { IfOk result
+        (λ started. BeginsCall image symbol.now given.a given.b given.c space.old started space.new) }
+    ensures err { OnErr result (space.new ≡ space.old) }
 {
     let Some(instance) = space.instance(image) else {
         return Ok(refused(LineRefusal::NotOpen));
@@ -85,7 +86,9 @@ fn see(
     requires accepted { accepts space.old.vector.past
         (event_at space.old.vector.thread number opens line.now.image) ≡ true }
     requires room { space.old.vector.past.seen + 1 < 2 ^ 62 }
-    ensures { OnOk result (Sees space.old (event_at space.old.vector.thread number opens line.now.image) space.new) }
+    ensures sees { OnOk result
+        (Sees space.old (event_at space.old.vector.thread number opens line.now.image) space.new) }
+    ensures err { OnErr result (space.new ≡ space.old) }
 {
     let event = Event {
         thread: space.thread(),
@@ -101,9 +104,10 @@ fn see(
 
 /// Fills the data of an image, unless it was loaded before.
 fn load_new(space: &mut ThreadSpace, was: bool, image: u32) -> Result<(), AllocError>
-    ensures { OnOk result (LoadsNew was
+    ensures loads { OnOk result (LoadsNew was
         (loaded_instance (infos space.old.vector.images) image (module_of space.old.vector.past image))
         space.old space.new) }
+    ensures err { OnErr result (space.new ≡ space.old) }
 {
     if !was {
         if let Some(instance) = space.instance(image) {
@@ -114,7 +118,7 @@ fn load_new(space: &mut ThreadSpace, was: bool, image: u32) -> Result<(), AllocE
 }
 
 /// Does an open that was accepted: the thread sees it, and a load fills the data of the instance.
-fn open_accepted(
+fn open(
     space: &mut ThreadSpace,
     number: u32,
     line: &ThreadLine,
@@ -123,8 +127,9 @@ fn open_accepted(
     requires accepted { open_refusal space.old.vector.past line.now.image ≡ None }
     requires instance { instance ≡ (module_of (opened space.old.vector.past line.now.image) line.now.image).instance }
     requires ready { CanBegin space.old }
-    ensures { IfOk result
+    ensures begins { IfOk result
         (λ started. BeginsOpen (record { number = number; told = line.now }) space.old started space.new) }
+    ensures err { OnErr result (KeepsJob space.old space.new) }
 {
     let was = space.instance(line.image).is_some();
     see(space, number, line, true)?;
@@ -132,57 +137,16 @@ fn open_accepted(
     Ok(Started::Says(Outcome::Opened(instance)))
 }
 
-/// Does an open as the registry answered it.
-fn open(
-    space: &mut ThreadSpace,
-    number: u32,
-    line: &ThreadLine,
-    answer: Result<Opened, LineRefusal>,
-) -> Result<Started, AllocError>
-    requires answer { answer ≡ unless (option_map refused_open (open_refusal space.old.vector.past line.now.image))
-        (opened_at space.old.vector.past line.now.image) }
-    requires ready { CanBegin space.old }
-    ensures { IfOk result
-        (λ started. BeginsOpen (record { number = number; told = line.now }) space.old started space.new) }
-{
-    match answer {
-        Ok(opened) => open_accepted(space, number, line, opened.instance),
-        Err(refusal) => Ok(refused(refusal)),
-    }
-}
-
 /// Does a close that was accepted.
-fn close_accepted(
-    space: &mut ThreadSpace,
-    number: u32,
-    line: &ThreadLine,
-) -> Result<Started, AllocError>
+fn close(space: &mut ThreadSpace, number: u32, line: &ThreadLine) -> Result<Started, AllocError>
     requires accepted { close_refusal space.old.vector.past line.now.image ≡ None }
     requires ready { CanBegin space.old }
-    ensures { IfOk result
+    ensures begins { IfOk result
         (λ started. BeginsClose (record { number = number; told = line.now }) space.old started space.new) }
+    ensures err { OnErr result (space.new ≡ space.old) }
 {
     see(space, number, line, false)?;
     Ok(Started::Says(Outcome::Closed))
-}
-
-/// Does a close as the registry answered it.
-fn close(
-    space: &mut ThreadSpace,
-    number: u32,
-    line: &ThreadLine,
-    answer: Result<Closed, LineRefusal>,
-) -> Result<Started, AllocError>
-    requires answer { answer ≡ unless (option_map refused_close (close_refusal space.old.vector.past line.now.image))
-        (closed_at space.old.vector.past line.now.image) }
-    requires ready { CanBegin space.old }
-    ensures { IfOk result
-        (λ started. BeginsClose (record { number = number; told = line.now }) space.old started space.new) }
-{
-    match answer {
-        Ok(_) => close_accepted(space, number, line),
-        Err(refusal) => Ok(refused(refusal)),
-    }
 }
 
 // ** peeks
@@ -190,7 +154,8 @@ fn close(
 /// Reaches the block of a live instance.
 fn reach(space: &mut ThreadSpace, instance: &Instance) -> Result<(), AllocError>
     requires { IsLive space.old.vector.images space.old.vector.past instance.now }
-    ensures { OnOk result (ReachesLive space.old instance.now space.new) }
+    ensures ok { OnOk result (ReachesLive space.old instance.now space.new) }
+    ensures err { OnErr result (space.new ≡ space.old) }
 {
     space.history_is_lawful();
     space.reach(instance.number)?;
@@ -239,8 +204,9 @@ fn peek(
     size: u32,
 ) -> Result<Started, AllocError>
     requires { names.now ≡ space.old.vector.images }
-    ensures { IfOk result (λ started. (number : ℕ)
+    ensures begins { IfOk result (λ started. (number : ℕ)
         → BeginsPeek (record { number = number; told = line.now }) symbol.now size space.old started space.new) }
+    ensures err { OnErr result (KeepsJob space.old space.new) }
 {
     let Some(instance) = space.instance(line.image) else {
         return Ok(refused(LineRefusal::NotOpen));
@@ -285,8 +251,9 @@ pub(crate) fn begin(
     requires names { names.now ≡ space.old.vector.images }
     requires answer { answer ≡ answer_to space.old.vector.past (ask_by number line.now.image line.now.action) }
     requires ready { CanBegin space.old }
-    ensures { IfOk result (λ started. Starts (record { number = number; told = line.now })
-        space.old started space.new) }
+    ensures starts { IfOk result
+        (λ started. Starts (record { number = number; told = line.now }) space.old started space.new) }
+    ensures err { OnErr result (KeepsJob space.old space.new) }
 {
     match &line.action {
         Action::Call { symbol, a, b, c } => call(
@@ -300,8 +267,14 @@ pub(crate) fn begin(
                 c: *c,
             },
         ),
-        Action::Open => open(space, number, line, open_answer(answer)),
-        Action::Close => close(space, number, line, close_answer(answer)),
+        Action::Open => match open_answer(answer) {
+            Ok(opened) => open(space, number, line, opened.instance),
+            Err(refusal) => Ok(refused(refusal)),
+        },
+        Action::Close => match close_answer(answer) {
+            Ok(_) => close(space, number, line),
+            Err(refusal) => Ok(refused(refusal)),
+        },
         Action::Peek { symbol, length } => peek(
             space,
             names,

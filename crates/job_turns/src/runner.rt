@@ -5,7 +5,6 @@ ghost use Rattle.module_table.specs.Past.{after, is_legal};
 ghost use Rattle.thread_vector.specs.Holding.{IsLeftBy};
 ghost use Rattle.job_turns.specs.Alone.{TakesOwnTurn, has_data};
 ghost use Rattle.job_turns.specs.Asking.{answer_to, ask_by, ask_next};
-ghost use Rattle.thread_space.specs.Live.{HasStartups};
 ghost use Rattle.job_turns.specs.Standing.{IsFirstRun, IsGoing, TakesTurn, ask_of};
 ghost use Rattle.job_turns.specs.Taking.{BeginsLine, CanBegin, HasStepsLeft, ResumesLine, run_after};
 
@@ -85,99 +84,6 @@ fn ask_next(number: u32, line: Option<&ThreadLine>) -> Ask
 /// The lines of a thread, and those of the transcript that are over.
 type Script<'j> = thread_turns::Script<'j, Vec<Line>>;
 
-/// Rebuilds the runner after a turn. `points` are the event counts that the line's looks saw.
-fn ended<'j, 'n, 'm>(
-    mut script: Script<'j>,
-    names: &'n JobNames<'m>,
-    space: ThreadSpace<'m>,
-    points: Vec<u64>,
-    taken: Taken,
-) -> Result<Runner<'j, 'n, 'm>, AllocError>
-    requires names { names.now ≡ space.vector.images }
-    requires startups { HasStartups space.vector }
-    requires fuel { script.fuel < 2 ^ 32 }
-    requires lines { length script.lines.now < 2 ^ 31 }
-    requires begun { script.begun ≤ length script.lines.now }
-    requires steps { HasStepsLeft (4 * script.fuel) taken }
-    ensures { IfOk result (λ r. r ≡ run_after script.entry.lines.now script.entry.begun script.entry.fuel
-        script.entry.said.items points.items taken space.entry) }
-{
-    let call = match taken {
-        Taken::Over(outcome) => {
-            let points = Points::new(points);
-            script.said.push(Line { points, outcome })?;
-            None
-        }
-        Taken::Waits((machine, asked)) => Some(Pending {
-            machine,
-            asked,
-            points,
-        }),
-    };
-    Ok(Runner {
-        script,
-        names,
-        space,
-        call,
-    })
-}
-
-/// Begins the next line of a thread that has looked and holds the data.
-fn begin_line<'j, 'n, 'm>(
-    mut script: Script<'j>,
-    names: &'n JobNames<'m>,
-    mut space: ThreadSpace<'m>,
-    line: &ThreadLine,
-    answer: Option<LineAnswer>,
-    pieces: &mut Data,
-) -> Result<Runner<'j, 'n, 'm>, AllocError>
-    requires names { names.now ≡ space.vector.images }
-    requires fuel { script.fuel < 2 ^ 32 }
-    requires lines { length script.lines.now < 2 ^ 31 }
-    requires begun { script.begun < length script.lines.now }
-    requires ready { CanBegin space }
-    requires answer { answer
-        ≡ answer_to space.vector.past (ask_by (script.begun + 1) line.now.image line.now.action) }
-    ensures { IfOk result (λ r. BeginsLine script.entry.lines.now script.entry.begun script.entry.fuel line.now
-        space.entry script.entry.said.items r pieces.new) }
-{
-    let point = space.seen();
-    let points = vec![in script.alloc; point]?;
-    script.begun += 1;
-    let number = script.begun as u32;
-    let taken = take_begin(&mut space, names, number, line, answer, script.fuel)?;
-    *pieces = space.take_data();
-    ended(script, names, space, points, taken)
-}
-
-/// Goes on with a call of a thread that has looked and holds the data.
-fn resume_line<'j, 'n, 'm>(
-    script: Script<'j>,
-    names: &'n JobNames<'m>,
-    mut space: ThreadSpace<'m>,
-    call: Pending,
-    pieces: &mut Data,
-) -> Result<Runner<'j, 'n, 'm>, AllocError>
-    requires names { names.now ≡ space.vector.images }
-    requires startups { HasStartups space.vector }
-    requires fuel { script.fuel < 2 ^ 32 }
-    requires lines { length script.lines.now < 2 ^ 31 }
-    requires begun { script.begun ≤ length script.lines.now }
-    requires steps { call.machine.taken < 4 * script.fuel }
-    ensures { IfOk result (λ r. ResumesLine script.entry.lines.now script.entry.begun script.entry.fuel
-        space.entry script.entry.said.items call r pieces.new) }
-{
-    let Pending {
-        machine,
-        asked,
-        mut points,
-    } = call;
-    points.push(space.seen())?;
-    let taken = take_resume(&mut space, machine, asked, script.fuel)?;
-    *pieces = space.take_data();
-    ended(script, names, space, points, taken)
-}
-
 impl<'j, 'n, 'm> Runner<'j, 'n, 'm> {
     /// A thread of a job, from 1 to 64, before its first line. The only error is out of memory; 2^31 lines or more
     /// give that error too, but a job that was read has at most 65,536.
@@ -228,44 +134,107 @@ impl<'j, 'n, 'm> Runner<'j, 'n, 'm> {
         }
     }
 
+    /// Ends a turn. `points` are the event counts that the line's looks saw.
+    fn end(&mut self, points: Vec<u64>, taken: Taken) -> Result<(), AllocError>
+        requires { HasStepsLeft (4 * self.old.fuel) taken }
+        ensures { OnOk result (self.new ≡ run_after self.old.lines self.old.begun self.old.fuel self.old.said
+            points.items taken self.old.kept) }
+    {
+        self.call = match taken {
+            Taken::Over(outcome) => {
+                let points = Points::new(points);
+                self.script.said.push(Line { points, outcome })?;
+                None
+            }
+            Taken::Waits((machine, asked)) => Some(Pending {
+                machine,
+                asked,
+                points,
+            }),
+        };
+        Ok(())
+    }
+
+    /// Begins the next line, after the thread looked and while it holds the data.
+    fn begin_line(
+        &mut self,
+        line: &ThreadLine,
+        answer: Option<LineAnswer>,
+        pieces: &mut Data,
+    ) -> Result<(), AllocError>
+        requires begun { self.old.begun < length self.old.lines }
+        requires ready { CanBegin self.old.kept }
+        requires answer { answer ≡ answer_to self.old.kept.vector.past
+            (ask_by (self.old.begun + 1) line.now.image line.now.action) }
+        ensures { OnOk result (BeginsLine self.old.lines self.old.begun self.old.fuel line.now
+            self.old.kept self.old.said self.new pieces.new) }
+    {
+        let points = vec![in self.script.alloc; self.space.seen()]?;
+        self.script.begun += 1;
+        let number = self.script.begun as u32;
+        let taken = take_begin(
+            &mut self.space,
+            self.names,
+            number,
+            line,
+            answer,
+            self.script.fuel,
+        )?;
+        *pieces = self.space.take_data();
+        self.end(points, taken)
+    }
+
+    /// Goes on with a call, after the thread looked and while it holds the data.
+    fn resume_line(&mut self, call: Pending, pieces: &mut Data) -> Result<(), AllocError>
+        requires { call.machine.taken < 4 * self.old.fuel }
+        ensures { OnOk result (ResumesLine self.old.lines self.old.begun self.old.fuel
+            self.old.kept self.old.said call self.new pieces.new) }
+    {
+        let Pending {
+            machine,
+            asked,
+            mut points,
+        } = call;
+        points.push(self.space.seen())?;
+        let taken = take_resume(&mut self.space, machine, asked, self.script.fuel)?;
+        *pieces = self.space.take_data();
+        self.end(points, taken)
+    }
+
     /// Takes the thread's next turn: a look at the events that it has not seen, and the steps up to its next look. The
     /// thread holds the data that all threads share. An open or a close is answered as the registry of the history
-    /// answers it after those events. The only error is out of memory: it drops the runner, and says nothing of the
-    /// data.
+    /// answers it after those events. The only error is out of memory, in the middle of the turn: no clause says what
+    /// is left of the line and the data then.
     pub fn turn_with(
-        self,
+        &mut self,
         events: &[Event],
         answer: Option<LineAnswer>,
         pieces: &mut Data,
-    ) -> Result<Runner<'j, 'n, 'm>, AllocError>
-        requires going { IsGoing (ask_of self) }
-        requires legal { is_legal self.kept.vector.past events.now ≡ true }
-        requires room { self.kept.vector.past.seen + length events.now + 1 < 2 ^ 62 }
-        requires pieces { length pieces.old ≡ length self.kept.vector.images.images + 1 }
-        requires answer { answer ≡ answer_to (after self.kept.vector.past events.now) (ask_of self) }
-        ensures taken { IfOk result (λ r. TakesTurn self.entry events.now pieces.old r pieces.new) }
+    ) -> Result<(), AllocError>
+        requires going { IsGoing (ask_of self.old) }
+        requires legal { is_legal self.old.kept.vector.past events.now ≡ true }
+        requires room { self.old.kept.vector.past.seen + length events.now + 1 < 2 ^ 62 }
+        requires pieces { length pieces.old ≡ length self.old.kept.vector.images.images + 1 }
+        requires answer { answer ≡ answer_to (after self.old.kept.vector.past events.now) (ask_of self.old) }
+        ensures taken { OnOk result (TakesTurn self.old events.now pieces.old self.new pieces.new) }
         ensures pieces { OnOk result (length pieces.new ≡ length pieces.old) }
     {
-        let Runner {
-            script,
-            names,
-            mut space,
-            call,
-        } = self;
-        space.put_data(mem::replace(pieces, Data::none(script.alloc)));
-        space.look(events)?;
-        space.history_is_lawful();
-        match call {
-            Some(call) => resume_line(script, names, space, call, pieces),
+        let shared = mem::replace(pieces, Data::none(self.script.alloc));
+        self.space.put_data(shared);
+        self.space.look(events)?;
+        self.space.history_is_lawful();
+        match self.call.take() {
+            Some(call) => self.resume_line(call, pieces),
             None => {
-                let line = &script.lines[script.begun];
-                begin_line(script, names, space, line, answer, pieces)
+                let lines = self.script.lines;
+                self.begin_line(&lines[self.script.begun], answer, pieces)
             }
         }
     }
 
     /// Takes the thread's next turn as [`Runner::turn_with`] does, in a job where no image has data that threads
-    /// share. So only the history goes from turn to turn, and threads that run at once can take their turns.
+    /// share. So only the history goes from turn to turn, and threads that run at once can take their turns. If memory
+    /// runs out, the runner is dropped.
     pub fn turn(
         self,
         events: &[Event],
@@ -279,7 +248,9 @@ impl<'j, 'n, 'm> Runner<'j, 'n, 'm> {
         ensures { IfOk result (λ r. TakesOwnTurn self.entry events.now r) }
     {
         let mut none = Data::new(self.script.alloc, self.names.modules())?;
-        self.turn_with(events, answer, &mut none)
+        let mut runner = self;
+        runner.turn_with(events, answer, &mut none)?;
+        Ok(runner)
     }
 
     /// The thread's lines, as far as they are over.

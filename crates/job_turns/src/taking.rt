@@ -1,10 +1,10 @@
 //! The steps of a turn after its look.
 
-ghost use Rattle.std.specs.Prelude.{◌≡◌, ◌≤◌, ◌<◌, ◌+◌, ◌*◌, ◌^◌, IfOk, Some};
+ghost use Rattle.std.specs.Prelude.{◌≡◌, ◌≤◌, ◌<◌, ◌+◌, ◌*◌, ◌^◌, IfOk, OnErr, Some};
 ghost use Rattle.guest_machine.specs.Clean.{IsClean};
 ghost use Rattle.thread_blocks.specs.MachineTurns.{answer_of_stop};
 ghost use Rattle.job_turns.specs.Asking.{answer_to, ask_by};
-ghost use Rattle.job_turns.specs.Taking.{BeginsTo, CanBegin, ResumesTo, RunsTo};
+ghost use Rattle.job_turns.specs.Taking.{BeginsTo, CanBegin, KeepsJob, ResumesTo, RunsTo};
 
 use crate::asking::LineAnswer;
 use crate::lines::{Started, begin};
@@ -60,8 +60,9 @@ pub(crate) fn take_begin(
     requires fuel { fuel < 2 ^ 32 }
     requires ready { CanBegin space.old }
     requires answer { answer ≡ answer_to space.old.vector.past (ask_by number line.now.image line.now.action) }
-    ensures { IfOk result (λ taken. BeginsTo fuel (record { number = number; told = line.now })
-        space.old taken space.new) }
+    ensures begins { IfOk result
+        (λ taken. BeginsTo fuel (record { number = number; told = line.now }) space.old taken space.new) }
+    ensures err { OnErr result (KeepsJob space.old space.new) }
 {
     match begin(space, names, number, line, answer)? {
         Started::Says(outcome) => Ok(Taken::Over(outcome)),
@@ -78,7 +79,8 @@ pub(crate) fn take_resume(
 ) -> Result<Taken, AllocError>
     requires fuel { fuel < 2 ^ 32 }
     requires taken { machine.taken < 4 * fuel }
-    ensures { IfOk result (λ taken. ResumesTo fuel machine asked space.old taken space.new) }
+    ensures resumes { IfOk result (λ taken. ResumesTo fuel machine asked space.old taken space.new) }
+    ensures err { OnErr result (space.new ≡ space.old) }
 {
     match answer_asked(space, &mut machine, asked)? {
         Resumed::Goes => Ok(run_to(space, machine, 4 * fuel)),

@@ -1,6 +1,6 @@
 //! One turn of a thread.
 
-ghost use Rattle.std.specs.Prelude.{◌≡◌, IfOk};
+ghost use Rattle.std.specs.Prelude.{◌≡◌, OnOk};
 ghost use Rattle.job_turns.specs.Progress.{Share, is_over};
 ghost use Rattle.job_turns.specs.Standing.{IsGoing, ask_of};
 ghost use Rattle.job_turns.specs.Turning.{CanTurn, CanTurnIn, Turned, TurnedIn};
@@ -32,20 +32,20 @@ impl<'j, 'n, 'm> TurnTaker<Common> for Runner<'j, 'n, 'm> {
         self.asks().is_done()
     }
 
-    fn turn(self, shared: &mut Common) -> Result<Self, AllocError> {
+    fn turn(&mut self, shared: &mut Common) -> Result<(), AllocError> {
         take_turn(self, &mut shared.registry, &mut shared.pieces)
     }
 }
 
 /// Takes the thread's next turn, at the whole history. Its own open or close is added after it.
-fn take_turn<'j, 'n, 'm>(
-    runner: Runner<'j, 'n, 'm>,
+fn take_turn(
+    runner: &mut Runner<'_, '_, '_>,
     registry: &mut Registry,
     pieces: &mut Data,
-) -> Result<Runner<'j, 'n, 'm>, AllocError>
-    requires going { IsGoing (ask_of runner) }
-    requires can { CanTurn registry.old pieces.old runner }
-    ensures { IfOk result (λ after. Turned registry.old pieces.old runner.entry registry.new pieces.new after) }
+) -> Result<(), AllocError>
+    requires going { IsGoing (ask_of runner.old) }
+    requires can { CanTurn registry.old pieces.old runner.old }
+    ensures { OnOk result (Turned registry.old pieces.old runner.old registry.new pieces.new runner.new) }
 {
     if registry.len() >= MOST_EVENTS {
         return Err(AllocError);

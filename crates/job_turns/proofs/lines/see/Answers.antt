@@ -11,7 +11,7 @@ look-requires-clause-legal c =
     let past = c.args.space.now.vector.past in
     one_legal past _ (ap (λ t. accepts past (event_at t c.args.number c.args.opens c.args.line.now.image)) c.thread.ensures.value ∙ c.requires.accepted)
 
-pub returns : goal.returns
-returns c =
+pub returns-clause-sees : goal.returns-clause-sees
+returns-clause-sees c =
     subst (λ t. Sees c.args.space.now (event_at t c.args.number c.args.opens c.args.line.now.image) c.look.new.self) c.thread.ensures.value
     (sees_own c.args.space.now c.look.new.self _ c.in_ok-look.ensures.ok c.history_is_lawful.ensures c.history_is_lawful-2.ensures)

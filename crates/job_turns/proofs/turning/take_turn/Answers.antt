@@ -5,42 +5,42 @@ use Rattle.job_turns.proofs.turning.take_turn.Goals as goal
 
 pub since-known-requires : goal.since-known-requires
 since-known-requires c =
-    seen_within c.args.registry.now c.args.pieces.now c.args.runner c.requires.can c.seen-seen.result c.seen-seen.ensures.value
+    seen_within c.args.registry.now c.args.pieces.now c.args.runner.now c.requires.can c.seen-seen.result c.seen-seen.ensures.value
 
 pub since-requires : goal.since-requires
 since-requires c =
-    seen_within_then c.args.registry.now c.args.pieces.now c.args.runner c.requires.can c.seen-seen.result
+    seen_within_then c.args.registry.now c.args.pieces.now c.args.runner.now c.requires.can c.seen-seen.result
     c.seen-seen.ensures.value c.thread.result c.asks.result c.answer.new.registry c.in_ok-answer.ensures.adds
 
 pub slice_bounds-events-end : goal.slice_bounds-events-end
 slice_bounds-events-end c =
-    cut_length c.args.registry.now c.args.pieces.now c.args.runner c.requires.can c.seen-seen.result
+    cut_length c.args.registry.now c.args.pieces.now c.args.runner.now c.requires.can c.seen-seen.result
     c.seen-seen.ensures.value c.thread.result c.asks.result c.answer.new.registry c.in_ok-answer.ensures.adds
     c.since-known.result.now c.since.result.now c.since-known.ensures.value c.since.ensures.value
 
 pub turn_with-requires-clause-legal : goal.turn_with-requires-clause-legal
 turn_with-requires-clause-legal c =
-    cut_legal c.args.registry.now c.args.pieces.now c.args.runner c.requires.can c.seen-seen.result
+    cut_legal c.args.registry.now c.args.pieces.now c.args.runner.now c.requires.can c.seen-seen.result
     c.seen-seen.ensures.value c.thread.result c.asks.result c.answer.new.registry c.in_ok-answer.ensures.adds
     c.since-known.result.now c.since.result.now c.since-known.ensures.value c.since.ensures.value c.len.ensures.legal
 
 pub turn_with-requires-clause-room : goal.turn_with-requires-clause-room
 turn_with-requires-clause-room c =
-    let all = cut_room c.args.registry.now c.args.pieces.now c.args.runner c.requires.can c.seen-seen.result
+    let all = cut_room c.args.registry.now c.args.pieces.now c.args.runner.now c.requires.can c.seen-seen.result
     c.seen-seen.ensures.value c.thread.result c.asks.result c.answer.new.registry c.in_ok-answer.ensures.adds
     c.since-known.result.now c.since.result.now c.since-known.ensures.value c.since.ensures.value in
     omega (arith, all, c.len.ensures.value, c.if-len-ge-MOST_EVENTS.false)
 
 pub turn_with-requires-clause-answer : goal.turn_with-requires-clause-answer
 turn_with-requires-clause-answer c =
-    cut_answer c.args.registry.now c.args.pieces.now c.args.runner c.requires.can c.seen-seen.result
+    cut_answer c.args.registry.now c.args.pieces.now c.args.runner.now c.requires.can c.seen-seen.result
     c.seen-seen.ensures.value c.thread.result c.asks.result c.answer.new.registry c.in_ok-answer.ensures.adds
     c.since-known.result.now c.since.result.now c.since-known.ensures.value c.since.ensures.value c.in_ok-answer.answer
-    (ask_of c.args.runner) c.in_ok-answer.ensures.answer c.asks.ensures
+    (ask_of c.args.runner.now) c.in_ok-answer.ensures.answer c.asks.ensures
 
 pub returns : goal.returns
 returns c =
-    cut_turned c.args.registry.now c.args.pieces.now c.args.runner c.requires.can c.seen-seen.result
+    cut_turned c.args.registry.now c.args.pieces.now c.args.runner.now c.requires.can c.seen-seen.result
     c.seen-seen.ensures.value c.thread.result c.asks.result c.answer.new.registry c.in_ok-answer.ensures.adds
-    c.since-known.result.now c.since.result.now c.since-known.ensures.value c.since.ensures.value _
+    c.since-known.result.now c.since.result.now c.since-known.ensures.value c.since.ensures.value _ _
     c.turn_with.result c.thread.ensures c.asks.ensures c.turn_with.ensures.taken c.turn_with.ensures.pieces
