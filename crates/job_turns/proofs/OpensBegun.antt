@@ -1,5 +1,5 @@
 -- What a line comes to that opens or closes its image.
-use Rattle.std.proofs.Common.{◌≡◌, ◌∙◌, ◌+◌, ◌⊎◌, ℕ, Bool, true, false, List, [], ◌∷◌, Option, Some, None, Result, Ok, Err, length, refl, sym, ap, subst, inl, inr, arith}
+use Rattle.std.proofs.Common.{◌≡◌, ◌∙◌, ◌+◌, ◌⊎◌, ℕ, Bool, true, false, List, [], ◌∷◌, Option, Some, None, Err, length, refl, sym, ap, subst, inl, inr, arith}
 use Rattle.std.specs.Prelude.{is_some, nat_lt, option_map, if◌then◌else◌}
 use Rattle.std.proofs.lemmas.Bool.{lt-ltb}
 use Rattle.std.proofs.lemmas.List.{get_or-set_same, length-set}
@@ -10,8 +10,10 @@ use Rattle.job_text.specs.declared.thread_lines.Action.TheVariants.{Call, Open, 
 use Rattle.loaded_modules.specs.declared.instance.Instance.{Instance}
 use Rattle.loaded_modules.specs.Images.{JobImages, infos}
 use Rattle.module_data.specs.Pieces.{Piece, loaded as with_piece}
+use Rattle.module_table.specs.declared.events.CloseRefusal.{CloseRefusal}
 use Rattle.module_table.specs.declared.events.Closed.{Closed}
 use Rattle.module_table.specs.declared.events.Event.{Event}
+use Rattle.module_table.specs.declared.events.OpenRefusal.{OpenRefusal}
 use Rattle.module_table.specs.declared.events.Opened.{Opened}
 use Rattle.module_table.specs.History.{unless}
 use Rattle.module_table.specs.Modules.{is_loaded, no_module}
@@ -45,11 +47,6 @@ use Rattle.thread_space.proofs.LoadKept.{load_kept}
 use Rattle.thread_space.proofs.Looks.{see_kept}
 
 -- ** answers
-
-refused_by : {A R S : Type 0} (f : R → S) (o : Option R) (answer : A) (said : S) → Err said ≡ unless (option_map f o) answer
-    → (why : R) × (o ≡ Some why) × (said ≡ f why)
-refused_by f None answer said is = absurd cc
-refused_by f (Some why) answer said is = (why, refl, cc)
 
 -- what the registry said of a line that opens or closes its image
 pub open_said : (p : Past) (number image : ℕ) (action : Action) (answer : Option LineAnswer) → action ≡ Open
@@ -138,13 +135,14 @@ module _ (old mid : Kept) (e : Event) (sees : Sees old e mid) (startups : HasSta
 abbrev own_event : Kept → Line → Bool → Event
 own_event k line opens = event_at k.vector.thread line.number opens line.told.image
 
-pub close_refused : (k : Kept) (line : Line) (answer : Closed) (said : LineRefusal)
-    → Err said ≡ unless (option_map refused_close (close_refusal k.vector.past line.told.image)) answer
+pub close_refused : (k : Kept) (line : Line) (answer : Closed) (said : LineRefusal) (refusal : Option CloseRefusal)
+    → close_refusal k.vector.past line.told.image ≡ refusal → Err said ≡ unless (option_map refused_close refusal) answer
     → BeginsClose line k (Says (Refused said)) k
-close_refused k line answer said is =
-    let why = refused_by refused_close (close_refusal k.vector.past line.told.image) answer said is in
-    subst (λ said. BeginsClose line k (Says (Refused said)) k) (sym why.2)
-    (rw why.1 (over_at_once _ k (Refused (refused_close why.0)) (λ seen h has_seen. refl)))
+close_refused k line answer said None none is = absurd cc
+close_refused k line answer said (Some why) some is =
+    let same : said ≡ refused_close why = cc in
+    subst (λ x. BeginsClose line k (Says (Refused x)) k) (sym same)
+    (rw some (over_at_once _ k (Refused (refused_close why)) (λ seen h has_seen. refl)))
 
 pub close_begins : (old new : Kept) (line : Line) → close_refusal old.vector.past line.told.image ≡ None → HasStartups old.vector
     → Sees old (own_event old line false) new → BeginsClose line old (Says ClosedSo) new
@@ -158,13 +156,14 @@ close_begins old new line none startups sees = rw none (record {
 
 -- ** opens
 
-pub open_refused : (k : Kept) (line : Line) (answer : Opened) (said : LineRefusal)
-    → Err said ≡ unless (option_map refused_open (open_refusal k.vector.past line.told.image)) answer
+pub open_refused : (k : Kept) (line : Line) (answer : Opened) (said : LineRefusal) (refusal : Option OpenRefusal)
+    → open_refusal k.vector.past line.told.image ≡ refusal → Err said ≡ unless (option_map refused_open refusal) answer
     → BeginsOpen line k (Says (Refused said)) k
-open_refused k line answer said is =
-    let why = refused_by refused_open (open_refusal k.vector.past line.told.image) answer said is in
-    subst (λ said. BeginsOpen line k (Says (Refused said)) k) (sym why.2)
-    (rw why.1 (over_at_once _ k (Refused (refused_open why.0)) (λ seen h has_seen. refl)))
+open_refused k line answer said None none is = absurd cc
+open_refused k line answer said (Some why) some is =
+    let same : said ≡ refused_open why = cc in
+    subst (λ x. BeginsOpen line k (Says (Refused x)) k) (sym same)
+    (rw some (over_at_once _ k (Refused (refused_open why)) (λ seen h has_seen. refl)))
 
 was_loaded : (t : Bool) (x : Instance) → is_some (if t then Some x else None) ≡ t
 was_loaded true x = refl

@@ -227,7 +227,8 @@ impl<'j, 'n, 'm> Runner<'j, 'n, 'm> {
             Some(call) => self.resume_line(call, pieces),
             None => {
                 let lines = self.script.lines;
-                self.begin_line(&lines[self.script.begun], answer, pieces)
+                let line = &lines[self.script.begun];
+                self.begin_line(line, answer, pieces)
             }
         }
     }

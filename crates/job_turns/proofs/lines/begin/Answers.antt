@@ -1,4 +1,4 @@
-use Rattle.std.proofs.Common.{◌∙◌, sym, ap, ℕ}
+use Rattle.std.proofs.Common.{◌∙◌, refl, sym, ap, ℕ}
 use Rattle.std.proofs.lemmas.Result.{IfOk-weaker}
 use Rattle.job_text.specs.declared.thread_lines.Action.TheVariants.{Call, Peek}
 use Rattle.thread_blocks.specs.Lines.{Line}
@@ -40,7 +40,7 @@ returns-in-Err-clause-starts c =
     let line : Line = record { number = c.args.number; told = c.args.line.now } in
     let said = c.open_answer.ensures _ (open_said c.args.space.now.vector.past c.args.number _ _ c.args.answer c.in-Open.is c.requires.answer) in
     rw c.refused.ensures
-    (open_starts line c.args.space.now c.args.space.now _ c.in-Open.is (open_refused c.args.space.now line _ c.in-Err.refusal (sym c.in-Err.is ∙ said)))
+    (open_starts line c.args.space.now c.args.space.now _ c.in-Open.is (open_refused c.args.space.now line _ c.in-Err.refusal _ refl (sym c.in-Err.is ∙ said)))
 
 pub returns-in-Ok-close_answer-clause-starts : goal.returns-in-Ok-close_answer-clause-starts
 returns-in-Ok-close_answer-clause-starts c =
@@ -55,4 +55,4 @@ returns-in-Err-close_answer-clause-starts c =
     let said = c.close_answer.ensures _ (close_said c.args.space.now.vector.past c.args.number _ _ c.args.answer c.in-Close.is c.requires.answer) in
     rw c.refused-in-Err-close_answer.ensures
     (close_starts line c.args.space.now c.args.space.now _ c.in-Close.is
-    (close_refused c.args.space.now line _ c.in-Err-close_answer.refusal (sym c.in-Err-close_answer.is ∙ said)))
+    (close_refused c.args.space.now line _ c.in-Err-close_answer.refusal _ refl (sym c.in-Err-close_answer.is ∙ said)))

@@ -1,8 +1,9 @@
-use Rattle.std.proofs.Common.{◌≡◌, ◌+◌, ◌<◌, get_or, length, Option, Some, None, ap, sym, subst, ◌∙◌}
+use Rattle.std.proofs.Common.{◌≡◌, ◌+◌, ◌<◌, length, Option, Some, None, ap, refl, sym, subst, ◌∙◌}
 use Rattle.std.specs.Prelude.{slice_get}
-use Rattle.std.proofs.lemmas.Option.{slice_get-get_or}
+use Rattle.std.proofs.lemmas.Option.{slice_get_read}
 use Rattle.std.proofs.lemmas.Result.{on_ok_weaker}
 use Rattle.module_table.specs.Past.{after}
+use Rattle.thread_space.specs.Steps.{HasData}
 use Rattle.job_turns.specs.Asking.{answer_to}
 use Rattle.job_turns.specs.Standing.{IsGoing, Run, TakesTurn, Waiting, ask_now, ask_of}
 use Rattle.job_turns.proofs.WholeTurns.{begins_line, going_within, images_is, looked_answer, looked_ready, looked_startups, resumes_line}
@@ -10,7 +11,7 @@ use Rattle.job_turns.proofs.runner.Runner.turn_with.Goals as goal
 
 pub invariant_of-self-in-Some : goal.invariant_of-self-in-Some
 invariant_of-self-in-Some c =
-    let given = record { vector = c.put_data.ensures.vector; data_is = c.put_data.ensures.data_is ∙ c.replace-shared.ensures.value; stack = c.put_data.ensures.stack } in
+    let given : HasData c.self.inside.space c.args.pieces.now c.put_data.new.self = record { vector = c.put_data.ensures.vector; data_is = c.put_data.ensures.data_is ∙ c.replace-shared.ensures.value; stack = c.put_data.ensures.stack } in
     record {
       names = c.self.invariant.names
           ∙ sym (images_is c.self.inside.space c.put_data.new.self c.look.new.self c.args.events.now c.args.pieces.now given
@@ -25,7 +26,7 @@ invariant_of-self-in-Some c =
 
 pub invariant_of-self-in-None : goal.invariant_of-self-in-None
 invariant_of-self-in-None c =
-    let given = record { vector = c.put_data.ensures.vector; data_is = c.put_data.ensures.data_is ∙ c.replace-shared.ensures.value; stack = c.put_data.ensures.stack } in
+    let given : HasData c.self.inside.space c.args.pieces.now c.put_data.new.self = record { vector = c.put_data.ensures.vector; data_is = c.put_data.ensures.data_is ∙ c.replace-shared.ensures.value; stack = c.put_data.ensures.stack } in
     record {
       names = c.self.invariant.names
           ∙ sym (images_is c.self.inside.space c.put_data.new.self c.look.new.self c.args.events.now c.args.pieces.now given
@@ -38,8 +39,8 @@ invariant_of-self-in-None c =
       steps = rw c.take.ensures.after tt;
     }
 
-pub bounds-lines-self : goal.bounds-lines-self
-bounds-lines-self c =
+pub bounds-lines-self-inside : goal.bounds-lines-self-inside
+bounds-lines-self-inside c =
     going_within (c.self.inside.script.begun + 1) c.self.inside.script.begun c.self.inside.script.lines.now
     (subst (λ (call : Option Waiting). IsGoing (ask_now c.self.inside.script.begun c.self.inside.script.lines.now call))
     (sym c.take.ensures.value ∙ c.in-None.is)
@@ -70,9 +71,9 @@ begin_line-requires-clause-answer c =
     looked_answer c.self.inside.space c.put_data.new.self c.look.new.self c.args.events.now c.args.pieces.now
     (record { vector = c.put_data.ensures.vector; data_is = c.put_data.ensures.data_is ∙ c.replace-shared.ensures.value; stack = c.put_data.ensures.stack })
     c.in_ok-look.ensures.ok c.history_is_lawful.ensures c.self.invariant.startups c.args.answer (c.self.inside.script.begun + 1)
-    (get_or c.self.inside.script.lines.now c.self.inside.script.begun c.index-lines-self.result)
+    c.index-lines-self.result
     (slice_get c.self.inside.script.lines.now c.self.inside.script.begun)
-    (slice_get-get_or c.self.inside.script.lines.now c.self.inside.script.begun c.index-lines-self.result within)
+    (slice_get_read c.self.inside.script.lines.now (length c.self.inside.script.lines.now) c.self.inside.script.begun c.index-lines-self.result refl within c.index-lines-self.is)
     (subst (λ (call : Option Waiting). c.args.answer ≡ answer_to (after c.self.inside.space.vector.past c.args.events.now) (ask_now c.self.inside.script.begun c.self.inside.script.lines.now call)) none
     (subst (λ (r : Run). c.args.answer ≡ answer_to (after r.kept.vector.past c.args.events.now) (ask_of r)) (sym c.self.view_is) c.requires.answer))
 
@@ -117,6 +118,6 @@ returns-in-None-clause-taken c =
     (record { vector = c.put_data.ensures.vector; data_is = c.put_data.ensures.data_is ∙ c.replace-shared.ensures.value; stack = c.put_data.ensures.stack })
     c.in_ok-look.ensures.ok c.history_is_lawful.ensures c.self.invariant.startups c.self.inside.script.lines.now c.self.inside.script.begun c.self.inside.script.fuel
     c.self.inside.script.said.items
-    (get_or c.self.inside.script.lines.now c.self.inside.script.begun c.index-lines-self.result) c.begin_line.new.self c.begin_line.new.pieces
-    (slice_get-get_or c.self.inside.script.lines.now c.self.inside.script.begun c.index-lines-self.result within) is))
+    c.index-lines-self.result c.begin_line.new.self c.begin_line.new.pieces
+    (slice_get_read c.self.inside.script.lines.now (length c.self.inside.script.lines.now) c.self.inside.script.begun c.index-lines-self.result refl within c.index-lines-self.is) is))
     c.begin_line.ensures
