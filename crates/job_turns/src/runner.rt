@@ -201,11 +201,9 @@ impl<'j, 'n, 'm> Runner<'j, 'n, 'm> {
         self.end(points, taken)
     }
 
-    /// Takes the thread's next turn: a look at the events that it has not seen, and the steps up to its next look. The
-    /// thread holds the data that all threads share. An open or a close is answered as the registry of the history
-    /// answers it after those events. The only error is out of memory, in the middle of the turn: no clause says what
-    /// is left of the line and the data then.
-    pub fn turn_with(
+    /// Takes the thread's next turn as [`Runner::turn_with`] does. If memory runs out in the middle of it, no clause says
+    /// what is left of the line and the data.
+    pub(crate) fn advance(
         &mut self,
         events: &[Event],
         answer: Option<LineAnswer>,
@@ -233,9 +231,31 @@ impl<'j, 'n, 'm> Runner<'j, 'n, 'm> {
         }
     }
 
+    /// Takes the thread's next turn: a look at the events that it has not seen, and the steps up to its next look. The
+    /// thread holds the data that all threads share. An open or a close is answered as the registry of the history
+    /// answers it after those events. The only error is out of memory: it drops the runner, and says nothing of the
+    /// data.
+    pub fn turn_with(
+        self,
+        events: &[Event],
+        answer: Option<LineAnswer>,
+        pieces: &mut Data,
+    ) -> Result<Runner<'j, 'n, 'm>, AllocError>
+        requires going { IsGoing (ask_of self) }
+        requires legal { is_legal self.kept.vector.past events.now ≡ true }
+        requires room { self.kept.vector.past.seen + length events.now + 1 < 2 ^ 62 }
+        requires pieces { length pieces.old ≡ length self.kept.vector.images.images + 1 }
+        requires answer { answer ≡ answer_to (after self.kept.vector.past events.now) (ask_of self) }
+        ensures taken { IfOk result (λ r. TakesTurn self.entry events.now pieces.old r pieces.new) }
+        ensures pieces { OnOk result (length pieces.new ≡ length pieces.old) }
+    {
+        let mut runner = self;
+        runner.advance(events, answer, pieces)?;
+        Ok(runner)
+    }
+
     /// Takes the thread's next turn as [`Runner::turn_with`] does, in a job where no image has data that threads
-    /// share. So only the history goes from turn to turn, and threads that run at once can take their turns. If memory
-    /// runs out, the runner is dropped.
+    /// share. So only the history goes from turn to turn, and threads that run at once can take their turns.
     pub fn turn(
         self,
         events: &[Event],
@@ -249,9 +269,7 @@ impl<'j, 'n, 'm> Runner<'j, 'n, 'm> {
         ensures { IfOk result (λ r. TakesOwnTurn self.entry events.now r) }
     {
         let mut none = Data::new(self.script.alloc, self.names.modules())?;
-        let mut runner = self;
-        runner.turn_with(events, answer, &mut none)?;
-        Ok(runner)
+        self.turn_with(events, answer, &mut none)
     }
 
     /// The thread's lines, as far as they are over.

@@ -54,5 +54,5 @@ fn take_turn(
     let known = registry.since(seen).len();
     let answer = answer(registry, runner.thread(), runner.asks())?;
     let events = &registry.since(seen)[..known];
-    runner.turn_with(events, answer, pieces)
+    runner.advance(events, answer, pieces)
 }

@@ -18,21 +18,21 @@ slice_bounds-events-end c =
     c.seen-seen.ensures.value c.thread.result c.asks.result c.answer.new.registry c.in_ok-answer.ensures.adds
     c.since-known.result.now c.since.result.now c.since-known.ensures.value c.since.ensures.value
 
-pub turn_with-requires-clause-legal : goal.turn_with-requires-clause-legal
-turn_with-requires-clause-legal c =
+pub advance-requires-clause-legal : goal.advance-requires-clause-legal
+advance-requires-clause-legal c =
     cut_legal c.args.registry.now c.args.pieces.now c.args.runner.now c.requires.can c.seen-seen.result
     c.seen-seen.ensures.value c.thread.result c.asks.result c.answer.new.registry c.in_ok-answer.ensures.adds
     c.since-known.result.now c.since.result.now c.since-known.ensures.value c.since.ensures.value c.len.ensures.legal
 
-pub turn_with-requires-clause-room : goal.turn_with-requires-clause-room
-turn_with-requires-clause-room c =
+pub advance-requires-clause-room : goal.advance-requires-clause-room
+advance-requires-clause-room c =
     let all = cut_room c.args.registry.now c.args.pieces.now c.args.runner.now c.requires.can c.seen-seen.result
     c.seen-seen.ensures.value c.thread.result c.asks.result c.answer.new.registry c.in_ok-answer.ensures.adds
     c.since-known.result.now c.since.result.now c.since-known.ensures.value c.since.ensures.value in
     omega (arith, all, c.len.ensures.value, c.if-len-ge-MOST_EVENTS.false)
 
-pub turn_with-requires-clause-answer : goal.turn_with-requires-clause-answer
-turn_with-requires-clause-answer c =
+pub advance-requires-clause-answer : goal.advance-requires-clause-answer
+advance-requires-clause-answer c =
     cut_answer c.args.registry.now c.args.pieces.now c.args.runner.now c.requires.can c.seen-seen.result
     c.seen-seen.ensures.value c.thread.result c.asks.result c.answer.new.registry c.in_ok-answer.ensures.adds
     c.since-known.result.now c.since.result.now c.since-known.ensures.value c.since.ensures.value c.in_ok-answer.answer
@@ -43,4 +43,4 @@ returns c =
     cut_turned c.args.registry.now c.args.pieces.now c.args.runner.now c.requires.can c.seen-seen.result
     c.seen-seen.ensures.value c.thread.result c.asks.result c.answer.new.registry c.in_ok-answer.ensures.adds
     c.since-known.result.now c.since.result.now c.since-known.ensures.value c.since.ensures.value _ _
-    c.turn_with.result c.thread.ensures c.asks.ensures c.turn_with.ensures.taken c.turn_with.ensures.pieces
+    c.advance.result c.thread.ensures c.asks.ensures c.advance.ensures.taken c.advance.ensures.pieces

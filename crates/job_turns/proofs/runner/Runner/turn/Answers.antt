@@ -1,4 +1,5 @@
 use Rattle.std.proofs.Common.{◌∙◌, ◌+◌, ap, length}
+use Rattle.std.proofs.lemmas.Result.{IfOk-weaker}
 use Rattle.loaded_modules.specs.Images.{JobImages}
 use Rattle.job_turns.specs.Standing.{Run}
 use Rattle.job_turns.proofs.Dataless.{first_length}
@@ -14,5 +15,6 @@ turn_with-requires-clause-pieces c =
 
 pub returns : goal.returns
 returns c =
-    own_turn c.args.self c.turn_with.new.self c.args.events.now _ _ c.requires.alone c.requires.going
-    c.in_ok-turn_with.ensures.taken
+    IfOk-weaker c.turn_with.result _ _
+    (λ r takes. own_turn c.args.self r c.args.events.now _ _ c.requires.alone c.requires.going takes)
+    c.turn_with.ensures.taken

@@ -7,7 +7,7 @@ use Rattle.thread_space.specs.Steps.{HasData}
 use Rattle.job_turns.specs.Asking.{answer_to}
 use Rattle.job_turns.specs.Standing.{IsGoing, Run, TakesTurn, Waiting, ask_now, ask_of}
 use Rattle.job_turns.proofs.WholeTurns.{begins_line, going_within, images_is, looked_answer, looked_ready, looked_startups, resumes_line}
-use Rattle.job_turns.proofs.runner.Runner.turn_with.Goals as goal
+use Rattle.job_turns.proofs.runner.Runner.advance.Goals as goal
 
 pub invariant_of-self-in-Some : goal.invariant_of-self-in-Some
 invariant_of-self-in-Some c =
