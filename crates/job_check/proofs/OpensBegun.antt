@@ -1,5 +1,5 @@
 -- What a line comes to that opens or closes its image.
-use Rattle.std.proofs.Common.{◌≡◌, ◌∙◌, ℕ, Bool, true, false, List, Option, Some, None, refl, sym, ap, subst}
+use Rattle.std.proofs.Common.{◌≡◌, ◌∙◌, ℕ, Bool, true, false, List, [], Option, Some, None, refl, sym, ap, subst}
 use Rattle.std.specs.Prelude.{is_some}
 use Rattle.guest_operands.specs.declared.state.State.{State}
 use Rattle.job_meaning.specs.declared.values.Byte.{Byte}
@@ -57,7 +57,7 @@ module _ (line : Line) (p : Past) (k : Kept) (live : k.live ≡ instances_in (in
 
 -- ** the thread's own event
 
-module _ (old mid : Kept) (p : Past) (e : Event) (sees : Sees old (after_one p e) mid) (seen : List Event) (state : State Word Flag)
+module _ (old mid : Kept) (p : Past) (e : Event) (sees : Sees [] old (after_one p e) mid) (seen : List Event) (state : State Word Flag)
     (left : HasLeft old seen p) where
   left_all : left_by (loads_of old.images) (with_last seen e) ≡ after_one p e
   left_all = left_with (loads_of old.images) p (after_one p e) seen (Some e) left refl
@@ -79,22 +79,22 @@ module _ (old mid : Kept) (p : Past) (e : Event) (sees : Sees old (after_one p e
       ≡ loaded_instance (infos_of old.images) image (module_of (after_one p e) image)
   found_all image = found_at old.images (after_one p e) (with_last seen e) left_all image
 
-sees_keeps : (old mid : Kept) (p : Past) → Sees old p mid → KeepsThread old mid
+sees_keeps : (old mid : Kept) (p : Past) → Sees [] old p mid → KeepsThread old mid
 unfolding with_held
 sees_keeps old mid p sees = rw sees.is (record { thread = refl; images = refl; lent = refl })
 
-sees_live : (old mid : Kept) (p : Past) → Sees old p mid → mid.live ≡ instances_in (infos_of old.images) p
+sees_live : (old mid : Kept) (p : Past) → Sees [] old p mid → mid.live ≡ instances_in (infos_of old.images) p
 unfolding with_held
 sees_live old mid p sees = ap (λ (k : Kept). k.live) sees.is
 
 -- ** closes
 
 pub close_begins : (line : Line) (p p' : Past) (old new : Kept) → close_refusal p line.told.image ≡ None
-    → p' ≡ after_one p (event_at old.thread line.number false line.told.image) → Sees old p' new
+    → p' ≡ after_one p (event_at old.thread line.number false line.told.image) → Sees [] old p' new
     → BeginsClose line p old (Says None) p' new
 close_begins line p p' old new none then sees =
     let e : Event = event_at old.thread line.number false line.told.image in
-    let here : Sees old (after_one p e) new = subst (λ q. Sees old q new) then sees in
+    let here : Sees [] old (after_one p e) new = subst (λ q. Sees [] old q new) then sees in
     subst (λ q. BeginsClose line p old (Says None) q new) (sym then)
     (rw none (record {
       keeps = sees_keeps old new (after_one p e) here;
@@ -130,13 +130,13 @@ loads_so old mid new false (Some x) show seen state keeps has_seen is =
 
 pub open_begins : (line : Line) (p p' : Past) (old mid new : Kept) (was : Bool) → open_refusal p line.told.image ≡ None
     → was ≡ is_loaded (module_of p line.told.image)
-    → p' ≡ after_one p (event_at old.thread line.number true line.told.image) → Sees old p' mid
+    → p' ≡ after_one p (event_at old.thread line.number true line.told.image) → Sees [] old p' mid
     → LoadsNew was (loaded_instance (infos_of mid.images) line.told.image (module_of p' line.told.image)) mid new
     → BeginsOpen line p old (Says None) p' new
 open_begins line p p' old mid new was none was_is then sees loads =
     let image = line.told.image in
     let e : Event = event_at old.thread line.number true image in
-    let here : Sees old (after_one p e) mid = subst (λ q. Sees old q mid) then sees in
+    let here : Sees [] old (after_one p e) mid = subst (λ q. Sees [] old q mid) then sees in
     let keeps = sees_keeps old mid (after_one p e) here in
     let fills : LoadsNew was (loaded_instance (infos_of old.images) image (module_of (after_one p e) image)) mid new =
     subst (λ ls. LoadsNew was (loaded_instance (infos_of ls) image (module_of (after_one p e) image)) mid new) keeps.images

@@ -2,10 +2,6 @@
 use Rattle.std.proofs.Common.{◌≡◌, ◌∙◌, ◌+◌, ◌++◌, ℕ, List, [], ◌∷◌, Option, Some, None, length, drop, refl, sym, ap, subst, arith}
 use Rattle.std.specs.Option.{option_or}
 use Rattle.std.proofs.lemmas.List.{length-append}
-use Rattle.guest_operands.specs.declared.state.State.{State}
-use Rattle.job_meaning.specs.declared.values.Flag.{Flag}
-use Rattle.job_meaning.specs.declared.values.Word.{Word}
-use Rattle.job_text.specs.declared.thread_lines.ThreadLine.{ThreadLine}
 use Rattle.module_table.specs.declared.events.Event.{Event}
 use Rattle.module_table.specs.Past.{Past}
 use Rattle.thread_blocks.specs.JobWorlds.{blocks_in, data_in, numbered_lines}
@@ -17,9 +13,9 @@ use Rattle.whole_meaning.specs.Threads.{Meant}
 use Rattle.job_check.specs.Taking.{IsOver, Taken, TookAs}
 use Rattle.thread_turns.specs.declared.parts.Ended.TheVariants.{Over, Waits}
 use Rattle.job_check.specs.declared.thread.Waiting.{Waiting}
-use Rattle.marked_memory.specs.Kept.{Kept, held_at}
+use Rattle.marked_memory.specs.Kept.{held_at}
 use Rattle.job_check.specs.Lines.{HasLeft}
-use Rattle.job_check.specs.Standing.{StandsAfter, emptied, run_after}
+use Rattle.job_check.specs.Standing.{Run, StandsAfter, emptied, run_after}
 use Rattle.job_check.proofs.Looks.{held_with}
 use Rattle.job_check.proofs.OwnedApart.{blocks_twice, data_of_blocks, owned_again}
 
@@ -45,60 +41,55 @@ first_last thread line (y ∷ said) x =
 
 -- ** a turn
 
-module _ (lines : List ThreadLine) (fuel begun : ℕ) (unclean : Option UncleanStep) (k : Kept) (points : List ℕ) (now : List Event)
-    (todo : List Line) (said : List Said) (seen : List Event) (p : Past) (left : HasLeft k now p)
-    (rest : todo ≡ numbered_lines (begun + 1) (drop begun lines)) (count : length said + 1 ≡ begun)
-    (first : first_in k.thread 1 said ≡ unclean) where
-  -- out of its hands again
-  held_out : (state : State Word Flag) → held_with now state k.stack (blocks_in k.own) ≡ held_at now state (emptied k)
-  held_out state = refl
-
-  over_stands : (found : Option UncleanStep) (t : Thread Meant Line Event) → IsOver begun k found points now todo said seen t
-      → StandsAfter (run_after lines fuel begun unclean (Over found) (emptied k)) p (data_in k.own) now t
+module _ (r : Run) (points : List ℕ) (now : List Event) (todo : List Line) (said : List Said) (seen : List Event) (p : Past)
+    (left : HasLeft r.kept now p) (rest : todo ≡ numbered_lines (r.begun + 1) (drop r.begun r.lines))
+    (count : length said + 1 ≡ r.begun) (first : first_in r.kept.thread 1 said ≡ r.unclean) where
+  over_stands : (found : Option UncleanStep) (t : Thread Meant Line Event) → IsOver r.begun r.kept found points now todo said seen t
+      → StandsAfter (run_after (emptied r) (Over found)) p (data_in r.kept.own) now t
   over_stands found t over =
-      subst (λ x. StandsAfter (run_after lines fuel begun unclean (Over found) (emptied k)) p (data_in k.own) now x) (sym over.is)
+      subst (λ x. StandsAfter (run_after (emptied r) (Over found)) p (data_in r.kept.own) now x) (sym over.is)
       (record {
         stands = record {
           todo = rest;
           count = length-append said (record { points = points; ending = over.ending } ∷ []) ∙ count;
           unclean =
-              first_last k.thread 1 said (record { points = points; ending = over.ending })
-              ∙ (let number : 1 + length said ≡ begun = omega (arith, count) in rw (number, first, over.unclean_is) refl);
-          blocks = blocks_twice k.own;
-          no_data = data_of_blocks k.own;
+              first_last r.kept.thread 1 said (record { points = points; ending = over.ending })
+              ∙ (let number : 1 + length said ≡ r.begun = omega (arith, count) in rw (number, first, over.unclean_is) refl);
+          blocks = blocks_twice r.kept.own;
+          no_data = data_of_blocks r.kept.own;
           phase = record {
             seen = now;
             state = over.state;
-            holds = ap (λ xs. held_with now over.state k.stack (blocks_in xs)) (owned_again k.own);
+            holds = ap (λ xs. held_with now over.state r.kept.stack (blocks_in xs)) (owned_again r.kept.own);
           };
         };
-        shared = ap data_in (owned_again k.own);
+        shared = ap data_in (owned_again r.kept.own);
         leaves = left;
       })
 
   waits_stands : (c : Waiting) (t : Thread Meant Line Event)
-      → t ≡ record { todo = todo; phase = Mid c.steps points (held_at now c.state k); said = said; seen = seen }
-      → StandsAfter (run_after lines fuel begun unclean (Waits c) (emptied k)) p (data_in k.own) now t
+      → t ≡ record { todo = todo; phase = Mid c.steps points (held_at now c.state r.kept); said = said; seen = seen }
+      → StandsAfter (run_after (emptied r) (Waits c)) p (data_in r.kept.own) now t
   waits_stands c t is =
-      subst (λ x. StandsAfter (run_after lines fuel begun unclean (Waits c) (emptied k)) p (data_in k.own) now x) (sym is)
+      subst (λ x. StandsAfter (run_after (emptied r) (Waits c)) p (data_in r.kept.own) now x) (sym is)
       (record {
         stands = record {
           todo = rest;
           count = count;
           unclean = first;
-          blocks = blocks_twice k.own;
-          no_data = data_of_blocks k.own;
+          blocks = blocks_twice r.kept.own;
+          no_data = data_of_blocks r.kept.own;
           phase = record {
             seen = now;
             steps_left = refl;
-            holds = ap (λ xs. held_with now c.state k.stack (blocks_in xs)) (owned_again k.own);
+            holds = ap (λ xs. held_with now c.state r.kept.stack (blocks_in xs)) (owned_again r.kept.own);
           };
         };
-        shared = ap data_in (owned_again k.own);
+        shared = ap data_in (owned_again r.kept.own);
         leaves = left;
       })
 
-  pub took_stands : (taken : Taken) (t : Thread Meant Line Event) → TookAs begun k taken points now todo said seen t
-      → StandsAfter (run_after lines fuel begun unclean taken (emptied k)) p (data_in k.own) now t
+  pub took_stands : (taken : Taken) (t : Thread Meant Line Event) → TookAs r.begun r.kept taken points now todo said seen t
+      → StandsAfter (run_after (emptied r) taken) p (data_in r.kept.own) now t
   took_stands (Over found) t took = over_stands found t took
   took_stands (Waits c) t took = waits_stands c t took

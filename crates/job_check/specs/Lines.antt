@@ -11,6 +11,7 @@ use Rattle.job_text.specs.declared.thread_lines.Action.TheVariants.{Peek}
 use Rattle.loaded_modules.specs.declared.instance.Instance.{Instance}
 use Rattle.module_table.specs.declared.events.Event.{Event}
 use Rattle.module_table.specs.Past.{Past, after, close_refusal, open_refusal}
+use Rattle.thread_blocks.specs.Held.{Owned}
 use Rattle.thread_blocks.specs.Instances.{instance_at, instances_in, left_by}
 use Rattle.thread_blocks.specs.Lines.{Line, begun_by, begun_close, begun_in, begun_open, begun_peek, event_at, event_by, unless_refused}
 use Rattle.thread_blocks.specs.Turns.{Begun, Calls as CallsOn, Ending, Says as SaysSo, with_event}
@@ -117,10 +118,10 @@ BeginsPeek line symbol size p k = let l = loads_of k.images in
 
 -- ** steps of the parts
 
--- the thread sees the history as it is now
-pub record Sees (old : Kept) (p : Past) (new : Kept) : Type 0 where
+-- the thread sees the history as it is now, with the data that it is handed
+pub record Sees (handed : List (Owned Byte)) (old : Kept) (p : Past) (new : Kept) : Type 0 where
   pub left : IsLeftBy old.images p
-  pub is : new ≡ with_held (instances_in (infos_of old.images) p) [] Fixed old
+  pub is : new ≡ with_held (instances_in (infos_of old.images) p) handed Fixed old
 
 -- a load fills the data of the instance, unless the image was loaded before
 abbrev pub LoadsNew : Bool → Option Instance → Kept → Kept → Type 0

@@ -1,5 +1,5 @@
 -- The definition's threads that a thread of the code stands for, between two turns.
-use Rattle.std.specs.Prelude.{◌≡◌, ◌+◌, ℕ, Bool, false, List, [], Option, Some, None, drop, length, nat_le}
+use Rattle.std.specs.Prelude.{◌≡◌, ◌+◌, ℕ, Bool, false, List, [], Option, Some, None, drop, length, nat_le, slice_get}
 use Rattle.std.specs.Option.{option_or}
 use Rattle.guest_operands.specs.declared.state.State.{State}
 use Rattle.job_meaning.specs.declared.values.Byte.{Byte}
@@ -108,47 +108,33 @@ pub record TakesTurn (old : Run) (p : Past) (d : List (Owned Byte)) (new : Run) 
       StandsAfter new p' d' (with_event seen (event_of (event_by m.loads thread) t seen))
       (turn (meant_turns m thread old.fuel) (with_data d t) seen)
 
--- ** after a turn
+-- ** the parts of a turn, once the thread has looked and has the data
 
--- what is kept while another thread has the shared data
-abbrev pub emptied : Kept → Kept
-emptied k = record k { own = blocks_in k.own }
+-- it begins its next line
+pub record BeginsLine (r : Run) (p : Past) (taken : Taken) (r' : Run) (p' : Past) : Type 0 where
+  pub line : ThreadLine
+  pub there : slice_get r.lines r.begun ≡ Some line
+  pub begins : BeginsTo r.fuel (record { number = r.begun + 1; told = line }) p r.kept taken p' r'.kept
+  pub is : r' ≡ record r { begun = r.begun + 1; kept = r'.kept }
 
-abbrev pub run_after : List ThreadLine → ℕ → ℕ → Option UncleanStep → Taken → Kept → Run
-run_after lines fuel begun unclean (Over found) k = record {
-  lines = lines;
-  fuel = fuel;
-  begun = begun;
-  kept = k;
-  call = None;
-  unclean = option_or unclean found;
-}
-run_after lines fuel begun unclean (Waits call) k = record {
-  lines = lines;
-  fuel = fuel;
-  begun = begun;
-  kept = k;
-  call = Some call;
-  unclean = unclean;
-}
+-- it continues the call that waits
+pub record ResumesLine (c : Waiting) (r : Run) (p : Past) (taken : Taken) (r' : Run) (p' : Past) : Type 0 where
+  pub resumes : ResumesTo r.fuel r.begun c r.kept taken r'.kept
+  pub is : r' ≡ record r { kept = r'.kept }
+  pub past : p' ≡ p
 
--- it began its next line, and its turn ended so
-pub record BeginsLine (lines : List ThreadLine) (fuel begun : ℕ) (unclean : Option UncleanStep) (line : ThreadLine)
-    (p : Past) (k : Kept) (r : Run) (p' : Past) (d : List (Owned Byte)) : Type 0 where
-  pub taken : Taken
-  pub new : Kept
-  pub begins : BeginsTo fuel (record { number = begun + 1; told = line }) p k taken p' new
-  pub shared : d ≡ data_in new.own
-  pub is : r ≡ run_after lines fuel (begun + 1) unclean taken (emptied new)
+abbrev pub GoesOn : Option Waiting → Run → Past → Taken → Run → Past → Type 0
+GoesOn None r p taken r' p' = BeginsLine r p taken r' p'
+GoesOn (Some c) r p taken r' p' = ResumesLine c r p taken r' p'
 
--- it continued a call, and its turn ended so
-pub record ResumesLine (lines : List ThreadLine) (fuel begun : ℕ) (unclean : Option UncleanStep) (c : Waiting)
-    (k : Kept) (r : Run) (d : List (Owned Byte)) : Type 0 where
-  pub taken : Taken
-  pub new : Kept
-  pub resumes : ResumesTo fuel begun c k taken new
-  pub shared : d ≡ data_in new.own
-  pub is : r ≡ run_after lines fuel begun unclean taken (emptied new)
+-- without the data, which other threads have then
+abbrev pub emptied : Run → Run
+emptied r = record r { kept = record r.kept { own = blocks_in r.kept.own } }
+
+-- its line is over, or its call waits
+abbrev pub run_after : Run → Taken → Run
+run_after r (Over found) = record r { call = None; unclean = option_or r.unclean found }
+run_after r (Waits call) = record r { call = Some call }
 
 -- ** before the first turn
 

@@ -1,5 +1,5 @@
 -- How contracts see a thread of the code, and what else the code keeps true of it.
-use Rattle.std.specs.Prelude.{◌≡◌, ◌≤◌, ◌<◌, ◌^◌, length, None}
+use Rattle.std.specs.Prelude.{◌≤◌, ◌<◌, ◌^◌, length}
 use Rattle.job_check.specs.declared.thread.MeantThread.TheInside.{Inside}
 use Rattle.job_check.specs.Standing.{Run}
 
@@ -16,4 +16,3 @@ run_of r = record {
 pub record HoldsRun (r : Inside) : Type 0 where
   pub lines : length r.script.lines.now < 2 ^ 31
   pub begun : r.script.begun ≤ length r.script.lines.now
-  pub lent : r.space.lent ≡ None

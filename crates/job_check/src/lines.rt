@@ -1,6 +1,6 @@
 //! The first look of a thread's line.
 
-ghost use Rattle.std.specs.Prelude.{◌≡◌, ◌≤◌, ◌<◌, ◌+◌, ◌^◌, ℕ, true, IfOk, OnOk, is_some, length};
+ghost use Rattle.std.specs.Prelude.{◌≡◌, ◌≤◌, ◌<◌, ◌+◌, ◌^◌, ℕ, true, [], IfOk, OnOk, is_some, length};
 ghost use Rattle.job_meaning.specs.Marked.{values_of};
 ghost use Rattle.module_table.specs.Past.{accepts, after_one, module_of};
 ghost use Rattle.thread_blocks.specs.Held.{block_bytes};
@@ -8,10 +8,10 @@ ghost use Rattle.thread_blocks.specs.Instances.{block_start, instances_in, loade
 ghost use Rattle.thread_blocks.specs.Lines.{event_at};
 ghost use Rattle.thread_blocks.specs.MachineTurns.{call_start};
 ghost use Rattle.whole_meaning.specs.Threads.{ops};
-ghost use Rattle.job_check.specs.Histories.{IsLeftBy, infos_of};
+ghost use Rattle.job_check.specs.Histories.{infos_of};
 ghost use Rattle.job_check.specs.Lines.{BeginsCall, BeginsClose, BeginsOpen, BeginsPeek, CanBegin, LoadsNew, Sees, Starts, byte_cause, is_for, shown_step, step_in, unclean_bytes, unclean_for};
 
-use crate::live::{live_instance, live_instances};
+use crate::live::{live_instance, see};
 use crate::verdict::unclean_stop;
 use address_map::{stack_end, thread_pointer};
 use guest_arithmetic::Cause;
@@ -19,7 +19,7 @@ use guest_operands::{State, Stop, start};
 use job_meaning::{Byte, Flag, MarkedValues, Token, Word};
 use job_text::{Action, ThreadLine};
 use loaded_modules::Instance;
-use marked_memory::{MarkedMemory, Wanted, block_start};
+use marked_memory::{MarkedMemory, block_start};
 use module_table::{Event, ModuleTable};
 use std::alloc::{AllocError, Global};
 use thread_turns::Arguments;
@@ -77,15 +77,6 @@ fn call(
 
 // ** opens and closes
 
-/// Makes the thread see the history as it is now.
-fn see(alloc: Global, space: &mut MarkedMemory, table: &ModuleTable) -> Result<(), AllocError>
-    requires { IsLeftBy space.old.images table.now }
-    ensures { OnOk result (Sees space.old table.now space.new) }
-{
-    let live = live_instances(alloc, space.images(), table)?;
-    space.hold(live, Vec::new(alloc), Wanted::Fixed)
-}
-
 /// Enters the thread's own event into the history, and shows it to the thread: its line opens or closes an image.
 fn enter(
     alloc: Global,
@@ -99,7 +90,7 @@ fn enter(
     requires ready { CanBegin space.old table.old }
     ensures enters { OnOk result
         (table.new ≡ after_one table.old (event_at space.old.thread number opens line.now.image)) }
-    ensures sees { OnOk result (Sees space.old table.new space.new) }
+    ensures sees { OnOk result (Sees [] space.old table.new space.new) }
 {
     table.accept(Event {
         thread: space.thread(),
@@ -107,7 +98,7 @@ fn enter(
         opens,
         image: line.image,
     });
-    see(alloc, space, table)?;
+    see(alloc, space, table, Vec::new(alloc))?;
     Ok(())
 }
 

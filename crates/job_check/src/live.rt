@@ -1,11 +1,13 @@
-//! The instances that a history leaves, and where their blocks are.
+//! The instances that a history leaves, where their blocks are, and how a thread sees them.
 
-ghost use Rattle.std.specs.Prelude.{◌≡◌, ◌<◌, IfOk};
+ghost use Rattle.std.specs.Prelude.{◌≡◌, ◌<◌, IfOk, OnOk};
 ghost use Rattle.thread_blocks.specs.Instances.{instances_in, loaded_instance};
 ghost use Rattle.module_table.specs.Past.{module_of};
 ghost use Rattle.job_check.specs.Histories.{IsLeftBy, infos_of};
+ghost use Rattle.job_check.specs.Lines.{Sees};
 
 use loaded_modules::Instance;
+use marked_memory::{MarkedMemory, OwnedRange, Wanted};
 use meant_images::MeantImages;
 use module_table::ModuleTable;
 use std::alloc::{AllocError, Global};
@@ -54,4 +56,18 @@ pub(crate) fn live_instances(
         }
     }
     Ok(live)
+}
+
+/// Makes a thread see the history as it is now, and take these data.
+pub(crate) fn see(
+    alloc: Global,
+    space: &mut MarkedMemory,
+    table: &ModuleTable,
+    handed: Vec<OwnedRange>,
+) -> Result<(), AllocError>
+    requires { IsLeftBy space.old.images table.now }
+    ensures { OnOk result (Sees handed.items space.old table.now space.new) }
+{
+    let live = live_instances(alloc, space.images(), table)?;
+    space.hold(live, handed, Wanted::Fixed)
 }

@@ -1,21 +1,21 @@
 //! One thread of a job, turn by turn.
 
-ghost use Rattle.std.specs.Prelude.{◌≡◌, ◌≤◌, ◌<◌, ◌+◌, ◌^◌, ℕ, [], false, None, IfOk, length};
+ghost use Rattle.std.specs.Prelude.{◌≡◌, ◌≤◌, ℕ, [], false, None, IfOk};
 ghost use Rattle.module_table.specs.Past.{start};
-ghost use Rattle.job_check.specs.Histories.{IsHistory, IsLeftBy, infos_of, last_of};
+ghost use Rattle.job_check.specs.Histories.{IsHistory, infos_of, last_of};
 ghost use Rattle.job_check.specs.Lines.{CanBegin};
 ghost use Rattle.job_check.specs.Progress.{CanTurn, Share, Turned};
-ghost use Rattle.job_check.specs.Standing.{BeginsLine, IsFirstRun, ResumesLine, TakesTurn, is_done, run_after};
+ghost use Rattle.job_check.specs.Standing.{GoesOn, IsFirstRun, is_done, run_after};
 ghost use Rattle.job_check.specs.Taking.{BeginsTo, ResumesTo, RunsTo};
 
 use crate::lines::{Started, begin};
-use crate::live::live_instances;
+use crate::live::see;
 use crate::running::{Ran, resume, run};
 use crate::verdict::unclean_stop;
 use guest_operands::State;
 use job_meaning::{Flag, Word};
 use job_text::{Job, ThreadLine};
-use marked_memory::{MarkedMemory, OwnedRange, Wanted};
+use marked_memory::{MarkedMemory, OwnedRange};
 use meant_images::MeantImages;
 use module_table::ModuleTable;
 use std::alloc::{AllocError, Global};
@@ -114,72 +114,6 @@ fn take_resume(space: &mut MarkedMemory, line: u32, call: Waiting) -> Result<Tak
 
 // ** turns
 
-/// Rebuilds the thread after a turn.
-fn ended<'j, 'm>(
-    mut script: Script<'j>,
-    space: MarkedMemory<'m>,
-    taken: Taken,
-) -> MeantThread<'j, 'm>
-    requires lines { length script.lines.now < 2 ^ 31 }
-    requires begun { script.begun ≤ length script.lines.now }
-    requires lent { space.lent ≡ None }
-    ensures { result ≡ run_after script.entry.lines.now script.entry.fuel script.entry.begun script.entry.said
-        taken space.entry }
-{
-    let call = match taken {
-        Taken::Over(found) => {
-            script.said = script.said.or(found);
-            None
-        }
-        Taken::Waits(call) => Some(call),
-    };
-    MeantThread {
-        script,
-        space,
-        call,
-    }
-}
-
-/// Begins the next line. The thread has looked, and has the data.
-fn begin_line<'j, 'm>(
-    mut script: Script<'j>,
-    mut space: MarkedMemory<'m>,
-    line: &ThreadLine,
-    table: &mut ModuleTable,
-    shared: &mut Vec<OwnedRange>,
-) -> Result<MeantThread<'j, 'm>, AllocError>
-    requires lines { length script.lines.now < 2 ^ 31 }
-    requires begun { script.begun < length script.lines.now }
-    requires ready { CanBegin space table.old }
-    requires lent { space.lent ≡ None }
-    ensures { IfOk result (λ r. BeginsLine script.entry.lines.now script.entry.fuel script.entry.begun script.entry.said
-        line.now table.old space.entry r table.new shared.new.items) }
-{
-    script.begun += 1;
-    let number = script.begun as u32;
-    let taken = take_begin(script.alloc, &mut space, table, number, line, script.fuel)?;
-    *shared = space.take_data()?;
-    Ok(ended(script, space, taken))
-}
-
-/// Continues a call. The thread has looked, and has the data.
-fn resume_line<'j, 'm>(
-    script: Script<'j>,
-    mut space: MarkedMemory<'m>,
-    call: Waiting,
-    shared: &mut Vec<OwnedRange>,
-) -> Result<MeantThread<'j, 'm>, AllocError>
-    requires lines { length script.lines.now < 2 ^ 31 }
-    requires begun { script.begun ≤ length script.lines.now }
-    requires lent { space.lent ≡ None }
-    ensures { IfOk result (λ r. ResumesLine script.entry.lines.now script.entry.fuel script.entry.begun script.entry.said
-        call space.entry r shared.new.items) }
-{
-    let taken = take_resume(&mut space, script.begun as u32, call)?;
-    *shared = space.take_data()?;
-    Ok(ended(script, space, taken))
-}
-
 /// What all threads share: the state that the history leaves, and the data of all instances.
 #[derive(Drop)]
 pub(crate) struct Common {
@@ -204,11 +138,21 @@ impl<'j, 'm> TurnTaker<Common> for MeantThread<'j, 'm> {
         }
     }
 
-    fn turn(self, shared: &mut Common) -> Result<Self, AllocError> {
+    /// Looks at the whole history, and takes the steps up to the next look. Meanwhile the thread has the data that all
+    /// threads share. An accepted open or close enters the history.
+    fn turn(&mut self, shared: &mut Common) -> Result<(), AllocError> {
         if shared.table.seen() >= MOST_EVENTS {
             return Err(AllocError);
         }
-        self.take_turn(&mut shared.table, &mut shared.ranges)
+        let alloc = self.script.alloc;
+        let handed = mem::replace(&mut shared.ranges, Vec::new(alloc));
+        see(alloc, &mut self.space, &shared.table, handed)?;
+        // After a turn that failed, no clause says what is lent.
+        self.space.lend(None);
+        let taken = self.go_on(&mut shared.table)?;
+        shared.ranges = self.space.take_data()?;
+        self.end(taken);
+        Ok(())
     }
 }
 
@@ -230,8 +174,7 @@ impl<'j, 'm> MeantThread<'j, 'm> {
     {
         let script = Script::new(alloc, thread, job, None)?;
         let mut space = MarkedMemory::new(alloc, thread, images)?;
-        let live = live_instances(alloc, images, table)?;
-        space.hold(live, Vec::new(alloc), Wanted::Fixed)?;
+        see(alloc, &mut space, table, Vec::new(alloc))?;
         Ok(MeantThread {
             script,
             space,
@@ -247,34 +190,41 @@ impl<'j, 'm> MeantThread<'j, 'm> {
         script.said
     }
 
-    /// Takes the thread's next turn: a look at the whole history, and the steps up to the next look. During the turn
-    /// the thread has the data that all threads share. An accepted open or close enters the history. Fails only when
-    /// memory runs out: the thread is dropped then, and no clause says what is left of the data.
-    fn take_turn(
-        self,
-        table: &mut ModuleTable,
-        shared: &mut Vec<OwnedRange>,
-    ) -> Result<MeantThread<'j, 'm>, AllocError>
-        requires going { is_done self ≡ false }
-        requires past { IsLeftBy self.kept.images table.old }
-        requires room { table.old.seen < 2 ^ 61 }
-        ensures { IfOk result (λ r. TakesTurn self.entry table.old shared.old.items r table.new shared.new.items) }
+    /// Begins the next line, or continues the call that waits. The thread has looked, and has the data.
+    fn go_on(&mut self, table: &mut ModuleTable) -> Result<Taken, AllocError>
+        requires going { is_done self.old ≡ false }
+        requires ready { CanBegin self.old.kept table.old }
+        requires lent { self.old.kept.lent ≡ None }
+        ensures { IfOk result (λ taken. GoesOn self.old.call self.old table.old taken self.new table.new) }
     {
-        let MeantThread {
-            script,
-            mut space,
-            call,
-        } = self;
-        let alloc = script.alloc;
-        let live = live_instances(alloc, space.images(), table)?;
-        let handed = mem::replace(shared, Vec::new(alloc));
-        space.hold(live, handed, Wanted::Fixed)?;
-        match call {
-            Some(call) => resume_line(script, space, call, shared),
+        match self.call {
+            Some(call) => take_resume(&mut self.space, self.script.begun as u32, call),
             None => {
-                let line = &script.lines[script.begun];
-                begin_line(script, space, line, table, shared)
+                let line = &self.script.lines[self.script.begun];
+                self.script.begun += 1;
+                let number = self.script.begun as u32;
+                take_begin(
+                    self.script.alloc,
+                    &mut self.space,
+                    table,
+                    number,
+                    line,
+                    self.script.fuel,
+                )
             }
         }
+    }
+
+    /// Ends a turn. Of what a line that is over was unclean for, the thread's first counts.
+    fn end(&mut self, taken: Taken)
+        ensures { self.new ≡ run_after self.old taken }
+    {
+        self.call = match taken {
+            Taken::Over(found) => {
+                self.script.said = self.script.said.or(found);
+                None
+            }
+            Taken::Waits(call) => Some(call),
+        };
     }
 }

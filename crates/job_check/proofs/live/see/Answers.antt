@@ -3,7 +3,7 @@ use Rattle.thread_blocks.specs.Instances.{instances_in}
 use Rattle.job_check.specs.Histories.{infos_of}
 use Rattle.marked_memory.specs.Spaces.{HaveOwnNumbers}
 use Rattle.job_check.proofs.Listed.{live_apart}
-use Rattle.job_check.proofs.lines.see.Goals as goal
+use Rattle.job_check.proofs.live.see.Goals as goal
 
 pub hold-requires : goal.hold-requires
 hold-requires c =
