@@ -221,11 +221,6 @@ abbrev Words : Option Files → Option Command → ℕ → ℕ → ℕ → ℕ �
 Words files command before now old new code =
     IfSome files (λ fs. IfSome command (λ own. DidNotFail before now → DidNotFail old new → Completes fs own code))
 
-pub words_complete : (files : Option Files) (words : List (List ℕ)) (command : Command) (before now old new code : ℕ) → asked words ≡ Some command
-    → IfSome files (λ fs. DidNotFail before now → DidNotFail old new → Completes fs command code) → Words files (asked words) before now old new code
-words_complete None words command before now old new code e completes = tt
-words_complete (Some fs) words command before now old new code e completes = rw e completes
-
 pub usage_completes : (files : Option Files) (words : List (List ℕ)) (before now old new code : ℕ) → takes_words words ≡ false → Words files (asked words) before now old new code
 usage_completes None words before now old new code other = tt
 usage_completes (Some fs) words before now old new code other = rw (not_asked words other) tt

@@ -9,8 +9,7 @@ use Rattle.command_line.specs.declared.tasks.Task.TheVariants.{Run, Check, Link,
 use Rattle.command_replies.specs.Statuses.{IsLate}
 use Rattle.command_replies.specs.Steps.{with_names}
 use Rattle.commands.specs.Links.{LinkSays, Leaves}
-use Rattle.commands.specs.Commands.{CommandLeaves}
-use Rattle.commands.specs.Replies.{Shows, ShowsWords, Asked, AskedWords, WordsLeave}
+use Rattle.commands.specs.Replies.{ShowsWords, AskedWords, WordsLeave}
 use Rattle.commands.proofs.Asked.{answered}
 
 abbrev Names : Type 0
@@ -37,21 +36,9 @@ pub asked_usage : (files : Option Files) (words : List (List ℕ)) (old : Option
 asked_usage None words old code other = tt
 asked_usage (Some fs) words old code other = rw (not_asked words other) refl
 
-pub shows_command : (files after : Option Files) (words : List (List ℕ)) (command : Command) (old new : SinkView) (code : ℕ) → asked words ≡ Some command → Shows files after command old new code
-    → ShowsWords files after (asked words) old new code
-shows_command files after words command old new code e shown = rw e shown
-
-pub asked_command : (files : Option Files) (words : List (List ℕ)) (command : Command) (old new : Option Names) (code : ℕ) → asked words ≡ Some command → IfSome files (λ fs. Asked fs command old new code)
-    → IfSome files (λ fs. AskedWords fs (asked words) old new code)
-asked_command None words command old new code e shown = tt
-asked_command (Some fs) words command old new code e shown = rw e shown
-
 -- the files after words
 pub leave_usage : (files : Option Files) (words : List (List ℕ)) → takes_words words ≡ false → WordsLeave files files (asked words)
 leave_usage files words other = rw (not_asked words other) refl
-
-pub leave_command : (files after : Option Files) (words : List (List ℕ)) (command : Command) → asked words ≡ Some command → CommandLeaves files after command → WordsLeave files after (asked words)
-leave_command files after words command e left = rw e left
 
 unchanged : (files : Option Files) (Says : Files → ℕ → List ℕ → Type 0) → Leaves files files Says
 unchanged None Says = refl

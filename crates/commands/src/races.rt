@@ -6,7 +6,7 @@
 //! `race_runs` runs the threads.
 ghost use Rattle.std.specs.Prelude.{◌≡◌, ℕ, List, All, IfSome, None, map};
 ghost use Rattle.command_line.specs.Rewritings.{is_allowed};
-ghost use Rattle.command_replies.specs.Faults.{KeepsFiles, NoStoreFault, StoreCounts};
+ghost use Rattle.command_replies.specs.Faults.{NoStoreFault, StoreCounts};
 ghost use Rattle.command_replies.specs.Steps.{Asks, Comes};
 ghost use Rattle.commands.specs.InOrder.{AreInOrder, AreLinked};
 ghost use Rattle.commands.specs.Jobs.{BytesSay, ImagesSay, JobSays, asked_names, job_names};
@@ -34,7 +34,6 @@ use std::sync::Wait;
 use std::thread::Threads;
 
 /// `race JOB [--no-relax]`: runs the job's threads at once, each in a thread of its own.
-#[tactic(auto, using(crate::proofs::Kept::keeps_same))]
 pub fn raced<R: Threads + Wait + Sync, S: Store>(
     rt: &R,
     alloc: Global,
@@ -46,7 +45,6 @@ pub fn raced<R: Threads + Wait + Sync, S: Store>(
     ensures cause { StoreCounts (S.faults store.old) (S.faults store.new) result }
     ensures says { IfSome (S.files store.old) (λ fs. Comes (λ text. text.items)
         (RaceSays fs name.now rewriting) result) }
-    ensures kept { KeepsFiles (S.files store.old) (S.files store.new) result }
     ensures asks { IfSome (S.files store.old) (λ fs. Asks (asked_names fs name.now None)
         (S.asked store.old) (S.asked store.new) result) }
 {

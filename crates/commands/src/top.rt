@@ -1,6 +1,6 @@
 //! The top calls, which `main` makes.
 ghost use Rattle.std.specs.Prelude.{◌≢◌, IfSome, None, false, map, string_bytes};
-ghost use Rattle.command_line.specs.Words.{IsInLimits, IsWithinLimits, asked, takes_words};
+ghost use Rattle.command_line.specs.Words.{IsInLimits, asked, takes_words};
 ghost use Rattle.command_replies.specs.Statuses.{FilesShown, UsageShown, StoreShown, SinkShown};
 ghost use Rattle.ports.specs.Files.{untold_files};
 ghost use Rattle.commands.specs.Completes.{Completes, DidNotFail};
@@ -18,7 +18,7 @@ use std::thread::Threads;
 
 /// Reads the words, without the program's name, and runs their command: puts its output, or the one line that says why
 /// there is none, and returns the status to end with.
-#[tactic(auto, using(crate::proofs::Words::asked_late, crate::proofs::Words::asked_usage, crate::proofs::Words::shows_command, crate::proofs::Words::asked_command, crate::proofs::Words::leave_command, crate::proofs::Words::leave_usage, crate::proofs::Words::leave_late, crate::proofs::Completing::words_complete, crate::proofs::Completing::usage_completes, crate::proofs::Completing::late_completes))]
+#[tactic(auto, using(crate::proofs::Words::asked_late, crate::proofs::Words::asked_usage, crate::proofs::Words::leave_usage, crate::proofs::Words::leave_late, crate::proofs::Completing::usage_completes, crate::proofs::Completing::late_completes))]
 pub fn tlsld<R: Threads + Wait + Sync, S: Store, K: Sink>(
     rt: &R,
     alloc: Global,
@@ -40,39 +40,13 @@ pub fn tlsld<R: Threads + Wait + Sync, S: Store, K: Sink>(
         → DidNotFail (K.view out.old).faults (K.view out.new).faults → Completes fs command result)) }
 {
     match read_words(alloc, words) {
-        Ok(command) => command_shown(rt, alloc, &command, store, out),
-        Err(WordsFault::Usage) => say_usage(out),
-        Err(WordsFault::OutOfMemory) => say_no_memory(out),
-    }
-}
-
-/// Runs a command and puts what it gives.
-#[tactic(auto, using(crate::proofs::Kept::output_kept))]
-fn command_shown<R: Threads + Wait + Sync, S: Store, K: Sink>(
-    rt: &R,
-    alloc: Global,
-    command: &Command,
-    store: &mut S,
-    out: &mut K,
-) -> u8
-    requires within { IsWithinLimits command.now }
-    ensures taken { result ≢ 2 }
-    ensures store { StoreShown (S.faults store.old) (S.faults store.new) result }
-    ensures sink { SinkShown (K.view out.old).faults (K.view out.new).faults result }
-    ensures kept { FilesShown (S.files store.old) (S.files store.new) result }
-    ensures files { CommandLeaves (S.files store.old) (S.files store.new) command.now }
-    ensures shows { Shows (S.files store.old) (S.files store.new) command.now (K.view out.old) (K.view out.new) result }
-    ensures asked { IfSome (S.files store.old)
-        (λ fs. Asked fs command.now (S.asked store.old) (S.asked store.new) result) }
-    ensures completes { IfSome (S.files store.old) (λ fs. DidNotFail (S.faults store.old) (S.faults store.new)
-        → DidNotFail (K.view out.old).faults (K.view out.new).faults → Completes fs command.now result) }
-{
-    match command {
-        Command::Plain(task) => tlsld_plain(rt, alloc, task, store, out),
-        Command::Race { job, rewriting } => {
-            let raced = raced(rt, alloc, store, job.as_str(), *rewriting);
+        Ok(Command::Plain(task)) => tlsld_plain(rt, alloc, &task, store, out),
+        Ok(Command::Race { job, rewriting }) => {
+            let raced = raced(rt, alloc, store, job.as_str(), rewriting);
             deliver(out, &raced)
         }
+        Err(WordsFault::Usage) => say_usage(out),
+        Err(WordsFault::OutOfMemory) => say_no_memory(out),
     }
 }
 
