@@ -22,7 +22,7 @@ use Rattle.order_laws.proofs.Worlds.{order_alike}
 use Rattle.tied_meaning.specs.Numbers.{Setting}
 use Rattle.tied_meaning.specs.Ties.{AreTied}
 use Rattle.tied_meaning.specs.Threads.{AtRest, InCall, SameData, Waiting}
-use Rattle.held_alike.proofs.Lent.{are_lent}
+use Rattle.held_alike.proofs.Lent.{each_lent}
 use Rattle.begin_alike.specs.Begun.{CallsAreAlike}
 use Rattle.begin_alike.specs.Laws.{CleanJobsPrint, CleanThreadsPrint, EndsIn, JobsStayAlike, SameJob, all_said, meant_thread}
 use Rattle.begin_alike.proofs.Begins.{begin_alike, event_same}
@@ -46,14 +46,7 @@ module _ (g : Setting) (m : Meaning) (q : Loads ℕ) (history : List Event) (tie
   -- ** threads and data, as order_laws asks for them
 
   lent : (i : ℕ) → AreLent Wait Rest (SameData g q) i
-  lent i = let one = are_lent g m q history i in record {
-    lend_rest = λ h h' xs ys r d. one.lend_rest h h' xs ys r d;
-    lend_wait = λ h h' xs ys r d. one.lend_wait h h' xs ys r d;
-    keep_rest = λ h h' r. one.keep_rest h h' r;
-    keep_wait = λ h h' r. one.keep_wait h h' r;
-    left_rest = λ h h' r. one.left_rest h h' r;
-    left_wait = λ h h' r. one.left_wait h h' r;
-  }
+  lent i = each_lent g m q history i
 
   pub threads_do : (fuel thread : ℕ) → 1 ≤ thread → thread ≤ 64
       → AreAlike (Call thread) (Wait thread) (Rest thread) Fine (meant_turns m thread fuel) (thread_turns q thread fuel)

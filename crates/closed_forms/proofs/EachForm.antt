@@ -6,7 +6,7 @@ use Rattle.link_core.specs.Images.{image_of}
 use Rattle.link_faults.specs.declared.image_kind.ImageKind.TheVariants.{Exe, Start}
 use Rattle.closed_jobs.specs.Worlds.{said_in}
 use Rattle.closed_jobs.proofs.Joined.{both-say, one-linked}
-use Rattle.closed_jobs.proofs.Linked.{linked}
+use Rattle.link_core.proofs.Computed.{linked}
 use Rattle.closed_jobs.proofs.Opened.{meant}
 use Rattle.closed_jobs.proofs.Ran.{ran}
 use Rattle.closed_forms.specs.EachForm.{Loads, answers, calls, links, program, program_object}

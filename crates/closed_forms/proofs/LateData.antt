@@ -3,7 +3,7 @@ use Rattle.std.proofs.Common.{◌≡◌, Bool, true, false, [], ◌∷◌, refl}
 use Rattle.link_faults.specs.declared.image_kind.ImageKind.TheVariants.{Exe, Late}
 use Rattle.closed_jobs.specs.Worlds.{said_in}
 use Rattle.closed_jobs.proofs.Joined.{both-say, one-linked}
-use Rattle.closed_jobs.proofs.Linked.{linked}
+use Rattle.link_core.proofs.Computed.{linked}
 use Rattle.closed_jobs.proofs.Opened.{meant}
 use Rattle.closed_jobs.proofs.Ran.{ran}
 use Rattle.closed_forms.specs.LateData.{late, lines, links, module_object, order, program, program_object, says}

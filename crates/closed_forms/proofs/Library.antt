@@ -1,6 +1,6 @@
 -- The library that both jobs have is linked to one image.
 use Rattle.std.proofs.Common.{◌≡◌, Bool, true, false, refl}
-use Rattle.closed_jobs.proofs.Linked.{linked}
+use Rattle.link_core.proofs.Computed.{linked}
 use Rattle.closed_forms.specs.Library.{library, library_object}
 use Rattle.closed_forms.proofs.LibraryImage.{library_image}
 

@@ -10,7 +10,7 @@ use Rattle.thread_blocks.specs.JobWorlds.{job_world}
 use Rattle.whole_meaning.specs.Jobs.{meant_world}
 use Rattle.whole_meaning.specs.Loads.{meaning_of}
 use Rattle.closed_jobs.specs.Worlds.{BothSay, Says, said_in}
-use Rattle.closed_jobs.proofs.Linked.{linked}
+use Rattle.link_core.proofs.Computed.{linked}
 use Rattle.closed_jobs.proofs.Opened.{meant}
 use Rattle.closed_jobs.proofs.Ran.{ran}
 

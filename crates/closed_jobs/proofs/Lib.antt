@@ -1,4 +1,3 @@
-pub mod Linked
 pub mod Ran
 pub mod Opened
 pub mod Joined

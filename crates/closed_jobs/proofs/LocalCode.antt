@@ -5,7 +5,7 @@ use Rattle.closed_jobs.specs.Laws.{LocalCodeSaysTheSame}
 use Rattle.closed_jobs.specs.Worlds.{file, said_in}
 use Rattle.closed_jobs.specs.LocalCode.{object, program, links, lines, says}
 use Rattle.closed_jobs.proofs.Joined.{both-say, one-linked}
-use Rattle.closed_jobs.proofs.Linked.{linked}
+use Rattle.link_core.proofs.Computed.{linked}
 use Rattle.closed_jobs.proofs.Opened.{meant}
 use Rattle.closed_jobs.proofs.Ran.{ran}
 

@@ -12,7 +12,7 @@ use Rattle.thread_blocks.specs.Instances.{block_start}
 use Rattle.tied_meaning.specs.Numbers.{IsMade, base_number}
 use Rattle.tied_meaning.specs.Ties.{HasFourBytes}
 use Rattle.closed_jobs.specs.LocalSites.{app, setting}
-use Rattle.closed_jobs.specs.Worlds.{bytes_of_digits}
+use Rattle.elf_records.specs.Digits.{bytes_of_digits}
 use Rattle.closed_jobs.proofs.Closed.{four-of}
 use Rattle.closed_jobs.proofs.LocalLoads.{q}
 

@@ -11,7 +11,7 @@ use Rattle.sequence_laws.specs.Instructions.{displaced, plain, of_next, of_regis
 use Rattle.thread_blocks.specs.Instances.{Loads}
 use Rattle.tied_meaning.specs.Sites.{Stands}
 use Rattle.closed_jobs.specs.LocalSites.{app, setting, base, lea, call}
-use Rattle.closed_jobs.specs.Worlds.{bytes_of_digits}
+use Rattle.elf_records.specs.Digits.{bytes_of_digits}
 use Rattle.closed_jobs.proofs.Closed.{instruction, word}
 use Rattle.closed_jobs.proofs.LocalLoads as local
 use Rattle.closed_jobs.proofs.Sites.{kept}

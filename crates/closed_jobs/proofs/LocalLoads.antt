@@ -8,7 +8,7 @@ use Rattle.whole_meaning.specs.Meanings.{Meaning}
 use Rattle.closed_jobs.specs.LocalCode.{object, program, links}
 use Rattle.closed_jobs.specs.Worlds.{file, loads_of_links}
 use Rattle.closed_jobs.proofs.Closed.{loads}
-use Rattle.closed_jobs.proofs.Linked.{linked}
+use Rattle.link_core.proofs.Computed.{linked}
 use Rattle.closed_jobs.proofs.Opened.{opened_meaning}
 
 unfoldable pub q : Bool → Loads ℕ

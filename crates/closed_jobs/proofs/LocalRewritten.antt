@@ -13,7 +13,7 @@ use Rattle.tied_meaning.specs.Sites.{IsDistance, Stands}
 use Rattle.guest_machine.specs.Use.{plus}
 use Rattle.whole_meaning.specs.Sequences.{variable_distance}
 use Rattle.closed_jobs.specs.LocalSites.{app, setting, base, lea, call}
-use Rattle.closed_jobs.specs.Worlds.{bytes_of_digits}
+use Rattle.elf_records.specs.Digits.{bytes_of_digits}
 use Rattle.closed_jobs.proofs.Closed.{instruction}
 use Rattle.closed_jobs.proofs.LocalLoads as local
 use Rattle.closed_jobs.proofs.Sites.{written}

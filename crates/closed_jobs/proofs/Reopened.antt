@@ -7,7 +7,7 @@ use Rattle.closed_jobs.specs.Worlds.{said_in}
 use Rattle.closed_jobs.specs.Reopened.{program_object, module_object, program, late, links, lines, order, says}
 use Rattle.closed_jobs.proofs.ReopenedImages.{late_image, program_kept, program_rewritten}
 use Rattle.closed_jobs.proofs.Joined.{both-say, one-linked}
-use Rattle.closed_jobs.proofs.Linked.{linked}
+use Rattle.link_core.proofs.Computed.{linked}
 use Rattle.closed_jobs.proofs.Opened.{meant}
 use Rattle.closed_jobs.proofs.Ran.{ran}
 

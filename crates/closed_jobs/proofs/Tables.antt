@@ -6,7 +6,7 @@ use Rattle.closed_jobs.specs.Tables.{HasTable, app, app_object, app_words, lib, 
 use Rattle.closed_jobs.specs.Tables.{of_plug, plug, plug_object, plug_words}
 use Rattle.closed_jobs.specs.Worlds.{file}
 use Rattle.closed_jobs.proofs.Closed.{loads}
-use Rattle.closed_jobs.proofs.Linked.{linked}
+use Rattle.link_core.proofs.Computed.{linked}
 
 app_table : HasTable app of_app 0x1_0400_2000 app_words
 unfolding loads linked instances_in app lib plug app_object lib_object plug_object file

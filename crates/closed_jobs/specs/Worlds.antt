@@ -1,7 +1,8 @@
 -- A job in both worlds, from one list of links: what its linked images print, and what its objects mean.
-use Rattle.std.specs.Prelude.{◌≡◌, ℕ, ◌+◌, ◌*◌, ◌-◌, Bool, List, [], ◌∷◌, map, nat_lt, if◌then◌else◌}
+use Rattle.std.specs.Prelude.{◌≡◌, ℕ, Bool, List, [], ◌∷◌, map}
 use Rattle.std.specs.List.{flat_map}
 use Rattle.job_text.specs.declared.thread_lines.ThreadLine.{ThreadLine}
+use Rattle.elf_records.specs.Digits.{bytes_of_digits}
 use Rattle.link_core.specs.Images.{image_of}
 use Rattle.link_faults.specs.declared.image_kind.ImageKind.{ImageKind}
 use Rattle.link_needs.specs.Linking.{Linking}
@@ -16,14 +17,6 @@ use Rattle.whole_meaning.specs.Jobs.{meant_world}
 use Rattle.whole_meaning.specs.Loads.{meaning_of}
 
 -- ** an object's file, as hexadecimal digits
-
-abbrev pub digit_of : ℕ → ℕ
-digit_of c = if nat_lt c 0x3a then c - 0x30 else c - 0x57
-
-abbrev pub bytes_of_digits : List ℕ → List ℕ
-bytes_of_digits [] = []
-bytes_of_digits (c ∷ []) = []
-bytes_of_digits (c ∷ d ∷ more) = (digit_of c * 16 + digit_of d) ∷ bytes_of_digits more
 
 unfoldable pub file : List (List ℕ) → List ℕ
 file lines = flat_map bytes_of_digits lines

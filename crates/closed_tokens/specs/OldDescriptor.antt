@@ -30,7 +30,8 @@ use Rattle.thread_blocks.specs.Turns.{Answered, Said, Stopped}
 use Rattle.transcript_text.specs.declared.outcomes.LineFault.TheVariants.{Unloaded}
 use Rattle.transcript_text.specs.declared.outcomes.Outcome.TheVariants.{Bytes, Closed, Fault, Opened}
 use Rattle.whole_meaning.specs.declared.unclean.UncleanStep.{UncleanStep}
-use Rattle.closed_jobs.specs.Worlds.{Says, bytes_of_digits, file, link_of_object}
+use Rattle.closed_jobs.specs.Worlds.{Says, file, link_of_object}
+use Rattle.elf_records.specs.Digits.{bytes_of_digits}
 
 unfoldable pub program_object : List ℕ
 unfolding file

@@ -24,7 +24,7 @@ use Rattle.elf_object.specs.LawsOfParts.{placed, class_of_section, size_of_secti
 use Rattle.elf_object.specs.LawsOfParts.{place_absolute}
 
 -- a number that is no type counts as no relocation
-width_is : (kind : Option RelocationKind) → field_width (unwrap_or kind Nothing) ≡ width_of kind
+pub width_is : (kind : Option RelocationKind) → field_width (unwrap_or kind Nothing) ≡ width_of kind
 width_is None = refl
 width_is (Some kind) = refl
 

@@ -1,5 +1,7 @@
 pub mod Alignments
+pub mod Digits
 pub mod Fields
+pub mod Firsts
 pub mod Laws
 pub mod RecordLaws
 pub mod Records

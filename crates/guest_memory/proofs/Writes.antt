@@ -32,7 +32,7 @@ module _ {B : Type 0} (place : ℕ) (byte : B) where
       → (if here then written range ∷ ranges else range ∷ with_byte ranges place byte) ≡ range ∷ ranges)
       [ true ↦ λ h. absurd (omega arith) | false ↦ λ h. ap (λ rest. range ∷ rest) (with_byte-none ranges (omega arith)) ]) none
 
-second : (a b : Bool) → (a && b) ≡ true → b ≡ true
+pub second : (a b : Bool) → (a && b) ≡ true → b ≡ true
 second true b h = h
 second false b h = cc
 

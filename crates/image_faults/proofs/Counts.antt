@@ -3,13 +3,13 @@ use Rattle.std.proofs.Common.{◌≡◌, ◌+◌, ◌<◌, ◌⊎◌, ℕ, zero,
 use Rattle.std.proofs.lemmas.Bool.Decides.{nat_tests}
 use Rattle.image_faults.specs.Counts.{leading, how_many, behind_last}
 
-lead_of : (r n : ℕ) (q : Bool) → r ≡ n → q ≡ true → (if nat_lt r n then r else (if q then suc n else n)) ≡ suc n
+pub lead_of : (r n : ℕ) (q : Bool) → r ≡ n → q ≡ true → (if nat_lt r n then r else (if q then suc n else n)) ≡ suc n
 lead_of r n q same passes = grind (arith, nat_tests)
 
-stop_of : (r n : ℕ) (q : Bool) → r ≡ n → q ≡ false → (if nat_lt r n then r else (if q then suc n else n)) ≡ n
+pub stop_of : (r n : ℕ) (q : Bool) → r ≡ n → q ≡ false → (if nat_lt r n then r else (if q then suc n else n)) ≡ n
 stop_of r n q same fails = grind (arith, nat_tests)
 
-stay_of : (r n m : ℕ) → r < n → (if nat_lt r n then r else m) ≡ r
+pub stay_of : (r n m : ℕ) → r < n → (if nat_lt r n then r else m) ≡ r
 stay_of r n m below = grind (arith, nat_tests)
 
 pub leading_none : (p : ℕ → Bool) → leading p 0 ≡ 0

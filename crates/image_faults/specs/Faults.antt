@@ -1,5 +1,5 @@
 -- When bytes are an image: when a rule is broken, and which fault is the first.
-use Rattle.std.specs.Prelude.{◌≡◌, ◌+◌, ◌*◌, ◌<◌, ℕ, List, Option, Some, None, Result, Ok, Err, length}
+use Rattle.std.specs.Prelude.{◌≡◌, ◌+◌, ◌*◌, ◌<◌, ℕ, List, Result, Ok, Err, length}
 use Rattle.image_rules.specs.declared.fault.FaultKind.{FaultKind}
 use Rattle.image_rules.specs.declared.fault.ImageFault.{ImageFault}
 use Rattle.image_rules.specs.declared.fault.ImageFault.TheVariants.{OutOfMemory, At}
@@ -15,6 +15,7 @@ use Rattle.image_faults.specs.Array.{IsRightEntry, entry_place, symbol_count, sy
 use Rattle.image_faults.specs.Array.{relocations_place}
 use Rattle.image_faults.specs.Symbols.{IsRightSymbol, IsPastTls}
 use Rattle.image_faults.specs.Relocations.{IsRightRelocation, IsOwnOutside}
+pub use Rattle.elf_records.specs.Firsts.{IsFirstAt}
 
 -- how many entries a table has
 abbrev pub table_count : TableRule → List ℕ → ℕ
@@ -69,11 +70,6 @@ KeepsBelow n b = (rule : Rule) → number rule < n → Keeps rule b
 -- the bytes stand for an image
 abbrev pub IsImage : List ℕ → Type 0
 IsImage b = (rule : Rule) → Keeps rule b
-
--- the least number at which P holds, or that it holds at none
-abbrev pub IsFirstAt : (ℕ → Type 0) → Option ℕ → Type 0
-IsFirstAt P None = (e : ℕ) → P e → ⊥
-IsFirstAt P (Some e) = P e × ((f : ℕ) → f < e → P f → ⊥)
 
 -- the first fault: the rule is broken here, at no earlier entry, and all earlier rules are kept
 pub record IsFirst (b : List ℕ) (rule : Rule) (e : ℕ) : Type 0 where

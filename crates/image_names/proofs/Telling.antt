@@ -2,7 +2,7 @@
 use Rattle.std.proofs.Common.{◌≡◌, ◌∙◌, ◌<◌, ◌≤◌, ℕ, zero, suc, ◌+◌, Bool, true, false, cond, not, ◌&&◌, List, [], ◌∷◌, length, Option, Some, None, refl, sym, ap, Bor, arith}
 use Rattle.std.specs.Prelude.{if◌then◌else◌, option_and_then}
 use Rattle.std.specs.List.{list_any, position_from, slice_get}
-use Rattle.std.specs.Option.{option_map, unwrap_or}
+use Rattle.std.specs.Option.{option_map, option_or, unwrap_or}
 use Rattle.std.specs.Str.{bytes_eq}
 use Rattle.std.proofs.lemmas.Slice.Eq.{bytes_eq-Decides}
 use Rattle.indexmap.specs.IndexMap.{insert_entry}
@@ -12,13 +12,13 @@ use Rattle.image_names.specs.declared.meaning.Meaning.{Meaning}
 use Rattle.image_names.specs.declared.meaning.Meaning.TheVariants.{Function, Other, Variable}
 use Rattle.image_names.specs.Functions.{entry_in, function_place, runs_at}
 use Rattle.elf_records.specs.Symbols.{is_tls}
-use Rattle.image_names.specs.Meanings.{Meanings, TellsWith, first_from, function_of, meaning_at, meaning_in, meaning_of, noted, or_else, same_names, told, variable_of}
+use Rattle.image_names.specs.Meanings.{Meanings, TellsWith, first_from, function_of, meaning_at, meaning_in, meaning_of, noted, same_names, told, variable_of}
 use Rattle.image_names.specs.Variables.{variable_in, variable_place}
-use Rattle.image_names.proofs.Finding.{left_at}
+use Rattle.image_file.proofs.Left.{left_at}
 
 -- ** what is told
 
-first_given : {X : Type 0} (o : Option X) (x : X) → or_else o (Some x) ≡ Some (unwrap_or o x)
+first_given : {X : Type 0} (o : Option X) (x : X) → option_or o (Some x) ≡ Some (unwrap_or o x)
 first_given (Some y) x = refl
 first_given None x = refl
 
@@ -77,7 +77,7 @@ module _ (image : Spelled) (n : ℕ) (named : Bor (List ℕ)) (symbol : ImageSym
       meaning = meaning_of image.parts symbol
 
       by : (name : List ℕ) (b : Bool) → bytes_eq name named.now ≡ b
-          → or_else (told (noted old named meaning) name) (meaning_at image (first_from image (n + 1) name)) ≡ meaning_in image name
+          → option_or (told (noted old named meaning) name) (meaning_at image (first_from image (n + 1) name)) ≡ meaning_in image name
       by name true same =
           let rest = meaning_at image (first_from image (n + 1) name) in
           let v = unwrap_or (told old named.now) meaning in
@@ -85,10 +85,10 @@ module _ (image : Spelled) (n : ℕ) (named : Bor (List ℕ)) (symbol : ImageSym
           inserted name named v old ∙ ap (λ b. cond b (Some v) (told old name)) same in
           let here : meaning_at image (first_from image n name) ≡ Some meaning =
           meaning_here name ∙ ap (λ b. cond b (Some meaning) rest) same in
-          ap (λ o. or_else o rest) now
+          ap (λ o. option_or o rest) now
           ∙ sym (first_given (told old named.now) meaning)
-          ∙ ap (λ q. or_else (told old q) (Some meaning)) (sym ((bytes_eq-Decides name named.now).0 same))
-          ∙ ap (or_else (told old name)) (sym here)
+          ∙ ap (λ q. option_or (told old q) (Some meaning)) (sym ((bytes_eq-Decides name named.now).0 same))
+          ∙ ap (option_or (told old name)) (sym here)
           ∙ before name
       by name false other =
           let rest = meaning_at image (first_from image (n + 1) name) in
@@ -97,7 +97,7 @@ module _ (image : Spelled) (n : ℕ) (named : Bor (List ℕ)) (symbol : ImageSym
           inserted name named v old ∙ ap (λ b. cond b (Some v) (told old name)) other in
           let here : meaning_at image (first_from image n name) ≡ rest =
           meaning_here name ∙ ap (λ b. cond b (Some meaning) rest) other in
-          ap (λ o. or_else o rest) now ∙ ap (or_else (told old name)) (sym here) ∙ before name
+          ap (λ o. option_or o rest) now ∙ ap (option_or (told old name)) (sym here) ∙ before name
 
 -- ** the end of the symbols
 

@@ -4,7 +4,7 @@ use Rattle.std.specs.Prelude.{if◌then◌else◌}
 use Rattle.std.specs.Borrow.{Bor}
 use Rattle.std.specs.List.{list_any, position_from}
 use Rattle.std.specs.Map.{lookup}
-use Rattle.std.specs.Option.{option_map, unwrap_or}
+use Rattle.std.specs.Option.{option_map, option_or, unwrap_or}
 use Rattle.std.specs.Str.{bytes_eq}
 use Rattle.indexmap.specs.IndexMap.{insert_entry}
 use Rattle.image_file.specs.declared.symbol.ImageSymbol.{ImageSymbol}
@@ -59,10 +59,6 @@ Meanings = List (Bor (List ℕ) × Meaning)
 abbrev pub told : Meanings → List ℕ → Option Meaning
 told meanings name = lookup (λ k. bytes_eq name k.now) meanings
 
-abbrev pub or_else : {X : Type 0} → Option X → Option X → Option X
-or_else (Some x) rest = Some x
-or_else None rest = rest
-
 -- the table has for each name the meaning of its first symbol
 abbrev pub Tells : Spelled → Meanings → Type 0
 Tells image meanings = (name : List ℕ) → told meanings name ≡ meaning_in image name
@@ -70,7 +66,7 @@ Tells image meanings = (name : List ℕ) → told meanings name ≡ meaning_in i
 -- it does so for the symbols from a number on
 abbrev pub TellsWith : Spelled → ℕ → Meanings → Type 0
 TellsWith image n meanings = (name : List ℕ)
-    → or_else (told meanings name) (meaning_at image (first_from image n name)) ≡ meaning_in image name
+    → option_or (told meanings name) (meaning_at image (first_from image n name)) ≡ meaning_in image name
 
 -- the test that tells names apart
 abbrev pub same_names : Bor (List ℕ) → Bor (List ℕ) → Bool

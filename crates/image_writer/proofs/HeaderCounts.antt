@@ -3,18 +3,7 @@ use Rattle.std.proofs.Common.{◌≡◌, ◌+◌, ◌<◌, ◌≤◌, ◌⊎◌,
 use Rattle.std.proofs.lemmas.Bool.Decides.{nat_tests}
 use Rattle.image_faults.specs.Counts.{leading, how_many, behind_last}
 use Rattle.image_faults.proofs.Counts.{below_or_at}
-
--- a step of `leading`: one more that passes, behind none that fails
-lead_of : (r n : ℕ) (q : Bool) → r ≡ n → q ≡ true → (if nat_lt r n then r else (if q then suc n else n)) ≡ suc n
-lead_of r n q same passes = grind (arith, nat_tests)
-
--- the first that fails
-stop_of : (r n : ℕ) (q : Bool) → r ≡ n → q ≡ false → (if nat_lt r n then r else (if q then suc n else n)) ≡ n
-stop_of r n q same fails = grind (arith, nat_tests)
-
--- what was found stays
-stay_of : (r n m : ℕ) → r < n → (if nat_lt r n then r else m) ≡ r
-stay_of r n m below = grind (arith, nat_tests)
+use Rattle.image_faults.proofs.Counts.{lead_of, stay_of, stop_of}
 
 -- all numbers below n pass
 leading_all : (p : ℕ → Bool) (n : ℕ) → ((i : ℕ) → i < n → p i ≡ true) → leading p n ≡ n

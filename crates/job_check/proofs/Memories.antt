@@ -15,6 +15,7 @@ use Rattle.thread_blocks.specs.Held.{Owned, owned, owners_of, ranges_in}
 use Rattle.thread_blocks.specs.Spaces.{IsImage, stack_range}
 use Rattle.marked_memory.specs.Kept.{Kept, Shape, fixed_in, lent_range, memory_of, ranges_of_kept, shape_of, with_lent}
 use Rattle.marked_memory.proofs.SpaceImages.{SameShape, same_shape}
+use Rattle.marked_memory.proofs.SpaceImages.{first-stack}
 
 -- ** accesses of several bytes
 
@@ -59,9 +60,6 @@ tail-same a b xs ys e = cc
 without-lent : (word : Option ℕ) (xs ys : List (Range Byte)) → with_lent word xs ≡ with_lent word ys → xs ≡ ys
 without-lent None xs ys e = e
 without-lent (Some number) xs ys e = tail-same (lent_range number) (lent_range number) xs ys e
-
-first-stack : (a b : Range Byte) (rest more : List (Range Byte)) → a ∷ rest ≡ b ∷ more → (a.bytes ≡ b.bytes) × (rest ≡ more)
-first-stack a b rest more e = (cc, cc)
 
 -- stack and own ranges are found in the ranges
 parts-same : (word : Option ℕ) (start : ℕ) (stack stack' : List Byte) (own own' fixed : List (Range Byte))

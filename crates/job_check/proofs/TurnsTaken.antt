@@ -18,12 +18,9 @@ use Rattle.job_check.specs.Lines.{HasLeft}
 use Rattle.job_check.specs.Standing.{Run, StandsAfter, emptied, run_after}
 use Rattle.job_check.proofs.Looks.{held_with}
 use Rattle.job_check.proofs.OwnedApart.{blocks_twice, data_of_blocks, owned_again}
+use Rattle.loaded_modules.proofs.Left.{or_none}
 
 -- ** the first unclean step
-
-or_none : {A : Type 0} (o : Option A) → option_or o None ≡ o
-or_none None = refl
-or_none (Some a) = refl
 
 or_assoc : {A : Type 0} (x y z : Option A) → option_or x (option_or y z) ≡ option_or (option_or x y) z
 or_assoc None y z = refl

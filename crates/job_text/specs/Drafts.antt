@@ -2,7 +2,7 @@
 use Rattle.std.specs.Borrow.{Bor}
 use Rattle.std.specs.HashMap.{HashMap, get_by}
 use Rattle.std.specs.List.{All, position_from}
-use Rattle.std.specs.Option.{option_map}
+use Rattle.std.specs.Option.{option_map, option_or}
 use Rattle.std.specs.Prelude.{◌≡◌, ℕ, ◌+◌, ◌^◌, ◌≤◌, ◌<◌, Bool, false, if◌then◌else◌, IsTrue, List, [], ◌∷◌, length}
 use Rattle.std.specs.Prelude.{Option, Some, None, is_some}
 use Rattle.std.specs.Str.{bytes_eq}
@@ -58,11 +58,6 @@ pub record IsWithinLimits (d : Declared) : Type 0 where
   pub one_thread : d.has_threads ≡ false → length d.lines ≡ 1
   pub fuel_within : (steps : ℕ) → d.fuel ≡ Some steps → (1 ≤ steps) × (steps < 2 ^ 32)
 
--- the first of two slots, if it is there, else the second
-abbrev pub or_else : Option Slot → Option Slot → Option Slot
-or_else None other = other
-or_else (Some slot) other = Some slot
-
 -- the program's slot, if the program has the name
 abbrev pub program_slot : List ℕ → Option Image → Option Slot
 program_slot name None = None
@@ -71,8 +66,8 @@ program_slot name (Some image) = if is_named name image then Some slot.Program e
 -- the slot of the image with a name, among a program, start images and late ones
 unfoldable pub slot_among : Option Image → List Image → List Image → List ℕ → Option Slot
 slot_among program starts lates name =
-    or_else (program_slot name program)
-    (or_else (option_map slot.Start (position_from (is_named name) 0 starts))
+    option_or (program_slot name program)
+    (option_or (option_map slot.Start (position_from (is_named name) 0 starts))
     (option_map slot.Late (position_from (is_named name) 0 lates)))
 
 -- the slot of the image with a name that an earlier line declares

@@ -7,11 +7,9 @@ use Rattle.std.proofs.lemmas.Bool.{cases_Bool}
 use Rattle.module_table.specs.declared.modules.ImageInfo.{ImageInfo}
 use Rattle.module_table.specs.Laws.{startup_end}
 use Rattle.module_table.specs.Modules.{IsInfo}
+use Rattle.module_table.proofs.LawsOfBlocks.{rounds_up}
 
 -- rounding up, and by how much
-rounds_up : (n align : ℕ) → n ≤ next_multiple_of n align
-rounds_up n align = omega arith
-
 rounds_near : (n align : ℕ) → 0 < align → next_multiple_of n align ≤ n + align
 rounds_near n align some =
     let low : (align - n % align) % align < align = mod-lt (align - n % align) some in

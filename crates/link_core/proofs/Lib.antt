@@ -1,3 +1,4 @@
+pub mod Computed
 pub mod Few
 pub mod FewEntries
 pub mod FewLists

@@ -121,7 +121,7 @@ any_among test (y ∷ ys) x has e = of_index has.0 has.1 has.2 (λ rest. any_amo
     of_index (suc i) below at rest =
         or_true (test y) (list_any test ys) (rest (i, omega (arith, below), at))
 
-both : (a b : Bool) → (a && b) ≡ true → (a ≡ true) × (b ≡ true)
+pub both : (a b : Bool) → (a && b) ≡ true → (a ≡ true) × (b ≡ true)
 both true b e = (refl, e)
 both false b e = absurd (cc)
 

@@ -24,7 +24,7 @@ use Rattle.order_laws.proofs.Worlds.{order_alike}
 use Rattle.tied_meaning.specs.Numbers.{Setting}
 use Rattle.tied_meaning.specs.Ties.{AreTied}
 use Rattle.tied_meaning.specs.Threads.{AtRest, InCall, SameData, Waiting}
-use Rattle.held_alike.proofs.Lent.{are_lent}
+use Rattle.held_alike.proofs.Lent.{each_lent}
 use Rattle.begin_alike.specs.Laws.{SameJob}
 use Rattle.begin_alike.proofs.Begins.{event_same}
 use Rattle.begin_alike.proofs.Firsts.{start_alike}
@@ -69,14 +69,7 @@ module _ (g : Setting) (m : Meaning) (q : Loads ℕ) (history : List Event) (tie
   Fine seen = IsFront seen history
 
   lent : (i : ℕ) → AreLent Wait Rest (SameData g q) i
-  lent i = let one = are_lent g m q history i in record {
-    lend_rest = λ h h' xs ys r d. one.lend_rest h h' xs ys r d;
-    lend_wait = λ h h' xs ys r d. one.lend_wait h h' xs ys r d;
-    keep_rest = λ h h' r. one.keep_rest h h' r;
-    keep_wait = λ h h' r. one.keep_wait h h' r;
-    left_rest = λ h h' r. one.left_rest h h' r;
-    left_wait = λ h h' r. one.left_wait h h' r;
-  }
+  lent i = each_lent g m q history i
 
   -- ** the data in a thread's hands
 

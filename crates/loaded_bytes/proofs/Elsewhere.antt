@@ -41,6 +41,7 @@ use Rattle.loaded_bytes.proofs.Places.{found_own, holds_so, inside, kind_bias}
 use Rattle.loaded_bytes.proofs.Ranges.{still}
 use Rattle.loaded_bytes.proofs.RoomParts.{places_added, tables_added}
 use Rattle.loaded_bytes.proofs.Still.{fixed_is, not_table}
+use Rattle.link_needs.proofs.Reached.{both}
 
 -- what is found in two lists is found in one of them
 found_either : (access : Access) (xs ys : List (Range ℕ)) (place byte : ℕ) → byte_in access (xs ++ ys) place ≡ Some byte
@@ -90,10 +91,6 @@ module _ (ls : List Linking) (l : Linking) (x : Instance) (is : IsInstanceOf ls 
     pub allowed : allows access (lies n p) ≡ true
     pub still_there : (lies n p).writable ≡ false
     pub held : holds (lies n p) place ≡ true
-
-  both : (a b : Bool) → (a && b) ≡ true → (a ≡ true) × (b ≡ true)
-  both true b e = (refl, e)
-  both false b e = absurd (cc)
 
   pub one : (n : ℕ) (p : Part) → Found n (p ∷ []) → IsHere n p
   one n p e = of_written (lies n p).writable refl e

@@ -58,10 +58,7 @@ use Rattle.loaded_bytes.proofs.Finds.{found_is, none_found, none_passes}
 use Rattle.loaded_bytes.proofs.Origins.{Origin, all_origins, has_relative}
 use Rattle.loaded_bytes.proofs.Spots.{standing}
 use Rattle.loaded_bytes.proofs.Zeros.{no_relocations}
-
-or_none : {X : Type 0} (found : Option X) → option_or found None ≡ found
-or_none None = refl
-or_none (Some x) = refl
+use Rattle.loaded_modules.proofs.Left.{or_none}
 
 module _ (l : Linking) (given : IsGiven l) (links : Links l) (stray : HasNoStray l) where
   fits : FitsTable l

@@ -1,6 +1,6 @@
 mod FreshBlocks
 pub mod Kept
-mod Left
+pub mod Left
 mod PartReads
 mod Ranges
 mod Relocated

@@ -28,6 +28,7 @@ use Rattle.link_needs.specs.Linking.{Linking, block_offset}
 use Rattle.relocated_parts.specs.Left.{is_written_at}
 use Rattle.loaded_words.proofs.Tests.{none_found}
 use Rattle.relocated_parts.proofs.Fold.{written_here as written_from}
+use Rattle.loaded_modules.proofs.Left.{or_none}
 
 -- ** those of an entry lie in it
 
@@ -92,10 +93,6 @@ module _ (l : Linking) where
         find-append (is_written_at address) (need_relocations l (need, at)) (rows l (at + size_of need) ks)
         ∙ ap (λ o. option_or o (find (is_written_at address) (rows l (at + size_of need) ks))) (outside need at (inl below))
         ∙ later (at + size_of need) ks (omega (arith, below))
-
-    or_none : {X : Type 0} (found : Option X) → option_or found None ≡ found
-    or_none None = refl
-    or_none (Some x) = refl
 
     module _ (need : Need) (at : ℕ) (low : at ≤ address) (high : address < at + size_of need) where
       pub row_found : (from : ℕ) (ks : List Need) → start_from from ks need ≡ Some at

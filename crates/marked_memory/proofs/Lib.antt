@@ -1,4 +1,3 @@
-pub mod Sought
 pub mod SpaceImages
 pub mod Stacks
 pub mod Takes

@@ -147,7 +147,7 @@ has_seen_still k k' seen e has =
     let same = same_shape k k' e in
     ap (λ (ls : List Linking). instances (loads_of ls) seen) same.images ∙ has ∙ sym same.live
 
-first-stack : (a b : Range Byte) (rest more : List (Range Byte)) → a ∷ rest ≡ b ∷ more → (a.bytes ≡ b.bytes) × (rest ≡ more)
+pub first-stack : (a b : Range Byte) (rest more : List (Range Byte)) → a ∷ rest ≡ b ∷ more → (a.bytes ≡ b.bytes) × (rest ≡ more)
 first-stack a b rest more e = (cc, cc)
 
 behind-lent : (lent_word : Option ℕ) (a b : Range Byte) (rest more : List (Range Byte))

@@ -22,7 +22,8 @@ use Rattle.whole_meaning.specs.Loads.{at_bias, loads_of, still_ranges}
 use Rattle.whole_meaning.specs.Threads.{ops}
 use Rattle.marked_memory.specs.Kept.{Kept, fixed_in, memory_of, shape_of, with_lent}
 use Rattle.marked_memory.specs.Writing.{written_at, written_in}
-use Rattle.marked_memory.proofs.Sought.{byte_in-append}
+use Rattle.guest_operands.proofs.Sought.{byte_in-append}
+use Rattle.guest_memory.proofs.Writes.{second}
 
 -- ** ranges with owners
 
@@ -63,10 +64,6 @@ module _ (place : ℕ) (byte : Byte) where
       (elim (grants Write x.range place) as (λ here. suc (length xs) ≤ (if here then zero else suc (first_writable (ranges_in xs) place))
       → (if here then written_at x place byte ∷ xs else x ∷ written_in xs place byte) ≡ x ∷ xs)
       [ true ↦ λ h. absurd (omega arith) | false ↦ λ h. ap (λ rest. x ∷ rest) (written-none xs (omega arith)) ]) none
-
-second : (a b : Bool) → (a && b) ≡ true → b ≡ true
-second true b h = h
-second false b h = cc
 
 pub holds-at : (place : ℕ) (xs : List (Owned Byte)) (d : Owned Byte) → first_writable (ranges_in xs) place < length xs
     → holds (get_or xs (first_writable (ranges_in xs) place) d).range place ≡ true

@@ -23,7 +23,7 @@ use Rattle.module_table.proofs.Starting.{past_start}
 use Rattle.module_table.proofs.Steps.{late_within, loaded_within, past_retained, past_loaded, past_released}
 use Rattle.module_table.proofs.Along.{IsKept, kept_along}
 
-rounds_up : (n align : ℕ) → n ≤ next_multiple_of n align
+pub rounds_up : (n align : ℕ) → n ≤ next_multiple_of n align
 rounds_up n align = omega arith
 
 -- each block lies past a bound, and past the block before it

@@ -28,6 +28,7 @@ use Rattle.object_faults.specs.Names.{byte_of, Ends}
 use Rattle.elf_records.specs.Records.{symbol_binding, symbol_kind, rela_symbol, rela_kind}
 pub use Rattle.elf_records.specs.Records.{IsElf}
 use Rattle.object_faults.specs.Relocations.{relocation_kind, width_at, IsOfCode, IsReloc, Covers}
+pub use Rattle.elf_records.specs.Firsts.{IsFirstAt}
 
 -- the order of the kinds
 abbrev pub number : FaultKind → ℕ
@@ -192,11 +193,6 @@ Stands WritableData b s e = ⊥
 -- the kind stands nowhere
 abbrev pub Nowhere : FaultKind → List ℕ → Type 0
 Nowhere kind b = (s e : ℕ) → Stands kind b s e → ⊥
-
--- the least number at which P holds, or that it holds at none
-abbrev pub IsFirstAt : (ℕ → Type 0) → Option ℕ → Type 0
-IsFirstAt P None = (e : ℕ) → P e → ⊥
-IsFirstAt P (Some e) = P e × ((f : ℕ) → f < e → P f → ⊥)
 
 -- none of the first n kinds stands anywhere
 abbrev pub NoneBelow : ℕ → List ℕ → Type 0

@@ -21,6 +21,7 @@ use Rattle.elf_object.specs.Relocations.{relocation_kind, field_width, width_of,
 use Rattle.sequence_match.specs.Code.{AreApart}
 use Rattle.sequence_match.specs.Faults.{code_of, bytes_of_code}
 use Rattle.sequence_match.specs.Sites.{Covers}
+use Rattle.elf_object.specs.LawsOfRelocations.{width_is}
 
 -- past the table there is no code
 pub class_past : (b : List ℕ) (s : ℕ) → (header b).e_shnum ≤ s → section_class b s ≡ None
@@ -55,10 +56,6 @@ target_of_table b s some =
     some_is (Some c) d same h = refl
 
 -- the fields of a section's relocations share no byte
-width_is : (kind : Option RelocationKind) → field_width (unwrap_or kind Nothing) ≡ width_of kind
-width_is None = refl
-width_is (Some kind) = refl
-
 entry_at : List ℕ → ℕ → ℕ → Relocation
 entry_at b r e = relocation_at ((section b r).offset + 24 * e) b
 

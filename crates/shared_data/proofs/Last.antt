@@ -4,14 +4,7 @@ use Rattle.std.specs.Prelude.{slice_get, slice_set}
 use Rattle.std.specs.Option.{option_or}
 use Rattle.std.proofs.lemmas.Bool.{eq-eqb, ne_eqb}
 use Rattle.shared_data.specs.Changes.{Change, Filled, Written, last_left, left_by}
-
-or_none : {A : Type 0} (x : Option A) → option_or x None ≡ x
-or_none None = refl
-or_none (Some a) = refl
-
-or_or : {A : Type 0} (x y z : Option A) → option_or (option_or x y) z ≡ option_or x (option_or y z)
-or_or None y z = refl
-or_or (Some a) y z = refl
+use Rattle.loaded_modules.proofs.Left.{or_none, or_or}
 
 module _ {B : Type 0} where
   -- of changes behind others, the later count first

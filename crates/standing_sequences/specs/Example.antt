@@ -10,9 +10,9 @@
 --
 -- x is the program's own and lies at offset -4 from the thread pointer, so the program's code can hold the offset. y is
 -- not, so its offset stands in a word of the GOT, which the last sequence reads already.
-use Rattle.std.specs.Prelude.{◌≡◌, ◌+◌, ◌*◌, ◌-◌, ℕ, Bool, true, false, List, [], ◌∷◌, Some, codes, length}
-use Rattle.std.specs.Prelude.{map, nat_lt, if◌then◌else◌}
+use Rattle.std.specs.Prelude.{◌≡◌, ◌+◌, ℕ, Bool, true, false, List, [], ◌∷◌, Some, codes, length, map}
 use Rattle.std.specs.List.{flat_map, range_with_len}
+use Rattle.elf_records.specs.Digits.{bytes_of_digits}
 use Rattle.link_core.specs.Images.{image_of}
 use Rattle.link_faults.specs.declared.image_kind.ImageKind.TheVariants.{Exe}
 use Rattle.link_needs.specs.Linking.{Linking}
@@ -24,14 +24,6 @@ use Rattle.standing_sequences.specs.Bytes.{byte_at}
 use Rattle.standing_sequences.specs.Table.{Matches}
 
 -- ** the object's file, as hexadecimal digits
-
-abbrev pub digit_of : ℕ → ℕ
-digit_of c = if nat_lt c 0x3a then c - 0x30 else c - 0x57
-
-abbrev pub bytes_of_digits : List ℕ → List ℕ
-bytes_of_digits [] = []
-bytes_of_digits (c ∷ []) = []
-bytes_of_digits (c ∷ d ∷ more) = (digit_of c * 16 + digit_of d) ∷ bytes_of_digits more
 
 unfoldable pub object : List ℕ
 object = flat_map bytes_of_digits (

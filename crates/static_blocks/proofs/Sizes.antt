@@ -14,6 +14,7 @@ use Rattle.loaded_modules.specs.Loader.{block_of, block_of_image, filled, fresh_
 use Rattle.module_table.specs.declared.modules.ImageInfo.{ImageInfo}
 use Rattle.module_table.specs.Laws.{startup_end}
 use Rattle.static_blocks.specs.Laws.{InitialsFit}
+use Rattle.module_table.proofs.LawsOfBlocks.{rounds_up}
 
 -- ** the length of a fresh block
 
@@ -62,9 +63,6 @@ fresh_long m x index d fits image within =
     ap (λ (i : ℕ). length (block_of_image m x (image_at m i))) image ∙ at_index m x m.kinds m.images index d fits within
 
 -- ** startup images
-
-rounds_up : (n align : ℕ) → n ≤ next_multiple_of n align
-rounds_up n align = omega arith
 
 end_grows : (infos : List ImageInfo) (k taken : ℕ) → taken ≤ startup_end (take k infos) taken
 end_grows infos zero taken = omega arith

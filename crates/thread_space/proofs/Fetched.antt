@@ -23,7 +23,7 @@ use Rattle.thread_space.specs.OfParts.{fixed_ranges}
 use Rattle.thread_space.specs.Places.{behind}
 use Rattle.thread_space.proofs.PartBytes.{behind_some, bias_here, by_class, of_image, of_no_image, part_here}
 use Rattle.thread_space.proofs.ReadKept.{run_is}
-use Rattle.thread_space.proofs.Sought.{byte_in-append, is_byte}
+use Rattle.guest_operands.proofs.Sought.{byte_in-append, is_byte}
 
 -- ** one part
 

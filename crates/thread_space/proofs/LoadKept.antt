@@ -22,7 +22,7 @@ use Rattle.thread_space.specs.Kept.{HasSeen, blocks_of, live_in, owned_of, share
 use Rattle.thread_space.specs.Live.{HasStartups, IsLive}
 use Rattle.thread_space.proofs.BytesHeld.{bytes_held, data_kept}
 use Rattle.thread_space.proofs.Live.{live_is, loaded_live, same_number}
-use Rattle.thread_space.proofs.Looks.{held_each, look_block, none_fresh, or_none, seen_live}
+use Rattle.thread_space.proofs.Looks.{held_each, look_block, none_fresh, seen_live}
 use Rattle.thread_space.proofs.Owners.{data_behind, no_blocks, shared_no_blocks}
 use Rattle.thread_space.proofs.PiecesHeld.{loaded_own}
 use Rattle.module_data.proofs.Written.{loads_leave_others as loaded_other}
@@ -31,6 +31,7 @@ use Rattle.thread_vector.specs.Holding.{IsLeftBy}
 use Rattle.thread_vector.specs.Vectors.{Vector, caught_up, held, loaded_as}
 use Rattle.thread_vector.proofs.Events.{Loads as LoadsOne, shape_of}
 use Rattle.thread_vector.proofs.Facts.{facts}
+use Rattle.loaded_modules.proofs.Left.{or_none}
 
 pub few_infos : (kinds : List ImageKind) (images : List Spelled) → length (infos_of kinds images) ≤ length images
 few_infos [] images = omega arith

@@ -28,6 +28,7 @@ use Rattle.thread_vector.specs.Vectors.{Vector, caught_up, fresh, held, loaded_a
 use Rattle.thread_vector.proofs.Events.{Keeps, shape_of}
 use Rattle.thread_vector.proofs.Facts.{facts}
 use Rattle.thread_vector.proofs.Stepping.{caught_at, fresh_at}
+use Rattle.loaded_modules.proofs.Left.{or_none}
 
 -- the live instances where the events were seen
 pub seen_live : (m : JobImages) (p : Past) (seen : List Event) → past (infos m) (last_offset m) seen ≡ p → instances (job_loads m) seen ≡ live_in m p
@@ -61,10 +62,6 @@ none_fresh (Some range) = refl
 or_some : (o r s : Option (List ℕ)) → is_some o ≡ true → option_or o r ≡ option_or o s
 or_some None r s is = cc
 or_some (Some bytes) r s is = refl
-
-pub or_none : (o : Option (List ℕ)) → option_or o None ≡ o
-or_none None = refl
-or_none (Some bytes) = refl
 
 fresh_same : (b : Bool) (bytes : List ℕ) → fresh_if b bytes ≡ (if b then Some bytes else None)
 fresh_same true bytes = refl

@@ -14,7 +14,8 @@ use Rattle.thread_blocks.specs.Held.{block_with, data_with, ranges_in}
 use Rattle.thread_blocks.specs.Instances.{block_start}
 use Rattle.thread_space.specs.Places.{behind, block_ranges, data_ranges, takes}
 use Rattle.thread_space.proofs.SharedIs.{shared_is, written_range}
-use Rattle.thread_space.proofs.Sought.{looked, or_none}
+use Rattle.loaded_modules.proofs.Left.{or_none}
+use Rattle.thread_space.proofs.Sought.{looked}
 use Rattle.thread_vector.specs.Vectors.{Vector, held}
 
 own_read : (start place : ℕ) (bytes : List ℕ)

@@ -20,7 +20,9 @@ use Rattle.thread_space.specs.Kept.{Kept, blocks_of, fixed_in, live_in, memory_o
 use Rattle.thread_space.specs.OfParts.{fixed_ranges}
 use Rattle.thread_space.specs.Places.{block_ranges, data_ranges, takes}
 use Rattle.thread_space.proofs.OwnBytes.{block_run, block_same, data_run, data_same}
-use Rattle.thread_space.proofs.Sought.{byte_in-append, byte_in-each, found_passes, has_byte, lies_within, none_each, or_none, same_each}
+use Rattle.guest_operands.proofs.Sought.{byte_in-append, lies_within}
+use Rattle.loaded_modules.proofs.Left.{or_none}
+use Rattle.thread_space.proofs.Sought.{byte_in-each, found_passes, has_byte, none_each, same_each}
 
 -- the ranges of each, one after another
 pub ranges_each : {X : Type 0} (made : X → List (Owned ℕ)) (xs : List X) → ranges_in (flat_map made xs) ≡ flat_map (λ x. ranges_in (made x)) xs

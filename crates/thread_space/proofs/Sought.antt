@@ -1,36 +1,21 @@
 -- The first range that allows an access, in ranges of which each instance has some.
-use Rattle.std.proofs.Common.{◌≡◌, ◌≢◌, ◌∙◌, ◌-◌, ◌<◌, ◌++◌, ℕ, zero, suc, Bool, true, false, List, [], ◌∷◌, length, Option, Some, None, refl, sym, ap, subst, arith, inl, inr, cond, drop, get_or, add-one, ◌+◌}
+use Rattle.std.proofs.Common.{◌≡◌, ◌≢◌, ◌∙◌, ◌-◌, ◌<◌, ◌++◌, ℕ, zero, suc, Bool, true, false, List, [], ◌∷◌, length, Option, Some, None, refl, sym, ap, subst, arith, inl, inr, cond}
 use Rattle.std.specs.Prelude.{◌&&◌, All, is_some, nat_le, nat_lt, option_and_then, slice_get}
 use Rattle.std.specs.List.{find, flat_map}
 use Rattle.std.specs.Option.{option_or}
 use Rattle.std.proofs.lemmas.Bool.{cases_Bool, ltb-false, ltb-true, false≢true}
 use Rattle.std.proofs.lemmas.List.Elements.{All-head, All-tail}
 use Rattle.std.proofs.lemmas.Option.{none-some, same_Some, slice_get_past}
-use Rattle.std.proofs.Math.Seq.{drop-cons}
 use Rattle.guest_operands.specs.declared.space.Access.{Access}
 use Rattle.guest_operands.specs.declared.space.Access.TheVariants.{Write}
-use Rattle.guest_operands.specs.Ranges.{Range, allows, byte_in, grants, holds, with_byte}
+use Rattle.guest_operands.specs.Ranges.{Range, byte_in, grants, with_byte}
+use Rattle.guest_operands.proofs.Sought.{byte_in-append, is_byte, lies_within}
 use Rattle.thread_space.specs.Places.{behind, takes}
-
-pub is_byte : {B : Type 0} (xs : List B) (i : ℕ) (o : Option B) → i < length xs → slice_get xs i ≡ option_or (slice_get xs i) o
-is_byte [] i o within = absurd (omega arith)
-is_byte (x ∷ xs) zero o within = refl
-is_byte (x ∷ xs) (suc i) o within = is_byte xs i o (omega arith)
 
 pub has_byte : {B : Type 0} (xs : List B) (i : ℕ) → i < length xs → is_some (slice_get xs i) ≡ true
 has_byte [] i within = absurd (omega arith)
 has_byte (x ∷ xs) zero within = refl
 has_byte (x ∷ xs) (suc i) within = has_byte xs i (omega arith)
-
-both-true : (a b : Bool) → (a && b) ≡ true → b ≡ true
-both-true true b h = h
-both-true false b h = absurd (false≢true h)
-
--- a range that allows an access at a place has a byte there
-pub lies_within : {B : Type 0} (access : Access) (r : Range B) (place : ℕ) → grants access r place ≡ true → place - r.start < length r.bytes
-lies_within access r place h =
-    ltb-true (place - r.start) (length r.bytes)
-    (both-true (nat_le r.start place) (nat_lt (place - r.start) (length r.bytes)) (both-true (allows access r) (holds r place) h))
 
 pub looked : (start place : ℕ) (bytes : List ℕ) (o : Option ℕ)
     → cond (nat_le start place && nat_lt (place - start) (length bytes)) (slice_get bytes (place - start)) o
@@ -45,19 +30,7 @@ looked start place bytes o = elim (cases_Bool (nat_le start place)) [
     inside true e = is_byte bytes (place - start) o (ltb-true (place - start) (length bytes) e)
     inside false e = sym (rw (slice_get_past bytes (place - start) (ltb-false (place - start) (length bytes) e)) refl)
 
-pub or_none : {A : Type 0} (o : Option A) → option_or o None ≡ o
-or_none None = refl
-or_none (Some a) = refl
-
 module _ {B : Type 0} (access : Access) (place : ℕ) where
-  pub byte_in-append : (xs ys : List (Range B))
-      → byte_in access (xs ++ ys) place ≡ option_or (byte_in access xs place) (byte_in access ys place)
-  byte_in-append [] ys = refl
-  byte_in-append (r ∷ xs) ys = elim (cases_Bool (grants access r place)) [
-    | inl t ↦ rw t (is_byte r.bytes (place - r.start) (byte_in access ys place) (lies_within access r place t))
-    | inr f ↦ rw f (byte_in-append xs ys)
-  ]
-
   module _ {X : Type 0} (made : X → List (Range B)) where
     has : X → Bool
     has x = is_some (byte_in access (made x) place)
@@ -74,30 +47,13 @@ module _ {B : Type 0} (access : Access) (place : ℕ) where
         ≡ option_and_then (λ x. byte_in access (made x) place) (find (λ x. is_some (byte_in access (made x) place)) xs)
     byte_in-each [] = refl
     byte_in-each (x ∷ xs) =
-        byte_in-append (made x) (flat_map made xs)
+        byte_in-append access place (made x) (flat_map made xs)
         ∙ by_first (byte_in access (made x) place) x (find (λ x. is_some (byte_in access (made x) place)) xs)
         (byte_in access (flat_map made xs) place) refl (byte_in-each xs)
 
-    -- the one at i decides, or those behind it
-    pub each_next : (xs : List X) (i : ℕ) (d : X) → i < length xs
-        → byte_in access (flat_map made (drop i xs)) place
-        ≡ option_or (byte_in access (made (get_or xs i d)) place) (byte_in access (flat_map made (drop (i + 1) xs)) place)
-    each_next xs i d within =
-        rw (add-one, drop-cons xs i d) (byte_in-append (made (get_or xs i d)) (flat_map made (drop (suc i) xs)))
-
-    pub each_hit : (xs : List X) (i : ℕ) (d : X) (byte : B) (whole : Option B) → whole ≡ byte_in access (flat_map made (drop i xs)) place
-        → i < length xs → byte_in access (made (get_or xs i d)) place ≡ Some byte → Some byte ≡ whole
-    each_hit xs i d byte whole from within here =
-        sym (from ∙ each_next xs i d within ∙ ap (λ o. option_or o (byte_in access (flat_map made (drop (i + 1) xs)) place)) here)
-
-    pub each_miss : (xs : List X) (i : ℕ) (d : X) (whole : Option B) → whole ≡ byte_in access (flat_map made (drop i xs)) place
-        → i < length xs → byte_in access (made (get_or xs i d)) place ≡ None → whole ≡ byte_in access (flat_map made (drop (i + 1) xs)) place
-    each_miss xs i d whole from within here =
-        from ∙ each_next xs i d within ∙ ap (λ o. option_or o (byte_in access (flat_map made (drop (i + 1) xs)) place)) here
-
     pub none_each : ((x : X) → byte_in access (made x) place ≡ None) → (xs : List X) → byte_in access (flat_map made xs) place ≡ None
     none_each none [] = refl
-    none_each none (x ∷ xs) = byte_in-append (made x) (flat_map made xs) ∙ rw (none x) (none_each none xs)
+    none_each none (x ∷ xs) = byte_in-append access place (made x) (flat_map made xs) ∙ rw (none x) (none_each none xs)
 
 -- two accesses that each allows alike
 pub same_each : {X : Type 0} {B : Type 0} (one two : Access) (place : ℕ) (made : X → List (Range B))

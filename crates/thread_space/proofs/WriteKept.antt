@@ -27,7 +27,8 @@ use Rattle.thread_space.specs.Writing.{WritesBlock, WritesData}
 use Rattle.thread_space.proofs.Live.{all_live, among_live, live_is, live_number}
 use Rattle.thread_space.proofs.ReadKept.{block_found, blocks_in, blocks_take, data_among, data_found, data_take, fixed_among, may_write_is, memory_is, pointer_of, stack_of}
 use Rattle.thread_space.proofs.SharedIs.{shared_is, written_range}
-use Rattle.thread_space.proofs.Sought.{Rising, byte_in-append, found_passes, with_byte-behind, with_byte-each, with_byte-here, with_byte-none}
+use Rattle.guest_operands.proofs.Sought.{byte_in-append}
+use Rattle.thread_space.proofs.Sought.{Rising, found_passes, with_byte-behind, with_byte-each, with_byte-here, with_byte-none}
 use Rattle.thread_vector.specs.Holding.{IsLeftBy}
 use Rattle.thread_vector.specs.Vectors.{held}
 use Rattle.thread_vector.proofs.Facts.{facts}

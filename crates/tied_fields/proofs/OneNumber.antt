@@ -39,14 +39,11 @@ use Rattle.tied_fields.proofs.Addresses.{bias_low, entry_low}
 use Rattle.tied_fields.proofs.Descriptors.{AreAlike, IsImported, all_alike, one_number, seen}
 use Rattle.tied_fields.proofs.Makers.{maker_is, some_maker}
 use Rattle.tied_fields.proofs.Needed.{descriptor_entry}
+use Rattle.link_needs.proofs.Reached.{both}
 
 makes_lea : (form : Form) → makes form ≡ true → form ≡ DescLea
 makes_lea DescLea e = refl
 makes_lea form e = absurd (cc)
-
-both : (a b : Bool) → (a && b) ≡ true → (a ≡ true) × (b ≡ true)
-both true b e = (refl, e)
-both false b e = absurd (cc)
 
 pub each_at : {X : Type 0} (P : X → Type 0) (xs : List X) (k : ℕ) (x : X) → All P xs → at_number xs k ≡ Some x → P x
 each_at P xs zero x all e = absurd (cc)

@@ -4,6 +4,7 @@ use Rattle.std.specs.Prelude.{slice_index_or, slice_set, MatchOption, if◌then�
 use Rattle.std.specs.Borrow.{Bor}
 use Rattle.std.specs.Global.{Vec}
 use Rattle.std.specs.List.{position_or_len, list_any}
+use Rattle.std.specs.Option.{option_or}
 use Rattle.std.specs.Str.{bytes_eq}
 use Rattle.elf_records.specs.declared.symbol.SymbolBinding.{SymbolBinding}
 use Rattle.elf_records.specs.declared.symbol.SymbolBinding.TheVariants.{Local, Global, Weak}
@@ -67,13 +68,9 @@ pub record AllListed (names : Names) (lists : List (List (List ℕ))) (numbers :
 abbrev pub at_number : {X : Type 0} → List (Option X) → ℕ → Option X
 at_number table n = slice_index_or table n None
 
-abbrev pub or_else : {X : Type 0} → Option X → Option X → Option X
-or_else (Some x) rest = Some x
-or_else None rest = rest
-
 -- the table with an entry at this number, unless it has one there
 abbrev pub with_first : {X : Type 0} → List (Option X) → ℕ → X → List (Option X)
-with_first table n x = slice_set table n (or_else (at_number table n) (Some x))
+with_first table n x = slice_set table n (option_or (at_number table n) (Some x))
 
 -- what a table says about a name
 abbrev pub told : {X : Type 0} → Names → List (Option X) → List ℕ → Option X
@@ -115,8 +112,8 @@ export_in k name names = if list_any (bytes_eq name) names then Some k else None
 pub record NotesDefinitions (names : Names) (binding : SymbolBinding) (o : ℕ) (b : List ℕ)
     (old new : List (Option SymbolRef)) : Type 0 where
   pub notes : (name : List ℕ)
-      → told names new name ≡ or_else (told names old name) (found_or o (first_in binding name b) None)
+      → told names new name ≡ option_or (told names old name) (found_or o (first_in binding name b) None)
 
 -- the exports of image k were entered, for names that had none
 pub record NotesExports (names : Names) (k : ℕ) (exported : List (List ℕ)) (old new : List (Option ℕ)) : Type 0 where
-  pub notes : (name : List ℕ) → told names new name ≡ or_else (told names old name) (export_in k name exported)
+  pub notes : (name : List ℕ) → told names new name ≡ option_or (told names old name) (export_in k name exported)

@@ -4,7 +4,7 @@ use Rattle.guest_operands.specs.Ranges.{byte_in}
 use Rattle.thread_blocks.specs.Instances.{fixed_of}
 use Rattle.whole_meaning.specs.Loads.{loads_of}
 use Rattle.marked_memory.specs.Kept.{Kept}
-use Rattle.marked_memory.proofs.Sought.{each_hit, each_miss}
+use Rattle.guest_operands.proofs.Sought.{each_hit, each_miss}
 use Rattle.marked_memory.proofs.space.MarkedMemory.fixed_byte.Goals as goal
 
 pub loop-instance-init : goal.loop-instance-init

@@ -4,7 +4,7 @@ use Rattle.guest_operands.specs.Ranges.{byte_in}
 use Rattle.thread_blocks.specs.Instances.{fixed_of}
 use Rattle.thread_blocks.specs.JobLoads.{job_loads}
 use Rattle.thread_space.specs.Kept.{Kept, live_in}
-use Rattle.thread_space.proofs.Sought.{each_hit, each_miss}
+use Rattle.guest_operands.proofs.Sought.{each_hit, each_miss}
 use Rattle.thread_space.proofs.space.ThreadSpace.fixed_byte.Goals as goal
 
 pub loop-instance-init : goal.loop-instance-init

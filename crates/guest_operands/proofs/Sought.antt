@@ -8,7 +8,7 @@ use Rattle.std.proofs.Math.Seq.{drop-cons}
 use Rattle.guest_operands.specs.declared.space.Access.{Access}
 use Rattle.guest_operands.specs.Ranges.{Range, allows, byte_in, grants, holds}
 
-is_byte : {B : Type 0} (xs : List B) (i : ℕ) (o : Option B) → i < length xs → slice_get xs i ≡ option_or (slice_get xs i) o
+pub is_byte : {B : Type 0} (xs : List B) (i : ℕ) (o : Option B) → i < length xs → slice_get xs i ≡ option_or (slice_get xs i) o
 is_byte [] i o within = absurd (omega arith)
 is_byte (x ∷ xs) zero o within = refl
 is_byte (x ∷ xs) (suc i) o within = is_byte xs i o (omega arith)
@@ -34,7 +34,7 @@ module _ {B : Type 0} (access : Access) (place : ℕ) where
 
   module _ {X : Type 0} (made : X → List (Range B)) where
     -- the one at i decides, or those behind it
-    each_next : (xs : List X) (i : ℕ) (d : X) → i < length xs
+    pub each_next : (xs : List X) (i : ℕ) (d : X) → i < length xs
         → byte_in access (flat_map made (drop i xs)) place
         ≡ option_or (byte_in access (made (get_or xs i d)) place) (byte_in access (flat_map made (drop (i + 1) xs)) place)
     each_next xs i d within =
