@@ -17,7 +17,7 @@ use Rattle.link_needs.specs.Given.{IsGiven}
 use Rattle.link_needs.specs.Linking.{Linking}
 use Rattle.linked_modules.specs.Dataless.{IsOfDataless}
 use Rattle.linked_modules.specs.Together.{AreTogether}
-use Rattle.loaded_bytes.specs.Small.{AreBytes}
+use Rattle.elf_records.specs.Fields.{AreBytes}
 use Rattle.meant_images.specs.Images.{AreSound}
 use Rattle.commands.specs.InOrder.{AreLinked, AreLinks, IsOfFew}
 use Rattle.commands.specs.Jobs.{links_of}

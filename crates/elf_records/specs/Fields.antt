@@ -3,7 +3,12 @@
 use Rattle.std.specs.Prelude.{◌≡◌, ◌<◌, ◌+◌, ◌^◌, ℕ, ℤ, Option, Some, None, List, [], ◌∷◌, ◌++◌, length, take, drop}
 use Rattle.std.specs.Prelude.{nat_le, if◌then◌else◌}
 use Rattle.std.specs.Int.{w64, cast_signed}
+use Rattle.std.specs.List.{All}
 use Rattle.byteorder.specs.Endian.{little_from, little_bytes}
+
+-- bytes are numbers below 256
+abbrev pub AreBytes : List ℕ → Type 0
+AreBytes bytes = All (λ (byte : ℕ). byte < 256) bytes
 
 -- the unsigned number in the n bytes from offset at, the lowest byte first; a byte past the end counts as 0
 unfoldable pub number_at : ℕ → ℕ → List ℕ → ℕ

@@ -6,6 +6,7 @@ use Rattle.std.specs.List.{All, AllZip, find, position_or_len}
 use Rattle.std.specs.Option.{option_map}
 use Rattle.std.specs.Str.{bytes_eq}
 use Rattle.std.proofs.lemmas.List.Elements.{All-cons, All-head, All-nil, All-tail}
+use Rattle.elf_records.specs.Fields.{AreBytes}
 use Rattle.ports.specs.Files.{Files, file_at, IsFile}
 use Rattle.job_link.specs.Mentions.{bytes_at, bytes_in, AreFilesOf, Fetched}
 use Rattle.job_link.specs.Walks.{files_in, is_among, names_of, texts, with_unseen}
@@ -13,9 +14,6 @@ use Rattle.job_link.specs.Walks.{files_in, is_among, names_of, texts, with_unsee
 -- the test of a name that is lent
 abbrev pub is_name : List ℕ → Bor (List ℕ) → Bool
 is_name name k = bytes_eq name k.now
-
-abbrev pub Small : List ℕ → Type 0
-Small bytes = All (λ (byte : ℕ). byte < 256) bytes
 
 -- what holds of what is there
 pub if_some : {X : Type 0} (P : X → Type 0) (o : Option X) → ((x : X) → o ≡ Some x → P x) → IfSome o P
@@ -58,15 +56,15 @@ module _ {A : Type 0} where
 
   -- the files are bytes, as each of them is
   pub small_files : (name : List ℕ) (names : List (Bor (List ℕ))) (files : List (Vec ℕ A))
-      → All (λ (file : Vec ℕ A). Small file.items) files → Small (bytes_in (files_in names files) name)
+      → All (λ (file : Vec ℕ A). AreBytes file.items) files → AreBytes (bytes_in (files_in names files) name)
   small_files name [] files all = All-nil (λ (byte : ℕ). byte < 256)
   small_files name (n ∷ names) [] all = All-nil (λ (byte : ℕ). byte < 256)
   small_files name (n ∷ names) (file ∷ files) all =
-      let rest = small_files name names files (All-tail (λ (f : Vec ℕ A). Small f.items) file files all) in
+      let rest = small_files name names files (All-tail (λ (f : Vec ℕ A). AreBytes f.items) file files all) in
       elim (bytes_eq name n.now) as (λ b.
-      Small (unwrap_or (option_map (λ (f : List ℕ × List ℕ). f.1) (cond b (Some (n.now, file.items))
+      AreBytes (unwrap_or (option_map (λ (f : List ℕ × List ℕ). f.1) (cond b (Some (n.now, file.items))
       (find (λ (f : List ℕ × List ℕ). bytes_eq name f.0) (files_in names files)))) [])) [
-        | true ↦ All-head (λ (f : Vec ℕ A). Small f.items) file files all
+        | true ↦ All-head (λ (f : Vec ℕ A). AreBytes f.items) file files all
         | false ↦ rest
       ]
 

@@ -1,6 +1,7 @@
 //! Fetches the files of objects, once each.
 
-ghost use Rattle.std.specs.Prelude.{◌≡◌, ◌<◌, ◌++◌, [], ℕ, List, All, IfOk, IfSome, OnErr, OnOk};
+ghost use Rattle.std.specs.Prelude.{◌≡◌, ◌++◌, [], ℕ, List, IfOk, IfSome, OnErr, OnOk};
+ghost use Rattle.elf_records.specs.Fields.{AreBytes};
 ghost use Rattle.ports.specs.Counts.{FetchCounts};
 ghost use Rattle.ports.specs.Files.{Fetches};
 ghost use Rattle.job_link.specs.Mentions.{bytes_in, object_names, AreFilesOf};
@@ -15,7 +16,7 @@ use std::thread::Threads;
 
 /// Bytes are numbers below 256. The call does nothing; it gives a proof this fact.
 fn are_small(bytes: &[u8])
-    ensures { All (λ (byte : ℕ). byte < 256) bytes.now }
+    ensures { AreBytes bytes.now }
 {}
 
 /// A thread of its own pays for this many bytes of objects.
@@ -88,7 +89,7 @@ impl<'j> Files<'j> {
 
     /// Files hold bytes, numbers below 256. The call does nothing; it gives a proof this fact.
     pub fn are_bytes(&self)
-        ensures { (name : List ℕ) → All (λ (byte : ℕ). byte < 256) (bytes_in self.now name) }
+        ensures { (name : List ℕ) → AreBytes (bytes_in self.now name) }
     {
         for file in self.files.as_slice() {
             are_small(file.as_slice());

@@ -10,7 +10,7 @@ use Rattle.elf_object.specs.declared.relocation.Relocation.{Relocation}
 use Rattle.elf_object.specs.Lent.{relocations, section_bytes}
 use Rattle.elf_object.specs.Parts.{is_section, section}
 use Rattle.elf_records.specs.declared.section_header.TheConstants.{SHT_NULL, SHT_NOBITS}
-use Rattle.elf_records.specs.Fields.{bytes_of, splice}
+use Rattle.elf_records.specs.Fields.{AreBytes, bytes_of, splice}
 use Rattle.link_core.specs.Meant.{is_in_field, is_in_rewritten, rewritten_bytes, row_with, site_byte}
 use Rattle.link_needs.specs.Linking.{Linking, choice, object, sites_at}
 use Rattle.link_needs.specs.Needs.{new_relocation}
@@ -28,7 +28,7 @@ use Rattle.tls_relocs.specs.Fields.{field_bytes}
 use Rattle.whole_meaning.specs.Spots.{Spot, spot_in}
 use Rattle.loaded_bytes.specs.Bytes.{byte_of_spot, field_byte, loaded_byte, loaded_field}
 use Rattle.loaded_bytes.specs.Bytes as bytes
-use Rattle.loaded_bytes.specs.Small.{AreBytes, BytesAreSmall}
+use Rattle.loaded_bytes.specs.Small.{BytesAreSmall}
 
 -- ** lists of bytes
 

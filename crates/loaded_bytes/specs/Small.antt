@@ -1,12 +1,10 @@
 -- If objects are lists of bytes, what is loaded is bytes.
 use Rattle.std.specs.Prelude.{◌<◌, ℕ, List}
 use Rattle.std.specs.List.{All}
+use Rattle.elf_records.specs.Fields.{AreBytes}
 use Rattle.link_needs.specs.Linking.{Linking}
 use Rattle.object_faults.specs.declared.class.SectionClass.{SectionClass}
 use Rattle.loaded_bytes.specs.Bytes.{byte_at}
-
-abbrev pub AreBytes : List ℕ → Type 0
-AreBytes file = All (λ (byte : ℕ). byte < 256) file
 
 -- at each address of each class
 abbrev pub BytesAreSmall : Type 0

@@ -14,7 +14,7 @@ use Rattle.link_core.specs.Laws.{HasNoStray}
 use Rattle.link_needs.specs.Given.{IsGiven}
 use Rattle.link_needs.specs.Linking.{Linking}
 use Rattle.loaded_bytes.specs.Laws.{IsInstanceOf, images_of}
-use Rattle.loaded_bytes.specs.Small.{AreBytes}
+use Rattle.elf_records.specs.Fields.{AreBytes}
 use Rattle.loaded_modules.specs.declared.instance.Instance.{Instance}
 use Rattle.loaded_names.proofs.Infos.{infos_loaded}
 use Rattle.loaded_names.proofs.Meant.{infos_meant, variables_meant}

@@ -21,7 +21,7 @@ use Rattle.loaded_bytes.specs.Laws.{IsData, IsDataOf, IsIn, IsInstanceOf, images
 use Rattle.loaded_bytes.specs.Meant.{valued}
 use Rattle.loaded_bytes.specs.Bytes.{byte_at}
 use Rattle.loaded_bytes.specs.Places.{IsInMoved}
-use Rattle.loaded_bytes.specs.Small.{AreBytes}
+use Rattle.elf_records.specs.Fields.{AreBytes}
 use Rattle.loaded_modules.specs.declared.instance.Instance.{Instance}
 use Rattle.object_faults.specs.declared.class.SectionClass.{SectionClass}
 use Rattle.object_faults.specs.declared.class.SectionClass.TheVariants.{ReadOnly, Tls, Writable}

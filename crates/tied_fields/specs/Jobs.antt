@@ -5,7 +5,7 @@ use Rattle.link_core.specs.Laws.{HasNoStray}
 use Rattle.link_needs.specs.Linking.{Linking}
 use Rattle.linked_modules.specs.Together.{AreTogether}
 use Rattle.loaded_bytes.specs.Laws.{IsInstanceOf, images_of}
-use Rattle.loaded_bytes.specs.Small.{AreBytes}
+use Rattle.elf_records.specs.Fields.{AreBytes}
 use Rattle.loaded_modules.specs.declared.instance.Instance.{Instance}
 use Rattle.loaded_words.specs.Laws.{IsKnown}
 use Rattle.job_text.specs.ProgramFirst.{ProgramFirst}
