@@ -2,14 +2,15 @@
 
 ghost use Rattle.std.specs.Prelude.{◌≡◌, ◌<◌, ◌≤◌, ◌^◌, ℕ, IfSome, IsSome, length, unwrap_or};
 ghost use Rattle.std.specs.List.{list_any};
+ghost use Rattle.elf_object.specs.Lent.{symbol_place, symbol_value};
 ghost use Rattle.elf_object.specs.Parts.{symbol_count};
 ghost use Rattle.sequence_forms.specs.declared.places.Site.{Site};
 ghost use Rattle.sequence_forms.specs.Forms.{is_initial};
-ghost use Rattle.tls_layout.specs.Places.{address_of, tls_offset_of};
+ghost use Rattle.tls_layout.specs.Places.{address_of, class_of, tls_offset_of};
 ghost use Rattle.tls_symbols.specs.Bindings.{IsBindingWithin, bound_to, may_import, object_at};
 ghost use Rattle.tls_symbols.specs.Definitions.{IsWithin};
 ghost use Rattle.link_needs.specs.Given.{IsGiven};
-ghost use Rattle.link_needs.specs.Linking.{address, address_in, choice, layout, offset, offset_in};
+ghost use Rattle.link_needs.specs.Linking.{address, choice, layout, offset};
 
 use elf_object::{Object, RelocationKind, SymbolPlace};
 use link_faults::{Binding, ImageKind, SymbolRef};
@@ -129,9 +130,30 @@ impl<'l, 's, 'a> Inputs<'l, 's, 'a> {
         ensures address { result ≡ unwrap_or (address_of (layout self.now) object section) 0 }
         ensures small { result ≤ 2 ^ 25 }
     {
-        match self.placement.address(object, section) {
-            Some(address) => address,
-            None => 0,
+        self.placement.address(object, section).unwrap_or(0)
+    }
+
+    /// Its offset in the TLS segment; 0 if it is not thread-local.
+    #[tactic(auto, using(crate::proofs::InputsLemmas::offset_small))]
+    fn section_offset(&self, object: usize, section: u32) -> u64
+        ensures offset { result ≡ unwrap_or (tls_offset_of (layout self.now) object section) 0 }
+        ensures small { result ≤ 2 ^ 20 }
+    {
+        self.placement.tls_offset(object, section).unwrap_or(0)
+    }
+
+    /// Where a symbol of the image is defined, and its value, which is small if linking keeps the section.
+    #[inline]
+    fn part(&self, symbol: SymbolRef) -> (SymbolPlace, u64)
+        requires { IsWithin self.now.objects symbol }
+        ensures place { result.0 ≡ symbol_place (object_at self.now.objects symbol.object) symbol.symbol }
+        ensures value { result.1 ≡ symbol_value (object_at self.now.objects symbol.object) symbol.symbol }
+        ensures small { (section : ℕ) → result.0 ≡ SymbolPlace.InSection section
+            → IsSome (class_of (layout self.now) symbol.object section) → result.1 ≤ 2 ^ 20 }
+    {
+        match self.object(symbol.object as usize).symbol(symbol.symbol) {
+            Some(part) => (part.place, part.value),
+            None => (SymbolPlace::Undefined, 0),
         }
     }
 
@@ -142,10 +164,11 @@ impl<'l, 's, 'a> Inputs<'l, 's, 'a> {
         requires { IsWithin self.now.objects symbol }
         ensures { result ≡ address self.now symbol }
     {
-        let number = symbol.object as usize;
-        match self.object(number).symbol(symbol.symbol) {
-            Some(part) => self.address_in(number, part.place, part.value),
-            None => 0,
+        let object = symbol.object as usize;
+        let (place, value) = self.part(symbol);
+        match place {
+            SymbolPlace::InSection(section) => self.section_address(object, section) + value,
+            _ => value,
         }
     }
 
@@ -156,45 +179,11 @@ impl<'l, 's, 'a> Inputs<'l, 's, 'a> {
         requires { IsWithin self.now.objects symbol }
         ensures { result ≡ offset self.now symbol }
     {
-        let number = symbol.object as usize;
-        match self.object(number).symbol(symbol.symbol) {
-            Some(part) => self.offset_in(number, part.place, part.value),
-            None => 0,
-        }
-    }
-
-    /// The address of a symbol, by its place and its value. It is the value alone if its section has no address.
-    #[tactic(auto, using(crate::proofs::InputsLemmas::address_small))]
-    #[inline]
-    fn address_in(&self, object: usize, place: SymbolPlace, value: u64) -> u64
-        requires small { (section : ℕ) → place ≡ SymbolPlace.InSection section
-            → IsSome (address_of (layout self.now) object section) → value ≤ 2 ^ 20 }
-        ensures { result ≡ address_in (layout self.now) object place value }
-    {
-        let SymbolPlace::InSection(section) = place else {
-            return value;
-        };
-        match self.placement.address(object, section) {
-            Some(address) => address + value,
-            None => value,
-        }
-    }
-
-    /// The offset of a symbol in the TLS segment, by its place and its value. It is the value alone if its section has
-    /// none.
-    #[tactic(auto, using(crate::proofs::InputsLemmas::offset_small))]
-    #[inline]
-    fn offset_in(&self, object: usize, place: SymbolPlace, value: u64) -> u64
-        requires small { (section : ℕ) → place ≡ SymbolPlace.InSection section
-            → IsSome (tls_offset_of (layout self.now) object section) → value ≤ 2 ^ 20 }
-        ensures { result ≡ offset_in (layout self.now) object place value }
-    {
-        let SymbolPlace::InSection(section) = place else {
-            return value;
-        };
-        match self.placement.tls_offset(object, section) {
-            Some(offset) => offset + value,
-            None => value,
+        let object = symbol.object as usize;
+        let (place, value) = self.part(symbol);
+        match place {
+            SymbolPlace::InSection(section) => self.section_offset(object, section) + value,
+            _ => value,
         }
     }
 }

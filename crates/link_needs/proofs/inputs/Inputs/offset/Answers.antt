@@ -1,8 +1,11 @@
-use Rattle.link_needs.proofs.InputsLemmas.{part_at_offset}
+use Rattle.std.proofs.Common.{arith}
+use Rattle.link_needs.specs.Linking.{layout}
+use Rattle.link_needs.proofs.InputsLemmas.{fits_at_offset}
 use Rattle.link_needs.proofs.inputs.Inputs.offset.Goals as goal
 
-pub offset_in-requires : goal.offset_in-requires
-offset_in-requires c = record {
-  small = part_at_offset c.args.self.now c.args.symbol.object c.args.symbol.symbol c.object.result.now c.in-Some.part
-      c.requires.object c.object.ensures c.in-Some.ensures.object c.in-Some.ensures.placed c.in-Some.ensures.part;
-}
+pub overflow_add-result : goal.overflow_add-result
+overflow_add-result c =
+    let s = c.in-InSection.section in
+    fits_at_offset (layout c.args.self.now) c.args.symbol.object s c.section_offset.result c.part-place.result.1
+    (c.part-place.ensures.small s c.in-InSection.is) (omega (arith, c.part-place.type_inv)) c.section_offset.ensures.offset
+    c.section_offset.ensures.small
