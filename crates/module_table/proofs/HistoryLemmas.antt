@@ -10,7 +10,7 @@ use Rattle.module_table.specs.declared.events.CloseRefusal.{CloseRefusal}
 use Rattle.module_table.specs.declared.events.CloseRefusal.TheVariants.{Permanent, NotOpen, OutOfMemory as NoRoomToClose}
 use Rattle.module_table.specs.Modules.{is_loaded, is_permanent}
 use Rattle.module_table.specs.Past.{Past, module_of, start, past, after_one, open_refusal, close_refusal, next_offset, accepts}
-use Rattle.module_table.specs.History.{History, open_event, close_event, left, IsLegal, Adds, opened_of, closed_of, open_answer, close_answer, OpenRefused, CloseRefused}
+use Rattle.module_table.specs.History.{History, open_event, close_event, left, IsLegal, Adds, opened_of, closed_of, open_answer, close_answer, OpenRefused, CloseRefused, IsRefusal}
 use Rattle.module_table.specs.Walks.{past-append, legal_push}
 
 pub past_more : (infos : List ImageInfo) (last_offset : ℕ) (events : List Event) (e : Event) → past infos last_offset (events ++ e ∷ []) ≡ after_one (past infos last_offset events) e
@@ -42,20 +42,14 @@ unfolding open_refusal
 not_memory p image e = never_memory (module_of p image).info.late (is_loaded (module_of p image)) (nat_le MOST_INSTANCES p.made) (module_of p image).info.statics
     (nat_lt p.limit (next_offset p (module_of p image))) e
 
-pub refused_open : (h : History) (image : ℕ) (refusal : OpenRefusal) → Some refusal ≡ open_refusal (left h) image → OpenRefused h image refusal
+pub refused_open : (h : History) (image : ℕ) (refusal : Option OpenRefusal) (found : OpenRefusal) → refusal ≡ open_refusal (left h) image
+    → IsRefusal h refusal NoRoomToOpen found → OpenRefused h image found
 unfolding open_answer
-refused_open h image Unknown e = rw (← e) refl
-refused_open h image Full e = rw (← e) refl
-refused_open h image StaticFull e = rw (← e) refl
-refused_open h image NoRoomToOpen e = absurd (not_memory (left h) image (sym e))
-
-pub open_accepted : (h : History) (thread line image : ℕ) → None ≡ open_refusal (left h) image → accepts (left h) (open_event thread line image) ≡ true
-unfolding accepts
-open_accepted h thread line image e = rw (← e) refl
-
-pub open_unheld : (h : History) (image : ℕ) → None ≡ open_refusal (left h) image → h.spare ≡ 0 → OpenRefused h image NoRoomToOpen
-unfolding open_answer
-open_unheld h image e none = (rw (← e) refl, none)
+refused_open h image (Some Unknown) found e is = rw (← is, ← e) refl
+refused_open h image (Some Full) found e is = rw (← is, ← e) refl
+refused_open h image (Some StaticFull) found e is = rw (← is, ← e) refl
+refused_open h image (Some NoRoomToOpen) found e is = absurd (not_memory (left h) image (sym e))
+refused_open h image None found e is = rw (← is.0, ← e) (refl, is.1)
 
 pub opened_is : (h h' : History) (thread line image : ℕ) → Adds h (open_event thread line image) h' → None ≡ open_refusal (left h) image
     → open_answer h image ≡ Ok (record { instance = (module_of (left h') image).instance; id = (module_of (left h') image).id; at = length h.events })
@@ -73,19 +67,13 @@ not_memory_close : (p : Past) (image : ℕ) → close_refusal p image ≡ Some N
 unfolding close_refusal
 not_memory_close p image e = never_memory_close (is_permanent (module_of p image)) (is_loaded (module_of p image)) e
 
-pub refused_close : (h : History) (image : ℕ) (refusal : CloseRefusal) → Some refusal ≡ close_refusal (left h) image → CloseRefused h image refusal
+pub refused_close : (h : History) (image : ℕ) (refusal : Option CloseRefusal) (found : CloseRefusal) → refusal ≡ close_refusal (left h) image
+    → IsRefusal h refusal NoRoomToClose found → CloseRefused h image found
 unfolding close_answer
-refused_close h image Permanent e = rw (← e) refl
-refused_close h image NotOpen e = rw (← e) refl
-refused_close h image NoRoomToClose e = absurd (not_memory_close (left h) image (sym e))
-
-pub close_accepted : (h : History) (thread line image : ℕ) → None ≡ close_refusal (left h) image → accepts (left h) (close_event thread line image) ≡ true
-unfolding accepts
-close_accepted h thread line image e = rw (← e) refl
-
-pub close_unheld : (h : History) (image : ℕ) → None ≡ close_refusal (left h) image → h.spare ≡ 0 → CloseRefused h image NoRoomToClose
-unfolding close_answer
-close_unheld h image e none = (rw (← e) refl, none)
+refused_close h image (Some Permanent) found e is = rw (← is, ← e) refl
+refused_close h image (Some NotOpen) found e is = rw (← is, ← e) refl
+refused_close h image (Some NoRoomToClose) found e is = absurd (not_memory_close (left h) image (sym e))
+refused_close h image None found e is = rw (← is.0, ← e) (refl, is.1)
 
 pub closed_is : (h h' : History) (thread line image : ℕ) → Adds h (close_event thread line image) h' → None ≡ close_refusal (left h) image
     → close_answer h image ≡ Ok (record { at = length h.events; gone = not (is_loaded (module_of (left h') image)) })
@@ -93,6 +81,6 @@ unfolding close_answer closed_of after_one
 closed_is h h' thread line image adds e = rw (← e, left_more h h' _ adds) refl
 
 -- what the two calls rely on
-pub ruleset opening = (refused_open, open_accepted, open_unheld, opened_is)
+pub ruleset opening = (refused_open, opened_is)
 
-pub ruleset closing = (refused_close, close_accepted, close_unheld, closed_is)
+pub ruleset closing = (refused_close, closed_is)

@@ -74,6 +74,11 @@ open_answer h image = unless (open_refusal (left h) image) (opened_of h image)
 unfoldable pub close_answer : History → ℕ → Result Closed CloseRefusal
 close_answer h image = unless (close_refusal (left h) image) (closed_of h image)
 
+-- what an event is refused with: the refusal, or what stands for out of memory if there is none
+abbrev pub IsRefusal : {R : Type 0} → History → Option R → R → R → Type 0
+IsRefusal h (Some refusal) full found = refusal ≡ found
+IsRefusal h None full found = (full ≡ found) × (h.spare ≡ 0)
+
 -- a refusal of an open: the defined one, or out of memory if the event is not refused
 abbrev pub OpenRefused : History → ℕ → OpenRefusal → Type 0
 OpenRefused h image NoRoomToOpen = IsOk (open_answer h image) × (h.spare ≡ 0)

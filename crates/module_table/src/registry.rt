@@ -1,11 +1,10 @@
 //! The registry of modules: one list of opens and closes, which decides everything else.
 
-ghost use Rattle.std.specs.Prelude.{◌≡◌, ◌<◌, ◌≤◌, ◌^◌, [], drop, length, true, IfOk, IfErr, OnErr, OnOk, Ok};
+ghost use Rattle.std.specs.Prelude.{◌≡◌, ◌<◌, ◌≤◌, ◌^◌, [], drop, length, is_none, IfOk, IfErr, OnErr, OnOk, Ok, None};
 ghost use Rattle.module_table.specs.Modules.{AreInfos};
-ghost use Rattle.module_table.specs.Past.{start, module_of, live, offset, current, instance_of, accepts};
-ghost use Rattle.module_table.specs.Past.{open_refusal, close_refusal};
+ghost use Rattle.module_table.specs.Past.{live, offset, current, instance_of, accepts};
 ghost use Rattle.module_table.specs.History.{left, IsLegal, IsSame, Adds, open_answer, close_answer, OpenRefused};
-ghost use Rattle.module_table.specs.History.{CloseRefused, open_event, close_event};
+ghost use Rattle.module_table.specs.History.{CloseRefused, IsRefusal, open_event, close_event};
 
 use crate::events::{CloseRefusal, Closed, Event, OpenRefusal, Opened};
 use crate::modules::{ImageInfo, Module};
@@ -116,13 +115,6 @@ impl Registry {
         &self.events[at as usize..]
     }
 
-    /// The state of an image after the history.
-    fn module(&self, image: u32) -> Module
-        ensures { result ≡ module_of (left self.now) image }
-    {
-        self.table().module(image)
-    }
-
     /// Reserves memory for one more event: the next open or close then does not return `OutOfMemory`.
     pub fn reserve(&mut self) -> Result<(), AllocError>
         ensures spare { OnOk result (1 ≤ self.new.spare) }
@@ -145,29 +137,32 @@ impl Registry {
         })
     }
 
-    /// Appends an event to the history; no other call does.
-    fn add(&mut self, event: Event) -> Result<(), AllocError>
-        requires { accepts (left self.old) event ≡ true }
-        ensures ok { OnOk result (Adds self.old event self.new) }
-        ensures err { OnErr result (IsSame self.old self.new) }
-        ensures full { OnErr result (self.old.spare ≡ 0) }
+    /// Appends an event to the history, which no other call does, and answers how many events came before it. If there
+    /// is a refusal, that is the answer; if memory ran out, `full` is.
+    fn enter<R: Copy>(&mut self, refusal: Option<R>, event: Event, full: R) -> Result<u64, R>
+        requires { accepts (left self.old) event ≡ is_none refusal }
+        ensures at { IfOk result (λ at. at ≡ length self.old.events) }
+        ensures free { OnOk result (refusal ≡ None) }
+        ensures adds { OnOk result (Adds self.old event self.new) }
+        ensures refused { IfErr result (IsRefusal self.old refusal full) }
+        ensures same { OnErr result (IsSame self.old self.new) }
         ensures legal { IsLegal self.new.infos self.new.last_offset self.new.events }
         ensures few { length self.new.events < 2 ^ 63 }
     {
-        self.events.push(event)?;
+        let at = self.len();
+        if let Some(refusal) = refusal {
+            return Err(refusal);
+        }
+        let Ok(()) = self.events.push(event) else {
+            return Err(full);
+        };
         self.table.accept(event);
-        Ok(())
-    }
-
-    /// Why an open of the image is refused, memory apart.
-    fn open_refusal(&self, image: u32) -> Option<OpenRefusal>
-        ensures { result ≡ open_refusal (left self.now) image }
-    {
-        self.table().open_refusal(image)
+        self.history_is_lawful();
+        Ok(at)
     }
 
     /// Opens an image for a thread's line. The refusals, in order: `Unknown`, `Full`, `StaticFull`, `OutOfMemory`.
-    #[tactic(auto, using(crate::proofs::HistoryLemmas::opening))]
+    #[tactic(auto, using(crate::proofs::HistoryLemmas::opening), unfolding(crate::specs::Past::accepts))]
     pub fn open(&mut self, thread: u32, line: u32, image: u32) -> Result<Opened, OpenRefusal>
         ensures opened { IfOk result (λ opened. open_answer self.old image ≡ Ok opened) }
         ensures adds { OnOk result (Adds self.old (open_event thread line image) self.new) }
@@ -176,30 +171,15 @@ impl Registry {
         ensures legal { IsLegal self.new.infos self.new.last_offset self.new.events }
         ensures few { length self.new.events < 2 ^ 63 }
     {
-        let at = self.len();
-        if let Some(refusal) = self.open_refusal(image) {
-            return Err(refusal);
-        }
-        if self.add(Event::open(thread, line, image)).is_err() {
-            return Err(OpenRefusal::OutOfMemory);
-        }
-        let module = self.module(image);
-        Ok(Opened {
-            instance: module.instance,
-            id: module.id,
-            at,
-        })
-    }
-
-    /// Why a close of the image is refused, memory apart.
-    fn close_refusal(&self, image: u32) -> Option<CloseRefusal>
-        ensures { result ≡ close_refusal (left self.now) image }
-    {
-        self.table().close_refusal(image)
+        let refusal = self.table().open_refusal(image);
+        let event = Event::open(thread, line, image);
+        let at = self.enter(refusal, event, OpenRefusal::OutOfMemory)?;
+        let Module { instance, id, .. } = self.table().module(image);
+        Ok(Opened { instance, id, at })
     }
 
     /// Closes an image for a thread's line. The refusals, in order: `Permanent`, `NotOpen`, `OutOfMemory`.
-    #[tactic(auto, using(crate::proofs::HistoryLemmas::closing))]
+    #[tactic(auto, using(crate::proofs::HistoryLemmas::closing), unfolding(crate::specs::Past::accepts))]
     pub fn close(&mut self, thread: u32, line: u32, image: u32) -> Result<Closed, CloseRefusal>
         ensures closed { IfOk result (λ closed. close_answer self.old image ≡ Ok closed) }
         ensures adds { OnOk result (Adds self.old (close_event thread line image) self.new) }
@@ -208,14 +188,10 @@ impl Registry {
         ensures legal { IsLegal self.new.infos self.new.last_offset self.new.events }
         ensures few { length self.new.events < 2 ^ 63 }
     {
-        let at = self.len();
-        if let Some(refusal) = self.close_refusal(image) {
-            return Err(refusal);
-        }
-        if self.add(Event::close(thread, line, image)).is_err() {
-            return Err(CloseRefusal::OutOfMemory);
-        }
-        let gone = !self.module(image).is_loaded();
+        let event = Event::close(thread, line, image);
+        let refusal = self.table().close_refusal(image);
+        let at = self.enter(refusal, event, CloseRefusal::OutOfMemory)?;
+        let gone = !self.table().module(image).is_loaded();
         Ok(Closed { at, gone })
     }
 }
