@@ -1,13 +1,11 @@
 -- The relocations that are left, one after another.
-use Rattle.std.proofs.Common.{◌≡◌, ◌+◌, ◌*◌, ◌-◌, ◌<◌, ◌≤◌, ◌∙◌, ℕ, true, suc, List, [], ◌∷◌, length, map, Some, nat_lt, refl, ap, arith, add-one}
+use Rattle.std.proofs.Common.{◌≡◌, ◌+◌, ◌*◌, ◌-◌, ◌<◌, ◌≤◌, ◌∙◌, ℕ, suc, List, [], ◌∷◌, length, map, Some, refl, ap, arith, add-one}
 use Rattle.std.specs.List.{range_with_len, slice_get}
-use Rattle.std.proofs.lemmas.Bool.Decides.{nat_tests}
 use Rattle.std.proofs.lemmas.List.FromFn.{get_or-map-range_with_len, length-map-range_with_len}
 use Rattle.std.proofs.lemmas.Option.{slice_get-get_or}
 use Rattle.elf_object.specs.declared.relocation.Relocation.{Relocation}
-use Rattle.elf_object.specs.Parts.{section, entry_count}
 use Rattle.elf_object.specs.Laws.{length-relocations_from}
-use Rattle.elf_object.specs.Lent.{relocation_at, relocations_from, relocations_in}
+use Rattle.elf_object.specs.Lent.{relocation_at, relocations_from}
 
 -- none is left
 pub relocations_none : (b : List ℕ) (at next end : ℕ) → end ≤ next → relocations_from b at next (end - next) ≡ []
@@ -19,18 +17,6 @@ pub relocations_first : (b : List ℕ) (at next end : ℕ) → next < end
     → relocations_from b at next (end - next) ≡ relocation_at (at + 24 * next) b ∷ relocations_from b at (next + 1) (end - (next + 1))
 unfolding relocations_from
 relocations_first b at next end h = let more : end - next ≡ suc (end - (next + 1)) = omega arith in rw (more, add-one) refl
-
--- how many relocations section r holds
-pub relocations_counted : (b : List ℕ) (r : ℕ) → 0 < r → length (relocations_in b r) ≡ entry_count (section b r)
-unfolding relocations_in
-relocations_counted b r some =
-    let passes : nat_lt 0 r ≡ true = grind (arith, nat_tests) in
-    rw passes (length-relocations_from b (section b r).offset 0 (entry_count (section b r)))
-
--- none where there is no such section
-pub relocations_uncounted : (b : List ℕ) (r : ℕ) → r ≡ 0 → length (relocations_in b r) ≡ 0
-unfolding relocations_in
-relocations_uncounted b r none = rw none refl
 
 -- relocation number i of those from a number on
 pub relocations_nth : (b : List ℕ) (at next n i : ℕ) → i < n

@@ -13,7 +13,7 @@ ghost use Rattle.elf_object.specs.Faults.{IsObject, IsFault, IsFirstAt};
 
 use crate::part::{SectionPart, SymbolPart, class_in, section_part, symbol_part};
 use crate::part_names::{section_name, short_symbol_name, symbol_name};
-use crate::relocs::{Relocs, count_in, relocs_in, table_of, target_of};
+use crate::relocs::{Relocs, relocs_in, table_of, target_of};
 use elf_records::SymbolBinding;
 use object_faults::{FaultFree, ObjectFault, SectionClass, Tables, fault_free};
 use std::alloc::Global;
@@ -154,18 +154,6 @@ impl<'a> Object<'a> {
     {
         let table = table_of(&self.tables, &self.targets, u64::from(section));
         relocs_in(&self.tables, table)
-    }
-
-    /// The number of relocations of a section that linking keeps: as many as [`relocs`](Object::relocs) lends. Reads
-    /// none of them.
-    #[tactic(auto, using(crate::specs::Laws::relocations_few))]
-    pub fn relocation_count(&self, section: u32) -> u64
-        ensures count { result ≡ length (relocations_of self.now section) }
-        ensures few { result ≤ 2 ^ 20 }
-        ensures object { IsObject self.now }
-    {
-        let table = table_of(&self.tables, &self.targets, u64::from(section));
-        count_in(&self.tables, table)
     }
 
     /// The section that holds the symbols, if there is one.

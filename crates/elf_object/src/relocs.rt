@@ -131,17 +131,6 @@ pub fn relocs_in<'a>(tables: &Tables<'a>, table: u64) -> Relocs<'a>
     Relocs::of(tables.bytes, header.offset, header.size / Rela::SIZE)
 }
 
-/// The number of relocations that a section holds.
-pub fn count_in(tables: &Tables, table: u64) -> u64
-    requires { 0 < table → IsRela tables.now.bytes.now table }
-    ensures { result ≡ length (relocations_in tables.now.bytes.now table) }
-{
-    if table == 0 {
-        return 0;
-    }
-    tables.section(table).size / Rela::SIZE
-}
-
 /// The section whose relocations this one holds, if linking keeps it; else 0.
 #[tactic(auto, unfolding(crate::specs::Lent::relocation_target))]
 pub fn target_of(tables: &Tables, table: u64) -> u64

@@ -12,7 +12,7 @@ use std::test::Fail;
 fn is_example(object: &Object) -> bool {
     object.section_count() == 8
         && object.symbol_count() == 3
-        && object.relocation_count(1) == 2
+        && object.relocs(1).len() == 2
         && object.relocation_table(1) == Some(2)
         && object.section_name(3) == b".tdata".as_slice()
         && object.symbol_name(2) == b"x".as_slice()

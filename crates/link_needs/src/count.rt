@@ -20,7 +20,7 @@ fn own_count(object: &Object) -> u64
 {
     let mut count = 0;
     for section in 1..object.section_count() {
-        count += object.relocation_count(section);
+        count += object.relocs(section).len();
     }
     count
 }
