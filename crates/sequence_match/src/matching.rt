@@ -343,6 +343,7 @@ fn form_of_two(code: &Code, form: Form, other: Form, entry: u32, first: &Relocat
 }
 
 /// A relocation of the code, by its number.
+#[inline(always)]
 fn relocation_at(code: &Code, entry: u32) -> Relocation
     requires { entry < length code.now.relocations.now }
     ensures { IsEntry code.now.relocations.now entry result }
