@@ -1,13 +1,14 @@
 //! add, or, and, sub, xor, cmp, test, imul and shifts.
 
-ghost use Rattle.std.specs.Prelude.{◌≡◌};
+ghost use Rattle.std.specs.Prelude.{◌≡◌, ◌<◌};
+ghost use Rattle.guest_arithmetic.specs.Arithmetic.{compute_effect, span_of};
 ghost use Rattle.guest_arithmetic.specs.Flags.{with_changes};
 ghost use Rattle.guest_machine.specs.Step.{is_cleared, finished, concluded, settled, compute_in, compute_out, add_field, compute_plain, compute_number, compute_of, test_of, multiply_of, shift_of, all_unsettled};
 ghost use Rattle.guest_operands.specs.Use.{Does};
 
 use crate::execution::Execution;
 use crate::moves::immediate;
-use amd64_subset::{Arithmetic, Memory, Operand, Operands, Register, Shift, Width};
+use amd64_subset::{Arithmetic, Operand, Operands, Register, Shift, Width};
 use guest_arithmetic::{Change, Changes, Effect, Values, compute, product, shift, with_changes};
 use guest_operands::{Frame, Slot, Space, State, Stop, charged, number_at, put, register, used};
 
@@ -49,26 +50,30 @@ impl<V: Values, S: Space<V>> Execution<'_, V, S> {
         Ok(())
     }
 
-    /// The same, except that cmp writes no result.
+    /// Computes, writes the result unless the instruction is cmp, and then the flags and the next address.
     #[tactic(auto, unfolding(crate::specs::Step::concluded))]
     fn conclude(
         self,
         arithmetic: Arithmetic,
         width: Width,
         slot: Slot,
-        effect: &Effect,
+        left: u64,
+        right: u64,
     ) -> Result<(), Stop>
+        requires { right < span_of width }
         ensures does { Does V.operations result self.entry.state.now (S.memory self.entry.space.now) self.exit.0.now
             (S.memory self.exit.1.0.now)
-            (λ ops acc s m. concluded ops acc arithmetic width slot effect.now self.entry.frame.now s m) }
+            (λ ops acc s m. concluded ops acc arithmetic width slot (compute_effect arithmetic width left right)
+            self.entry.frame.now s m) }
         ensures rest { S.rest self.exit.1.0.now ≡ S.rest self.entry.space.now }
     {
+        let effect = compute(arithmetic, width, left, right);
         match arithmetic {
             Arithmetic::Compare => {
                 settle::<V>(&effect.changes, self.frame, self.state);
                 Ok(())
             }
-            _ => self.finish(width, slot, effect),
+            _ => self.finish(width, slot, &effect),
         }
     }
 
@@ -92,28 +97,7 @@ impl<V: Values, S: Space<V>> Execution<'_, V, S> {
         }
         let left = number_at::<V>(width, register(&self.state.registers, to));
         let it = self.take(width, from, left)?;
-        let effect = compute(arithmetic, width, it.other, it.number);
-        self.conclude(arithmetic, width, slot, &effect)
-    }
-
-    /// The same, into a memory operand.
-    #[tactic(auto, unfolding(crate::specs::Step::compute_out))]
-    fn compute_out(
-        self,
-        arithmetic: Arithmetic,
-        width: Width,
-        to: &Memory,
-        from: Register,
-    ) -> Result<(), Stop>
-        ensures does { Does V.operations result self.entry.state.now (S.memory self.entry.space.now) self.exit.0.now
-            (S.memory self.exit.1.0.now)
-            (λ ops acc s m. compute_out ops acc arithmetic width self.entry.frame.now s m to.now from) }
-        ensures rest { S.rest self.exit.1.0.now ≡ S.rest self.entry.space.now }
-    {
-        let right = number_at::<V>(width, register(&self.state.registers, from));
-        let it = self.take(width, &Operand::InMemory(*to), right)?;
-        let effect = compute(arithmetic, width, it.number, it.other);
-        self.conclude(arithmetic, width, it.slot, &effect)
+        self.conclude(arithmetic, width, slot, it.other, it.number)
     }
 
     /// Adds an offset field to a base.
@@ -145,8 +129,7 @@ impl<V: Values, S: Space<V>> Execution<'_, V, S> {
         ensures rest { S.rest self.exit.1.0.now ≡ S.rest self.entry.space.now }
     {
         let it = self.take(width, to, immediate::<V>(width, self.frame))?;
-        let effect = compute(arithmetic, width, it.number, it.other);
-        self.conclude(arithmetic, width, it.slot, &effect)
+        self.conclude(arithmetic, width, it.slot, it.number, it.other)
     }
 
     /// The same, except that the immediate may be an offset field that is added to a base in a register.
@@ -167,7 +150,7 @@ impl<V: Values, S: Space<V>> Execution<'_, V, S> {
     }
 
     /// add, or, and, sub, xor, cmp
-    #[tactic(auto, unfolding(crate::specs::Step::compute_of))]
+    #[tactic(auto, unfolding(crate::specs::Step::compute_of, crate::specs::Step::compute_out))]
     pub(crate) fn compute(
         self,
         arithmetic: Arithmetic,
@@ -181,7 +164,11 @@ impl<V: Values, S: Space<V>> Execution<'_, V, S> {
     {
         match operands {
             Operands::IntoRegister { to, from } => self.compute_in(arithmetic, width, *to, from),
-            Operands::IntoMemory { to, from } => self.compute_out(arithmetic, width, to, *from),
+            Operands::IntoMemory { to, from } => {
+                let right = number_at::<V>(width, register(&self.state.registers, *from));
+                let it = self.take(width, &Operand::InMemory(*to), right)?;
+                self.conclude(arithmetic, width, it.slot, it.number, it.other)
+            }
             Operands::Immediate { to } => self.compute_number(arithmetic, width, to),
         }
     }
