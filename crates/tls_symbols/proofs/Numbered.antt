@@ -9,7 +9,7 @@ use Rattle.std.proofs.lemmas.List.{length-append, length-map, map-append, get_or
 use Rattle.std.proofs.lemmas.List.Folds.{position_or_len_push}
 use Rattle.elf_object.specs.Lent.{symbol_name}
 use Rattle.tls_symbols.specs.declared.numbers.KnownSymbol.{KnownSymbol}
-use Rattle.tls_symbols.specs.Numbers.{Names, number_of, Grows, IsNamed, IsNumbered, AreNumbered, AreListed, AllListed}
+use Rattle.tls_symbols.specs.Numbers.{Names, number_of, Grows, IsNamed, IsNumbered, AreNumbered, AreListed}
 
 -- a name is equal to itself
 pub same_name : (name : List ℕ) → bytes_eq name name ≡ true
@@ -64,12 +64,6 @@ pub listed_grows : (old new : Names) (listed : List (List ℕ)) (numbers : List 
 listed_grows old new listed numbers grows all = record {
   len = all.len;
   each = λ j below. grows.keeps (slice_index_or listed j []) (slice_index numbers j) (all.each j below);
-}
-
-pub lists_grow : (old new : Names) (lists : List (List (List ℕ))) (numbers : List (List ℕ)) → Grows old new → AllListed old lists numbers → AllListed new lists numbers
-lists_grow old new lists numbers grows all = record {
-  len = all.len;
-  each = λ k below. listed_grows old new (slice_index_or lists k []) (slice_index_or numbers k []) grows (all.each k below);
 }
 
 -- the same of lists, each of which is held by a `Vec`

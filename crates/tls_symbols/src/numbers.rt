@@ -159,24 +159,6 @@ fn number_list<'a>(
     Ok(numbers)
 }
 
-/// The numbers of the names that the startup images export.
-fn number_exports<'a>(
-    alloc: Global,
-    startup: &[Exports<'a>],
-    names: &mut IndexSet<&'a [u8]>,
-) -> Result<Vec<Vec<usize>>, AllocError>
-    ensures numbers { IfOk result (λ numbers.
-        AllListed names.new.keys startup.now (map (λ own. own.items) numbers.items)) }
-    ensures grows { OnOk result (Grows names.old.keys names.new.keys) }
-{
-    let mut numbers = Vec::new(alloc);
-    for exports in startup {
-        let own = number_list(alloc, exports.names(), names)?;
-        numbers.push(own)?;
-    }
-    Ok(numbers)
-}
-
 /// Numbers the names of an image: first the run time's function, then what startup images export, then its symbols'
 /// names.
 pub fn number_names<'a>(
@@ -189,7 +171,11 @@ pub fn number_names<'a>(
     ensures exported { IfOk result (λ n. AllListed n.names.keys startup.now (map (λ own. own.items) n.exported.items)) }
 {
     let mut names = first_names(alloc, symbol_total(objects))?;
-    let exported = number_exports(alloc, startup, &mut names)?;
+    let mut exported = Vec::new(alloc);
+    for exports in startup {
+        let own = number_list(alloc, exports.names(), &mut names)?;
+        exported.push(own)?;
+    }
     let symbols = number_objects(alloc, objects, &mut names)?;
     Ok(Numbers {
         names,
