@@ -159,7 +159,6 @@ impl<'l, 's, 'a> Inputs<'l, 's, 'a> {
 
     /// The address of a symbol of the image.
     #[tactic(auto, unfolding(crate::specs::Linking::address))]
-    #[inline]
     pub fn address(&self, symbol: SymbolRef) -> u64
         requires { IsWithin self.now.objects symbol }
         ensures { result ≡ address self.now symbol }
@@ -174,7 +173,6 @@ impl<'l, 's, 'a> Inputs<'l, 's, 'a> {
 
     /// The offset of a thread-local symbol of the image in its TLS segment.
     #[tactic(auto, unfolding(crate::specs::Linking::offset))]
-    #[inline]
     pub fn offset(&self, symbol: SymbolRef) -> u64
         requires { IsWithin self.now.objects symbol }
         ensures { result ≡ offset self.now symbol }
