@@ -119,7 +119,13 @@ fn raced_of_images<R: Threads + Wait + Sync>(
 {
     job.keeps_limits();
     let startup = startup_exports(alloc, images)?;
-    match prepare_images(alloc, images, startup.as_slice(), rewriting.is_allowed()) {
+    match prepare_images(
+        rt,
+        alloc,
+        images,
+        startup.as_slice(),
+        rewriting.is_allowed(),
+    ) {
         Ok(ready) => race_ready(rt, alloc, job, images, ready),
         Err(refusal) => {
             let reply = link_refusal(alloc, job, refusal.number, refusal.fault)?;

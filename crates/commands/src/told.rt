@@ -146,7 +146,13 @@ fn told_of_images<R: Threads + Sync>(
 {
     job.keeps_limits();
     let startup = startup_exports(alloc, images)?;
-    match prepare_images(alloc, images, startup.as_slice(), rewriting.is_allowed()) {
+    match prepare_images(
+        rt,
+        alloc,
+        images,
+        startup.as_slice(),
+        rewriting.is_allowed(),
+    ) {
         Ok(ready) => ended(rt, alloc, job, images, ready, ending),
         Err(refusal) => {
             let reply = link_refusal(alloc, job, refusal.number, refusal.fault)?;

@@ -51,20 +51,24 @@ pub fn startup_exports<'a>(
 }
 
 /// A link that is ready, if the values of all its fields fit; else the first that does not.
-fn fitting<'l, 's, 'a>(ready: ReadyLink<'l, 's, 'a>) -> Result<ReadyLink<'l, 's, 'a>, LinkFault>
+fn fitting<'l, 's, 'a, R: Threads + Sync>(
+    rt: &R,
+    ready: ReadyLink<'l, 's, 'a>,
+) -> Result<ReadyLink<'l, 's, 'a>, LinkFault>
     requires { IsSound ready }
     ensures ready { IfOk result (λ same. same ≡ ready.entry) }
     ensures links { OnOk result (Links ready.entry) }
     ensures fault { IfErr result (IsLinkFault ready.entry) }
 {
-    match ready.overflow() {
+    match ready.overflow(rt) {
         None => Ok(ready),
         Some(fault) => Err(fault),
     }
 }
 
 /// Makes an image ready, given the exports of the startup images, or returns its first fault.
-fn ready_one<'i, 'a>(
+fn ready_one<'i, 'a, R: Threads + Sync>(
+    rt: &R,
     alloc: Global,
     image: &'i ImageObjects<'a>,
     startup: &'i [Exports<'a>],
@@ -83,14 +87,15 @@ fn ready_one<'i, 'a>(
         startup,
         relax,
     ) {
-        Ok(ready) => fitting(ready),
+        Ok(ready) => fitting(rt, ready),
         Err(fault) => Err(fault),
     }
 }
 
 /// Makes the images of a job, given in image order, ready, or returns the first that does not link. `startup` is what
 /// the startup images export, and `relax` says whether sequences may be rewritten. No byte of an image is laid.
-pub fn prepare_images<'i, 'a>(
+pub fn prepare_images<'i, 'a, R: Threads + Sync>(
+    rt: &R,
     alloc: Global,
     images: &'i [ImageObjects<'a>],
     startup: &'i [Exports<'a>],
@@ -105,7 +110,7 @@ pub fn prepare_images<'i, 'a>(
     // Want of memory has an image too, so each refusal names one of the job's.
     let mut all = Vec::new(alloc);
     for (number, image) in images.iter().enumerate() {
-        match ready_one(alloc, image, startup, relax) {
+        match ready_one(rt, alloc, image, startup, relax) {
             Ok(ready) => match all.push(ready) {
                 Ok(()) => {}
                 Err(_) => {

@@ -26,6 +26,7 @@ pub mod LoadsTables
 pub mod LoadsTls
 pub mod NamesHeld
 pub mod NewFields
+pub mod Overflows
 pub mod PartFields
 pub mod PartSplit
 pub mod PartSteps

@@ -5,4 +5,5 @@ pub mod Bytes
 pub mod Images
 pub mod Laws
 pub mod Meant
+pub mod Overflows
 pub mod Parts

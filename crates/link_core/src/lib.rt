@@ -51,9 +51,9 @@
 //! Names are compared by hash, each section is copied once, and each relocation is read by a fixed number of walks:
 //! time is linear in objects, symbols, relocations and bytes.
 //!
-//! Several threads write a large image: its fields are written in parts of the file, cut where a section begins. No
-//! clause depends on it. `specs/Parts` says what is written in a part, and its proofs say that the parts together are
-//! the whole.
+//! Several threads look at the objects of a large image (`specs/Overflows`), and several write it: its fields are
+//! written in parts of the file, cut where a section begins. No clause depends on it. `specs/Parts` says what is
+//! written in a part, and its proofs say that the parts together are the whole.
 //!
 //! The rules are those of "ELF Handling For Thread-Local Storage" (Drepper), of the psABI ("Thread-Local Storage",
 //! "Relocation Types") and of the gABI ("Program Loading and Dynamic Linking").

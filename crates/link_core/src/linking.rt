@@ -121,7 +121,7 @@ fn written<R: Threads + Sync>(rt: &R, alloc: Global, ready: ReadyLink) -> Result
     ensures links { OnOk result (Links ready.entry) }
     ensures fault { IfErr result (IsLinkFault ready.entry) }
 {
-    match ready.overflow() {
+    match ready.overflow(rt) {
         None => Ok(ready.write(rt, alloc)?),
         Some(fault) => Err(fault),
     }

@@ -7,11 +7,11 @@ use Rattle.job_link.proofs.Exported.{all_link, beside, first_refused, links_more
 use Rattle.job_link.proofs.preparing.prepare_images.Goals as goal
 
 pub ready_one-requires : goal.ready_one-requires
-ready_one-requires c =
+ready_one-requires g c =
     omega (arith, ap length c.requires.startup, exports_few c.args.images.now, c.requires.few)
 
 pub returns-in-Err-clause-refused : goal.returns-in-Err-clause-refused
-returns-in-Err-clause-refused c =
+returns-in-Err-clause-refused g c =
     let images = c.args.images.now in
     let g = c.index-images-number.result in
     let same = beside images c.args.startup.now c.args.relax g c.requires.startup in
@@ -20,7 +20,7 @@ returns-in-Err-clause-refused c =
     (subst (λ (l : Linking). IsLinkFault l c.in-Err.fault) same c.in-Err.ensures.fault)
 
 pub loop-number-preserved : goal.loop-number-preserved
-loop-number-preserved c =
+loop-number-preserved g c =
     let images = c.args.images.now in
     let relax = c.args.relax in
     let i = c.loop-number.number in
@@ -39,5 +39,5 @@ loop-number-preserved c =
     }
 
 pub returns-clause-links : goal.returns-clause-links
-returns-clause-links c =
+returns-clause-links g c =
     all_link c.args.images.now c.args.relax c.loop-number.number c.loop-number-test.false c.loop-number.invariant.links

@@ -6,7 +6,7 @@ use Rattle.job_link.specs.Linked.{link_in}
 use Rattle.job_link.proofs.preparing.prepare_images.Given as goal
 
 abbrev pub invariant-loop-number : goal.invariant-loop-number
-invariant-loop-number l = record {
+invariant-loop-number g l = record {
   ready : l.all.items ≡ map (link_in l.images l.relax) (take l.number l.images);
   links : (k : ℕ) (g : Given) → k < l.number → slice_get l.images k ≡ Some g → Links (link_in l.images l.relax g);
 }
