@@ -9,10 +9,10 @@ use Rattle.std.proofs.lemmas.List.Elements.{All-weaker, All-set, All-get_or}
 use Rattle.std.specs.Borrow.{Bor}
 use Rattle.std.specs.HashMap.{HashMap, get_by}
 use Rattle.std.specs.List.{All, position_from}
-use Rattle.std.specs.Option.{IfSome, option_map}
+use Rattle.std.specs.Option.{IfSome, option_map, option_or}
 use Rattle.std.specs.Str.{bytes_eq}
 use Rattle.job_text.specs.Threads.{IsThread}
-use Rattle.job_text.specs.Drafts.{Declared, IsDraft, IsSlot, IsPlan, image_count, is_named, or_else, slot_among, slot_of, program_slot}
+use Rattle.job_text.specs.Drafts.{Declared, IsDraft, IsSlot, IsPlan, image_count, is_named, slot_among, slot_of, program_slot}
 use Rattle.job_text.specs.LineAnswers.{next_slot}
 use Rattle.job_text.specs.LineEffects.{with_image, with_line}
 use Rattle.job_text.specs.LineFaults.{is_program}
@@ -40,7 +40,7 @@ position_added t i (x ∷ xs) y n e =
     let parts = none_after (t x) i (position_from t (i + 1) xs) n in
     rw parts.0 (position_added t (i + 1) xs y parts.1 e ∙ ap Some (omega arith))
 
-both_missing : (a b : Option Slot) → or_else a b ≡ None → (a ≡ None) × (b ≡ None)
+both_missing : (a b : Option Slot) → option_or a b ≡ None → (a ≡ None) × (b ≡ None)
 both_missing None b e = (refl, e)
 both_missing (Some p) b e = cc
 
@@ -111,7 +111,7 @@ position_inside t i k (x ∷ xs) e = inside (t x) e (λ h. position_inside t (i 
     inside false h more = omega (arith, more h)
 
 start_found : (o : Option ℕ) (rest : Option Slot) (slot : Slot) (program : Option Image) (starts lates : List Image) → ((k : ℕ) → o ≡ Some k → k < length starts)
-    → (rest ≡ Some slot → IsSlot program starts lates slot) → or_else (option_map Start o) rest ≡ Some slot → IsSlot program starts lates slot
+    → (rest ≡ Some slot → IsSlot program starts lates slot) → option_or (option_map Start o) rest ≡ Some slot → IsSlot program starts lates slot
 start_found None rest slot program starts lates inside more e = more e
 start_found (Some k) rest slot program starts lates inside more e = let same : Start k ≡ slot = cc in subst (IsSlot program starts lates) same (inside k refl)
 
@@ -121,11 +121,11 @@ late_found None slot program starts lates inside e = cc
 late_found (Some k) slot program starts lates inside e = let same : Late k ≡ slot = cc in subst (IsSlot program starts lates) same (inside k refl)
 
 program_found : (program : Option Image) (name : List ℕ) (rest : Option Slot) (slot : Slot) (starts lates : List Image)
-    → (rest ≡ Some slot → IsSlot program starts lates slot) → or_else (program_slot name program) rest ≡ Some slot → IsSlot program starts lates slot
+    → (rest ≡ Some slot → IsSlot program starts lates slot) → option_or (program_slot name program) rest ≡ Some slot → IsSlot program starts lates slot
 program_found None name rest slot starts lates more e = more e
 program_found (Some image) name rest slot starts lates more e = by_test (is_named name image) e
   where
-    by_test : (b : Bool) → or_else (cond b (Some Program) None) rest ≡ Some slot → IsSlot (Some image) starts lates slot
+    by_test : (b : Bool) → option_or (cond b (Some Program) None) rest ≡ Some slot → IsSlot (Some image) starts lates slot
     by_test true h = let same : Program ≡ slot = cc in subst (IsSlot (Some image) starts lates) same refl
     by_test false h = more h
 

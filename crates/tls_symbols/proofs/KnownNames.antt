@@ -6,6 +6,7 @@ use Rattle.std.specs.Str.{bytes_eq}
 use Rattle.std.proofs.lemmas.Bool.Decides.{nat_tests}
 use Rattle.std.proofs.lemmas.List.{get_or_past}
 use Rattle.std.proofs.lemmas.Slice.Eq.{bytes_eq-Decides}
+use Rattle.std.specs.Option.{option_or}
 use Rattle.elf_records.specs.declared.symbol.SymbolBinding.TheVariants.{Local, Global, Weak}
 use Rattle.elf_object.specs.Lent.{symbol_binding, symbol_name}
 use Rattle.link_faults.specs.declared.binding.Binding.{Binding}
@@ -15,7 +16,7 @@ use Rattle.link_faults.specs.declared.symbol_ref.SymbolRef.{SymbolRef}
 use Rattle.tls_symbols.specs.Bindings.{here_or, name_bound, of_startup}
 use Rattle.elf_records.specs.Symbols.{get_address}
 use Rattle.tls_symbols.specs.Definitions.{definition_of, first_from, or_weak, same_binding}
-use Rattle.tls_symbols.specs.Numbers.{Names, KnowsNames, IsNamed, IsNumbered, number_of, IsNumberOf, at_number, or_else, told}
+use Rattle.tls_symbols.specs.Numbers.{Names, KnowsNames, IsNamed, IsNumbered, number_of, IsNumberOf, at_number, told}
 use Rattle.tls_symbols.proofs.Told.{same_number}
 
 -- a symbol whose name has a number
@@ -27,27 +28,27 @@ pub numbered_name : (names : Names) (b : List ℕ) (e : ℕ) (known : KnownSymbo
 numbered_name names b e known n is some =
     let named : IsNamed names b e (Some n) = subst (IsNamed names b e) some is.name in record { shared = named.0; number = named.1 }
 
-or_else_weak : (strong weak : Option SymbolRef) → or_else strong weak ≡ or_weak strong weak
+or_else_weak : (strong weak : Option SymbolRef) → option_or strong weak ≡ or_weak strong weak
 or_else_weak (Some x) weak = refl
 or_else_weak None weak = refl
 
 module _ (objects : List (List ℕ)) (startup : List (List (List ℕ))) (names : Names) (numbers : List (List KnownSymbol))
     (strong weak : List (Option SymbolRef)) (imported : List (Option ℕ)) (known : KnowsNames objects startup names numbers strong weak imported) where
-  pub known_told : (name : List ℕ) → or_else (told names strong name) (told names weak name) ≡ definition_of objects name
+  pub known_told : (name : List ℕ) → option_or (told names strong name) (told names weak name) ≡ definition_of objects name
   unfolding definition_of
   known_told name =
-      ap (λ s. or_else s (told names weak name)) (known.strongly.tells name)
-      ∙ ap (λ w. or_else (first_from Global name 0 objects) w) (known.weakly.tells name)
+      ap (λ s. option_or s (told names weak name)) (known.strongly.tells name)
+      ∙ ap (λ w. option_or (first_from Global name 0 objects) w) (known.weakly.tells name)
       ∙ or_else_weak (first_from Global name 0 objects) (first_from Weak name 0 objects)
 
   -- the definition of a name, by its number
-  pub known_definition : (name : List ℕ) (n : ℕ) → n ≡ number_of names name → or_else (at_number strong n) (at_number weak n) ≡ definition_of objects name
-  known_definition name n e = ap (λ m. or_else (at_number strong m) (at_number weak m)) e ∙ known_told name
+  pub known_definition : (name : List ℕ) (n : ℕ) → n ≡ number_of names name → option_or (at_number strong n) (at_number weak n) ≡ definition_of objects name
+  known_definition name n e = ap (λ m. option_or (at_number strong m) (at_number weak m)) e ∙ known_told name
 
   -- a name that is not among them has none
   pub known_none : (name : List ℕ) → length names ≤ number_of names name → None ≡ definition_of objects name
   known_none name past =
-      sym (ap (λ s. or_else s (told names weak name)) (get_or_past strong (number_of names name) None (omega (arith, known.strongly.len)))
+      sym (ap (λ s. option_or s (told names weak name)) (get_or_past strong (number_of names name) None (omega (arith, known.strongly.len)))
       ∙ get_or_past weak (number_of names name) None (omega (arith, known.weakly.len)))
       ∙ known_told name
 
@@ -72,11 +73,11 @@ module _ (objects : List (List ℕ)) (startup : List (List (List ℕ))) (names :
 
   -- what a name is bound to, by its number
   pub known_binding : (name : List ℕ) (n : ℕ) (imports : Bool) → IsNumberOf names name n
-      → (if n == 0 then Some Runtime else here_or (or_else (at_number strong n) (at_number weak n)) (if imports then of_startup (at_number imported n) else None))
+      → (if n == 0 then Some Runtime else here_or (option_or (at_number strong n) (at_number weak n)) (if imports then of_startup (at_number imported n) else None))
       ≡ name_bound objects startup imports name
   known_binding name n imports is =
-      let rest : Option Binding = here_or (or_else (at_number strong n) (at_number weak n)) (if imports then of_startup (at_number imported n) else None) in
-      ap (λ t. if t then Some Runtime else here_or (or_else (at_number strong n) (at_number weak n)) (if imports then of_startup (at_number imported n) else None)) (known_run_time name n is)
+      let rest : Option Binding = here_or (option_or (at_number strong n) (at_number weak n)) (if imports then of_startup (at_number imported n) else None) in
+      ap (λ t. if t then Some Runtime else here_or (option_or (at_number strong n) (at_number weak n)) (if imports then of_startup (at_number imported n) else None)) (known_run_time name n is)
       ∙ ap (λ d. if bytes_eq name get_address then Some Runtime else here_or d (if imports then of_startup (at_number imported n) else None)) (known_definition name n is.number)
       ∙ ap (λ i. if bytes_eq name get_address then Some Runtime else here_or (definition_of objects name) (if imports then of_startup i else None))
       (ap (at_number imported) is.number ∙ known.exports.tells name)

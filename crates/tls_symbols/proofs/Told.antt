@@ -8,6 +8,7 @@ use Rattle.std.proofs.lemmas.Grind.{get_or-set_at}
 use Rattle.std.proofs.lemmas.List.{get_or-map, get_or-set_other}
 use Rattle.std.proofs.lemmas.List.Sums.{passes_at_first}
 use Rattle.std.proofs.lemmas.Slice.Eq.{bytes_eq-Decides}
+use Rattle.std.specs.Option.{option_or}
 use Rattle.elf_records.specs.declared.symbol.SymbolBinding.{SymbolBinding}
 use Rattle.elf_records.specs.declared.symbol.SymbolBinding.TheVariants.{Local, Global, Weak}
 use Rattle.elf_object.specs.Lent.{symbol_binding, symbol_name, symbol_place}
@@ -15,7 +16,7 @@ use Rattle.elf_object.specs.Parts.{symbol_count}
 use Rattle.link_faults.specs.declared.symbol_ref.SymbolRef.{SymbolRef}
 use Rattle.tls_symbols.specs.Definitions.{defines, found_or, is_defined, same_binding}
 use Rattle.tls_symbols.specs.Numbers.{export_in}
-use Rattle.tls_symbols.specs.Numbers.{Names, number_of, IsNamed, IsNumberOf, at_number, or_else, own_numbers, with_first, told}
+use Rattle.tls_symbols.specs.Numbers.{Names, number_of, IsNamed, IsNumberOf, at_number, own_numbers, with_first, told}
 use Rattle.tls_symbols.proofs.Search.{find_here, find_later}
 
 -- two names with one number are one
@@ -31,13 +32,13 @@ same_number (k ∷ ks) x y n hx e =
 
 module _ {X : Type 0} (names : Names) (table : List (Option X)) (known name : List ℕ) (n : ℕ) (x : X) (is : IsNumberOf names known n) where
   -- of the name itself the table tells the entry, where it told nothing
-  pub told_same : length table ≡ length names → bytes_eq name known ≡ true → told names (with_first table n x) name ≡ or_else (told names table name) (Some x)
+  pub told_same : length table ≡ length names → bytes_eq name known ≡ true → told names (with_first table n x) name ≡ option_or (told names table name) (Some x)
   told_same len same =
       let e : name ≡ known = (bytes_eq-Decides name known).0 same in
       let number : number_of names name ≡ n = ap (number_of names) e ∙ sym is.number in
       let within : n < length table = omega (arith, is.within, len) in
-      get_or-set_at table n (number_of names name) (or_else (at_number table n) (Some x)) None number within
-      ∙ ap (λ m. or_else (at_number table m) (Some x)) (sym number)
+      get_or-set_at table n (number_of names name) (option_or (at_number table n) (Some x)) None number within
+      ∙ ap (λ m. option_or (at_number table m) (Some x)) (sym number)
 
   -- of others what it told
   pub told_other : bytes_eq name known ≡ false → told names (with_first table n x) name ≡ told names table name
@@ -46,11 +47,11 @@ module _ {X : Type 0} (names : Names) (table : List (Option X)) (known name : Li
       (let same : known ≡ name = same_number names known name n is (sym h) in
       let equal : bytes_eq name known ≡ true = (bytes_eq-Decides name known).1 (sym same) in
       cc)) in
-      get_or-set_other table n (number_of names name) (or_else (at_number table n) (Some x)) None apart
+      get_or-set_other table n (number_of names name) (option_or (at_number table n) (Some x)) None apart
 
 -- ** definitions
 
-pub or_else_twice : {X : Type 0} (t : Option X) (x : X) (later : Option X) → or_else (or_else t (Some x)) later ≡ or_else t (Some x)
+pub or_else_twice : {X : Type 0} (t : Option X) (x : X) (later : Option X) → option_or (option_or t (Some x)) later ≡ option_or t (Some x)
 or_else_twice (Some y) x later = refl
 or_else_twice None x later = refl
 
@@ -77,35 +78,35 @@ module _ (names : Names) (binding : SymbolBinding) (o : ℕ) (b : List ℕ) wher
 
     pub note_step : (table : List (Option SymbolRef)) (n : ℕ) → (same_binding binding (symbol_binding b a) && is_defined (symbol_place b a)) ≡ true
         → IsNumberOf names (symbol_name b a) n → length table ≡ length names → (name : List ℕ)
-        → or_else (told names (with_first table n (record { object = o; symbol = a })) name) (left (a + 1) name) ≡ or_else (told names table name) (left a name)
+        → option_or (told names (with_first table n (record { object = o; symbol = a })) name) (left (a + 1) name) ≡ option_or (told names table name) (left a name)
     note_step table n defined is len name = by_test (bytes_eq name (symbol_name b a)) refl
       where
         found : SymbolRef
         found = record { object = o; symbol = a }
 
         by_test : (t : Bool) → bytes_eq name (symbol_name b a) ≡ t
-            → or_else (told names (with_first table n (record { object = o; symbol = a })) name) (left (a + 1) name) ≡ or_else (told names table name) (left a name)
+            → option_or (told names (with_first table n (record { object = o; symbol = a })) name) (left (a + 1) name) ≡ option_or (told names table name) (left a name)
         by_test true same =
-            ap (λ t. or_else t (left (a + 1) name)) (told_same names table (symbol_name b a) name n (record { object = o; symbol = a }) is len same)
+            ap (λ t. option_or t (left (a + 1) name)) (told_same names table (symbol_name b a) name n (record { object = o; symbol = a }) is len same)
             ∙ or_else_twice (told names table name) (record { object = o; symbol = a }) (left (a + 1) name)
-            ∙ ap (λ f. or_else (told names table name) (found_or o f None)) (sym (find_here (defines b binding name) a (symbol_count b) below
+            ∙ ap (λ f. option_or (told names table name) (found_or o f None)) (sym (find_here (defines b binding name) a (symbol_count b) below
             (both_true (same_binding binding (symbol_binding b a)) (is_defined (symbol_place b a)) (bytes_eq name (symbol_name b a)) true defined same)))
         by_test false other =
-            ap (λ t. or_else t (left (a + 1) name)) (told_other names table (symbol_name b a) name n (record { object = o; symbol = a }) is other)
-            ∙ ap (λ f. or_else (told names table name) (found_or o f None)) (sym (find_later (defines b binding name) a (symbol_count b) below
+            ap (λ t. option_or t (left (a + 1) name)) (told_other names table (symbol_name b a) name n (record { object = o; symbol = a }) is other)
+            ∙ ap (λ f. option_or (told names table name) (found_or o f None)) (sym (find_later (defines b binding name) a (symbol_count b) below
             (both_true (same_binding binding (symbol_binding b a)) (is_defined (symbol_place b a)) (bytes_eq name (symbol_name b a)) false defined other)))
 
     -- the symbol's definition was noted by the number of its name
     pub note_named : (old new : List (Option SymbolRef)) (number : Option ℕ) → (same_binding binding (symbol_binding b a) && is_defined (symbol_place b a)) ≡ true
         → same_binding Local (symbol_binding b a) ≡ false → IsNamed names b a number → length old ≡ length names
         → MatchOption number (new ≡ old) (λ n. new ≡ with_first old n (record { object = o; symbol = a }))
-        → (name : List ℕ) → or_else (told names new name) (left (a + 1) name) ≡ or_else (told names old name) (left a name)
+        → (name : List ℕ) → option_or (told names new name) (left (a + 1) name) ≡ option_or (told names old name) (left a name)
     note_named old new None defined shared named len noted name = absurd (cc)
     note_named old new (Some n) defined shared named len noted name =
-        ap (λ t. or_else (told names t name) (left (a + 1) name)) noted ∙ note_step old n defined named.1 len name
+        ap (λ t. option_or (told names t name) (left (a + 1) name)) noted ∙ note_step old n defined named.1 len name
 
 -- one object, and those behind it
-pub note_object : (t : Option SymbolRef) (o : ℕ) (found : Option ℕ) (rest : Option SymbolRef) → or_else (or_else t (found_or o found None)) rest ≡ or_else t (found_or o found rest)
+pub note_object : (t : Option SymbolRef) (o : ℕ) (found : Option ℕ) (rest : Option SymbolRef) → option_or (option_or t (found_or o found None)) rest ≡ option_or t (found_or o found rest)
 note_object (Some x) o found rest = refl
 note_object None o (Some e) rest = refl
 note_object None o None rest = refl
@@ -119,21 +120,21 @@ any_later : (t u : Bool) (k : ℕ) → t ≡ false → (if t || u then Some k el
 any_later t u k h = rw h refl
 
 pub export_step : (names : Names) (table : List (Option ℕ)) (n k : ℕ) (known : List ℕ) (more : List (List ℕ)) → IsNumberOf names known n → length table ≡ length names
-    → (name : List ℕ) → or_else (told names (with_first table n k) name) (export_in k name more) ≡ or_else (told names table name) (export_in k name (known ∷ more))
+    → (name : List ℕ) → option_or (told names (with_first table n k) name) (export_in k name more) ≡ option_or (told names table name) (export_in k name (known ∷ more))
 export_step names table n k known more is len name = by_test (bytes_eq name known) refl
   where
     by_test : (t : Bool) → bytes_eq name known ≡ t
-        → or_else (told names (with_first table n k) name) (export_in k name more) ≡ or_else (told names table name) (export_in k name (known ∷ more))
+        → option_or (told names (with_first table n k) name) (export_in k name more) ≡ option_or (told names table name) (export_in k name (known ∷ more))
     by_test true same =
-        ap (λ t. or_else t (export_in k name more)) (told_same names table known name n k is len same)
+        ap (λ t. option_or t (export_in k name more)) (told_same names table known name n k is len same)
         ∙ or_else_twice (told names table name) k (export_in k name more)
-        ∙ ap (λ f. or_else (told names table name) f) (sym (any_here (bytes_eq name known) (list_any (bytes_eq name) more) k same))
+        ∙ ap (λ f. option_or (told names table name) f) (sym (any_here (bytes_eq name known) (list_any (bytes_eq name) more) k same))
     by_test false other =
-        ap (λ t. or_else t (export_in k name more)) (told_other names table known name n k is other)
-        ∙ ap (λ f. or_else (told names table name) f) (sym (any_later (bytes_eq name known) (list_any (bytes_eq name) more) k other))
+        ap (λ t. option_or t (export_in k name more)) (told_other names table known name n k is other)
+        ∙ ap (λ f. option_or (told names table name) f) (sym (any_later (bytes_eq name known) (list_any (bytes_eq name) more) k other))
 
 -- one image, and those behind it
-pub note_image : (t : Option ℕ) (k : ℕ) (some : Bool) (rest : Option ℕ) → or_else (or_else t (if some then Some k else None)) rest ≡ or_else t (if some then Some k else rest)
+pub note_image : (t : Option ℕ) (k : ℕ) (some : Bool) (rest : Option ℕ) → option_or (option_or t (if some then Some k else None)) rest ≡ option_or t (if some then Some k else rest)
 note_image (Some x) k some rest = refl
 note_image None k true rest = refl
 note_image None k false rest = refl

@@ -1,7 +1,8 @@
 use Rattle.std.proofs.Common.{◌≡◌, ◌∙◌, ◌+◌, ◌<◌, suc, [], ◌∷◌, length, drop, sym, ap, subst, arith}
 use Rattle.std.specs.Prelude.{slice_index, slice_index_or}
 use Rattle.std.proofs.Math.Seq.{drop-cons}
-use Rattle.tls_symbols.specs.Numbers.{export_in, or_else, own_numbers, told, IsNumberOf}
+use Rattle.std.specs.Option.{option_or}
+use Rattle.tls_symbols.specs.Numbers.{export_in, own_numbers, told, IsNumberOf}
 use Rattle.tls_symbols.proofs.Told.{export_step, own_is}
 use Rattle.tls_symbols.proofs.firsts.note_exports.Goals as goal
 
@@ -20,7 +21,7 @@ loop-number-preserved c = λ name.
     let len : length table ≡ length names = omega (arith, c.loop-number.auto.table, c.requires.len) in
     let next : suc j ≡ j + 1 = omega arith in
     let here : drop j listed ≡ slice_index_or listed j [] ∷ drop (j + 1) listed = drop-cons listed j [] below ∙ ap (λ m. slice_index_or listed j [] ∷ drop m listed) next in
-    ap (λ t. or_else (told names t name) (export_in c.args.image name (drop (j + 1) listed))) c.note_image.ensures
+    ap (λ t. option_or (told names t name) (export_in c.args.image name (drop (j + 1) listed))) c.note_image.ensures
     ∙ export_step names table n c.args.image (slice_index_or listed j []) (drop (j + 1) listed) is len name
-    ∙ ap (λ xs. or_else (told names table name) (export_in c.args.image name xs)) (sym here)
+    ∙ ap (λ xs. option_or (told names table name) (export_in c.args.image name xs)) (sym here)
     ∙ c.loop-number.invariant name)
