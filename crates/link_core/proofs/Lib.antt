@@ -28,6 +28,7 @@ pub mod NamesHeld
 pub mod NewFields
 pub mod Overflows
 pub mod PartFields
+pub mod PartSites
 pub mod PartSplit
 pub mod PartSteps
 pub mod PartsWritten

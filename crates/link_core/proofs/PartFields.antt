@@ -22,10 +22,9 @@ use Rattle.link_core.specs.Bytes.{with_field, with_fields, with_fields_from, wit
 use Rattle.link_core.specs.Parts.{EndsBehind, IsCut, IsPart, is_before, part_with_field, part_with_fields, part_with_fields_from}
 use Rattle.link_core.specs.Parts.{part_with_held, part_with_table, start_at, start_in}
 use Rattle.link_core.proofs.LengthsKept.{field_at_most}
-use Rattle.link_core.proofs.PartSplit.{before_cut, first_part, is_before_end, not_before}
-use Rattle.link_core.proofs.PartSplit.{start_before, start_behind, start_yes}
-use Rattle.link_core.proofs.PartSteps.{Splits, fold_none, fold_same, fold_still, splits_after, splits_back}
-use Rattle.link_core.proofs.PartSteps.{splits_fold, splits_front, splits_nothing}
+use Rattle.link_core.proofs.PartSplit.{by_cut, is_before_end, start_yes}
+use Rattle.link_core.proofs.PartSteps.{Splits, Walks, fold_none, fold_same, fold_still, splits_back, splits_fold}
+use Rattle.link_core.proofs.PartSteps.{splits_front, splits_nothing, splits_walk, walk_same}
 use Rattle.link_core.proofs.StandingAway.{held_of}
 use Rattle.link_core.proofs.StandingPlaces.{field_in}
 use Rattle.link_core.proofs.StandingSteps.{from_zero}
@@ -61,6 +60,10 @@ module _ (l : Linking) (given : IsGiven l) (limits : FitsTable l) where
       let some = is.lies.address_is in cc
 
   -- ** a cut
+
+  walks : (from : ℕ) (to : Option ℕ)
+      → Walks (λ o b. part_with_fields l from to o b) (part_with_fields_from l from to)
+  walks from to = record { none = λ o now. refl; more = λ o b more now. refl }
 
   module _ (from cut : ℕ) (to : Option ℕ) (m : ℕ) (low : from ≤ cut) (high : from < cut → EndsBehind cut to)
       (first : IsPart l from (Some cut) (cut - from)) (second : IsPart l cut to m) where
@@ -137,81 +140,43 @@ module _ (l : Linking) (given : IsGiven l) (limits : FitsTable l) where
         (λ now. part_with_held l from o (object l o) now s front)
         (λ now. part_with_held l cut o (object l o) now s back)
 
-    none_held : (o s : ℕ) (x y z : Option ℕ) → x ≡ None → y ≡ None → z ≡ None → Held o s x y z
-    none_held o s x y z e f g = rw (e, f, g) (splits_nothing n m)
-
-    front_held : (o s address : ℕ) (x y z : Option ℕ) → o < length l.objects
+    front_held : (o s : ℕ) → o < length l.objects → (address : ℕ)
         → address_of (layout l) o (relocation_target (object l o) s) ≡ Some address
         → from ≤ offset_of (layout l) address → offset_of (layout l) address < cut
-        → x ≡ Some address → y ≡ Some address → z ≡ None → Held o s x y z
+        → Held o s (Some address) (Some address) None
     unfolding held_in
-    front_held o s address x y z there at above below e f g =
+    front_held o s there address at above below xs ys front back =
         let b = object l o in
         let t = relocation_target b s in
         let step = part_with_field l from o t in
-        rw (e, f, g) (λ xs ys front back.
         let h = splits_fold n m step step (λ now r. now) (held_in b s) (λ r has.
         front_field o t address r there (held_of b t r has) at above below) xs ys front back in
         let same = fold_still (held_in b s) ys in
-        (h.0 ∙ ap (λ now. fold step xs (held_in b s) ++ now) same, h.1, back))
+        (h.0 ∙ ap (λ now. fold step xs (held_in b s) ++ now) same, h.1, back)
 
-    back_held : (o s address : ℕ) (x y z : Option ℕ) → o < length l.objects
+    back_held : (o s : ℕ) → o < length l.objects → (address : ℕ)
         → address_of (layout l) o (relocation_target (object l o) s) ≡ Some address
         → cut ≤ offset_of (layout l) address → is_before (offset_of (layout l) address) to ≡ true
-        → x ≡ Some address → y ≡ None → z ≡ Some address → Held o s x y z
+        → Held o s (Some address) None (Some address)
     unfolding held_in
-    back_held o s address x y z there at above below e f g =
+    back_held o s there address at above below xs ys front back =
         let b = object l o in
         let t = relocation_target b s in
         let step = part_with_field l from o t in
         let next = part_with_field l cut o t in
-        rw (e, f, g) (λ xs ys front back.
         let h = splits_fold n m step (λ now r. now) next (held_in b s) (λ r has.
         back_field o t address r there (held_of b t r has) at above below) xs ys front back in
         let same = fold_still (held_in b s) xs in
-        (h.0 ∙ ap (λ now. now ++ fold next ys (held_in b s)) same, front, h.2))
+        (h.0 ∙ ap (λ now. now ++ fold next ys (held_in b s)) same, front, h.2)
 
     -- one table
     table_splits : (o s : ℕ) → o < length l.objects
         → Splits n m (λ now. part_with_table l from to o (object l o) now s)
         (λ now. part_with_table l from (Some cut) o (object l o) now s)
         (λ now. part_with_table l cut to o (object l o) now s)
-    table_splits o s there = of_address (address_of (layout l) o (relocation_target (object l o) s)) refl
-      where
-        of_end : (address : ℕ) → address_of (layout l) o (relocation_target (object l o) s) ≡ Some address
-            → from ≤ offset_of (layout l) address → cut ≤ offset_of (layout l) address → (test : Bool)
-            → is_before (offset_of (layout l) address) to ≡ test
-            → Held o s (start_at (layout l) from to (Some address)) (start_at (layout l) from (Some cut) (Some address))
-            (start_at (layout l) cut to (Some address))
-        of_end address e above later true is =
-            let p = layout l in
-            back_held o s address _ _ _ there e later is (start_yes p from to address above is)
-            (start_behind p from (Some cut) address (not_before _ cut later)) (start_yes p cut to address later is)
-        of_end address e above later false is =
-            let p = layout l in
-            none_held o s _ _ _ (start_behind p from to address is)
-            (start_behind p from (Some cut) address (not_before _ cut later)) (start_behind p cut to address is)
-
-        of_address : (found : Option ℕ) → address_of (layout l) o (relocation_target (object l o) s) ≡ found
-            → Held o s (start_at (layout l) from to found) (start_at (layout l) from (Some cut) found)
-            (start_at (layout l) cut to found)
-        of_address None e = splits_nothing n m
-        of_address (Some address) e =
-            let p = layout l in
-            let at = offset_of p address in
-            elim (cases_lt at from) [
-              | inl before ↦
-                  none_held o s _ _ _ (start_before p from to address before)
-                  (start_before p from (Some cut) address before) (start_before p cut to address (omega arith))
-              | inr above ↦ elim (cases_lt at cut) [
-                | inl front ↦
-                    front_held o s address _ _ _ there e above front
-                    (start_yes p from to address above (before_cut at cut to (high (omega arith)) front))
-                    (start_yes p from (Some cut) address above (is_before_end at cut front))
-                    (start_before p cut to address front)
-                | inr later ↦ of_end address e above later (is_before at to) refl
-              ]
-            ]
+    table_splits o s there =
+        by_cut (layout l) from cut to low high (Held o s) (address_of (layout l) o (relocation_target (object l o) s))
+        (splits_nothing n m) (front_held o s there) (back_held o s there)
 
     -- one object
     object_splits : (o : ℕ) → o < length l.objects
@@ -224,41 +189,15 @@ module _ (l : Linking) (given : IsGiven l) (limits : FitsTable l) where
         (part_with_table l cut to o b) (range_with_len 1 (section_count b - 1))
         (λ s has. table_splits o s there)
 
-    -- those from one number on
-    abbrev One : ℕ → List ℕ → Type 0
-    One o b =
-        Splits n m (part_with_fields l from to o b) (part_with_fields l from (Some cut) o b) (part_with_fields l cut to o b)
-
-    objects_split : (o : ℕ) (bs : List (List ℕ)) → ((k : ℕ) → k < length bs → One (o + k) (slice_index_or bs k []))
-        → Splits n m (part_with_fields_from l from to o bs) (part_with_fields_from l from (Some cut) o bs)
-        (part_with_fields_from l cut to o bs)
-    objects_split o [] each = splits_nothing n m
-    objects_split o (b ∷ bs) each =
-        splits_after n m (part_with_fields l from to o b) (part_with_fields l from (Some cut) o b)
-        (part_with_fields l cut to o b) (part_with_fields_from l from to (o + 1) bs)
-        (part_with_fields_from l from (Some cut) (o + 1) bs) (part_with_fields_from l cut to (o + 1) bs)
-        (subst (λ i. One i b) here (each 0 (omega arith)))
-        (objects_split (o + 1) bs (λ k below. next k (each (suc k) (omega arith))))
-      where
-        here : o + 0 ≡ o
-        here = omega arith
-
-        next : (k : ℕ) → One (o + suc k) (slice_index_or bs k []) → One (o + 1 + k) (slice_index_or bs k [])
-        next k h = let same : o + suc k ≡ o + 1 + k = omega arith in subst (λ i. One i (slice_index_or bs k [])) same h
-
     -- all objects
     pub all_split : Splits n m (part_with_fields_from l from to 0 l.objects)
         (part_with_fields_from l from (Some cut) 0 l.objects) (part_with_fields_from l cut to 0 l.objects)
-    all_split = objects_split 0 l.objects (λ k below.
-        subst (λ i. One i (object l k)) (from_zero k) (object_splits k below))
-
-  -- the law of a cut
-  pub parts_join : (from cut : ℕ) (to : Option ℕ) (xs ys : List ℕ) → from ≤ cut → EndsBehind cut to
-      → length xs ≡ cut - from → IsCut l cut → IsPart l cut to (length ys)
-      → part_with_fields_from l from to 0 l.objects (xs ++ ys)
-      ≡ part_with_fields_from l from (Some cut) 0 l.objects xs ++ part_with_fields_from l cut to 0 l.objects ys
-  parts_join from cut to xs ys low high long is_cut part =
-      (all_split from cut to (length ys) low (λ some. high) (first_part l from cut low is_cut) part xs ys long refl).0
+    all_split =
+        splits_walk n m [] (λ o b. part_with_fields l from to o b) (λ o b. part_with_fields l from (Some cut) o b)
+        (λ o b. part_with_fields l cut to o b) (part_with_fields_from l from to) (part_with_fields_from l from (Some cut))
+        (part_with_fields_from l cut to) (walks from to) (walks from (Some cut)) (walks cut to) 0 l.objects (λ k below.
+        subst (λ i. Splits n m (part_with_fields l from to i (object l k)) (part_with_fields l from (Some cut) i (object l k))
+        (part_with_fields l cut to i (object l k))) (from_zero k) (object_splits k below))
 
   -- ** the whole
 
@@ -306,24 +245,11 @@ module _ (l : Linking) (given : IsGiven l) (limits : FitsTable l) where
       fold_same (part_with_table l 0 None o b) (with_table l o b) (range_with_len 1 (section_count b - 1)) now
       (λ s has file. whole_table o s file there)
 
-  abbrev Alike : ℕ → List ℕ → Type 0
-  Alike o b = (now : List ℕ) → part_with_fields l 0 None o b now ≡ with_fields l o b now
-
-  whole_from : (o : ℕ) (bs : List (List ℕ)) (now : List ℕ)
-      → ((k : ℕ) → k < length bs → Alike (o + k) (slice_index_or bs k []))
-      → part_with_fields_from l 0 None o bs now ≡ with_fields_from l o bs now
-  whole_from o [] now each = refl
-  whole_from o (b ∷ bs) now each =
-      let here : o + 0 ≡ o = omega arith in
-      ap (part_with_fields_from l 0 None (o + 1) bs) (subst (λ i. Alike i b) here (each 0 (omega arith)) now)
-      ∙ whole_from (o + 1) bs (with_fields l o b now) (λ k below. next k (each (suc k) (omega arith)))
-    where
-      next : (k : ℕ) → Alike (o + suc k) (slice_index_or bs k []) → Alike (o + 1 + k) (slice_index_or bs k [])
-      next k h =
-          let same : o + suc k ≡ o + 1 + k = omega arith in subst (λ i. Alike i (slice_index_or bs k [])) same h
-
   -- as a part, it has the same fields
   pub whole_part : (file : List ℕ)
       → part_with_fields_from l 0 None 0 l.objects file ≡ with_fields_from l 0 l.objects file
-  whole_part file = whole_from 0 l.objects file (λ k below.
-      subst (λ i. Alike i (object l k)) (from_zero k) (λ now. whole_object k now below))
+  whole_part =
+      walk_same [] (λ o b. part_with_fields l 0 None o b) (with_fields l) (part_with_fields_from l 0 None)
+      (with_fields_from l) (walks 0 None) (record { none = λ o now. refl; more = λ o b more now. refl }) 0 l.objects
+      (λ k below. subst (λ i. (now : List ℕ) → part_with_fields l 0 None i (object l k) now ≡ with_fields l i (object l k) now)
+      (from_zero k) (λ now. whole_object k now below))

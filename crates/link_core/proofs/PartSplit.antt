@@ -85,6 +85,45 @@ pub begins_in : (l : Linking) (from : ℕ) (to : Option ℕ) (o t address : ℕ)
     → Begins (layout l) from to (address_of (layout l) o t) address
 begins_in l from to o t address e = begins (layout l) from to (address_of (layout l) o t) address e
 
+-- what holds of a section by where it begins, in a part and in the two parts of a cut
+pub by_cut : (p : Layout) (from cut : ℕ) (to : Option ℕ) → from ≤ cut → (from < cut → EndsBehind cut to)
+    → (P : Option ℕ → Option ℕ → Option ℕ → Type 0) (found : Option ℕ) → P None None None
+    → ((address : ℕ) → found ≡ Some address → from ≤ offset_of p address → offset_of p address < cut
+    → P (Some address) (Some address) None)
+    → ((address : ℕ) → found ≡ Some address → cut ≤ offset_of p address → is_before (offset_of p address) to ≡ true
+    → P (Some address) None (Some address))
+    → P (start_at p from to found) (start_at p from (Some cut) found) (start_at p cut to found)
+by_cut p from cut to low high P None none first second = none
+by_cut p from cut to low high P (Some address) none first second =
+    let at = offset_of p address in
+    elim (cases_lt at from) [
+      | inl before ↦
+          moved _ _ _ None None None (start_before p from to address before)
+          (start_before p from (Some cut) address before) (start_before p cut to address (omega arith)) none
+      | inr above ↦ elim (cases_lt at cut) [
+        | inl front ↦
+            moved _ _ _ (Some address) (Some address) None
+            (start_yes p from to address above (before_cut at cut to (high (omega arith)) front))
+            (start_yes p from (Some cut) address above (is_before_end at cut front))
+            (start_before p cut to address front) (first address refl above front)
+        | inr later ↦ of_end above later (is_before at to) refl
+      ]
+    ]
+  where
+    moved : (x y z u v w : Option ℕ) → x ≡ u → y ≡ v → z ≡ w → P u v w → P x y z
+    moved x y z u v w e f g h = rw (e, f, g) h
+
+    of_end : from ≤ offset_of p address → cut ≤ offset_of p address → (test : Bool)
+        → is_before (offset_of p address) to ≡ test
+        → P (start_at p from to (Some address)) (start_at p from (Some cut) (Some address)) (start_at p cut to (Some address))
+    of_end above later true is =
+        moved _ _ _ (Some address) None (Some address) (start_yes p from to address above is)
+        (start_behind p from (Some cut) address (not_before _ cut later)) (start_yes p cut to address later is)
+        (second address refl later is)
+    of_end above later false is =
+        moved _ _ _ None None None (start_behind p from to address is)
+        (start_behind p from (Some cut) address (not_before _ cut later)) (start_behind p cut to address is) none
+
 -- ** parts
 
 -- the first part of a cut: what begins there ends there

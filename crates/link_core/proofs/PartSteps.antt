@@ -1,7 +1,7 @@
 -- Steps over a file that do to its two parts, one behind another, what steps over each of them do.
 use Rattle.std.proofs.Common.{◌≡◌, ◌+◌, ◌<◌, ◌≤◌, ◌∙◌, ◌++◌, ℕ, suc, List, [], ◌∷◌, length, take, drop}
-use Rattle.std.proofs.Common.{refl, sym, ap, append_assoc, arith}
-use Rattle.std.specs.Prelude.{fold}
+use Rattle.std.proofs.Common.{refl, sym, ap, subst, append_assoc, arith}
+use Rattle.std.specs.Prelude.{fold, slice_index_or}
 use Rattle.std.specs.List.{Contains}
 use Rattle.std.proofs.Math.Seq.{drop-append-add, take-append-add}
 use Rattle.std.proofs.lemmas.List.{drop-append-le, take-append-le}
@@ -37,6 +37,39 @@ splits_fold n m step first second (x ∷ items) each xs ys front back =
     let k = splits_fold n m step first second items (λ y has. each y (suc has.0, omega arith, has.2))
     (first xs x) (second ys x) h.1 h.2 in
     (ap (λ now. fold step now items) h.0 ∙ k.0, k.1, k.2)
+
+-- over a list of which each element has a number
+pub record Walks {Y : Type 0} (step : ℕ → Y → List ℕ → List ℕ) (steps : ℕ → List Y → List ℕ → List ℕ) : Type 0 where
+  pub none : (i : ℕ) (now : List ℕ) → steps i [] now ≡ now
+  pub more : (i : ℕ) (y : Y) (ys : List Y) (now : List ℕ) → steps i (y ∷ ys) now ≡ steps (i + 1) ys (step i y now)
+
+-- the elements behind the first, with their numbers
+numbers_behind : {Y : Type 0} (d : Y) (P : ℕ → Y → Type 0) (i : ℕ) (y : Y) (ys : List Y)
+    → ((k : ℕ) → k < length (y ∷ ys) → P (i + k) (slice_index_or (y ∷ ys) k d))
+    → P i y × ((k : ℕ) → k < length ys → P (i + 1 + k) (slice_index_or ys k d))
+numbers_behind d P i y ys each =
+    let here : i + 0 ≡ i = omega arith in (
+      subst (λ j. P j y) here (each 0 (omega arith)),
+      λ k below.
+          let next : i + suc k ≡ i + 1 + k = omega arith in
+          subst (λ j. P j (slice_index_or ys k d)) next (each (suc k) (omega arith)),
+    )
+
+pub splits_walk : {Y : Type 0} (n m : ℕ) (d : Y) (step first second : ℕ → Y → List ℕ → List ℕ)
+    (steps firsts seconds : ℕ → List Y → List ℕ → List ℕ) → Walks step steps → Walks first firsts
+    → Walks second seconds → (i : ℕ) (ys : List Y)
+    → ((k : ℕ) → k < length ys → Splits n m (step (i + k) (slice_index_or ys k d))
+    (first (i + k) (slice_index_or ys k d)) (second (i + k) (slice_index_or ys k d)))
+    → Splits n m (steps i ys) (firsts i ys) (seconds i ys)
+splits_walk n m d step first second steps firsts seconds w v u i [] each xs ys front back =
+    rw (w.none i (xs ++ ys), v.none i xs, u.none i ys) (refl, front, back)
+splits_walk n m d step first second steps firsts seconds w v u i (y ∷ more) each xs ys front back =
+    let parts = numbers_behind d (λ j z. Splits n m (step j z) (first j z) (second j z)) i y more each in
+    let h = parts.0 xs ys front back in
+    let k = splits_walk n m d step first second steps firsts seconds w v u (i + 1) more parts.1
+    (first i y xs) (second i y ys) h.1 h.2 in
+    rw (w.more i y more (xs ++ ys), v.more i y more xs, u.more i y more ys)
+    (ap (steps (i + 1) more) h.0 ∙ k.0, k.1, k.2)
 
 -- ** writing
 
@@ -93,6 +126,20 @@ fold_same step other [] now each = refl
 fold_same step other (x ∷ items) now each =
     ap (λ file. fold step file items) (each x (0, omega arith, refl) now)
     ∙ fold_same step other items (other now x) (λ y has. each y (suc has.0, omega arith, has.2))
+
+-- over a list of which each element has a number
+pub walk_same : {Y : Type 0} (d : Y) (step other : ℕ → Y → List ℕ → List ℕ)
+    (steps others : ℕ → List Y → List ℕ → List ℕ) → Walks step steps → Walks other others → (i : ℕ) (ys : List Y)
+    → ((k : ℕ) → k < length ys → (now : List ℕ)
+    → step (i + k) (slice_index_or ys k d) now ≡ other (i + k) (slice_index_or ys k d) now)
+    → (now : List ℕ) → steps i ys now ≡ others i ys now
+walk_same d step other steps others w v i [] each now = w.none i now ∙ sym (v.none i now)
+walk_same d step other steps others w v i (y ∷ ys) each now =
+    let parts = numbers_behind d (λ j z. (now : List ℕ) → step j z now ≡ other j z now) i y ys each in
+    w.more i y ys now
+    ∙ walk_same d step other steps others w v (i + 1) ys parts.1 (step i y now)
+    ∙ ap (others (i + 1) ys) (parts.0 now)
+    ∙ sym (v.more i y ys now)
 
 -- no element, no step
 pub fold_none : {X : Type 0} (step : List ℕ → X → List ℕ) (items : List X) (now : List ℕ)

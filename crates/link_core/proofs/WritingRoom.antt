@@ -15,7 +15,7 @@ use Rattle.std.specs.Prelude.{unwrap_or}
 use Rattle.std.specs.List.{Contains}
 use Rattle.std.proofs.lemmas.List.Elements.{All-contains}
 use Rattle.object_faults.specs.declared.class.SectionClass.{SectionClass}
-use Rattle.object_faults.specs.declared.class.SectionClass.TheVariants.{Executable, Tls}
+use Rattle.object_faults.specs.declared.class.SectionClass.TheVariants.{Tls}
 use Rattle.elf_object.specs.declared.relocation.Relocation.{Relocation}
 use Rattle.elf_object.specs.Lawful.{IsLawful}
 use Rattle.elf_object.specs.LawsOfRelocations.{lawful as relocations_lawful}
@@ -33,7 +33,6 @@ use Rattle.relax_sites.proofs.Tables.{field_end}
 use Rattle.sequence_forms.specs.declared.forms.Form.{Form}
 use Rattle.sequence_forms.specs.declared.forms.Form.TheVariants.{Gd, IeMov, IeAdd, GdInd, DescLea}
 use Rattle.sequence_forms.specs.declared.places.Site.{Site}
-use Rattle.sequence_match.specs.Faults.{IsSite}
 use Rattle.tls_layout.specs.Places.{address_of}
 use Rattle.tls_layout.proofs.LawsOfPlaces.{have_addresses}
 use Rattle.tls_layout.proofs.LawsOfSections.{finds_sections}
@@ -42,8 +41,9 @@ use Rattle.link_core.specs.Bytes.{raw_file}
 use Rattle.link_needs.specs.Given.{FitsTable, IsGiven}
 use Rattle.link_needs.specs.Plans.{IsUsable}
 use Rattle.link_core.specs.Parts.{HasRoom, IsInside}
-use Rattle.link_core.proofs.Lengths.{field_inside, site_inside}
-use Rattle.link_core.proofs.LengthsInside.{form_some, is_code, is_object, is_relocated}
+use Rattle.link_core.proofs.Lengths.{field_inside}
+use Rattle.link_core.proofs.LengthsInside.{is_object, is_relocated}
+use Rattle.link_core.proofs.PartSites.{site_stands}
 use Rattle.link_core.proofs.StandingPlaces.{field_in}
 use Rattle.std.proofs.lemmas.Option.{same_Some}
 use Rattle.link_needs.proofs.UsableSites.{usable}
@@ -130,30 +130,29 @@ part_room l from n o t address r given limits there is at inside =
 
 -- ** sequences
 
--- a sequence of object o lies in the file, above the base
-pub record IsRoomy (l : Linking) (o : ℕ) (site : Site) : Type 0 where
+-- a sequence of object o, in a section that begins at the address, lies above the base, and in n bytes from an offset on
+pub record IsRoomy (l : Linking) (from n o address : ℕ) (site : Site) : Type 0 where
   pub usable : IsUsable (object l o) site
-  pub above : base_of l.kind ≤ place l o site.section site.start + 4096
-  pub near : place l o site.section site.start ≤ 2 ^ 26
-  pub inside : offset_of (layout l) (place l o site.section site.start) + site.len ≤ length (raw_file l)
+  pub place_is : place l o site.section site.start ≡ address + site.start
+  pub above : base_of l.kind ≤ address
+  pub near : address ≤ 2 ^ 25
+  pub behind : from ≤ offset_of (layout l) (address + site.start)
+  pub inside : offset_of (layout l) (address + site.start) + site.len ≤ from + n
 
-pub site_room : (l : Linking) (o : ℕ) (site : Site) → IsGiven l → FitsTable l → o < length l.objects
-    → Contains (sites_at l o) site → IsRoomy l o site
-site_room l o site given limits there is =
-    let b = object l o in
-    let own = All-contains (IsSite b) (sites_at l o) site (given.are_sites o there).only is in
-    let fits = All-contains (IsUsable b) (sites_at l o) site (usable l o given there) is in
-    let spelled = own.1.spelled.inside in
-    let len = own.1.len_is in
-    let some = form_some site.form in
-    let code = is_code b (is_object l o given there) site.section (omega arith) in
-    let near = section_near l o site.section Executable limits there code.class_is (λ h. cc) in
-    let small = fits.small in
+pub site_room : (l : Linking) (from n o address : ℕ) (site : Site) → IsGiven l → FitsTable l → o < length l.objects
+    → Contains (sites_at l o) site → address_of (layout l) o site.section ≡ Some address
+    → IsInside l from n o site.section address → IsRoomy l from n o address site
+site_room l from n o address site given limits there has at inside =
+    let is = site_stands l given limits o address site there has at in
+    let near = address_bounds (layout l) o site.section address at limits.lawful in
+    let ends = inside (omega (arith, is.fits, is.some)) in
     record {
-      usable = fits;
-      above = omega arith;
-      near = omega arith;
-      inside = site_inside l o site given limits there is;
+      usable = All-contains (IsUsable (object l o)) (sites_at l o) site (usable l o given there) has;
+      place_is = is.place_is;
+      above = is.above;
+      near = omega (arith, near.1, near.2);
+      behind = omega (arith, ends.0, is.above);
+      inside = omega (arith, ends.1, is.fits, is.above);
     }
 
 -- the types of new fields have four bytes
@@ -172,23 +171,26 @@ new_width DescLea DescIe f is = of_field _ f is refl
 new_width form choice f is = absurd cc
 
 -- the field of the bytes in a sequence's place lies in them
-pub new_room : (l : Linking) (o : ℕ) (site : Site) (choice : Choice) (f : NewField) → IsRoomy l o site
-    → new_field site.form choice ≡ Some f
-    → HasRoom l (place l o site.section (site.start + f.at)) (field_width f.kind) (length (raw_file l))
-new_room l o site choice f room is =
+pub new_room : (l : Linking) (from n o address : ℕ) (site : Site) (choice : Choice) (f : NewField)
+    → IsRoomy l from n o address site → new_field site.form choice ≡ Some f
+    → FitsPart l from n (address + (site.start + f.at)) (field_width f.kind)
+new_room l from n o address site choice f room is =
     let end = (field_end site.form choice 0 f is).end in
     let width = new_width site.form choice f is in
     let whole = room.usable.whole in
     let small = room.usable.small in
     record {
-      near = omega (arith, room.near);
-      above = λ wide. omega (arith, room.above);
-      inside = λ wide. omega (arith, room.inside, room.above);
+      room = record {
+        near = omega (arith, room.near);
+        above = λ wide. omega (arith, room.above);
+        inside = λ wide. omega (arith, room.inside, room.above);
+      };
+      behind = λ wide. omega (arith, room.behind, room.above);
     }
 
-pub new_small : (l : Linking) (o : ℕ) (site : Site) (choice : Choice) (f : NewField) → IsRoomy l o site
-    → new_field site.form choice ≡ Some f → site.start + f.at < 2 ^ 64
-new_small l o site choice f room is =
+pub new_small : (l : Linking) (from n o address : ℕ) (site : Site) (choice : Choice) (f : NewField)
+    → IsRoomy l from n o address site → new_field site.form choice ≡ Some f → site.start + f.at < 2 ^ 64
+new_small l from n o address site choice f room is =
     let end = (field_end site.form choice 0 f is).end in
     let whole = room.usable.whole in
     let small = room.usable.small in omega arith

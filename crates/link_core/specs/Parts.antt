@@ -1,5 +1,5 @@
--- Fields that are written in one part of the file. They are those of the sections that begin in the part. Offsets count
--- from the start of the part.
+-- Fields and sequences that are written in one part of the file. They are those of the sections that begin in the part.
+-- Offsets count from the start of the part.
 use Rattle.std.specs.Prelude.{◌≡◌, ◌+◌, ◌-◌, ◌<◌, ◌≤◌, ◌⊎◌, ◌&&◌, ◌∷◌, ℕ, Bool, true, List, [], Option, Some, None}
 use Rattle.std.specs.Prelude.{fold, length, nat_le, nat_lt, unwrap_or, if◌then◌else◌, ◌^◌}
 use Rattle.std.specs.List.{range_with_len}
@@ -7,13 +7,19 @@ use Rattle.elf_object.specs.declared.relocation.Relocation.{Relocation}
 use Rattle.elf_object.specs.Lent.{relocation_target, section_size}
 use Rattle.elf_object.specs.Object.{section_count}
 use Rattle.placed_sections.specs.Files.{offset_of}
+use Rattle.relax_sites.specs.declared.rows.NewField.{NewField}
+use Rattle.relax_sites.specs.Rewriting.{rewritten}
+use Rattle.relax_sites.specs.Rows.{new_field}
+use Rattle.sequence_forms.specs.declared.places.Site.{Site}
 use Rattle.tls_layout.specs.Places.{address_of}
 use Rattle.tls_layout.specs.Sections.{Layout}
+use Rattle.tls_relocs.specs.declared.fields.Field.{Field}
 use Rattle.tls_relocs.specs.declared.fields.Field.TheVariants.{Empty}
 use Rattle.tls_relocs.specs.Fields.{field_patch}
 use Rattle.tls_relocs.specs.Patches.{patched}
 use Rattle.tls_symbols.specs.Faults.{held_in}
-use Rattle.link_needs.specs.Linking.{Linking, layout, object, place}
+use Rattle.link_needs.specs.Linking.{Linking, choice, layout, object, place}
+use Rattle.link_needs.specs.Needs.{new_relocation}
 use Rattle.link_needs.specs.Values.{field, is_replaced}
 use Rattle.link_faults.specs.ImageKinds.{base_of}
 
@@ -60,12 +66,13 @@ IsCut l cut =
 -- ** its fields
 
 -- the part with the field of a relocation of section t of object o written
+abbrev pub part_with_field_at : Linking → ℕ → ℕ → ℕ → ℕ → Option Field → List ℕ → List ℕ
+part_with_field_at l from o t k value part =
+    patched (field_patch (offset_of (layout l) (place l o t k) - from) (unwrap_or value Empty) ∷ []) part
+
 abbrev pub part_with_field : Linking → ℕ → ℕ → ℕ → List ℕ → Relocation → List ℕ
 part_with_field l from o t part r =
-    if is_replaced l o r
-    then part
-    else patched
-    (field_patch (offset_of (layout l) (place l o t r.offset) - from) (unwrap_or (field l o t r) Empty) ∷ []) part
+    if is_replaced l o r then part else part_with_field_at l from o t r.offset (field l o t r) part
 
 -- likewise for the relocations that section s holds, if they apply to a section that begins in the part
 abbrev pub part_with_held : Linking → ℕ → ℕ → List ℕ → List ℕ → ℕ → Option ℕ → List ℕ
@@ -87,9 +94,41 @@ part_with_fields_from l from to o [] part = part
 part_with_fields_from l from to o (b ∷ more) part =
     part_with_fields_from l from to (o + 1) more (part_with_fields l from to o b part)
 
--- a part is written: all its fields, and nothing else
+-- ** its sequences
+
+-- a site of object o, with its offset in the part
+abbrev pub in_part : Linking → ℕ → ℕ → Site → Site
+in_part l from o site = record site { start = offset_of (layout l) (place l o site.section site.start) - from }
+
+abbrev pub part_with_new_field : Linking → ℕ → ℕ → Site → Option NewField → List ℕ → List ℕ
+part_with_new_field l from o site None part = part
+part_with_new_field l from o site (Some f) part =
+    part_with_field_at l from o site.section (site.start + f.at) (field l o site.section (new_relocation site f)) part
+
+-- the part with the sequence written that takes a site's place
+unfoldable pub part_with_sequence : Linking → ℕ → ℕ → List ℕ → Site → List ℕ
+part_with_sequence l from o part site =
+    part_with_new_field l from o site (new_field site.form (choice l o site))
+    (rewritten (in_part l from o site) (choice l o site) part)
+
+-- likewise, if the site's section begins in the part
+abbrev pub part_with_started : Linking → ℕ → ℕ → List ℕ → Site → Option ℕ → List ℕ
+part_with_started l from o part site None = part
+part_with_started l from o part site (Some start) = part_with_sequence l from o part site
+
+abbrev pub part_with_site : Linking → ℕ → Option ℕ → ℕ → List ℕ → Site → List ℕ
+part_with_site l from to o part site = part_with_started l from o part site (start_in l from to o site.section)
+
+-- likewise for the objects from number o on, which have these sites
+abbrev pub part_with_sites_from : Linking → ℕ → Option ℕ → ℕ → List (List Site) → List ℕ → List ℕ
+part_with_sites_from l from to o [] part = part
+part_with_sites_from l from to o (own ∷ more) part =
+    part_with_sites_from l from to (o + 1) more (fold (part_with_site l from to o) part own)
+
+-- a part is written: all its fields and then all its sequences, and nothing else
 pub record IsWritten (l : Linking) (from : ℕ) (to : Option ℕ) (before after : List ℕ) : Type 0 where
-  pub written : after ≡ part_with_fields_from l from to 0 l.objects before
+  pub written : after
+      ≡ part_with_sites_from l from to 0 l.sites (part_with_fields_from l from to 0 l.objects before)
   pub filled : length after ≡ length before
 
 -- ** what a field requires of its place

@@ -11,8 +11,8 @@ ghost use Rattle.link_needs.specs.Linking.{layout};
 ghost use Rattle.link_core.specs.Bytes.{file as file_of_link, raw_file as raw_file_of};
 ghost use Rattle.link_core.specs.Bytes.{table_bytes, with_got, with_stub};
 
-use crate::parts::write_fields;
-use crate::writing::{place_in_file, write_sites};
+use crate::parts::write_parts;
+use crate::writing::place_in_file;
 use elf_object::RelocationKind;
 use got_pairs::{Entry, GotPlan, Need, Word};
 use link_needs::Plan;
@@ -126,7 +126,6 @@ pub fn file_of<R: Threads + Sync>(
     ensures { IfOk result (λ file. file.items ≡ file_of_link plan.now) }
 {
     let mut file = raw_file(plan, sections)?;
-    write_fields(rt, plan, file.as_mut_slice());
-    write_sites(plan, file.as_mut_slice());
+    write_parts(rt, plan, file.as_mut_slice());
     Ok(file)
 }

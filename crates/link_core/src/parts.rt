@@ -1,10 +1,11 @@
-//! Writes the fields of all relocations, in several parts of the file at once.
+//! Writes the fields of all relocations, and the sequences in the place of all sites, in several parts of the file at once.
 //!
-//! A part begins where a section does. So no field is in two parts, and each thread writes only in its own.
+//! A part begins where a section does. So no field and no sequence is in two parts, and each thread writes only in its
+//! own.
 
 ghost use Rattle.std.specs.Prelude.{◌≡◌, ◌+◌, ◌<◌, ◌≤◌, ◌^◌, Some, length};
 ghost use Rattle.std.specs.Thread.{IsSync};
-ghost use Rattle.link_core.specs.Bytes.{raw_file, with_fields_from};
+ghost use Rattle.link_core.specs.Bytes.{raw_file, with_fields_from, with_sites_from};
 ghost use Rattle.link_core.specs.Parts.{EndsBehind, IsCut, IsPart, IsWritten};
 
 use crate::writing::{FilePart, place_in_file, write_part};
@@ -67,7 +68,7 @@ fn cut_before(plan: &Plan, limit: u64) -> u64
     cut
 }
 
-/// Writes the fields of a part of the file, with as many threads as it is worth.
+/// Writes a part of the file, with as many threads as it is worth.
 #[cycle(halves)]
 fn write_halves<R: Threads + Sync>(
     rt: &R,
@@ -93,7 +94,7 @@ fn write_halves<R: Threads + Sync>(
     write_both(rt, plan, part, halvings - 1, front, back);
 }
 
-/// Writes the fields of the two halves of a part at the same time. The part is cut behind its front.
+/// Writes the two halves of a part at the same time. The part is cut behind its front.
 #[cycle(halves)]
 fn write_both<R: Threads + Sync>(
     rt: &R,
@@ -132,11 +133,11 @@ fn write_both<R: Threads + Sync>(
     join_mut(rt, &mut first, &mut second);
 }
 
-/// Writes the fields of all relocations.
-pub fn write_fields<R: Threads + Sync>(rt: &R, plan: &Plan, file: &mut [u8])
-    requires filled { length file.old ≡ length (raw_file plan.now) }
-    ensures written { file.new ≡ with_fields_from plan.now 0 plan.now.objects file.old }
-    ensures filled { length file.new ≡ length (raw_file plan.now) }
+/// Writes the fields of all relocations and then the sequences in the place of all sites.
+pub fn write_parts<R: Threads + Sync>(rt: &R, plan: &Plan, file: &mut [u8])
+    requires { length file.old ≡ length (raw_file plan.now) }
+    ensures { file.new
+        ≡ with_sites_from plan.now 0 plan.now.sites (with_fields_from plan.now 0 plan.now.objects file.old) }
 {
     plan.is_given();
     let whole = FilePart { from: 0, to: None };

@@ -1,7 +1,7 @@
-//! The fields of relocations, and the sequences in the place of rewritten ones, written in the file.
+//! The fields of relocations, and the sequences in the place of rewritten ones, written in a part of the file.
 
 ghost use Rattle.std.specs.Prelude.{◌≡◌, ◌+◌, ◌-◌, ◌^◌, ◌<◌, ◌≤◌, ◌&&◌, [], ◌∷◌, Some};
-ghost use Rattle.std.specs.Prelude.{fold, length, nat_le, slice_index_or, unwrap_or};
+ghost use Rattle.std.specs.Prelude.{fold, length, nat_le, slice_index_or};
 ghost use Rattle.std.specs.List.{Contains};
 ghost use Rattle.elf_object.specs.Lent.{relocations};
 ghost use Rattle.elf_object.specs.Object.{section_count};
@@ -11,10 +11,10 @@ ghost use Rattle.tls_layout.specs.Places.{address_of};
 ghost use Rattle.tls_relocs.specs.Fields.{field_patch, width_of};
 ghost use Rattle.tls_relocs.specs.Patches.{patched};
 ghost use Rattle.tls_symbols.specs.Bindings.{object_at};
-ghost use Rattle.link_core.specs.Bytes.{raw_file, with_new_field, with_site, with_sites_from};
 ghost use Rattle.link_needs.specs.Linking.{choice, layout, sites_at};
-ghost use Rattle.link_core.specs.Parts.{part_with_field, part_with_fields, part_with_table, start_in, HasRoom};
-ghost use Rattle.link_core.specs.Parts.{is_before, IsInside, IsPart, IsWritten};
+ghost use Rattle.link_core.specs.Parts.{part_with_field, part_with_fields, part_with_fields_from, part_with_table};
+ghost use Rattle.link_core.specs.Parts.{part_with_new_field, part_with_sequence, part_with_site, part_with_sites_from};
+ghost use Rattle.link_core.specs.Parts.{is_before, start_in, HasRoom, IsInside, IsPart, IsWritten};
 ghost use Rattle.relax_sites.specs.Rows.{new_field as new_field_of};
 
 use elf_object::{Relocation, RelocationKind};
@@ -193,10 +193,11 @@ fn write_object(plan: &Plan, part: FilePart, number: usize, bytes: &mut [u8])
     }
 }
 
-/// Writes the fields of all relocations whose sections begin in a part of the file, which has these bytes.
-pub fn write_part(plan: &Plan, part: FilePart, bytes: &mut [u8])
+/// Writes the fields of all relocations in a part of the file.
+fn write_fields(plan: &Plan, part: FilePart, bytes: &mut [u8])
     requires { IsPart plan.now part.from part.to (length bytes.old) }
-    ensures { IsWritten plan.now part.from part.to bytes.old bytes.new }
+    ensures written { bytes.new ≡ part_with_fields_from plan.now part.from part.to 0 plan.now.objects bytes.old }
+    ensures filled { length bytes.new ≡ length bytes.old }
 {
     let inputs = &plan.inputs;
     for number in 0..inputs.objects.len() {
@@ -204,22 +205,23 @@ pub fn write_part(plan: &Plan, part: FilePart, bytes: &mut [u8])
     }
 }
 
-/// Writes the field of a sequence in a site's place. The section begins at this address.
+/// Writes the field of a sequence in a site's place, in a part of the file. The section begins at this address.
 fn write_new_field(
     plan: &Plan,
+    from: u64,
     object: usize,
     address: u64,
     site: &Site,
     field: &NewField,
-    file: &mut [u8],
+    bytes: &mut [u8],
 )
     requires object { object < length plan.now.objects }
     requires own { Contains (sites_at plan.now object) site.now }
     requires field { new_field_of site.now.form (choice plan.now object site.now) ≡ Some field.now }
-    requires address { address ≡ unwrap_or (address_of (layout plan.now) object site.now.section) 0 }
-    requires filled { length file.old ≡ length (raw_file plan.now) }
-    ensures written { file.new ≡ with_new_field plan.now object site.now (Some field.now) file.old }
-    ensures filled { length file.new ≡ length (raw_file plan.now) }
+    requires address { address_of (layout plan.now) object site.now.section ≡ Some address }
+    requires inside { IsInside plan.now from (length bytes.old) object site.now.section address }
+    ensures written { bytes.new ≡ part_with_new_field plan.now from object site.now (Some field.now) bytes.old }
+    ensures filled { length bytes.new ≡ length bytes.old }
 {
     plan.is_given();
     let relocation = new_relocation(site, field);
@@ -227,51 +229,91 @@ fn write_new_field(
     let symbol = plan.symbol_value(object, relocation.symbol);
     // Distances inside an image fit.
     if let Ok(value) = plan.field(object, place, &relocation, symbol) {
-        put(plan, 0, place, value, file);
+        put(plan, from, place, value, bytes);
     }
 }
 
-/// Writes the sequence in the place of a site, which has this number.
-fn write_site(plan: &Plan, object: usize, number: usize, site: &Site, file: &mut [u8])
+/// Writes the sequence in the place of a site, which has this number. Its section begins at this address.
+fn write_sequence(
+    plan: &Plan,
+    from: u64,
+    object: usize,
+    address: u64,
+    number: usize,
+    site: &Site,
+    bytes: &mut [u8],
+)
     requires object { object < length plan.now.objects }
     requires own { Contains (sites_at plan.now object) site.now }
     requires number { number < length (sites_at plan.now object) }
     requires at { site.now ≡ slice_index_or (sites_at plan.now object) number site.now }
-    requires filled { length file.old ≡ length (raw_file plan.now) }
-    ensures written { file.new ≡ with_site plan.now object file.old site.now }
-    ensures filled { length file.new ≡ length (raw_file plan.now) }
+    requires address { address_of (layout plan.now) object site.now.section ≡ Some address }
+    requires inside { IsInside plan.now from (length bytes.old) object site.now.section address }
+    ensures written { bytes.new ≡ part_with_sequence plan.now from object bytes.old site.now }
+    ensures filled { length bytes.new ≡ length bytes.old }
 {
-    let address = plan.inputs.section_address(object, site.section);
+    plan.is_given();
     let choice = plan.choice(object, number);
     let mut placed = *site;
-    placed.start = place_in_file(plan, address + site.start);
-    rewrite(file, &placed, choice);
+    placed.start = place_in_file(plan, address + site.start) - from;
+    rewrite(bytes, &placed, choice);
     if let Some(field) = new_field(site.form, choice) {
-        write_new_field(plan, object, address, site, &field, file);
+        write_new_field(plan, from, object, address, site, &field, bytes);
     }
 }
 
-/// Writes the sequences in the place of an object's sites.
-fn write_own_sites(plan: &Plan, object: usize, own: &[Site], file: &mut [u8])
+/// Writes the sequence in the place of a site, which has this number, if its section begins in the part.
+fn write_site(
+    plan: &Plan,
+    part: FilePart,
+    object: usize,
+    number: usize,
+    site: &Site,
+    bytes: &mut [u8],
+)
+    requires object { object < length plan.now.objects }
+    requires own { Contains (sites_at plan.now object) site.now }
+    requires number { number < length (sites_at plan.now object) }
+    requires at { site.now ≡ slice_index_or (sites_at plan.now object) number site.now }
+    requires part { IsPart plan.now part.from part.to (length bytes.old) }
+    ensures written { bytes.new ≡ part_with_site plan.now part.from part.to object bytes.old site.now }
+    ensures filled { length bytes.new ≡ length bytes.old }
+{
+    if let Some(address) = start_in(plan, part, object, site.section) {
+        write_sequence(plan, part.from, object, address, number, site, bytes);
+    }
+}
+
+/// Writes the sequences in the place of an object's sites in a part of the file.
+fn write_own_sites(plan: &Plan, part: FilePart, object: usize, own: &[Site], bytes: &mut [u8])
     requires object { object < length plan.now.objects }
     requires own { own.now ≡ sites_at plan.now object }
-    requires filled { length file.old ≡ length (raw_file plan.now) }
-    ensures written { file.new ≡ fold (with_site plan.now object) file.old own.now }
-    ensures filled { length file.new ≡ length (raw_file plan.now) }
+    requires part { IsPart plan.now part.from part.to (length bytes.old) }
+    ensures written { bytes.new ≡ fold (part_with_site plan.now part.from part.to object) bytes.old own.now }
+    ensures filled { length bytes.new ≡ length bytes.old }
 {
     for (number, site) in own.iter().enumerate() {
-        write_site(plan, object, number, site, file);
+        write_site(plan, part, object, number, site, bytes);
     }
 }
 
-/// Writes the sequences in the place of all sites.
-pub fn write_sites(plan: &Plan, file: &mut [u8])
-    requires filled { length file.old ≡ length (raw_file plan.now) }
-    ensures written { file.new ≡ with_sites_from plan.now 0 plan.now.sites file.old }
-    ensures filled { length file.new ≡ length (raw_file plan.now) }
+/// Writes the sequences in the place of all sites in a part of the file.
+fn write_sites(plan: &Plan, part: FilePart, bytes: &mut [u8])
+    requires { IsPart plan.now part.from part.to (length bytes.old) }
+    ensures written { bytes.new ≡ part_with_sites_from plan.now part.from part.to 0 plan.now.sites bytes.old }
+    ensures filled { length bytes.new ≡ length bytes.old }
 {
     let inputs = &plan.inputs;
     for (object, own) in inputs.sites.iter().enumerate() {
-        write_own_sites(plan, object, own.as_slice(), file);
+        write_own_sites(plan, part, object, own.as_slice(), bytes);
     }
+}
+
+/// Writes the fields and then the sequences of all sections that begin in a part of the file, which has these bytes.
+pub fn write_part(plan: &Plan, part: FilePart, bytes: &mut [u8])
+    requires { IsPart plan.now part.from part.to (length bytes.old) }
+    ensures { IsWritten plan.now part.from part.to bytes.old bytes.new }
+{
+    write_fields(plan, part, bytes);
+    write_sites(plan, part, bytes);
 }

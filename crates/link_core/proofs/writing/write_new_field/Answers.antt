@@ -1,4 +1,5 @@
-use Rattle.std.proofs.Common.{◌≡◌, ◌+◌, ◌-◌, ◌∙◌, [], ◌∷◌, Some, zero-add, ap, arith}
+use Rattle.std.proofs.Common.{◌+◌, ◌-◌, ◌∙◌, [], ◌∷◌, Some, length, sym, ap, arith}
+use Rattle.std.specs.Prelude.{unwrap_or}
 use Rattle.elf_object.specs.declared.relocation.Relocation.{Relocation}
 use Rattle.placed_sections.specs.Files.{offset_of}
 use Rattle.tls_relocs.specs.Fields.{field_patch}
@@ -15,8 +16,10 @@ new_relocation-relocation-requires c =
     let given = c.is_given.ensures.given in
     let limits = c.is_given.ensures.limits in
     let site = c.args.site.now in
-    let room = site_room l c.args.object site given limits c.requires.object c.requires.own in
-    new_small l c.args.object site (choice l c.args.object site) c.args.field.now room c.requires.field
+    let room = site_room l c.args.from (length c.args.bytes.now) c.args.object c.args.address site given limits c.requires.object
+    c.requires.own c.requires.address c.requires.inside in
+    new_small l c.args.from (length c.args.bytes.now) c.args.object c.args.address site (choice l c.args.object site)
+    c.args.field.now room c.requires.field
 
 pub overflow_add-place : goal.overflow_add-place
 overflow_add-place c =
@@ -24,17 +27,21 @@ overflow_add-place c =
     let given = c.is_given.ensures.given in
     let limits = c.is_given.ensures.limits in
     let site = c.args.site.now in
-    let room = site_room l c.args.object site given limits c.requires.object c.requires.own in
-    let fits = new_room l c.args.object site (choice l c.args.object site) c.args.field.now room c.requires.field in
+    let room = site_room l c.args.from (length c.args.bytes.now) c.args.object c.args.address site given limits c.requires.object
+    c.requires.own c.requires.address c.requires.inside in
+    let fits = new_room l c.args.from (length c.args.bytes.now) c.args.object c.args.address site (choice l c.args.object site)
+    c.args.field.now room c.requires.field in
     let same = ap (λ (r : Relocation). r.offset) c.new_relocation-relocation.ensures in
-    omega (arith, fits.near, same, c.requires.address)
+    omega (arith, fits.room.near, same)
 
 pub symbol_value-symbol-requires-clause-symbol : goal.symbol_value-symbol-requires-clause-symbol
 symbol_value-symbol-requires-clause-symbol c =
     let l = c.args.plan.now in
     let given = c.is_given.ensures.given in
     let limits = c.is_given.ensures.limits in
-    let room = site_room l c.args.object c.args.site.now given limits c.requires.object c.requires.own in
+    let site = c.args.site.now in
+    let room = site_room l c.args.from (length c.args.bytes.now) c.args.object c.args.address site given limits c.requires.object
+    c.requires.own c.requires.address c.requires.inside in
     let same = ap (λ (r : Relocation). r.symbol) c.new_relocation-relocation.ensures in
     rw same room.usable.symbol
 
@@ -43,7 +50,9 @@ field-requires-clause-number c =
     let l = c.args.plan.now in
     let given = c.is_given.ensures.given in
     let limits = c.is_given.ensures.limits in
-    let room = site_room l c.args.object c.args.site.now given limits c.requires.object c.requires.own in
+    let site = c.args.site.now in
+    let room = site_room l c.args.from (length c.args.bytes.now) c.args.object c.args.address site given limits c.requires.object
+    c.requires.own c.requires.address c.requires.inside in
     let same = ap (λ (r : Relocation). r.symbol) c.new_relocation-relocation.ensures in
     rw same room.usable.symbol
 
@@ -53,36 +62,33 @@ put-requires c =
     let given = c.is_given.ensures.given in
     let limits = c.is_given.ensures.limits in
     let site = c.args.site.now in
-    let room = site_room l c.args.object site given limits c.requires.object c.requires.own in
-    let fits = new_room l c.args.object site (choice l c.args.object site) c.args.field.now room c.requires.field in
+    let room = site_room l c.args.from (length c.args.bytes.now) c.args.object c.args.address site given limits c.requires.object
+    c.requires.own c.requires.address c.requires.inside in
+    let fits = new_room l c.args.from (length c.args.bytes.now) c.args.object c.args.address site (choice l c.args.object site)
+    c.args.field.now room c.requires.field in
     record {
-      room =
-          rw (
-            zero-add,
-            c.in-Ok.ensures.width,
-            c.new_relocation-relocation.ensures,
-            c.requires.address,
-            c.requires.filled,
-          ) fits;
-      behind = λ wide. omega arith;
+      room = rw (c.in-Ok.ensures.width, c.new_relocation-relocation.ensures) fits.room;
+      behind = rw (c.in-Ok.ensures.width, c.new_relocation-relocation.ensures) fits.behind;
     }
 
-pub returns-in-Ok-clause-written : goal.returns-in-Ok-clause-written
-returns-in-Ok-clause-written c =
+pub returns-in-Ok : goal.returns-in-Ok
+returns-in-Ok c =
     let l = c.args.plan.now in
     let o = c.args.object in
     let site = c.args.site.now in
     let f = c.args.field.now in
     let t = site.section in
     let same = c.new_relocation-relocation.ensures in
-    let begins = ap (λ n. n + c.new_relocation-relocation.result.offset) c.requires.address in
+    let begins = sym (ap (λ a. unwrap_or a 0 + c.new_relocation-relocation.result.offset) c.requires.address) in
     let at = begins ∙ ap (λ (r : Relocation). place l o t r.offset) same in
     let is = c.in-Ok.ensures.field t begins ∙ ap (field l o t) same in
-    let start : offset_of (layout l) (c.args.address + c.new_relocation-relocation.result.offset) - 0
-    ≡ offset_of (layout l) (c.args.address + c.new_relocation-relocation.result.offset) = omega arith in
-    c.put.ensures
-    ∙ ap (λ n. patched (field_patch n c.in-Ok.value ∷ []) c.args.file.now) (start ∙ ap (offset_of (layout l)) at)
-    ∙ new_writes l o site c.args.file.now f (Some c.in-Ok.value) is
+    record {
+      written =
+          c.put.ensures
+          ∙ ap (λ n. patched (field_patch (offset_of (layout l) n - c.args.from) c.in-Ok.value ∷ []) c.args.bytes.now) at
+          ∙ new_writes l c.args.from o site c.args.bytes.now f (Some c.in-Ok.value) is;
+      filled = c.put.auto.part;
+    }
 
 pub returns-in_default-clause-written : goal.returns-in_default-clause-written
 returns-in_default-clause-written c =
@@ -90,6 +96,6 @@ returns-in_default-clause-written c =
     let o = c.args.object in
     let site = c.args.site.now in
     let t = site.section in
-    let begins = ap (λ n. n + c.new_relocation-relocation.result.offset) c.requires.address in
+    let begins = sym (ap (λ a. unwrap_or a 0 + c.new_relocation-relocation.result.offset) c.requires.address) in
     let is = c.in_default.ensures.field t begins ∙ ap (field l o t) c.new_relocation-relocation.ensures in
-    new_skips l o site c.args.file.now c.args.field.now is
+    new_skips l c.args.from o site c.args.bytes.now c.args.field.now is

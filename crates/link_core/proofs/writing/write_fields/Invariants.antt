@@ -1,6 +1,6 @@
 use Rattle.std.proofs.Common.{◌≡◌, drop, length}
 use Rattle.link_core.specs.Parts.{part_with_fields_from}
-use Rattle.link_core.proofs.writing.write_part.Given as goal
+use Rattle.link_core.proofs.writing.write_fields.Given as goal
 
 -- the objects that are left write what all do
 abbrev pub invariant-loop-number : goal.invariant-loop-number
