@@ -1,4 +1,5 @@
-//! Writes the fields of all relocations, and the sequences in the place of all sites, in several parts of the file at once.
+//! Writes the fields of all relocations, and the sequences in the place of all sites, in several parts of the file at
+//! once.
 //!
 //! A part begins where a section does. So no field and no sequence is in two parts, and each thread writes only in its
 //! own.

@@ -205,60 +205,58 @@ fn write_fields(plan: &Plan, part: FilePart, bytes: &mut [u8])
     }
 }
 
-/// Writes the field of a sequence in a site's place, in a part of the file. The section begins at this address.
+/// Writes the field of a sequence in a site's place, in a part of the file.
 fn write_new_field(
     plan: &Plan,
     from: u64,
-    object: usize,
-    address: u64,
+    own: PlacedSection,
     site: &Site,
     field: &NewField,
     bytes: &mut [u8],
 )
-    requires object { object < length plan.now.objects }
-    requires own { Contains (sites_at plan.now object) site.now }
-    requires field { new_field_of site.now.form (choice plan.now object site.now) ≡ Some field.now }
-    requires address { address_of (layout plan.now) object site.now.section ≡ Some address }
-    requires inside { IsInside plan.now from (length bytes.old) object site.now.section address }
-    ensures written { bytes.new ≡ part_with_new_field plan.now from object site.now (Some field.now) bytes.old }
+    requires object { own.object < length plan.now.objects }
+    requires own { Contains (sites_at plan.now own.object) site.now }
+    requires field { new_field_of site.now.form (choice plan.now own.object site.now) ≡ Some field.now }
+    requires address { address_of (layout plan.now) own.object site.now.section ≡ Some own.address }
+    requires inside { IsInside plan.now from (length bytes.old) own.object site.now.section own.address }
+    ensures written { bytes.new ≡ part_with_new_field plan.now from own.object site.now (Some field.now) bytes.old }
     ensures filled { length bytes.new ≡ length bytes.old }
 {
     plan.is_given();
     let relocation = new_relocation(site, field);
-    let place = address + relocation.offset;
-    let symbol = plan.symbol_value(object, relocation.symbol);
+    let place = own.address + relocation.offset;
+    let symbol = plan.symbol_value(own.object, relocation.symbol);
     // Distances inside an image fit.
-    if let Ok(value) = plan.field(object, place, &relocation, symbol) {
+    if let Ok(value) = plan.field(own.object, place, &relocation, symbol) {
         put(plan, from, place, value, bytes);
     }
 }
 
-/// Writes the sequence in the place of a site, which has this number. Its section begins at this address.
+/// Writes the sequence in the place of a site, which has this number, in a part of the file.
 fn write_sequence(
     plan: &Plan,
     from: u64,
-    object: usize,
-    address: u64,
+    own: PlacedSection,
     number: usize,
     site: &Site,
     bytes: &mut [u8],
 )
-    requires object { object < length plan.now.objects }
-    requires own { Contains (sites_at plan.now object) site.now }
-    requires number { number < length (sites_at plan.now object) }
-    requires at { site.now ≡ slice_index_or (sites_at plan.now object) number site.now }
-    requires address { address_of (layout plan.now) object site.now.section ≡ Some address }
-    requires inside { IsInside plan.now from (length bytes.old) object site.now.section address }
-    ensures written { bytes.new ≡ part_with_sequence plan.now from object bytes.old site.now }
+    requires object { own.object < length plan.now.objects }
+    requires own { Contains (sites_at plan.now own.object) site.now }
+    requires number { number < length (sites_at plan.now own.object) }
+    requires at { site.now ≡ slice_index_or (sites_at plan.now own.object) number site.now }
+    requires address { address_of (layout plan.now) own.object site.now.section ≡ Some own.address }
+    requires inside { IsInside plan.now from (length bytes.old) own.object site.now.section own.address }
+    ensures written { bytes.new ≡ part_with_sequence plan.now from own.object bytes.old site.now }
     ensures filled { length bytes.new ≡ length bytes.old }
 {
     plan.is_given();
-    let choice = plan.choice(object, number);
+    let choice = plan.choice(own.object, number);
     let mut placed = *site;
-    placed.start = place_in_file(plan, address + site.start) - from;
+    placed.start = place_in_file(plan, own.address + site.start) - from;
     rewrite(bytes, &placed, choice);
     if let Some(field) = new_field(site.form, choice) {
-        write_new_field(plan, from, object, address, site, &field, bytes);
+        write_new_field(plan, from, own, site, &field, bytes);
     }
 }
 
@@ -280,7 +278,12 @@ fn write_site(
     ensures filled { length bytes.new ≡ length bytes.old }
 {
     if let Some(address) = start_in(plan, part, object, site.section) {
-        write_sequence(plan, part.from, object, address, number, site, bytes);
+        let own = PlacedSection {
+            object,
+            section: site.section,
+            address,
+        };
+        write_sequence(plan, part.from, own, number, site, bytes);
     }
 }
 

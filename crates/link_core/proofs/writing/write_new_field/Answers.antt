@@ -16,9 +16,9 @@ new_relocation-relocation-requires c =
     let given = c.is_given.ensures.given in
     let limits = c.is_given.ensures.limits in
     let site = c.args.site.now in
-    let room = site_room l c.args.from (length c.args.bytes.now) c.args.object c.args.address site given limits c.requires.object
+    let room = site_room l c.args.from (length c.args.bytes.now) c.args.own.object c.args.own.address site given limits c.requires.object
     c.requires.own c.requires.address c.requires.inside in
-    new_small l c.args.from (length c.args.bytes.now) c.args.object c.args.address site (choice l c.args.object site)
+    new_small l c.args.from (length c.args.bytes.now) c.args.own.object c.args.own.address site (choice l c.args.own.object site)
     c.args.field.now room c.requires.field
 
 pub overflow_add-place : goal.overflow_add-place
@@ -27,9 +27,9 @@ overflow_add-place c =
     let given = c.is_given.ensures.given in
     let limits = c.is_given.ensures.limits in
     let site = c.args.site.now in
-    let room = site_room l c.args.from (length c.args.bytes.now) c.args.object c.args.address site given limits c.requires.object
+    let room = site_room l c.args.from (length c.args.bytes.now) c.args.own.object c.args.own.address site given limits c.requires.object
     c.requires.own c.requires.address c.requires.inside in
-    let fits = new_room l c.args.from (length c.args.bytes.now) c.args.object c.args.address site (choice l c.args.object site)
+    let fits = new_room l c.args.from (length c.args.bytes.now) c.args.own.object c.args.own.address site (choice l c.args.own.object site)
     c.args.field.now room c.requires.field in
     let same = ap (λ (r : Relocation). r.offset) c.new_relocation-relocation.ensures in
     omega (arith, fits.room.near, same)
@@ -40,7 +40,7 @@ symbol_value-symbol-requires-clause-symbol c =
     let given = c.is_given.ensures.given in
     let limits = c.is_given.ensures.limits in
     let site = c.args.site.now in
-    let room = site_room l c.args.from (length c.args.bytes.now) c.args.object c.args.address site given limits c.requires.object
+    let room = site_room l c.args.from (length c.args.bytes.now) c.args.own.object c.args.own.address site given limits c.requires.object
     c.requires.own c.requires.address c.requires.inside in
     let same = ap (λ (r : Relocation). r.symbol) c.new_relocation-relocation.ensures in
     rw same room.usable.symbol
@@ -51,7 +51,7 @@ field-requires-clause-number c =
     let given = c.is_given.ensures.given in
     let limits = c.is_given.ensures.limits in
     let site = c.args.site.now in
-    let room = site_room l c.args.from (length c.args.bytes.now) c.args.object c.args.address site given limits c.requires.object
+    let room = site_room l c.args.from (length c.args.bytes.now) c.args.own.object c.args.own.address site given limits c.requires.object
     c.requires.own c.requires.address c.requires.inside in
     let same = ap (λ (r : Relocation). r.symbol) c.new_relocation-relocation.ensures in
     rw same room.usable.symbol
@@ -62,9 +62,9 @@ put-requires c =
     let given = c.is_given.ensures.given in
     let limits = c.is_given.ensures.limits in
     let site = c.args.site.now in
-    let room = site_room l c.args.from (length c.args.bytes.now) c.args.object c.args.address site given limits c.requires.object
+    let room = site_room l c.args.from (length c.args.bytes.now) c.args.own.object c.args.own.address site given limits c.requires.object
     c.requires.own c.requires.address c.requires.inside in
-    let fits = new_room l c.args.from (length c.args.bytes.now) c.args.object c.args.address site (choice l c.args.object site)
+    let fits = new_room l c.args.from (length c.args.bytes.now) c.args.own.object c.args.own.address site (choice l c.args.own.object site)
     c.args.field.now room c.requires.field in
     record {
       room = rw (c.in-Ok.ensures.width, c.new_relocation-relocation.ensures) fits.room;
@@ -74,7 +74,7 @@ put-requires c =
 pub returns-in-Ok : goal.returns-in-Ok
 returns-in-Ok c =
     let l = c.args.plan.now in
-    let o = c.args.object in
+    let o = c.args.own.object in
     let site = c.args.site.now in
     let f = c.args.field.now in
     let t = site.section in
@@ -93,7 +93,7 @@ returns-in-Ok c =
 pub returns-in_default-clause-written : goal.returns-in_default-clause-written
 returns-in_default-clause-written c =
     let l = c.args.plan.now in
-    let o = c.args.object in
+    let o = c.args.own.object in
     let site = c.args.site.now in
     let t = site.section in
     let begins = sym (ap (λ a. unwrap_or a 0 + c.new_relocation-relocation.result.offset) c.requires.address) in

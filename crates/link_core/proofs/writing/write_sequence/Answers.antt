@@ -11,13 +11,13 @@ choice-choice-requires-clause-object c =
     let given = c.is_given.ensures.given in
     omega (arith, given.each, c.requires.object)
 
-pub overflow_add-address : goal.overflow_add-address
-overflow_add-address c =
+pub overflow_add-own : goal.overflow_add-own
+overflow_add-own c =
     let l = c.args.plan.now in
     let given = c.is_given.ensures.given in
     let limits = c.is_given.ensures.limits in
     let site = c.args.site.now in
-    let room = site_room l c.args.from (length c.args.bytes.now) c.args.object c.args.address site given limits c.requires.object
+    let room = site_room l c.args.from (length c.args.bytes.now) c.args.own.object c.args.own.address site given limits c.requires.object
     c.requires.own c.requires.address c.requires.inside in
     let small = room.usable.small in
     omega (arith, small, room.near)
@@ -28,7 +28,7 @@ place_in_file-requires-clause-from_base c =
     let given = c.is_given.ensures.given in
     let limits = c.is_given.ensures.limits in
     let site = c.args.site.now in
-    let room = site_room l c.args.from (length c.args.bytes.now) c.args.object c.args.address site given limits c.requires.object
+    let room = site_room l c.args.from (length c.args.bytes.now) c.args.own.object c.args.own.address site given limits c.requires.object
     c.requires.own c.requires.address c.requires.inside in
     omega (arith, room.above)
 
@@ -38,7 +38,7 @@ place_in_file-requires-clause-fits c =
     let given = c.is_given.ensures.given in
     let limits = c.is_given.ensures.limits in
     let site = c.args.site.now in
-    let room = site_room l c.args.from (length c.args.bytes.now) c.args.object c.args.address site given limits c.requires.object
+    let room = site_room l c.args.from (length c.args.bytes.now) c.args.own.object c.args.own.address site given limits c.requires.object
     c.requires.own c.requires.address c.requires.inside in
     let small = room.usable.small in
     omega (arith, small, room.near)
@@ -49,7 +49,7 @@ overflow_sub-placed c =
     let given = c.is_given.ensures.given in
     let limits = c.is_given.ensures.limits in
     let site = c.args.site.now in
-    let room = site_room l c.args.from (length c.args.bytes.now) c.args.object c.args.address site given limits c.requires.object
+    let room = site_room l c.args.from (length c.args.bytes.now) c.args.own.object c.args.own.address site given limits c.requires.object
     c.requires.own c.requires.address c.requires.inside in
     omega (arith, room.behind, c.place_in_file.ensures)
 
@@ -59,7 +59,7 @@ rewrite-requires c =
     let given = c.is_given.ensures.given in
     let limits = c.is_given.ensures.limits in
     let site = c.args.site.now in
-    let room = site_room l c.args.from (length c.args.bytes.now) c.args.object c.args.address site given limits c.requires.object
+    let room = site_room l c.args.from (length c.args.bytes.now) c.args.own.object c.args.own.address site given limits c.requires.object
     c.requires.own c.requires.address c.requires.inside in
     record {
       inside = omega (arith, room.inside, room.behind, c.place_in_file.ensures);
@@ -74,9 +74,9 @@ returns-in-Some-clause-written c =
     let given = c.is_given.ensures.given in
     let limits = c.is_given.ensures.limits in
     let site = c.args.site.now in
-    let room = site_room l c.args.from (length c.args.bytes.now) c.args.object c.args.address site given limits c.requires.object
+    let room = site_room l c.args.from (length c.args.bytes.now) c.args.own.object c.args.own.address site given limits c.requires.object
     c.requires.own c.requires.address c.requires.inside in
-    let o = c.args.object in
+    let o = c.args.own.object in
     let from = c.args.from in
     let at = ap (λ n. n - from) (c.place_in_file.ensures ∙ ap (offset_of (layout l)) (sym room.place_is)) in
     let chosen = c.choice-choice.ensures.choice site c.requires.at in
@@ -91,9 +91,9 @@ returns-in_default-clause-written c =
     let given = c.is_given.ensures.given in
     let limits = c.is_given.ensures.limits in
     let site = c.args.site.now in
-    let room = site_room l c.args.from (length c.args.bytes.now) c.args.object c.args.address site given limits c.requires.object
+    let room = site_room l c.args.from (length c.args.bytes.now) c.args.own.object c.args.own.address site given limits c.requires.object
     c.requires.own c.requires.address c.requires.inside in
-    let o = c.args.object in
+    let o = c.args.own.object in
     let from = c.args.from in
     let at = ap (λ n. n - from) (c.place_in_file.ensures ∙ ap (offset_of (layout l)) (sym room.place_is)) in
     let chosen = c.choice-choice.ensures.choice site c.requires.at in
