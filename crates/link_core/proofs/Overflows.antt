@@ -88,13 +88,16 @@ module _ (l : Linking) (from to : ℕ) (low : from ≤ to) (within : to ≤ leng
   -- their first is the first of all, if none before them has one
   first_among : (o s e : ℕ) → IsFirstUsed (Unfit l from) some o s e → NoneAmong l 0 from
       → Overflows l (o + from) s e × ((p t f : ℕ) → Earlier p t f (o + from) s e → Overflows l p t f → ⊥)
-  first_among o s e first none = (here o s e first.0, λ p t f earlier at. elim (cases_lt p from) [
-    | inl before ↦ none p t f (omega arith) before at
-    | inr behind ↦
-        let below = first.0.0 in
-        first.1 (p - from) t f (nearer p t f earlier behind)
-        (there p t f behind (last p t f earlier below) at)
-  ])
+  first_among o s e first none = (
+    here o s e first.0,
+    λ p t f earlier at. elim (cases_lt p from) [
+      | inl before ↦ none p t f (omega arith) before at
+      | inr behind ↦
+          let below = first.0.0 in
+          first.1 (p - from) t f (nearer p t f earlier behind)
+          (there p t f behind (last p t f earlier below) at)
+    ],
+  )
     where
       nearer : (p t f : ℕ) → Earlier p t f (o + from) s e → from ≤ p → Earlier (p - from) t f o s e
       nearer p t f (inl less) behind = inl (omega (arith, less, behind))
@@ -107,10 +110,11 @@ module _ (l : Linking) (from to : ℕ) (low : from ≤ to) (within : to ≤ leng
   -- uses that decide for these objects tell of them
   pub tells : (us : List Use) → Decides (Unfit l from) some us → Tells l from to us
   tells [] decides = none_among decides
-  tells (u ∷ more) decides =
-      (use_of_all u decides.0,
-      λ unfit none. first_among u.place.object u.place.section u.place.entry (decides.1 unfit) none,
-      λ fits. tells more (decides.2 fits))
+  tells (u ∷ more) decides = (
+    use_of_all u decides.0,
+    λ unfit none. first_among u.place.object u.place.section u.place.entry (decides.1 unfit) none,
+    λ fits. tells more (decides.2 fits),
+  )
 
 module _ (l : Linking) where
   -- all objects
