@@ -1,9 +1,8 @@
 -- The fields of a part of the file are those of the two parts that a cut makes of it.
-use Rattle.std.proofs.Common.{◌≡◌, ◌+◌, ◌-◌, ◌<◌, ◌≤◌, ◌∙◌, ◌++◌, ℕ, suc, Bool, true, false, List, [], ◌∷◌}
-use Rattle.std.proofs.Common.{Option, Some, None, length, inl, inr, refl, sym, ap, subst, arith}
-use Rattle.std.specs.Prelude.{fold, slice_index_or, unwrap_or, if◌then◌else◌}
+use Rattle.std.proofs.Common.{◌≡◌, ◌+◌, ◌-◌, ◌<◌, ◌≤◌, ◌∙◌, ◌++◌, ℕ, Bool, true, false, List, []}
+use Rattle.std.proofs.Common.{Option, Some, None, length, refl, sym, ap, subst, arith}
+use Rattle.std.specs.Prelude.{fold, unwrap_or, if◌then◌else◌}
 use Rattle.std.specs.List.{Contains, range_with_len}
-use Rattle.std.proofs.lemmas.Bool.{cases_lt}
 use Rattle.std.proofs.lemmas.Option.{same_Some}
 use Rattle.elf_records.specs.Fields.{splice}
 use Rattle.elf_object.specs.declared.relocation.Relocation.{Relocation}
@@ -19,7 +18,7 @@ use Rattle.link_needs.specs.Linking.{Linking, layout, object, place}
 use Rattle.link_needs.specs.Given.{FitsTable, IsGiven}
 use Rattle.link_needs.specs.Values.{field, is_replaced}
 use Rattle.link_core.specs.Bytes.{with_field, with_fields, with_fields_from, with_table}
-use Rattle.link_core.specs.Parts.{EndsBehind, IsCut, IsPart, is_before, part_with_field, part_with_fields, part_with_fields_from}
+use Rattle.link_core.specs.Parts.{EndsBehind, IsPart, is_before, part_with_field, part_with_fields, part_with_fields_from}
 use Rattle.link_core.specs.Parts.{part_with_held, part_with_table, start_at, start_in}
 use Rattle.link_core.proofs.LengthsKept.{field_at_most}
 use Rattle.link_core.proofs.PartSplit.{by_cut, is_before_end, start_yes}

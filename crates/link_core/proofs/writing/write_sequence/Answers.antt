@@ -1,4 +1,4 @@
-use Rattle.std.proofs.Common.{◌+◌, ◌-◌, ◌∙◌, Some, None, length, sym, ap, arith}
+use Rattle.std.proofs.Common.{◌-◌, ◌∙◌, Some, None, length, sym, ap, arith}
 use Rattle.placed_sections.specs.Files.{offset_of}
 use Rattle.link_needs.specs.Linking.{layout}
 use Rattle.link_core.specs.Parts.{part_with_new_field}
