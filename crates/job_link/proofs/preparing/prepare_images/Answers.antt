@@ -1,4 +1,4 @@
-use Rattle.std.proofs.Common.{◌∙◌, ◌∷◌, ◌++◌, [], List, length, map, take, sym, ap, subst, arith}
+use Rattle.std.proofs.Common.{◌∙◌, ◌∷◌, ◌++◌, [], List, length, map, take, sym, ap, subst, arith, rules}
 use Rattle.link_core.specs.Faults.{IsLinkFault, Links}
 use Rattle.link_needs.specs.Linking.{Linking}
 use Rattle.job_link.specs.LinkLaws.{exports_few}
@@ -8,7 +8,7 @@ use Rattle.job_link.proofs.preparing.prepare_images.Goals as goal
 
 pub ready_one-requires : goal.ready_one-requires
 ready_one-requires g c =
-    omega (arith, ap length c.requires.startup, exports_few c.args.images.now, c.requires.few)
+    (search rules, omega (arith, ap length c.requires.startup, exports_few c.args.images.now, c.requires.few))
 
 pub returns-in-Err-clause-refused : goal.returns-in-Err-clause-refused
 returns-in-Err-clause-refused g c =

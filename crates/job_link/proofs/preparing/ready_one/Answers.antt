@@ -1,4 +1,4 @@
-use Rattle.std.proofs.Common.{◌≡◌, ◌∙◌, subst, sym}
+use Rattle.std.proofs.Common.{◌≡◌, ◌∙◌, rules, subst, sym}
 use Rattle.std.specs.Prelude.{IfErr, IfOk, OnOk}
 use Rattle.link_core.specs.Faults.{IsLinkFault, IsSound, Links}
 use Rattle.link_needs.specs.Linking.{Linking}
@@ -11,7 +11,7 @@ prepare-requires-clause-sites g c =
     c.objects.ensures.given
 
 pub fitting-requires : goal.fitting-requires
-fitting-requires c = subst IsSound (sym c.in-Ok.ensures.ready) c.in-Ok.ensures.sound
+fitting-requires g c = (search rules, subst IsSound (sym c.in-Ok.ensures.ready) c.in-Ok.ensures.sound)
 
 pub returns-in-Ok-clause-ready : goal.returns-in-Ok-clause-ready
 returns-in-Ok-clause-ready g c =
