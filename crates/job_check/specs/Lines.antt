@@ -10,10 +10,10 @@ use Rattle.job_meaning.specs.Marked.{values_of}
 use Rattle.job_text.specs.declared.thread_lines.Action.TheVariants.{Peek}
 use Rattle.loaded_modules.specs.declared.instance.Instance.{Instance}
 use Rattle.module_table.specs.declared.events.Event.{Event}
-use Rattle.module_table.specs.Past.{Past, after, close_refusal, open_refusal}
+use Rattle.module_table.specs.Past.{Past, after}
 use Rattle.thread_blocks.specs.Held.{Owned}
 use Rattle.thread_blocks.specs.Instances.{instance_at, instances_in, left_by}
-use Rattle.thread_blocks.specs.Lines.{Line, begun_by, begun_close, begun_in, begun_open, begun_peek, event_at, event_by, unless_refused}
+use Rattle.thread_blocks.specs.Lines.{Line, begun_by, begun_in, begun_peek, event_by}
 use Rattle.thread_blocks.specs.Turns.{Begun, Calls as CallsOn, Ending, Says as SaysSo, with_event}
 use Rattle.whole_meaning.specs.declared.unclean.UncleanStep.{UncleanStep}
 use Rattle.whole_meaning.specs.Jobs.{unclean_ending, unclean_stop}
@@ -89,20 +89,6 @@ abbrev pub BeginsCall : Line → List ℕ → ℕ → ℕ → ℕ → Past → K
 BeginsCall line symbol a b c p k = let l = loads_of k.images in
     Begins line.number None
     (λ seen h. begun_in ops l (shows line k seen) k.thread symbol a b c h (instance_at l seen line.told.image)) p k
-
--- an open of the line's image
-abbrev pub BeginsOpen : Line → Past → Kept → Started → Past → Kept → Type 0
-BeginsOpen line p k = let l = loads_of k.images in
-    let refusal = open_refusal p line.told.image in
-    Begins line.number (unless_refused refusal (event_at k.thread line.number true line.told.image))
-    (λ seen h. begun_open ops l (shows line k seen) k.thread line seen h refusal) p k
-
--- a close of the line's image
-abbrev pub BeginsClose : Line → Past → Kept → Started → Past → Kept → Type 0
-BeginsClose line p k = let l = loads_of k.images in
-    let refusal = close_refusal p line.told.image in
-    Begins line.number (unless_refused refusal (event_at k.thread line.number false line.told.image))
-    (λ seen h. begun_close ops l (shows line k seen) k.thread line seen h refusal) p k
 
 -- a line that shows `size` bytes of a variable
 abbrev pub peek_line : Line → List ℕ → ℕ → Line

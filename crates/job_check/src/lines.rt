@@ -1,15 +1,14 @@
 //! The first look of a thread's line.
 
-ghost use Rattle.std.specs.Prelude.{◌≡◌, ◌≤◌, ◌<◌, ◌+◌, ◌^◌, ℕ, true, [], IfOk, OnOk, is_some, length};
+ghost use Rattle.std.specs.Prelude.{◌≡◌, ◌≤◌, ◌<◌, ◌+◌, ◌^◌, ℕ, IfOk, OnOk, if◌then◌else◌, is_some, length};
 ghost use Rattle.job_meaning.specs.Marked.{values_of};
-ghost use Rattle.module_table.specs.Past.{accepts, after_one, module_of};
+ghost use Rattle.module_table.specs.Past.{accepts, module_of};
 ghost use Rattle.thread_blocks.specs.Held.{block_bytes};
 ghost use Rattle.thread_blocks.specs.Instances.{block_start, instances_in, loaded_instance};
-ghost use Rattle.thread_blocks.specs.Lines.{event_at};
 ghost use Rattle.thread_blocks.specs.MachineTurns.{call_start};
 ghost use Rattle.whole_meaning.specs.Threads.{ops};
 ghost use Rattle.job_check.specs.Histories.{infos_of};
-ghost use Rattle.job_check.specs.Lines.{BeginsCall, BeginsClose, BeginsOpen, BeginsPeek, CanBegin, LoadsNew, Sees, Starts, byte_cause, is_for, shown_step, step_in, unclean_bytes, unclean_for};
+ghost use Rattle.job_check.specs.Lines.{BeginsCall, BeginsPeek, CanBegin, LoadsNew, Starts, byte_cause, is_for, shown_step, step_in, unclean_bytes, unclean_for};
 
 use crate::live::{live_instance, see};
 use crate::verdict::unclean_stop;
@@ -77,29 +76,16 @@ fn call(
 
 // ** opens and closes
 
-/// Enters the thread's own event into the history, and shows it to the thread: its line opens or closes an image.
-fn enter(
-    alloc: Global,
-    space: &mut MarkedMemory,
-    table: &mut ModuleTable,
-    number: u32,
-    line: &ThreadLine,
-    opens: bool,
-) -> Result<(), AllocError>
-    requires accepted { accepts table.old (event_at space.old.thread number opens line.now.image) ≡ true }
-    requires ready { CanBegin space.old table.old }
-    ensures enters { OnOk result
-        (table.new ≡ after_one table.old (event_at space.old.thread number opens line.now.image)) }
-    ensures sees { OnOk result (Sees [] space.old table.new space.new) }
+/// Whether the history accepts the event.
+#[tactic(auto, unfolding(module_table::specs::Past::accepts))]
+fn is_accepted(table: &ModuleTable, event: Event) -> bool
+    ensures { result ≡ accepts table.now event }
 {
-    table.accept(Event {
-        thread: space.thread(),
-        line: number,
-        opens,
-        image: line.image,
-    });
-    see(alloc, space, table, Vec::new(alloc))?;
-    Ok(())
+    if event.opens {
+        table.open_refusal(event.image).is_none()
+    } else {
+        table.close_refusal(event.image).is_none()
+    }
 }
 
 /// Fills the data of an image, unless it was loaded before.
@@ -120,43 +106,34 @@ fn load_new(
     Ok(())
 }
 
-/// Opens the line's image. An accepted open enters the history, and a load fills the data of the instance.
-fn open(
+/// Opens or closes the line's image. If the history accepts the event, the thread sees it at once, and a load fills the
+/// data of the instance.
+fn open_or_close(
     alloc: Global,
     space: &mut MarkedMemory,
     table: &mut ModuleTable,
     number: u32,
     line: &ThreadLine,
+    opens: bool,
 ) -> Result<Started, AllocError>
+    requires asks { line.now.action ≡ (if opens then Action.Open else Action.Close) }
     requires ready { CanBegin space.old table.old }
     ensures { IfOk result (λ started.
-        BeginsOpen (record { number = number; told = line.now }) table.old space.old started table.new space.new) }
+        Starts (record { number = number; told = line.now }) table.old space.old started table.new space.new) }
 {
-    if table.open_refusal(line.image).is_some() {
+    let event = Event {
+        thread: space.thread(),
+        line: number,
+        opens,
+        image: line.image,
+    };
+    if !is_accepted(table, event) {
         return Ok(CLEAN);
     }
     let was = table.module(line.image).is_loaded();
-    enter(alloc, space, table, number, line, true)?;
+    table.accept(event);
+    see(alloc, space, table, Vec::new(alloc))?;
     load_new(space, table, was, line.image)?;
-    Ok(CLEAN)
-}
-
-/// Closes the line's image. An accepted close enters the history.
-fn close(
-    alloc: Global,
-    space: &mut MarkedMemory,
-    table: &mut ModuleTable,
-    number: u32,
-    line: &ThreadLine,
-) -> Result<Started, AllocError>
-    requires ready { CanBegin space.old table.old }
-    ensures { IfOk result (λ started.
-        BeginsClose (record { number = number; told = line.now }) table.old space.old started table.new space.new) }
-{
-    if table.close_refusal(line.image).is_some() {
-        return Ok(CLEAN);
-    }
-    enter(alloc, space, table, number, line, false)?;
     Ok(CLEAN)
 }
 
@@ -306,8 +283,8 @@ pub(crate) fn begin(
                 c: *c,
             },
         ),
-        Action::Open => open(alloc, space, table, number, line),
-        Action::Close => close(alloc, space, table, number, line),
+        Action::Open => open_or_close(alloc, space, table, number, line, true),
+        Action::Close => open_or_close(alloc, space, table, number, line, false),
         Action::Peek { symbol, length } => peek(
             space,
             table,
