@@ -1,13 +1,12 @@
--- The bytes of an image's file, without its headers and its dynamic tables: the sections at their places, the fields of
--- relocations, the new sequences, the global offset table and the stub.
-use Rattle.std.specs.Prelude.{◌+◌, ◌-◌, ◌==◌, ◌∷◌, ℕ, negsuc, List, [], Option, Some, None, fold, unwrap_or}
+-- The bytes of an image's file, without its headers and its dynamic tables: the sections at their places, each with its
+-- fields and its new sequences, the global offset table and the stub.
+use Rattle.std.specs.Prelude.{◌+◌, ◌==◌, ◌∷◌, ℕ, negsuc, List, [], Option, Some, None, fold, unwrap_or}
 use Rattle.std.specs.Prelude.{if◌then◌else◌}
-use Rattle.std.specs.List.{flat_map, range_with_len}
+use Rattle.std.specs.List.{filter, flat_map}
 use Rattle.elf_records.specs.Fields.{bytes_of}
 use Rattle.elf_records.specs.declared.relocation.RelocationKind.TheVariants.{GotPcRel}
 use Rattle.elf_object.specs.declared.relocation.Relocation.{Relocation}
-use Rattle.elf_object.specs.Lent.{relocation_target}
-use Rattle.elf_object.specs.Object.{section_count}
+use Rattle.elf_object.specs.Lent.{relocations}
 use Rattle.got_pairs.specs.declared.need.Need.{Need}
 use Rattle.got_pairs.specs.declared.need.Need.TheVariants.{RuntimeWord}
 use Rattle.got_pairs.specs.Entries.{entry_of, words}
@@ -15,7 +14,7 @@ use Rattle.got_pairs.specs.Plans.{Table}
 use Rattle.relax_sites.specs.declared.rows.NewField.{NewField}
 use Rattle.relax_sites.specs.Rewriting.{rewritten}
 use Rattle.relax_sites.specs.Rows.{new_field}
-use Rattle.placed_sections.specs.Files.{offset_of, sections_file}
+use Rattle.placed_sections.specs.Files.{memory_bytes, offset_of, sections_file}
 use Rattle.placed_sections.specs.Laying.{with_section}
 use Rattle.sequence_forms.specs.declared.places.Site.{Site}
 use Rattle.tls_relocs.specs.declared.fields.Field.{Field}
@@ -23,8 +22,7 @@ use Rattle.tls_relocs.specs.declared.fields.Field.TheVariants.{Empty}
 use Rattle.tls_relocs.specs.Fields.{field_bytes, field_patch}
 use Rattle.tls_relocs.specs.Patches.{patched}
 use Rattle.tls_relocs.specs.Values.{stored_field}
-use Rattle.tls_symbols.specs.Faults.{held_in}
-use Rattle.link_needs.specs.Linking.{Linking, block_offset, choice, layout, place}
+use Rattle.link_needs.specs.Linking.{Linking, block_offset, choice, layout, object, sites_at}
 use Rattle.link_needs.specs.Needs.{entries, got_size, got_start, has_stub, need_address, new_relocation, stub_start}
 use Rattle.link_needs.specs.Values.{field, is_replaced}
 
@@ -59,57 +57,43 @@ with_got l file = if got_size l == 0 then file else with_part l (got_start l) (g
 abbrev pub with_stub : Linking → List ℕ → List ℕ
 with_stub l file = if has_stub l then with_part l (stub_start l) (stub_bytes l) file else file
 
--- all parts at their places, before anything is written in the sections
-unfoldable pub raw_file : Linking → List ℕ
-raw_file l = with_stub l (with_got l (sections_file (layout l) l.objects))
+-- ** the fields of a section
 
--- ** fields
+-- the bytes with a value at an offset; a value that doesn't fit its field leaves them
+abbrev pub with_value : ℕ → Option Field → List ℕ → List ℕ
+with_value at value bytes = patched (field_patch at (unwrap_or value Empty) ∷ []) bytes
 
--- the file with the field of a relocation of section t of object o written
-abbrev pub with_field_at : Linking → ℕ → ℕ → ℕ → Option Field → List ℕ → List ℕ
-with_field_at l o t k value file =
-    patched (field_patch (offset_of (layout l) (place l o t k)) (unwrap_or value Empty) ∷ []) file
-
+-- section t of object o with the field of a relocation written
 abbrev pub with_field : Linking → ℕ → ℕ → List ℕ → Relocation → List ℕ
-with_field l o t file r =
-    if is_replaced l o r then file else with_field_at l o t r.offset (field l o t r) file
+with_field l o t bytes r = if is_replaced l o r then bytes else with_value r.offset (field l o t r) bytes
 
--- likewise for the relocations that section s holds
-abbrev pub with_table : Linking → ℕ → List ℕ → List ℕ → ℕ → List ℕ
-with_table l o b file s = fold (with_field l o (relocation_target b s)) file (held_in b s)
-
--- likewise for object o
-unfoldable pub with_fields : Linking → ℕ → List ℕ → List ℕ → List ℕ
-with_fields l o b file = fold (with_table l o b) file (range_with_len 1 (section_count b - 1))
-
--- likewise for the objects from number o on
-abbrev pub with_fields_from : Linking → ℕ → List (List ℕ) → List ℕ → List ℕ
-with_fields_from l o [] file = file
-with_fields_from l o (b ∷ more) file = with_fields_from l (o + 1) more (with_fields l o b file)
-
--- ** sequences
-
--- a site of object o, with its offset in the file
-abbrev pub in_file : Linking → ℕ → Site → Site
-in_file l o site = record site { start = offset_of (layout l) (place l o site.section site.start) }
+-- ** its sequences
 
 abbrev pub with_new_field : Linking → ℕ → Site → Option NewField → List ℕ → List ℕ
-with_new_field l o site None file = file
-with_new_field l o site (Some f) file =
-    with_field_at l o site.section (site.start + f.at) (field l o site.section (new_relocation site f)) file
+with_new_field l o site None bytes = bytes
+with_new_field l o site (Some f) bytes =
+    with_value (site.start + f.at) (field l o site.section (new_relocation site f)) bytes
 
--- the file with the sequence written that takes a site's place
+-- the section with the sequence written that takes a site's place
 unfoldable pub with_site : Linking → ℕ → List ℕ → Site → List ℕ
-with_site l o file site =
-    with_new_field l o site (new_field site.form (choice l o site))
-    (rewritten (in_file l o site) (choice l o site) file)
+with_site l o bytes site =
+    with_new_field l o site (new_field site.form (choice l o site)) (rewritten site (choice l o site) bytes)
 
--- likewise for the objects from number o on, which have these sites
-abbrev pub with_sites_from : Linking → ℕ → List (List Site) → List ℕ → List ℕ
-with_sites_from l o [] file = file
-with_sites_from l o (own ∷ more) file = with_sites_from l (o + 1) more (fold (with_site l o) file own)
+-- the sites of section t
+abbrev pub sites_in : List Site → ℕ → List Site
+sites_in sites t = filter (λ (site : Site). site.section == t) sites
+
+-- ** a section
+
+-- these bytes of section t of object o with all its fields, and then its sequences
+abbrev pub linked : Linking → ℕ → ℕ → List ℕ → List ℕ
+linked l o t bytes =
+    fold (with_site l o) (fold (with_field l o t) bytes (relocations (object l o) t)) (sites_in (sites_at l o) t)
+
+unfoldable pub linked_section : Linking → ℕ → ℕ → List ℕ
+linked_section l o t = linked l o t (memory_bytes (object l o) t)
 
 -- ** the file
 
 unfoldable pub file : Linking → List ℕ
-file l = with_sites_from l 0 l.sites (with_fields_from l 0 l.objects (raw_file l))
+file l = with_stub l (with_got l (sections_file (layout l) (linked_section l) l.objects))

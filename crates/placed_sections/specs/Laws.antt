@@ -1,17 +1,21 @@
 -- What the file of sections holds, offset by offset, whatever lays it out.
-use Rattle.std.specs.Prelude.{◌≡◌, ◌+◌, ◌<◌, ◌≤◌, ◌⊎◌, ℕ, true, List, [], Some, length, slice_get, slice_index_or}
+use Rattle.std.specs.Prelude.{◌≡◌, ◌+◌, ◌<◌, ◌≤◌, ◌^◌, ◌⊎◌, ℕ, IsSome, true, List, [], Some, length, slice_get, slice_index_or}
 use Rattle.std.specs.Prelude.{nat_lt, if◌then◌else◌}
 use Rattle.std.specs.List.{All}
+use Rattle.std.specs.Option.{IfSome}
 use Rattle.object_faults.specs.declared.class.SectionClass.TheVariants.{Executable, ReadOnly, Tls, Writable}
 use Rattle.elf_object.specs.Faults.{IsObject}
-use Rattle.elf_object.specs.Lent.{section_bytes, section_size}
+use Rattle.elf_object.specs.Lent.{section_class, section_size}
 use Rattle.link_faults.specs.declared.image_kind.ImageKind.{ImageKind}
 use Rattle.link_faults.specs.ImageKinds.{base_of}
 use Rattle.tls_layout.specs.declared.extent.Extent.{Extent}
 use Rattle.tls_layout.specs.Laws.{extent_for}
 use Rattle.tls_layout.specs.Places.{address_of, IsLawful}
 use Rattle.tls_layout.specs.Sections.{Layout, layout_of}
-use Rattle.placed_sections.specs.Files.{offset_of, sections_file}
+use Rattle.elf_object.specs.Object.{section_count}
+use Rattle.placed_sections.specs.Files.{AreWhole, Contents, offset_of, sections_file}
+use Rattle.placed_sections.specs.declared.part.OwnSection.{OwnSection}
+use Rattle.placed_sections.specs.declared.part.PlacedPart.{PlacedPart}
 
 -- the end of an extent that has bytes, else the other number
 abbrev pub end_or : Extent → ℕ → ℕ
@@ -24,15 +28,27 @@ sections_end p =
     (end_or (extent_for (Tls true) p)
     (end_or (extent_for ReadOnly p) (end_or (extent_for Executable p) (base_of p.kind))))
 
--- objects that a layout within the limits places
-pub record AreLaid (kind : ImageKind) (objects : List (List ℕ)) : Type 0 where
+-- objects that a layout within the limits places, and what stands in their sections
+pub record AreLaid (kind : ImageKind) (contents : Contents) (objects : List (List ℕ)) : Type 0 where
   pub lawful : IsLawful (layout_of kind objects)
   pub are_objects : All IsObject objects
+  pub whole : AreWhole contents objects
+
+-- a section of one of the objects
+pub record IsOwn (objects : List (List ℕ)) (own : OwnSection) : Type 0 where
+  pub object : own.object < length objects
+  pub section : own.section < section_count (slice_index_or objects own.object [])
+  pub class : IsSome (section_class (slice_index_or objects own.object []) own.section)
+
+-- a part that lies near, and whose section, if it has one, is one of the objects'
+pub record IsNear (objects : List (List ℕ)) (part : PlacedPart) : Type 0 where
+  pub near : part.place ≤ 2 ^ 26
+  pub own : IfSome part.section (IsOwn objects)
 
 -- the file ends where the sections end
 abbrev pub FilesEnd : Type 0
-FilesEnd = (kind : ImageKind) (objects : List (List ℕ)) → AreLaid kind objects
-    → length (sections_file (layout_of kind objects) objects)
+FilesEnd = (kind : ImageKind) (contents : Contents) (objects : List (List ℕ)) → AreLaid kind contents objects
+    → length (sections_file (layout_of kind objects) contents objects)
     ≡ offset_of (layout_of kind objects) (sections_end (layout_of kind objects))
 
 -- section s of object o begins at the address
@@ -40,19 +56,22 @@ abbrev pub StandsAt : ImageKind → List (List ℕ) → ℕ → ℕ → ℕ → 
 StandsAt kind objects o s address =
     (o < length objects) × (address_of (layout_of kind objects) o s ≡ Some address)
 
--- byte k of a section is at its place; it is zero if the section has no bytes in its object's file
+-- byte k of a section is at its place
 abbrev pub SectionsStand : Type 0
-SectionsStand = (kind : ImageKind) (objects : List (List ℕ)) (o s address k : ℕ) → AreLaid kind objects
+SectionsStand = (kind : ImageKind) (contents : Contents) (objects : List (List ℕ)) (o s address k : ℕ)
+    → AreLaid kind contents objects
     → StandsAt kind objects o s address → k < section_size (slice_index_or objects o []) s
-    → slice_get (sections_file (layout_of kind objects) objects) (offset_of (layout_of kind objects) address + k)
-    ≡ Some (slice_index_or (section_bytes (slice_index_or objects o []) s) k 0)
+    → slice_get (sections_file (layout_of kind objects) contents objects)
+    (offset_of (layout_of kind objects) address + k)
+    ≡ slice_get (contents o s) k
 
 -- a section with bytes lies in the file
 abbrev pub SectionsFit : Type 0
-SectionsFit = (kind : ImageKind) (objects : List (List ℕ)) (o s address : ℕ) → AreLaid kind objects
+SectionsFit = (kind : ImageKind) (contents : Contents) (objects : List (List ℕ)) (o s address : ℕ)
+    → AreLaid kind contents objects
     → StandsAt kind objects o s address → 0 < section_size (slice_index_or objects o []) s
     → offset_of (layout_of kind objects) address + section_size (slice_index_or objects o []) s
-    ≤ length (sections_file (layout_of kind objects) objects)
+    ≤ length (sections_file (layout_of kind objects) contents objects)
 
 -- the offset k belongs to no section
 abbrev pub IsOutside : ImageKind → List (List ℕ) → ℕ → Type 0
@@ -62,6 +81,7 @@ IsOutside kind objects k = (o s address : ℕ) → StandsAt kind objects o s add
 
 -- all other bytes are zero
 abbrev pub GapsAreZero : Type 0
-GapsAreZero = (kind : ImageKind) (objects : List (List ℕ)) (k : ℕ) → AreLaid kind objects
-    → k < length (sections_file (layout_of kind objects) objects) → IsOutside kind objects k
-    → slice_get (sections_file (layout_of kind objects) objects) k ≡ Some 0
+GapsAreZero = (kind : ImageKind) (contents : Contents) (objects : List (List ℕ)) (k : ℕ)
+    → AreLaid kind contents objects
+    → k < length (sections_file (layout_of kind objects) contents objects) → IsOutside kind objects k
+    → slice_get (sections_file (layout_of kind objects) contents objects) k ≡ Some 0
