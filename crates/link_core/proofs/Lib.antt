@@ -27,11 +27,6 @@ pub mod LoadsTls
 pub mod NamesHeld
 pub mod NewFields
 pub mod Overflows
-pub mod PartFields
-pub mod PartSites
-pub mod PartSplit
-pub mod PartSteps
-pub mod PartsWritten
 pub mod Relatives
 pub mod RelativesApart
 pub mod RelativesFields
@@ -58,4 +53,3 @@ pub mod WritingFields
 pub mod WritingParts
 pub mod WritingRoom
 pub mod WritingSites
-pub mod WritingWalks

@@ -1,5 +1,5 @@
 -- What one relocation writes.
-use Rattle.std.proofs.Common.{◌≡◌, ◌≢◌, ◌<◌, ◌∙◌, ◌-◌, ◌&&◌, ℕ, Bool, true, false, List, [], ◌∷◌, Some, None, length}
+use Rattle.std.proofs.Common.{◌≡◌, ◌≢◌, ◌<◌, ◌∙◌, ◌&&◌, ℕ, Bool, true, false, List, [], ◌∷◌, Some, None, length}
 use Rattle.std.proofs.Common.{refl, sym, ap, subst, arith}
 use Rattle.std.specs.List.{Contains}
 use Rattle.std.proofs.lemmas.List.Elements.{All-contains}
@@ -10,15 +10,14 @@ use Rattle.elf_object.specs.Lawful.{IsLawful}
 use Rattle.elf_object.specs.LawsOfRelocations.{lawful as relocations_lawful}
 use Rattle.elf_object.specs.Lent.{relocations}
 use Rattle.elf_object.specs.Parts.{symbol_count}
-use Rattle.placed_sections.specs.Files.{offset_of}
 use Rattle.tls_relocs.specs.declared.fields.Field.{Field}
 use Rattle.tls_relocs.specs.declared.fields.Field.TheVariants.{Empty}
 use Rattle.tls_relocs.specs.Fields.{field_patch}
 use Rattle.tls_relocs.specs.Patches.{patched}
 use Rattle.tls_relocs.specs.Values.{stored_field}
 use Rattle.link_needs.specs.declared.symbol_values.SymbolValue.{SymbolValue}
-use Rattle.link_needs.specs.Linking.{Linking, binding, layout, object, place}
-use Rattle.link_core.specs.Parts.{part_with_field}
+use Rattle.link_needs.specs.Linking.{Linking, binding, object, place}
+use Rattle.link_core.specs.Bytes.{with_field}
 use Rattle.link_needs.specs.Given.{IsGiven}
 use Rattle.link_needs.specs.Plans.{goes_by, value_of}
 use Rattle.link_tables.specs.Faults.{IsFilled, IsOverflow}
@@ -43,25 +42,21 @@ module _ (l : Linking) (o t : ℕ) (r : Relocation) where
       ap (λ b. is_rewriting l && b) (sym (takes_part l o r)) ∙ ap (λ x. is_rewriting l && goes_by x r.kind) (sym e)
 
   -- one that goes with its sequence writes nothing
-  pub replaced_writes : (from : ℕ) (part : List ℕ) → is_replaced l o r ≡ true
-      → part ≡ part_with_field l from o t part r
-  replaced_writes from part e = rw e refl
+  pub replaced_writes : (bytes : List ℕ) → is_replaced l o r ≡ true → bytes ≡ with_field l o t bytes r
+  replaced_writes bytes e = rw e refl
 
   pub replaced_fills : is_replaced l o r ≡ true → IsFilled l o t r
   replaced_fills e wrong = let no = wrong.0 in cc
 
   -- one with a field writes it
-  pub field_writes : (from : ℕ) (part : List ℕ) (value : Field) → is_replaced l o r ≡ false
-      → Some value ≡ field l o t r
-      → patched (field_patch (offset_of (layout l) (place l o t r.offset) - from) value ∷ []) part
-      ≡ part_with_field l from o t part r
-  field_writes from part value e is = rw (e, ← is) refl
+  pub field_writes : (bytes : List ℕ) (value : Field) → is_replaced l o r ≡ false → Some value ≡ field l o t r
+      → patched (field_patch r.offset value ∷ []) bytes ≡ with_field l o t bytes r
+  field_writes bytes value e is = rw (e, ← is) refl
 
   -- one whose field does not hold its value writes nothing
-  pub unfit_writes : (from : ℕ) (part : List ℕ) → is_replaced l o r ≡ false → None ≡ field l o t r
-      → part ≡ part_with_field l from o t part r
-  unfit_writes from part e is =
-      rw (e, ← is) (sym (patched_nothing (offset_of (layout l) (place l o t r.offset) - from) Empty part (omega arith)))
+  pub unfit_writes : (bytes : List ℕ) → is_replaced l o r ≡ false → None ≡ field l o t r
+      → bytes ≡ with_field l o t bytes r
+  unfit_writes bytes e is = rw (e, ← is) (sym (patched_nothing r.offset Empty bytes (omega arith)))
 
   pub field_fills : (value : Field) → Some value ≡ field l o t r → IsFilled l o t r
   field_fills value is wrong =
@@ -81,14 +76,13 @@ module _ (l : Linking) (o t : ℕ) (r : Relocation) where
       ≡ stored_field k (own_number l k (binding l o r)) r.addend (place l o t r.offset) (other_number l o r k) in
       subst P (sym e) refl
 
-  pub nothing_writes : (from : ℕ) (part : List ℕ) → r.kind ≡ Nothing → part ≡ part_with_field l from o t part r
-  nothing_writes from part e = of_test (is_replaced l o r) refl
+  pub nothing_writes : (bytes : List ℕ) → r.kind ≡ Nothing → bytes ≡ with_field l o t bytes r
+  nothing_writes bytes e = of_test (is_replaced l o r) refl
     where
-      of_test : (b : Bool) → is_replaced l o r ≡ b → part ≡ part_with_field l from o t part r
-      of_test true is = replaced_writes from part is
+      of_test : (b : Bool) → is_replaced l o r ≡ b → bytes ≡ with_field l o t bytes r
+      of_test true is = replaced_writes bytes is
       of_test false is =
-          sym (patched_nothing (offset_of (layout l) (place l o t r.offset) - from) Empty part (omega arith))
-          ∙ field_writes from part Empty is (none_of e)
+          sym (patched_nothing r.offset Empty bytes (omega arith)) ∙ field_writes bytes Empty is (none_of e)
 
   pub nothing_fills : r.kind ≡ Nothing → IsFilled l o t r
   nothing_fills e = field_fills Empty (none_of e)

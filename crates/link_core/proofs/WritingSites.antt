@@ -1,46 +1,117 @@
--- What one sequence writes.
-use Rattle.std.proofs.Common.{◌≡◌, ◌+◌, ◌-◌, ◌∙◌, ℕ, List, ◌∷◌, Option, Some, None, drop, fold, refl, sym}
-use Rattle.std.proofs.Common.{ap, arith}
+-- What one sequence writes, and which sequences are a section's.
+use Rattle.std.proofs.Common.{◌≡◌, ◌+◌, ◌-◌, ◌<◌, ◌≤◌, ◌==◌, ◌∙◌, ℕ, zero, suc, Bool, true, false, List, [], ◌∷◌, Option}
+use Rattle.std.proofs.Common.{Some, None, drop, get_or, inl, inr, length, refl, sym, take, ap, arith}
+use Rattle.std.specs.List.{AllPairs, Contains}
+use Rattle.std.specs.Prelude.{slice_range}
+use Rattle.std.proofs.Math.Seq.{drop-cons}
+use Rattle.std.proofs.lemmas.Bool.{cases_lt}
+use Rattle.std.proofs.lemmas.Bool.Decides.{nat_tests}
+use Rattle.std.proofs.lemmas.List.Sorted.{IsNonDecreasingBy}
 use Rattle.relax_sites.specs.declared.choices.Choice.{Choice}
 use Rattle.relax_sites.specs.declared.rows.NewField.{NewField}
 use Rattle.relax_sites.specs.Rewriting.{rewritten}
 use Rattle.relax_sites.specs.Rows.{new_field}
-use Rattle.placed_sections.specs.Files.{offset_of}
 use Rattle.sequence_forms.specs.declared.places.Site.{Site}
+use Rattle.sequence_match.specs.Faults.{Before}
 use Rattle.tls_relocs.specs.declared.fields.Field.{Field}
 use Rattle.tls_relocs.specs.declared.fields.Field.TheVariants.{Empty}
-use Rattle.link_needs.specs.Linking.{Linking, choice, layout, place}
+use Rattle.link_needs.specs.Linking.{Linking, choice, sites_at}
 use Rattle.link_needs.specs.Needs.{new_relocation}
-use Rattle.link_core.specs.Parts.{part_with_field_at, part_with_new_field, part_with_sequence, part_with_site}
-use Rattle.link_core.specs.Parts.{part_with_sites_from}
 use Rattle.link_needs.specs.Values.{field}
+use Rattle.link_core.specs.Bytes.{sites_in, with_new_field, with_site, with_value}
 use Rattle.link_core.proofs.WritingRoom.{patched_nothing}
 
-module _ (l : Linking) (from o : ℕ) (site : Site) (part : List ℕ) where
+-- ** one sequence
+
+module _ (l : Linking) (o : ℕ) (site : Site) (bytes : List ℕ) where
   -- the new field, where its value fits it; else nothing
-  pub new_writes : (f : NewField) (value : Option Field)
-      → value ≡ field l o site.section (new_relocation site f)
-      → part_with_field_at l from o site.section (site.start + f.at) value part
-      ≡ part_with_new_field l from o site (Some f) part
+  pub new_writes : (f : NewField) (value : Option Field) → value ≡ field l o site.section (new_relocation site f)
+      → with_value (site.start + f.at) value bytes ≡ with_new_field l o site (Some f) bytes
   new_writes f value is = rw is refl
 
   pub new_skips : (f : NewField) → None ≡ field l o site.section (new_relocation site f)
-      → part ≡ part_with_new_field l from o site (Some f) part
+      → bytes ≡ with_new_field l o site (Some f) bytes
   new_skips f is =
-      let at = offset_of (layout l) (place l o site.section (site.start + f.at)) - from in
-      sym (patched_nothing at Empty part (omega arith)) ∙ new_writes f None is
+      sym (patched_nothing (site.start + f.at) Empty bytes (omega arith)) ∙ new_writes f None is
 
   -- the sequence, and then its field
-  pub site_writes : (chosen : Choice) (new : Option NewField) (start : ℕ) → chosen ≡ choice l o site
-      → new ≡ new_field site.form chosen → start ≡ offset_of (layout l) (place l o site.section site.start) - from
-      → part_with_new_field l from o site new (rewritten (record site { start = start }) chosen part)
-      ≡ part_with_sequence l from o part site
-  unfolding part_with_sequence
-  site_writes chosen new start is field at = rw (field, at, is) refl
+  pub site_writes : (chosen : Choice) (new : Option NewField) → chosen ≡ choice l o site
+      → new ≡ new_field site.form chosen
+      → with_new_field l o site new (rewritten site chosen bytes) ≡ with_site l o bytes site
+  unfolding with_site
+  site_writes chosen new is field = rw (field, is) refl
 
--- the sequences of an object, and then those of the objects behind it
-module _ (l : Linking) (from : ℕ) (to : Option ℕ) (part : List ℕ) (sites : List (List Site)) (n : ℕ) where
-  pub sites_step : (own : List Site) → drop n sites ≡ own ∷ drop (n + 1) sites
-      → part_with_sites_from l from to (n + 1) (drop (n + 1) sites) (fold (part_with_site l from to n) part own)
-      ≡ part_with_sites_from l from to n (drop n sites) part
-  sites_step own here = ap (λ all. part_with_sites_from l from to n all part) (sym here)
+-- a site of an object, by its number
+pub entry_has : (l : Linking) (o n : ℕ) (site : Site) → n < length (sites_at l o) → site ≡ get_or (sites_at l o) n site
+    → Contains (sites_at l o) site
+entry_has l o n site there is = (n, there, sym is)
+
+-- ** those of a section
+
+-- sections rise
+pub sites_rise : (sites : List Site) → AllPairs Before sites → IsNonDecreasingBy (λ (site : Site). site.section) sites
+sites_rise sites pairs i j d most inside = elim (cases_lt i j) [
+  | inl less ↦ elim (pairs i j d less inside) [
+    | inl lower ↦ omega arith
+    | inr same ↦ omega (arith, same.0)
+  ]
+  | inr here ↦ let same : i ≡ j = omega arith in rw same (omega arith)
+]
+
+-- n sites from number `from` on are all of the section's
+pub record AreBetween (t : ℕ) (sites : List Site) (from n : ℕ) : Type 0 where
+  pub below : (k : ℕ) (d : Site) → k < from → (get_or sites k d).section < t
+  pub above : (k : ℕ) (d : Site) → from ≤ k → k < length sites → t ≤ (get_or sites k d).section
+  pub upto : (k : ℕ) (d : Site) → k < from + n → (get_or sites k d).section ≤ t
+  pub past : (k : ℕ) (d : Site) → from + n ≤ k → k < length sites → t < (get_or sites k d).section
+
+other_section : (m t : ℕ) → (m < t) ⊎ (t < m) → (m == t) ≡ false
+other_section m t (inl less) = grind (arith, nat_tests)
+other_section m t (inr more) = grind (arith, nat_tests)
+
+own_section : (m t : ℕ) → m ≤ t → t ≤ m → (m == t) ≡ true
+own_section m t most least = grind (arith, nat_tests)
+
+pub sites_between : (t : ℕ) (sites : List Site) (from n : ℕ) → from + n ≤ length sites → AreBetween t sites from n
+    → take n (drop from sites) ≡ sites_in sites t
+sites_between t [] zero zero fits are = refl
+sites_between t [] zero (suc n) fits are = absurd (omega arith)
+sites_between t [] (suc from) n fits are = absurd (omega arith)
+sites_between t (x ∷ xs) (suc from) n fits are =
+    let other = other_section x.section t (inl (are.below 0 x (omega arith))) in
+    rw other (sites_between t xs from n (omega arith) (record {
+      below = λ k d low. are.below (suc k) d (omega arith);
+      above = λ k d low high. are.above (suc k) d (omega arith) (omega arith);
+      upto = λ k d low. are.upto (suc k) d (omega arith);
+      past = λ k d low high. are.past (suc k) d (omega arith) (omega arith);
+    }))
+sites_between t (x ∷ xs) zero (suc n) fits are =
+    let own = own_section x.section t (are.upto 0 x (omega arith)) (are.above 0 x (omega arith) (omega arith)) in
+    rw own (ap (λ (sites : List Site). x ∷ sites) (sites_between t xs zero n (omega arith) (record {
+      below = λ k d low. absurd (omega arith);
+      above = λ k d low high. are.above (suc k) d (omega arith) (omega arith);
+      upto = λ k d low. are.upto (suc k) d (omega arith);
+      past = λ k d low high. are.past (suc k) d (omega arith) (omega arith);
+    })))
+sites_between t (x ∷ xs) zero zero fits are =
+    let other = other_section x.section t (inr (are.past 0 x (omega arith) (omega arith))) in
+    rw other (sites_between t xs zero zero (omega arith) (record {
+      below = λ k d low. absurd (omega arith);
+      above = λ k d low high. are.above (suc k) d (omega arith) (omega arith);
+      upto = λ k d low. absurd (omega arith);
+      past = λ k d low high. are.past (suc k) d (omega arith) (omega arith);
+    }))
+
+-- one of a range, and those behind it
+pub range_first : (sites : List Site) (n end : ℕ) (d : Site) → n < end → end ≤ length sites
+    → slice_range sites n end ≡ get_or sites n d ∷ slice_range sites (n + 1) end
+range_first sites n end d some fits =
+    let next : suc n ≡ n + 1 = omega arith in
+    let more : end - n ≡ suc (end - (n + 1)) = omega arith in
+    ap (λ m. take m (drop n sites)) more
+    ∙ ap (take (suc (end - (n + 1)))) (drop-cons sites n d (omega arith))
+    ∙ ap (λ m. get_or sites n d ∷ take (end - (n + 1)) (drop m sites)) next
+
+pub range_none : (sites : List Site) (n end : ℕ) → end ≤ n → slice_range sites n end ≡ []
+range_none sites n end none =
+    let zero : end - n ≡ 0 = omega arith in ap (λ m. take m (drop n sites)) zero

@@ -1,24 +1,34 @@
 //! The bytes of an image's file, without its headers and its dynamic tables.
 
-ghost use Rattle.std.specs.Prelude.{◌≡◌, ◌<◌, ◌-◌, ◌^◌, ◌++◌, IfOk, OnOk, length};
+ghost use Rattle.std.specs.Prelude.{◌≡◌, ◌+◌, ◌<◌, ◌≤◌, ◌-◌, ◌^◌, ◌++◌, IfOk, OnOk, length};
 ghost use Rattle.std.specs.List.{flat_map};
 ghost use Rattle.elf_records.specs.Fields.{bytes_of};
 ghost use Rattle.got_pairs.specs.Entries.{words};
-ghost use Rattle.placed_sections.specs.Files.{sections_file};
+ghost use Rattle.link_faults.specs.ImageKinds.{base_of};
+ghost use Rattle.placed_sections.specs.Files.{offset_of as file_offset};
 ghost use Rattle.tls_relocs.specs.Fields.{field_bytes};
 ghost use Rattle.tls_relocs.specs.Laid.{zeros};
 ghost use Rattle.link_needs.specs.Linking.{layout};
-ghost use Rattle.link_core.specs.Bytes.{file as file_of_link, raw_file as raw_file_of};
-ghost use Rattle.link_core.specs.Bytes.{table_bytes, with_got, with_stub};
+ghost use Rattle.link_core.specs.Bytes.{file as file_of_link, table_bytes, with_got, with_stub};
 
-use crate::parts::write_parts;
-use crate::writing::place_in_file;
+use crate::pieces::push_parts;
 use elf_object::RelocationKind;
 use got_pairs::{Entry, GotPlan, Need, Word};
 use link_needs::Plan;
-use std::alloc::AllocError;
+use placed_sections::{first_page, offset_of, place_sections};
+use std::alloc::{AllocError, Global};
 use std::thread::Threads;
 use tls_relocs::{Field, value};
+
+/// Where the byte of an address stands in the file.
+fn place_in_file(plan: &Plan, address: u64) -> u64
+    requires from_base { base_of plan.now.kind ≤ address + 4096 }
+    requires fits { address + 4096 < 2 ^ 64 }
+    ensures { result ≡ file_offset (layout plan.now) address }
+{
+    let inputs = &plan.inputs;
+    offset_of(inputs.kind, address)
+}
 
 /// Adds zeros to the file, up to an offset.
 fn pad(file: &mut Vec<u8>, offset: u64) -> Result<(), AllocError>
@@ -104,28 +114,17 @@ fn push_stub(plan: &Plan, file: &mut Vec<u8>) -> Result<(), AllocError>
     }
 }
 
-/// Adds the offset table and the stub to the sections of a link. Fields are not written yet.
-#[tactic(auto, unfolding(crate::specs::Bytes::raw_file))]
-fn raw_file(plan: &Plan, mut sections: Vec<u8>) -> Result<Vec<u8>, AllocError>
-    requires { sections.items ≡ sections_file (layout plan.now) plan.now.objects }
-    ensures { IfOk result (λ file. file.items ≡ raw_file_of plan.now) }
-{
-    push_got(plan, &mut sections)?;
-    push_stub(plan, &mut sections)?;
-    Ok(sections)
-}
-
-/// The file of a link whose sections are laid out. A field that can't hold its value is left as it was.
+/// The file of a link. A field that can't hold its value is left as it was.
 #[tactic(auto, unfolding(crate::specs::Bytes::file))]
-pub fn file_of<R: Threads + Sync>(
-    rt: &R,
-    plan: &Plan,
-    sections: Vec<u8>,
-) -> Result<Vec<u8>, AllocError>
-    requires { sections.items ≡ sections_file (layout plan.now) plan.now.objects }
+pub fn file_of<R: Threads + Sync>(rt: &R, alloc: Global, plan: &Plan) -> Result<Vec<u8>, AllocError>
     ensures { IfOk result (λ file. file.items ≡ file_of_link plan.now) }
 {
-    let mut file = raw_file(plan, sections)?;
-    write_parts(rt, plan, file.as_mut_slice());
+    plan.is_given();
+    let inputs = &plan.inputs;
+    let parts = place_sections(alloc, &inputs.placement, inputs.objects)?;
+    let mut file = first_page(alloc, &inputs.placement)?;
+    push_parts(rt, alloc, plan, parts.as_slice(), &mut file)?;
+    push_got(plan, &mut file)?;
+    push_stub(plan, &mut file)?;
     Ok(file)
 }

@@ -65,9 +65,9 @@ pub mod laws;
 mod linked;
 mod linking;
 mod overflow;
-mod parts;
+mod pieces;
 mod ready;
-mod writing;
+mod sections;
 
 pub use linked::Linked;
 pub use linking::link;

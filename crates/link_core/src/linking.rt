@@ -4,8 +4,7 @@ ghost use Rattle.std.specs.Prelude.{◌≡◌, ◌-◌, ◌<◌, ◌^◌, ℕ, [
 ghost use Rattle.image_writer.specs.Contents.{contents_of};
 ghost use Rattle.sequence_match.specs.Faults.{AreSites};
 ghost use Rattle.tls_symbols.specs.Bindings.{object_at};
-ghost use Rattle.placed_sections.specs.Files.{sections_file};
-ghost use Rattle.link_needs.specs.Linking.{layout, link_of};
+ghost use Rattle.link_needs.specs.Linking.{link_of};
 ghost use Rattle.link_core.specs.Bytes.{file as file_of_link};
 ghost use Rattle.link_tables.specs.Dynamic.{image_relocations, names, symbols as symbols_of_link};
 ghost use Rattle.link_tables.specs.Faults.{names_in, symbols_in, IsLinkFault, IsSound, Links};
@@ -21,9 +20,8 @@ use elf_object::Object;
 use image_file::{Image, ImageRelocation};
 use image_writer::{Draft, NamedSymbol, PartPlace, image_of};
 use link_faults::{ImageKind, LinkFault};
-use link_needs::{Inputs, Plan};
+use link_needs::Inputs;
 use link_tables::{Tables, relocations, symbols};
-use placed_sections::lay_sections;
 use sequence_match::Site;
 use std::alloc::{AllocError, Global};
 use std::thread::Threads;
@@ -79,22 +77,12 @@ fn finished(alloc: Global, tables: &Tables, file: Vec<u8>) -> Result<Image, Allo
     image_of(alloc, &draft, file)
 }
 
-/// Lays the sections of a link out in a file.
-fn laid(alloc: Global, plan: &Plan) -> Result<Vec<u8>, AllocError>
-    ensures { IfOk result (λ file. file.items ≡ sections_file (layout plan.now) plan.now.objects) }
-{
-    let inputs = &plan.inputs;
-    lay_sections(alloc, &inputs.placement, inputs.objects)
-}
-
 /// The image of a link.
 fn image<R: Threads + Sync>(rt: &R, alloc: Global, tables: &Tables) -> Result<Image, AllocError>
     requires { IsSound tables.now }
     ensures { IfOk result (λ image. image ≡ image_of_link tables.now) }
 {
-    let plan = &tables.plan;
-    let sections = laid(alloc, plan)?;
-    let file = file_of(rt, plan, sections)?;
+    let file = file_of(rt, alloc, &tables.plan)?;
     finished(alloc, tables, file)
 }
 

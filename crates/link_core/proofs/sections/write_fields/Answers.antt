@@ -3,9 +3,9 @@ use Rattle.std.specs.List.{Contains}
 use Rattle.elf_object.specs.Lent.{relocations}
 use Rattle.tls_symbols.proofs.Search.{rest_all_of}
 use Rattle.link_needs.specs.Linking.{object}
-use Rattle.link_core.specs.Parts.{part_with_field}
+use Rattle.link_core.specs.Bytes.{with_field}
 use Rattle.link_tables.proofs.ListedFields.{all_contained}
-use Rattle.link_core.proofs.writing.write_section.Goals as goal
+use Rattle.link_core.proofs.sections.write_fields.Goals as goal
 
 pub loop-relocation-init : goal.loop-relocation-init
 loop-relocation-init c =
@@ -15,7 +15,7 @@ loop-relocation-init c =
     let same : c.into_iter-relocation-iterator.result ≡ all = cc in (
       tt,
       tt,
-      ap (fold (part_with_field l c.args.from c.args.own.object t) c.args.bytes.now) same,
+      ap (fold (with_field l c.args.own.object t) c.args.bytes.now) same,
       refl,
       all_contained c.into_iter-relocation-iterator.result all same,
     )
@@ -30,8 +30,8 @@ loop-relocation-preserved c =
     let first = c.in-Some.ensures.steps in (
       tt,
       tt,
-      ap (λ part. fold (part_with_field l c.args.from o t) part rest) c.write_field.ensures.written
-          ∙ ap (fold (part_with_field l c.args.from o t) c.loop-relocation.bytes) (sym first)
+      ap (λ bytes. fold (with_field l o t) bytes rest) c.write_field.ensures.written
+          ∙ ap (fold (with_field l o t) c.loop-relocation.bytes) (sym first)
           ∙ kept.2,
       c.write_field.ensures.filled ∙ kept.3,
       rest_all_of (Contains (relocations (object l o) t)) c.in-Some.relocation rest

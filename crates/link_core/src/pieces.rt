@@ -1,0 +1,205 @@
+//! The file of the sections, in pieces that threads make side by side. A piece has whole sections.
+
+ghost use Rattle.std.specs.Prelude.{◌≡◌, ◌×◌, ◌+◌, ◌<◌, ◌≤◌, ◌^◌, ◌++◌, All, IfOk, OnOk, length, map};
+ghost use Rattle.std.specs.Thread.{IsSync};
+ghost use Rattle.std.specs.List.{concat};
+ghost use Rattle.placed_sections.specs.Files.{bytes_in};
+ghost use Rattle.placed_sections.specs.Laws.{IsNear, IsOwn};
+ghost use Rattle.link_core.specs.Bytes.{linked_section};
+ghost use Rattle.link_core.specs.Pieces.{laid_parts, with_next, Rise};
+
+use crate::sections::link_section;
+use link_needs::Plan;
+use placed_sections::{OwnSection, PlacedPart};
+use std::alloc::{AllocError, Global};
+use std::thread::{Threads, join};
+
+/// Parts that span this many bytes are halved: each half is worth a thread of its own.
+const WORTH_TWO_THREADS: u64 = 1 << 18;
+
+/// How many times parts are halved at most.
+const HALVINGS: u32 = 3;
+
+/// Parts that span this many bytes are made, and put into the file, before the next.
+const ROUND: u64 = 1 << 22;
+
+/// Appends the bytes of a section, linked.
+fn push_section(plan: &Plan, own: OwnSection, piece: &mut Vec<u8>) -> Result<(), AllocError>
+    requires { IsOwn plan.now.objects own }
+    ensures { OnOk result (piece.new.items ≡ piece.old.items ++ linked_section plan.now own.object own.section) }
+{
+    let Some(part) = plan.inputs.object(own.object).section(own.section) else {
+        return Ok(());
+    };
+    let start = piece.len();
+    piece.extend_from_slice(part.bytes)?;
+    piece.resize(start + part.size as usize, 0)?;
+    link_section(plan, own, &mut piece.as_mut_slice()[start..]);
+    Ok(())
+}
+
+/// Appends zeros up to a part, and its bytes. The piece begins at offset `from` of the file.
+fn push_part(
+    plan: &Plan,
+    part: &PlacedPart,
+    from: usize,
+    piece: &mut Vec<u8>,
+) -> Result<(), AllocError>
+    requires { IsNear plan.now.objects part.now }
+    ensures { OnOk result (piece.new.items ≡ with_next plan.now from piece.old.items part.now) }
+{
+    let gap = (part.place as usize)
+        .saturating_sub(from)
+        .saturating_sub(piece.len());
+    piece.resize(piece.len() + gap, 0)?;
+    match part.section {
+        Some(own) => push_section(plan, own, piece),
+        None => Ok(()),
+    }
+}
+
+/// The bytes of some parts, from offset `from` of the file on.
+fn piece_of(
+    alloc: Global,
+    plan: &Plan,
+    parts: &[PlacedPart],
+    from: usize,
+) -> Result<Vec<u8>, AllocError>
+    requires near { All (IsNear plan.now.objects) parts.now }
+    requires rise { Rise plan.now from parts.now }
+    ensures { IfOk result (λ piece. piece.items ≡ laid_parts plan.now from parts.now) }
+{
+    let mut piece = Vec::new(alloc);
+    for part in parts {
+        push_part(plan, part, from, &mut piece)?;
+    }
+    Ok(piece)
+}
+
+/// How many bytes lie between the first part and the last.
+fn span(parts: &[PlacedPart]) -> u64 {
+    match (parts.first(), parts.last()) {
+        (Some(first), Some(last)) => last.place.saturating_sub(first.place),
+        _ => 0,
+    }
+}
+
+/// How many parts begin less than this many bytes behind the first.
+fn count_within(parts: &[PlacedPart], bytes: u64) -> usize
+    ensures { result ≤ length parts.now }
+{
+    let Some(first) = parts.first() else {
+        return 0;
+    };
+    let end = first.place.saturating_add(bytes);
+    parts.partition_point(|part| part.place < end)
+}
+
+/// Where a part ends.
+fn end_of(plan: &Plan, part: &PlacedPart) -> usize
+    requires { IsNear plan.now.objects part.now }
+    ensures { result ≡ part.now.place + length (bytes_in (linked_section plan.now) part.now.section) }
+{
+    let size = match part.section {
+        Some(own) => match plan.inputs.object(own.object).section(own.section) {
+            Some(section) => section.size as usize,
+            None => 0,
+        },
+        None => 0,
+    };
+    part.place as usize + size
+}
+
+/// The pieces of some parts, from offset `from` of the file on, by as many threads as they are worth.
+#[cycle(halves)]
+fn pieces<R: Threads + Sync>(
+    rt: &R,
+    alloc: Global,
+    plan: &Plan,
+    parts: &[PlacedPart],
+    from: usize,
+    halvings: u32,
+) -> Result<Vec<Vec<u8>>, AllocError>
+    requires near { All (IsNear plan.now.objects) parts.now }
+    requires rise { Rise plan.now from parts.now }
+    ensures { IfOk result (λ all. concat (map (λ piece. piece.items) all.items) ≡ laid_parts plan.now from parts.now) }
+{
+    let cut = count_within(parts, span(parts) / 2 + 1);
+    if halvings == 0 || cut == 0 || span(parts) < WORTH_TWO_THREADS {
+        let piece = piece_of(alloc, plan, parts, from)?;
+        return vec![in alloc; piece];
+    }
+    let (front, back) = parts.split_at(cut);
+    let middle = end_of(plan, &front[cut - 1]);
+    let fewer = halvings - 1;
+    let first = move || -> Result<Vec<Vec<u8>>, AllocError>
+        requires { IsSync R.row × All (IsNear plan.entry.now.objects) front.now × Rise plan.entry.now from front.now }
+        ensures { IfOk result (λ all. concat (map (λ piece. piece.items) all.items)
+            ≡ laid_parts plan.entry.now from front.now) }
+    { pieces(rt, alloc, plan, front, from, fewer) };
+    let second = move || -> Result<Vec<Vec<u8>>, AllocError>
+        requires { IsSync R.row × All (IsNear plan.entry.now.objects) back.now × Rise plan.entry.now middle back.now }
+        ensures { IfOk result (λ all. concat (map (λ piece. piece.items) all.items)
+            ≡ laid_parts plan.entry.now middle back.now) }
+    { pieces(rt, alloc, plan, back, middle, fewer) };
+    let (first, second) = join(rt, first, second);
+    joined(first?, second?)
+}
+
+/// Both lists of pieces, one after the other.
+fn joined(mut front: Vec<Vec<u8>>, mut back: Vec<Vec<u8>>) -> Result<Vec<Vec<u8>>, AllocError>
+    ensures { IfOk result (λ all. all.items ≡ front.items ++ back.items) }
+{
+    front.append(&mut back)?;
+    Ok(front)
+}
+
+/// Appends pieces to the file.
+fn push_pieces(pieces: &[Vec<u8>], file: &mut Vec<u8>) -> Result<(), AllocError>
+    ensures { OnOk result (file.new.items ≡ file.old.items ++ concat (map (λ piece. piece.items) pieces.now)) }
+{
+    for piece in pieces {
+        file.extend_from_slice(piece.as_slice())?;
+    }
+    Ok(())
+}
+
+/// Appends some parts to the file. Threads make them side by side.
+fn push_round<R: Threads + Sync>(
+    rt: &R,
+    alloc: Global,
+    plan: &Plan,
+    parts: &[PlacedPart],
+    file: &mut Vec<u8>,
+) -> Result<(), AllocError>
+    requires near { All (IsNear plan.now.objects) parts.now }
+    requires rise { Rise plan.now (length file.old.items) parts.now }
+    ensures { OnOk result
+        (file.new.items ≡ file.old.items ++ laid_parts plan.now (length file.old.items) parts.now) }
+{
+    let pieces = pieces(rt, alloc, plan, parts, file.len(), HALVINGS)?;
+    push_pieces(pieces.as_slice(), file)
+}
+
+/// Appends all parts to the file, round by round.
+pub fn push_parts<R: Threads + Sync>(
+    rt: &R,
+    alloc: Global,
+    plan: &Plan,
+    parts: &[PlacedPart],
+    file: &mut Vec<u8>,
+) -> Result<(), AllocError>
+    requires near { All (IsNear plan.now.objects) parts.now }
+    requires rise { Rise plan.now (length file.old.items) parts.now }
+    ensures { OnOk result
+        (file.new.items ≡ file.old.items ++ laid_parts plan.now (length file.old.items) parts.now) }
+{
+    let mut done = 0;
+    while done < parts.len() {
+        let rest = &parts[done..];
+        let count = count_within(rest, ROUND).max(1);
+        push_round(rt, alloc, plan, &rest[..count], file)?;
+        done += count;
+    }
+    Ok(())
+}
