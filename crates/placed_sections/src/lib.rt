@@ -37,6 +37,8 @@
 #![tactic(auto)]
 
 pub mod laws;
-mod laying;
+mod part;
+mod placing;
 
-pub use laying::{lay_sections, offset_of};
+pub use part::{OwnSection, PlacedPart};
+pub use placing::{first_page, offset_of, place_sections};
