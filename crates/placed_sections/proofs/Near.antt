@@ -1,24 +1,21 @@
 -- Sections lie near the start of the file, and each is one of the objects'.
-use Rattle.std.proofs.Common.{◌≡◌, ◌+◌, ◌-◌, ◌<◌, ◌≤◌, ◌^◌, ◌&&◌, ℕ, zero, suc, Bool, true, false, List, [], ◌∷◌, ◌++◌, length, drop, slice_index_or, Option, Some, None, IsSome, refl, sym, subst, arith}
+use Rattle.std.proofs.Common.{◌≡◌, ◌+◌, ◌<◌, ◌≤◌, ◌^◌, ◌&&◌, ℕ, zero, suc, Bool, true, false, List, [], ◌∷◌, length, drop, slice_index_or, Option, Some, None, IsSome, refl, sym, subst, arith}
 use Rattle.std.specs.Prelude.{nat_lt, unwrap_or, if◌then◌else◌}
 use Rattle.std.specs.List.{All, flat_map, range_with_len}
-use Rattle.std.specs.Option.{IfSome}
 use Rattle.std.proofs.lemmas.List.Elements.{All-append, All-cons, All-nil}
 use Rattle.object_faults.specs.declared.class.SectionClass.{SectionClass}
 use Rattle.object_faults.specs.declared.class.SectionClass.TheVariants.{Executable, ReadOnly, Tls, Writable}
 use Rattle.elf_object.specs.Lent.{section_class, section_size}
 use Rattle.elf_object.specs.Object.{section_count}
-use Rattle.link_faults.specs.declared.image_kind.ImageKind.{ImageKind}
 use Rattle.link_faults.specs.ImageKinds.{base_of}
 use Rattle.tls_layout.specs.Laws.{extent_for}
 use Rattle.tls_layout.specs.Places.{address_of, IsLawful}
-use Rattle.tls_layout.specs.Sections.{Layout, layout_of, is_class}
+use Rattle.tls_layout.specs.Sections.{Layout, is_class}
 use Rattle.tls_layout.proofs.Bounds.{address_bounds, extent_bounds}
-use Rattle.placed_sections.specs.declared.part.OwnSection.{OwnSection}
 use Rattle.placed_sections.specs.declared.part.PlacedPart.{PlacedPart}
 use Rattle.placed_sections.specs.Files.{offset_of, placed, placed_class, placed_section, placed_object, placed_from, end_mark}
-use Rattle.placed_sections.specs.Laws.{IsNear, IsOwn}
-use Rattle.placed_sections.proofs.Rising.{class_is, dropped_is}
+use Rattle.placed_sections.specs.Laws.{IsNear}
+use Rattle.placed_sections.proofs.Rising.{dropped_is}
 
 module _ (objects : List (List ℕ)) (p : Layout) (lawful : IsLawful p) where
   -- the part that is named, if there is one

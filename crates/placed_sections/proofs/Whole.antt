@@ -148,9 +148,6 @@ module _ (kind : ImageKind) (contents : Contents) (objects : List (List ℕ)) (a
       let u4 = upto_more _ (placed_class (filled contents) p objects (Writable true)) x4 e3 u3 initial_data_lies t4 b4 in
       upto_more _ (placed_class (filled contents) p objects (Writable false)) x5 e4 u4 zero_data_lies t5 b5
 
-  placed_are : ((((([] ++ placed_class (filled contents) p objects Executable) ++ placed_class (filled contents) p objects ReadOnly) ++ placed_class (filled contents) p objects (Tls true)) ++ placed_class (filled contents) p objects (Writable true)) ++ placed_class (filled contents) p objects (Writable false)) ≡ placed (filled contents) p objects
-  placed_are = classes_placed (filled contents) p objects
-
   end_are : end_or (zero_data kind p.sections) (end_or (initial_data kind p.sections) (end_or (tls_image kind p.sections) (end_or (read_only kind p.sections) (end_or (executable kind p.sections) (base_of kind)))))
       ≡ sections_end p
   unfolding sections_end
@@ -158,7 +155,7 @@ module _ (kind : ImageKind) (contents : Contents) (objects : List (List ℕ)) (a
 
   -- all sections rise from behind the first page
   pub all_rise : Rising 4096 (placed (filled contents) p objects)
-  all_rise = subst (λ xs. Rising 4096 xs) placed_are whole.rising
+  all_rise = subst (λ xs. Rising 4096 xs) (classes_placed (filled contents) p objects) whole.rising
 
   pub all_end : end_of 4096 (placed (filled contents) p objects) ≡ offset_of p (sections_end p)
-  all_end = ap (end_of 4096) (sym placed_are) ∙ whole.ends ∙ ap (offset_of p) end_are
+  all_end = ap (end_of 4096) (sym (classes_placed (filled contents) p objects)) ∙ whole.ends ∙ ap (offset_of p) end_are

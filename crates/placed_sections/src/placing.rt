@@ -9,7 +9,7 @@ ghost use Rattle.placed_sections.specs.Files.{placed_object, placed_section};
 ghost use Rattle.placed_sections.specs.Laws.{IsNear};
 ghost use Rattle.tls_layout.specs.Places.{address_of, IsLawful};
 ghost use Rattle.tls_layout.specs.Sections.{layout_of};
-ghost use Rattle.tls_relocs.specs.Laid.{zeros as zeros_of};
+ghost use Rattle.tls_relocs.specs.Laid.{zeros};
 
 use crate::part::{OwnSection, PlacedPart};
 use elf_object::{Object, SectionClass};
@@ -175,7 +175,7 @@ pub fn place_sections(
 #[tactic(auto, using(tls_layout::proofs::Bounds::room_above))]
 pub fn first_page(alloc: Global, placement: &Placement) -> Result<Vec<u8>, AllocError>
     ensures len { IfOk result (λ file. length file.items ≡ 4096) }
-    ensures zeros { IfOk result (λ file. file.items ≡ zeros_of (length file.items)) }
+    ensures zeros { IfOk result (λ file. file.items ≡ zeros (length file.items)) }
 {
     let mut file = Vec::with_capacity(
         alloc,

@@ -1,7 +1,7 @@
-use Rattle.std.proofs.Common.{◌≡◌, ◌++◌, ◌∙◌, true, false, sym, ap, subst}
+use Rattle.std.proofs.Common.{◌++◌, ◌∙◌, true, false, sym, ap, subst}
 use Rattle.std.specs.List.{All}
 use Rattle.object_faults.specs.declared.class.SectionClass.TheVariants.{Executable, ReadOnly, Tls, Writable}
-use Rattle.placed_sections.specs.Files.{placed, placed_class}
+use Rattle.placed_sections.specs.Files.{placed_class}
 use Rattle.placed_sections.specs.Laws.{IsNear}
 use Rattle.placed_sections.proofs.Laid.{classes_placed}
 use Rattle.placed_sections.proofs.Near.{all_near}
