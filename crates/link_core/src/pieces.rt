@@ -1,6 +1,6 @@
 //! The file of the sections, in pieces that threads make side by side. A piece has whole sections.
 
-ghost use Rattle.std.specs.Prelude.{◌≡◌, ◌×◌, ◌+◌, ◌<◌, ◌≤◌, ◌^◌, ◌++◌, All, IfOk, OnOk, length, map};
+ghost use Rattle.std.specs.Prelude.{◌≡◌, ◌+◌, ◌≤◌, [], ◌∷◌, ◌++◌, All, IfOk, OnOk, length, map};
 ghost use Rattle.std.specs.Thread.{IsSync};
 ghost use Rattle.std.specs.List.{concat};
 ghost use Rattle.placed_sections.specs.Files.{bytes_in};
@@ -32,9 +32,11 @@ fn push_section(plan: &Plan, own: OwnSection, piece: &mut Vec<u8>) -> Result<(),
         return Ok(());
     };
     let start = piece.len();
+    let zeros = part.size as usize - part.bytes.len();
     piece.extend_from_slice(part.bytes)?;
-    piece.resize(start + part.size as usize, 0)?;
-    link_section(plan, own, &mut piece.as_mut_slice()[start..]);
+    piece.resize(piece.len() + zeros, 0)?;
+    let (_, bytes) = piece.as_mut_slice().split_at_mut(start);
+    link_section(plan, own, bytes);
     Ok(())
 }
 
@@ -69,11 +71,20 @@ fn piece_of(
     requires rise { Rise plan.now from parts.now }
     ensures { IfOk result (λ piece. piece.items ≡ laid_parts plan.now from parts.now) }
 {
-    let mut piece = Vec::new(alloc);
+    let mut piece = Vec::with_capacity(alloc, span(parts) as usize)?;
     for part in parts {
         push_part(plan, part, from, &mut piece)?;
     }
     Ok(piece)
+}
+
+/// A list of one piece.
+fn alone(alloc: Global, piece: Vec<u8>) -> Result<Vec<Vec<u8>>, AllocError>
+    ensures { IfOk result (λ all. all.items ≡ piece ∷ []) }
+{
+    let mut all = Vec::new(alloc);
+    all.push(piece)?;
+    Ok(all)
 }
 
 /// How many bytes lie between the first part and the last.
@@ -126,8 +137,7 @@ fn pieces<R: Threads + Sync>(
 {
     let cut = count_within(parts, span(parts) / 2 + 1);
     if halvings == 0 || cut == 0 || span(parts) < WORTH_TWO_THREADS {
-        let piece = piece_of(alloc, plan, parts, from)?;
-        return vec![in alloc; piece];
+        return alone(alloc, piece_of(alloc, plan, parts, from)?);
     }
     let (front, back) = parts.split_at(cut);
     let middle = end_of(plan, &front[cut - 1]);
@@ -143,7 +153,9 @@ fn pieces<R: Threads + Sync>(
             ≡ laid_parts plan.entry.now middle back.now) }
     { pieces(rt, alloc, plan, back, middle, fewer) };
     let (first, second) = join(rt, first, second);
-    joined(first?, second?)
+    let first = first?;
+    let second = second?;
+    joined(first, second)
 }
 
 /// Both lists of pieces, one after the other.

@@ -1,9 +1,10 @@
 //! One section, linked: the fields of its relocations, and the sequences in the place of rewritten ones.
 
-ghost use Rattle.std.specs.Prelude.{◌≡◌, ◌<◌, ◌≤◌, fold, length, slice_index_or, slice_range, unwrap_or};
+ghost use Rattle.std.specs.Prelude.{◌≡◌, ◌<◌, ◌≤◌, ℕ, fold, length, slice_index_or, slice_range, unwrap_or};
 ghost use Rattle.std.specs.List.{AllPairs, Contains};
 ghost use Rattle.elf_object.specs.Lent.{relocations, section_size};
 ghost use Rattle.relax_sites.specs.Rows.{new_field as new_field_of};
+ghost use Rattle.sequence_forms.specs.declared.places.Site.{Site};
 ghost use Rattle.sequence_match.specs.Faults.{Before};
 ghost use Rattle.tls_layout.specs.Places.{address_of};
 ghost use Rattle.tls_symbols.specs.Bindings.{object_at};
@@ -139,6 +140,8 @@ fn write_sequence(
 fn sites_of(sites: &[Site], section: u32) -> (usize, usize)
     requires { AllPairs Before sites.now }
     ensures range { (result.0 ≤ result.1) × (result.1 ≤ length sites.now) }
+    ensures own { (k : ℕ) (d : Site) → result.0 ≤ k → k < result.1
+        → (slice_index_or sites.now k d).section ≡ section }
     ensures sites { slice_range sites.now result.0 result.1 ≡ sites_in sites.now section }
 {
     let first = sites.partition_point(|site| site.section < section);
