@@ -1,12 +1,12 @@
 -- What one sequence writes, and which sequences are a section's.
-use Rattle.std.proofs.Common.{◌≡◌, ◌+◌, ◌-◌, ◌<◌, ◌≤◌, ◌==◌, ◌∙◌, ℕ, zero, suc, Bool, true, false, List, [], ◌∷◌, Option}
-use Rattle.std.proofs.Common.{Some, None, drop, get_or, inl, inr, length, refl, sym, take, ap, arith}
+use Rattle.std.proofs.Common.{◌≡◌, ◌+◌, ◌-◌, ◌<◌, ◌≤◌, ◌==◌, ◌⊎◌, ◌∙◌, ℕ, zero, suc, true, false, List, [], ◌∷◌}
+use Rattle.std.proofs.Common.{Option, Some, None, drop, get_or, inl, inr, length, refl, sym, take, ap, arith}
 use Rattle.std.specs.List.{AllPairs, Contains}
 use Rattle.std.specs.Prelude.{slice_range}
 use Rattle.std.proofs.Math.Seq.{drop-cons}
 use Rattle.std.proofs.lemmas.Bool.{cases_lt}
 use Rattle.std.proofs.lemmas.Bool.Decides.{nat_tests}
-use Rattle.std.proofs.lemmas.List.Sorted.{IsNonDecreasingBy}
+use Rattle.std.specs.List.Sorted.{IsNonDecreasingBy}
 use Rattle.relax_sites.specs.declared.choices.Choice.{Choice}
 use Rattle.relax_sites.specs.declared.rows.NewField.{NewField}
 use Rattle.relax_sites.specs.Rewriting.{rewritten}
@@ -101,6 +101,34 @@ sites_between t (x ∷ xs) zero zero fits are =
       upto = λ k d low. absurd (omega arith);
       past = λ k d low high. are.past (suc k) d (omega arith) (omega arith);
     }))
+
+-- where two searches of sites that rise end
+pub record AreCut (t : ℕ) (sites : List Site) (from to : ℕ) : Type 0 where
+  pub below : (k : ℕ) (d : Site) → k < from → (get_or sites k d).section < t
+  pub above : (k : ℕ) (d : Site) → from ≤ k → k < length sites → t ≤ (get_or sites k d).section
+  pub upto : (k : ℕ) (d : Site) → k < to → (get_or sites k d).section ≤ t
+  pub past : (k : ℕ) (d : Site) → to ≤ k → k < length sites → t < (get_or sites k d).section
+
+pub in_order : (t : ℕ) (sites : List Site) (from to : ℕ) → from ≤ length sites → AreCut t sites from to → from ≤ to
+in_order t [] from to fits cut = omega arith
+in_order t (x ∷ xs) from to fits cut = elim (cases_lt to from) [
+  | inl less ↦ absurd (omega (arith, cut.below to x less, cut.past to x (omega arith) (omega arith)))
+  | inr most ↦ most
+]
+
+pub cut_is : (t : ℕ) (sites : List Site) (from to : ℕ) → from ≤ to → to ≤ length sites → AreCut t sites from to
+    → slice_range sites from to ≡ sites_in sites t
+cut_is t sites from to order fits cut = sites_between t sites from (to - from) (omega arith) (record {
+  below = cut.below;
+  above = cut.above;
+  upto = λ k d low. cut.upto k d (omega arith);
+  past = λ k d low high. cut.past k d (omega arith) high;
+})
+
+pub cut_own : (t : ℕ) (sites : List Site) (from to : ℕ) → to ≤ length sites → AreCut t sites from to
+    → (k : ℕ) (d : Site) → from ≤ k → k < to → (get_or sites k d).section ≡ t
+cut_own t sites from to fits cut k d low high =
+    omega (arith, cut.above k d low (omega arith), cut.upto k d high)
 
 -- one of a range, and those behind it
 pub range_first : (sites : List Site) (n end : ℕ) (d : Site) → n < end → end ≤ length sites
