@@ -1,8 +1,9 @@
 -- Sections that follow each other.
-use Rattle.std.proofs.Common.{◌≡◌, ◌+◌, ◌<◌, ◌≤◌, ◌∙◌, ℕ, Bool, true, List, [], ◌∷◌, ◌++◌, length, refl, ap, arith, inl, inr}
+use Rattle.std.proofs.Common.{◌≡◌, ◌+◌, ◌-◌, ◌<◌, ◌≤◌, ◌∙◌, ℕ, Bool, true, List, [], ◌∷◌, ◌++◌, length, refl, sym, ap, append_assoc, arith, inl, inr}
 use Rattle.std.specs.Prelude.{nat_lt, if◌then◌else◌}
 use Rattle.std.proofs.lemmas.Bool.{cases_lt, lt-ltb, le-ltb}
-use Rattle.tls_relocs.specs.Laid.{Placed, Rising, end_of}
+use Rattle.tls_relocs.specs.Laid.{Placed, Rising, end_of, laid, zeros}
+pub use Rattle.tls_relocs.specs.LaidLaws.{length-laid as laid-length}
 
 -- sections that rise from a place on and end at or before another; there are none where there is no room between.
 -- Where all of the room is theirs, the last ends at its end
@@ -26,6 +27,22 @@ end_of-above at (x ∷ xs) rising =
     let rises : at ≤ x.place = rising.0 in
     let more = end_of-above (x.place + length x.bytes) xs rising.1 in
     omega arith
+
+-- cut in two, each part rises from where the one before it ends
+pub rising-split : (at : ℕ) (xs ys : List Placed) → Rising at (xs ++ ys) → Rising at xs × Rising (end_of at xs) ys
+rising-split at [] ys rising = (tt, rising)
+rising-split at (x ∷ xs) ys rising =
+    let more = rising-split (x.place + length x.bytes) xs ys rising.1 in
+    ((rising.0, more.0), more.1)
+
+pub laid-append : (at : ℕ) (xs ys : List Placed) → laid at (xs ++ ys) ≡ laid at xs ++ laid (end_of at xs) ys
+laid-append at [] ys = refl
+laid-append at (x ∷ xs) ys =
+    let next = x.place + length x.bytes in
+    let gap = zeros (x.place - at) in
+    ap (λ more. gap ++ (x.bytes ++ more)) (laid-append next xs ys)
+    ∙ ap (λ more. gap ++ more) (sym (append_assoc x.bytes (laid next xs) (laid (end_of next xs) ys)))
+    ∙ sym (append_assoc gap (x.bytes ++ laid next xs) (laid (end_of next xs) ys))
 
 -- they also rise from a lower place on
 pub rising-below : (at low : ℕ) (xs : List Placed) → low ≤ at → Rising at xs → Rising low xs

@@ -3,6 +3,7 @@ pub mod Filed
 pub mod Found
 pub mod Kept
 pub mod Laid
+pub mod Near
 pub mod Pages
 pub mod Rising
 pub mod Standing

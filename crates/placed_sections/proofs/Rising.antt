@@ -23,9 +23,9 @@ use Rattle.tls_layout.proofs.LawsOfSections.{finds_sections}
 use Rattle.tls_layout.proofs.Listed.{length-all_sections}
 use Rattle.tls_layout.proofs.Rounds.{round_up-above}
 use Rattle.tls_layout.proofs.Together.{Ascend, ascend, Rise, rise}
-use Rattle.placed_sections.specs.Files.{offset_of, placed_section, placed_object, placed_from}
+use Rattle.placed_sections.specs.Files.{offset_of, placed_section, placed_object, placed_from, filled, AreWhole, Contents}
 use Rattle.placed_sections.proofs.Chains.{Lies, lies-append}
-use Rattle.placed_sections.proofs.Kept.{long_as_memory, written_some}
+use Rattle.placed_sections.proofs.Kept.{written_some}
 
 -- ** classes
 
@@ -146,14 +146,14 @@ module _ (kind : ImageKind) (objects : List (List ℕ)) (class : SectionClass) (
   reach : ℕ → ℕ
   reach n = offset_of p (end_after p class has n)
 
-  one_lies : (s : ℕ) → s < section_count b → Lies (is_writable class) (reach (first + s)) (placed_section p class o b s) (reach (first + s + 1))
+  one_lies : (contents : Contents) → AreWhole contents objects → (s : ℕ) → s < section_count b → Lies (is_writable class) (reach (first + s)) (placed_section (filled contents) p class o b s) (reach (first + s + 1))
   unfolding reach
-  one_lies s below = by_class (is_class class (section_class b s)) refl
+  one_lies contents are_whole s below = by_class (is_class class (section_class b s)) refl
     where
       is : IsSectionOf b s (section_at p.sections (first + s))
       is = section_is s below
 
-      by_class : (t : Bool) → is_class class (section_class b s) ≡ t → Lies (is_writable class) (offset_of p (end_after p class has (first + s))) (placed_section p class o b s) (offset_of p (end_after p class has (first + s + 1)))
+      by_class : (t : Bool) → is_class class (section_class b s) ≡ t → Lies (is_writable class) (offset_of p (end_after p class has (first + s))) (placed_section (filled contents) p class o b s) (offset_of p (end_after p class has (first + s + 1)))
       by_class false none =
           let other : is_in class (section_at p.sections (first + s)) ≡ false = ap (is_class class) is.class_is ∙ none in
           let same = end_skips p class has (first + s) other in
@@ -166,7 +166,7 @@ module _ (kind : ImageKind) (objects : List (List ℕ)) (class : SectionClass) (
           let rises = begins_after p class has (first + s) in
           let low = from_base p class has in
           let above = end_above p class has (first + s) in
-          let long = long_as_memory b s in
+          let long : length (contents o s) ≡ section_size b s = are_whole o s within ∙ ap (λ c. section_size c s) here in
           elim (cases_lt 0 (section_size b s)) [
             | inl some ↦ rw (so, lt-ltb 0 (section_size b s) some) (record {
               rising = (omega arith, tt);
@@ -188,27 +188,27 @@ module _ (kind : ImageKind) (objects : List (List ℕ)) (class : SectionClass) (
           written ReadOnly h known empty = cc
           written (Tls initial) h known empty = cc
 
-  some_lie : (m s : ℕ) → s + m ≤ section_count b
-      → Lies (is_writable class) (reach (first + s)) (flat_map (placed_section p class o b) (range_with_len s m)) (reach (first + (s + m)))
-  some_lie zero s within =
+  some_lie : (contents : Contents) → AreWhole contents objects → (m s : ℕ) → s + m ≤ section_count b
+      → Lies (is_writable class) (reach (first + s)) (flat_map (placed_section (filled contents) p class o b) (range_with_len s m)) (reach (first + (s + m)))
+  some_lie contents are_whole zero s fits =
       let same : reach (first + s) ≡ reach (first + (s + 0)) = ap reach (omega arith) in
       record { rising = tt; within = omega arith; none = λ h. refl; ends = λ h. same }
-  some_lie (suc m) s within =
+  some_lie contents are_whole (suc m) s fits =
       let next : first + s + 1 ≡ first + (s + 1) = omega arith in
       let end : first + (s + 1 + m) ≡ first + (s + suc m) = omega arith in
-      let rest = some_lie m (s + 1) (omega arith) in
-      lies-append (is_writable class) (reach (first + s)) (reach (first + s + 1)) (reach (first + (s + suc m))) (placed_section p class o b s)
-      (flat_map (placed_section p class o b) (range_with_len (s + 1) m)) (one_lies s (omega arith))
-      (subst (λ n. Lies (is_writable class) n (flat_map (placed_section p class o b) (range_with_len (s + 1) m)) (reach (first + (s + suc m)))) (ap reach (sym next))
-      (subst (λ n. Lies (is_writable class) (reach (first + (s + 1))) (flat_map (placed_section p class o b) (range_with_len (s + 1) m)) n) (ap reach end) rest))
+      let rest = some_lie contents are_whole m (s + 1) (omega arith) in
+      lies-append (is_writable class) (reach (first + s)) (reach (first + s + 1)) (reach (first + (s + suc m))) (placed_section (filled contents) p class o b s)
+      (flat_map (placed_section (filled contents) p class o b) (range_with_len (s + 1) m)) (one_lies contents are_whole s (omega arith))
+      (subst (λ n. Lies (is_writable class) n (flat_map (placed_section (filled contents) p class o b) (range_with_len (s + 1) m)) (reach (first + (s + suc m)))) (ap reach (sym next))
+      (subst (λ n. Lies (is_writable class) (reach (first + (s + 1))) (flat_map (placed_section (filled contents) p class o b) (range_with_len (s + 1) m)) n) (ap reach end) rest))
 
-  pub object_lies : Lies (is_writable class) (offset_of p (end_after p class has (sum (take o p.counts)))) (placed_object p class o b) (offset_of p (end_after p class has (sum (take o p.counts) + section_count b)))
+  pub object_lies : (contents : Contents) → AreWhole contents objects → Lies (is_writable class) (offset_of p (end_after p class has (sum (take o p.counts)))) (placed_object (filled contents) p class o b) (offset_of p (end_after p class has (sum (take o p.counts) + section_count b)))
   unfolding placed_object first reach
-  object_lies =
+  object_lies contents are_whole =
       let begin : first + 0 ≡ first = omega arith in
       let end : first + (0 + section_count b) ≡ first + section_count b = omega arith in
-      subst (λ n. Lies (is_writable class) n (placed_object p class o b) (reach (first + section_count b))) (ap reach begin)
-      (subst (λ n. Lies (is_writable class) (reach (first + 0)) (placed_object p class o b) n) (ap reach end) (some_lie (section_count b) 0 (omega arith)))
+      subst (λ n. Lies (is_writable class) n (placed_object (filled contents) p class o b) (reach (first + section_count b))) (ap reach begin)
+      (subst (λ n. Lies (is_writable class) (reach (first + 0)) (placed_object (filled contents) p class o b) n) (ap reach end) (some_lie contents are_whole (section_count b) 0 (omega arith)))
 
 -- ** all objects
 
@@ -232,12 +232,12 @@ dropped_is xs n d x more e = elim (cases_lt n (length xs)) [
 none_left : {X : Type 0} (xs : List X) (n : ℕ) → drop n xs ≡ [] → length xs ≤ n
 none_left xs n e = let none : length (drop n xs) ≡ 0 = ap length e in omega (arith, none, length-drop n xs)
 
-module _ (kind : ImageKind) (objects : List (List ℕ)) (class : SectionClass) (has : has_address class ≡ true) where
+module _ (kind : ImageKind) (contents : Contents) (objects : List (List ℕ)) (are_whole : AreWhole contents objects) (class : SectionClass) (has : has_address class ≡ true) where
   abbrev q : Layout
   q = layout_of kind objects
 
   some_objects : (more : List (List ℕ)) (o : ℕ) → drop o objects ≡ more
-      → Lies (is_writable class) (offset_of q (end_after q class has (sum (take o q.counts)))) (placed_from q class o more) (offset_of q (end q class has))
+      → Lies (is_writable class) (offset_of q (end_after q class has (sum (take o q.counts)))) (placed_from (filled contents) q class o more) (offset_of q (end q class has))
   unfolding section_counts all_sections
   some_objects [] o e =
       let past : length objects ≤ o = none_left objects o e in
@@ -248,15 +248,15 @@ module _ (kind : ImageKind) (objects : List (List ℕ)) (class : SectionClass) (
       record { rising = tt; within = omega arith; none = λ h. refl; ends = λ h. same }
   some_objects (b ∷ more) o e =
       let at = dropped_is objects o [] b more e in
-      let one = object_lies kind objects class has o b at.within at.here in
+      let one = object_lies kind objects class has o b at.within at.here contents are_whole in
       let count : slice_index q.counts o ≡ section_count b = get_or-map section_count objects o [] 0 at.within ∙ ap section_count at.here in
       let more_counts = sum_by_more (λ x. x) q.counts o 0 (omega (arith, at.within, (length-map objects section_count))) in
       let next : sum (take o q.counts) + section_count b ≡ sum (take (o + 1) q.counts) = omega (arith, count, more_counts) in
       lies-append (is_writable class) (offset_of q (end_after q class has (sum (take o q.counts)))) (offset_of q (end_after q class has (sum (take o q.counts) + section_count b))) (offset_of q (end q class has))
-      (placed_object q class o b) (placed_from q class (o + 1) more) one
-      (subst (λ n. Lies (is_writable class) n (placed_from q class (o + 1) more) (offset_of q (end q class has))) (ap (λ n. offset_of q (end_after q class has n)) (sym next)) (some_objects more (o + 1) at.rest))
+      (placed_object (filled contents) q class o b) (placed_from (filled contents) q class (o + 1) more) one
+      (subst (λ n. Lies (is_writable class) n (placed_from (filled contents) q class (o + 1) more) (offset_of q (end q class has))) (ap (λ n. offset_of q (end_after q class has n)) (sym next)) (some_objects more (o + 1) at.rest))
 
   -- the sections of a class rise from its start, and end at or before its end
-  pub class_lies : Lies (is_writable class) (offset_of q (start q class has)) (placed_from q class 0 objects) (offset_of q (end q class has))
+  pub class_lies : Lies (is_writable class) (offset_of q (start q class has)) (placed_from (filled contents) q class 0 objects) (offset_of q (end q class has))
   class_lies =
-      subst (λ n. Lies (is_writable class) n (placed_from q class 0 objects) (offset_of q (end q class has))) (ap (offset_of q) (sym (end_none q class has))) (some_objects objects 0 refl)
+      subst (λ n. Lies (is_writable class) n (placed_from (filled contents) q class 0 objects) (offset_of q (end q class has))) (ap (offset_of q) (sym (end_none q class has))) (some_objects objects 0 refl)

@@ -1,5 +1,5 @@
 -- The whole file rises, and ends where the last class does that has bytes.
-use Rattle.std.proofs.Common.{◌≡◌, ◌+◌, ◌-◌, ◌<◌, ◌≤◌, ◌∙◌, ℕ, Bool, true, false, List, [], ◌∷◌, ◌++◌, inl, inr, refl, sym, ap, subst, append_assoc, arith}
+use Rattle.std.proofs.Common.{◌≡◌, ◌+◌, ◌-◌, ◌<◌, ◌≤◌, ◌∙◌, ℕ, Bool, true, false, List, [], ◌∷◌, ◌++◌, inl, inr, refl, sym, ap, subst, arith}
 use Rattle.std.specs.Prelude.{nat_lt, if◌then◌else◌}
 use Rattle.std.proofs.lemmas.Bool.{cases_lt, lt-ltb, le-ltb}
 use Rattle.std.proofs.lemmas.List.{append-nil}
@@ -13,9 +13,10 @@ use Rattle.tls_layout.specs.Sections.{Layout, layout_of}
 use Rattle.tls_layout.proofs.LawsOfPlaces.{group, has_address}
 use Rattle.tls_layout.proofs.Together.{Ascend, ascend, Rise, rise}
 use Rattle.tls_relocs.specs.Laid.{Placed, Rising, end_of}
-use Rattle.placed_sections.specs.Files.{offset_of, placed, placed_class, placed_from}
+use Rattle.placed_sections.specs.Files.{offset_of, placed, placed_class, placed_from, filled, AreWhole, Contents}
 use Rattle.placed_sections.specs.Laws.{end_or, sections_end}
 use Rattle.placed_sections.proofs.Chains.{Lies, follows, end_of-append, rising-append}
+use Rattle.placed_sections.proofs.Laid.{classes_placed}
 use Rattle.placed_sections.proofs.Rising.{is_writable, class_lies, start, end, start_is, end_is}
 
 -- ** a class with the mark at its end
@@ -42,22 +43,22 @@ same_room base start end low = elim (cases_lt start end) [
   | inr none ↦ let more : end + 4096 - base ≤ start + 4096 - base = omega arith in le-ltb _ _ more ∙ sym (le-ltb start end none)
 ]
 
-module _ (kind : ImageKind) (objects : List (List ℕ)) where
+module _ (kind : ImageKind) (contents : Contents) (objects : List (List ℕ)) (are_whole : AreWhole contents objects) where
   abbrev p : Layout
   p = layout_of kind objects
 
-  marked_class : (class : SectionClass) (x : Extent) → Lies false (offset_of p x.start) (placed_from p class 0 objects) (offset_of p x.end) → x.start ≤ x.end → base_of kind ≤ x.start
-      → Lies true (offset_of p x.start) (placed_from p class 0 objects ++ (if nat_lt x.start x.end then record { place = offset_of p x.end; bytes = [] } ∷ [] else [])) (offset_of p x.end)
-  marked_class class x lies up low = rw (← same_room (base_of kind) x.start x.end low) (marked (offset_of p x.start) (offset_of p x.end) (placed_from p class 0 objects) lies (omega arith))
+  marked_class : (class : SectionClass) (x : Extent) → Lies false (offset_of p x.start) (placed_from (filled contents) p class 0 objects) (offset_of p x.end) → x.start ≤ x.end → base_of kind ≤ x.start
+      → Lies true (offset_of p x.start) (placed_from (filled contents) p class 0 objects ++ (if nat_lt x.start x.end then record { place = offset_of p x.end; bytes = [] } ∷ [] else [])) (offset_of p x.end)
+  marked_class class x lies up low = rw (← same_room (base_of kind) x.start x.end low) (marked (offset_of p x.start) (offset_of p x.end) (placed_from (filled contents) p class 0 objects) lies (omega arith))
 
-  written_class : (class : SectionClass) (x : Extent) → Lies true (offset_of p x.start) (placed_from p class 0 objects) (offset_of p x.end)
-      → Lies true (offset_of p x.start) (placed_from p class 0 objects ++ []) (offset_of p x.end)
-  written_class class x lies = rw (append-nil (placed_from p class 0 objects)) lies
+  written_class : (class : SectionClass) (x : Extent) → Lies true (offset_of p x.start) (placed_from (filled contents) p class 0 objects) (offset_of p x.end)
+      → Lies true (offset_of p x.start) (placed_from (filled contents) p class 0 objects ++ []) (offset_of p x.end)
+  written_class class x lies = rw (append-nil (placed_from (filled contents) p class 0 objects)) lies
 
-  lies_at : (class : SectionClass) → (has : has_address class ≡ true) → Lies (is_writable class) (offset_of p (group class p.kind p.sections).start) (placed_from p class 0 objects) (offset_of p (group class p.kind p.sections).end)
+  lies_at : (class : SectionClass) → (has : has_address class ≡ true) → Lies (is_writable class) (offset_of p (group class p.kind p.sections).start) (placed_from (filled contents) p class 0 objects) (offset_of p (group class p.kind p.sections).end)
   lies_at class has =
-      subst (λ n. Lies (is_writable class) (offset_of p n) (placed_from p class 0 objects) (offset_of p (group class p.kind p.sections).end)) (start_is p class has)
-      (subst (λ n. Lies (is_writable class) (offset_of p (start p class has)) (placed_from p class 0 objects) (offset_of p n)) (end_is p class has) (class_lies kind objects class has))
+      subst (λ n. Lies (is_writable class) (offset_of p n) (placed_from (filled contents) p class 0 objects) (offset_of p (group class p.kind p.sections).end)) (start_is p class has)
+      (subst (λ n. Lies (is_writable class) (offset_of p (start p class has)) (placed_from (filled contents) p class 0 objects) (offset_of p n)) (end_is p class has) (class_lies kind contents objects are_whole class has))
 
   r : Rise kind p.sections
   r = rise kind p.sections
@@ -65,20 +66,20 @@ module _ (kind : ImageKind) (objects : List (List ℕ)) where
   w : Ascend kind p.sections
   w = ascend kind p.sections
 
-  code : Lies true (offset_of p (executable kind p.sections).start) (placed_class p objects Executable) (offset_of p (executable kind p.sections).end)
+  code : Lies true (offset_of p (executable kind p.sections).start) (placed_class (filled contents) p objects Executable) (offset_of p (executable kind p.sections).end)
   code = marked_class Executable (executable kind p.sections) (lies_at Executable refl) r.executable_up (omega (arith, r.base))
 
-  constants : Lies true (offset_of p (read_only kind p.sections).start) (placed_class p objects ReadOnly) (offset_of p (read_only kind p.sections).end)
+  constants : Lies true (offset_of p (read_only kind p.sections).start) (placed_class (filled contents) p objects ReadOnly) (offset_of p (read_only kind p.sections).end)
   constants = marked_class ReadOnly (read_only kind p.sections) (lies_at ReadOnly refl) r.read_only_up (omega (arith, w.first, w.second))
 
-  initial_tls : Lies true (offset_of p (tls_image kind p.sections).start) (placed_class p objects (Tls true)) (offset_of p (tls_image kind p.sections).end)
+  initial_tls : Lies true (offset_of p (tls_image kind p.sections).start) (placed_class (filled contents) p objects (Tls true)) (offset_of p (tls_image kind p.sections).end)
   initial_tls = marked_class (Tls true) (tls_image kind p.sections) (lies_at (Tls true) refl) r.tls_up (omega (arith, w.first, w.second, r.read_only_up, w.third))
 
-  filled : Lies true (offset_of p (initial_data kind p.sections).start) (placed_class p objects (Writable true)) (offset_of p (initial_data kind p.sections).end)
-  filled = written_class (Writable true) (initial_data kind p.sections) (lies_at (Writable true) refl)
+  initial_data_lies : Lies true (offset_of p (initial_data kind p.sections).start) (placed_class (filled contents) p objects (Writable true)) (offset_of p (initial_data kind p.sections).end)
+  initial_data_lies = written_class (Writable true) (initial_data kind p.sections) (lies_at (Writable true) refl)
 
-  cleared : Lies true (offset_of p (zero_data kind p.sections).start) (placed_class p objects (Writable false)) (offset_of p (zero_data kind p.sections).end)
-  cleared = written_class (Writable false) (zero_data kind p.sections) (lies_at (Writable false) refl)
+  zero_data_lies : Lies true (offset_of p (zero_data kind p.sections).start) (placed_class (filled contents) p objects (Writable false)) (offset_of p (zero_data kind p.sections).end)
+  zero_data_lies = written_class (Writable false) (zero_data kind p.sections) (lies_at (Writable false) refl)
 
   -- ** the classes one behind another
 
@@ -119,7 +120,7 @@ module _ (kind : ImageKind) (objects : List (List ℕ)) where
   none_yet : Upto [] (base_of kind)
   none_yet = record { rising = tt; ends = omega arith }
 
-  whole : Upto (((((([] ++ placed_class p objects Executable) ++ placed_class p objects ReadOnly) ++ placed_class p objects (Tls true)) ++ placed_class p objects (Writable true)) ++ placed_class p objects (Writable false)))
+  whole : Upto (((((([] ++ placed_class (filled contents) p objects Executable) ++ placed_class (filled contents) p objects ReadOnly) ++ placed_class (filled contents) p objects (Tls true)) ++ placed_class (filled contents) p objects (Writable true)) ++ placed_class (filled contents) p objects (Writable false)))
       (end_or (zero_data kind p.sections) (end_or (initial_data kind p.sections) (end_or (tls_image kind p.sections) (end_or (read_only kind p.sections) (end_or (executable kind p.sections) (base_of kind))))))
   whole =
       let x1 = executable kind p.sections in
@@ -141,20 +142,11 @@ module _ (kind : ImageKind) (objects : List (List ℕ)) where
       let t4 : e3 ≤ x4.start = in_time x3 e2 x4.start t3 r.tls_up w.fourth in
       let last : x4.end ≤ x5.start = omega (arith, r.zeros) in
       let t5 : e4 ≤ x5.start = in_time x4 e3 x5.start t4 r.initial last in
-      let u1 = upto_more [] (placed_class p objects Executable) x1 (base_of kind) none_yet code b1 b1 in
-      let u2 = upto_more _ (placed_class p objects ReadOnly) x2 e1 u1 constants t2 b2 in
-      let u3 = upto_more _ (placed_class p objects (Tls true)) x3 e2 u2 initial_tls t3 b3 in
-      let u4 = upto_more _ (placed_class p objects (Writable true)) x4 e3 u3 filled t4 b4 in
-      upto_more _ (placed_class p objects (Writable false)) x5 e4 u4 cleared t5 b5
-
-  in_order : (a b c d e : List Placed) → ((((([] ++ a) ++ b) ++ c) ++ d) ++ e) ≡ a ++ (b ++ (c ++ (d ++ (e ++ []))))
-  in_order a b c d e =
-      append_assoc ((a ++ b) ++ c) d e ∙ append_assoc (a ++ b) c (d ++ e) ∙ append_assoc a b (c ++ (d ++ e))
-      ∙ ap (λ x. a ++ (b ++ (c ++ (d ++ x)))) (sym (append-nil e))
-
-  placed_are : ((((([] ++ placed_class p objects Executable) ++ placed_class p objects ReadOnly) ++ placed_class p objects (Tls true)) ++ placed_class p objects (Writable true)) ++ placed_class p objects (Writable false)) ≡ placed p objects
-  unfolding placed
-  placed_are = in_order (placed_class p objects Executable) (placed_class p objects ReadOnly) (placed_class p objects (Tls true)) (placed_class p objects (Writable true)) (placed_class p objects (Writable false))
+      let u1 = upto_more [] (placed_class (filled contents) p objects Executable) x1 (base_of kind) none_yet code b1 b1 in
+      let u2 = upto_more _ (placed_class (filled contents) p objects ReadOnly) x2 e1 u1 constants t2 b2 in
+      let u3 = upto_more _ (placed_class (filled contents) p objects (Tls true)) x3 e2 u2 initial_tls t3 b3 in
+      let u4 = upto_more _ (placed_class (filled contents) p objects (Writable true)) x4 e3 u3 initial_data_lies t4 b4 in
+      upto_more _ (placed_class (filled contents) p objects (Writable false)) x5 e4 u4 zero_data_lies t5 b5
 
   end_are : end_or (zero_data kind p.sections) (end_or (initial_data kind p.sections) (end_or (tls_image kind p.sections) (end_or (read_only kind p.sections) (end_or (executable kind p.sections) (base_of kind)))))
       ≡ sections_end p
@@ -162,8 +154,8 @@ module _ (kind : ImageKind) (objects : List (List ℕ)) where
   end_are = halves (initial_data kind p.sections) (zero_data kind p.sections) (end_or (tls_image kind p.sections) (end_or (read_only kind p.sections) (end_or (executable kind p.sections) (base_of kind)))) r.initial r.zeros r.zero
 
   -- all sections rise from behind the first page
-  pub all_rise : Rising 4096 (placed p objects)
-  all_rise = subst (λ xs. Rising 4096 xs) placed_are whole.rising
+  pub all_rise : Rising 4096 (placed (filled contents) p objects)
+  all_rise = subst (λ xs. Rising 4096 xs) (classes_placed (filled contents) p objects) whole.rising
 
-  pub all_end : end_of 4096 (placed p objects) ≡ offset_of p (sections_end p)
-  all_end = ap (end_of 4096) (sym placed_are) ∙ whole.ends ∙ ap (offset_of p) end_are
+  pub all_end : end_of 4096 (placed (filled contents) p objects) ≡ offset_of p (sections_end p)
+  all_end = ap (end_of 4096) (sym (classes_placed (filled contents) p objects)) ∙ whole.ends ∙ ap (offset_of p) end_are

@@ -1,4 +1,4 @@
-//! Laws of files of sections. The functions do nothing: what they ensure is the law.
+//! Laws of files of sections, whatever stands in them. The functions do nothing: what they ensure is the law.
 
 ghost use Rattle.placed_sections.specs.Laws.{FilesEnd, SectionsStand, SectionsFit, GapsAreZero};
 
@@ -7,7 +7,7 @@ pub fn files_end()
     ensures { FilesEnd }
 {}
 
-/// Each byte of a section is at its place; it is zero if the section has no bytes in its object's file.
+/// Each byte of a section is at its place.
 pub fn sections_stand()
     ensures { SectionsStand }
 {}

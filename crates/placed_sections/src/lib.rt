@@ -1,4 +1,4 @@
-//! The file of an image's sections: each section at its place, and zeros between them.
+//! The file of an image's sections: in which order they stand, at which offsets, and what any file laid so holds.
 //!
 //! A linker puts the sections of many objects into one file, and a loader maps that file into memory a page of
 //! 4,096 bytes at a time. A page of memory is a page of the file, so a byte has the same offset in its page in
@@ -6,11 +6,11 @@
 //! finds the address of each section before a byte is written. What is left is to make a file with the same
 //! order and the same gaps.
 //!
-//! The rule that the crate keeps: **each byte of a section is at its place, and all others are zero.** The first page
+//! The rule that the crate states: **each byte of a section is at its place, and all others are zero.** The first page
 //! is that of the headers, which another crate writes, so the byte of address `a` is at offset `a` + 4,096 - the base
 //! of the image ([`offset_of`]): 0x400000 in a program at fixed addresses, else 0. Sections that have no bytes in
-//! their objects (`SHT_NOBITS`: `.bss`) are zeros here, so the file holds everything that a loader maps. Thread-local
-//! ones of this type have no address, and take no bytes here.
+//! their objects (`SHT_NOBITS`: `.bss`) stand here with as many bytes as they have in memory, so the file holds
+//! everything that a loader maps. Thread-local ones of this type have no address, and take no bytes here.
 //!
 //! An example: a program of two objects, with sections written as type, size and alignment.
 //!
@@ -29,14 +29,21 @@
 //! A class may end after the last byte of its sections: a section of no bytes moves the end up to a multiple of its
 //! alignment. The file then has zeros up to there, so that a segment's bytes are all in the file.
 //!
-//! [`lay_sections`] makes the file. It allocates memory for all of it at once, copies each section once, and goes
-//! over the sections five times: for code, constants, the initial image of thread-local storage, and data with bytes
-//! and without. [`laws`] states what the file holds, offset by offset: where it ends, that each section lies in it
-//! with its own bytes, and that zeros stand between them. `specs/Files` has the bytes, `specs/Laying` the file after
-//! each section, and `specs/Laws` the laws.
+//! What stands in a section is left open: any bytes, as many as it has in memory. `link_core` writes the fields of
+//! relocations into a section before it lays it down, so it makes each section by itself, in threads. It asks
+//! [`place_sections`] for the list of all sections, each with its offset and in the order of the file, and
+//! [`first_page`] for the page that the file begins with; memory for all of the file is reserved at once. The list is
+//! made in five walks over the sections: for code, constants, the initial image of thread-local storage, and data with
+//! bytes and without. No byte of a section is read for it.
+//!
+//! [`laws`] states what the file holds, offset by offset: where it ends, that each section lies in it with its own
+//! bytes, and that zeros stand between them. `specs/Files` has the order of sections, and the file of any contents;
+//! `specs/Laying` the file after each section, and `specs/Laws` the laws.
 #![tactic(auto)]
 
 pub mod laws;
-mod laying;
+mod part;
+mod placing;
 
-pub use laying::{lay_sections, offset_of};
+pub use part::{OwnSection, PlacedPart};
+pub use placing::{first_page, offset_of, place_sections};

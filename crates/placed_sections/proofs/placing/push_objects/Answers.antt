@@ -1,8 +1,7 @@
-use Rattle.std.proofs.Common.{◌∙◌, ◌+◌, ◌∷◌, sym, ap, drop}
-use Rattle.placed_sections.specs.Laying.{with_sections}
+use Rattle.std.proofs.Common.{◌∙◌, ◌+◌, ◌∷◌, ◌++◌, sym, ap, drop}
 use Rattle.placed_sections.specs.Files.{placed_from}
 use Rattle.placed_sections.proofs.Laid.{drop_here, objects_step}
-use Rattle.placed_sections.proofs.laying.push_objects.Goals as goal
+use Rattle.placed_sections.proofs.placing.push_objects.Goals as goal
 
 pub loop-number-preserved : goal.loop-number-preserved
 loop-number-preserved c =
@@ -12,7 +11,7 @@ loop-number-preserved c =
     let b = c.index-objects-number.result in
     let rest = drop (n + 1) xs in
     let here = drop_here xs n b c.loop-number-test.true ∙ ap (λ x. x ∷ rest) (sym c.index-objects-number.is) in
-    ap (λ l. with_sections l (placed_from p c.args.class (n + 1) rest)) c.in_ok-push_object.ensures
-    ∙ objects_step p c.args.class n b rest c.loop-number.file.items
-    ∙ ap (λ ys. with_sections c.loop-number.file.items (placed_from p c.args.class n ys)) (sym here)
+    ap (λ l. l ++ placed_from (λ part. part) p c.args.class (n + 1) rest) c.in_ok-push_object.ensures
+    ∙ objects_step (λ part. part) p c.args.class n b c.loop-number.parts.items rest
+    ∙ ap (λ ys. c.loop-number.parts.items ++ placed_from (λ part. part) p c.args.class n ys) (sym here)
     ∙ c.loop-number.invariant
