@@ -1,24 +1,21 @@
 -- Each byte of a section stands at its place, as it is meant.
-use Rattle.std.proofs.Common.{◌≡◌, ◌+◌, ◌<◌, ◌∙◌, ℕ, Option, Some, None, length, refl, ap, arith}
-use Rattle.std.specs.Prelude.{slice_get, slice_index_or}
+use Rattle.std.proofs.Common.{◌≡◌, ◌+◌, ◌<◌, ◌∙◌, ℕ, Some, length, ap, arith}
+use Rattle.std.specs.Prelude.{fold, slice_get, slice_index_or}
 use Rattle.std.specs.List.{find}
-use Rattle.elf_object.specs.declared.relocation.Relocation.{Relocation}
 use Rattle.elf_object.specs.Lent.{relocations, section_bytes, section_size}
 use Rattle.placed_sections.specs.Files.{memory_bytes, offset_of, sections_file}
 use Rattle.placed_sections.proofs.Kept.{long_as_memory}
 use Rattle.placed_sections.proofs.Standing.{memory_byte}
 use Rattle.placed_sections.proofs.Told.{sections_fit, sections_stand}
-use Rattle.sequence_forms.specs.declared.places.Site.{Site}
 use Rattle.tls_layout.specs.Places.{address_of}
 use Rattle.tls_relocs.specs.Elements.{slice_get-append}
-use Rattle.link_needs.specs.Linking.{Linking, layout, object, sites_at}
-use Rattle.link_core.specs.Bytes.{file, linked_section}
+use Rattle.link_needs.specs.Linking.{Linking, layout, object}
+use Rattle.link_core.specs.Bytes.{file, linked_section, with_field}
 use Rattle.link_tables.specs.Faults.{Links}
 use Rattle.link_needs.specs.Given.{FitsTable, IsGiven}
-use Rattle.link_core.specs.Meant.{field_byte, is_in_field, is_in_rewritten, meant_byte, site_byte}
+use Rattle.link_core.specs.Meant.{field_byte, is_in_field, meant_byte}
 use Rattle.link_core.proofs.LengthsInside.{goes_on}
 use Rattle.link_core.proofs.LengthsKept.{are_laid}
-use Rattle.link_core.proofs.StandingSteps.{byte_of}
 use Rattle.link_core.proofs.StandingPlaces.{lies_at}
 use Rattle.link_core.proofs.StandingFields.{fields_write}
 use Rattle.link_core.proofs.StandingSites.{sites_write}
@@ -40,19 +37,11 @@ unfolding linked_section meant_byte
 linked_byte l given links o t k there below =
     let b = object l o in
     let own = slice_index_or (section_bytes b t) k 0 in
-    let site = find (is_in_rewritten l o t k) (sites_at l o) in
     let r = find (is_in_field l o k) (relocations b t) in
-    let fields = fields_write l given links o t k there (Some own) (memory_bytes b t)
+    let filled = fold (with_field l o t) (memory_bytes b t) (relocations b t) in
+    let fields = fields_write l given links o t k there own (memory_bytes b t)
     (long_as_memory b t, memory_byte b t k below) in
-    (sites_write l given o t k there _ _ fields).1 ∙ as_meant site r own
-  where
-    as_meant : (site : Option Site) (r : Option Relocation) (own : ℕ)
-        → byte_of (λ (x : Site). site_byte l o k (Some x) 0) site
-        (byte_of (λ (x : Relocation). field_byte l o t k (Some x) 0) r (Some own))
-        ≡ Some (site_byte l o k site (field_byte l o t k r own))
-    as_meant None None own = refl
-    as_meant None (Some r) own = refl
-    as_meant (Some site) r own = refl
+    (sites_write l given o t k there (field_byte l o t k r own) filled fields).1
 
 -- each byte of a section in the file
 pub byte_stands : (l : Linking) (given : IsGiven l) (links : Links l) (o t k address : ℕ) (there : o < length l.objects)

@@ -1,6 +1,6 @@
 -- What the fields of relocations make of a byte of a section.
 use Rattle.std.proofs.Common.{◌≡◌, ◌+◌, ◌<◌, ◌≤◌, ◌&&◌, ◌∙◌, ℕ, Bool, true, false, not, List, Option, Some, None}
-use Rattle.std.proofs.Common.{IsSome, length, inl, inr, refl, sym, ap, arith}
+use Rattle.std.proofs.Common.{IsSome, length, inl, inr, refl, sym, ap, subst, arith}
 use Rattle.std.specs.Prelude.{fold, nat_le, nat_lt, slice_get, unwrap_or, if◌then◌else◌}
 use Rattle.std.specs.List.{Contains, find}
 use Rattle.std.proofs.lemmas.Bool.{cases_lt}
@@ -91,7 +91,7 @@ module _ (l : Linking) (given : IsGiven l) (links : Links l) (o t k : ℕ) (ther
       of_value (Some value) e = refl
 
   -- the byte of a field
-  abbrev pub field_value : Relocation → ℕ
+  abbrev field_value : Relocation → ℕ
   field_value r = field_byte l o t k (Some r) 0
 
   -- what one makes of the byte
@@ -114,7 +114,7 @@ module _ (l : Linking) (given : IsGiven l) (links : Links l) (o t k : ℕ) (ther
 
       of_tests : (c x : Bool) → (nat_le r.offset k && nat_lt k (r.offset + field_width r.kind)) ≡ c
           → is_replaced l o r ≡ x
-          → Has n k (if c && not x then Some (field_byte l o t k (Some r) 0) else byte)
+          → Has n k (if c && not x then field_byte l o t k (Some r) 0 else byte)
           (if x then now else with_value r.offset (field l o t r) now)
       of_tests true true covers e = was
       of_tests false true covers e = was
@@ -135,10 +135,15 @@ module _ (l : Linking) (given : IsGiven l) (links : Links l) (o t k : ℕ) (ther
       (covers_true y.offset (y.offset + field_width y.kind) k (is_replaced l o y) again)
 
   -- what all of them make of it
-  pub fields_write : (byte : Option ℕ) (now : List ℕ) → Has (section_size (object l o) t) k byte now
+  pub fields_write : (byte : ℕ) (now : List ℕ) → Has (section_size (object l o) t) k byte now
       → Has (section_size (object l o) t) k
-      (byte_of field_value (find (is_in_field l o k) (relocations (object l o) t)) byte)
+      (field_byte l o t k (find (is_in_field l o k) (relocations (object l o) t)) byte)
       (fold (with_field l o t) now (relocations (object l o) t))
-  fields_write =
-      one_writes (section_size (object l o) t) k field_value (is_in_field l o k) (with_field l o t) rs field_alone
-      each_field
+  fields_write byte now was =
+      subst (λ x. Has (section_size b t) k x (fold (with_field l o t) now rs)) (meant (find (is_in_field l o k) rs))
+      (one_writes (section_size b t) k field_value (is_in_field l o k) (with_field l o t) rs field_alone each_field byte
+      now was)
+    where
+      meant : (found : Option Relocation) → byte_of field_value found byte ≡ field_byte l o t k found byte
+      meant None = refl
+      meant (Some r) = refl

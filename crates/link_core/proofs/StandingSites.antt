@@ -82,7 +82,7 @@ module _ (l : Linking) (given : IsGiven l) (o t k : ℕ) (there : o < length l.o
   abbrev n : ℕ
   n = section_size (object l o) t
 
-  abbrev pub site_value : Site → ℕ
+  abbrev site_value : Site → ℕ
   site_value site = site_byte l o k (Some site) 0
 
   -- one that is kept stays
@@ -94,7 +94,7 @@ module _ (l : Linking) (given : IsGiven l) (o t k : ℕ) (there : o < length l.o
 
   -- one that is rewritten
   module _ (site : Site) (has : Contains (sites_at l o) site) (section : site.section ≡ t)
-      (changes : choice l o site ≢ Keep) (byte : Option ℕ) (now : List ℕ) (was : Has n k byte now) where
+      (changes : choice l o site ≢ Keep) (byte : ℕ) (now : List ℕ) (was : Has n k byte now) where
     abbrev row : List ℕ
     row = new_bytes site.form (choice l o site) site.reg
 
@@ -106,17 +106,21 @@ module _ (l : Linking) (given : IsGiven l) (o t k : ℕ) (there : o < length l.o
     fits : site.start + site.len ≤ n
     fits = omega (arith, site_fits l o site given there has, ap (section_size (object l o)) section)
 
+    row_leaves : (nat_le site.start k && nat_lt k (site.start + site.len)) ≡ false
+        → Has n k byte (splice site.start row now)
+    row_leaves covers =
+        splice_leaves n k site.start row (omega (arith, len, fits))
+        (outside_is site.start site.len (length row) k (omega (arith, len)) covers) byte now was
+
     -- its row and then the field of this
     row_writes : (c : Bool) → (nat_le site.start k && nat_lt k (site.start + site.len)) ≡ c → (new : Option NewField)
         → new_field site.form (choice l o site) ≡ new
-        → Has n k (if c then Some (slice_index_or (row_with l o site new) (k - site.start) 0) else byte)
+        → Has n k (if c then slice_index_or (row_with l o site new) (k - site.start) 0 else byte)
         (with_new_field l o site new (splice site.start row now))
     row_writes true covers None e =
         let within = inside_is site.start (site.start + site.len) k covers in
         splice_fills n k site.start row (omega (arith, len, fits)) within.0 (omega (arith, len, within.1)) now was.0
-    row_writes false covers None e =
-        splice_leaves n k site.start row (omega (arith, len, fits))
-        (outside_is site.start site.len (length row) k (omega (arith, len)) covers) byte now was
+    row_writes false covers None e = row_leaves covers
     row_writes true covers (Some f) e =
         let within = inside_is site.start (site.start + site.len) k covers in
         let bytes = field_bytes (unwrap_or (field l o site.section (new_relocation site f)) Empty) in
@@ -133,13 +137,13 @@ module _ (l : Linking) (given : IsGiven l) (o t k : ℕ) (there : o < length l.o
         let away = outside_is site.start site.len site.len k (omega arith) covers in
         splice_leaves n k (site.start + f.at) bytes (omega (arith, room, fits))
         (elim away [ inl before ↦ inl (omega (arith, before)) | inr behind ↦ inr (omega (arith, behind, room)) ]) byte
-        (splice site.start row now) (row_writes false covers None refl)
+        (splice site.start row now) (row_leaves covers)
 
     site_writes : (c : Bool) → (nat_le site.start k && nat_lt k (site.start + site.len)) ≡ c
-        → Has n k (if c then Some (site_byte l o k (Some site) 0) else byte) (with_site l o now site)
+        → Has n k (if c then site_byte l o k (Some site) 0 else byte) (with_site l o now site)
     unfolding with_site rewritten_bytes
     site_writes c covers =
-        subst (λ made. Has n k (if c then Some (site_byte l o k (Some site) 0) else byte)
+        subst (λ made. Has n k (if c then site_byte l o k (Some site) 0 else byte)
         (with_new_field l o site (new_field site.form (choice l o site)) made))
         (sym (spliced site (choice l o site) now changes))
         (row_writes c covers (new_field site.form (choice l o site)) refl)
@@ -148,15 +152,15 @@ module _ (l : Linking) (given : IsGiven l) (o t k : ℕ) (there : o < length l.o
   abbrev step : List ℕ → Site → List ℕ
   step now site = if site.section == t then with_site l o now site else now
 
-  each_site : (site : Site) → Contains (sites_at l o) site → (byte : Option ℕ) (now : List ℕ) → Has n k byte now
-      → Has n k (if is_in_rewritten l o t k site then Some (site_value site) else byte) (step now site)
+  each_site : (site : Site) → Contains (sites_at l o) site → (byte : ℕ) (now : List ℕ) → Has n k byte now
+      → Has n k (if is_in_rewritten l o t k site then site_value site else byte) (step now site)
   each_site site has byte now was =
       of_tests (site.section == t) (nat_le site.start k && nat_lt k (site.start + site.len))
       (is_kept (choice l o site)) refl refl refl
     where
       of_tests : (s c x : Bool) → (site.section == t) ≡ s
           → (nat_le site.start k && nat_lt k (site.start + site.len)) ≡ c → is_kept (choice l o site) ≡ x
-          → Has n k (if s && c && not x then Some (site_byte l o k (Some site) 0) else byte)
+          → Has n k (if s && c && not x then site_byte l o k (Some site) 0 else byte)
           (if s then with_site l o now site else now)
       of_tests false c x section covers kept = was
       of_tests true true false section covers kept =
@@ -178,11 +182,16 @@ module _ (l : Linking) (given : IsGiven l) (o t k : ℕ) (there : o < length l.o
       (two.0 ∙ sym one.0) two.1 two.2 one.1 one.2
 
   -- what all of them make of it
-  pub sites_write : (byte : Option ℕ) (now : List ℕ) → Has (section_size (object l o) t) k byte now
+  pub sites_write : (byte : ℕ) (now : List ℕ) → Has (section_size (object l o) t) k byte now
       → Has (section_size (object l o) t) k
-      (byte_of site_value (find (is_in_rewritten l o t k) (sites_at l o)) byte)
+      (site_byte l o k (find (is_in_rewritten l o t k) (sites_at l o)) byte)
       (fold (with_site l o) now (sites_in (sites_at l o) t))
   sites_write byte now was =
-      subst (Has n k (byte_of site_value (find (is_in_rewritten l o t k) (sites_at l o)) byte))
+      subst (Has n k (site_byte l o k (find (is_in_rewritten l o t k) (sites_at l o)) byte))
       (sym (fold_filter (λ (site : Site). site.section == t) (with_site l o) now (sites_at l o)))
-      (one_writes n k site_value (is_in_rewritten l o t k) step (sites_at l o) site_alone each_site byte now was)
+      (subst (λ x. Has n k x (fold step now (sites_at l o))) (meant (find (is_in_rewritten l o t k) (sites_at l o)))
+      (one_writes n k site_value (is_in_rewritten l o t k) step (sites_at l o) site_alone each_site byte now was))
+    where
+      meant : (found : Option Site) → byte_of site_value found byte ≡ site_byte l o k found byte
+      meant None = refl
+      meant (Some site) = refl

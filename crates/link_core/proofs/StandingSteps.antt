@@ -12,8 +12,8 @@ use Rattle.tls_relocs.specs.Elements.{slice_get-splice_after, slice_get-splice_b
 use Rattle.link_core.proofs.LengthsKept.{fold_has}
 
 -- n bytes, of which byte q is this
-abbrev pub Has : ℕ → ℕ → Option ℕ → List ℕ → Type 0
-Has n q byte now = (length now ≡ n) × (slice_get now q ≡ byte)
+abbrev pub Has : ℕ → ℕ → ℕ → List ℕ → Type 0
+Has n q byte now = (length now ≡ n) × (slice_get now q ≡ Some byte)
 
 -- ** tests
 
@@ -45,23 +45,22 @@ one_found test (y ∷ ys) x has passes alone =
 
 -- ** one after another
 
--- the byte of what is found, if anything is
-abbrev pub byte_of : {X : Type 0} → (X → ℕ) → Option X → Option ℕ → Option ℕ
+-- the byte of what is found, else the other
+abbrev pub byte_of : {X : Type 0} → (X → ℕ) → Option X → ℕ → ℕ
 byte_of value None byte = byte
-byte_of value (Some x) byte = Some (value x)
+byte_of value (Some x) byte = value x
 
 module _ {X : Type 0} (n q : ℕ) (value : X → ℕ) (test : X → Bool) (f : List ℕ → X → List ℕ) where
   -- a step that passes the test writes its byte, another leaves what is there
   abbrev pub Writes : X → Type 0
-  Writes x =
-      (byte : Option ℕ) (now : List ℕ) → Has n q byte now → Has n q (if test x then Some (value x) else byte) (f now x)
+  Writes x = (byte : ℕ) (now : List ℕ) → Has n q byte now → Has n q (if test x then value x else byte) (f now x)
 
   -- no two of these pass the test
   abbrev pub PassAlone : List X → Type 0
   PassAlone xs = (x y : X) → Contains xs x → Contains xs y → test x ≡ true → test y ≡ true → y ≡ x
 
   -- over a list
-  pub one_writes : (xs : List X) → PassAlone xs → ((x : X) → Contains xs x → Writes x) → (byte : Option ℕ) (now : List ℕ)
+  pub one_writes : (xs : List X) → PassAlone xs → ((x : X) → Contains xs x → Writes x) → (byte : ℕ) (now : List ℕ)
       → Has n q byte now → Has n q (byte_of value (find test xs) byte) (fold f now xs)
   one_writes [] alone each byte now has = has
   one_writes (x ∷ xs) alone each byte now has =
@@ -77,25 +76,25 @@ module _ {X : Type 0} (n q : ℕ) (value : X → ℕ) (test : X → Bool) (f : L
 
       -- one more leaves the first one's byte
       again : (y : X) → Contains xs y → test x ≡ true → (next : List ℕ) (t : Bool) → test y ≡ t
-          → Has n q (if t then Some (value y) else Some (value x)) next → Has n q (Some (value x)) next
+          → Has n q (if t then value y else value x) next → Has n q (value x) next
       again y among passes next true e long =
-          subst (λ z. Has n q (Some (value z)) next) (alone x y first (later y among) passes e) long
+          subst (λ z. Has n q (value z) next) (alone x y first (later y among) passes e) long
       again y among passes next false e long = long
 
-      of_test : (t : Bool) → test x ≡ t → Has n q (if t then Some (value x) else byte) (f now x)
+      of_test : (t : Bool) → test x ≡ t → Has n q (if t then value x else byte) (f now x)
           → (Has n q byte (f now x) → Has n q (byte_of value (find test xs) byte) (fold f (f now x) xs))
           → Has n q (byte_of value (if t then Some x else find test xs) byte) (fold f (f now x) xs)
       of_test true e made rest =
-          fold_has (Has n q (Some (value x))) f xs (f now x)
+          fold_has (Has n q (value x)) f xs (f now x)
           (λ y among next long.
-          again y among e (f next y) (test y) refl (each y (later y among) (Some (value x)) next long)) made
+          again y among e (f next y) (test y) refl (each y (later y among) (value x) next long)) made
       of_test false e made rest = rest made
 
 -- ** writing
 
 -- what is written elsewhere
 pub splice_leaves : (n q at : ℕ) (new : List ℕ) → at + length new ≤ n → (q < at) ⊎ (at + length new ≤ q)
-    → (byte : Option ℕ) (now : List ℕ) → Has n q byte now → Has n q byte (splice at new now)
+    → (byte : ℕ) (now : List ℕ) → Has n q byte now → Has n q byte (splice at new now)
 splice_leaves n q at new inside away byte now has =
     (length-splice at new now (omega (arith, has.0)) ∙ has.0, of_place away ∙ has.1)
   where
@@ -105,7 +104,7 @@ splice_leaves n q at new inside away byte now has =
 
 -- what is written there
 pub splice_fills : (n q at : ℕ) (new : List ℕ) → at + length new ≤ n → at ≤ q → q < at + length new
-    → (now : List ℕ) → length now ≡ n → Has n q (Some (slice_index_or new (q - at) 0)) (splice at new now)
+    → (now : List ℕ) → length now ≡ n → Has n q (slice_index_or new (q - at) 0) (splice at new now)
 splice_fills n q at new inside low high now is = (
   length-splice at new now (omega arith) ∙ is,
   slice_get-splice_within at q new now (omega arith) low high ∙ slice_get-get_or new (q - at) 0 (omega arith),
