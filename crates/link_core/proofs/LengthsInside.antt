@@ -1,68 +1,71 @@
--- A section whose fields are filled lies in the file of sections, and that file is the front of the whole.
-use Rattle.std.proofs.Common.{◌≡◌, ◌≢◌, ◌+◌, ◌*◌, ◌<◌, ◌≤◌, ◌∙◌, ℕ, zero, suc, Bool, true, false, List, [], Option}
+-- Fields and sequences lie in their sections, and the file of sections is the front of the whole.
+use Rattle.std.proofs.Common.{◌≡◌, ◌≢◌, ◌+◌, ◌*◌, ◌<◌, ◌≤◌, ◌∙◌, ◌++◌, ◌-◌, ℕ, zero, suc, Bool, true, false, List, [], Option}
 use Rattle.std.proofs.Common.{Some, None, length, inl, inr, refl, sym, ap, subst, arith, length-append}
-use Rattle.std.specs.Prelude.{IsSome, map, nat_lt, unwrap_or, if◌then◌else◌, ◌==◌}
+use Rattle.std.specs.Prelude.{IsSome, map, nat_lt, if◌then◌else◌, ◌==◌}
 use Rattle.std.specs.List.{Contains, range_with_len}
 use Rattle.std.proofs.lemmas.Bool.{ltb-true}
+use Rattle.std.proofs.lemmas.List.{append-assoc, append-nil}
+use Rattle.std.proofs.lemmas.List.Elements.{All-contains}
 use Rattle.object_rules.specs.declared.fault.FaultKind.TheVariants.{RelocTarget}
 use Rattle.object_faults.specs.declared.class.SectionClass.{SectionClass}
 use Rattle.object_faults.specs.declared.class.SectionClass.TheVariants.{Executable, Tls}
 use Rattle.elf_object.specs.declared.relocation.Relocation.{Relocation}
 use Rattle.elf_object.specs.Classes.{kept_class, IsKeptSection}
 use Rattle.elf_object.specs.Faults.{IsObject, Stands}
+use Rattle.elf_object.specs.Lawful.{IsLawful}
 use Rattle.elf_object.specs.Laws.{table_of_kept}
 use Rattle.elf_object.specs.LawsOfParts.{class_of_section}
+use Rattle.elf_object.specs.LawsOfRelocations.{lawful as relocations_lawful}
 use Rattle.elf_object.specs.LawsOfSections.{class_holds, kept_as}
 use Rattle.elf_object.specs.Lent.{kept_relocation_table, relocation_at, relocations, relocations_from, relocations_in}
 use Rattle.elf_object.specs.Lent.{section_bytes, section_class, section_size}
 use Rattle.elf_object.specs.Parts.{section, entry_count}
+use Rattle.elf_object.specs.Relocations.{field_width}
 use Rattle.sequence_forms.specs.declared.forms.Form.{Form}
-use Rattle.sequence_match.specs.Faults.{bytes_of_code, code_of}
+use Rattle.sequence_forms.specs.declared.places.Site.{Site}
+use Rattle.sequence_match.specs.Faults.{IsSite, bytes_of_code, code_of}
 use Rattle.sequence_forms.specs.Forms.{row}
-use Rattle.tls_layout.specs.Places.{address_of}
-use Rattle.tls_layout.proofs.LawsOfPlaces.{have_addresses}
-use Rattle.tls_layout.proofs.LawsOfSections.{finds_sections}
 use Rattle.placed_sections.specs.Files.{offset_of, sections_file}
-use Rattle.placed_sections.specs.Laws.{AreLaid}
-use Rattle.placed_sections.proofs.Told.{sections_fit}
-use Rattle.link_needs.specs.Linking.{Linking, layout, object, place}
+use Rattle.tls_relocs.specs.Laid.{zeros}
+use Rattle.link_needs.specs.Linking.{Linking, layout, object, sites_at}
 use Rattle.link_needs.specs.Needs.{got_size, got_start, has_stub, stub_start}
-use Rattle.link_core.specs.Bytes.{got_bytes, raw_file, stub_bytes, with_got, with_part, with_stub}
-use Rattle.link_needs.specs.Given.{FitsTable, IsGiven}
+use Rattle.link_core.specs.Bytes.{file, got_bytes, linked_section, stub_bytes, with_got, with_part}
+use Rattle.link_needs.specs.Given.{IsGiven}
 use Rattle.sequence_match.proofs.Rows.{first_inside}
-
-pub are_laid : (l : Linking) → IsGiven l → FitsTable l → AreLaid l.kind l.objects
-are_laid l given limits = record { lawful = limits.lawful; are_objects = given.are_objects }
 
 -- what is given of object o
 pub is_object : (l : Linking) (o : ℕ) → IsGiven l → o < length l.objects → IsObject (object l o)
 is_object l o given there = given.are_objects o [] there
 
--- ** the parts behind the sections only make the file longer
+-- ** what lies behind the sections only makes the file longer
 
--- a file that goes on keeps what it has
-part_longer : (l : Linking) (address : ℕ) (bytes file : List ℕ) → length file ≤ length (with_part l address bytes file)
-part_longer l address bytes file = omega (arith, length-append {A = ℕ})
-
-pub got_longer : (l : Linking) (file : List ℕ) → length file ≤ length (with_got l file)
-got_longer l file = of_test (got_size l == 0)
+pub goes_on : (l : Linking)
+    → (more : List ℕ) × (file l ≡ sections_file (layout l) (linked_section l) l.objects ++ more)
+unfolding file
+goes_on l = stub (has_stub l) (got (got_size l == 0))
   where
-    of_test : (t : Bool) → length file ≤ length (if t then file else with_part l (got_start l) (got_bytes l) file)
-    of_test true = omega arith
-    of_test false = part_longer l (got_start l) (got_bytes l) file
+    sections : List ℕ
+    sections = sections_file (layout l) (linked_section l) l.objects
 
-stub_longer : (l : Linking) (file : List ℕ) → length file ≤ length (with_stub l file)
-stub_longer l file = of_test (has_stub l)
-  where
-    of_test : (t : Bool) → length file ≤ length (if t then with_part l (stub_start l) (stub_bytes l) file else file)
-    of_test true = part_longer l (stub_start l) (stub_bytes l) file
-    of_test false = omega arith
+    got : (t : Bool) → (more : List ℕ)
+        × ((if t then sections else with_part l (got_start l) (got_bytes l) sections) ≡ sections ++ more)
+    got true = ([], sym (append-nil sections))
+    got false = (_, refl)
 
-pub raw_longer : (l : Linking) → length (sections_file (layout l) l.objects) ≤ length (raw_file l)
-unfolding raw_file
-raw_longer l =
-    let sections = sections_file (layout l) l.objects in
-    omega (arith, got_longer l sections, stub_longer l (with_got l sections))
+    stub : (t : Bool) → ((more : List ℕ) × (with_got l sections ≡ sections ++ more)) → (more : List ℕ)
+        × ((if t then with_part l (stub_start l) (stub_bytes l) (with_got l sections) else with_got l sections)
+        ≡ sections ++ more)
+    stub true front =
+        let gap = zeros (offset_of (layout l) (stub_start l) - length (with_got l sections)) in
+        let last = gap ++ stub_bytes l in
+        (front.0 ++ last, ap (λ xs. xs ++ last) front.1 ∙ append-assoc sections front.0 last)
+    stub false front = front
+
+pub file_longer : (l : Linking) → length (sections_file (layout l) (linked_section l) l.objects) ≤ length (file l)
+file_longer l =
+    let front = goes_on l in
+    let sections = sections_file (layout l) (linked_section l) l.objects in
+    omega (arith, ap length front.1, length-append sections front.0)
 
 -- ** a section that has relocations has an address
 
@@ -119,20 +122,12 @@ is_relocated b object t x has =
       has_address = λ none. empty is_kept (e ∙ ap Some none);
     }
 
--- such a section of object o lies in the file
-pub section_inside : (l : Linking) (o t : ℕ) (class : SectionClass) → IsGiven l → FitsTable l → o < length l.objects
-    → section_class (object l o) t ≡ Some class → class ≢ Tls false → 0 < section_size (object l o) t
-    → offset_of (layout l) (place l o t 0) + section_size (object l o) t ≤ length (sections_file (layout l) l.objects)
-section_inside l o t class given limits there is other some =
-    let found = (finds_sections l.kind l.objects o t there).class_is in
-    of_address (address_of (layout l) o t) refl (have_addresses (layout l) o t class (found ∙ is) other)
-  where
-    of_address : (address : Option ℕ) → address_of (layout l) o t ≡ address → IsSome address
-        → offset_of (layout l) (unwrap_or address 0 + 0) + section_size (object l o) t
-        ≤ length (sections_file (layout l) l.objects)
-    of_address None e has = absurd (cc)
-    of_address (Some address) e has =
-        omega (arith, sections_fit l.kind l.objects o t address (are_laid l given limits) (there, e) some)
+-- a field lies in its section
+pub field_fits : (l : Linking) (o t : ℕ) (r : Relocation) → IsGiven l → o < length l.objects
+    → Contains (relocations (object l o) t) r → r.offset + field_width r.kind ≤ section_size (object l o) t
+field_fits l o t r given there has =
+    let b = object l o in
+    (All-contains (IsLawful b t) (relocations b t) r (relocations_lawful b (is_object l o given there) t) has).inside
 
 -- ** code
 
@@ -157,3 +152,29 @@ is_code b object t some = of_class (section_class b t) refl some
 -- a sequence has bytes
 pub form_some : (form : Form) → 0 < length (row form).cells
 form_some form = omega (arith, first_inside form)
+
+-- what is given of a site
+pub own_site : (l : Linking) (o : ℕ) (site : Site) → IsGiven l → o < length l.objects → Contains (sites_at l o) site
+    → IsSite (object l o) site
+own_site l o site given there has =
+    All-contains (IsSite (object l o)) (sites_at l o) site (given.are_sites o there).only has
+
+-- it lies in code
+pub site_code : (l : Linking) (o : ℕ) (site : Site) → IsGiven l → o < length l.objects → Contains (sites_at l o) site
+    → IsCode (object l o) site.section
+site_code l o site given there has =
+    let own = (own_site l o site given there has).1 in
+    let spelled = own.spelled.inside in
+    let len = own.len_is in
+    let some = form_some site.form in
+    is_code (object l o) (is_object l o given there) site.section (omega arith)
+
+-- in its section
+pub site_fits : (l : Linking) (o : ℕ) (site : Site) → IsGiven l → o < length l.objects → Contains (sites_at l o) site
+    → site.start + site.len ≤ section_size (object l o) site.section
+site_fits l o site given there has =
+    let own = (own_site l o site given there has).1 in
+    let spelled = own.spelled.inside in
+    let len = own.len_is in
+    let size = (site_code l o site given there has).size_is in
+    omega arith

@@ -1,9 +1,9 @@
--- Fields and sequences that lie in a file leave it as long as it was.
-use Rattle.std.proofs.Common.{◌≡◌, ◌≢◌, ◌+◌, ◌-◌, ◌<◌, ◌≤◌, ◌∙◌, ℕ, ℤ, suc, Bool, true, false, List, [], ◌∷◌, Option}
-use Rattle.std.proofs.Common.{IsSome, Some, None, length, refl, ap, subst, arith}
-use Rattle.std.specs.Prelude.{pos, ◌+ℤ◌, ◌-ℤ◌, fold, slice_index_or, unwrap_or, if◌then◌else◌}
-use Rattle.std.specs.List.{Contains, range_with_len}
-use Rattle.std.proofs.lemmas.Bool.Decides.{nat_tests}
+-- What is written in a section leaves it as long as it was.
+use Rattle.std.proofs.Common.{◌≡◌, ◌≢◌, ◌+◌, ◌<◌, ◌≤◌, ◌==◌, ◌∙◌, ℕ, ℤ, suc, Bool, true, false, List, [], ◌∷◌}
+use Rattle.std.proofs.Common.{Option, IsSome, Some, None, length, refl, ap, subst, arith}
+use Rattle.std.specs.Prelude.{pos, ◌+ℤ◌, ◌-ℤ◌, fold, unwrap_or, if◌then◌else◌}
+use Rattle.std.specs.List.{Contains, filter}
+use Rattle.std.proofs.lemmas.Bool.{eqb-true}
 use Rattle.std.proofs.lemmas.List.{take-append-drop}
 use Rattle.elf_records.specs.declared.relocation.RelocationKind.{RelocationKind}
 use Rattle.elf_records.specs.declared.relocation.RelocationKind.TheVariants.{Nothing, Absolute64, Pc32, Plt32, GotPcRel}
@@ -15,15 +15,14 @@ use Rattle.elf_records.specs.Fields.{splice}
 use Rattle.elf_records.specs.Laws.{length-bytes_of, length-splice}
 use Rattle.elf_object.specs.Relocations.{field_width}
 use Rattle.elf_object.specs.declared.relocation.Relocation.{Relocation}
-use Rattle.elf_object.specs.Lent.{relocation_target, relocations}
-use Rattle.elf_object.specs.Object.{section_count}
+use Rattle.elf_object.specs.Lent.{relocations, section_size}
 use Rattle.tls_relocs.specs.declared.fields.Field.{Field}
 use Rattle.tls_relocs.specs.declared.fields.Field.TheVariants.{Empty}
 use Rattle.tls_relocs.specs.Fields.{field_bytes}
 use Rattle.tls_relocs.specs.Values.{fits_signed, fits_unsigned, signed_field, stored_field, word32}
-use Rattle.placed_sections.specs.Files.{offset_of}
-use Rattle.object_faults.specs.Firsts.{nonzero}
-use Rattle.tls_symbols.specs.Faults.{held_for, held_in}
+use Rattle.placed_sections.specs.Files.{AreWhole, memory_bytes}
+use Rattle.placed_sections.specs.Laws.{AreLaid}
+use Rattle.placed_sections.proofs.Kept.{long_as_memory}
 use Rattle.sequence_match.specs.Sites.{first_of}
 use Rattle.relax_sites.specs.declared.choices.Choice.{Choice}
 use Rattle.relax_sites.specs.declared.choices.Choice.TheVariants.{Keep, GdLe, GdIe, IeLe, DescLe, DescIe}
@@ -36,11 +35,12 @@ use Rattle.sequence_forms.specs.declared.forms.Form.{Form}
 use Rattle.sequence_forms.specs.declared.forms.Form.TheVariants.{Gd, IeMov, IeAdd, GdInd, DescLea}
 use Rattle.sequence_forms.specs.declared.places.Site.{Site}
 use Rattle.link_faults.specs.declared.binding.Binding.{Binding}
-use Rattle.link_needs.specs.Linking.{Linking, binding, choice, chosen, layout, place}
+use Rattle.link_needs.specs.Given.{FitsTable, IsGiven}
+use Rattle.link_needs.specs.Linking.{Linking, binding, choice, chosen, object, sites_at}
 use Rattle.link_needs.specs.Needs.{new_relocation}
-use Rattle.link_core.specs.Bytes.{in_file, with_field, with_field_at, with_fields, with_fields_from, with_new_field}
-use Rattle.link_core.specs.Bytes.{with_site, with_sites_from, with_table}
+use Rattle.link_core.specs.Bytes.{linked, linked_section, with_field, with_new_field, with_site, with_value}
 use Rattle.link_needs.specs.Values.{field, is_replaced}
+use Rattle.link_core.proofs.LengthsInside.{field_fits, own_site, site_fits}
 
 -- ** how many bytes a field has
 
@@ -86,6 +86,10 @@ pub field_at_most : (kind : RelocationKind) (s : ℕ) (a : ℤ) (p g : ℕ)
     → IsAtMost (field_width kind) (stored_field kind s a p g)
 field_at_most kind s a p g = at_most (field_width kind) (stored_field kind s a p g) (field_exact kind s a p g)
 
+pub field_few : (l : Linking) (o t : ℕ) (r : Relocation) → IsAtMost (field_width r.kind) (field l o t r)
+unfolding field
+field_few l o t r = field_at_most r.kind _ r.addend _ _
+
 -- ** writing
 
 -- no bytes change nothing
@@ -101,25 +105,48 @@ splice_keeps at (x ∷ new) file inside = length-splice at (x ∷ new) file (ins
 
 -- ** one after another
 
--- steps that keep a length, over a list
+-- steps that keep what holds of a list
+pub fold_has : {X : Type 0} (P : List ℕ → Type 0) (f : List ℕ → X → List ℕ) (xs : List X) (now : List ℕ)
+    → ((x : X) → Contains xs x → (now : List ℕ) → P now → P (f now x)) → P now → P (fold f now xs)
+fold_has P f [] now each has = has
+fold_has P f (x ∷ xs) now each has =
+    fold_has P f xs (f now x) (λ y among. each y (suc among.0, omega arith, among.2))
+    (each x (0, omega arith, refl) now has)
+
+-- a length
 pub fold_keeps : {X : Type 0} (f : List ℕ → X → List ℕ) (n : ℕ) (xs : List X) (file : List ℕ)
     → ((x : X) → Contains xs x → (now : List ℕ) → length now ≡ n → length (f now x) ≡ n)
     → length file ≡ n → length (fold f file xs) ≡ n
-fold_keeps f n [] file each is = is
-fold_keeps f n (x ∷ xs) file each is =
-    fold_keeps f n xs (f file x) (λ y has. each y (suc has.0, omega arith, has.2))
-    (each x (0, omega arith, refl) file is)
+fold_keeps f n = fold_has (λ now. length now ≡ n) f
 
--- the relocations that a section holds are those of its target
-pub held_of : (b : List ℕ) (t : ℕ) (r : Relocation) → Contains (held_for b (nonzero t)) r → Contains (relocations b t) r
-held_of b t r has = of_target (nonzero t) refl has
+-- steps over what a filter lets through are steps over all, of which some do nothing
+pub fold_filter : {X : Type 0} (test : X → Bool) (f : List ℕ → X → List ℕ) (now : List ℕ) (xs : List X)
+    → fold f now (filter test xs) ≡ fold (λ now x. if test x then f now x else now) now xs
+fold_filter test f now [] = refl
+fold_filter {X = X} test f now (x ∷ xs) =
+    of_test (test x) (fold_filter test f (f now x) xs) (fold_filter test f now xs)
   where
-    of_target : (s : Option ℕ) → s ≡ nonzero t → Contains (held_for b s) r → Contains (relocations b t) r
-    of_target None e has = absurd (omega arith)
-    of_target (Some s) e has = subst (λ i. Contains (relocations b i) r) (own t s e) has
-      where
-        own : (t s : ℕ) → Some s ≡ nonzero t → s ≡ t
-        own t s e = grind (arith, nat_tests)
+    some : List ℕ → X → List ℕ
+    some now y = if test y then f now y else now
+
+    of_test : (t : Bool) → fold f (f now x) (filter test xs) ≡ fold some (f now x) xs
+        → fold f now (filter test xs) ≡ fold some now xs
+        → fold f now (if t then x ∷ filter test xs else filter test xs) ≡ fold some (if t then f now x else now) xs
+    of_test true with_it without = with_it
+    of_test false with_it without = without
+
+-- ** one field
+
+pub field_keeps : (l : Linking) (o t : ℕ) (bytes : List ℕ) (r : Relocation)
+    → r.offset + field_width r.kind ≤ length bytes → length (with_field l o t bytes r) ≡ length bytes
+field_keeps l o t bytes r inside = of_test (is_replaced l o r)
+  where
+    of_test : (test : Bool) → length (if test then bytes else with_value r.offset (field l o t r) bytes) ≡ length bytes
+    of_test true = refl
+    of_test false =
+        length-splice r.offset (field_bytes (unwrap_or (field l o t r) Empty)) bytes (omega (arith, field_few l o t r))
+
+-- ** one sequence
 
 -- what is chosen is of its form
 pub chosen_own : (l : Linking) (form : Form) (bound : Option Binding) → chosen l form bound ≢ Keep
@@ -127,132 +154,99 @@ pub chosen_own : (l : Linking) (form : Form) (bound : Option Binding) → chosen
 chosen_own l form None changes = absurd (changes refl)
 chosen_own l form (Some bound) changes = own_choice form bound l.kind l.relax
 
--- ** the parts of the linking, of which each leaves n bytes
+pub own_choice_of : (l : Linking) (o : ℕ) (site : Site) → choice l o site ≢ Keep → IsChoiceOf site.form (choice l o site)
+unfolding choice
+own_choice_of l o site = chosen_own l site.form (binding l o (first_of site))
 
-module _ (l : Linking) (n : ℕ) where
-  field_at_keeps : (o t k width : ℕ) (value : Option Field) (now : List ℕ) → IsAtMost width value
-      → (0 < width → offset_of (layout l) (place l o t k) + width ≤ n)
-      → length now ≡ n → length (with_field_at l o t k value now) ≡ n
-  field_at_keeps o t k width value now few inside is =
-      splice_keeps (offset_of (layout l) (place l o t k)) (field_bytes (unwrap_or value Empty)) now
-      (λ some. omega (arith, inside (omega arith))) ∙ is
+rewritten_keeps : (site : Site) (choice : Choice) (now : List ℕ) → (choice ≢ Keep → IsChoiceOf site.form choice)
+    → site.start + site.len ≤ length now → site.len ≡ form_length site.form
+    → length (rewritten site choice now) ≡ length now
+rewritten_keeps site Keep now own inside whole = refl
+rewritten_keeps site choice now own inside whole = (stays now site choice (record {
+  inside = inside;
+  whole = whole;
+  own = own (λ h. cc);
+  changes = λ h. cc;
+})).length-is
 
-  -- ** fields
+-- the field of a row
+of_field : (row f : NewField) → Some row ≡ Some f → field_width row.kind ≡ 4 → field_width f.kind ≡ 4
+of_field row f e wide = let same : row ≡ f = cc in subst (λ (x : NewField). field_width x.kind ≡ 4) same wide
 
-  -- the fields of relocations of object o, whose bytes are b
-  abbrev pub FieldsFit : ℕ → List ℕ → Type 0
-  FieldsFit o b = (t : ℕ) (r : Relocation) → Contains (relocations b t) r → 0 < field_width r.kind
-      → offset_of (layout l) (place l o t r.offset) + field_width r.kind ≤ n
+pub new_width : (form : Form) (choice : Choice) (f : NewField) → new_field form choice ≡ Some f → field_width f.kind ≡ 4
+new_width Gd GdLe f is = of_field _ f is refl
+new_width GdInd GdLe f is = of_field _ f is refl
+new_width Gd GdIe f is = of_field _ f is refl
+new_width GdInd GdIe f is = of_field _ f is refl
+new_width IeMov IeLe f is = of_field _ f is refl
+new_width IeAdd IeLe f is = of_field _ f is refl
+new_width DescLea DescLe f is = of_field _ f is refl
+new_width DescLea DescIe f is = of_field _ f is refl
+new_width form choice f is = absurd cc
 
-  field_keeps : (o t : ℕ) (r : Relocation) (now : List ℕ)
-      → (0 < field_width r.kind → offset_of (layout l) (place l o t r.offset) + field_width r.kind ≤ n)
-      → length now ≡ n → length (with_field l o t now r) ≡ n
-  unfolding field
-  field_keeps o t r now inside is = of_test (is_replaced l o r)
-    where
-      of_test : (test : Bool)
-          → length (if test then now else with_field_at l o t r.offset (field l o t r) now) ≡ n
-      of_test true = is
-      of_test false = field_at_keeps o t r.offset (field_width r.kind) (field l o t r) now
-          (field_at_most r.kind _ r.addend _ _) inside is
+-- it lies in the row
+pub new_field_in : (l : Linking) (o : ℕ) (site : Site) (f : NewField) → site.len ≡ form_length site.form
+    → new_field site.form (choice l o site) ≡ Some f
+    → f.at + length (field_bytes (unwrap_or (field l o site.section (new_relocation site f)) Empty)) ≤ site.len
+new_field_in l o site f whole is =
+    let end = (field_end site.form (choice l o site) 0 f is).end in
+    let width = new_width site.form (choice l o site) f is in
+    let few = field_few l o site.section (new_relocation site f) in
+    omega (arith, few)
 
-  table_keeps : (o : ℕ) (b : List ℕ) (s : ℕ) (now : List ℕ) → FieldsFit o b
-      → length now ≡ n → length (with_table l o b now s) ≡ n
-  unfolding held_in
-  table_keeps o b s now fit is =
-      let t = relocation_target b s in
-      fold_keeps (with_field l o t) n (held_in b s) now
-      (λ r has file long. field_keeps o t r file (fit t r (held_of b t r has)) long) is
+pub site_keeps : (l : Linking) (o : ℕ) (bytes : List ℕ) (site : Site) → site.start + site.len ≤ length bytes
+    → site.len ≡ form_length site.form → length (with_site l o bytes site) ≡ length bytes
+unfolding with_site
+site_keeps l o bytes site inside whole = of_new (new_field site.form (choice l o site)) refl ∙ row
+  where
+    made : List ℕ
+    made = rewritten site (choice l o site) bytes
 
-  object_keeps : (o : ℕ) (b now : List ℕ) → FieldsFit o b → length now ≡ n → length (with_fields l o b now) ≡ n
-  unfolding with_fields
-  object_keeps o b now fit is =
-      fold_keeps (with_table l o b) n (range_with_len 1 (section_count b - 1)) now
-      (λ s has file long. table_keeps o b s file fit long) is
+    row : length (rewritten site (choice l o site) bytes) ≡ length bytes
+    row = rewritten_keeps site (choice l o site) bytes (own_choice_of l o site) inside whole
 
-  pub objects_keep : (o : ℕ) (bs : List (List ℕ)) (now : List ℕ)
-      → ((k : ℕ) → k < length bs → FieldsFit (o + k) (slice_index_or bs k []))
-      → length now ≡ n → length (with_fields_from l o bs now) ≡ n
-  objects_keep o [] now fit is = is
-  objects_keep o (b ∷ bs) now fit is =
-      objects_keep (o + 1) bs (with_fields l o b now) (λ k below. next k (fit (suc k) (omega arith)))
-      (object_keeps o b now (subst (λ i. FieldsFit i b) first (fit 0 (omega arith))) is)
-    where
-      first : o + 0 ≡ o
-      first = omega arith
+    of_new : (new : Option NewField) → new_field site.form (choice l o site) ≡ new
+        → length (with_new_field l o site new made) ≡ length made
+    of_new None e = refl
+    of_new (Some f) e =
+        length-splice (site.start + f.at)
+        (field_bytes (unwrap_or (field l o site.section (new_relocation site f)) Empty)) made
+        (omega (arith, row, new_field_in l o site f whole e))
 
-      next : (k : ℕ) → FieldsFit (o + suc k) (slice_index_or bs k []) → FieldsFit (o + 1 + k) (slice_index_or bs k [])
-      next k h =
-          let same : o + suc k ≡ o + 1 + k = omega arith in subst (λ i. FieldsFit i (slice_index_or bs k [])) same h
+-- ** a section
 
-  -- ** sequences
+pub linked_keeps : (l : Linking) → IsGiven l → (o t : ℕ) → o < length l.objects → (bytes : List ℕ)
+    → length bytes ≡ section_size (object l o) t → length (linked l o t bytes) ≡ section_size (object l o) t
+linked_keeps l given o t there bytes is =
+    let n = section_size (object l o) t in
+    let in_it = λ (site : Site). site.section == t in
+    let filled = fold (with_field l o t) bytes (relocations (object l o) t) in
+    ap length (fold_filter in_it (with_site l o) filled (sites_at l o))
+    ∙ fold_keeps (λ now site. if in_it site then with_site l o now site else now) n (sites_at l o) filled
+    (λ site has now long. of_test site has now long (site.section == t) refl)
+    (fold_keeps (with_field l o t) n (relocations (object l o) t) bytes
+    (λ r has now long.
+    let fits = field_fits l o t r given there has in
+    field_keeps l o t now r (omega (arith, fits, long)) ∙ long) is)
+  where
+    of_test : (site : Site) → Contains (sites_at l o) site → (now : List ℕ) → length now ≡ section_size (object l o) t
+        → (x : Bool) → (site.section == t) ≡ x
+        → length (if x then with_site l o now site else now) ≡ section_size (object l o) t
+    of_test site has now long true e =
+        let fits = site_fits l o site given there has in
+        let same = ap (section_size (object l o)) (eqb-true site.section t e) in
+        site_keeps l o now site (omega (arith, fits, same, long)) (own_site l o site given there has).1.len_is ∙ long
+    of_test site has now long false e = long
 
-  -- a sequence of object o that lies in n bytes, whole
-  pub record SiteFits (o : ℕ) (site : Site) : Type 0 where
-    pub inside : offset_of (layout l) (place l o site.section site.start) + site.len ≤ n
-    pub whole : site.len ≡ form_length site.form
+-- each section, once it is linked, has as many bytes as in memory
+pub linked_whole : (l : Linking) → IsGiven l → AreWhole (linked_section l) l.objects
+unfolding linked_section
+linked_whole l given o t there =
+    linked_keeps l given o t there (memory_bytes (object l o) t) (long_as_memory (object l o) t)
 
-  -- the sequence in its place
-  rewritten_keeps : (site : Site) (choice : Choice) (now : List ℕ) → (choice ≢ Keep → IsChoiceOf site.form choice)
-      → site.start + site.len ≤ length now → site.len ≡ form_length site.form
-      → length (rewritten site choice now) ≡ length now
-  rewritten_keeps site Keep now own inside whole = refl
-  rewritten_keeps site choice now own inside whole = (stays now site choice (record {
-    inside = inside;
-    whole = whole;
-    own = own (λ h. cc);
-    changes = λ h. cc;
-  })).length-is
-
-  -- its field
-  of_field : (row f : NewField) → Some row ≡ Some f → field_width row.kind ≡ 4 → field_width f.kind ≡ 4
-  of_field row f e wide = let same : row ≡ f = cc in subst (λ (x : NewField). field_width x.kind ≡ 4) same wide
-
-  pub new_width : (form : Form) (choice : Choice) (f : NewField) → new_field form choice ≡ Some f → field_width f.kind ≡ 4
-  new_width Gd GdLe f is = of_field _ f is refl
-  new_width GdInd GdLe f is = of_field _ f is refl
-  new_width Gd GdIe f is = of_field _ f is refl
-  new_width GdInd GdIe f is = of_field _ f is refl
-  new_width IeMov IeLe f is = of_field _ f is refl
-  new_width IeAdd IeLe f is = of_field _ f is refl
-  new_width DescLea DescLe f is = of_field _ f is refl
-  new_width DescLea DescIe f is = of_field _ f is refl
-  new_width form choice f is = absurd cc
-
-  field_of_site_keeps : (o : ℕ) (site : Site) (choice : Choice) (new : Option NewField) (now : List ℕ) → SiteFits o site
-      → new_field site.form choice ≡ new → length now ≡ n → length (with_new_field l o site new now) ≡ n
-  unfolding field
-  field_of_site_keeps o site choice None now fits e is = is
-  field_of_site_keeps o site choice (Some f) now fits e is =
-      let end = (field_end site.form choice 0 f e).end in
-      let width = new_width site.form choice f e in
-      let inside = fits.inside in
-      let whole = fits.whole in
-      field_at_keeps o site.section (site.start + f.at) (field_width f.kind)
-      (field l o site.section (new_relocation site f)) now
-      (field_at_most f.kind _ f.addend _ _) (λ some. omega arith) is
-
-  site_keeps : (o : ℕ) (site : Site) (now : List ℕ) → SiteFits o site → length now ≡ n
-      → length (with_site l o now site) ≡ n
-  unfolding with_site choice
-  site_keeps o site now fits is =
-      let inside = fits.inside in
-      field_of_site_keeps o site (choice l o site) (new_field site.form (choice l o site)) _ fits refl
-      (rewritten_keeps (in_file l o site) (choice l o site) now (chosen_own l site.form (binding l o (first_of site)))
-      (omega arith) fits.whole ∙ is)
-
-  pub sites_keep : (o : ℕ) (sites : List (List Site)) (now : List ℕ)
-      → ((k : ℕ) → k < length sites → (site : Site) → Contains (slice_index_or sites k []) site → SiteFits (o + k) site)
-      → length now ≡ n → length (with_sites_from l o sites now) ≡ n
-  sites_keep o [] now fit is = is
-  sites_keep o (own ∷ more) now fit is =
-      sites_keep (o + 1) more (fold (with_site l o) now own)
-      (λ k below site has. next k site (fit (suc k) (omega arith) site has))
-      (fold_keeps (with_site l o) n own now
-      (λ site has file long. site_keeps o site file (first site (fit 0 (omega arith) site has)) long) is)
-    where
-      first : (site : Site) → SiteFits (o + 0) site → SiteFits o site
-      first site h = let same : o + 0 ≡ o = omega arith in subst (λ i. SiteFits i site) same h
-
-      next : (k : ℕ) (site : Site) → SiteFits (o + suc k) site → SiteFits (o + 1 + k) site
-      next k site h = let same : o + suc k ≡ o + 1 + k = omega arith in subst (λ i. SiteFits i site) same h
+pub are_laid : (l : Linking) → IsGiven l → FitsTable l → AreLaid l.kind (linked_section l) l.objects
+are_laid l given limits = record {
+  lawful = limits.lawful;
+  are_objects = given.are_objects;
+  whole = linked_whole l given;
+}

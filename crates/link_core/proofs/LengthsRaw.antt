@@ -1,4 +1,4 @@
--- The file of all parts ends where the last part does, before and after its fields are filled.
+-- The file ends where the last part does.
 use Rattle.std.proofs.Common.{◌≡◌, ◌+◌, ◌-◌, ◌*◌, ◌^◌, ◌<◌, ◌≤◌, ◌∙◌, ◌++◌, ℕ, zero, suc, ℤ, Bool, true, false, List}
 use Rattle.std.proofs.Common.{[], ◌∷◌, Option, Some, None, FitsSigned, IsSome, length, refl, ap, arith, length-append}
 use Rattle.std.specs.Prelude.{pos, negsuc, neg_ℤ, nat_lt, cond, ◌+ℤ◌, ◌-ℤ◌, ◌==◌, if◌then◌else◌, unwrap_or}
@@ -31,9 +31,10 @@ use Rattle.tls_relocs.specs.ValueLaws.{signed_fits}
 use Rattle.tls_relocs.specs.Values.{fits_signed, signed_field, word32}
 use Rattle.link_needs.specs.Linking.{Linking, block_offset, layout}
 use Rattle.link_needs.specs.Needs.{entries, entry_by, got_size, got_start, has_stub, need_address, stub_start}
-use Rattle.link_core.specs.Bytes.{got_bytes, need_bytes, raw_file, stub_bytes, with_got, with_part, with_stub}
+use Rattle.link_core.specs.Bytes.{file, got_bytes, linked_section, need_bytes, stub_bytes, with_got, with_part}
+use Rattle.link_core.specs.Bytes.{with_stub}
 use Rattle.link_needs.specs.Given.{FitsTable, IsGiven}
-use Rattle.link_core.proofs.LengthsInside.{are_laid}
+use Rattle.link_core.proofs.LengthsKept.{are_laid}
 use Rattle.link_core.proofs.LengthsPlaces.{base_before, got_end, got_end-before, got_start-after, last_end}
 use Rattle.link_core.proofs.LoadsParts.{page_near}
 
@@ -191,9 +192,9 @@ with_stub_length l file given limits is = of_test (has_stub l)
         ∙ ap (λ n. offset_of (layout l) (stub_start l + n)) (stub_length l given limits)
     of_test false = is
 
-pub raw_length : (l : Linking) → IsGiven l → FitsTable l → length (raw_file l) ≡ offset_of (layout l) (last_end l)
-unfolding raw_file
-raw_length l given limits =
-    let sections = sections_file (layout l) l.objects in
+pub file_length : (l : Linking) → IsGiven l → FitsTable l → length (file l) ≡ offset_of (layout l) (last_end l)
+unfolding file
+file_length l given limits =
+    let sections = sections_file (layout l) (linked_section l) l.objects in
     with_stub_length l (with_got l sections) given limits
-    (with_got_length l sections (files_end l.kind l.objects (are_laid l given limits)))
+    (with_got_length l sections (files_end l.kind (linked_section l) l.objects (are_laid l given limits)))

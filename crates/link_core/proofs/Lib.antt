@@ -32,7 +32,6 @@ pub mod RelativesApart
 pub mod RelativesFields
 pub mod RelativesParts
 pub mod Standing
-pub mod StandingAway
 pub mod StandingFields
 pub mod StandingParts
 pub mod StandingPlaces

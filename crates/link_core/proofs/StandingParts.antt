@@ -21,17 +21,16 @@ use Rattle.tls_relocs.specs.Elements.{slice_get-append, slice_get-append_behind,
 use Rattle.link_needs.specs.Given.{FitsTable, IsGiven}
 use Rattle.link_needs.specs.Linking.{Linking, layout, object}
 use Rattle.link_needs.specs.Needs.{got_size, got_start, has_stub, stub_start}
-use Rattle.link_core.specs.Bytes.{file, got_bytes, stub_bytes}
+use Rattle.link_core.specs.Bytes.{file, got_bytes, linked_section, stub_bytes}
 use Rattle.link_core.specs.Images.{contents, file_kind, got_number, got_places, image_of, places, section_places}
 use Rattle.link_core.specs.Images.{stub_places}
 use Rattle.link_core.specs.Laws.{GapsAreZero, IsGap, StubsAreParts, TablesAreParts}
 use Rattle.link_core.proofs.Few.{table_fits}
-use Rattle.link_core.proofs.LengthsInside.{are_laid}
+use Rattle.link_core.proofs.LengthsKept.{are_laid}
 use Rattle.link_core.proofs.LengthsPlaces.{are_parts, base_before, got_place, lie_between, same_base, stub_place}
 use Rattle.link_core.proofs.GotRelocationsSites.{not_zero}
-use Rattle.link_core.proofs.Standing.{raw_leaves}
-use Rattle.link_core.proofs.StandingAway.{file_away}
-use Rattle.link_core.proofs.StandingPlaces.{Lies, lies_at}
+use Rattle.link_core.proofs.Standing.{sections_stay}
+use Rattle.link_core.proofs.StandingPlaces.{lies_at}
 use Rattle.link_core.proofs.StandingTable.{stub_at, table_at}
 
 -- ** between sections
@@ -43,21 +42,13 @@ module _ (l : Linking) (given : IsGiven l) (limits : FitsTable l) where
   gap_is_zero address above below gap =
       let laid = are_laid l given limits in
       let q = offset_of (layout l) address in
-      let end = files_end l.kind l.objects laid in
-      let inside : q < length (sections_file (layout l) l.objects) = omega (arith, end, below, above) in
-      file_away l given limits q away
-      ∙ raw_leaves l q inside
-      ∙ zero_between l.kind l.objects q laid inside
+      let contents = linked_section l in
+      let end = files_end l.kind contents l.objects laid in
+      let inside : q < length (sections_file (layout l) contents l.objects) = omega (arith, end, below, above) in
+      sections_stay l q inside
+      ∙ zero_between l.kind contents l.objects q laid inside
       (λ o t begin at. moved o t begin (lies_at l given limits o t begin at.0 at.1).above (gap o t begin at.0 at.1))
     where
-      away : (o t begin : ℕ) → Lies l o t begin
-          → (offset_of (layout l) address < offset_of (layout l) begin)
-          ⊎ (offset_of (layout l) (begin + section_size (object l o) t) ≤ offset_of (layout l) address)
-      away o t begin lies = elim (gap o t begin lies.there lies.address_is) [
-        | inl before ↦ inl (omega (arith, above, before))
-        | inr behind ↦ inr (omega (arith, above, behind))
-      ]
-
       moved : (o t begin : ℕ) → base_of l.kind ≤ begin
           → (address < begin) ⊎ (begin + section_size (object l o) t ≤ address)
           → (offset_of (layout l) address < offset_of (layout l) begin)

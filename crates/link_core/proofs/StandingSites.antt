@@ -1,11 +1,9 @@
 -- What the sequences in the place of rewritten sites make of a byte of a section.
-use Rattle.std.proofs.Common.{◌≡◌, ◌≢◌, ◌+◌, ◌-◌, ◌<◌, ◌≤◌, ◌⊎◌, ◌&&◌, ◌==◌, ◌∙◌, ℕ, Bool, true, false, not, List, []}
-use Rattle.std.proofs.Common.{Option, Some, None, length, drop, inl, inr, refl, sym, ap, subst, arith}
-use Rattle.std.specs.Prelude.{fold, nat_le, nat_lt, slice_get, slice_index_or, unwrap_or}
-use Rattle.std.specs.List.{Contains, find, list_any}
-use Rattle.std.proofs.lemmas.Bool.{cases_lt, eq-eqb, eqb-true}
-use Rattle.std.proofs.lemmas.Bool.Decides.{nat_tests}
-use Rattle.std.proofs.lemmas.List.Elements.{All-contains}
+use Rattle.std.proofs.Common.{◌≡◌, ◌≢◌, ◌+◌, ◌-◌, ◌<◌, ◌≤◌, ◌&&◌, ◌==◌, ◌∙◌, ℕ, Bool, true, false, not, List}
+use Rattle.std.proofs.Common.{Option, Some, None, length, drop, refl, sym, ap, subst, arith}
+use Rattle.std.specs.Prelude.{fold, nat_le, nat_lt, slice_get, slice_index_or, unwrap_or, if◌then◌else◌}
+use Rattle.std.specs.List.{Contains, find}
+use Rattle.std.proofs.lemmas.Bool.{eqb-true}
 use Rattle.std.proofs.lemmas.Option.{slice_get-get_or}
 use Rattle.elf_records.specs.Fields.{part_at, splice}
 use Rattle.elf_records.specs.Laws.{length-splice, part_at-splice}
@@ -17,30 +15,23 @@ use Rattle.relax_sites.specs.Rewriting.{rewritten}
 use Rattle.relax_sites.specs.Rows.{new_bytes, new_field}
 use Rattle.relax_sites.proofs.Parts.{part_at-splice_inside}
 use Rattle.relax_sites.proofs.Tables.{row_length}
-use Rattle.placed_sections.specs.Files.{offset_of}
 use Rattle.sequence_forms.specs.declared.forms.Form.{Form}
 use Rattle.sequence_forms.specs.declared.forms.Form.TheVariants.{Gd}
 use Rattle.sequence_forms.specs.declared.places.Site.{Site}
-use Rattle.sequence_match.specs.Faults.{IsSite}
 use Rattle.sequence_match.proofs.ApartSites.{sites_apart}
 use Rattle.tls_relocs.specs.declared.fields.Field.TheVariants.{Empty}
 use Rattle.tls_relocs.specs.Elements.{slice_get-drop, slice_get-take}
 use Rattle.tls_relocs.specs.Fields.{field_bytes}
-use Rattle.link_needs.specs.Linking.{Linking, choice, layout, object, place, sites_at}
+use Rattle.link_needs.specs.Linking.{Linking, choice, object, sites_at}
 use Rattle.link_needs.specs.Needs.{is_kept, new_relocation}
-use Rattle.link_core.specs.Bytes.{in_file, raw_file, with_new_field, with_site, with_sites_from}
-use Rattle.link_tables.specs.Faults.{Links}
-use Rattle.link_needs.specs.Given.{FitsTable, IsGiven}
-use Rattle.link_core.specs.Meant.{is_in_rewritten, rewritten_bytes, row_with}
+use Rattle.link_core.specs.Bytes.{sites_in, with_new_field, with_site}
+use Rattle.link_needs.specs.Given.{IsGiven}
+use Rattle.link_core.specs.Meant.{is_in_rewritten, rewritten_bytes, row_with, site_byte}
 use Rattle.link_needs.specs.Values.{field}
-use Rattle.link_core.proofs.Lengths.{site_inside}
-use Rattle.link_core.proofs.LengthsKept.{splice_keeps}
-use Rattle.link_core.proofs.StandingSteps.{Acts, always, any_range, fold_acts, from_zero, like, none_found}
-use Rattle.link_core.proofs.StandingSteps.{number_not, numbered_acts, one_found, same, splice_fills, when}
-use Rattle.link_core.proofs.StandingPlaces.{Lies, in_away, new_field_in, own_choice_of, site_in, site_leaves}
-use Rattle.link_core.proofs.StandingAway.{own_sites_away}
-use Rattle.link_core.proofs.StandingFields.{other_away}
-use Rattle.link_core.proofs.Few.{table_fits}
+use Rattle.link_core.proofs.LengthsInside.{own_site, site_fits}
+use Rattle.link_core.proofs.LengthsKept.{fold_filter, new_field_in, own_choice_of}
+use Rattle.link_core.proofs.StandingSteps.{Has, byte_of, inside_is, one_writes, outside_is, splice_fills}
+use Rattle.link_core.proofs.StandingSteps.{splice_leaves}
 use Rattle.link_core.proofs.TogetherFound.{covers_is}
 
 -- ** choices
@@ -66,244 +57,141 @@ spliced site choice bytes changes = refl
 
 -- ** bytes in a row that was written
 
-splice_twice : (s a j : ℕ) (new row now : List ℕ) → a + length new ≤ length row → s + length row ≤ length now
-    → j < length row
-    → slice_get (splice (s + a) new (splice s row now)) (s + j) ≡ slice_get (splice a new row) j
+splice_twice : (s a q : ℕ) (new row now : List ℕ) → a + length new ≤ length row → s + length row ≤ length now → s ≤ q
+    → q < s + length row
+    → slice_get (splice (s + a) new (splice s row now)) q ≡ Some (slice_index_or (splice a new row) (q - s) 0)
 unfolding part_at
-splice_twice s a j new row now room inside below =
+splice_twice s a q new row now room inside low high =
     let n = length row in
+    let j = q - s in
     let whole = splice (s + a) new (splice s row now) in
     let long = length-splice s row now inside in
+    let same = length-splice a new row room in
+    let here : q ≡ s + j = omega arith in
     let part : part_at n s whole ≡ splice a new row =
     part_at-splice_inside n a s new (splice s row now) room (omega arith)
     ∙ ap (splice a new) (part_at-splice s row now (omega arith)) in
-    sym (slice_get-drop s j whole) ∙ sym (slice_get-take n j (drop s whole) below) ∙ ap (λ xs. slice_get xs j) part
+    ap (slice_get whole) here
+    ∙ sym (slice_get-drop s j whole) ∙ sym (slice_get-take n j (drop s whole) (omega arith))
+    ∙ ap (λ xs. slice_get xs j) part
+    ∙ slice_get-get_or (splice a new row) j 0 (omega arith)
 
--- ** one site
+-- ** the sites of a section
 
--- byte k of section t lies in the site, which is rewritten
-pub record IsCovering (l : Linking) (o t k : ℕ) (site : Site) : Type 0 where
-  pub section : site.section ≡ t
-  pub from : site.start ≤ k
-  pub to : k < site.start + site.len
-  pub rewrites : is_kept (choice l o site) ≡ false
-
-covers_false : (m n a w k : ℕ) → m ≡ n → ((m == n) && (nat_le a k && nat_lt k (a + w)) && not false) ≡ false
-    → (k < a) ⊎ (a + w ≤ k)
-covers_false m n a w k same e = elim (cases_lt k a) [
-  | inl before ↦ inl before
-  | inr above ↦ elim (cases_lt k (a + w)) [
-    | inl inside ↦ absurd (grind (arith, nat_tests))
-    | inr behind ↦ inr behind
-  ]
-]
-
-covering : (l : Linking) (o t k : ℕ) (site : Site) → is_in_rewritten l o t k site ≡ true → IsCovering l o t k site
-covering l o t k site e =
-    let parts = covers_is site.section t site.start k (site.start + site.len) (is_kept (choice l o site)) e in record {
-      section = parts.0;
-      from = parts.1;
-      to = parts.2;
-      rewrites = parts.3;
-    }
-
-module _ (l : Linking) (given : IsGiven l) (links : Links l) (o t address k : ℕ) (lies : Lies l o t address)
-    (below : k < section_size (object l o) t) where
-  limits : FitsTable l
-  limits = table_fits l given links.sound.limits
-
+module _ (l : Linking) (given : IsGiven l) (o t k : ℕ) (there : o < length l.objects) where
   abbrev n : ℕ
-  n = length (raw_file l)
+  n = section_size (object l o) t
 
-  abbrev q : ℕ
-  q = offset_of (layout l) (address + k)
-
-  abbrev own : List Site
-  own = sites_at l o
-
-  -- the byte of a sequence
-  abbrev pub site_change : Option Site → Option ℕ → Option ℕ
-  site_change None byte = byte
-  site_change (Some site) byte = Some (slice_index_or (rewritten_bytes l o site) (k - site.start) 0)
-
-  once : (found : Option Site) (byte : Option ℕ) → site_change found (site_change found byte) ≡ site_change found byte
-  once None byte = refl
-  once (Some site) byte = refl
-
-  abbrev found_site : Option Site
-  found_site = find (is_in_rewritten l o t k) own
-
-  is_site : (site : Site) → Contains own site → IsSite (object l o) site
-  is_site site has = All-contains (IsSite (object l o)) own site (given.are_sites o lies.there).only has
-
-  -- the one that holds the byte
-  found_is : (site : Site) → Contains own site → is_in_rewritten l o t k site ≡ true
-      → find (is_in_rewritten l o t k) own ≡ Some site
-  found_is site has covers =
-      let first = covering l o t k site covers in
-      one_found (is_in_rewritten l o t k) own site has covers (λ x among again.
-      let next = covering l o t k x again in
-      let section = next.section ∙ sym first.section in
-      sites_apart (object l o) x site k (is_site x among) (is_site site has) section next.from next.to first.from
-      first.to)
+  abbrev site_value : Site → ℕ
+  site_value site = site_byte l o k (Some site) 0
 
   -- one that is kept stays
-  kept_leaves : (site : Site) → choice l o site ≡ Keep → Acts n q same (λ now. with_site l o now site)
+  kept_leaves : (site : Site) → choice l o site ≡ Keep → (now : List ℕ) → with_site l o now site ≡ now
   unfolding with_site
-  kept_leaves site e =
-      like n q same (λ now. with_site l o now site) (λ now. now) (λ now.
-      ap (λ c. with_new_field l o site (new_field site.form c) (rewritten (in_file l o site) c now)) e
-      ∙ ap (λ f. with_new_field l o site f now) (no_field site.form)) (λ now is. (is, refl))
+  kept_leaves site e now =
+      ap (λ c. with_new_field l o site (new_field site.form c) (rewritten site c now)) e
+      ∙ ap (λ f. with_new_field l o site f now) (no_field site.form)
 
-  -- what stands in its place
-  site_fills : (site : Site) → Contains own site → IsCovering l o t k site
-      → Acts n q (site_change (Some site)) (λ now. with_site l o now site)
-  unfolding with_site rewritten_bytes
-  site_fills site has covers now is =
-      let made = of_new (new_field site.form (choice l o site)) refl in
-      (ap length (as_rows now) ∙ made.0, ap (λ xs. slice_get xs q) (as_rows now) ∙ made.1)
+  -- one that is rewritten
+  module _ (site : Site) (has : Contains (sites_at l o) site) (section : site.section ≡ t)
+      (changes : choice l o site ≢ Keep) (byte : ℕ) (now : List ℕ) (was : Has n k byte now) where
+    abbrev row : List ℕ
+    row = new_bytes site.form (choice l o site) site.reg
+
+    len : site.len ≡ length row
+    len =
+        (own_site l o site given there has).1.len_is
+        ∙ sym (row_length site.form (choice l o site) site.reg (own_choice_of l o site changes) changes)
+
+    fits : site.start + site.len ≤ n
+    fits = omega (arith, site_fits l o site given there has, ap (section_size (object l o)) section)
+
+    row_leaves : (nat_le site.start k && nat_lt k (site.start + site.len)) ≡ false
+        → Has n k byte (splice site.start row now)
+    row_leaves covers =
+        splice_leaves n k site.start row (omega (arith, len, fits))
+        (outside_is site.start site.len (length row) k (omega (arith, len)) covers) byte now was
+
+    -- its row and then the field of this
+    row_writes : (c : Bool) → (nat_le site.start k && nat_lt k (site.start + site.len)) ≡ c → (new : Option NewField)
+        → new_field site.form (choice l o site) ≡ new
+        → Has n k (if c then slice_index_or (row_with l o site new) (k - site.start) 0 else byte)
+        (with_new_field l o site new (splice site.start row now))
+    row_writes true covers None e =
+        let within = inside_is site.start (site.start + site.len) k covers in
+        splice_fills n k site.start row (omega (arith, len, fits)) within.0 (omega (arith, len, within.1)) now was.0
+    row_writes false covers None e = row_leaves covers
+    row_writes true covers (Some f) e =
+        let within = inside_is site.start (site.start + site.len) k covers in
+        let bytes = field_bytes (unwrap_or (field l o site.section (new_relocation site f)) Empty) in
+        let room = new_field_in l o site f (own_site l o site given there has).1.len_is e in
+        let rows = length-splice site.start row now (omega (arith, len, fits, was.0)) in (
+          length-splice (site.start + f.at) bytes (splice site.start row now) (omega (arith, room, fits, rows, was.0))
+              ∙ rows ∙ was.0,
+          splice_twice site.start f.at k bytes row now (omega (arith, room, len)) (omega (arith, len, fits, was.0))
+              within.0 (omega (arith, len, within.1)),
+        )
+    row_writes false covers (Some f) e =
+        let bytes = field_bytes (unwrap_or (field l o site.section (new_relocation site f)) Empty) in
+        let room = new_field_in l o site f (own_site l o site given there has).1.len_is e in
+        let away = outside_is site.start site.len site.len k (omega arith) covers in
+        splice_leaves n k (site.start + f.at) bytes (omega (arith, room, fits))
+        (elim away [ inl before ↦ inl (omega (arith, before)) | inr behind ↦ inr (omega (arith, behind, room)) ]) byte
+        (splice site.start row now) (row_leaves covers)
+
+    site_writes : (c : Bool) → (nat_le site.start k && nat_lt k (site.start + site.len)) ≡ c
+        → Has n k (if c then site_byte l o k (Some site) 0 else byte) (with_site l o now site)
+    unfolding with_site rewritten_bytes
+    site_writes c covers =
+        subst (λ made. Has n k (if c then site_byte l o k (Some site) 0 else byte)
+        (with_new_field l o site (new_field site.form (choice l o site)) made))
+        (sym (spliced site (choice l o site) now changes))
+        (row_writes c covers (new_field site.form (choice l o site)) refl)
+
+  -- what one makes of the byte, if it is of the section
+  abbrev step : List ℕ → Site → List ℕ
+  step now site = if site.section == t then with_site l o now site else now
+
+  each_site : (site : Site) → Contains (sites_at l o) site → (byte : ℕ) (now : List ℕ) → Has n k byte now
+      → Has n k (if is_in_rewritten l o t k site then site_value site else byte) (step now site)
+  each_site site has byte now was =
+      of_tests (site.section == t) (nat_le site.start k && nat_lt k (site.start + site.len))
+      (is_kept (choice l o site)) refl refl refl
     where
-      row : List ℕ
-      row = new_bytes site.form (choice l o site) site.reg
+      of_tests : (s c x : Bool) → (site.section == t) ≡ s
+          → (nat_le site.start k && nat_lt k (site.start + site.len)) ≡ c → is_kept (choice l o site) ≡ x
+          → Has n k (if s && c && not x then site_byte l o k (Some site) 0 else byte)
+          (if s then with_site l o now site else now)
+      of_tests false c x section covers kept = was
+      of_tests true true false section covers kept =
+          site_writes site has (eqb-true site.section t section) (kept_not (choice l o site) kept) byte now was true covers
+      of_tests true false false section covers kept =
+          site_writes site has (eqb-true site.section t section) (kept_not (choice l o site) kept) byte now was false covers
+      of_tests true true true section covers kept =
+          subst (Has n k byte) (sym (kept_leaves site (kept_is (choice l o site) kept) now)) was
+      of_tests true false true section covers kept =
+          subst (Has n k byte) (sym (kept_leaves site (kept_is (choice l o site) kept) now)) was
 
-      at : ℕ
-      at = offset_of (layout l) (place l o site.section site.start)
+  -- one alone has the byte
+  site_alone : (x y : Site) → Contains (sites_at l o) x → Contains (sites_at l o) y → is_in_rewritten l o t k x ≡ true
+      → is_in_rewritten l o t k y ≡ true → y ≡ x
+  site_alone x y has among first again =
+      let one = covers_is x.section t x.start k (x.start + x.len) (is_kept (choice l o x)) first in
+      let two = covers_is y.section t y.start k (y.start + y.len) (is_kept (choice l o y)) again in
+      sites_apart (object l o) y x k (own_site l o y given there among) (own_site l o x given there has)
+      (two.0 ∙ sym one.0) two.1 two.2 one.1 one.2
 
-      changes : choice l o site ≢ Keep
-      changes = kept_not (choice l o site) covers.rewrites
-
-      as_rows : (now : List ℕ) → with_site l o now site
-          ≡ with_new_field l o site (new_field site.form (choice l o site)) (splice at row now)
-      as_rows now =
-          ap (with_new_field l o site (new_field site.form (choice l o site)))
-          (spliced (in_file l o site) (choice l o site) now changes)
-
-      long : length row ≡ site.len
-      long =
-          row_length site.form (choice l o site) site.reg (own_choice_of l given limits o site changes) changes
-          ∙ sym (is_site site has).1.len_is
-
-      inside : at + site.len ≤ n
-      inside = site_inside l o site given limits lies.there has
-
-      here : offset_of (layout l) (place l o site.section site.start) + (k - site.start) ≡ q
-      here =
-          let moved_by : offset_of (layout l) (place l o site.section site.start)
-          ≡ offset_of (layout l) (address + site.start) =
-          ap (λ u. offset_of (layout l) (place l o u site.start)) covers.section
-          ∙ ap (λ a. offset_of (layout l) (unwrap_or a 0 + site.start)) lies.address_is in
-          let low = covers.from in
-          omega (arith, moved_by, lies.above)
-
-      of_new : (new : Option NewField) → new_field site.form (choice l o site) ≡ new
-          → (length (with_new_field l o site new (splice at row now)) ≡ n)
-          × (slice_get (with_new_field l o site new (splice at row now)) q
-          ≡ Some (slice_index_or (row_with l o site new) (k - site.start) 0))
-      of_new None e =
-          let low = covers.from in
-          let high = covers.to in
-          let j = k - site.start in
-          let made = splice_fills n at j row (omega (arith, long, inside)) (omega (arith, long)) now is in
-          (made.0, subst (λ i. slice_get (splice at row now) i ≡ Some (slice_index_or row j 0)) here made.1)
-      of_new (Some f) e =
-          let bytes = field_bytes (unwrap_or (field l o site.section (new_relocation site f)) Empty) in
-          let len = (is_site site has).1.len_is in
-          let fits = new_field_in l given limits o site f (site_in l given limits o site lies.there has) len e in
-          let at_field = offset_of (layout l) (place l o site.section (site.start + f.at)) in
-          let rows : length (splice at row now) ≡ length now =
-          splice_keeps at row now (λ some. omega (arith, long, inside)) in
-          let whole : length (splice at_field bytes (splice at row now)) ≡ n =
-          splice_keeps at_field bytes (splice at row now) (λ some. omega (arith, inside, fits.0, fits.1)) ∙ rows ∙ is in
-          let room : f.at + length bytes ≤ length row = omega (arith, long, fits.1) in
-          let new_long = splice_keeps f.at bytes row (λ some. room) in
-          let low = covers.from in
-          let high = covers.to in (
-            whole,
-            ap (λ i. slice_get (splice i bytes (splice at row now)) q) fits.0
-                ∙ ap (slice_get (splice (at + f.at) bytes (splice at row now))) (sym here)
-                ∙ splice_twice at f.at (k - site.start) bytes row now room (omega (arith, long, inside))
-                (omega (arith, long))
-                ∙ slice_get-get_or (splice f.at bytes row) (k - site.start) 0 (omega (arith, long)),
-          )
-
-  -- what one site makes of the byte
-  own_site : (site : Site) → Contains own site
-      → Acts n q (when (is_in_rewritten l o t k site) (site_change found_site)) (λ now. with_site l o now site)
-  own_site site has = of_test (is_in_rewritten l o t k site) refl
+  -- what all of them make of it
+  pub sites_write : (byte : ℕ) (now : List ℕ) → Has (section_size (object l o) t) k byte now
+      → Has (section_size (object l o) t) k
+      (site_byte l o k (find (is_in_rewritten l o t k) (sites_at l o)) byte)
+      (fold (with_site l o) now (sites_in (sites_at l o) t))
+  sites_write byte now was =
+      subst (Has n k (site_byte l o k (find (is_in_rewritten l o t k) (sites_at l o)) byte))
+      (sym (fold_filter (λ (site : Site). site.section == t) (with_site l o) now (sites_at l o)))
+      (subst (λ x. Has n k x (fold step now (sites_at l o))) (meant (find (is_in_rewritten l o t k) (sites_at l o)))
+      (one_writes n k site_value (is_in_rewritten l o t k) step (sites_at l o) site_alone each_site byte now was))
     where
-      at : ℕ
-      at = offset_of (layout l) (place l o site.section site.start)
-
-      moved : site.section ≡ t → (k < site.start) ⊎ (site.start + site.len ≤ k) → (q < at) ⊎ (at + site.len ≤ q)
-      moved e outside = of_side outside
-        where
-          moved_by : at ≡ offset_of (layout l) (address + site.start)
-          moved_by =
-              ap (λ u. offset_of (layout l) (place l o u site.start)) e
-              ∙ ap (λ a. offset_of (layout l) (unwrap_or a 0 + site.start)) lies.address_is
-
-          of_side : (k < site.start) ⊎ (site.start + site.len ≤ k) → (q < at) ⊎ (at + site.len ≤ q)
-          of_side (inl before) = inl (omega (arith, moved_by, lies.above))
-          of_side (inr behind) = inr (omega (arith, moved_by, lies.above))
-
-      of_kept : (kept : Bool) → is_kept (choice l o site) ≡ kept → site.section ≡ t
-          → ((site.section == t) && (nat_le site.start k && nat_lt k (site.start + site.len)) && not kept) ≡ false
-          → Acts n q same (λ now. with_site l o now site)
-      of_kept true e section outside = kept_leaves site (kept_is (choice l o site) e)
-      of_kept false e section outside =
-          site_leaves l given limits q o site lies.there has
-          (moved section (covers_false site.section t site.start site.len k section outside))
-
-      of_section : (x : Bool) → (site.section == t) ≡ x → is_in_rewritten l o t k site ≡ false
-          → Acts n q same (λ now. with_site l o now site)
-      of_section true e outside =
-          of_kept (is_kept (choice l o site)) refl (eqb-true site.section t e) outside
-      of_section false e outside =
-          site_leaves l given limits q o site lies.there has
-          (in_away l given limits q o site.section site.start site.len (site_in l given limits o site lies.there has)
-          (other_away l given links o t address k lies below o site.section
-          (λ same. number_not site.section t e same.1)))
-
-      of_test : (x : Bool) → is_in_rewritten l o t k site ≡ x
-          → Acts n q (when x (site_change found_site)) (λ now. with_site l o now site)
-      of_test true e =
-          subst (λ f. Acts n q (site_change f) (λ now. with_site l o now site)) (sym (found_is site has e))
-          (site_fills site has (covering l o t k site e))
-      of_test false e = of_section (site.section == t) refl e
-
-  -- ** one object
-
-  own_sites : Acts n q (site_change found_site) (λ now. fold (with_site l o) now (sites_at l o))
-  own_sites =
-      let any = list_any (is_in_rewritten l o t k) own in
-      always n q (site_change found_site) any (λ now. fold (with_site l o) now own) (of_any any refl)
-      (fold_acts n q (site_change found_site) (once found_site) (is_in_rewritten l o t k) (with_site l o) own own_site)
-    where
-      of_any : (x : Bool) → list_any (is_in_rewritten l o t k) own ≡ x
-          → (x ≡ true) ⊎ ((byte : Option ℕ) → site_change found_site byte ≡ byte)
-      of_any true e = inl refl
-      of_any false e =
-          inr (λ byte. ap (λ f. site_change f byte) (none_found (is_in_rewritten l o t k) own e))
-
-  -- ** all objects
-
-  pub sites_act : Acts (length (raw_file l)) (offset_of (layout l) (address + k))
-      (site_change (find (is_in_rewritten l o t k) (sites_at l o))) (with_sites_from l 0 l.sites)
-  sites_act =
-      always n q (site_change found_site) _ (with_sites_from l 0 l.sites)
-      (inl (any_range (λ i. i == o) 0 (length l.sites) o (omega arith) (omega (arith, lies.there, given.each))
-      (eq-eqb o o refl)))
-      (numbered_acts n q (site_change found_site) (once found_site) [] (λ i. i == o)
-      (λ i sites now. fold (with_site l i) now sites) (with_sites_from l) (λ i now. refl) (λ i sites more now. refl) 0
-      l.sites (λ p below.
-      subst (λ i. Acts n q (when (i == o) (site_change found_site)) (λ now. fold (with_site l i) now (sites_at l p)))
-      (from_zero p) (of_test p (omega (arith, given.each)) (p == o) refl)))
-    where
-      of_test : (p : ℕ) → p < length l.objects → (x : Bool) → (p == o) ≡ x
-          → Acts n q (when x (site_change found_site)) (λ now. fold (with_site l p) now (sites_at l p))
-      of_test p there true e =
-          subst (λ i. Acts n q (site_change found_site) (λ now. fold (with_site l i) now (sites_at l i)))
-          (sym (eqb-true p o e)) own_sites
-      of_test p there false e =
-          own_sites_away l given limits q p there
-          (λ u. other_away l given links o t address k lies below p u (λ same. number_not p o e same.0))
+      meant : (found : Option Site) → byte_of site_value found byte ≡ site_byte l o k found byte
+      meant None = refl
+      meant (Some site) = refl

@@ -25,12 +25,12 @@ use Rattle.tls_relocs.specs.Laid.{zeros}
 use Rattle.tls_relocs.specs.Values.{signed_field}
 use Rattle.link_needs.specs.Linking.{Linking, layout}
 use Rattle.link_needs.specs.Needs.{entries, got_size, got_start, has_stub, need_address, stub_start}
-use Rattle.link_core.specs.Bytes.{file, got_bytes, need_bytes, raw_file, stub_bytes, with_got, with_part, with_stub}
+use Rattle.link_core.specs.Bytes.{file, got_bytes, linked_section, need_bytes, stub_bytes, with_got, with_part}
+use Rattle.link_core.specs.Bytes.{with_stub}
 use Rattle.link_needs.specs.Given.{FitsTable, IsGiven}
-use Rattle.link_core.proofs.LengthsInside.{are_laid}
+use Rattle.link_core.proofs.LengthsKept.{are_laid}
 use Rattle.link_core.proofs.LengthsPlaces.{base_before, got_end, got_end-before, got_start-after}
 use Rattle.link_core.proofs.LengthsRaw.{back_fits, got_length, need_length, stub_length, stub_small, with_got_length, word_before}
-use Rattle.link_core.proofs.StandingAway.{table_stays}
 use Rattle.link_core.proofs.GotRelocationsSites.{not_zero}
 
 -- ** an entry in the bytes of the table
@@ -101,29 +101,35 @@ pub got_there : (l : Linking) (file : List ℕ) → 0 < got_size l
     → (with_got l file ≡ with_part l (got_start l) (got_bytes l) file) × (got_end l ≡ got_start l + got_size l)
 got_there l file some = rw (not_zero (got_size l) some) (refl, refl)
 
+-- bytes of it
+in_table : (l : Linking) → IsGiven l → FitsTable l → (n at : ℕ) → at + n ≤ got_size l → 0 < got_size l
+    → part_at n (offset_of (layout l) (got_start l) + at) (file l) ≡ part_at n at (got_bytes l)
+unfolding file
+in_table l given limits n at inside some =
+    let sections = sections_file (layout l) (linked_section l) l.objects in
+    let there = got_there l sections some in
+    let above = base_before l in
+    let low = files_end l.kind (linked_section l) l.objects (are_laid l given limits) in
+    let long = with_got_length l sections low in
+    stub_behind l n (offset_of (layout l) (got_start l) + at) (with_got l sections) (omega (arith, there.1, long))
+    ∙ ap (part_at n (offset_of (layout l) (got_start l) + at)) there.0
+    ∙ part_in l n at (got_start l) (got_bytes l) sections (omega (arith, low, got_start-after l))
+
 -- each entry, with the words of its need
 pub entry_stands : (l : Linking) → IsGiven l → FitsTable l → (need : Need) (at : ℕ)
     → start_of (entries l) need ≡ Some at
     → part_at (length (need_bytes l need)) (offset_of (layout l) (got_start l + at)) (file l) ≡ need_bytes l need
-unfolding raw_file got_bytes
+unfolding got_bytes
 entry_stands l given limits need at e =
     let n = length (need_bytes l need) in
     let size = need_length l need in
     let inside : at + size_of need ≤ got_size l = subst (λ o. IfSome o (λ s. s + size_of need ≤ got_size l)) e
     (within (entries l) need (start_of (entries l) need) refl) in
-    let some : 0 < got_size l = omega (arith, size_some need) in
-    let sections = sections_file (layout l) l.objects in
-    let there = got_there l sections some in
     let above = base_before l in
-    let low = files_end l.kind l.objects (are_laid l given limits) in
-    let long = with_got_length l sections low in
     let whole : offset_of (layout l) (got_start l + at) ≡ offset_of (layout l) (got_start l) + at = omega arith in
     let first : at ≡ at - 0 = omega arith in
-    table_stays l given limits n (offset_of (layout l) (got_start l + at)) (omega arith)
-    ∙ stub_behind l n (offset_of (layout l) (got_start l + at)) (with_got l sections) (omega (arith, there.1, long))
-    ∙ ap (part_at n (offset_of (layout l) (got_start l + at))) there.0
-    ∙ ap (λ i. part_at n i (with_part l (got_start l) (got_bytes l) sections)) whole
-    ∙ part_in l n at (got_start l) (got_bytes l) sections (omega (arith, low, got_start-after l))
+    ap (λ i. part_at n i (file l)) whole
+    ∙ in_table l given limits n at (omega arith) (omega (arith, size_some need))
     ∙ ap (λ i. part_at n i (flat_map (need_bytes l) (entries l))) first
     ∙ (entry_in l need 0 at (entries l) e).1
 
@@ -134,19 +140,10 @@ whole_part n xs e = ap (take n) (sym (append-nil xs)) ∙ take_at xs [] n e
 -- the whole of it
 pub table_at : (l : Linking) → IsGiven l → FitsTable l → 0 < got_size l
     → part_at (got_size l) (offset_of (layout l) (got_start l)) (file l) ≡ got_bytes l
-unfolding raw_file
 table_at l given limits some =
-    let sections = sections_file (layout l) l.objects in
-    let there = got_there l sections some in
-    let above = base_before l in
-    let low = files_end l.kind l.objects (are_laid l given limits) in
-    let long = with_got_length l sections low in
     let whole : offset_of (layout l) (got_start l) ≡ offset_of (layout l) (got_start l) + 0 = omega arith in
-    table_stays l given limits (got_size l) (offset_of (layout l) (got_start l)) (omega arith)
-    ∙ stub_behind l (got_size l) (offset_of (layout l) (got_start l)) (with_got l sections) (omega (arith, there.1, long, above))
-    ∙ ap (part_at (got_size l) (offset_of (layout l) (got_start l))) there.0
-    ∙ ap (λ i. part_at (got_size l) i (with_part l (got_start l) (got_bytes l) sections)) whole
-    ∙ part_in l (got_size l) 0 (got_start l) (got_bytes l) sections (omega (arith, low, got_start-after l))
+    ap (λ i. part_at (got_size l) i (file l)) whole
+    ∙ in_table l given limits (got_size l) 0 (omega arith) some
     ∙ whole_part (got_size l) (got_bytes l) (got_length l)
 
 -- ** the stub
@@ -158,17 +155,16 @@ stub_there l file e = rw e refl
 -- the stub stands at its place
 pub stub_at : (l : Linking) → IsGiven l → FitsTable l → has_stub l ≡ true
     → part_at 6 (offset_of (layout l) (stub_start l)) (file l) ≡ stub_bytes l
-unfolding raw_file
+unfolding file
 stub_at l given limits e =
-    let sections = sections_file (layout l) l.objects in
-    let low = files_end l.kind l.objects (are_laid l given limits) in
+    let sections = sections_file (layout l) (linked_section l) l.objects in
+    let low = files_end l.kind (linked_section l) l.objects (are_laid l given limits) in
     let long = with_got_length l sections low in
     let before = got_end-before l in
     let above = base_before l in
     let page = page_up-above (got_start l + got_size l) in
     let whole : offset_of (layout l) (stub_start l) ≡ offset_of (layout l) (stub_start l) + 0 = omega arith in
-    table_stays l given limits 6 (offset_of (layout l) (stub_start l)) (omega arith)
-    ∙ ap (part_at 6 (offset_of (layout l) (stub_start l))) (stub_there l (with_got l sections) e)
+    ap (part_at 6 (offset_of (layout l) (stub_start l))) (stub_there l (with_got l sections) e)
     ∙ ap (λ i. part_at 6 i (with_part l (stub_start l) (stub_bytes l) (with_got l sections))) whole
     ∙ part_in l 6 0 (stub_start l) (stub_bytes l) (with_got l sections) (omega (arith, long))
     ∙ whole_part 6 (stub_bytes l) (stub_length l given limits)

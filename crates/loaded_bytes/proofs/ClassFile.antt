@@ -1,6 +1,6 @@
 -- The file holds at each address of a class what the objects mean there, and zeros between sections.
-use Rattle.std.proofs.Common.{◌≡◌, ◌≢◌, ◌+◌, ◌<◌, ◌≤◌, ◌⊎◌, ◌==◌, ◌∙◌, ℕ, Bool, true, false, List, Option, Some, None}
-use Rattle.std.proofs.Common.{length, inl, inr, refl, sym, ap, arith, if◌then◌else◌}
+use Rattle.std.proofs.Common.{◌≡◌, ◌≢◌, ◌+◌, ◌<◌, ◌≤◌, ◌⊎◌, ◌∙◌, ℕ, true, false, List, Option, Some, None}
+use Rattle.std.proofs.Common.{length, inl, inr, refl, sym, ap, arith}
 use Rattle.std.specs.Prelude.{slice_get, slice_index_or, unwrap_or}
 use Rattle.std.specs.List.{find}
 use Rattle.std.proofs.lemmas.Bool.{cases_lt}
@@ -8,28 +8,25 @@ use Rattle.memory_image.specs.Laying.{HasRange}
 use Rattle.elf_object.specs.declared.relocation.Relocation.{Relocation}
 use Rattle.elf_object.specs.Lent.{relocations, section_bytes, section_class, section_size}
 use Rattle.link_core.proofs.Few.{table_fits}
-use Rattle.link_core.proofs.LengthsInside.{are_laid, got_longer, is_object}
+use Rattle.link_core.proofs.LengthsInside.{is_object}
 use Rattle.link_core.proofs.Standing.{byte_stands}
 use Rattle.link_core.proofs.StandingParts.{gap_is_zero}
-use Rattle.link_core.proofs.StandingPlaces.{Lies, lies_at, lies_of}
-use Rattle.link_core.specs.Bytes.{file, got_bytes, raw_file, stub_bytes, with_got, with_part, with_stub}
+use Rattle.link_core.proofs.StandingPlaces.{lies_of}
+use Rattle.link_core.specs.Bytes.{file}
 use Rattle.link_core.specs.Faults.{Links}
 use Rattle.link_core.specs.Meant.{field_byte, is_in_field, meant_byte, site_byte}
 use Rattle.link_faults.specs.ImageKinds.{base_of}
 use Rattle.link_needs.specs.Given.{FitsTable, IsGiven}
 use Rattle.link_needs.specs.Linking.{Linking, layout, object}
-use Rattle.link_needs.specs.Needs.{got_size, got_start, has_stub, stub_start}
 use Rattle.object_faults.specs.declared.class.SectionClass.{SectionClass}
 use Rattle.object_faults.specs.declared.class.SectionClass.TheVariants.{Executable, ReadOnly, Tls, Writable}
 use Rattle.placed_sections.proofs.Rising.{class_is}
 use Rattle.placed_sections.proofs.Standing.{HasPlace, has_place}
-use Rattle.placed_sections.proofs.Told.{files_end, gaps_are_zero}
-use Rattle.placed_sections.specs.Files.{offset_of, sections_file}
+use Rattle.placed_sections.specs.Files.{offset_of}
 use Rattle.tls_layout.proofs.LawsOfPlaces.{lie_in_classes}
 use Rattle.tls_layout.proofs.LawsOfSections.{finds_sections}
 use Rattle.tls_layout.specs.Laws.{extent_for}
 use Rattle.tls_layout.specs.Places.{address_of}
-use Rattle.tls_relocs.specs.Elements.{slice_get-append}
 use Rattle.whole_meaning.specs.Spots.{Spot, begin_of, spot_in}
 use Rattle.loaded_bytes.proofs.Classes.{class_above, class_before, class_ends, rank, same_rank}
 use Rattle.loaded_bytes.proofs.Spots.{none_stands, standing}

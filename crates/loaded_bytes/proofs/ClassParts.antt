@@ -17,11 +17,11 @@ use Rattle.image_writer.specs.Contents.{part_in}
 use Rattle.image_writer.specs.Page.{file_offset}
 use Rattle.image_writer.specs.Tables.{finished, tables_part}
 use Rattle.link_core.proofs.Few.{table_fits}
-use Rattle.link_core.proofs.Lengths.{file_keeps}
-use Rattle.link_core.proofs.LengthsInside.{are_laid, raw_longer}
+use Rattle.link_core.proofs.LengthsInside.{file_longer}
+use Rattle.link_core.proofs.LengthsKept.{are_laid}
 use Rattle.link_core.proofs.Linkable.{linkable}
 use Rattle.link_core.proofs.LoadsTls.{same_base}
-use Rattle.link_core.specs.Bytes.{file}
+use Rattle.link_core.specs.Bytes.{file, linked_section}
 use Rattle.link_core.specs.Faults.{Links}
 use Rattle.link_core.specs.Images.{contents, file_kind, filled, got_places, image_of, places, section_places, stub_places}
 use Rattle.link_core.specs.Laws.{HasNoStray}
@@ -150,10 +150,10 @@ module _ (l : Linking) (given : IsGiven l) (links : Links l) (c : SectionClass) 
   pub part_long : (extent_for c (layout l)).start < (extent_for c (layout l)).end
       → length (class_part l c).bytes ≡ (extent_for c (layout l)).end - (extent_for c (layout l)).start
   part_long some =
-      let end = files_end l.kind l.objects (are_laid l given fits) in
+      let end = files_end l.kind (linked_section l) l.objects (are_laid l given fits) in
       let last = class_ends (layout l) c some in
       part_length (x.end - x.start) at (file l)
-      (omega (arith, same_base l.kind, some, end, last, class_above (layout l) c, file_keeps l given fits, raw_longer l))
+      (omega (arith, same_base l.kind, some, end, last, class_above (layout l) c, file_longer l))
 
   pub part_byte : HasRange c → (k : ℕ) → k < (extent_for c (layout l)).end - (extent_for c (layout l)).start
       → slice_get (class_part l c).bytes k

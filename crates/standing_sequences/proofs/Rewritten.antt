@@ -65,7 +65,7 @@ module _ (l : Linking) (linked : IsLinked l) (o t address : ℕ) (at : IsSection
   value_long : (new : NewField) (e : new_field site.form c ≡ Some new) (value : Field)
       → field l o site.section (new_relocation site new) ≡ Some value → length (field_bytes value) ≡ 4
   value_long new e value found =
-      field_long l o site.section (new_relocation site new) value found ∙ new_width l 0 site.form c new e
+      field_long l o site.section (new_relocation site new) value found ∙ new_width site.form c new e
 
   abbrev row : List ℕ
   row = new_bytes site.form c site.reg
