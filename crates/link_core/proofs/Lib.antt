@@ -27,6 +27,7 @@ pub mod LoadsTls
 pub mod NamesHeld
 pub mod NewFields
 pub mod Overflows
+pub mod Pieces
 pub mod Relatives
 pub mod RelativesApart
 pub mod RelativesFields

@@ -11,7 +11,7 @@ ghost use Rattle.tls_relocs.specs.Laid.{zeros};
 ghost use Rattle.link_needs.specs.Linking.{layout};
 ghost use Rattle.link_core.specs.Bytes.{file as file_of_link, table_bytes, with_got, with_stub};
 
-use crate::pieces::push_parts;
+use crate::pieces::{push_parts, push_zeros};
 use elf_object::RelocationKind;
 use got_pairs::{Entry, GotPlan, Need, Word};
 use link_needs::Plan;
@@ -35,8 +35,7 @@ fn pad(file: &mut Vec<u8>, offset: u64) -> Result<(), AllocError>
     requires { offset < 2 ^ 32 }
     ensures { OnOk result (file.new.items ≡ file.old.items ++ zeros (offset - length file.old.items)) }
 {
-    let gap = (offset as usize).saturating_sub(file.len());
-    file.resize(file.len() + gap, 0)
+    push_zeros(file, (offset as usize).saturating_sub(file.len()))
 }
 
 /// Adds a word to the file.

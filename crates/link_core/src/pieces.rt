@@ -1,10 +1,11 @@
 //! The file of the sections, in pieces that threads make side by side. A piece has whole sections.
 
-ghost use Rattle.std.specs.Prelude.{◌≡◌, ◌+◌, ◌≤◌, [], ◌∷◌, ◌++◌, All, IfOk, OnOk, length, map};
+ghost use Rattle.std.specs.Prelude.{◌≡◌, ◌+◌, ◌<◌, ◌≤◌, ◌^◌, [], ◌∷◌, ◌++◌, All, IfOk, OnOk, length, map};
 ghost use Rattle.std.specs.Thread.{IsSync};
 ghost use Rattle.std.specs.List.{concat};
 ghost use Rattle.placed_sections.specs.Files.{bytes_in};
 ghost use Rattle.placed_sections.specs.Laws.{IsNear, IsOwn};
+ghost use Rattle.tls_relocs.specs.Laid.{zeros};
 ghost use Rattle.link_core.specs.Bytes.{linked_section};
 ghost use Rattle.link_core.specs.Pieces.{laid_parts, with_next, Rise};
 
@@ -23,6 +24,14 @@ const HALVINGS: u32 = 3;
 /// Parts that span this many bytes are made, and put into the file, before the next.
 const ROUND: u64 = 1 << 22;
 
+/// Appends zeros.
+pub fn push_zeros(piece: &mut Vec<u8>, count: usize) -> Result<(), AllocError>
+    requires { count < 2 ^ 32 }
+    ensures { OnOk result (piece.new.items ≡ piece.old.items ++ zeros count) }
+{
+    piece.resize(piece.len() + count, 0)
+}
+
 /// Appends the bytes of a section, linked.
 fn push_section(plan: &Plan, own: OwnSection, piece: &mut Vec<u8>) -> Result<(), AllocError>
     requires { IsOwn plan.now.objects own }
@@ -32,9 +41,8 @@ fn push_section(plan: &Plan, own: OwnSection, piece: &mut Vec<u8>) -> Result<(),
         return Ok(());
     };
     let start = piece.len();
-    let zeros = part.size as usize - part.bytes.len();
     piece.extend_from_slice(part.bytes)?;
-    piece.resize(piece.len() + zeros, 0)?;
+    push_zeros(piece, part.size as usize - part.bytes.len())?;
     let (_, bytes) = piece.as_mut_slice().split_at_mut(start);
     link_section(plan, own, bytes);
     Ok(())
@@ -53,7 +61,7 @@ fn push_part(
     let gap = (part.place as usize)
         .saturating_sub(from)
         .saturating_sub(piece.len());
-    piece.resize(piece.len() + gap, 0)?;
+    push_zeros(piece, gap)?;
     match part.section {
         Some(own) => push_section(plan, own, piece),
         None => Ok(()),
@@ -143,14 +151,14 @@ fn pieces<R: Threads + Sync>(
     let middle = end_of(plan, &front[cut - 1]);
     let fewer = halvings - 1;
     let first = move || -> Result<Vec<Vec<u8>>, AllocError>
-        requires { IsSync R.row × All (IsNear plan.entry.now.objects) front.now × Rise plan.entry.now from front.now }
+        requires { IsSync R.row × All (IsNear plan.now.objects) front.now × Rise plan.now from front.now }
         ensures { IfOk result (λ all. concat (map (λ piece. piece.items) all.items)
-            ≡ laid_parts plan.entry.now from front.now) }
+            ≡ laid_parts plan.entry.now from front.entry.now) }
     { pieces(rt, alloc, plan, front, from, fewer) };
     let second = move || -> Result<Vec<Vec<u8>>, AllocError>
-        requires { IsSync R.row × All (IsNear plan.entry.now.objects) back.now × Rise plan.entry.now middle back.now }
+        requires { IsSync R.row × All (IsNear plan.now.objects) back.now × Rise plan.now middle back.now }
         ensures { IfOk result (λ all. concat (map (λ piece. piece.items) all.items)
-            ≡ laid_parts plan.entry.now middle back.now) }
+            ≡ laid_parts plan.entry.now middle back.entry.now) }
     { pieces(rt, alloc, plan, back, middle, fewer) };
     let (first, second) = join(rt, first, second);
     let first = first?;
