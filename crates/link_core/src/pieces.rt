@@ -114,19 +114,27 @@ fn count_within(parts: &[PlacedPart], bytes: u64) -> usize
     parts.partition_point(|part| part.place < end)
 }
 
+/// How many bytes a section has.
+fn size_of(plan: &Plan, own: OwnSection) -> usize
+    requires { IsOwn plan.now.objects own }
+    ensures { result ≡ length (linked_section plan.now own.object own.section) }
+{
+    plan.is_given();
+    match plan.inputs.object(own.object).section(own.section) {
+        Some(section) => section.size as usize,
+        None => 0,
+    }
+}
+
 /// Where a part ends.
 fn end_of(plan: &Plan, part: &PlacedPart) -> usize
     requires { IsNear plan.now.objects part.now }
     ensures { result ≡ part.now.place + length (bytes_in (linked_section plan.now) part.now.section) }
 {
-    let size = match part.section {
-        Some(own) => match plan.inputs.object(own.object).section(own.section) {
-            Some(section) => section.size as usize,
-            None => 0,
-        },
-        None => 0,
-    };
-    part.place as usize + size
+    match part.section {
+        Some(own) => part.place as usize + size_of(plan, own),
+        None => part.place as usize,
+    }
 }
 
 /// The pieces of some parts, from offset `from` of the file on, by as many threads as they are worth.
