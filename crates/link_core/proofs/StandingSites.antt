@@ -36,7 +36,7 @@ use Rattle.link_core.proofs.TogetherFound.{covers_is}
 
 -- ** choices
 
-pub kept_is : (choice : Choice) → is_kept choice ≡ true → choice ≡ Keep
+kept_is : (choice : Choice) → is_kept choice ≡ true → choice ≡ Keep
 kept_is Keep e = refl
 kept_is choice e = absurd (cc)
 
