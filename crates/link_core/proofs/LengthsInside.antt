@@ -4,7 +4,7 @@ use Rattle.std.proofs.Common.{Some, None, length, inl, inr, refl, sym, ap, subst
 use Rattle.std.specs.Prelude.{IsSome, map, nat_lt, if◌then◌else◌, ◌==◌}
 use Rattle.std.specs.List.{Contains, range_with_len}
 use Rattle.std.proofs.lemmas.Bool.{ltb-true}
-use Rattle.std.proofs.lemmas.List.{append-assoc, append-nil}
+use Rattle.std.proofs.lemmas.List.{append_assoc, append-nil}
 use Rattle.std.proofs.lemmas.List.Elements.{All-contains}
 use Rattle.object_rules.specs.declared.fault.FaultKind.TheVariants.{RelocTarget}
 use Rattle.object_faults.specs.declared.class.SectionClass.{SectionClass}
@@ -58,7 +58,7 @@ goes_on l = stub (has_stub l) (got (got_size l == 0))
     stub true front =
         let gap = zeros (offset_of (layout l) (stub_start l) - length (with_got l sections)) in
         let last = gap ++ stub_bytes l in
-        (front.0 ++ last, ap (λ xs. xs ++ last) front.1 ∙ append-assoc sections front.0 last)
+        (front.0 ++ last, ap (λ xs. xs ++ last) front.1 ∙ append_assoc sections front.0 last)
     stub false front = front
 
 pub file_longer : (l : Linking) → length (sections_file (layout l) (linked_section l) l.objects) ≤ length (file l)

@@ -12,7 +12,7 @@ use Rattle.elf_object.specs.Relocations.{field_width}
 use Rattle.link_faults.specs.ImageKinds.{base_of}
 use Rattle.placed_sections.proofs.Standing.{has_place}
 use Rattle.sequence_forms.specs.declared.places.Site.{Site}
-use Rattle.tls_layout.specs.Places.{address_of, section_named}
+use Rattle.tls_layout.specs.Places.{address_of}
 use Rattle.tls_layout.specs.Sections.{is_class}
 use Rattle.tls_layout.proofs.LawsOfPlaces.{have_addresses, lie_in_classes}
 use Rattle.tls_layout.proofs.LawsOfSections.{finds_sections}
@@ -28,7 +28,6 @@ pub record Lies (l : Linking) (o t address : ℕ) : Type 0 where
   pub there : o < length l.objects
   pub some : 0 < t
   pub address_is : address_of (layout l) o t ≡ Some address
-  pub size_is : (section_named (layout l) o t).size ≡ section_size (object l o) t
   pub above : base_of l.kind ≤ address
   pub below : address + section_size (object l o) t ≤ got_start l
 
@@ -44,7 +43,6 @@ module _ (l : Linking) (given : IsGiven l) (limits : FitsTable l) where
         there = there;
         some = (class_in_table (object l o) t (rw is refl)).0;
         address_is = at;
-        size_is = size;
         above = lies.above;
         below = omega (arith, lies.below, size);
       }

@@ -1,6 +1,6 @@
 -- What the sequences in the place of rewritten sites make of a byte of a section.
 use Rattle.std.proofs.Common.{◌≡◌, ◌≢◌, ◌+◌, ◌-◌, ◌<◌, ◌≤◌, ◌&&◌, ◌==◌, ◌∙◌, ℕ, Bool, true, false, not, List}
-use Rattle.std.proofs.Common.{Option, Some, None, length, drop, refl, sym, ap, subst, arith}
+use Rattle.std.proofs.Common.{Option, Some, None, length, drop, inl, inr, refl, sym, ap, subst, arith}
 use Rattle.std.specs.Prelude.{fold, nat_le, nat_lt, slice_get, slice_index_or, unwrap_or, if◌then◌else◌}
 use Rattle.std.specs.List.{Contains, find}
 use Rattle.std.proofs.lemmas.Bool.{eqb-true}
@@ -36,7 +36,7 @@ use Rattle.link_core.proofs.TogetherFound.{covers_is}
 
 -- ** choices
 
-pub kept_is : (choice : Choice) → is_kept choice ≡ true → choice ≡ Keep
+kept_is : (choice : Choice) → is_kept choice ≡ true → choice ≡ Keep
 kept_is Keep e = refl
 kept_is choice e = absurd (cc)
 
