@@ -9,6 +9,7 @@ pub mod GotRelocationsNeeds
 pub mod GotRelocationsRows
 pub mod GotRelocationsShown
 pub mod GotRelocationsSites
+pub mod Laying
 pub mod Lengths
 pub mod LengthsInside
 pub mod LengthsKept
@@ -27,7 +28,6 @@ pub mod LoadsTls
 pub mod NamesHeld
 pub mod NewFields
 pub mod Overflows
-pub mod Pieces
 pub mod Relatives
 pub mod RelativesApart
 pub mod RelativesFields

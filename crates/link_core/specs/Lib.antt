@@ -6,4 +6,4 @@ pub mod Images
 pub mod Laws
 pub mod Meant
 pub mod Overflows
-pub mod Pieces
+pub mod Laying

@@ -7,7 +7,7 @@ ghost use Rattle.placed_sections.specs.Files.{bytes_in};
 ghost use Rattle.placed_sections.specs.Laws.{IsNear, IsOwn};
 ghost use Rattle.tls_relocs.specs.Laid.{zeros};
 ghost use Rattle.link_core.specs.Bytes.{linked_section};
-ghost use Rattle.link_core.specs.Pieces.{laid_parts, with_next, Rise};
+ghost use Rattle.link_core.specs.Laying.{laid_parts, with_next, Rise};
 
 use crate::sections::link_section;
 use link_needs::Plan;

@@ -1,5 +1,5 @@
 use Rattle.std.proofs.Common.{◌≡◌, ◌≤◌, ◌-◌, ◌++◌, drop, length}
-use Rattle.link_core.specs.Pieces.{Rise, laid_parts}
+use Rattle.link_core.specs.Laying.{Rise, laid_parts}
 use Rattle.link_core.proofs.pieces.push_parts.Given as goal
 
 -- the parts that are left, behind the file so far

@@ -11,7 +11,7 @@ use Rattle.placed_sections.proofs.Chains.{end_of-append, laid-append, laid-lengt
 use Rattle.tls_relocs.specs.Laid.{Placed, end_of, zeros}
 use Rattle.link_needs.specs.Linking.{Linking}
 use Rattle.link_core.specs.Bytes.{linked_section}
-use Rattle.link_core.specs.Pieces.{Rise, laid_parts, with_next}
+use Rattle.link_core.specs.Laying.{Rise, laid_parts, with_next}
 
 -- ** bytes
 
