@@ -1,6 +1,6 @@
 -- Fields and sequences lie in their sections, and the file of sections is the front of the whole.
-use Rattle.std.proofs.Common.{◌≡◌, ◌≢◌, ◌+◌, ◌*◌, ◌<◌, ◌≤◌, ◌∙◌, ◌++◌, ◌-◌, ℕ, zero, suc, Bool, true, false, List, [], Option}
-use Rattle.std.proofs.Common.{Some, None, length, inl, inr, refl, sym, ap, subst, arith, length-append}
+use Rattle.std.proofs.Common.{◌≡◌, ◌≢◌, ◌+◌, ◌*◌, ◌<◌, ◌≤◌, ◌∙◌, ◌++◌, ◌-◌, ℕ, zero, suc, Bool, true, false, List, []}
+use Rattle.std.proofs.Common.{Option, Some, None, length, inl, inr, refl, sym, ap, subst, arith, length-append}
 use Rattle.std.specs.Prelude.{IsSome, map, nat_lt, if◌then◌else◌, ◌==◌}
 use Rattle.std.specs.List.{Contains, range_with_len}
 use Rattle.std.proofs.lemmas.Bool.{ltb-true}
@@ -37,8 +37,9 @@ use Rattle.sequence_match.proofs.Rows.{first_inside}
 pub is_object : (l : Linking) (o : ℕ) → IsGiven l → o < length l.objects → IsObject (object l o)
 is_object l o given there = given.are_objects o [] there
 
--- ** what lies behind the sections only makes the file longer
+-- ** the whole
 
+-- it begins with the file of sections
 pub goes_on : (l : Linking)
     → (more : List ℕ) × (file l ≡ sections_file (layout l) (linked_section l) l.objects ++ more)
 unfolding file

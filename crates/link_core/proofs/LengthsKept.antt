@@ -154,7 +154,8 @@ pub chosen_own : (l : Linking) (form : Form) (bound : Option Binding) → chosen
 chosen_own l form None changes = absurd (changes refl)
 chosen_own l form (Some bound) changes = own_choice form bound l.kind l.relax
 
-pub own_choice_of : (l : Linking) (o : ℕ) (site : Site) → choice l o site ≢ Keep → IsChoiceOf site.form (choice l o site)
+pub own_choice_of : (l : Linking) (o : ℕ) (site : Site) → choice l o site ≢ Keep
+    → IsChoiceOf site.form (choice l o site)
 unfolding choice
 own_choice_of l o site = chosen_own l site.form (binding l o (first_of site))
 

@@ -164,9 +164,11 @@ module _ (l : Linking) (given : IsGiven l) (o t k : ℕ) (there : o < length l.o
           (if s then with_site l o now site else now)
       of_tests false c x section covers kept = was
       of_tests true true false section covers kept =
-          site_writes site has (eqb-true site.section t section) (kept_not (choice l o site) kept) byte now was true covers
+          site_writes site has (eqb-true site.section t section) (kept_not (choice l o site) kept) byte now was
+          true covers
       of_tests true false false section covers kept =
-          site_writes site has (eqb-true site.section t section) (kept_not (choice l o site) kept) byte now was false covers
+          site_writes site has (eqb-true site.section t section) (kept_not (choice l o site) kept) byte now was
+          false covers
       of_tests true true true section covers kept =
           subst (Has n k byte) (sym (kept_leaves site (kept_is (choice l o site) kept) now)) was
       of_tests true false true section covers kept =

@@ -30,7 +30,8 @@ use Rattle.link_core.specs.Bytes.{with_stub}
 use Rattle.link_needs.specs.Given.{FitsTable, IsGiven}
 use Rattle.link_core.proofs.LengthsKept.{are_laid}
 use Rattle.link_core.proofs.LengthsPlaces.{base_before, got_end, got_end-before, got_start-after}
-use Rattle.link_core.proofs.LengthsRaw.{back_fits, got_length, need_length, stub_length, stub_small, with_got_length, word_before}
+use Rattle.link_core.proofs.LengthsRaw.{back_fits, got_length, need_length, stub_length, stub_small}
+use Rattle.link_core.proofs.LengthsRaw.{with_got_length, word_before}
 use Rattle.link_core.proofs.GotRelocationsSites.{not_zero}
 
 -- ** an entry in the bytes of the table
