@@ -4,23 +4,35 @@ use Rattle.std.proofs.Common.{append_assoc, append-nil, length-append, refl, sym
 use Rattle.std.specs.Global.{Vec}
 use Rattle.std.specs.List.{All, concat}
 use Rattle.std.proofs.Math.Seq.{drop-append_seam, take-append_seam}
-use Rattle.std.proofs.lemmas.List.{length-replicate, map-append, take-append-drop}
+use Rattle.std.proofs.lemmas.List.{drop_all, length-replicate, map-append, take_all}
 use Rattle.placed_sections.specs.declared.part.PlacedPart.{PlacedPart}
-use Rattle.placed_sections.specs.Files.{bytes_in, filled}
+use Rattle.placed_sections.specs.Files.{bytes_in, filled, placed, sections_file}
 use Rattle.placed_sections.proofs.Chains.{end_of-append, laid-append, laid-length, rising-split}
-use Rattle.tls_relocs.specs.Laid.{Placed, end_of, zeros}
-use Rattle.link_needs.specs.Linking.{Linking}
+use Rattle.placed_sections.proofs.Filed.{page_of}
+use Rattle.placed_sections.proofs.Laid.{placed_map}
+use Rattle.placed_sections.proofs.Whole.{all_rise}
+use Rattle.tls_relocs.specs.Laid.{Placed, Rising, end_of, laid, zeros}
+use Rattle.link_needs.specs.Given.{IsGiven}
+use Rattle.link_needs.specs.Linking.{Linking, layout}
 use Rattle.link_core.specs.Bytes.{linked_section}
 use Rattle.link_core.specs.Laying.{Rise, laid_parts, with_next}
+use Rattle.link_core.proofs.LengthsKept.{linked_whole}
 
 -- ** bytes
 
+-- a list of bytes whose room is written back
+pub written_back : (n : ℕ) (items new : List ℕ) → n ≡ length items → length new ≡ length items
+    → take n (new ++ drop (length new) items) ≡ new
+written_back n items new is long =
+    ap (λ xs. take n (new ++ xs)) (drop_all (length new) items (omega arith))
+    ∙ ap (take n) (append-nil new) ∙ take_all n new (omega arith)
+
 -- what is written behind the old bytes
-pub tail_written : (old new front back : List ℕ) (written : List ℕ → List ℕ) → front ≡ take (length old) (old ++ new)
-    → back ≡ drop (length old) (old ++ new) → front ++ written back ≡ old ++ written new
-tail_written old new front back written first second =
-    ap (λ x. x ++ written back) (first ∙ take-append_seam old new)
-    ∙ ap (λ x. old ++ written x) (second ∙ drop-append_seam old new)
+pub tail_written : (start : ℕ) (old tail now : List ℕ) (written : List ℕ → List ℕ) → start ≡ length old
+    → now ≡ old ++ tail → take start now ++ written (drop start now) ≡ old ++ written tail
+tail_written start old tail now written begins is =
+    rw (begins, is) (ap (λ x. x ++ written (drop (length old) (old ++ tail))) (take-append_seam old tail)
+    ∙ ap (λ x. old ++ written x) (drop-append_seam old tail))
 
 -- lists of pieces, one after the other
 pub concat-append : (xs ys : List (List ℕ)) → concat (xs ++ ys) ≡ concat xs ++ concat ys
@@ -77,11 +89,11 @@ module _ (l : Linking) where
   cut from front back rise =
       let both = map-append laid_as front back in
       let split = rising-split from (map laid_as front) (map laid_as back)
-      (subst (λ xs. Rattle.tls_relocs.specs.Laid.Rising from xs) both rise) in
+      (subst (λ xs. Rising from xs) both rise) in
       record {
         front_rise = split.0;
         back_rise = split.1;
-        laid = ap (Rattle.tls_relocs.specs.Laid.laid from) both ∙ laid-append from (map laid_as front) (map laid_as back);
+        laid = ap (laid from) both ∙ laid-append from (map laid_as front) (map laid_as back);
         length_is = laid-length from (map laid_as front) split.0;
       }
 
@@ -95,3 +107,26 @@ module _ (l : Linking) where
   last_ends from (x ∷ y ∷ more) zero d e = absurd (omega arith)
   last_ends from (x ∷ y ∷ more) (suc n) d e =
       last_ends (x.place + length (bytes_in (linked_section l) x.section)) (y ∷ more) n d (omega arith)
+
+-- ** the file
+
+-- the parts as code has them, with their bytes
+parts_filled : (l : Linking) (parts : List PlacedPart) → parts ≡ placed (λ part. part) (layout l) l.objects
+    → map (filled (linked_section l)) parts ≡ placed (filled (linked_section l)) (layout l) l.objects
+parts_filled l parts are =
+    ap (map (filled (linked_section l))) are
+    ∙ placed_map (filled (linked_section l)) (λ part. part) (layout l) l.objects
+
+pub parts_rise : (l : Linking) → IsGiven l → (parts : List PlacedPart) (page : List ℕ)
+    → parts ≡ placed (λ part. part) (layout l) l.objects → length page ≡ 4096 → Rise l (length page) parts
+parts_rise l given parts page are len =
+    subst (λ n. Rise l n parts) (sym len)
+    (subst (λ xs. Rising 4096 xs) (sym (parts_filled l parts are))
+    (all_rise l.kind (linked_section l) l.objects (linked_whole l given)))
+
+pub parts_file : (l : Linking) (parts : List PlacedPart) (page : List ℕ)
+    → parts ≡ placed (λ part. part) (layout l) l.objects → length page ≡ 4096 → page ≡ zeros (length page)
+    → page ++ laid_parts l (length page) parts ≡ sections_file (layout l) (linked_section l) l.objects
+parts_file l parts page are len zeros_are =
+    ap (λ xs. page ++ laid (length page) xs) (parts_filled l parts are)
+    ∙ sym (page_of (layout l) (linked_section l) l.objects page len zeros_are).whole

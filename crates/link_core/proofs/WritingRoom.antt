@@ -1,15 +1,18 @@
 -- The fields of relocations and of sequences have room in their section.
-use Rattle.std.proofs.Common.{◌≡◌, ◌+◌, ◌<◌, ◌≤◌, ◌^◌, ℕ, List, [], ◌∷◌, Option, Some, None, length, refl, arith}
+use Rattle.std.proofs.Common.{◌≡◌, ◌+◌, ◌<◌, ◌≤◌, ◌^◌, ℕ, List, [], ◌∷◌, Option, Some, None, length, refl, IsSome, arith}
 use Rattle.std.proofs.lemmas.List.{take-append-drop}
 use Rattle.std.proofs.lemmas.List.Elements.{All-contains}
 use Rattle.std.specs.List.{Contains}
 use Rattle.std.specs.Prelude.{unwrap_or}
 use Rattle.elf_records.specs.Fields.{splice}
+use Rattle.object_faults.specs.declared.class.SectionClass.{SectionClass}
 use Rattle.elf_object.specs.declared.relocation.Relocation.{Relocation}
 use Rattle.elf_object.specs.LawsOfSections.{kept_as}
-use Rattle.elf_object.specs.Lent.{relocations, section_size}
+use Rattle.elf_object.specs.Lent.{relocations, section_class, section_size}
 use Rattle.elf_object.specs.Relocations.{field_width}
 use Rattle.link_faults.specs.ImageKinds.{base_of}
+use Rattle.placed_sections.specs.declared.part.OwnSection.{OwnSection}
+use Rattle.placed_sections.specs.Laws.{IsOwn}
 use Rattle.relax_sites.specs.declared.choices.Choice.{Choice}
 use Rattle.relax_sites.specs.declared.rows.NewField.{NewField}
 use Rattle.relax_sites.specs.Rows.{new_field}
@@ -44,6 +47,19 @@ pub stand_near : (l : Linking) → IsGiven l → FitsTable l → StandNear l
 stand_near l given limits =
     let page = page_up-above (got_start l + got_size l) in
     record { above = base_before l; after = omega arith; near = stub_small l given limits }
+
+-- ** sections
+
+-- one of the objects' has few bytes
+pub section_small : (l : Linking) → IsGiven l → (own : OwnSection) → IsOwn l.objects own
+    → section_size (object l own.object) own.section ≤ 2 ^ 20
+section_small l given own is = of_class (section_class (object l own.object) own.section) refl is.class
+  where
+    of_class : (class : Option SectionClass) → section_class (object l own.object) own.section ≡ class → IsSome class
+        → section_size (object l own.object) own.section ≤ 2 ^ 20
+    of_class None e some = absurd (cc)
+    of_class (Some class) e some =
+        (kept_as (object l own.object) (is_object l own.object given is.object) own.section class e).small
 
 -- ** fields
 
@@ -92,12 +108,12 @@ pub record HasNewRoom (l : Linking) (o : ℕ) (site : Site) (f : NewField) : Typ
 
 pub new_room : (l : Linking) (o : ℕ) (site : Site) (choice : Choice) (f : NewField) → FitsTable l
     → IsUsable (object l o) site → new_field site.form choice ≡ Some f → HasNewRoom l o site f
-new_room l o site choice f limits usable is =
+new_room l o site choice f limits known is =
     let end = (field_end site.form choice 0 f is).end in
     let width = new_width site.form choice f is in
-    let whole = usable.whole in
-    let small = usable.small in
-    let inside = usable.inside in
+    let whole = known.whole in
+    let small = known.small in
+    let inside = known.inside in
     record {
       room = record { near = omega (arith, section_near l o site.section limits); inside = omega arith };
       small = omega arith;

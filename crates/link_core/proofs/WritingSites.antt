@@ -2,7 +2,7 @@
 use Rattle.std.proofs.Common.{◌≡◌, ◌+◌, ◌-◌, ◌<◌, ◌≤◌, ◌==◌, ◌⊎◌, ◌∙◌, ℕ, zero, suc, true, false, List, [], ◌∷◌}
 use Rattle.std.proofs.Common.{Option, Some, None, drop, get_or, inl, inr, length, refl, sym, take, ap, arith}
 use Rattle.std.specs.List.{AllPairs, Contains}
-use Rattle.std.specs.Prelude.{slice_range}
+use Rattle.std.specs.Prelude.{fold, slice_range}
 use Rattle.std.proofs.Math.Seq.{drop-cons}
 use Rattle.std.proofs.lemmas.Bool.{cases_lt}
 use Rattle.std.proofs.lemmas.Bool.Decides.{nat_tests}
@@ -143,3 +143,12 @@ range_first sites n end d some fits =
 pub range_none : (sites : List Site) (n end : ℕ) → end ≤ n → slice_range sites n end ≡ []
 range_none sites n end none =
     let zero : end - n ≡ 0 = omega arith in ap (λ m. take m (drop n sites)) zero
+
+-- the sequence of one site, and then those of the sites behind it
+pub sequence_step : (l : Linking) (o : ℕ) (sites : List Site) (n end : ℕ) (new old : List ℕ) (site d : Site)
+    → n < end → end ≤ length sites → new ≡ with_site l o old site → site ≡ get_or sites n d
+    → fold (with_site l o) new (slice_range sites (n + 1) end) ≡ fold (with_site l o) old (slice_range sites n end)
+sequence_step l o sites n end new old site d some fits written is =
+    let more = slice_range sites (n + 1) end in
+    ap (λ now. fold (with_site l o) now more) (written ∙ ap (with_site l o old) is)
+    ∙ ap (fold (with_site l o) old) (sym (range_first sites n end d some fits))

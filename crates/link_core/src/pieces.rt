@@ -1,12 +1,14 @@
 //! The file of the sections, in pieces that threads make side by side. A piece has whole sections.
 
-ghost use Rattle.std.specs.Prelude.{◌≡◌, ◌+◌, ◌<◌, ◌≤◌, ◌^◌, [], ◌∷◌, ◌++◌, All, IfOk, OnOk, length, map};
+ghost use Rattle.std.specs.Prelude.{◌≡◌, ◌+◌, ◌<◌, ◌≤◌, ◌^◌, ℕ, List, [], ◌∷◌, ◌++◌, All, IfOk, OnOk, drop, length, map, take};
 ghost use Rattle.std.specs.Thread.{IsSync};
 ghost use Rattle.std.specs.List.{concat};
 ghost use Rattle.placed_sections.specs.Files.{bytes_in};
 ghost use Rattle.placed_sections.specs.Laws.{IsNear, IsOwn};
 ghost use Rattle.tls_relocs.specs.Laid.{zeros};
-ghost use Rattle.link_core.specs.Bytes.{linked_section};
+ghost use Rattle.elf_object.specs.Lent.{section_size};
+ghost use Rattle.tls_symbols.specs.Bindings.{object_at};
+ghost use Rattle.link_core.specs.Bytes.{linked, linked_section};
 ghost use Rattle.link_core.specs.Laying.{laid_parts, with_next, Rise};
 
 use crate::sections::link_section;
@@ -32,19 +34,32 @@ pub fn push_zeros(piece: &mut Vec<u8>, count: usize) -> Result<(), AllocError>
     piece.resize(piece.len() + count, 0)
 }
 
+/// Links a section whose bytes are those from `start` on.
+fn link_tail(plan: &Plan, own: OwnSection, start: usize, bytes: &mut [u8])
+    requires object { own.object < length plan.now.objects }
+    requires whole { length bytes.old
+        ≡ start + section_size (object_at plan.now.objects own.object) own.section }
+    ensures written { bytes.new
+        ≡ take start bytes.old ++ linked plan.now own.object own.section (drop start bytes.old) }
+    ensures filled { length bytes.new ≡ length bytes.old }
+{
+    let (_, tail) = bytes.split_at_mut(start);
+    link_section(plan, own, tail);
+}
+
 /// Appends the bytes of a section, linked.
 fn push_section(plan: &Plan, own: OwnSection, piece: &mut Vec<u8>) -> Result<(), AllocError>
     requires { IsOwn plan.now.objects own }
     ensures { OnOk result (piece.new.items ≡ piece.old.items ++ linked_section plan.now own.object own.section) }
 {
+    plan.is_given();
     let Some(part) = plan.inputs.object(own.object).section(own.section) else {
         return Ok(());
     };
     let start = piece.len();
     piece.extend_from_slice(part.bytes)?;
     push_zeros(piece, part.size as usize - part.bytes.len())?;
-    let (_, bytes) = piece.as_mut_slice().split_at_mut(start);
-    link_section(plan, own, bytes);
+    link_tail(plan, own, start, piece.as_mut_slice());
     Ok(())
 }
 
@@ -117,7 +132,8 @@ fn count_within(parts: &[PlacedPart], bytes: u64) -> usize
 /// How many bytes a section has.
 fn size_of(plan: &Plan, own: OwnSection) -> usize
     requires { IsOwn plan.now.objects own }
-    ensures { result ≡ length (linked_section plan.now own.object own.section) }
+    ensures size { result ≡ length (linked_section plan.now own.object own.section) }
+    ensures small { result ≤ 2 ^ 20 }
 {
     plan.is_given();
     match plan.inputs.object(own.object).section(own.section) {
@@ -135,6 +151,42 @@ fn end_of(plan: &Plan, part: &PlacedPart) -> usize
         Some(own) => part.place as usize + size_of(plan, own),
         None => part.place as usize,
     }
+}
+
+/// Parts that are cut in two, and where the front ends. They begin at offset `from` of the file.
+fn cut_at<'p>(
+    plan: &Plan,
+    parts: &'p [PlacedPart],
+    cut: usize,
+    from: usize,
+) -> (&'p [PlacedPart], &'p [PlacedPart], usize)
+    requires near { All (IsNear plan.now.objects) parts.now }
+    requires rise { Rise plan.now from parts.now }
+    requires cut { (0 < cut) × (cut ≤ length parts.now) }
+    ensures near { All (IsNear plan.now.objects) result.0.now × All (IsNear plan.now.objects) result.1.now }
+    ensures rise { Rise plan.now from result.0.now × Rise plan.now result.2 result.1.now }
+    ensures ends { from + length (laid_parts plan.now from result.0.now) ≡ result.2 }
+    ensures laid { laid_parts plan.now from parts.now
+        ≡ laid_parts plan.now from result.0.now ++ laid_parts plan.now result.2 result.1.now }
+    ensures left { length result.1.now + cut ≡ length parts.now }
+{
+    let (front, back) = parts.split_at(cut);
+    (front, back, end_of(plan, &front[cut - 1]))
+}
+
+/// Both lists of pieces, one after the other.
+fn joined(
+    first: Result<Vec<Vec<u8>>, AllocError>,
+    second: Result<Vec<Vec<u8>>, AllocError>,
+) -> Result<Vec<Vec<u8>>, AllocError>
+    ensures { (front back : List ℕ) → IfOk first (λ all. concat (map (λ piece. piece.items) all.items) ≡ front)
+        → IfOk second (λ all. concat (map (λ piece. piece.items) all.items) ≡ back)
+        → IfOk result (λ all. concat (map (λ piece. piece.items) all.items) ≡ front ++ back) }
+{
+    let mut all = first?;
+    let mut more = second?;
+    all.append(&mut more)?;
+    Ok(all)
 }
 
 /// The pieces of some parts, from offset `from` of the file on, by as many threads as they are worth.
@@ -155,8 +207,7 @@ fn pieces<R: Threads + Sync>(
     if halvings == 0 || cut == 0 || span(parts) < WORTH_TWO_THREADS {
         return alone(alloc, piece_of(alloc, plan, parts, from)?);
     }
-    let (front, back) = parts.split_at(cut);
-    let middle = end_of(plan, &front[cut - 1]);
+    let (front, back, middle) = cut_at(plan, parts, cut, from);
     let fewer = halvings - 1;
     let first = move || -> Result<Vec<Vec<u8>>, AllocError>
         requires { IsSync R.row × All (IsNear plan.now.objects) front.now × Rise plan.now from front.now }
@@ -169,17 +220,7 @@ fn pieces<R: Threads + Sync>(
             ≡ laid_parts plan.entry.now middle back.entry.now) }
     { pieces(rt, alloc, plan, back, middle, fewer) };
     let (first, second) = join(rt, first, second);
-    let first = first?;
-    let second = second?;
     joined(first, second)
-}
-
-/// Both lists of pieces, one after the other.
-fn joined(mut front: Vec<Vec<u8>>, mut back: Vec<Vec<u8>>) -> Result<Vec<Vec<u8>>, AllocError>
-    ensures { IfOk result (λ all. all.items ≡ front.items ++ back.items) }
-{
-    front.append(&mut back)?;
-    Ok(front)
 }
 
 /// Appends pieces to the file.
@@ -222,12 +263,12 @@ pub fn push_parts<R: Threads + Sync>(
     ensures { OnOk result
         (file.new.items ≡ file.old.items ++ laid_parts plan.now (length file.old.items) parts.now) }
 {
-    let mut done = 0;
-    while done < parts.len() {
-        let rest = &parts[done..];
+    let mut rest = parts;
+    while !rest.is_empty() {
         let count = count_within(rest, ROUND).max(1);
-        push_round(rt, alloc, plan, &rest[..count], file)?;
-        done += count;
+        let (round, behind, _end) = cut_at(plan, rest, count, file.len());
+        push_round(rt, alloc, plan, round, file)?;
+        rest = behind;
     }
     Ok(())
 }

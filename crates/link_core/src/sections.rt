@@ -136,6 +136,16 @@ fn write_sequence(
     }
 }
 
+/// The sites of an object.
+fn own_sites<'p>(plan: &'p Plan, object: usize) -> &'p [Site]
+    ensures { result.now ≡ sites_at plan.now object }
+{
+    match plan.inputs.sites.get(object) {
+        Some(own) => own.as_slice(),
+        None => &[],
+    }
+}
+
 /// Which sites of an object stand in a section: from the first number up to the second. Sites rise by section.
 fn sites_of(sites: &[Site], section: u32) -> (usize, usize)
     requires { AllPairs Before sites.now }
@@ -159,11 +169,11 @@ fn write_sites(plan: &Plan, own: PlacedSection, bytes: &mut [u8])
     ensures filled { length bytes.new ≡ length bytes.old }
 {
     plan.is_given();
-    let inputs = &plan.inputs;
-    let sites = inputs.sites[own.object].as_slice();
+    let sites = own_sites(plan, own.object);
     let (first, end) = sites_of(sites, own.section);
     for number in first..end {
-        write_sequence(plan, own, number, &sites[number], bytes);
+        let site = &sites[number];
+        write_sequence(plan, own, number, site, bytes);
     }
 }
 

@@ -13,7 +13,8 @@ loop-piece-preserved c =
     let rest : drop i pieces ≡ piece ∷ drop (i + 1) pieces =
     drop_more pieces i piece inside ∙ ap (λ x. x ∷ drop (i + 1) pieces) (sym c.piece-item.is) in
     let behind = concat (map (λ piece. piece.items) (drop (i + 1) pieces)) in
-    ap (λ items. items ++ behind) c.in_ok-extend_from_slice.ensures.items
+    ap (λ items. items ++ behind)
+    (c.in_ok-extend_from_slice.ensures.items ∙ ap (λ xs. c.loop-piece.file.items ++ xs) c.as_slice.ensures.value)
     ∙ append_assoc c.loop-piece.file.items piece.items behind
     ∙ ap (λ xs. c.loop-piece.file.items ++ concat (map (λ piece. piece.items) xs)) (sym rest)
     ∙ c.loop-piece.invariant
