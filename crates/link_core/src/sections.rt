@@ -85,13 +85,7 @@ fn write_fields(plan: &Plan, own: PlacedSection, bytes: &mut [u8])
 }
 
 /// Writes the field of a sequence in a site's place.
-fn write_new_field(
-    plan: &Plan,
-    own: PlacedSection,
-    site: &Site,
-    field: &NewField,
-    bytes: &mut [u8],
-)
+fn write_new_field(plan: &Plan, own: PlacedSection, site: &Site, field: &NewField, bytes: &mut [u8])
     requires object { own.object < length plan.now.objects }
     requires own { Contains (sites_at plan.now own.object) site.now }
     requires section { site.now.section ≡ own.section }
@@ -112,13 +106,7 @@ fn write_new_field(
 }
 
 /// Writes the sequence in the place of a site, which has this number.
-fn write_sequence(
-    plan: &Plan,
-    own: PlacedSection,
-    number: usize,
-    site: &Site,
-    bytes: &mut [u8],
-)
+fn write_sequence(plan: &Plan, own: PlacedSection, number: usize, site: &Site, bytes: &mut [u8])
     requires object { own.object < length plan.now.objects }
     requires number { number < length (sites_at plan.now own.object) }
     requires at { site.now ≡ slice_index_or (sites_at plan.now own.object) number site.now }
