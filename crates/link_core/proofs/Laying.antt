@@ -1,10 +1,8 @@
 -- Pieces of the file, one after another.
-use Rattle.std.proofs.Common.{◌≡◌, ◌+◌, ◌-◌, ◌<◌, ◌≤◌, ◌∙◌, ◌++◌, ℕ, zero, suc, List, [], ◌∷◌, drop, get_or, length, map, take}
-use Rattle.std.proofs.Common.{append_assoc, append-nil, length-append, refl, sym, ap, subst, arith}
-use Rattle.std.specs.Global.{Vec}
-use Rattle.std.specs.List.{All, concat}
-use Rattle.std.proofs.Math.Seq.{drop-append_seam, take-append_seam}
-use Rattle.std.proofs.lemmas.List.{drop_all, length-replicate, map-append, take_all}
+use Rattle.std.proofs.Common.{◌≡◌, ◌+◌, ◌-◌, ◌<◌, ◌≤◌, ◌==◌, ◌∙◌, ◌++◌, ℕ, zero, suc, false, List, [], ◌∷◌, drop, get_or, length, map, take}
+use Rattle.std.proofs.Common.{append-nil, length-append, refl, sym, ap, subst, arith}
+use Rattle.std.proofs.lemmas.Bool.Decides.{nat_tests}
+use Rattle.std.proofs.lemmas.List.{drop-replicate, drop_all, length-replicate, map-append, take-replicate, take_all}
 use Rattle.placed_sections.specs.declared.part.PlacedPart.{PlacedPart}
 use Rattle.placed_sections.specs.Files.{bytes_in, filled, placed, sections_file}
 use Rattle.placed_sections.proofs.Chains.{end_of-append, laid-append, laid-length, rising-split}
@@ -15,7 +13,7 @@ use Rattle.tls_relocs.specs.Laid.{Placed, Rising, end_of, laid, zeros}
 use Rattle.link_needs.specs.Given.{IsGiven}
 use Rattle.link_needs.specs.Linking.{Linking, layout}
 use Rattle.link_core.specs.Bytes.{linked_section}
-use Rattle.link_core.specs.Laying.{Rise, laid_parts, with_next}
+use Rattle.link_core.specs.Laying.{Rise, laid_parts}
 use Rattle.link_core.proofs.LengthsKept.{linked_whole}
 
 -- ** bytes
@@ -27,55 +25,23 @@ written_back n items new is long =
     ap (λ xs. take n (new ++ xs)) (drop_all (length new) items (omega arith))
     ∙ ap (take n) (append-nil new) ∙ take_all n new (omega arith)
 
--- what is written behind the old bytes
-pub tail_written : (start : ℕ) (old tail now : List ℕ) (written : List ℕ → List ℕ) → start ≡ length old
-    → now ≡ old ++ tail → take start now ++ written (drop start now) ≡ old ++ written tail
-tail_written start old tail now written begins is =
-    rw (begins, is) (ap (λ x. x ++ written (drop (length old) (old ++ tail))) (take-append_seam old tail)
-    ∙ ap (λ x. old ++ written x) (drop-append_seam old tail))
+-- what is not empty
+pub not_empty : (n : ℕ) → (n == 0) ≡ false → 0 < n
+not_empty n some = grind (arith, nat_tests)
 
--- lists of pieces, one after the other
-pub concat-append : (xs ys : List (List ℕ)) → concat (xs ++ ys) ≡ concat xs ++ concat ys
-concat-append [] ys = refl
-concat-append (x ∷ xs) ys = ap (λ more. x ++ more) (concat-append xs ys) ∙ sym (append_assoc x (concat xs) (concat ys))
+-- zeros that are cut
+pub zeros_in_front : (m k : ℕ) (front now : List ℕ) → front ≡ take m now → now ≡ zeros k → m ≤ k → front ≡ zeros m
+zeros_in_front m k front now is zero_is low = is ∙ ap (take m) zero_is ∙ take-replicate m k 0 low
 
-pub pieces-append : (xs ys : List (Vec ℕ)) → concat (map (λ (piece : Vec ℕ). piece.items) (xs ++ ys))
-    ≡ concat (map (λ (piece : Vec ℕ). piece.items) xs) ++ concat (map (λ (piece : Vec ℕ). piece.items) ys)
-pieces-append xs ys =
-    ap concat (map-append (λ (piece : Vec ℕ). piece.items) xs ys)
-    ∙ concat-append (map (λ (piece : Vec ℕ). piece.items) xs) (map (λ (piece : Vec ℕ). piece.items) ys)
+pub zeros_behind : (m n k : ℕ) (back now : List ℕ) → back ≡ drop m now → now ≡ zeros k → k ≡ m + n → back ≡ zeros n
+zeros_behind m n k back now is zero_is sum =
+    let left : k - m ≡ n = omega arith in is ∙ ap (drop m) zero_is ∙ drop-replicate m k 0 ∙ ap zeros left
 
 -- ** parts
 
 module _ (l : Linking) where
   abbrev laid_as : PlacedPart → Placed
   laid_as = filled (linked_section l)
-
-  -- one more part, and those behind it
-  pub record Advances (from : ℕ) (bytes : List ℕ) (part : PlacedPart) (more : List PlacedPart) : Type 0 where
-    pub laid : with_next l from bytes part ++ laid_parts l (from + length (with_next l from bytes part)) more
-        ≡ bytes ++ laid_parts l (from + length bytes) (part ∷ more)
-    pub rise : Rise l (from + length (with_next l from bytes part)) more
-
-  pub advances : (from : ℕ) (bytes : List ℕ) (part : PlacedPart) (more : List PlacedPart)
-      → Rise l (from + length bytes) (part ∷ more) → Advances from bytes part more
-  advances from bytes part more rise =
-      let own = bytes_in (linked_section l) part.section in
-      let gap = part.place - from - length bytes in
-      let rises : from + length bytes ≤ part.place = rise.0 in
-      let same : gap ≡ part.place - (from + length bytes) = omega arith in
-      let inner = length-append (zeros gap) own in
-      let outer = length-append bytes (zeros gap ++ own) in
-      let room : length (zeros gap) ≡ gap = length-replicate gap 0 in
-      let long : from + length (with_next l from bytes part) ≡ part.place + length own = omega arith in
-      let rest = laid_parts l (part.place + length own) more in
-      record {
-        laid =
-            ap (λ n. with_next l from bytes part ++ laid_parts l n more) long
-            ∙ append_assoc bytes (zeros gap ++ own) rest
-            ∙ ap (λ x. bytes ++ x) (append_assoc (zeros gap) own rest ∙ ap (λ g. zeros g ++ (own ++ rest)) same);
-        rise = subst (λ n. Rise l n more) (sym long) rise.1;
-      }
 
   -- parts that are cut: those in front, and those behind, from where the front ends
   pub record IsCut (from : ℕ) (front back : List PlacedPart) : Type 0 where
@@ -107,6 +73,30 @@ module _ (l : Linking) where
   last_ends from (x ∷ y ∷ more) zero d e = absurd (omega arith)
   last_ends from (x ∷ y ∷ more) (suc n) d e =
       last_ends (x.place + length (bytes_in (linked_section l) x.section)) (y ∷ more) n d (omega arith)
+
+-- how long the bytes are
+pub one_length : (l : Linking) (from : ℕ) (part : PlacedPart) → length (laid_parts l from (part ∷ []))
+    ≡ part.place - from + length (bytes_in (linked_section l) part.section)
+one_length l from part =
+    let own = bytes_in (linked_section l) part.section in
+    omega (
+      arith,
+      length-append (zeros (part.place - from)) (own ++ []),
+      length-append own [],
+      length-replicate {A = ℕ} (part.place - from) 0,
+    )
+
+pub all_length : (l : Linking) (from : ℕ) (parts : List PlacedPart) (n : ℕ) (d : PlacedPart) → length parts ≡ n + 1
+    → Rise l from parts → from + length (laid_parts l from parts)
+    ≡ (get_or parts n d).place + length (bytes_in (linked_section l) (get_or parts n d).section)
+all_length l from parts n d count rise =
+    laid-length from (map (filled (linked_section l)) parts) rise ∙ last_ends l from parts n d count
+
+-- that of two halves
+pub both_length : (from middle : ℕ) (all front back : List ℕ) → all ≡ front ++ back → from + length front ≡ middle
+    → (length all ≡ middle - from + length back) × (length front ≡ middle - from)
+both_length from middle all front back is ends =
+    let long = ap length is in let sum = length-append front back in (omega arith, omega arith)
 
 -- ** the file
 

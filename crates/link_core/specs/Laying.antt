@@ -1,8 +1,8 @@
 -- Some parts of the file, from an offset on.
-use Rattle.std.specs.Prelude.{◌-◌, ℕ, List, ◌++◌, length, map}
+use Rattle.std.specs.Prelude.{ℕ, List, map}
 use Rattle.placed_sections.specs.declared.part.PlacedPart.{PlacedPart}
-use Rattle.placed_sections.specs.Files.{bytes_in, filled}
-use Rattle.tls_relocs.specs.Laid.{Rising, laid, zeros}
+use Rattle.placed_sections.specs.Files.{filled}
+use Rattle.tls_relocs.specs.Laid.{Rising, laid}
 use Rattle.link_needs.specs.Linking.{Linking}
 use Rattle.link_core.specs.Bytes.{linked_section}
 
@@ -13,8 +13,3 @@ laid_parts l from parts = laid from (map (filled (linked_section l)) parts)
 -- each begins no earlier than the one before it ends, the first no earlier than at the offset
 abbrev pub Rise : Linking → ℕ → List PlacedPart → Type 0
 Rise l from parts = Rising from (map (filled (linked_section l)) parts)
-
--- bytes that begin at the offset, with one more part
-abbrev pub with_next : Linking → ℕ → List ℕ → PlacedPart → List ℕ
-with_next l from bytes part =
-    bytes ++ (zeros (part.place - from - length bytes) ++ bytes_in (linked_section l) part.section)

@@ -122,7 +122,7 @@ pub fn file_of<R: Threads + Sync>(rt: &R, alloc: Global, plan: &Plan) -> Result<
     let inputs = &plan.inputs;
     let parts = place_sections(alloc, &inputs.placement, inputs.objects)?;
     let mut file = first_page(alloc, &inputs.placement)?;
-    push_parts(rt, alloc, plan, parts.as_slice(), &mut file)?;
+    push_parts(rt, plan, parts.as_slice(), &mut file)?;
     push_got(plan, &mut file)?;
     push_stub(plan, &mut file)?;
     Ok(file)

@@ -1,21 +1,20 @@
-//! The file of the sections, in pieces that threads make side by side. A piece has whole sections.
+//! The sections of the file, linked by several threads, each in its own piece of the file. A piece has whole sections.
 
-ghost use Rattle.std.specs.Prelude.{◌≡◌, ◌+◌, ◌<◌, ◌≤◌, ◌^◌, ℕ, List, [], ◌∷◌, ◌++◌, All, IfOk, OnOk, drop, length, map, take};
+ghost use Rattle.std.specs.Prelude.{◌≡◌, ◌+◌, ◌<◌, ◌≤◌, ◌^◌, [], ◌∷◌, ◌++◌, All, OnOk, drop, length, take};
 ghost use Rattle.std.specs.Thread.{IsSync};
-ghost use Rattle.std.specs.List.{concat};
+ghost use Rattle.elf_object.specs.Lent.{section_size};
 ghost use Rattle.placed_sections.specs.Files.{bytes_in};
 ghost use Rattle.placed_sections.specs.Laws.{IsNear, IsOwn};
 ghost use Rattle.tls_relocs.specs.Laid.{zeros};
-ghost use Rattle.elf_object.specs.Lent.{section_size};
 ghost use Rattle.tls_symbols.specs.Bindings.{object_at};
-ghost use Rattle.link_core.specs.Bytes.{linked, linked_section};
-ghost use Rattle.link_core.specs.Laying.{laid_parts, with_next, Rise};
+ghost use Rattle.link_core.specs.Bytes.{linked_section};
+ghost use Rattle.link_core.specs.Laying.{laid_parts, Rise};
 
 use crate::sections::link_section;
 use link_needs::Plan;
 use placed_sections::{OwnSection, PlacedPart};
-use std::alloc::{AllocError, Global};
-use std::thread::{Threads, join};
+use std::alloc::AllocError;
+use std::thread::{Threads, join_mut};
 
 /// Parts that span this many bytes are halved: each half is worth a thread of its own.
 const WORTH_TWO_THREADS: u64 = 1 << 18;
@@ -23,110 +22,19 @@ const WORTH_TWO_THREADS: u64 = 1 << 18;
 /// How many times parts are halved at most.
 const HALVINGS: u32 = 3;
 
-/// Parts that span this many bytes are made, and put into the file, before the next.
-const ROUND: u64 = 1 << 22;
-
-/// Appends zeros.
-pub fn push_zeros(piece: &mut Vec<u8>, count: usize) -> Result<(), AllocError>
-    requires { count < 2 ^ 32 }
-    ensures { OnOk result (piece.new.items ≡ piece.old.items ++ zeros count) }
-{
-    piece.resize(piece.len() + count, 0)
-}
-
-/// Links a section whose bytes are those from `start` on.
-fn link_tail(plan: &Plan, own: OwnSection, start: usize, bytes: &mut [u8])
-    requires object { own.object < length plan.now.objects }
-    requires whole { length bytes.old
-        ≡ start + section_size (object_at plan.now.objects own.object) own.section }
-    ensures written { bytes.new
-        ≡ take start bytes.old ++ linked plan.now own.object own.section (drop start bytes.old) }
-    ensures filled { length bytes.new ≡ length bytes.old }
-{
-    let (_, tail) = bytes.split_at_mut(start);
-    link_section(plan, own, tail);
-}
-
-/// Appends the bytes of a section, linked.
-fn push_section(plan: &Plan, own: OwnSection, piece: &mut Vec<u8>) -> Result<(), AllocError>
-    requires { IsOwn plan.now.objects own }
-    ensures { OnOk result (piece.new.items ≡ piece.old.items ++ linked_section plan.now own.object own.section) }
+/// Fills a section, whose bytes are still zero, with those of its object, and links it.
+fn fill_section(plan: &Plan, own: OwnSection, bytes: &mut [u8])
+    requires own { IsOwn plan.now.objects own }
+    requires zero { bytes.old ≡ zeros (section_size (object_at plan.now.objects own.object) own.section) }
+    ensures { bytes.new ≡ linked_section plan.now own.object own.section }
 {
     plan.is_given();
     let Some(part) = plan.inputs.object(own.object).section(own.section) else {
-        return Ok(());
+        return;
     };
-    let start = piece.len();
-    piece.extend_from_slice(part.bytes)?;
-    push_zeros(piece, part.size as usize - part.bytes.len())?;
-    link_tail(plan, own, start, piece.as_mut_slice());
-    Ok(())
-}
-
-/// Appends zeros up to a part, and its bytes. The piece begins at offset `from` of the file.
-fn push_part(
-    plan: &Plan,
-    part: &PlacedPart,
-    from: usize,
-    piece: &mut Vec<u8>,
-) -> Result<(), AllocError>
-    requires { IsNear plan.now.objects part.now }
-    ensures { OnOk result (piece.new.items ≡ with_next plan.now from piece.old.items part.now) }
-{
-    let gap = (part.place as usize)
-        .saturating_sub(from)
-        .saturating_sub(piece.len());
-    push_zeros(piece, gap)?;
-    match part.section {
-        Some(own) => push_section(plan, own, piece),
-        None => Ok(()),
-    }
-}
-
-/// The bytes of some parts, from offset `from` of the file on.
-fn piece_of(
-    alloc: Global,
-    plan: &Plan,
-    parts: &[PlacedPart],
-    from: usize,
-) -> Result<Vec<u8>, AllocError>
-    requires near { All (IsNear plan.now.objects) parts.now }
-    requires rise { Rise plan.now from parts.now }
-    ensures { IfOk result (λ piece. piece.items ≡ laid_parts plan.now from parts.now) }
-{
-    let mut piece = Vec::with_capacity(alloc, span(parts) as usize)?;
-    for part in parts {
-        push_part(plan, part, from, &mut piece)?;
-    }
-    Ok(piece)
-}
-
-/// A list of one piece.
-fn alone(alloc: Global, piece: Vec<u8>) -> Result<Vec<Vec<u8>>, AllocError>
-    ensures { IfOk result (λ all. all.items ≡ piece ∷ []) }
-{
-    let mut all = Vec::new(alloc);
-    all.push(piece)?;
-    Ok(all)
-}
-
-/// How many bytes lie between the first part and the last.
-fn span(parts: &[PlacedPart]) -> u64 {
-    match (parts.first(), parts.last()) {
-        (Some(first), Some(last)) => last.place.saturating_sub(first.place),
-        _ => 0,
-    }
-}
-
-/// How many parts begin less than this many bytes behind the first.
-fn count_within(parts: &[PlacedPart], bytes: u64) -> usize
-    ensures { result ≤ length parts.now }
-{
-    let Some(first) = parts.first() else {
-        return 0;
-    };
-    let end = first.place.saturating_add(bytes);
-    parts.partition_point(|part| part.place < end)
+    let (front, _) = bytes.split_at_mut(part.bytes.len());
+    front.copy_from_slice(part.bytes);
+    link_section(plan, own, bytes);
 }
 
 /// How many bytes a section has.
@@ -145,7 +53,8 @@ fn size_of(plan: &Plan, own: OwnSection) -> usize
 /// Where a part ends.
 fn end_of(plan: &Plan, part: &PlacedPart) -> usize
     requires { IsNear plan.now.objects part.now }
-    ensures { result ≡ part.now.place + length (bytes_in (linked_section plan.now) part.now.section) }
+    ensures end { result ≡ part.now.place + length (bytes_in (linked_section plan.now) part.now.section) }
+    ensures near { result ≤ 2 ^ 27 }
 {
     match part.section {
         Some(own) => part.place as usize + size_of(plan, own),
@@ -153,107 +62,180 @@ fn end_of(plan: &Plan, part: &PlacedPart) -> usize
     }
 }
 
-/// Parts that are cut in two, and where the front ends. They begin at offset `from` of the file.
-fn cut_at<'p>(
-    plan: &Plan,
-    parts: &'p [PlacedPart],
-    cut: usize,
+/// Fills the bytes of one part, which are still zero, with those up to it; they begin at offset `from` of the file.
+fn fill_part(plan: &Plan, part: &PlacedPart, from: usize, bytes: &mut [u8])
+    requires near { IsNear plan.now.objects part.now }
+    requires rise { Rise plan.now from (part.now ∷ []) }
+    requires zero { bytes.old ≡ zeros (length (laid_parts plan.now from (part.now ∷ []))) }
+    ensures { bytes.new ≡ laid_parts plan.now from (part.now ∷ []) }
+{
+    plan.is_given();
+    let (_, own) = bytes.split_at_mut(part.place as usize - from);
+    if let Some(section) = part.section {
+        fill_section(plan, section, own);
+    }
+}
+
+/// How many bytes lie between the first part and the last.
+fn span(parts: &[PlacedPart]) -> u64
+    ensures { 0 < result → 2 ≤ length parts.now }
+{
+    if parts.len() < 2 {
+        return 0;
+    }
+    parts[parts.len() - 1].place.saturating_sub(parts[0].place)
+}
+
+/// How many parts begin in the first half of the bytes: not all, and not none.
+fn count_of_front(parts: &[PlacedPart]) -> usize
+    requires { 2 ≤ length parts.now }
+    ensures { (0 < result) × (result < length parts.now) }
+{
+    let middle = parts[0].place.saturating_add(span(parts) / 2);
+    let count = parts.partition_point(|part| part.place <= middle);
+    count.max(1).min(parts.len() - 1)
+}
+
+/// Parts that are cut in two: where each half begins in the file.
+#[derive(Clone, Copy)]
+struct Halves<'p> {
+    front: &'p [PlacedPart],
     from: usize,
-) -> (&'p [PlacedPart], &'p [PlacedPart], usize)
+    back: &'p [PlacedPart],
+    middle: usize,
+}
+
+/// Cuts parts in two, by their bytes.
+fn halves_of<'p>(plan: &Plan, parts: &'p [PlacedPart], from: usize) -> Halves<'p>
     requires near { All (IsNear plan.now.objects) parts.now }
     requires rise { Rise plan.now from parts.now }
-    requires cut { (0 < cut) × (cut ≤ length parts.now) }
-    ensures near { All (IsNear plan.now.objects) result.0.now × All (IsNear plan.now.objects) result.1.now }
-    ensures rise { Rise plan.now from result.0.now × Rise plan.now result.2 result.1.now }
-    ensures ends { from + length (laid_parts plan.now from result.0.now) ≡ result.2 }
+    requires some { 2 ≤ length parts.now }
+    ensures near { All (IsNear plan.now.objects) result.front.now × All (IsNear plan.now.objects) result.back.now }
+    ensures rise { Rise plan.now from result.front.now × Rise plan.now result.middle result.back.now }
+    ensures from { result.from ≡ from }
+    ensures ends { from + length (laid_parts plan.now from result.front.now) ≡ result.middle }
     ensures laid { laid_parts plan.now from parts.now
-        ≡ laid_parts plan.now from result.0.now ++ laid_parts plan.now result.2 result.1.now }
-    ensures left { length result.1.now + cut ≡ length parts.now }
+        ≡ laid_parts plan.now from result.front.now ++ laid_parts plan.now result.middle result.back.now }
+    ensures fewer { (length result.front.now < length parts.now) × (length result.back.now < length parts.now) }
 {
-    let (front, back) = parts.split_at(cut);
-    (front, back, end_of(plan, &front[cut - 1]))
+    let count = count_of_front(parts);
+    let (front, back) = parts.split_at(count);
+    Halves {
+        front,
+        from,
+        back,
+        middle: end_of(plan, &front[count - 1]),
+    }
 }
 
-/// Both lists of pieces, one after the other.
-fn joined(
-    first: Result<Vec<Vec<u8>>, AllocError>,
-    second: Result<Vec<Vec<u8>>, AllocError>,
-) -> Result<Vec<Vec<u8>>, AllocError>
-    ensures { (front back : List ℕ) → IfOk first (λ all. concat (map (λ piece. piece.items) all.items) ≡ front)
-        → IfOk second (λ all. concat (map (λ piece. piece.items) all.items) ≡ back)
-        → IfOk result (λ all. concat (map (λ piece. piece.items) all.items) ≡ front ++ back) }
+/// Fills the bytes of some parts, one part after another.
+fn fill_each(plan: &Plan, parts: &[PlacedPart], from: usize, bytes: &mut [u8])
+    requires near { All (IsNear plan.now.objects) parts.now }
+    requires rise { Rise plan.now from parts.now }
+    requires zero { bytes.old ≡ zeros (length (laid_parts plan.now from parts.now)) }
+    ensures { bytes.new ≡ laid_parts plan.now from parts.now }
 {
-    let mut all = first?;
-    let mut more = second?;
-    all.append(&mut more)?;
-    Ok(all)
+    let Some((part, more)) = parts.split_first() else {
+        return;
+    };
+    if more.is_empty() {
+        return fill_part(plan, part, from, bytes);
+    }
+    let halves = halves_of(plan, parts, from);
+    let (first, second) = bytes.split_at_mut(halves.middle - from);
+    fill_each(plan, halves.front, from, first);
+    fill_each(plan, halves.back, halves.middle, second);
 }
 
-/// The pieces of some parts, from offset `from` of the file on, by as many threads as they are worth.
+/// Likewise, by as many threads as the parts are worth.
 #[cycle(halves)]
-fn pieces<R: Threads + Sync>(
+fn fill<R: Threads + Sync>(
     rt: &R,
-    alloc: Global,
     plan: &Plan,
     parts: &[PlacedPart],
     from: usize,
     halvings: u32,
-) -> Result<Vec<Vec<u8>>, AllocError>
+    bytes: &mut [u8],
+)
     requires near { All (IsNear plan.now.objects) parts.now }
     requires rise { Rise plan.now from parts.now }
-    ensures { IfOk result (λ all. concat (map (λ piece. piece.items) all.items) ≡ laid_parts plan.now from parts.now) }
+    requires zero { bytes.old ≡ zeros (length (laid_parts plan.now from parts.now)) }
+    ensures { bytes.new ≡ laid_parts plan.now from parts.now }
 {
-    let cut = count_within(parts, span(parts) / 2 + 1);
-    if halvings == 0 || cut == 0 || span(parts) < WORTH_TWO_THREADS {
-        return alone(alloc, piece_of(alloc, plan, parts, from)?);
+    if halvings == 0 || span(parts) < WORTH_TWO_THREADS {
+        return fill_each(plan, parts, from, bytes);
     }
-    let (front, back, middle) = cut_at(plan, parts, cut, from);
-    let fewer = halvings - 1;
-    let first = move || -> Result<Vec<Vec<u8>>, AllocError>
-        requires { IsSync R.row × All (IsNear plan.now.objects) front.now × Rise plan.now from front.now }
-        ensures { IfOk result (λ all. concat (map (λ piece. piece.items) all.items)
-            ≡ laid_parts plan.entry.now from front.entry.now) }
-    { pieces(rt, alloc, plan, front, from, fewer) };
-    let second = move || -> Result<Vec<Vec<u8>>, AllocError>
-        requires { IsSync R.row × All (IsNear plan.now.objects) back.now × Rise plan.now middle back.now }
-        ensures { IfOk result (λ all. concat (map (λ piece. piece.items) all.items)
-            ≡ laid_parts plan.entry.now middle back.entry.now) }
-    { pieces(rt, alloc, plan, back, middle, fewer) };
-    let (first, second) = join(rt, first, second);
-    joined(first, second)
+    let halves = halves_of(plan, parts, from);
+    let (first, second) = bytes.split_at_mut(halves.middle - from);
+    fill_both(rt, plan, halves, halvings - 1, first, second);
 }
 
-/// Appends pieces to the file.
-fn push_pieces(pieces: &[Vec<u8>], file: &mut Vec<u8>) -> Result<(), AllocError>
-    ensures { OnOk result (file.new.items ≡ file.old.items ++ concat (map (λ piece. piece.items) pieces.now)) }
-{
-    for piece in pieces {
-        file.extend_from_slice(piece.as_slice())?;
-    }
-    Ok(())
-}
-
-/// Appends some parts to the file. Threads make them side by side.
-fn push_round<R: Threads + Sync>(
+/// Fills the bytes of two halves at the same time.
+#[cycle(halves)]
+fn fill_both<R: Threads + Sync>(
     rt: &R,
-    alloc: Global,
+    plan: &Plan,
+    halves: Halves,
+    halvings: u32,
+    first: &mut [u8],
+    second: &mut [u8],
+)
+    requires front { All (IsNear plan.now.objects) halves.front.now × Rise plan.now halves.from halves.front.now }
+    requires back { All (IsNear plan.now.objects) halves.back.now × Rise plan.now halves.middle halves.back.now }
+    requires first_zero { first.old ≡ zeros (length (laid_parts plan.now halves.from halves.front.now)) }
+    requires second_zero { second.old ≡ zeros (length (laid_parts plan.now halves.middle halves.back.now)) }
+    ensures first { first.new ≡ laid_parts plan.now halves.entry.from halves.entry.front.now }
+    ensures second { second.new ≡ laid_parts plan.now halves.entry.middle halves.entry.back.now }
+{
+    let Halves {
+        front,
+        from,
+        back,
+        middle,
+    } = halves;
+    let mut fill_front = || -> ()
+        requires { IsSync R.row × All (IsNear plan.now.objects) front.now × Rise plan.now from front.now
+            × (first.now ≡ zeros (length (laid_parts plan.now from front.now))) }
+        ensures { first.exit.now ≡ laid_parts plan.entry.now from front.entry.now }
+    { fill(rt, plan, front, from, halvings, first) };
+    let mut fill_back = || -> ()
+        requires { IsSync R.row × All (IsNear plan.now.objects) back.now × Rise plan.now middle back.now
+            × (second.now ≡ zeros (length (laid_parts plan.now middle back.now))) }
+        ensures { second.exit.now ≡ laid_parts plan.entry.now middle back.entry.now }
+    { fill(rt, plan, back, middle, halvings, second) };
+    join_mut(rt, &mut fill_front, &mut fill_back);
+}
+
+/// Fills the bytes from `from` on with some parts.
+fn fill_tail<R: Threads + Sync>(
+    rt: &R,
     plan: &Plan,
     parts: &[PlacedPart],
-    file: &mut Vec<u8>,
-) -> Result<(), AllocError>
+    from: usize,
+    bytes: &mut [u8],
+)
     requires near { All (IsNear plan.now.objects) parts.now }
-    requires rise { Rise plan.now (length file.old.items) parts.now }
-    ensures { OnOk result
-        (file.new.items ≡ file.old.items ++ laid_parts plan.now (length file.old.items) parts.now) }
+    requires rise { Rise plan.now from parts.now }
+    requires zero { drop from bytes.old ≡ zeros (length (laid_parts plan.now from parts.now)) }
+    requires inside { from ≤ length bytes.old }
+    ensures filled { length bytes.new ≡ length bytes.old }
+    ensures bytes { bytes.new ≡ take from bytes.old ++ laid_parts plan.now from parts.now }
 {
-    let pieces = pieces(rt, alloc, plan, parts, file.len(), HALVINGS)?;
-    push_pieces(pieces.as_slice(), file)
+    let (_, tail) = bytes.split_at_mut(from);
+    fill(rt, plan, parts, from, HALVINGS, tail);
 }
 
-/// Appends all parts to the file, round by round.
+/// Appends zeros.
+pub fn push_zeros(file: &mut Vec<u8>, count: usize) -> Result<(), AllocError>
+    requires { count < 2 ^ 32 }
+    ensures { OnOk result (file.new.items ≡ file.old.items ++ zeros count) }
+{
+    file.resize(file.len() + count, 0)
+}
+
+/// Appends parts to the file: makes room for all of them, which threads fill.
 pub fn push_parts<R: Threads + Sync>(
     rt: &R,
-    alloc: Global,
     plan: &Plan,
     parts: &[PlacedPart],
     file: &mut Vec<u8>,
@@ -263,12 +245,12 @@ pub fn push_parts<R: Threads + Sync>(
     ensures { OnOk result
         (file.new.items ≡ file.old.items ++ laid_parts plan.now (length file.old.items) parts.now) }
 {
-    let mut rest = parts;
-    while !rest.is_empty() {
-        let count = count_within(rest, ROUND).max(1);
-        let (round, behind, _end) = cut_at(plan, rest, count, file.len());
-        push_round(rt, alloc, plan, round, file)?;
-        rest = behind;
+    if parts.is_empty() {
+        return Ok(());
     }
+    let from = file.len();
+    let end = end_of(plan, &parts[parts.len() - 1]);
+    push_zeros(file, end - from)?;
+    fill_tail(rt, plan, parts, from, file.as_mut_slice());
     Ok(())
 }

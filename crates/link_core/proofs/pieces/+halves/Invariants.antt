@@ -1,11 +1,14 @@
 use Rattle.std.proofs.Common.{◌+◌, ◌*◌}
 use Rattle.link_core.proofs.pieces.+halves.Given as goal
 
-abbrev pub decreases-pieces : goal.decreases-pieces
-decreases-pieces g l = 2 * l.halvings
+abbrev pub decreases-fill : goal.decreases-fill
+decreases-fill g l = 4 * l.halvings
 
-abbrev pub decreases-first : goal.decreases-first
-decreases-first g l = 2 * l.fewer + 1
+abbrev pub decreases-fill_both : goal.decreases-fill_both
+decreases-fill_both g l = 4 * l.halvings + 3
 
-abbrev pub decreases-second : goal.decreases-second
-decreases-second g l = 2 * l.fewer + 1
+abbrev pub decreases-fill_both-fill_front : goal.decreases-fill_both-fill_front
+decreases-fill_both-fill_front g l = 4 * l.halvings + 2
+
+abbrev pub decreases-fill_both-fill_back : goal.decreases-fill_both-fill_back
+decreases-fill_both-fill_back g l = 4 * l.halvings + 2
