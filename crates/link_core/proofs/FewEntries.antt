@@ -4,7 +4,7 @@ use Rattle.std.proofs.Common.{◌∙◌, ap, length-append, refl, arith}
 use Rattle.std.proofs.lemmas.List.Elements.{filter-append}
 use Rattle.got_pairs.specs.declared.need.Group.TheVariants as group
 use Rattle.got_pairs.specs.declared.need.Need.{Need}
-use Rattle.got_pairs.specs.declared.need.Need.TheVariants.{ModulePair, RuntimeWord}
+use Rattle.got_pairs.specs.declared.need.Need.TheVariants.{RuntimeWord}
 use Rattle.got_pairs.specs.Needs.{by_group, distinct, entries, of_group, same_need, total_size}
 
 -- those that are not the run time's word, and how many they are

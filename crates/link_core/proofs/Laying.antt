@@ -1,11 +1,11 @@
 -- Pieces of the file, one after another.
 use Rattle.std.proofs.Common.{◌≡◌, ◌+◌, ◌-◌, ◌<◌, ◌≤◌, ◌==◌, ◌∙◌, ◌++◌, ℕ, zero, suc, false, List, [], ◌∷◌, drop, get_or, length, map, take}
-use Rattle.std.proofs.Common.{append-nil, length-append, refl, sym, ap, subst, arith}
+use Rattle.std.proofs.Common.{length-append, refl, sym, ap, subst, arith}
 use Rattle.std.proofs.lemmas.Bool.Decides.{nat_tests}
-use Rattle.std.proofs.lemmas.List.{drop-replicate, drop_all, length-replicate, map-append, take-replicate, take_all}
+use Rattle.std.proofs.lemmas.List.{drop-replicate, length-replicate, map-append, take-replicate}
 use Rattle.placed_sections.specs.declared.part.PlacedPart.{PlacedPart}
 use Rattle.placed_sections.specs.Files.{bytes_in, filled, placed, sections_file}
-use Rattle.placed_sections.proofs.Chains.{end_of-append, laid-append, laid-length, rising-split}
+use Rattle.placed_sections.proofs.Chains.{laid-append, laid-length, rising-split}
 use Rattle.placed_sections.proofs.Filed.{page_of}
 use Rattle.placed_sections.proofs.Laid.{placed_map}
 use Rattle.placed_sections.proofs.Whole.{all_rise}
@@ -17,13 +17,6 @@ use Rattle.link_core.specs.Laying.{Rise, laid_parts}
 use Rattle.link_core.proofs.LengthsKept.{linked_whole}
 
 -- ** bytes
-
--- a list of bytes whose room is written back
-pub written_back : (n : ℕ) (items new : List ℕ) → n ≡ length items → length new ≡ length items
-    → take n (new ++ drop (length new) items) ≡ new
-written_back n items new is long =
-    ap (λ xs. take n (new ++ xs)) (drop_all (length new) items (omega arith))
-    ∙ ap (take n) (append-nil new) ∙ take_all n new (omega arith)
 
 -- what is not empty
 pub not_empty : (n : ℕ) → (n == 0) ≡ false → 0 < n

@@ -4,14 +4,12 @@ use Rattle.std.proofs.Common.{Option, IsSome, Some, None, length, refl, ap, subs
 use Rattle.std.specs.Prelude.{pos, ◌+ℤ◌, ◌-ℤ◌, fold, unwrap_or, if◌then◌else◌}
 use Rattle.std.specs.List.{Contains, filter}
 use Rattle.std.proofs.lemmas.Bool.{eqb-true}
-use Rattle.std.proofs.lemmas.List.{take-append-drop}
 use Rattle.elf_records.specs.declared.relocation.RelocationKind.{RelocationKind}
 use Rattle.elf_records.specs.declared.relocation.RelocationKind.TheVariants.{Nothing, Absolute64, Pc32, Plt32, GotPcRel}
 use Rattle.elf_records.specs.declared.relocation.RelocationKind.TheVariants.{Absolute32, Absolute32Signed, TlsGd, TlsLd}
 use Rattle.elf_records.specs.declared.relocation.RelocationKind.TheVariants.{DtpOff32, GotTpOff, TpOff32}
 use Rattle.elf_records.specs.declared.relocation.RelocationKind.TheVariants.{GotPc32TlsDesc, TlsDescCall, GotPcRelX}
 use Rattle.elf_records.specs.declared.relocation.RelocationKind.TheVariants.{RexGotPcRelX}
-use Rattle.elf_records.specs.Fields.{splice}
 use Rattle.elf_records.specs.Laws.{length-bytes_of, length-splice}
 use Rattle.elf_object.specs.Relocations.{field_width}
 use Rattle.elf_object.specs.declared.relocation.Relocation.{Relocation}
@@ -89,19 +87,6 @@ field_at_most kind s a p g = at_most (field_width kind) (stored_field kind s a p
 pub field_few : (l : Linking) (o t : ℕ) (r : Relocation) → IsAtMost (field_width r.kind) (field l o t r)
 unfolding field
 field_few l o t r = field_at_most r.kind _ r.addend _ _
-
--- ** writing
-
--- no bytes change nothing
-pub splice_nothing : (at : ℕ) (file : List ℕ) → splice at [] file ≡ file
-unfolding splice
-splice_nothing at file = let same : at + 0 ≡ at = omega arith in rw same (take-append-drop at file)
-
--- bytes that lie in a file, or none at all, leave it as long as it was
-pub splice_keeps : (at : ℕ) (new file : List ℕ) → (0 < length new → at + length new ≤ length file)
-    → length (splice at new file) ≡ length file
-splice_keeps at [] file inside = ap length (splice_nothing at file)
-splice_keeps at (x ∷ new) file inside = length-splice at (x ∷ new) file (inside (omega arith))
 
 -- ** one after another
 

@@ -1,7 +1,7 @@
 -- The bytes of an image's file, without its headers and its dynamic tables: the sections at their places, each with its
 -- fields and its new sequences, the global offset table and the stub.
-use Rattle.std.specs.Prelude.{◌+◌, ◌==◌, ◌∷◌, ℕ, negsuc, List, [], Option, Some, None, fold, unwrap_or}
-use Rattle.std.specs.Prelude.{if◌then◌else◌}
+use Rattle.std.specs.Prelude.{◌+◌, ◌-◌, ◌==◌, ◌∷◌, ◌++◌, ℕ, negsuc, List, [], Option, Some, None, fold, length}
+use Rattle.std.specs.Prelude.{unwrap_or, if◌then◌else◌}
 use Rattle.std.specs.List.{filter, flat_map}
 use Rattle.elf_records.specs.Fields.{bytes_of}
 use Rattle.elf_records.specs.declared.relocation.RelocationKind.TheVariants.{GotPcRel}
@@ -15,11 +15,11 @@ use Rattle.relax_sites.specs.declared.rows.NewField.{NewField}
 use Rattle.relax_sites.specs.Rewriting.{rewritten}
 use Rattle.relax_sites.specs.Rows.{new_field}
 use Rattle.placed_sections.specs.Files.{memory_bytes, offset_of, sections_file}
-use Rattle.placed_sections.specs.Laying.{with_section}
 use Rattle.sequence_forms.specs.declared.places.Site.{Site}
 use Rattle.tls_relocs.specs.declared.fields.Field.{Field}
 use Rattle.tls_relocs.specs.declared.fields.Field.TheVariants.{Empty}
 use Rattle.tls_relocs.specs.Fields.{field_bytes, field_patch}
+use Rattle.tls_relocs.specs.Laid.{zeros}
 use Rattle.tls_relocs.specs.Patches.{patched}
 use Rattle.tls_relocs.specs.Values.{stored_field}
 use Rattle.link_needs.specs.Linking.{Linking, block_offset, choice, layout, object, sites_at}
@@ -49,7 +49,7 @@ stub_bytes l =
 
 -- the file with bytes added at an address, after zeros
 abbrev pub with_part : Linking → ℕ → List ℕ → List ℕ → List ℕ
-with_part l address bytes file = with_section file (record { place = offset_of (layout l) address; bytes = bytes })
+with_part l address bytes file = file ++ (zeros (offset_of (layout l) address - length file) ++ bytes)
 
 abbrev pub with_got : Linking → List ℕ → List ℕ
 with_got l file = if got_size l == 0 then file else with_part l (got_start l) (got_bytes l) file

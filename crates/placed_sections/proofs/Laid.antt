@@ -1,18 +1,16 @@
--- Sections in the order of the file, and laid down one behind another.
-use Rattle.std.proofs.Common.{◌≡◌, ◌<◌, ◌≤◌, ◌+◌, ◌-◌, ℕ, suc, Bool, true, false, List, [], ◌∷◌, ◌++◌, length, map, drop, refl, sym, ap, ◌∙◌, append_assoc, append-nil, length-append, arith}
+-- Sections in the order of the file.
+use Rattle.std.proofs.Common.{◌≡◌, ◌<◌, ◌≤◌, ◌+◌, ◌-◌, ℕ, suc, Bool, true, false, List, [], ◌∷◌, ◌++◌, length, map, drop, refl, sym, ap, ◌∙◌, append_assoc, append-nil, arith}
 use Rattle.std.proofs.Math.Seq.{drop-cons}
-use Rattle.std.proofs.lemmas.List.{length-replicate, map-append}
+use Rattle.std.proofs.lemmas.List.{map-append}
 use Rattle.std.specs.Prelude.{◌&&◌, slice_index_or, nat_lt, if◌then◌else◌}
 use Rattle.std.specs.List.{flat_map, range_with_len}
 use Rattle.object_faults.specs.declared.class.SectionClass.{SectionClass}
 use Rattle.object_faults.specs.declared.class.SectionClass.TheVariants.{Executable, ReadOnly, Tls, Writable}
 use Rattle.elf_object.specs.Lent.{section_class, section_size}
 use Rattle.elf_object.specs.Object.{section_count}
-use Rattle.tls_relocs.specs.Laid.{Placed, Rising, laid, zeros}
 use Rattle.tls_layout.specs.Laws.{extent_for}
 use Rattle.tls_layout.specs.Sections.{Layout, is_class}
 use Rattle.placed_sections.specs.declared.part.PlacedPart.{PlacedPart}
-use Rattle.placed_sections.specs.Laying.{with_section, with_sections}
 use Rattle.placed_sections.specs.Files.{placed, placed_class, placed_section, placed_object, placed_from, end_mark, classes}
 
 -- numbers from a to n: the first, and those behind it
@@ -98,23 +96,3 @@ module _ {X Y : Type 0} (h : X → Y) (made : PlacedPart → X) (p : Layout) whe
   pub placed_map : (objects : List (List ℕ)) → map h (placed made p objects) ≡ placed (λ part. h (made part)) p objects
   unfolding placed
   placed_map objects = maps h (placed_class made p objects) (placed_class (λ part. h (made part)) p objects) (class_map objects) classes
-
--- ** laid down
-
-pub sections_append : (file : List ℕ) (xs ys : List Placed) → with_sections file (xs ++ ys) ≡ with_sections (with_sections file xs) ys
-sections_append file [] ys = refl
-sections_append file (x ∷ xs) ys = sections_append (with_section file x) xs ys
-
--- laid down where a file ends, sections that rise are laid out from there
-pub laid_behind : (file : List ℕ) (xs : List Placed) → Rising (length file) xs → with_sections file xs ≡ file ++ laid (length file) xs
-laid_behind file [] rising = sym (append-nil file)
-laid_behind file (x ∷ xs) rising =
-    let rises : length file ≤ x.place = rising.0 in
-    let gap : length (zeros (x.place - length file)) ≡ x.place - length file = length-replicate (x.place - length file) 0 in
-    let inner = length-append (zeros (x.place - length file)) x.bytes in
-    let outer = length-append file (zeros (x.place - length file) ++ x.bytes) in
-    let long : length (with_section file x) ≡ x.place + length x.bytes = omega arith in
-    laid_behind (with_section file x) xs (rw long rising.1)
-    ∙ ap (λ n. with_section file x ++ laid n xs) long
-    ∙ append_assoc file (zeros (x.place - length file) ++ x.bytes) (laid (x.place + length x.bytes) xs)
-    ∙ ap (λ r. file ++ r) (append_assoc (zeros (x.place - length file)) x.bytes (laid (x.place + length x.bytes) xs))

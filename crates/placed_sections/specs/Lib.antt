@@ -1,3 +1,2 @@
 pub mod Files
 pub mod Laws
-pub mod Laying

@@ -29,8 +29,8 @@
 //! A class may end after the last byte of its sections: a section of no bytes moves the end up to a multiple of its
 //! alignment. The file then has zeros up to there, so that a segment's bytes are all in the file.
 //!
-//! What stands in a section is left open: any bytes, as many as it has in memory. `link_core` writes the fields of
-//! relocations into a section before it lays it down, so it makes each section by itself, in threads. It asks
+//! What stands in a section is left open: any bytes, as many as it has in memory. `link_core` links each
+//! section by itself, with its fields and its new sequences, in threads. It asks
 //! [`place_sections`] for the list of all sections, each with its offset and in the order of the file, and
 //! [`first_page`] for the page that the file begins with; memory for all of the file is reserved at once. The list is
 //! made in five walks over the sections: for code, constants, the initial image of thread-local storage, and data with
@@ -38,7 +38,7 @@
 //!
 //! [`laws`] states what the file holds, offset by offset: where it ends, that each section lies in it with its own
 //! bytes, and that zeros stand between them. `specs/Files` has the order of sections, and the file of any contents;
-//! `specs/Laying` the file after each section, and `specs/Laws` the laws.
+//! `specs/Laws` has the laws.
 #![tactic(auto)]
 
 pub mod laws;

@@ -1,9 +1,8 @@
-use Rattle.std.proofs.Common.{◌≡◌, ◌∙◌, ◌++◌, List, length, sym, ap, subst}
+use Rattle.std.proofs.Common.{◌≡◌, ◌∙◌, List, ap}
 use Rattle.placed_sections.specs.declared.part.PlacedPart.{PlacedPart}
 use Rattle.placed_sections.specs.Files.{placed}
 use Rattle.link_needs.specs.Linking.{Linking, layout}
 use Rattle.link_core.specs.Bytes.{file, with_got, with_stub}
-use Rattle.link_core.specs.Laying.{laid_parts}
 use Rattle.link_core.proofs.Laying.{parts_file, parts_rise}
 use Rattle.link_core.proofs.file.file_of.Goals as goal
 

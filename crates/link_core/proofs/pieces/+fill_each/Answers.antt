@@ -1,4 +1,4 @@
-use Rattle.std.proofs.Common.{◌≡◌, ◌-◌, ◌∙◌, length, rules, sym, ap, arith}
+use Rattle.std.proofs.Common.{◌-◌, ◌∙◌, length, rules, sym, ap, arith}
 use Rattle.tls_relocs.specs.Laid.{zeros}
 use Rattle.link_core.specs.Laying.{laid_parts}
 use Rattle.link_core.proofs.Laying.{both_length, zeros_behind, zeros_in_front}

@@ -1,4 +1,4 @@
-use Rattle.std.proofs.Common.{◌≡◌, ◌+◌, ◌-◌, ◌∙◌, ◌++◌, ℕ, List, [], ◌∷◌, append-nil, length, sym, ap, subst, arith}
+use Rattle.std.proofs.Common.{◌≡◌, ◌-◌, ◌∙◌, ◌++◌, ℕ, List, [], ◌∷◌, append-nil, length, sym, ap, subst, arith}
 use Rattle.std.specs.Option.{IfSome}
 use Rattle.elf_object.specs.Lent.{section_size}
 use Rattle.placed_sections.specs.Files.{bytes_in}

@@ -1,12 +1,12 @@
-use Rattle.std.proofs.Common.{◌≡◌, ◌+◌, ◌-◌, ◌∙◌, ◌++◌, ℕ, List, None, drop, length, map, take, sym, ap, arith}
-use Rattle.std.proofs.Math.Seq.{drop-append_seam, take-append_seam}
+use Rattle.std.proofs.Common.{◌≡◌, ◌-◌, ◌∙◌, ◌++◌, None, drop, length, map, sym, ap, arith}
+use Rattle.std.proofs.Math.Seq.{drop-append_seam}
 use Rattle.placed_sections.specs.declared.part.PlacedPart.{PlacedPart}
 use Rattle.placed_sections.specs.Files.{filled}
 use Rattle.placed_sections.proofs.Chains.{end_of-above}
 use Rattle.tls_relocs.specs.Laid.{zeros}
 use Rattle.link_core.specs.Bytes.{linked_section}
 use Rattle.link_core.specs.Laying.{laid_parts}
-use Rattle.link_core.proofs.Laying.{all_length, last_ends, not_empty, written_back}
+use Rattle.link_core.proofs.Laying.{all_length, last_ends, not_empty}
 use Rattle.link_core.proofs.pieces.push_parts.Goals as goal
 
 pub overflow_sub-end : goal.overflow_sub-end

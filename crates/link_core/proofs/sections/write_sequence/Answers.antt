@@ -1,4 +1,4 @@
-use Rattle.std.proofs.Common.{◌∙◌, Some, None, sym, ap, arith}
+use Rattle.std.proofs.Common.{◌∙◌, Some, None, ap, arith}
 use Rattle.elf_object.specs.Lent.{section_size}
 use Rattle.link_needs.specs.Linking.{object}
 use Rattle.link_core.specs.Bytes.{with_new_field}

@@ -1,4 +1,4 @@
-use Rattle.std.proofs.Common.{◌≡◌, ◌+◌, ◌∙◌, ℕ, List, refl, sym, ap, subst, arith}
+use Rattle.std.proofs.Common.{◌+◌, ◌∙◌, List, refl, sym, ap, subst}
 use Rattle.std.specs.Prelude.{fold, slice_range}
 use Rattle.std.specs.List.{AllPairs}
 use Rattle.sequence_forms.specs.declared.places.Site.{Site}

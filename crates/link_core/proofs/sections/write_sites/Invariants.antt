@@ -1,4 +1,4 @@
-use Rattle.std.proofs.Common.{◌≡◌, ◌≤◌, fold, length}
+use Rattle.std.proofs.Common.{◌≡◌, fold, length}
 use Rattle.std.specs.Prelude.{slice_range}
 use Rattle.link_needs.specs.Linking.{sites_at}
 use Rattle.link_core.specs.Bytes.{sites_in, with_site}
