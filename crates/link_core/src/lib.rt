@@ -11,9 +11,10 @@
 //! places     where each section goes, in memory and in the TLS segment       tls_layout
 //! plan       the global offset table, and the value of each field            link_needs
 //!
-//! file       sections at their places, the table, the stub                   placed_sections, here
-//! fields     the value of each relocation, written                           tls_relocs, here
+//! sections   each at its place in the file                                   placed_sections
+//! fields     the value of each relocation, written in its section            tls_relocs, here
 //! sequences  the new ones, written over those that are rewritten             relax_sites, here
+//! file       the sections, the table, the stub                               here
 //! tables     symbols and relocations for a loader                            link_tables, image_writer
 //! ```
 //!
@@ -23,7 +24,7 @@
 //! wants no image can ask whether objects can be linked. If there is no such field, [`ReadyLink::write`] does what is
 //! below the gap, and fails only when memory runs out. [`link`] does all three.
 //!
-//! **The rule of bytes** (`specs/Bytes`): each byte of a section is at its place, and only the fields of relocations
+//! **The rule of bytes** (`specs/Bytes`): each section is at its place, and of its bytes only the fields of relocations
 //! and the rewritten sequences are changed. After the sections come the table and the stub, and after these the dynamic
 //! tables. Gaps are zero, and there is nothing else. `specs/Meant` says what each byte is without a word of how it is
 //! written, and `laws::bytes_are_meant` that the two agree.
@@ -51,9 +52,9 @@
 //! Names are compared by hash, each section is copied once, and each relocation is read by a fixed number of walks:
 //! time is linear in objects, symbols, relocations and bytes.
 //!
-//! Several threads look at the objects of a large image (`specs/Overflows`), and several write it: its fields are
-//! written in parts of the file, cut where a section begins. No clause depends on it. `specs/Parts` says what is
-//! written in a part, and its proofs say that the parts together are the whole.
+//! A section is linked by itself: what is written in it depends on no other section's bytes. So several threads fill
+//! a large file, each some sections of it, in place (`specs/Laying`), as several look at its objects (`specs/Overflows`).
+//! No clause depends on it.
 //!
 //! The rules are those of "ELF Handling For Thread-Local Storage" (Drepper), of the psABI ("Thread-Local Storage",
 //! "Relocation Types") and of the gABI ("Program Loading and Dynamic Linking").
