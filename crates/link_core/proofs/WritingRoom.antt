@@ -11,7 +11,7 @@ use Rattle.elf_object.specs.LawsOfSections.{kept_as}
 use Rattle.elf_object.specs.Lent.{relocations, section_class, section_size}
 use Rattle.elf_object.specs.Relocations.{field_width}
 use Rattle.link_faults.specs.ImageKinds.{base_of}
-use Rattle.placed_sections.specs.declared.part.OwnSection.{OwnSection}
+use Rattle.placed_sections.specs.declared.part.SectionRef.{SectionRef}
 use Rattle.placed_sections.specs.Laws.{IsOwn}
 use Rattle.relax_sites.specs.declared.choices.Choice.{Choice}
 use Rattle.relax_sites.specs.declared.rows.NewField.{NewField}
@@ -51,7 +51,7 @@ stand_near l given limits =
 -- ** sections
 
 -- one of the objects' has few bytes
-pub section_small : (l : Linking) → IsGiven l → (own : OwnSection) → IsOwn l.objects own
+pub section_small : (l : Linking) → IsGiven l → (own : SectionRef) → IsOwn l.objects own
     → section_size (object l own.object) own.section ≤ 2 ^ 20
 section_small l given own is = of_class (section_class (object l own.object) own.section) refl is.class
   where

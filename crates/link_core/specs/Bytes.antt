@@ -63,7 +63,7 @@ with_stub l file = if has_stub l then with_part l (stub_start l) (stub_bytes l) 
 abbrev pub with_value : ℕ → Option Field → List ℕ → List ℕ
 with_value at value bytes = patched (field_patch at (unwrap_or value Empty) ∷ []) bytes
 
--- section t of object o with the field of a relocation written
+-- section t of object o with the field of a relocation written; one whose sequence is rewritten has none
 abbrev pub with_field : Linking → ℕ → ℕ → List ℕ → Relocation → List ℕ
 with_field l o t bytes r = if is_replaced l o r then bytes else with_value r.offset (field l o t r) bytes
 

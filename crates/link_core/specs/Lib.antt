@@ -3,7 +3,7 @@ pub use Rattle.link_tables.specs.Dynamic
 pub use Rattle.link_tables.specs.Faults
 pub mod Bytes
 pub mod Images
+pub mod Laying
 pub mod Laws
 pub mod Meant
 pub mod Overflows
-pub mod Laying

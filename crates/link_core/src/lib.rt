@@ -49,12 +49,13 @@
 //! 403000  ff 25 0a f0 ff ff             jmp *0x402010(%rip)
 //! ```
 //!
-//! Names are compared by hash, each section is copied once, and each relocation is read by a fixed number of walks:
-//! time is linear in objects, symbols, relocations and bytes.
+//! Names are compared by hash, each section is copied once, and each relocation is read by a fixed number of walks. Each
+//! section finds its sequences by binary search. But for these searches, time is linear in objects, sections, symbols,
+//! relocations and bytes.
 //!
-//! A section is linked by itself: what is written in it depends on no other section's bytes. So several threads fill
-//! a large file, each some sections of it, in place (`specs/Laying`), as several look at its objects (`specs/Overflows`).
-//! No clause depends on it.
+//! A section is linked by itself: what is written in it never depends on what is written in another. So threads fill
+//! a large file, each some sections of it, in place (`specs/Laying`). Several look for a field that can't hold its value,
+//! each at some objects (`specs/Overflows`). No clause of the image depends on how many threads there are.
 //!
 //! The rules are those of "ELF Handling For Thread-Local Storage" (Drepper), of the psABI ("Thread-Local Storage",
 //! "Relocation Types") and of the gABI ("Program Loading and Dynamic Linking").

@@ -12,7 +12,7 @@ ghost use Rattle.link_core.specs.Laying.{laid_parts, Rise};
 
 use crate::sections::link_section;
 use link_needs::Plan;
-use placed_sections::{OwnSection, PlacedPart};
+use placed_sections::{PlacedPart, SectionRef};
 use std::alloc::AllocError;
 use std::thread::{Threads, join_mut};
 
@@ -23,7 +23,7 @@ const WORTH_TWO_THREADS: u64 = 1 << 18;
 const HALVINGS: u32 = 3;
 
 /// Fills a section, whose bytes are still zero, with those of its object, and links it.
-fn fill_section(plan: &Plan, own: OwnSection, bytes: &mut [u8])
+fn fill_section(plan: &Plan, own: SectionRef, bytes: &mut [u8])
     requires own { IsOwn plan.now.objects own }
     requires zero { bytes.old ≡ zeros (section_size (object_at plan.now.objects own.object) own.section) }
     ensures { bytes.new ≡ linked_section plan.now own.object own.section }
@@ -38,7 +38,7 @@ fn fill_section(plan: &Plan, own: OwnSection, bytes: &mut [u8])
 }
 
 /// How many bytes a section has.
-fn size_of(plan: &Plan, own: OwnSection) -> usize
+fn size_of(plan: &Plan, own: SectionRef) -> usize
     requires { IsOwn plan.now.objects own }
     ensures size { result ≡ length (linked_section plan.now own.object own.section) }
     ensures small { result ≤ 2 ^ 20 }
@@ -50,7 +50,7 @@ fn size_of(plan: &Plan, own: OwnSection) -> usize
     }
 }
 
-/// Where a part ends.
+/// The offset in the file where a part ends.
 fn end_of(plan: &Plan, part: &PlacedPart) -> usize
     requires { IsNear plan.now.objects part.now }
     ensures end { result ≡ part.now.place + length (bytes_in (linked_section plan.now) part.now.section) }
@@ -62,7 +62,8 @@ fn end_of(plan: &Plan, part: &PlacedPart) -> usize
     }
 }
 
-/// Fills the bytes of one part, which are still zero, with those up to it; they begin at offset `from` of the file.
+/// Fills one part. `bytes` are those of the file from offset `from` up to the part's end, still zero; the gap before
+/// the part stays so.
 fn fill_part(plan: &Plan, part: &PlacedPart, from: usize, bytes: &mut [u8])
     requires near { IsNear plan.now.objects part.now }
     requires rise { Rise plan.now from (part.now ∷ []) }
@@ -76,7 +77,8 @@ fn fill_part(plan: &Plan, part: &PlacedPart, from: usize, bytes: &mut [u8])
     }
 }
 
-/// How many bytes lie between the first part and the last.
+/// How many bytes lie from the start of the first part to the start of the last: the last can't be cut, so its own don't
+/// count.
 fn span(parts: &[PlacedPart]) -> u64
     ensures { 0 < result → 2 ≤ length parts.now }
 {
@@ -86,7 +88,7 @@ fn span(parts: &[PlacedPart]) -> u64
     parts[parts.len() - 1].place.saturating_sub(parts[0].place)
 }
 
-/// How many parts begin in the first half of the bytes: not all, and not none.
+/// How many parts begin in the first half of the bytes; at least one, and not all.
 fn count_of_front(parts: &[PlacedPart]) -> usize
     requires { 2 ≤ length parts.now }
     ensures { (0 < result) × (result < length parts.now) }
@@ -128,7 +130,8 @@ fn halves_of<'p>(plan: &Plan, parts: &'p [PlacedPart], from: usize) -> Halves<'p
     }
 }
 
-/// Fills the bytes of some parts, one part after another.
+/// Fills the bytes of some parts in one thread. Since parts are halved, calls are some thirty deep at most, however many
+/// parts there are.
 fn fill_each(plan: &Plan, parts: &[PlacedPart], from: usize, bytes: &mut [u8])
     requires near { All (IsNear plan.now.objects) parts.now }
     requires rise { Rise plan.now from parts.now }
@@ -147,7 +150,7 @@ fn fill_each(plan: &Plan, parts: &[PlacedPart], from: usize, bytes: &mut [u8])
     fill_each(plan, halves.back, halves.middle, second);
 }
 
-/// Likewise, by as many threads as the parts are worth.
+/// Likewise, by as many threads as the parts are worth, at most eight.
 #[cycle(halves)]
 fn fill<R: Threads + Sync>(
     rt: &R,

@@ -14,12 +14,12 @@ ghost use Rattle.link_core.specs.Bytes.{linked, sites_in, with_field, with_new_f
 use elf_object::{Relocation, RelocationKind};
 use elf_records::relocation_row::FieldValue;
 use link_needs::{Plan, new_relocation};
-use placed_sections::OwnSection;
+use placed_sections::SectionRef;
 use relax_sites::{NewField, new_field, rewrite};
 use sequence_match::Site;
 use tls_relocs::apply;
 
-/// A section of an object, and the address where it begins.
+/// A section of an object, and the address where it begins; 0 if it has none.
 #[derive(Clone, Copy)]
 struct PlacedSection {
     object: usize,
@@ -70,7 +70,7 @@ fn write_field(plan: &Plan, own: PlacedSection, relocation: &Relocation, bytes: 
     }
 }
 
-/// Writes the fields of a section's relocations. Not over `Uses`: a thread reads none of the sections of others.
+/// Writes the fields of a section's relocations. Not over `Uses`, which goes through whole objects.
 fn write_fields(plan: &Plan, own: PlacedSection, bytes: &mut [u8])
     requires object { own.object < length plan.now.objects }
     requires address { own.address ≡ unwrap_or (address_of (layout plan.now) own.object own.section) 0 }
@@ -134,7 +134,8 @@ fn own_sites<'p>(plan: &'p Plan, object: usize) -> &'p [Site]
     }
 }
 
-/// Which sites of an object stand in a section: from the first number up to the second. Sites rise by section.
+/// Which sites of an object stand in a section: from the first number on and before the second. Sites are sorted by
+/// section.
 fn sites_of(sites: &[Site], section: u32) -> (usize, usize)
     requires { AllPairs Before sites.now }
     ensures range { (result.0 ≤ result.1) × (result.1 ≤ length sites.now) }
@@ -166,7 +167,7 @@ fn write_sites(plan: &Plan, own: PlacedSection, bytes: &mut [u8])
 }
 
 /// Links a section, which has these bytes: writes its fields, and then its sequences.
-pub fn link_section(plan: &Plan, own: OwnSection, bytes: &mut [u8])
+pub fn link_section(plan: &Plan, own: SectionRef, bytes: &mut [u8])
     requires object { own.object < length plan.now.objects }
     requires whole { length bytes.old ≡ section_size (object_at plan.now.objects own.object) own.section }
     ensures written { bytes.new ≡ linked plan.now own.object own.section bytes.old }

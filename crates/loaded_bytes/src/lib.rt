@@ -32,9 +32,10 @@
 //! field holds 0x2048, and a RELATIVE relocation names its address. In instance 5, with load bias 0x1_1400_0000, it
 //! reads as 0x1_1400_2048.
 //!
-//! The proof goes by address. A walk through the linker's steps shows which byte of the file is at an address of a
-//! class (`proofs/ClassFile`). A relocation that writes there is one of a field of 8 bytes in the section there, and
-//! each such field has one, so the number written and the number meant are the same (`proofs/LeftBytes`).
+//! The proof goes by address. The laws of `link_core` say which byte of the file is at an address of a class: a
+//! section's, or a zero between sections (`proofs/ClassFile`). A relocation that writes there is one of a field of 8
+//! bytes in the section there, and each such field has one, so the number written and the number meant are the same
+//! (`proofs/LeftBytes`).
 #![tactic(auto)]
 
 mod laws;

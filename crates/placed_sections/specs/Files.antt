@@ -8,7 +8,7 @@ use Rattle.object_faults.specs.declared.class.SectionClass.TheVariants.{Executab
 use Rattle.elf_object.specs.Lent.{section_bytes, section_class, section_size}
 use Rattle.elf_object.specs.Object.{section_count}
 use Rattle.link_faults.specs.ImageKinds.{base_of}
-use Rattle.placed_sections.specs.declared.part.OwnSection.{OwnSection}
+use Rattle.placed_sections.specs.declared.part.SectionRef.{SectionRef}
 use Rattle.placed_sections.specs.declared.part.PlacedPart.{PlacedPart}
 use Rattle.tls_layout.specs.Laws.{extent_for}
 use Rattle.tls_layout.specs.Places.{address_of}
@@ -23,7 +23,7 @@ offset_of p address = address + 4096 - base_of p.kind
 abbrev pub memory_bytes : List ℕ → ℕ → List ℕ
 memory_bytes b s = section_bytes b s ++ zeros (section_size b s - length (section_bytes b s))
 
--- ** the order of sections in the file, with what is made of each: its bytes, or its name alone
+-- ** the order of sections in the file, with what is made of each: its place alone, or its place and bytes
 
 -- section s of object o, if it is of the class and has bytes
 abbrev pub placed_section : {X : Type 0} → (PlacedPart → X) → Layout → SectionClass → ℕ → List ℕ → ℕ → List X
@@ -61,7 +61,7 @@ placed_class made p objects class = placed_from made p class 0 objects ++ end_ma
 abbrev pub classes : List SectionClass
 classes = Executable ∷ ReadOnly ∷ Tls true ∷ Writable true ∷ Writable false ∷ []
 
--- all sections
+-- all sections that have an address and bytes, and the ends of classes
 unfoldable pub placed : {X : Type 0} → (PlacedPart → X) → Layout → List (List ℕ) → List X
 placed made p objects = flat_map (placed_class made p objects) classes
 
@@ -76,7 +76,7 @@ abbrev pub AreWhole : Contents → List (List ℕ) → Type 0
 AreWhole contents objects =
     (o s : ℕ) → o < length objects → length (contents o s) ≡ section_size (slice_index_or objects o []) s
 
-abbrev pub bytes_in : Contents → Option OwnSection → List ℕ
+abbrev pub bytes_in : Contents → Option SectionRef → List ℕ
 bytes_in contents None = []
 bytes_in contents (Some own) = contents own.object own.section
 

@@ -14,7 +14,7 @@ use Rattle.tls_layout.specs.Places.{address_of, IsLawful}
 use Rattle.tls_layout.specs.Sections.{Layout, layout_of}
 use Rattle.elf_object.specs.Object.{section_count}
 use Rattle.placed_sections.specs.Files.{AreWhole, Contents, offset_of, sections_file}
-use Rattle.placed_sections.specs.declared.part.OwnSection.{OwnSection}
+use Rattle.placed_sections.specs.declared.part.SectionRef.{SectionRef}
 use Rattle.placed_sections.specs.declared.part.PlacedPart.{PlacedPart}
 
 -- the end of an extent that has bytes, else the other number
@@ -34,13 +34,14 @@ pub record AreLaid (kind : ImageKind) (contents : Contents) (objects : List (Lis
   pub are_objects : All IsObject objects
   pub whole : AreWhole contents objects
 
--- a section of one of the objects
-pub record IsOwn (objects : List (List ℕ)) (own : OwnSection) : Type 0 where
+-- a section of one of the objects, which has a class: an image keeps it
+pub record IsOwn (objects : List (List ℕ)) (own : SectionRef) : Type 0 where
   pub object : own.object < length objects
   pub section : own.section < section_count (slice_index_or objects own.object [])
   pub class : IsSome (section_class (slice_index_or objects own.object []) own.section)
 
--- a part that lies near, and whose section, if it has one, is one of the objects'
+-- a part in the first 64 MiB of the file, so that sums of offsets stay small; its section, if it has one, is one of the
+-- objects'
 pub record IsNear (objects : List (List ℕ)) (part : PlacedPart) : Type 0 where
   pub near : part.place ≤ 2 ^ 26
   pub own : IfSome part.section (IsOwn objects)

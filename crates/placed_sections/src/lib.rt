@@ -3,8 +3,8 @@
 //! A linker puts the sections of many objects into one file, and a loader maps that file into memory a page of
 //! 4,096 bytes at a time. A page of memory is a page of the file, so a byte has the same offset in its page in
 //! both: the offset and the address of a segment are congruent (gABI, "Program Header", `p_align`). `tls_layout`
-//! finds the address of each section before a byte is written. What is left is to make a file with the same
-//! order and the same gaps.
+//! finds the address of each section before a byte is written. What is left is where each stands in
+//! the file, which has the same order and the same gaps.
 //!
 //! The rule that the crate states: **each byte of a section is at its place, and all others are zero.** The first page
 //! is that of the headers, which another crate writes, so the byte of address `a` is at offset `a` + 4,096 - the base
@@ -29,21 +29,21 @@
 //! A class may end after the last byte of its sections: a section of no bytes moves the end up to a multiple of its
 //! alignment. The file then has zeros up to there, so that a segment's bytes are all in the file.
 //!
-//! What stands in a section is left open: any bytes, as many as it has in memory. `link_core` links each
-//! section by itself, with its fields and its new sequences, in threads. It asks
-//! [`place_sections`] for the list of all sections, each with its offset and in the order of the file, and
-//! [`first_page`] for the page that the file begins with; memory for all of the file is reserved at once. The list is
-//! made in five walks over the sections: for code, constants, the initial image of thread-local storage, and data with
-//! bytes and without. No byte of a section is read for it.
+//! What stands in a section is left open: any bytes, as many as it has in memory. `link_core` asks [`place_sections`]
+//! for the sections that have an address and bytes, in the order of the file, each with its offset; among them stands
+//! where a class ends. It asks [`first_page`] for the page that the file begins with, and for memory up to the end of
+//! the sections. Then it links each section by itself. The list is made in five walks over the sections: for code,
+//! constants, the initial image of thread-local storage, and data with bytes and without. No byte of a section is read
+//! for it.
 //!
-//! [`laws`] states what the file holds, offset by offset: where it ends, that each section lies in it with its own
-//! bytes, and that zeros stand between them. `specs/Files` has the order of sections, and the file of any contents;
-//! `specs/Laws` has the laws.
+//! [`laws`] states what the file holds, offset by offset: where it ends, that each section lies in it with what stands
+//! in it, and that zeros stand between them. `specs/Files` has the order of sections, and the file of any contents;
+//! `specs/Laws` has the laws, and what callers may rely on in a placed part (`IsNear`).
 #![tactic(auto)]
 
 pub mod laws;
 mod part;
 mod placing;
 
-pub use part::{OwnSection, PlacedPart};
+pub use part::{PlacedPart, SectionRef};
 pub use placing::{first_page, offset_of, place_sections};

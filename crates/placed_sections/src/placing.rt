@@ -8,10 +8,9 @@ ghost use Rattle.placed_sections.specs.Files.{end_mark, offset_of as file_offset
 ghost use Rattle.placed_sections.specs.Files.{placed_object, placed_section};
 ghost use Rattle.placed_sections.specs.Laws.{IsNear};
 ghost use Rattle.tls_layout.specs.Places.{address_of, IsLawful};
-ghost use Rattle.tls_layout.specs.Sections.{layout_of};
 ghost use Rattle.tls_relocs.specs.Laid.{zeros};
 
-use crate::part::{OwnSection, PlacedPart};
+use crate::part::{PlacedPart, SectionRef};
 use elf_object::{Object, SectionClass};
 use link_faults::ImageKind;
 use std::alloc::{AllocError, Global};
@@ -70,7 +69,7 @@ fn push_section(
     }
     parts.push(PlacedPart {
         place: section_offset(placement, number, section),
-        section: Some(OwnSection {
+        section: Some(SectionRef {
             object: number,
             section,
         }),
@@ -152,13 +151,13 @@ fn push_class(
     push_end(placement, class, parts)
 }
 
-/// The sections of objects in the order of the file, each with its place.
+/// The sections that have an address and bytes, in the order of the file, each with its offset; and where classes end.
+/// Fails only when memory runs out.
 pub fn place_sections(
     alloc: Global,
     placement: &Placement,
     objects: &[Object],
 ) -> Result<Vec<PlacedPart>, AllocError>
-    requires { placement.now ≡ layout_of placement.now.kind objects.now }
     ensures parts { IfOk result (λ parts. parts.items ≡ placed (λ part. part) placement.now objects.now) }
     ensures near { IfOk result (λ parts. All (IsNear objects.now) parts.items) }
 {
@@ -171,7 +170,8 @@ pub fn place_sections(
     Ok(parts)
 }
 
-/// The first page, where headers will stand; memory for the whole file is reserved.
+/// A page of zeros, where headers will stand. Memory is reserved up to the end of the sections. Fails only when memory
+/// runs out.
 #[tactic(auto, using(tls_layout::proofs::Bounds::room_above))]
 pub fn first_page(alloc: Global, placement: &Placement) -> Result<Vec<u8>, AllocError>
     ensures len { IfOk result (λ file. length file.items ≡ 4096) }
