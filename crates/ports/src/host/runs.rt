@@ -48,8 +48,9 @@ fn end_of_run<P: Pieces>(pieces: &P, from: usize, room: usize) -> usize
     ensures order { (from < result) × (result ≤ length (P.view pieces.now).pieces) }
     ensures fits { length (joined (slice_range (P.view pieces.now).pieces from result)) ≤ room }
 {
+    let count = pieces.count();
     let mut to = from + 1;
-    while to < pieces.count() && size(pieces, from, to + 1) <= room {
+    while to < count && size(pieces, from, to + 1) <= room {
         to += 1;
     }
     to
