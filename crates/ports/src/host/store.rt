@@ -127,24 +127,6 @@ impl<'a, R: Files + Sync> HostStore<'a, R> {
         read_file(self.rt, name, &mut file)?;
         Ok(file)
     }
-
-    /// Replaces a file. A fault is counted and remembered.
-    fn replace<P: Pieces>(&mut self, name: &str, pieces: &P) -> Result<(), PutFault>
-        ensures cause { PutCounts self.old self.new result }
-        ensures count { self.new ≡ faults_after_put self.old result }
-    {
-        let alloc = self.alloc;
-        match write_file(self.rt, alloc, name, pieces) {
-            Ok(()) => Ok(()),
-            Err(error) => {
-                let fault = PutFault::from(error);
-                if let PutFault::Failed = fault {
-                    self.faults.add(alloc, name, Some(error));
-                }
-                Err(fault)
-            }
-        }
-    }
 }
 
 impl<'a, R: Files + Sync> Store for HostStore<'a, R> {
@@ -222,7 +204,7 @@ impl<'a, R: Files + Sync> Store for HostStore<'a, R> {
 
         ensures count { self.new ≡ faults_after_put self.old result }
     {
-        self.replace(name, &Whole { bytes })
+        put_file(self.rt, self.alloc, &mut self.faults, name, &Whole { bytes })
     }
 
     fn put_pieces<P: Pieces>(&mut self, name: &str, pieces: &P) -> Result<(), PutFault>
@@ -233,7 +215,7 @@ impl<'a, R: Files + Sync> Store for HostStore<'a, R> {
 
         ensures count { self.new ≡ faults_after_put self.old result }
     {
-        self.replace(name, pieces)
+        put_file(self.rt, self.alloc, &mut self.faults, name, pieces)
     }
 }
 
@@ -266,7 +248,30 @@ fn try_read<R: Files>(rt: &R, name: &str) -> io::Result<()> {
     Ok(())
 }
 
-/// Replaces the content of the file by that of the pieces.
+/// Replaces the content of the file. A fault is counted and remembered.
+fn put_file<R: Files, P: Pieces>(
+    rt: &R,
+    alloc: Global,
+    faults: &mut HostFaults,
+    name: &str,
+    pieces: &P,
+) -> Result<(), PutFault>
+    ensures cause { PutCounts faults.old.count faults.new.count result }
+    ensures count { faults.new.count ≡ faults_after_put faults.old.count result }
+{
+    match write_file(rt, alloc, name, pieces) {
+        Ok(()) => Ok(()),
+        Err(error) => {
+            let fault = PutFault::from(error);
+            if let PutFault::Failed = fault {
+                faults.add(alloc, name, Some(error));
+            }
+            Err(fault)
+        }
+    }
+}
+
+/// Replaces the content of the file, and says why it could not.
 fn write_file<R: Files, P: Pieces>(
     rt: &R,
     alloc: Global,
