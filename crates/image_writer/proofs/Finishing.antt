@@ -14,6 +14,7 @@ use Rattle.image_writer.specs.declared.layout.Layout.{Layout}
 use Rattle.image_writer.specs.declared.outline.PartPlace.{PartPlace}
 use Rattle.image_writer.specs.Contents.{contents_of, null_symbol, part_in, parts_end, symbol, tables_address}
 use Rattle.image_writer.specs.Files.{IsFileOf}
+use Rattle.image_writer.specs.Frames.{AreInside, outline_told}
 use Rattle.image_writer.specs.Linkable.{IsLinkable}
 use Rattle.image_writer.specs.Loadable.{HoldsTls, IsLoadable, IsRightPart}
 use Rattle.image_writer.specs.Outlined.{Outlined, end_of, no_part, outline_of, part, place_of}
@@ -27,20 +28,6 @@ use Rattle.image_writer.specs.declared.draft.NamedSymbol.{NamedSymbol}
 use Rattle.image_writer.proofs.Making.{length-tables_at, part_in-size, parts_end-in, places-in, tables-is, tables-told}
 use Rattle.image_writer.proofs.Strings.{no_symbol}
 use Rattle.image_writer.proofs.TableOutline.{base_low}
-
--- the bytes of each part lie inside the file
-abbrev pub AreInside : Draft → List ℕ → Type 0
-AreInside d file = All (λ (p : PartPlace). file_offset d.kind p.address + p.size ≤ length file) d.parts.now
-
--- the outline that a draft has with its tables
-abbrev pub outline_told : Draft → Outlined
-outline_told d = record {
-  kind = d.kind;
-  parts = d.parts.now ++ (tables_place (next_page d) (tables_size (told d)) ∷ []);
-  array_size = array_size (told d);
-  got = d.got;
-  tls = d.tls;
-}
 
 -- the tables begin at the next page
 address-is : (d : Draft) (file : List ℕ) → AreInside d file → tables_address (contents_of d file) ≡ next_page d
