@@ -1,9 +1,11 @@
 -- A draft's file as its parts in its frame, and parts that stand at their offsets in a file.
-use Rattle.std.proofs.Common.{ℕ, zero, suc, ◌+◌, ◌-◌, ◌<◌, ◌≤◌, ◌≡◌, ◌⊎◌, inl, inr, Some, All, List, [], ◌∷◌, ◌++◌, length, map, take, drop, replicate, refl, subst, sym, ap, ◌∙◌, arith}
+use Rattle.std.proofs.Common.{ℕ, zero, suc, ◌+◌, ◌-◌, ◌<◌, ◌≤◌, ◌≡◌, ◌⊎◌, inl, inr, Some, All, List, [], ◌∷◌, ◌++◌, length, map, take, drop, get_or, replicate, refl, subst, sym, ap, ◌∙◌, arith}
 use Rattle.std.specs.List.{slice_get}
-use Rattle.std.proofs.lemmas.List.{append-nil, drop_all, drop-drop, length-replicate, take-append-drop}
+use Rattle.std.proofs.lemmas.List.{append-nil, drop_all, drop-drop, length-replicate, replicate-append-replicate, take-append-drop}
+use Rattle.std.proofs.lemmas.Option.{get_or_from_slice_get}
+use Rattle.std.proofs.Math.Seq.{drop-cons}
 use Rattle.std.proofs.lemmas.List.Elements.{All-cons}
-use Rattle.elf_records.specs.Fields.{part_at}
+use Rattle.elf_records.specs.Fields.{part_at, splice}
 use Rattle.image_file.specs.Spelled.{Part}
 use Rattle.image_rules.specs.declared.places.FileKind.{FileKind}
 use Rattle.image_writer.specs.declared.draft.Draft.{Draft}
@@ -18,6 +20,7 @@ use Rattle.image_writer.specs.Page.{base_of, file_offset, page}
 use Rattle.image_writer.specs.Tables.{finished, tables, tables_part}
 use Rattle.image_writer.specs.Told.{next_page, places_end, told, tables_at}
 use Rattle.image_writer.specs.Written.{laid, written}
+use Rattle.image_writer.proofs.Filing.{written_behind}
 use Rattle.image_writer.proofs.Finishing.{address-is, loadable_told, outline-is, tables_told, tls_held}
 use Rattle.image_writer.proofs.Laying.{laid-append, reach}
 use Rattle.image_writer.proofs.Making.{part_in-size, parts_end-in}
@@ -54,8 +57,16 @@ frames_hold d file inside =
     )
     )
 
+-- what is put into bytes that were made of zeros, after some of them
+pub put_behind : (empty grown lent put new : List ℕ) (gap n long : ℕ) → empty ≡ [] → n ≡ length new
+    → length grown ≡ long → grown ≡ empty ++ replicate (gap + n) 0 → lent ≡ grown → put ≡ splice gap new lent
+    → take long (put ++ drop (length put) grown) ≡ replicate gap 0 ++ new
+put_behind empty grown lent put new gap n long none n-is long-is grew same wrote =
+    written_behind (replicate gap 0) new grown lent put n gap long n-is (sym (length-replicate gap 0)) long-is
+    (grew ∙ ap (λ ys. ys ++ replicate (gap + n) 0) none ∙ sym (replicate-append-replicate gap n 0)) same wrote
+
 -- where places come to from an address
-come_to : ℕ → List PartPlace → ℕ
+abbrev come_to : ℕ → List PartPlace → ℕ
 come_to at [] = at
 come_to at (p ∷ more) = come_to (end_of p) more
 
@@ -83,7 +94,13 @@ none_before kind at k (p ∷ more) before rise =
 -- a run of a list whose items are zero
 zero_run : (n from : ℕ) (xs : List ℕ) → from + n ≤ length xs
     → ((k : ℕ) → from ≤ k → k < from + n → slice_get xs k ≡ Some 0) → take n (drop from xs) ≡ replicate n 0
-zero_run n from xs within are = ?
+zero_run zero from xs within are = refl
+zero_run (suc n) from xs within are =
+    let here : get_or xs from 0 ≡ 0 = get_or_from_slice_get xs from 0 0 (are from (omega arith) (omega arith)) in
+    ap (take (suc n)) (drop-cons xs from 0 (omega arith))
+    ∙ ap (λ y. y ∷ take n (drop (suc from) xs)) here
+    ∙ ap (λ ys. 0 ∷ ys)
+    (zero_run n (suc from) xs (omega arith) (λ k above below. are k (omega (arith, above)) (omega (arith, below))))
 
 -- from an address on
 in_place : (kind : FileKind) (file : List ℕ) (at : ℕ) (places : List PartPlace) → base_of kind ≤ at → Rise at places

@@ -26,6 +26,12 @@ file_offset-at-requires-clause-below c =
     let b = bounded c.args.draft.now (loadable_told c.args.draft.now c.args.file.items c.requires.inside c.requires.linkable) in
     omega (arith, b.low, b.above, b.below, c.next_page.ensures)
 
+pub size-requires : goal.size-requires
+size-requires c =
+    let s = small c.args.draft.now c.layout_of-layout.result c.args.file.items c.requires.inside c.requires.linkable
+    c.requires.ends c.layout_of-layout.ensures in
+    omega (arith, s.size, s.bounds.low, s.bounds.above, s.bounds.below)
+
 pub overflow_add-gap : goal.overflow_add-gap
 overflow_add-gap c =
     let s = small c.args.draft.now c.layout_of-layout.result c.args.file.items c.requires.inside c.requires.linkable

@@ -1,4 +1,5 @@
-use Rattle.std.proofs.Common.{◌+◌, ◌<◌, ◌≤◌, ◌∙◌, arith}
+use Rattle.std.proofs.Common.{[], ◌∷◌, ◌++◌, ap, ◌∙◌, arith}
+use Rattle.image_writer.specs.Told.{tables_place}
 use Rattle.image_writer.proofs.Finishing.{bounded, places_held}
 use Rattle.image_writer.proofs.Layouts.{layout_facts}
 use Rattle.image_writer.proofs.made.with_tables.Goals as goal
@@ -15,4 +16,10 @@ size-requires c =
     omega (arith, size, b.low, b.above, b.below)
 
 pub returns : goal.returns
-returns c = ?
+returns c =
+    (c.in_ok-push.ensures {u = tt}).items
+    ∙ ap (λ ys. ys ++ (tables_place c.next_page.result c.size.result ∷ []))
+    ((c.in_ok-extend_from_slice.ensures {u = tt}).items
+    ∙ ap (λ ys. ys ++ c.args.draft.now.parts.now) (c.in_ok-all.ensures {u = tt}).items)
+    ∙ places_held c.args.draft.now c.args.layout.now c.next_page.result c.size.result c.requires.layout c.next_page.ensures
+    c.size.ensures
