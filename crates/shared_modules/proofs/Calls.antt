@@ -1,9 +1,11 @@
 -- What a call makes of its pass, from what its steps made of the seat.
-use Rattle.std.proofs.Common.{◌≡◌, ℕ, ◌+◌, ◌<◌, ◌≤◌, List, [], ◌∷◌, ◌++◌, length, drop, sym, refl, ap, ◌∙◌, subst, Option, Some, None, Err, arith}
+use Rattle.std.proofs.Common.{◌≡◌, ℕ, ◌+◌, ◌<◌, ◌≤◌, List, [], ◌∷◌, ◌++◌, length, drop, sym, refl, ap, ◌∙◌, subst, Option, Some, None, Result, Ok, Err, IfOk, IfErr, OnOk, arith}
 use mathlib.Core.Option.{some, some-injective}
 use lib.ListN.{get_elem?}
 use Rattle.atomic_table.specs.Seated.{TableId}
 use Rattle.module_table.specs.declared.events.Event.{Event}
+use Rattle.module_table.specs.declared.events.Opened.{Opened}
+use Rattle.module_table.specs.declared.events.Closed.{Closed}
 use Rattle.module_table.specs.declared.events.OpenRefusal.{OpenRefusal}
 use Rattle.module_table.specs.declared.events.OpenRefusal.TheVariants.{Unknown, Full, StaticFull, OutOfMemory as NoRoomToOpen}
 use Rattle.module_table.specs.declared.events.CloseRefusal.{CloseRefusal}
@@ -65,18 +67,20 @@ caught_pass p z z' v h me p_is z_is me_is seen told images legal =
 
 -- ---- an event, and refusals
 
-pub accepted_pass : (p : PassView) (z z' : TableId) (v : View) (h h' : History) (event : Event) (answers : History → Type 0) (me after : Sat) (before into : List Event)
-    → pass_view z v ≡ p → z' ≡ z → Entered v h me → Adds h event h' → IsLegal h'.infos h'.last_offset h'.events → after ≡ (away (published h'.events me.0), [])
-    → answers (history_at v.images h.events) → into ≡ before ++ drop (length v.seen) h.events → IsAccepted p event answers (pass_view z' after.0) before into
-accepted_pass p z z' v h h' event answers me after before into p_is z_is e adds legal after_is answer told =
+pub accepted_pass : {A R : Type 0} (p : PassView) (z z' : TableId) (v : View) (h h' : History) (event : Event) (answers : History → Result A R) (result : Result A R) (me after : Sat) (before into : List Event)
+    → pass_view z v ≡ p → z' ≡ z → Entered v h me → OnOk result (Adds h event h') → IsLegal h'.infos h'.last_offset h'.events → after ≡ (away (published h'.events me.0), [])
+    → answers h ≡ answers (history_at v.images h.events) → IfOk result (λ answer. answers h ≡ Ok answer) → into ≡ before ++ drop (length v.seen) h.events
+    → IfOk result (λ answer. IsAccepted p event (λ x. answers x ≡ Ok answer) (pass_view z' after.0) before into)
+accepted_pass p z z' v h h' event answers (Err refusal) me after before into p_is z_is e adds legal after_is at answer told = tt
+accepted_pass p z z' v h h' event answers (Ok given) me after before into p_is z_is e adds legal after_is at answer told =
     let images : images_of h' ≡ v.images = (λ i. record { infos = adds.infos i; last_offset = adds.last_offset i }) ∙ e.images in
     let now : after ≡ (seen_all h'.events v, []) = after_is ∙ ap (λ (m : Sat). let x : Sat = (away (published h'.events m.0), []) in x) e.after_is in
-    subst (λ (c : PassView × TableId × Sat). IsAccepted c.0 event answers (pass_view c.1 c.2.0) before into) (λ i. (p_is i, sym z_is i, sym now i))
+    subst (λ (c : PassView × TableId × Sat). IsAccepted c.0 event (λ x. answers x ≡ Ok given) (pass_view c.1 c.2.0) before into) (λ i. (p_is i, sym z_is i, sym now i))
     record {
       history = h.events;
       caught = record { rest = refl; seen = e.seen; told = e.told; legal = subst (λ (m : Images). IsLegal m.infos m.last_offset h'.events) images legal };
       added = adds.events;
-      answer = answer;
+      answer = sym at ∙ answer;
       lacked = told;
     }
 
@@ -102,15 +106,17 @@ unfolding close_answer closed_of left
 close_answer_at h images image is = subst (λ (m : Images). close_answer h image ≡ close_answer (history_at m h.events) image) is refl
 
 -- with memory for one event more the refusal is the history's
-pub open_refused : (p : PassView) (image : ℕ) (q : PassView) (before into : List Event) (h : History) (refusal : OpenRefusal) → OpenRefused h image refusal → 1 ≤ h.spare
-    → (open_answer h image ≡ Err refusal → IsRefused p (λ x. open_answer x image ≡ Err refusal) q before into) → IsOpenRefused p image q before into refusal
-open_refused p image q before into h Unknown o spare f = f o
-open_refused p image q before into h Full o spare f = f o
-open_refused p image q before into h StaticFull o spare f = f o
-open_refused p image q before into h NoRoomToOpen o spare f = let none = o.1 in absurd (omega arith)
+pub open_refused : (p : PassView) (image : ℕ) (q : PassView) (before into : List Event) (h : History) (result : Result Opened OpenRefusal) → IfErr result (OpenRefused h image) → 1 ≤ h.spare
+    → ((refusal : OpenRefusal) → open_answer h image ≡ Err refusal → IsRefused p (λ x. open_answer x image ≡ Err refusal) q before into) → IfErr result (IsOpenRefused p image q before into)
+open_refused p image q before into h (Ok answer) o spare f = tt
+open_refused p image q before into h (Err Unknown) o spare f = f Unknown o
+open_refused p image q before into h (Err Full) o spare f = f Full o
+open_refused p image q before into h (Err StaticFull) o spare f = f StaticFull o
+open_refused p image q before into h (Err NoRoomToOpen) o spare f = let none = o.1 in absurd (omega arith)
 
-pub close_refused : (p : PassView) (image : ℕ) (q : PassView) (before into : List Event) (h : History) (refusal : CloseRefusal) → CloseRefused h image refusal → 1 ≤ h.spare
-    → (close_answer h image ≡ Err refusal → IsRefused p (λ x. close_answer x image ≡ Err refusal) q before into) → IsCloseRefused p image q before into refusal
-close_refused p image q before into h Permanent o spare f = f o
-close_refused p image q before into h NotOpen o spare f = f o
-close_refused p image q before into h NoRoomToClose o spare f = let none = o.1 in absurd (omega arith)
+pub close_refused : (p : PassView) (image : ℕ) (q : PassView) (before into : List Event) (h : History) (result : Result Closed CloseRefusal) → IfErr result (CloseRefused h image) → 1 ≤ h.spare
+    → ((refusal : CloseRefusal) → close_answer h image ≡ Err refusal → IsRefused p (λ x. close_answer x image ≡ Err refusal) q before into) → IfErr result (IsCloseRefused p image q before into)
+close_refused p image q before into h (Ok answer) o spare f = tt
+close_refused p image q before into h (Err Permanent) o spare f = f Permanent o
+close_refused p image q before into h (Err NotOpen) o spare f = f NotOpen o
+close_refused p image q before into h (Err NoRoomToClose) o spare f = let none = o.1 in absurd (omega arith)

@@ -158,18 +158,13 @@ impl Shared {
         let Ok(mut registry) = steps::enter(rt, steps, &mut pass.seat, pass.seen, into) else {
             return Err(OpenRefusal::OutOfMemory);
         };
-        match registry.open(thread, line, image) {
-            Ok(opened) => {
-                pass.seen = registry.len();
-                steps::end_with(steps, &mut pass.seat, registry);
-                Ok(opened)
-            }
-            Err(refusal) => {
-                pass.seen = registry.len();
-                steps::end(steps, &mut pass.seat, registry);
-                Err(refusal)
-            }
+        let answer = registry.open(thread, line, image);
+        pass.seen = registry.len();
+        match answer {
+            Ok(_) => steps::end_with(steps, &mut pass.seat, registry),
+            Err(_) => steps::end(steps, &mut pass.seat, registry),
         }
+        answer
     }
 
     /// Closes an image for a thread's line. First the list gets the events that the pass has not seen, without the
@@ -183,29 +178,24 @@ impl Shared {
         image: u32,
         into: &mut Vec<Event>,
     ) -> Result<Closed, CloseRefusal>
-        requires of { pass.old.shared ≡ self.now }
         requires speaks { 1 ≤ times thread pass.old.threads }
+        requires of { pass.old.shared ≡ self.now }
+        ensures same { IsSamePass pass.old pass.new }
+        ensures refused { IfErr result (IsCloseRefused pass.old image pass.new into.old.items into.new.items) }
         ensures closed { IfOk result (λ closed.
             IsClosed pass.old (close_event thread line image) closed pass.new into.old.items into.new.items) }
-        ensures refused { IfErr result (IsCloseRefused pass.old image pass.new into.old.items into.new.items) }
-        ensures same { IsSamePass pass.old pass.new }
     {
         let steps = &self.board.shared;
         let Ok(mut registry) = steps::enter(rt, steps, &mut pass.seat, pass.seen, into) else {
             return Err(CloseRefusal::OutOfMemory);
         };
-        match registry.close(thread, line, image) {
-            Ok(closed) => {
-                pass.seen = registry.len();
-                steps::end_with(steps, &mut pass.seat, registry);
-                Ok(closed)
-            }
-            Err(refusal) => {
-                pass.seen = registry.len();
-                steps::end(steps, &mut pass.seat, registry);
-                Err(refusal)
-            }
+        let answer = registry.close(thread, line, image);
+        pass.seen = registry.len();
+        match answer {
+            Ok(_) => steps::end_with(steps, &mut pass.seat, registry),
+            Err(_) => steps::end(steps, &mut pass.seat, registry),
         }
+        answer
     }
 
     /// The registry with the whole history, all of which the pass of all threads has seen.
