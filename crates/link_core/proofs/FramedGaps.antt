@@ -53,7 +53,7 @@ has_part : (p : Layout) (class : SectionClass) → (extent_for class p).start < 
 unfolding section_places
 has_part p class.Executable some =
     let part = filled_holds Executable (executable p.kind p.sections) some in
-    (Executable, search (Contains-append_left, Contains-append_right, part))
+    (Executable, search (Contains-append_left, part))
 has_part p class.ReadOnly some =
     let part = filled_holds ReadOnly (read_only p.kind p.sections) some in
     (ReadOnly, search (Contains-append_left, Contains-append_right, part))
