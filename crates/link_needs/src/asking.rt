@@ -17,6 +17,7 @@ use tls_symbols::{Bindings, Place, first_use, relocation_count};
 pub const MAX_RELOCATIONS: u128 = 1 << 19;
 
 /// The first relocation of the objects that the question is about, if there is one.
+#[tactic(auto, using(crate::proofs::Asked::may_ask))]
 fn first_place<R: Threads + Sync>(rt: &R, charge: &Charge, objects: &[Object]) -> Option<Place>
     requires { IsAskedOf objects.now charge.now }
     ensures { MatchOption result (NoneCharged (test_of charge.now) objects.now)
