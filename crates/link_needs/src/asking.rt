@@ -27,11 +27,7 @@ fn first_place<R: Threads + Sync>(rt: &R, charge: &Charge, objects: &[Object]) -
 }
 
 /// The first relocation that an image of this kind refuses, if there is one. A program at a fixed address refuses none.
-fn first_refused<R: Threads + Sync>(
-    rt: &R,
-    objects: &[Object],
-    kind: ImageKind,
-) -> Option<Place>
+fn first_refused<R: Threads + Sync>(rt: &R, objects: &[Object], kind: ImageKind) -> Option<Place>
     ensures { MatchOption result (FitsKind objects.now kind)
         (λ place. IsFirstCharged (by_kind kind) objects.now place.object place.section place.entry) }
 {
