@@ -10,9 +10,9 @@ use std::alloc::{AllocError, Global};
 use std::io;
 use std::io::Write;
 
-/// How many bytes a run may have, unless a single piece has more: so small pieces share a write, and memory for large
-/// files stays small.
-const ROUND: usize = 1 << 20;
+/// How many bytes a run may have, unless a single piece has more: so small pieces share a write, several threads find
+/// work in a run, and memory for large files stays small.
+const ROUND: usize = 1 << 21;
 
 /// A buffer that holds any piece, or all of them if they are few.
 pub(super) fn room_for<P: Pieces>(alloc: Global, pieces: &P) -> Result<Vec<u8>, AllocError>

@@ -77,7 +77,7 @@ impl HostFaults {
 /// the path is not a plain file but, say, a device, a pipe or a link, are the bytes written to it in place; a
 /// refused put may then leave a part.
 ///
-/// The pieces of a file are made in one buffer, in runs of about a mebibyte or of one larger piece. It is allocated
+/// The pieces of a file are made in one buffer, in runs of two mebibytes at most or of one larger piece. It is allocated
 /// first, so that nothing has changed where there is no memory for it.
 ///
 /// The store remembers its last fault, for a person to read; no clause speaks of it.
