@@ -9,8 +9,8 @@ ghost use Rattle.tls_symbols.specs.Faults.{NamesWithin};
 
 use crate::image_names::ImageNames;
 use crate::imports::imports_of;
-use crate::standings::{Bound, Standing};
 use crate::searching::Question;
+use crate::standings::{Bound, Standing};
 use crate::uses::Use;
 use elf_object::{Relocation, RelocationKind};
 

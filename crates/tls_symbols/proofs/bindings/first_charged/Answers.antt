@@ -2,7 +2,6 @@ use Rattle.tls_symbols.specs.Charges.{test_of}
 use Rattle.tls_symbols.proofs.Among.{charged}
 use Rattle.tls_symbols.proofs.bindings.first_charged.Goals as goal
 
-
 pub returns : goal.returns
 returns g c =
     let objects = c.args.names.now.objects.now in
