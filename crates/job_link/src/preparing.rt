@@ -80,7 +80,6 @@ fn ready_one<'i, 'a, R: Threads + Sync>(
     ensures fault { IfErr result (IsLinkFault (link_beside startup.now relax image.now)) }
 {
     match prepare(
-        rt,
         alloc,
         image.objects(),
         image.sites(),

@@ -29,6 +29,7 @@ pub mod LoadsTables
 pub mod LoadsTls
 pub mod NamesHeld
 pub mod NewFields
+pub mod Overflows
 pub mod Relatives
 pub mod RelativesApart
 pub mod RelativesFields

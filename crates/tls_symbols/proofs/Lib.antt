@@ -1,4 +1,3 @@
-pub mod Among
 pub mod BoundAlike
 pub mod Charged
 pub mod Exported
@@ -11,7 +10,6 @@ pub mod Resolves
 pub mod Search
 pub mod SectionUses
 pub mod Sections
-pub mod Sums
 pub mod Told
 pub mod Unfit
 pub mod Walked
