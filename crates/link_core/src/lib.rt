@@ -63,6 +63,7 @@
 
 mod draft;
 mod file;
+mod image_pieces;
 pub mod laws;
 mod linked;
 mod linking;
@@ -71,6 +72,7 @@ mod pieces;
 mod ready;
 mod sections;
 
+pub use image_pieces::ImagePieces;
 pub use linked::Linked;
 pub use linking::link;
 pub use ready::{ReadyLink, prepare};

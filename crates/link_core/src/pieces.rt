@@ -8,19 +8,20 @@ ghost use Rattle.placed_sections.specs.Laws.{IsNear, IsOwn};
 ghost use Rattle.tls_relocs.specs.Laid.{zeros};
 ghost use Rattle.tls_symbols.specs.Bindings.{object_at};
 ghost use Rattle.link_core.specs.Bytes.{linked_section};
-ghost use Rattle.link_core.specs.Laying.{laid_parts, Rise};
+ghost use Rattle.link_core.specs.Laying.{laid_parts, AreParts, Rise};
 
 use crate::sections::link_section;
 use link_needs::Plan;
 use placed_sections::{PlacedPart, SectionRef};
 use std::alloc::AllocError;
 use std::thread::{Threads, join_mut};
+use tls_layout::PAGE;
 
 /// Parts that span this many bytes are halved: each half is worth a thread of its own.
 const WORTH_TWO_THREADS: u64 = 1 << 18;
 
 /// How many times parts are halved at most.
-const HALVINGS: u32 = 3;
+pub const HALVINGS: u32 = 3;
 
 /// Fills a section, whose bytes are still zero, with those of its object, and links it.
 fn fill_section(plan: &Plan, own: SectionRef, bytes: &mut [u8])
@@ -60,6 +61,19 @@ fn end_of(plan: &Plan, part: &PlacedPart) -> usize
         Some(own) => part.place as usize + size_of(plan, own),
         None => part.place as usize,
     }
+}
+
+/// Where the zeros before the part of this number begin in the file: where the part before it ends.
+pub fn start_of(plan: &Plan, parts: &[PlacedPart], number: usize) -> usize
+    requires parts { AreParts plan.now parts.now }
+    requires inside { number ≤ length parts.now }
+    ensures start { result ≡ 4096 + length (laid_parts plan.now 4096 (take number parts.now)) }
+    ensures near { (4096 ≤ result) × (result ≤ 2 ^ 27) }
+{
+    if number == 0 {
+        return PAGE as usize;
+    }
+    end_of(plan, &parts[number - 1])
 }
 
 /// Fills one part. `bytes` are those of the file from offset `from` up to the part's end, still zero; the gap before
@@ -152,7 +166,7 @@ fn fill_each(plan: &Plan, parts: &[PlacedPart], from: usize, bytes: &mut [u8])
 
 /// Likewise, by as many threads as the parts are worth, at most eight.
 #[cycle(halves)]
-fn fill<R: Threads + Sync>(
+pub fn fill<R: Threads + Sync>(
     rt: &R,
     plan: &Plan,
     parts: &[PlacedPart],
