@@ -1,4 +1,5 @@
 pub mod Counting
 pub mod Lookups
+pub mod PieceLemmas
 pub mod StreamLemmas
 pub mod Yielded

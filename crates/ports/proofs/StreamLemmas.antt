@@ -1,9 +1,9 @@
 -- Bytes that move in several steps.
-use Rattle.std.proofs.Common.{◌≡◌, ℕ, ◌+◌, ◌-◌, ◌≤◌, List, ◌++◌, length, take, drop, Option, Result, Ok, Err, OnErr, sym, ap, subst, ◌∙◌, le_refl, drop_at, length-take-le, append_assoc, take-take, take_all, take_at}
-use Rattle.std.proofs.Math.Seq.{take-add, take-length, take-append-le, take-append_seam}
+use Rattle.std.proofs.Common.{◌≡◌, ℕ, ◌+◌, ◌-◌, ◌≤◌, List, ◌++◌, arith, length, min, take, drop, Option, Result, Ok, Err, OnErr, sym, ap, subst, ◌∙◌, le_refl, drop_at, length-take-le, append_assoc, take-take, take_all, take_at}
+use Rattle.std.proofs.Math.Seq.{take-add, take-length, take-append-le, take-append-add, take-append_seam}
 use Rattle.std.proofs.lemmas.Slice.{take-put_mid_below}
 use borrow.Rule.Slice.PartMut.{put_mid, post_of}
-use Rattle.std.proofs.lemmas.List.{take_rest}
+use Rattle.std.proofs.lemmas.List.{take_min, take_rest}
 use Rattle.std.specs.Io.KnownBytes.{Appends, Keeps}
 use Rattle.std.proofs.KnownBytes.{Appends-trans, Appends-kept}
 use Rattle.ports.specs.Streams.{AppendsFront}
@@ -19,9 +19,25 @@ Appends-more a b c bytes written count first second =
 pub AppendsFront-whole : (a b c : Option (List ℕ)) (piece : List ℕ) → Appends a b piece → Keeps b c → AppendsFront a c piece
 AppendsFront-whole a b c piece taken kept = (length piece, subst (Appends a c) (sym (take-length piece)) (Appends-kept a b c piece taken kept))
 
+-- a whole piece, and then a front of the next
+pub AppendsFront-next : (a b c : Option (List ℕ)) (piece next : List ℕ) → Appends a b piece → AppendsFront b c next → AppendsFront a c (piece ++ next)
+AppendsFront-next a b c piece next taken front =
+    (length piece + front.0, subst (Appends a c) (sym (take-append-add piece next front.0)) (Appends-trans a b c _ _ taken front.1))
+
+-- a front of a piece is one of the piece and what is behind it
+pub AppendsFront-more : (a b : Option (List ℕ)) (piece next : List ℕ) → AppendsFront a b piece → AppendsFront a b (piece ++ next)
+AppendsFront-more a b piece next front =
+    let count = min front.0 (length piece) in
+    let same = take-append-le count piece next (omega arith) ∙ take_min front.0 piece in
+    (count, subst (Appends a b) (sym same) front.1)
+
 pub OnErr-always : {T E P : Type 0} (r : Result T E) → P → OnErr r P
 OnErr-always (Ok x) p = tt
 OnErr-always (Err e) p = p
+
+pub OnErr-then : {T E P Q : Type 0} (r : Result T E) → OnErr r P → (P → Q) → OnErr r Q
+OnErr-then (Ok x) p step = tt
+OnErr-then (Err e) p step = step p
 
 -- what a slice begins with after its part from `a` on was written
 pub take-put_mid_part : (a k n : ℕ) (xs ys : List ℕ) → a ≤ length xs → n ≤ length ys → take (a + n) (put_mid a k xs ys) ≡ take a xs ++ take n ys

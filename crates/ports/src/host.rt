@@ -1,5 +1,6 @@
 //! The store and the sink of the host: its file system, and a writer such as its standard output.
 mod progress;
+mod runs;
 mod sink;
 mod store;
 mod streams;

@@ -40,6 +40,7 @@ mod faults;
 mod fetching;
 mod host;
 mod memory;
+mod pieces;
 mod sinks;
 mod stores;
 
@@ -47,5 +48,6 @@ pub use faults::{FetchFault, PutFault};
 pub use fetching::fetch_each;
 pub use host::{HostFault, HostSink, HostStore, LARGEST_FILE, ProgressStore};
 pub use memory::{MemorySink, MemoryStore};
+pub use pieces::Pieces;
 pub use sinks::Sink;
 pub use stores::Store;

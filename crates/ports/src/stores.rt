@@ -3,8 +3,9 @@ ghost use Rattle.std.specs.Prelude.{◌≡◌, ℕ, List, ◌++◌, length, take
 ghost use Rattle.std.specs.Prelude.{Option, IsErr, OnOk, OnErr, IfOk, IfSome, MatchOption};
 ghost use Rattle.ports.specs.Counts.{FetchCounts, PutCounts};
 ghost use Rattle.ports.specs.Files.{Files, file_at, with_file, with_name, IsFile};
+ghost use Rattle.ports.specs.Pieces.{whole};
 
-use crate::{FetchFault, PutFault};
+use crate::{FetchFault, Pieces, PutFault};
 use std::alloc::Global;
 
 /// Files by name: where jobs and objects come from, and where an image goes.
@@ -55,6 +56,15 @@ pub trait Store: Sync {
     /// Makes these bytes the whole content of the file of that name, new or not. On a refusal the files are as before.
     fn put(&mut self, name: &str, bytes: &[u8]) -> Result<(), PutFault>
         ensures ok { OnOk result (files self.new ≡ with_file name.now bytes.now (files self.old)) }
+        ensures err { OnErr result (files self.new ≡ files self.old) }
+        ensures cause { PutCounts (faults self.old) (faults self.new) result }
+        ensures asked { asked self.new ≡ asked self.old };
+
+    /// Makes the bytes of these pieces the whole content of the file of that name, as `put` does, but asks for them
+    /// piece by piece.
+    fn put_pieces<P: Pieces>(&mut self, name: &str, pieces: &P) -> Result<(), PutFault>
+        ensures ok { OnOk result (files self.new
+            ≡ with_file name.now (whole (P.view pieces.now)) (files self.old)) }
         ensures err { OnErr result (files self.new ≡ files self.old) }
         ensures cause { PutCounts (faults self.old) (faults self.new) result }
         ensures asked { asked self.new ≡ asked self.old };

@@ -1,7 +1,7 @@
 //! Shows the progress of a long command to the person who waits for it.
 ghost use Rattle.std.specs.Prelude.{◌≡◌};
 
-use crate::{FetchFault, PutFault, Store};
+use crate::{FetchFault, Pieces, PutFault, Store};
 use std::alloc::Global;
 use std::marker::Model;
 use std::rt::Clock;
@@ -133,5 +133,10 @@ impl<'a, S: Store + Drop, R: Clock + Eprint + Sync> Store for ProgressStore<'a, 
     fn put(&mut self, name: &str, bytes: &[u8]) -> Result<(), PutFault> {
         self.progress.begin_output();
         self.store.put(name, bytes)
+    }
+
+    fn put_pieces<P: Pieces>(&mut self, name: &str, pieces: &P) -> Result<(), PutFault> {
+        self.progress.begin_output();
+        self.store.put_pieces(name, pieces)
     }
 }

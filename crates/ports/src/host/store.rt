@@ -3,9 +3,12 @@ ghost use Rattle.std.specs.Prelude.{◌≡◌, ◌+◌, ◌++◌, ◌≤◌, len
 ghost use Rattle.std.specs.Prelude.{IsErr, OnOk, OnErr, IfOk, IfSome, MatchOption};
 ghost use Rattle.ports.specs.Counts.{counted, Counted, FetchCounts, PutCounts, faults_after_fetch, faults_after_put};
 ghost use Rattle.ports.specs.Files.{file_at, with_file, with_name, IsFile};
+ghost use Rattle.ports.specs.Pieces.{whole, EachFits};
 
-use super::streams::{read_all, too_large, write_all};
-use crate::{FetchFault, PutFault, Store};
+use super::runs::{room_for, write_pieces};
+use super::streams::{read_all, too_large};
+use crate::pieces::Whole;
+use crate::{FetchFault, Pieces, PutFault, Store};
 use std::alloc::Global;
 use std::fs::{File, OpenFile};
 use std::io::{ErrorKind, Read};
@@ -201,17 +204,18 @@ impl<'a, R: Files + Sync> Store for HostStore<'a, R> {
 
         ensures count { self.new ≡ faults_after_put self.old result }
     {
-        let alloc = self.alloc;
-        match write_file(self.rt, alloc, name, bytes) {
-            Ok(()) => Ok(()),
-            Err(error) => {
-                let fault = PutFault::from(error);
-                if let PutFault::Failed = fault {
-                    self.faults.add(alloc, name, Some(error));
-                }
-                Err(fault)
-            }
-        }
+        put_file(self.rt, self.alloc, &mut self.faults, name, &Whole { bytes })
+    }
+
+    fn put_pieces<P: Pieces>(&mut self, name: &str, pieces: &P) -> Result<(), PutFault>
+        ensures ok { OnOk result (untold_files ≡ with_file name.now (whole (P.view pieces.now)) untold_files) }
+        ensures err { OnErr result (untold_files ≡ untold_files) }
+        ensures cause { PutCounts self.old self.new result }
+        ensures asked { untold_names ≡ untold_names }
+
+        ensures count { self.new ≡ faults_after_put self.old result }
+    {
+        put_file(self.rt, self.alloc, &mut self.faults, name, pieces)
     }
 }
 
@@ -244,12 +248,41 @@ fn try_read<R: Files>(rt: &R, name: &str) -> io::Result<()> {
     Ok(())
 }
 
-/// Replaces the content of the file by the bytes.
-fn write_file<R: Files>(rt: &R, alloc: Global, name: &str, bytes: &[u8]) -> io::Result<()> {
+/// Replaces the content of the file. A fault is counted and remembered.
+fn put_file<R: Files, P: Pieces>(
+    rt: &R,
+    alloc: Global,
+    faults: &mut HostFaults,
+    name: &str,
+    pieces: &P,
+) -> Result<(), PutFault>
+    ensures cause { PutCounts faults.old.count faults.new.count result }
+    ensures count { faults.new.count ≡ faults_after_put faults.old.count result }
+{
+    match write_file(rt, alloc, name, pieces) {
+        Ok(()) => Ok(()),
+        Err(error) => {
+            let fault = PutFault::from(error);
+            if let PutFault::Failed = fault {
+                faults.add(alloc, name, Some(error));
+            }
+            Err(fault)
+        }
+    }
+}
+
+/// Replaces the content of the file, and says why it could not.
+fn write_file<R: Files, P: Pieces>(
+    rt: &R,
+    alloc: Global,
+    name: &str,
+    pieces: &P,
+) -> io::Result<()> {
+    let mut buffer = room_for(alloc, pieces)?;
     if is_special(rt, name)? {
-        write_all(&mut fs::create(rt, name)?, bytes)
+        write_pieces(&mut fs::create(rt, name)?, pieces, &mut buffer)
     } else {
-        replace_file(rt, alloc, name, bytes)
+        replace_file(rt, alloc, name, pieces, &mut buffer)
     }
 }
 
@@ -263,11 +296,19 @@ fn is_special<R: Files>(rt: &R, name: &str) -> io::Result<bool> {
 }
 
 /// Writes a new file next to `name`, and then renames it to `name`.
-fn replace_file<R: Files>(rt: &R, alloc: Global, name: &str, bytes: &[u8]) -> io::Result<()> {
+fn replace_file<R: Files, P: Pieces>(
+    rt: &R,
+    alloc: Global,
+    name: &str,
+    pieces: &P,
+    buffer: &mut [u8],
+) -> io::Result<()>
+    requires { EachFits (length buffer.old) (P.view pieces.now).pieces }
+{
     for number in 0..NAMES {
         let part = format!(in alloc; "{name}.part{number}")?;
         match File::create_new(rt, part.as_str()) {
-            Ok(file) => return finish_file(rt, file, part.as_str(), name, bytes),
+            Ok(file) => return finish_file(rt, file, part.as_str(), name, pieces, buffer),
             Err(error) if error.kind() == ErrorKind::AlreadyExists => {}
             Err(error) => return Err(error),
         }
@@ -276,14 +317,17 @@ fn replace_file<R: Files>(rt: &R, alloc: Global, name: &str, bytes: &[u8]) -> io
 }
 
 /// Fills the new file `part` and renames it, or removes it.
-fn finish_file<R: Files>(
+fn finish_file<R: Files, P: Pieces>(
     rt: &R,
     file: R::File,
     part: &str,
     name: &str,
-    bytes: &[u8],
-) -> io::Result<()> {
-    let answer = match fill_file(file, bytes) {
+    pieces: &P,
+    buffer: &mut [u8],
+) -> io::Result<()>
+    requires { EachFits (length buffer.old) (P.view pieces.now).pieces }
+{
+    let answer = match fill_file(file, pieces, buffer) {
         Ok(()) => fs::rename(rt, part, name),
         Err(error) => Err(error),
     };
@@ -293,7 +337,13 @@ fn finish_file<R: Files>(
     answer
 }
 
-/// Writes the bytes to the new file, and closes it.
-fn fill_file<F: io::Write + Drop>(mut file: F, bytes: &[u8]) -> io::Result<()> {
-    write_all(&mut file, bytes)
+/// Writes the pieces to the new file, and closes it.
+fn fill_file<F: io::Write + Drop, P: Pieces>(
+    mut file: F,
+    pieces: &P,
+    buffer: &mut [u8],
+) -> io::Result<()>
+    requires { EachFits (length buffer.old) (P.view pieces.now).pieces }
+{
+    write_pieces(&mut file, pieces, buffer)
 }

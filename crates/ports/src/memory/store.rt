@@ -5,9 +5,11 @@ ghost use Rattle.std.specs.Option.{option_copied};
 ghost use Rattle.std.specs.FinMap as map;
 ghost use Rattle.ports.specs.Counts.{FetchCounts, PutCounts, faults_after_fetch, faults_after_put};
 ghost use Rattle.ports.specs.Files.{file_at, with_file, with_name, IsFile};
+ghost use Rattle.ports.specs.Pieces.{whole};
 
 use super::plan::FaultPlan;
-use crate::{FetchFault, PutFault, Store};
+use crate::pieces::{Whole, join};
+use crate::{FetchFault, Pieces, PutFault, Store};
 use std::alloc::{AllocError, Global};
 use std::collections::BTreeMap;
 use std::marker::Model;
@@ -55,8 +57,16 @@ impl MemoryStore {
             ≡ record self.old { files = map.insert self.old.files name.now bytes.now }) }
         ensures err { OnErr result (self.new ≡ self.old) }
     {
+        self.keep(name, Vec::from_slice(self.alloc, bytes)?)
+    }
+
+    /// Makes these bytes the file of that name.
+    fn keep(&mut self, name: &str, bytes: Vec<u8>) -> Result<(), AllocError>
+        ensures ok { OnOk result (self.new
+            ≡ record self.old { files = map.insert self.old.files name.now bytes.items }) }
+        ensures err { OnErr result (self.new ≡ self.old) }
+    {
         let name = String::from_str(self.alloc, name)?;
-        let bytes = Vec::from_slice(self.alloc, bytes)?;
         self.files.insert(name, bytes)?;
         Ok(())
     }
@@ -173,10 +183,24 @@ impl Store for MemoryStore {
         ensures count { self.new.faults ≡ faults_after_put self.old.faults result }
         ensures call { self.new.fails_in ≡ self.old.fails_in - 1 }
     {
+        self.put_pieces(name, &Whole { bytes })
+    }
+
+    fn put_pieces<P: Pieces>(&mut self, name: &str, pieces: &P) -> Result<(), PutFault>
+        ensures ok { OnOk result (Some self.new.files
+            ≡ with_file name.now (whole (P.view pieces.now)) (Some self.old.files)) }
+        ensures err { OnErr result (Some self.new.files ≡ Some self.old.files) }
+        ensures cause { PutCounts self.old.faults self.new.faults result }
+        ensures asked { untold_names ≡ untold_names }
+
+        ensures fails { IsErrOf result PutFault.Failed ↔ (self.old.fails_in ≡ 1) }
+        ensures count { self.new.faults ≡ faults_after_put self.old.faults result }
+        ensures call { self.new.fails_in ≡ self.old.fails_in - 1 }
+    {
         if self.plan.counts_call() {
             self.plan.counts_fault();
             return Err(PutFault::Failed);
         }
-        Ok(self.add(name, bytes)?)
+        Ok(self.keep(name, join(self.alloc, pieces)?)?)
     }
 }

@@ -1,0 +1,11 @@
+use Rattle.std.proofs.Common.{arith}
+use Rattle.ports.proofs.PieceLemmas.{size_more}
+use Rattle.ports.proofs.host.runs.size.Goals as goal
+
+pub overflow_sub-result : goal.overflow_sub-result
+overflow_sub-result g c =
+    omega (arith, c.start.ensures, c.start-2.ensures, size_more (g.P.Pieces.view c.args.pieces.now).pieces c.args.from c.args.to c.requires.0)
+
+pub returns : goal.returns
+returns g c =
+    omega (arith, c.start.ensures, c.start-2.ensures, size_more (g.P.Pieces.view c.args.pieces.now).pieces c.args.from c.args.to c.requires.0)
