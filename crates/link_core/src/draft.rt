@@ -149,7 +149,7 @@ pub fn draft_lists<'a>(
 }
 
 /// The draft of these lists.
-pub fn draft_of<'d>(inputs: &Inputs, lists: &'d DraftLists<'d>) -> Draft<'d>
+pub fn draft_of<'d, 'a: 'd>(inputs: &Inputs, lists: &'d DraftLists<'a>) -> Draft<'d>
     requires parts { lists.now.parts.items ≡ places inputs.now }
     requires got { lists.now.got ≡ got_number inputs.now }
     requires symbols { symbols_in lists.now.symbols.items ≡ symbols_of_link inputs.now }

@@ -5,12 +5,12 @@ ghost use Rattle.std.specs.List.{flat_map};
 ghost use Rattle.elf_records.specs.Fields.{bytes_of};
 ghost use Rattle.got_pairs.specs.Entries.{words};
 ghost use Rattle.link_faults.specs.ImageKinds.{base_of};
-ghost use Rattle.placed_sections.specs.Files.{offset_of as file_offset, sections_file};
+ghost use Rattle.placed_sections.specs.Files.{offset_of as file_offset, placed};
 ghost use Rattle.tls_relocs.specs.Fields.{field_bytes};
 ghost use Rattle.tls_relocs.specs.Laid.{zeros};
 ghost use Rattle.link_needs.specs.Linking.{layout};
-ghost use Rattle.link_core.specs.Bytes.{file as file_of_link, linked_section, table_bytes};
-ghost use Rattle.link_core.specs.Laying.{got_behind, laid_parts, made_behind, stub_behind, AreParts};
+ghost use Rattle.link_core.specs.Bytes.{file as file_of_link, table_bytes};
+ghost use Rattle.link_core.specs.Laying.{got_behind, made_behind, stub_behind, AreParts};
 
 use crate::pieces::{push_parts, push_zeros};
 use elf_object::RelocationKind;
@@ -134,12 +134,13 @@ pub fn push_made(plan: &Plan, start: u64, bytes: &mut Vec<u8>) -> Result<(), All
 /// The parts of the file behind its first page.
 pub fn parts_of(alloc: Global, plan: &Plan) -> Result<Vec<PlacedPart>, AllocError>
     ensures parts { IfOk result (λ parts. AreParts plan.now parts.items) }
-    ensures file { IfOk result (λ parts. zeros 4096 ++ laid_parts plan.now 4096 parts.items
-        ≡ sections_file (layout plan.now) (linked_section plan.now) plan.now.objects) }
+    ensures placed { IfOk result (λ parts.
+        parts.items ≡ placed (λ part. part) (layout plan.now) plan.now.objects) }
 {
     plan.is_given();
     let inputs = &plan.inputs;
-    place_sections(alloc, &inputs.placement, inputs.objects)
+    let parts = place_sections(alloc, &inputs.placement, inputs.objects)?;
+    Ok(parts)
 }
 
 /// The file of a link. A field that can't hold its value is left as it was.

@@ -86,7 +86,7 @@ impl<R: Threads + Sync> Pieces for ImagePieces<'_, '_, '_, '_, R> {
 }
 
 /// What stands around the parts of the image in its file.
-fn frame(alloc: Global, tables: &Tables) -> Result<Frame, AllocError>
+fn image_frame(alloc: Global, tables: &Tables) -> Result<Frame, AllocError>
     requires { Links tables.now }
     ensures page { IfOk result (λ frame. length frame.front.items ≡ 4096) }
     ensures file { IfOk result (λ frame. written (image_of tables.now)
@@ -128,14 +128,14 @@ impl<'l, 's, 'a> ReadyLink<'l, 's, 'a> {
     {
         let tables = &self.tables;
         let plan = &tables.plan;
-        let frame = frame(alloc, tables)?;
+        let Frame { front, back: last } = image_frame(alloc, tables)?;
         let parts = parts_of(alloc, plan)?;
-        let back = back_of(alloc, plan, parts.as_slice(), frame.back.as_slice())?;
+        let back = back_of(alloc, plan, parts.as_slice(), last.as_slice())?;
         Ok(ImagePieces {
             rt,
             plan,
             parts,
-            front: frame.front,
+            front,
             back,
         })
     }
