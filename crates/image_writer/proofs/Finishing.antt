@@ -14,6 +14,7 @@ use Rattle.image_writer.specs.declared.layout.Layout.{Layout}
 use Rattle.image_writer.specs.declared.outline.PartPlace.{PartPlace}
 use Rattle.image_writer.specs.Contents.{contents_of, null_symbol, part_in, parts_end, symbol, tables_address}
 use Rattle.image_writer.specs.Files.{IsFileOf}
+use Rattle.image_writer.specs.Frames.{AreInside, outline_told}
 use Rattle.image_writer.specs.Linkable.{IsLinkable}
 use Rattle.image_writer.specs.Loadable.{HoldsTls, IsLoadable, IsRightPart}
 use Rattle.image_writer.specs.Outlined.{Outlined, end_of, no_part, outline_of, part, place_of}
@@ -28,26 +29,12 @@ use Rattle.image_writer.proofs.Making.{length-tables_at, part_in-size, parts_end
 use Rattle.image_writer.proofs.Strings.{no_symbol}
 use Rattle.image_writer.proofs.TableOutline.{base_low}
 
--- the bytes of each part lie inside the file
-abbrev pub AreInside : Draft → List ℕ → Type 0
-AreInside d file = All (λ (p : PartPlace). file_offset d.kind p.address + p.size ≤ length file) d.parts.now
-
--- the outline that a draft has with its tables
-abbrev pub outline_told : Draft → Outlined
-outline_told d = record {
-  kind = d.kind;
-  parts = d.parts.now ++ (tables_place (next_page d) (tables_size (told d)) ∷ []);
-  array_size = array_size (told d);
-  got = d.got;
-  tls = d.tls;
-}
-
 -- the tables begin at the next page
-address-is : (d : Draft) (file : List ℕ) → AreInside d file → tables_address (contents_of d file) ≡ next_page d
+pub address-is : (d : Draft) (file : List ℕ) → AreInside d file → tables_address (contents_of d file) ≡ next_page d
 address-is d file inside = ap (λ n. next_multiple_of n 4096) (parts_end-in d.kind file d.parts.now inside)
 
 -- their bytes
-tables_told : (d : Draft) (file : List ℕ) → AreInside d file
+pub tables_told : (d : Draft) (file : List ℕ) → AreInside d file
     → tables (contents_of d file) ≡ tables_at (next_page d) (told d)
 tables_told d file inside =
     tables-is (contents_of d file) ∙ tables-told d file (tables_address (contents_of d file))
@@ -74,13 +61,13 @@ outline-is d file inside =
     ∙ ap (λ p. d.parts.now ++ (p ∷ [])) (place_told d file inside) in
     ap (λ ps. record { kind = d.kind; parts = ps; array_size = array_size (told d); got = d.got; tls = d.tls }) parts
 
--- what the places and sizes of a linkable draft keep
-pub record IsBounded (d : Draft) (file : List ℕ) : Type 0 where
+-- what the places and sizes of a draft with a frame keep
+pub record IsBounded (d : Draft) : Type 0 where
   pub low : base_of d.kind ≤ 4194304
   pub above : base_of d.kind ≤ next_page d
   pub below : next_page d + tables_size (told d) ≤ base_of d.kind + 67108864
   pub few : length d.parts.now < 10
-  pub ends : length file ≤ next_page d + 4096 - base_of d.kind
+  pub behind : places_end d.kind d.parts.now ≤ next_page d
   pub parts_above : All (λ (p : PartPlace). base_of d.kind ≤ p.address) d.parts.now
 
 -- the draft's outline can be loaded
@@ -113,21 +100,17 @@ parts_right d can k p below =
 page_behind : (n : ℕ) → n ≤ next_multiple_of n 4096
 page_behind n = omega arith
 
-pub bounded : (d : Draft) (file : List ℕ) → AreInside d file → IsLinkable (contents_of d file)
-    → length file ≡ file_offset d.kind (parts_end d.kind (contents_of d file).parts) → IsBounded d file
-bounded d file inside linkable ends =
-    let can = loadable_told d file inside linkable in
+pub bounded : (d : Draft) → IsLoadable (outline_told d) → IsBounded d
+bounded d can =
     let last = last_right d can in
     let few = can.few in
     let more = length_push d.parts.now (tables_place (next_page d) (tables_size (told d))) in
-    let behind = page_behind (places_end d.kind d.parts.now) in
-    let end = parts_end-in d.kind file d.parts.now inside in
     record {
       low = base_low d.kind;
       above = last.0;
       below = last.1;
       few = omega (arith, few, more);
-      ends = omega (arith, ends, behind, end);
+      behind = page_behind (places_end d.kind d.parts.now);
       parts_above = parts_right d can;
     }
 
@@ -194,16 +177,17 @@ tables_stand d file f at inside at-is is =
 
 -- what is put over the file is a file of the finished contents
 pub file_made : (d : Draft) (file Z : List ℕ) (at : ℕ) → AreInside d file → IsLinkable (contents_of d file)
-    → IsBounded d file → at ≡ next_page d + 4096 - base_of d.kind → at ≤ length (file ++ Z)
+    → at ≡ next_page d + 4096 - base_of d.kind → length file ≤ at → at ≤ length (file ++ Z)
     → IsFileOf (splice 0 (page (outline_told d)) (splice at (tables_at (next_page d) (told d)) (file ++ Z))) (finished (contents_of d file))
 unfolding finished
-file_made d file Z at inside linkable bounds at-is room =
+file_made d file Z at inside linkable at-is before room =
     let c = contents_of d file in
     let T = tables_at (next_page d) (told d) in
     let P = page (outline_told d) in
     let f = splice 0 P (splice at T (file ++ Z)) in
-    let long : length P ≡ 4096 = length-page (outline_told d) (loadable_told d file inside linkable) in
-    let before : length file ≤ at = subst (λ n. length file ≤ n) (sym at-is) bounds.ends in
+    let can = loadable_told d file inside linkable in
+    let bounds = bounded d can in
+    let long : length P ≡ 4096 = length-page (outline_told d) can in
     let above : 4096 ≤ at = omega (arith, bounds.above, at-is) in
     record {
       page_is = leads P (splice at T (file ++ Z)) long ∙ ap page (sym (outline-is d file inside));
@@ -236,38 +220,43 @@ fitting d file symbols relocations =
       addends = λ k r below. (relocations k r below).1;
     }
 
--- the outline that code holds is the draft's with its tables
-pub outline_held : (d : Draft) (l : Layout) (places : List PartPlace) (address size : ℕ) → l ≡ layout_of (told d)
-    → address ≡ next_page d → size ≡ l.strings_start + l.strings_size
-    → places ≡ d.parts.now ++ (tables_place address size ∷ [])
+-- the parts that code holds, and the outline, are the draft's with its tables
+pub places_held : (d : Draft) (l : Layout) (address size : ℕ) → l ≡ layout_of (told d) → address ≡ next_page d
+    → size ≡ l.strings_start + l.strings_size
+    → d.parts.now ++ (tables_place address size ∷ []) ≡ (outline_told d).parts
+places_held d l address size laid at-is size-is =
+    ap (λ n. d.parts.now ++ (tables_place n size ∷ [])) at-is
+    ∙ ap (λ n. d.parts.now ++ (tables_place (next_page d) n ∷ [])) (size-is ∙ (layout_facts d l laid).size_is)
+
+pub outline_held : (d : Draft) (l : Layout) (places : List PartPlace) → l ≡ layout_of (told d)
+    → places ≡ (outline_told d).parts
     → record { kind = d.kind; parts = places; array_size = l.array_size; got = d.got; tls = d.tls } ≡ outline_told d
-outline_held d l places address size laid at-is size-is are =
-    let facts = layout_facts d l laid in
-    let parts : places ≡ d.parts.now ++ (tables_place (next_page d) (tables_size (told d)) ∷ []) =
-    are ∙ ap (λ n. d.parts.now ++ (tables_place n size ∷ [])) at-is
-    ∙ ap (λ n. d.parts.now ++ (tables_place (next_page d) n ∷ [])) (size-is ∙ facts.size_is) in
-    ap (λ ps. record { kind = d.kind; parts = ps; array_size = l.array_size; got = d.got; tls = d.tls }) parts
-    ∙ ap (λ n. record { kind = d.kind; parts = (outline_told d).parts; array_size = n; got = d.got; tls = d.tls }) facts.array_is
+outline_held d l places laid are =
+    ap (λ ps. record { kind = d.kind; parts = ps; array_size = l.array_size; got = d.got; tls = d.tls }) are
+    ∙ ap (λ n. record { kind = d.kind; parts = (outline_told d).parts; array_size = n; got = d.got; tls = d.tls })
+    (layout_facts d l laid).array_is
 
 -- what code made is a file that stands for the finished contents
 pub image_made : (d : Draft) (file Z made : List ℕ) (at : ℕ) → AreInside d file → IsLinkable (contents_of d file)
-    → IsBounded d file → at ≡ next_page d + 4096 - base_of d.kind → at ≤ length (file ++ Z)
+    → at ≡ next_page d + 4096 - base_of d.kind → length file ≤ at → at ≤ length (file ++ Z)
     → All IsSymbolFitting d.symbols.now → All IsRelocationFitting d.relocations.now
     → made ≡ splice 0 (page (outline_told d)) (splice at (tables_at (next_page d) (told d)) (file ++ Z))
     → IsImage made × (spelled made ≡ finished (contents_of d file))
-image_made d file Z made at inside linkable bounds at-is room symbols relocations is =
+image_made d file Z made at inside linkable at-is before room symbols relocations is =
     let F = λ (f : List ℕ). IsFileOf f (finished (contents_of d file)) in
     stands_for (contents_of d file) made linkable (fitting d file symbols relocations)
-    (subst F (sym is) (file_made d file Z at inside linkable bounds at-is room))
+    (subst F (sym is) (file_made d file Z at inside linkable at-is before room))
 
 -- how long it is
 pub length-made : (d : Draft) (file Z : List ℕ) (at : ℕ) → AreInside d file → IsLinkable (contents_of d file)
-    → IsBounded d file → at ≡ next_page d + 4096 - base_of d.kind → at + tables_size (told d) ≤ length (file ++ Z)
+    → at ≡ next_page d + 4096 - base_of d.kind → at + tables_size (told d) ≤ length (file ++ Z)
     → length (splice 0 (page (outline_told d)) (splice at (tables_at (next_page d) (told d)) (file ++ Z))) ≡ length (file ++ Z)
-length-made d file Z at inside linkable bounds at-is room =
+length-made d file Z at inside linkable at-is room =
     let T = tables_at (next_page d) (told d) in
     let size : length T ≡ tables_size (told d) = length-tables_at (next_page d) (told d) in
-    let long : length (page (outline_told d)) ≡ 4096 = length-page (outline_told d) (loadable_told d file inside linkable) in
+    let can = loadable_told d file inside linkable in
+    let bounds = bounded d can in
+    let long : length (page (outline_told d)) ≡ 4096 = length-page (outline_told d) can in
     let inner : length (splice at T (file ++ Z)) ≡ length (file ++ Z) = length-splice at T (file ++ Z) (omega arith) in
     let above : 4096 ≤ at = omega (arith, bounds.above, at-is) in
     length-splice 0 (page (outline_told d)) (splice at T (file ++ Z)) (omega arith) ∙ inner
@@ -275,14 +264,19 @@ length-made d file Z at inside linkable bounds at-is room =
 -- numbers that fit, of what is made
 pub record IsSmall (d : Draft) (l : Layout) (file : List ℕ) : Type 0 where
   pub size : l.strings_start + l.strings_size ≡ tables_size (told d)
-  pub bounds : IsBounded d file
+  pub bounds : IsBounded d
+  pub ends : length file ≤ next_page d + 4096 - base_of d.kind
 
 pub small : (d : Draft) (l : Layout) (file : List ℕ) → AreInside d file → IsLinkable (contents_of d file)
     → length file ≡ file_offset d.kind (parts_end d.kind (contents_of d file).parts) → l ≡ layout_of (told d) → IsSmall d l file
-small d l file inside linkable ends laid = record {
-  size = (layout_facts d l laid).size_is;
-  bounds = bounded d file inside linkable ends;
-}
+small d l file inside linkable ends laid =
+    let bounds = bounded d (loadable_told d file inside linkable) in
+    let end = parts_end-in d.kind file d.parts.now inside in
+    record {
+      size = (layout_facts d l laid).size_is;
+      bounds = bounds;
+      ends = omega (arith, ends, bounds.behind, end);
+    }
 
 -- the outline that code holds can be loaded
 pub loadable_held : (d : Draft) (file : List ℕ) (o : Outlined) → AreInside d file → IsLinkable (contents_of d file)
@@ -307,7 +301,7 @@ room_made d l file grown lent address at size long small address-is at-is size-i
     let both : length (file ++ zeros) ≡ length file + length zeros = length-append file zeros in
     let wide : length lent ≡ length (file ++ zeros) = ap length (same ∙ grew) in
     let above : base_of d.kind ≤ next_page d = bounds.above in
-    let ends : length file ≤ at = subst (λ n. length file ≤ n) (sym place) bounds.ends in
+    let ends : length file ≤ at = subst (λ n. length file ≤ n) (sym place) small.ends in
     let all : length (file ++ zeros) ≡ at + tables_size (told d) = omega (arith, count, both, ends, long-is, told-size) in
     let page : 4096 ≤ at = omega (arith, above, place) in
     (place, omega (arith, wide, all, page), all)
@@ -330,7 +324,8 @@ image_held d l o file grown lent put address at size long wide inside linkable s
     wrote ∙ ap (λ p. splice 0 (page p) (splice at (tables_at (next_page d) (told d)) lent)) held
     ∙ ap (λ ys. splice 0 (page (outline_told d)) (splice at (tables_at (next_page d) (told d)) ys)) (same ∙ grew) in
     let end : length put ≡ wide =
-    ap length put-is ∙ length-made d file zeros at inside linkable small.bounds room.0 (omega arith) ∙ sym (ap length grew) ∙ wide-is in
+    ap length put-is ∙ length-made d file zeros at inside linkable room.0 (omega arith) ∙ sym (ap length grew) ∙ wide-is in
     let made = take wide (put ++ drop (length put) grown) in
-    image_made d file zeros made at inside linkable small.bounds room.0 (omega arith) symbols relocations
+    let before : length file ≤ at = subst (λ n. length file ≤ n) (sym room.0) small.ends in
+    image_made d file zeros made at inside linkable room.0 before (omega arith) symbols relocations
     (over_all wide put grown end ∙ put-is)

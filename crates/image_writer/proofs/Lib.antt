@@ -3,6 +3,7 @@ pub mod Counted
 pub mod Decided
 pub mod Filing
 pub mod Finishing
+pub mod Framing
 pub mod Hashes
 pub mod Headed
 pub mod HeaderBytes

@@ -1,6 +1,8 @@
 pub mod Contents
 pub mod Files
+pub mod Frames
 pub mod Headers
+pub mod Laws
 pub mod Linkable
 pub mod Loadable
 pub mod Outlined

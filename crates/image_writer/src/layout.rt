@@ -113,7 +113,7 @@ pub fn layout_of(draft: &Draft<'_>) -> Layout
 }
 
 /// Where the last part ends.
-fn places_end(draft: &Draft<'_>) -> u64
+pub fn places_end(draft: &Draft<'_>) -> u64
     requires { places_end draft.now.kind draft.now.parts.now < 2 ^ 64 }
     ensures { result ≡ places_end draft.now.kind draft.now.parts.now }
 {

@@ -40,7 +40,9 @@
 
 mod draft;
 mod entries;
+mod frame;
 mod layout;
+pub mod laws;
 mod made;
 mod outline;
 mod page;
@@ -49,6 +51,7 @@ mod tables;
 mod written;
 
 pub use draft::{Draft, NamedSymbol};
+pub use frame::{Frame, frame_of};
 pub use made::image_of;
 pub use outline::{Outline, PartPlace};
 pub use page::file_offset;

@@ -3,13 +3,14 @@
 ghost use Rattle.std.specs.Prelude.{◌≡◌, ◌+◌, ◌^◌, ◌<◌, ◌≤◌, ◌++◌, ◌∷◌, [], All, IfOk, length, vec_len};
 ghost use Rattle.image_file.specs.declared.part.PartClass.TheVariants.{ReadOnly};
 ghost use Rattle.image_writer.specs.Contents.{contents_of, parts_end};
+ghost use Rattle.image_writer.specs.Frames.{AreInside, outline_told};
 ghost use Rattle.image_writer.specs.Linkable.{IsLinkable};
 ghost use Rattle.image_writer.specs.Page.{file_offset, page};
 ghost use Rattle.image_writer.specs.Tables.{finished};
 ghost use Rattle.elf_records.specs.Fields.{splice};
 ghost use Rattle.image_writer.specs.Loadable.{IsLoadable, HoldsTls};
 ghost use Rattle.image_writer.specs.Outlined.{outlined};
-ghost use Rattle.image_writer.specs.Told.{tables_place, told, layout_of, next_page, tables_at, IsSymbolFitting, IsRelocationFitting};
+ghost use Rattle.image_writer.specs.Told.{told, layout_of, next_page, tables_at, IsSymbolFitting, IsRelocationFitting};
 
 use crate::draft::Draft;
 use crate::layout::{Layout, layout_of, next_page};
@@ -21,23 +22,38 @@ use image_file::{Image, PartClass};
 use std::alloc::{AllocError, Global};
 
 /// The parts of a draft, and after them the part of the tables.
-fn with_tables(
+pub fn with_tables(
     alloc: Global,
-    parts: &[PartPlace],
-    address: u64,
-    size: u64,
+    draft: &Draft<'_>,
+    layout: &Layout,
 ) -> Result<Vec<PartPlace>, AllocError>
-    requires { length parts.now < 2 ^ 32 }
-    ensures { IfOk result (λ all. all.items ≡ parts.now ++ (tables_place address size ∷ [])) }
+    requires layout { layout.now ≡ layout_of (told draft.now) }
+    requires loadable { IsLoadable (outline_told draft.now) }
+    ensures { IfOk result (λ all. all.items ≡ (outline_told draft.now).parts) }
 {
-    let mut all = Vec::with_capacity(alloc, parts.len() + 1)?;
-    all.extend_from_slice(parts)?;
+    let mut all = Vec::with_capacity(alloc, draft.parts.len() + 1)?;
+    all.extend_from_slice(draft.parts)?;
     all.push(PartPlace {
         class: PartClass::ReadOnly,
-        address,
-        size,
+        address: next_page(draft),
+        size: layout.size(),
     })?;
     Ok(all)
+}
+
+/// What the headers say of the image of a draft, with all its parts.
+pub fn outline_of<'a>(draft: &Draft<'_>, layout: &Layout, parts: &'a [PartPlace]) -> Outline<'a>
+    requires layout { layout.now ≡ layout_of (told draft.now) }
+    requires parts { parts.now ≡ (outline_told draft.now).parts }
+    ensures { outlined result ≡ outline_told draft.now }
+{
+    Outline {
+        kind: draft.kind,
+        parts,
+        array_size: layout.array_size,
+        got: draft.got,
+        tls: draft.tls,
+    }
 }
 
 /// Puts the tables after the parts, and the headers over the first page.
@@ -65,21 +81,13 @@ pub fn image_of(alloc: Global, draft: &Draft<'_>, file: Vec<u8>) -> Result<Image
     requires linkable { IsLinkable (contents_of draft.now file.items) }
     requires ends { length file.items ≡ file_offset draft.now.kind
         (parts_end draft.now.kind (contents_of draft.now file.items).parts) }
-    requires inside { All (λ part. file_offset draft.now.kind part.address + part.size ≤ length file.items)
-        draft.now.parts.now }
+    requires inside { AreInside draft.now file.items }
     ensures { IfOk result (λ image. image ≡ finished (contents_of draft.now file.items)) }
 {
     let layout = layout_of(draft);
-    let address = next_page(draft);
-    let parts = with_tables(alloc, draft.parts, address, layout.size())?;
-    let outline = Outline {
-        kind: draft.kind,
-        parts: parts.as_slice(),
-        array_size: layout.array_size,
-        got: draft.got,
-        tls: draft.tls,
-    };
-    let at = file_offset(draft.kind, address) as usize;
+    let parts = with_tables(alloc, draft, &layout)?;
+    let outline = outline_of(draft, &layout, parts.as_slice());
+    let at = file_offset(draft.kind, next_page(draft)) as usize;
     let mut file = file;
     let gap = at + layout.size() as usize - file.len();
     grow(&mut file, gap)?;
