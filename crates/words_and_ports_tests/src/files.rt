@@ -21,7 +21,7 @@ pub(crate) fn fetched<S: Store>(
 }
 
 /// A new folder for one test.
-fn new_folder<R: Files>(
+pub(crate) fn new_folder<R: Files>(
     rt: &R,
     alloc: Global,
     temp: &str,
@@ -34,7 +34,7 @@ fn new_folder<R: Files>(
 }
 
 /// The content of a file after a mark.
-fn read_back(rt: &HostRuntime, alloc: Global, name: &str) -> io::Result<Vec<u8>> {
+pub(crate) fn read_back(rt: &HostRuntime, alloc: Global, name: &str) -> io::Result<Vec<u8>> {
     match fetched(alloc, &mut HostStore::new(rt, alloc), name) {
         Ok(text) => Ok(text),
         Err(_) => Err(Error::from(ErrorKind::Other)),
@@ -42,7 +42,7 @@ fn read_back(rt: &HostRuntime, alloc: Global, name: &str) -> io::Result<Vec<u8>>
 }
 
 /// The path of a file in a folder.
-fn path(alloc: Global, folder: &str, name: &str) -> Result<String, AllocError> {
+pub(crate) fn path(alloc: Global, folder: &str, name: &str) -> Result<String, AllocError> {
     format!(in alloc; "{folder}/{name}")
 }
 

@@ -16,6 +16,8 @@ mod many_files;
 #[cfg(test)]
 mod notes;
 #[cfg(test)]
+mod pieces;
+#[cfg(test)]
 mod progress;
 #[cfg(test)]
 mod words;

@@ -77,6 +77,9 @@ impl HostFaults {
 /// the path is not a plain file but, say, a device, a pipe or a link, are the bytes written to it in place; a
 /// refused put may then leave a part.
 ///
+/// The pieces of a file are made in one buffer, in runs of about a mebibyte or of one larger piece. It is allocated
+/// first, so that nothing has changed where there is no memory for it.
+///
 /// The store remembers its last fault, for a person to read; no clause speaks of it.
 #[derive(Drop)]
 pub struct HostStore<'a, R: Files + Sync> {
@@ -204,7 +207,8 @@ impl<'a, R: Files + Sync> Store for HostStore<'a, R> {
 
         ensures count { self.new ≡ faults_after_put self.old result }
     {
-        put_file(self.rt, self.alloc, &mut self.faults, name, &Whole { bytes })
+        let pieces = Whole { bytes };
+        put_file(self.rt, self.alloc, &mut self.faults, name, &pieces)
     }
 
     fn put_pieces<P: Pieces>(&mut self, name: &str, pieces: &P) -> Result<(), PutFault>

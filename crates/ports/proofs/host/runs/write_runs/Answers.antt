@@ -1,4 +1,4 @@
-use Rattle.std.proofs.Common.{arith, le_refl, rules, subst, sym, take-append-drop, ◌∙◌, ◌≤◌, ◌<◌, ◌≡◌, ◌++◌, take, drop, length, slice_range}
+use Rattle.std.proofs.Common.{arith, subst, sym, ◌∙◌}
 use Rattle.std.proofs.KnownBytes.{Appends-trans}
 use Rattle.std.specs.Io.KnownBytes.{Appends}
 use Rattle.ports.specs.Streams.{AppendsFront}
@@ -19,10 +19,9 @@ pub loop-from-preserved : goal.loop-from-preserved
 loop-from-preserved g c =
     let pieces = (g.P.Pieces.view c.args.pieces.now).pieces in
     let from = c.loop-from.from in
-    let end = c.end_of_run-end.result in
-    (
+    let end = c.end_of_run-end.result in (
       c.write_run.ensures.size ∙ c.loop-from.invariant.0,
       c.end_of_run-end.ensures.order.1,
       subst (Appends _ _) (sym (joined_more pieces from end (omega (arith, c.end_of_run-end.ensures.order))))
-      (Appends-trans _ _ _ _ _ c.loop-from.invariant.2 c.in_ok-write_run.ensures.ok),
+          (Appends-trans _ _ _ _ _ c.loop-from.invariant.2 c.in_ok-write_run.ensures.ok),
     )
