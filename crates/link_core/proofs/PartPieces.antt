@@ -1,8 +1,9 @@
 -- The pieces of a file are the parts laid one after another.
 use Rattle.std.proofs.Common.{◌≡◌, ◌+◌, ◌-◌, ◌≤◌, ◌∙◌, ◌++◌, ℕ, zero, suc, List, [], ◌∷◌, drop, length, map, take}
-use Rattle.std.proofs.Common.{refl, sym, ap, subst, arith}
+use Rattle.std.proofs.Common.{length-append, refl, sym, ap, subst, arith}
 use Rattle.std.specs.Prelude.{slice_range}
 use Rattle.std.proofs.lemmas.List.{take-append-drop}
+use Rattle.std.proofs.Math.Seq.{take-length}
 use Rattle.placed_sections.specs.declared.part.PlacedPart.{PlacedPart}
 use Rattle.placed_sections.specs.Files.{bytes_in, filled}
 use Rattle.placed_sections.proofs.Chains.{laid-append}
@@ -67,3 +68,17 @@ module _ (l : Linking) where
             ∙ pieces_joined (ends 4096 front) own
             ∙ ap (λ n. laid_parts l n own) (sym at);
       }
+
+-- how many bytes the first pieces have
+pub front_size : (l : Linking) (n : ℕ) (parts : List PlacedPart)
+    → length (joined (take n (pieces_of l 4096 parts))) ≡ length (laid_parts l 4096 (take n parts))
+front_size l n parts = ap length (ap joined (pieces_take l n 4096 parts) ∙ pieces_joined l 4096 (take n parts))
+
+-- and the whole file, whose first page is that of the headers
+pub whole_size : (l : Linking) (parts : List PlacedPart) (front back : List ℕ) (end : ℕ) → length front ≡ 4096
+    → end ≡ 4096 + length (laid_parts l 4096 (take (length parts) parts))
+    → end + length back ≡ length (front ++ (joined (pieces_of l 4096 parts) ++ back))
+whole_size l parts front back end page is =
+    let made = joined (pieces_of l 4096 parts) in
+    let all = ap (λ xs. length (laid_parts l 4096 xs)) (take-length parts) in
+    omega (arith, is, page, all, ap length (pieces_joined l 4096 parts), length-append front (made ++ back), length-append made back)
