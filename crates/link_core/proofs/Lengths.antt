@@ -1,8 +1,9 @@
 -- The file ends where the last part does, and each part lies in it.
-use Rattle.std.proofs.Common.{◌≡◌, ◌+◌, ◌≤◌, length, ap, ◌∙◌, arith}
+use Rattle.std.proofs.Common.{◌≡◌, ◌+◌, ◌≤◌, length, sym, ap, ◌∙◌, arith}
 use Rattle.std.specs.List.{All}
 use Rattle.image_writer.specs.Contents.{parts_end}
 use Rattle.image_writer.specs.Page.{file_offset}
+use Rattle.image_writer.specs.Told.{places_end}
 use Rattle.image_writer.proofs.Making.{parts_end-in}
 use Rattle.link_faults.specs.ImageKinds.{base_of}
 use Rattle.link_needs.specs.Linking.{Linking}
@@ -21,14 +22,18 @@ places_inside l given limits k d below =
     omega (arith, lies.0, lies.1, f.ends, file_length l given limits, same_base l.kind)
 
 -- it ends where the last part does
+pub file_reaches : (l : Linking) → IsGiven l → FitsTable l
+    → length (file l) ≡ file_offset (file_kind l.kind) (places_end (file_kind l.kind) (places l))
+file_reaches l given limits =
+    let base = same_base l.kind in
+    let last = places_end-is (file_kind l.kind) (places l) in
+    let start = ap (λ n. end_from n (places l)) base in
+    omega (arith, file_length l given limits, last ∙ start ∙ (all_follow l).ends, base)
+
 pub file_ends : (l : Linking) → IsGiven l → FitsTable l
     → length (file l) ≡ file_offset (file_kind l.kind) (parts_end (file_kind l.kind) (contents l).parts)
 unfolding contents
 file_ends l given limits =
     let kind = file_kind l.kind in
-    let parts = parts_end-in kind (file l) (places l) (places_inside l given limits) in
-    let last = places_end-is kind (places l) in
-    let base = same_base l.kind in
-    let end = (all_follow l).ends in
-    let start = ap (λ n. end_from n (places l)) base in
-    omega (arith, file_length l given limits, parts ∙ last ∙ start ∙ end, base)
+    file_reaches l given limits
+    ∙ ap (file_offset kind) (sym (parts_end-in kind (file l) (places l) (places_inside l given limits)))

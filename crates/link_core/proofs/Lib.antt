@@ -3,6 +3,8 @@ pub mod Few
 pub mod FewEntries
 pub mod FewLists
 pub mod FewSites
+pub mod Framed
+pub mod FramedGaps
 pub mod GotRelocations
 pub mod GotRelocationsNamed
 pub mod GotRelocationsNeeds

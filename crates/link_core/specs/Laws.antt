@@ -1,5 +1,5 @@
 -- The laws of every linked image.
-use Rattle.std.specs.Prelude.{◌≡◌, ◌+◌, ◌<◌, ◌≤◌, ◌⊎◌, ℕ, pos, ◌-ℤ◌, true, false, Some, length, slice_get}
+use Rattle.std.specs.Prelude.{◌≡◌, ◌+◌, ◌<◌, ◌≤◌, ◌⊎◌, ◌++◌, ℕ, pos, ◌-ℤ◌, true, false, Some, drop, length, slice_get}
 use Rattle.std.specs.Int.{w32, cast_unsigned}
 use Rattle.elf_object.specs.declared.relocation.Relocation.{Relocation}
 use Rattle.elf_object.specs.Lent.{relocations, section_size}
@@ -10,8 +10,12 @@ use Rattle.got_pairs.specs.declared.need.Need.TheVariants.{RuntimeWord}
 use Rattle.got_pairs.specs.Needs.{start_of}
 use Rattle.image_file.specs.declared.part.PartClass.TheVariants.{Executable, Writable}
 use Rattle.image_file.specs.Spelled.{Part}
-use Rattle.image_writer.specs.Loadable.{HoldsTls}
+use Rattle.image_writer.specs.declared.draft.Draft.{Draft}
+use Rattle.image_writer.specs.Contents.{contents_of}
+use Rattle.image_writer.specs.Frames.{back_of, front_of, outline_told}
+use Rattle.image_writer.specs.Loadable.{HoldsTls, IsLoadable}
 use Rattle.image_writer.specs.Outlined.{outline_of}
+use Rattle.image_writer.specs.Written.{written}
 use Rattle.object_rules.specs.declared.fault.FaultKind.TheVariants.{Sequence, StrayCall}
 use Rattle.relax_sites.specs.declared.rows.NewField.{NewField}
 use Rattle.relax_sites.specs.Rows.{new_field}
@@ -24,7 +28,7 @@ use Rattle.tls_relocs.specs.declared.fields.Field.{Field}
 use Rattle.link_core.specs.Bytes.{file, got_bytes, need_bytes, stub_bytes}
 use Rattle.link_tables.specs.Faults.{Links}
 use Rattle.link_needs.specs.Given.{IsGiven}
-use Rattle.link_core.specs.Images.{got_number, image_of, section_places}
+use Rattle.link_core.specs.Images.{contents, got_number, image_of, places, section_places}
 use Rattle.link_needs.specs.Linking.{Linking, choice, layout, object, sites_at}
 use Rattle.link_core.specs.Meant.{lies_in_rewritten, meant_byte, placed_byte}
 use Rattle.link_needs.specs.Needs.{entries, got_size, got_start, has_stub, is_kept, need_address, new_relocation}
@@ -123,3 +127,19 @@ TablesAreParts = (l : Linking) → IsGiven l → Links l → 0 < got_size l
 abbrev pub StubsAreParts : Type 0
 StubsAreParts = (l : Linking) → IsGiven l → Links l → has_stub l ≡ true
     → Contains (image_of l).parts (record { class = Executable; address = stub_start l; bytes = stub_bytes l })
+
+-- ** the file
+
+-- a draft says what is known of the link: where its parts lie, and with its file all contents
+pub record IsDraftOf (l : Linking) (d : Draft) : Type 0 where
+  pub parts : d.parts.now ≡ places l
+  pub same : contents_of d (file l) ≡ contents l
+
+-- such a draft has a frame, and in it the link's file, without its first page, is the file of the image
+pub record IsFramed (l : Linking) (d : Draft) : Type 0 where
+  pub loadable : IsLoadable (outline_told d)
+  pub tls : HoldsTls (outline_told d)
+  pub whole : written (image_of l) ≡ front_of d ++ (drop 4096 (file l) ++ back_of d)
+
+abbrev pub ImagesAreFramed : Type 0
+ImagesAreFramed = (l : Linking) (d : Draft) → IsGiven l → Links l → IsDraftOf l d → IsFramed l d

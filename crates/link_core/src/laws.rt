@@ -1,8 +1,8 @@
 //! Laws of linked images. The functions do nothing; each `ensures` a law.
 
 ghost use Rattle.link_core.specs.Laws.{BytesAreMeant, BytesAreMeantByPlace, EntriesStand, FieldsGoWithTheirSites};
-ghost use Rattle.link_core.specs.Laws.{GapsAreZero, ImagesHoldTls, NewFieldsFit, ReplacedFieldsLieInSites};
-ghost use Rattle.link_core.specs.Laws.{StubsAreParts, StubsStand, TablesAreParts};
+ghost use Rattle.link_core.specs.Laws.{GapsAreZero, ImagesAreFramed, ImagesHoldTls, NewFieldsFit};
+ghost use Rattle.link_core.specs.Laws.{ReplacedFieldsLieInSites, StubsAreParts, StubsStand, TablesAreParts};
 
 /// An image can be written: its TLS segment begins at or before the end of its last part.
 pub fn images_hold_tls()
@@ -57,4 +57,9 @@ pub fn tables_are_parts()
 /// The stub is a part with code.
 pub fn stubs_are_parts()
     ensures { StubsAreParts }
+{}
+
+/// A draft of the link has a frame, in which the link's file is that of its image.
+pub fn images_are_framed()
+    ensures { ImagesAreFramed }
 {}
