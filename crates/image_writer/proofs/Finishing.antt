@@ -66,7 +66,6 @@ pub record IsBounded (d : Draft) : Type 0 where
   pub low : base_of d.kind ≤ 4194304
   pub above : base_of d.kind ≤ next_page d
   pub below : next_page d + tables_size (told d) ≤ base_of d.kind + 67108864
-  pub few : length d.parts.now < 10
   pub behind : places_end d.kind d.parts.now ≤ next_page d
   pub parts_above : All (λ (p : PartPlace). base_of d.kind ≤ p.address) d.parts.now
 
@@ -103,13 +102,10 @@ page_behind n = omega arith
 pub bounded : (d : Draft) → IsLoadable (outline_told d) → IsBounded d
 bounded d can =
     let last = last_right d can in
-    let few = can.few in
-    let more = length_push d.parts.now (tables_place (next_page d) (tables_size (told d))) in
     record {
       low = base_low d.kind;
       above = last.0;
       below = last.1;
-      few = omega (arith, few, more);
       behind = page_behind (places_end d.kind d.parts.now);
       parts_above = parts_right d can;
     }

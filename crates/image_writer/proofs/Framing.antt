@@ -1,5 +1,5 @@
 -- A draft's file as its parts in its frame, and parts that stand at their offsets in a file.
-use Rattle.std.proofs.Common.{ℕ, zero, suc, ◌+◌, ◌-◌, ◌<◌, ◌≤◌, ◌≡◌, ◌⊎◌, inl, inr, Some, All, List, [], ◌∷◌, ◌++◌, length, map, take, drop, get_or, replicate, refl, subst, sym, ap, ◌∙◌, arith}
+use Rattle.std.proofs.Common.{ℕ, zero, suc, ◌+◌, ◌-◌, ◌<◌, ◌≤◌, ◌≡◌, ◌⊎◌, inl, inr, Some, List, [], ◌∷◌, ◌++◌, length, map, take, drop, get_or, replicate, refl, sym, ap, ◌∙◌, arith}
 use Rattle.std.specs.List.{slice_get}
 use Rattle.std.proofs.lemmas.List.{append-nil, drop_all, drop-drop, length-replicate, replicate-append-replicate, take-append-drop}
 use Rattle.std.proofs.lemmas.Option.{get_or_from_slice_get}
@@ -18,7 +18,7 @@ use Rattle.image_writer.specs.Loadable.{HoldsTls, IsLoadable}
 use Rattle.image_writer.specs.Outlined.{end_of}
 use Rattle.image_writer.specs.Page.{base_of, file_offset, page}
 use Rattle.image_writer.specs.Tables.{finished, tables, tables_part}
-use Rattle.image_writer.specs.Told.{next_page, places_end, told, tables_at}
+use Rattle.image_writer.specs.Told.{next_page, places_end}
 use Rattle.image_writer.specs.Written.{laid, written}
 use Rattle.image_writer.proofs.Filing.{written_behind}
 use Rattle.image_writer.proofs.Finishing.{address-is, loadable_told, outline-is, tables_told, tls_held}

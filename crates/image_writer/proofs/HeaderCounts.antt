@@ -1,6 +1,5 @@
 -- Numbers that pass a test: how many lead, how many there are and which is the last, where the tests are known.
-use Rattle.std.proofs.Common.{◌≡◌, ◌+◌, ◌<◌, ◌≤◌, ◌⊎◌, ℕ, zero, suc, Bool, true, false, refl, inl, inr, arith, nat_lt, if◌then◌else◌}
-use Rattle.std.proofs.lemmas.Bool.Decides.{nat_tests}
+use Rattle.std.proofs.Common.{◌≡◌, ◌+◌, ◌<◌, ◌≤◌, ℕ, zero, suc, Bool, true, false, refl, inl, inr, arith, if◌then◌else◌}
 use Rattle.image_faults.specs.Counts.{leading, how_many, behind_last}
 use Rattle.image_faults.proofs.Counts.{below_or_at}
 use Rattle.image_faults.proofs.Counts.{lead_of, stay_of, stop_of}

@@ -1,5 +1,5 @@
 -- What an image keeps, said of each place: the rules say only that nothing breaks them.
-use Rattle.std.proofs.Common.{◌≡◌, ◌+◌, ◌*◌, ◌^◌, ◌<◌, ◌≤◌, ℕ, List, length, inl, inr, refl, arith}
+use Rattle.std.proofs.Common.{◌≡◌, ◌+◌, ◌^◌, ◌<◌, ◌≤◌, ℕ, List, length, inl, inr, refl, arith}
 use Rattle.elf_records.specs.declared.program_header.Segment.{Segment as Header}
 use Rattle.image_rules.specs.declared.rule.Rule.TheVariants.{Length, Field, Extent, Segment, Entry}
 use Rattle.image_rules.specs.declared.rule.FieldRule.{FieldRule}

@@ -1,6 +1,6 @@
 -- Two files whose headers say the same, and whose last LOAD holds the same bytes, have the same tables: the hash table,
 -- the names, the symbols and the relocations, where those of one lie in its last LOAD.
-use Rattle.std.proofs.Common.{◌≡◌, ◌+◌, ◌*◌, ◌/◌, ◌<◌, ◌≤◌, ◌∙◌, ℕ, List, Bool, true, false, refl, inl, inr, sym, ap, arith, nat_le, ◌==◌, ◌&&◌}
+use Rattle.std.proofs.Common.{◌≡◌, ◌+◌, ◌*◌, ◌<◌, ◌≤◌, ◌∙◌, ℕ, List, Bool, true, false, refl, inl, inr, sym, ap, arith, nat_le, ◌==◌, ◌&&◌}
 use Rattle.std.proofs.Common.{if◌then◌else◌, slice_index, slice_range}
 use Rattle.std.proofs.lemmas.Bool.Decides.{nat_tests}
 use Rattle.elf_records.specs.Fields.{number_at, part_at}

@@ -15,6 +15,9 @@
 //! - [`image_of`] makes an image from a [`Draft`], which is all that a linker knows except the tables, and from the
 //!   file so far. It puts the tables after the last part and the headers over the first page. The image has the
 //!   draft's parts, symbols, names and relocations. `specs/Linkable` says what it requires of the draft.
+//! - [`frame_of`] makes of a draft what its image's file has before and behind the bytes of the parts: the page of
+//!   headers, and the tables. So a file can be made piece by piece, with no buffer of its size; [`laws`] say that the
+//!   parts in their frame are the very file that `image_of` and `into_file` make.
 //!
 //! Memory is allocated first and at once. If it runs out, `write` leaves its output as it was. `write` copies parts
 //! once, `into_file` copies none, and `image_of` keeps the file that it was given.
@@ -41,8 +44,8 @@
 mod draft;
 mod entries;
 mod frame;
-mod layout;
 pub mod laws;
+mod layout;
 mod made;
 mod outline;
 mod page;

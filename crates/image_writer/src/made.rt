@@ -1,7 +1,6 @@
 //! Makes an image from a linker's draft.
 
-ghost use Rattle.std.specs.Prelude.{◌≡◌, ◌+◌, ◌^◌, ◌<◌, ◌≤◌, ◌++◌, ◌∷◌, [], All, IfOk, length, vec_len};
-ghost use Rattle.image_file.specs.declared.part.PartClass.TheVariants.{ReadOnly};
+ghost use Rattle.std.specs.Prelude.{◌≡◌, ◌+◌, ◌^◌, ◌<◌, ◌≤◌, All, IfOk, length};
 ghost use Rattle.image_writer.specs.Contents.{contents_of, parts_end};
 ghost use Rattle.image_writer.specs.Frames.{AreInside, outline_told};
 ghost use Rattle.image_writer.specs.Linkable.{IsLinkable};
