@@ -3,7 +3,8 @@ use Rattle.std.proofs.Common.{◌≡◌, ◌+◌, ◌-◌, ◌<◌, ◌≤◌, �
 use Rattle.std.proofs.Common.{append_assoc, length-append, refl, sym, ap, subst, arith}
 use Rattle.std.specs.List.{All}
 use Rattle.std.proofs.lemmas.Bool.Decides.{nat_tests}
-use Rattle.std.proofs.lemmas.List.{drop-replicate, length-replicate, map-append, take-replicate}
+use Rattle.std.proofs.lemmas.List.{drop-replicate, get_or-take, length-replicate, length-take-le, map-append}
+use Rattle.std.proofs.lemmas.List.{take-append-drop, take-replicate}
 use Rattle.std.proofs.Math.Seq.{drop-append_seam}
 use Rattle.placed_sections.specs.declared.part.PlacedPart.{PlacedPart}
 use Rattle.placed_sections.specs.Files.{bytes_in, filled, placed, sections_file}
@@ -88,6 +89,18 @@ pub all_length : (l : Linking) (from : ℕ) (parts : List PlacedPart) (n : ℕ) 
     ≡ (get_or parts n d).place + length (bytes_in (linked_section l) (get_or parts n d).section)
 all_length l from parts n d count rise =
     laid-length from (map (filled (linked_section l)) parts) rise ∙ last_ends l from parts n d count
+
+-- where the first parts end: where the last of them does
+pub front_ends : (l : Linking) (parts : List PlacedPart) (n : ℕ) (d : PlacedPart) → Rise l 4096 parts → 0 < n
+    → n ≤ length parts
+    → (get_or parts (n - 1) d).place + length (bytes_in (linked_section l) (get_or parts (n - 1) d).section)
+    ≡ 4096 + length (laid_parts l 4096 (take n parts))
+front_ends l parts n d rise some inside =
+    let front = take n parts in
+    let parted = cut l 4096 front (drop n parts) (subst (λ xs. Rise l 4096 xs) (sym (take-append-drop n parts)) rise) in
+    ap (λ (p : PlacedPart). p.place + length (bytes_in (linked_section l) p.section))
+    (sym (get_or-take n parts (n - 1) d (omega arith)))
+    ∙ sym (all_length l 4096 front (n - 1) d (omega (arith, length-take-le n parts inside)) parted.front_rise)
 
 -- that of two halves
 pub both_length : (from middle : ℕ) (all front back : List ℕ) → all ≡ front ++ back → from + length front ≡ middle

@@ -25,7 +25,7 @@ use tls_layout::PAGE;
 /// The file of a ready link, piece by piece: the page of headers, each section with the zeros before it, and what
 /// stands behind the sections. A section is linked when its piece is made.
 #[derive(Drop)]
-pub struct ImagePieces<'r, 'l, 's, 'a, R> {
+pub struct ImagePieces<'r, 'l, 's, 'a, R: Threads + Sync> {
     rt: &'r R,
     plan: &'r Plan<'l, 's, 'a>,
     parts: Vec<PlacedPart>,
@@ -33,8 +33,9 @@ pub struct ImagePieces<'r, 'l, 's, 'a, R> {
     back: Vec<u8>,
 }
 
-impl<'r, 'l, 's, 'a, R> Model for ImagePieces<'r, 'l, 's, 'a, R> {
+impl<'r, 'l, 's, 'a, R: Threads + Sync> Model for ImagePieces<'r, 'l, 's, 'a, R> {
     ghost use Rattle.std.specs.Prelude.{◌≡◌, length};
+    ghost use Rattle.std.specs.Thread.{IsSync};
     ghost use Rattle.ports.specs.Pieces.{PiecesView};
     ghost use Rattle.link_core.specs.Laying.{pieces_of, AreParts};
 
@@ -46,10 +47,12 @@ impl<'r, 'l, 's, 'a, R> Model for ImagePieces<'r, 'l, 's, 'a, R> {
       back = image.back.items;
     } };
 
-    ghost invariant = { λ image. AreParts image.plan.now image.parts.items × (length image.front.items ≡ 4096) };
+    // Several threads may share the host, which the bound tells functions alone.
+    ghost invariant = { λ image. AreParts image.plan.now image.parts.items × (length image.front.items ≡ 4096)
+        × IsSync R.row };
 }
 
-impl<R> ImagePieces<'_, '_, '_, '_, R> {
+impl<R: Threads + Sync> ImagePieces<'_, '_, '_, '_, R> {
     /// How many bytes the file has.
     pub fn size(&self) -> usize
         ensures { result ≡ length (whole self.now) }
@@ -87,7 +90,7 @@ impl<R: Threads + Sync> Pieces for ImagePieces<'_, '_, '_, '_, R> {
 
 /// What stands around the parts of the image in its file.
 fn image_frame(alloc: Global, tables: &Tables) -> Result<Frame, AllocError>
-    requires { Links tables.now }
+    requires { IsSound tables.now }
     ensures page { IfOk result (λ frame. length frame.front.items ≡ 4096) }
     ensures file { IfOk result (λ frame. written (image_of tables.now)
         ≡ frame.front.items ++ (drop 4096 (file_of_link tables.now) ++ frame.back.items)) }
@@ -95,7 +98,8 @@ fn image_frame(alloc: Global, tables: &Tables) -> Result<Frame, AllocError>
     let plan = &tables.plan;
     let lists = draft_lists(alloc, tables)?;
     let draft = draft_of(&plan.inputs, &lists);
-    frame_of(alloc, &draft)
+    let frame = frame_of(alloc, &draft)?;
+    Ok(frame)
 }
 
 /// What stands behind the parts: the table, the stub, and these last bytes.

@@ -3,9 +3,9 @@ use Rattle.link_needs.specs.Linking.{layout}
 use Rattle.link_core.specs.Images.{got_places, places, section_places, stub_places}
 use Rattle.link_core.proofs.draft.draft_lists.Goals as goal
 
-pub returns-in_ok-relocations-clause-parts : goal.returns-in_ok-relocations-clause-parts
+pub returns-clause-parts : goal.returns-clause-parts
 unfolding places
-returns-in_ok-relocations-clause-parts c =
+returns-clause-parts c =
     let l = c.tables.inside.plan in
     let made = got_places l ++ stub_places l in
     c.in_ok-got.ensures.places

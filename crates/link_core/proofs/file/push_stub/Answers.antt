@@ -28,6 +28,11 @@ pad-requires c =
     let near = stand_near c.plan.inside.inputs c.plan.invariant.given c.plan.invariant.limits in
     omega (arith, near.near, c.plan.invariant.stub_is, c.place_in_file.ensures, c.saturating_sub.ensures)
 
+pub overflow_add-plan-inside : goal.overflow_add-plan-inside
+overflow_add-plan-inside c =
+    let near = stand_near c.plan.inside.inputs c.plan.invariant.given c.plan.invariant.limits in
+    omega (arith, near.near, c.plan.invariant.stub_is)
+
 pub returns-in-Ok : goal.returns-in-Ok
 returns-in-Ok c =
     let l = c.args.plan.now in
