@@ -13,6 +13,8 @@ use Rattle.image_file.specs.declared.part.PartClass.{PartClass}
 use Rattle.image_file.specs.declared.part.PartClass.TheVariants.{Executable, ReadOnly, Writable}
 use Rattle.image_writer.specs.declared.outline.PartPlace.{PartPlace}
 use Rattle.image_writer.specs.Laws.{IsBetween}
+use Rattle.image_writer.specs.Page.{base_of as base_in_file}
+use Rattle.link_faults.specs.ImageKinds.{base_of}
 use Rattle.placed_sections.proofs.Standing.{has_place}
 use Rattle.placed_sections.proofs.Told.{files_end, gaps_are_zero}
 use Rattle.placed_sections.specs.Files.{offset_of, sections_file}
@@ -49,51 +51,28 @@ HasPart p x = (class : PartClass)
 has_part : (p : Layout) (class : SectionClass) → (extent_for class p).start < (extent_for class p).end
     → HasPart p (extent_for class p)
 unfolding section_places
-has_part p own some = of_class own some
-  where
-    one : List PartPlace
-    one = filled Executable (executable p.kind p.sections)
-
-    two : List PartPlace
-    two = filled ReadOnly (read_only p.kind p.sections)
-
-    three : List PartPlace
-    three = filled ReadOnly (tls_image p.kind p.sections)
-
-    four : List PartPlace
-    four = filled Writable (writable p.kind p.sections)
-
-    of_class : (class : SectionClass) → (extent_for class p).start < (extent_for class p).end
-        → HasPart p (extent_for class p)
-    of_class class.Executable some =
-        (Executable, Contains-append_left one (two ++ (three ++ four)) _ (filled_holds Executable _ some))
-    of_class class.ReadOnly some = (
-      ReadOnly,
-      Contains-append_right one (two ++ (three ++ four)) _
-          (Contains-append_left two (three ++ four) _ (filled_holds ReadOnly _ some)),
-    )
-    of_class (class.Tls initial) some = (
-      ReadOnly,
-      Contains-append_right one (two ++ (three ++ four)) _
-          (Contains-append_right two (three ++ four) _
-          (Contains-append_left three four _ (filled_holds ReadOnly _ some))),
-    )
-    of_class (class.Writable initial) some = (
-      Writable,
-      Contains-append_right one (two ++ (three ++ four)) _
-          (Contains-append_right two (three ++ four) _
-          (Contains-append_right three four _ (filled_holds Writable _ some))),
-    )
+has_part p class.Executable some =
+    let part = filled_holds Executable (executable p.kind p.sections) some in
+    (Executable, search (Contains-append_left, part))
+has_part p class.ReadOnly some =
+    let part = filled_holds ReadOnly (read_only p.kind p.sections) some in
+    (ReadOnly, search (Contains-append_left, Contains-append_right, part))
+has_part p (class.Tls initial) some =
+    let part = filled_holds ReadOnly (tls_image p.kind p.sections) some in
+    (ReadOnly, search (Contains-append_left, Contains-append_right, part))
+has_part p (class.Writable initial) some =
+    let part = filled_holds Writable (writable p.kind p.sections) some in
+    (Writable, search (Contains-append_left, Contains-append_right, part))
 
 -- ** an offset in no part
 
--- the offset k is before the bytes at an address or behind them
-abbrev Misses : Linking → ℕ → ℕ → ℕ → Type 0
-Misses l k address size = (k < offset_of (layout l) address) ⊎ (offset_of (layout l) address + size ≤ k)
+-- the offset k is before the bytes at an address or behind them, in an image with this base
+abbrev Misses : ℕ → ℕ → ℕ → ℕ → Type 0
+Misses base k address size = (k < address + 4096 - base) ⊎ (address + 4096 - base + size ≤ k)
 
 -- a part behind a file: before it the file goes on with zeros
 part_misses : (l : Linking) (address k : ℕ) (bytes file : List ℕ) → length file ≤ offset_of (layout l) address
-    → (k < length file → slice_get file k ≡ Some 0) → Misses l k address (length bytes)
+    → (k < length file → slice_get file k ≡ Some 0) → Misses (base_of l.kind) k address (length bytes)
     → k < length (with_part l address bytes file) → slice_get (with_part l address bytes file) k ≡ Some 0
 part_misses l address k bytes file behind zero (inl before) inside =
     let gap = offset_of (layout l) address - length file in
@@ -112,10 +91,10 @@ part_misses l address k bytes file behind zero (inr after) inside =
 module _ (l : Linking) (given : IsGiven l) (limits : FitsTable l) (k : ℕ)
     (between : IsBetween (file_kind l.kind) (places l) k) where
   -- a part
-  misses : (p : PartPlace) → Contains (places l) p → Misses l k p.address p.size
+  misses : (p : PartPlace) → Contains (places l) p → Misses (base_of l.kind) k p.address p.size
   misses p has =
-      subst (λ b. (k < p.address + 4096 - b) ⊎ (p.address + 4096 - b + p.size ≤ k)) (same_base l.kind)
-      (All-contains _ (places l) p between has)
+      let Q : PartPlace → Type 0 = λ q. Misses (base_in_file (file_kind l.kind)) k q.address q.size in
+      subst (λ base. Misses base k p.address p.size) (same_base l.kind) (All-contains Q (places l) p between has)
 
   -- a section
   outside : IsOutside l.kind l.objects k
@@ -125,7 +104,7 @@ module _ (l : Linking) (given : IsGiven l) (limits : FitsTable l) (k : ℕ)
       of_class (section_class (object l o) t) refl h.class h.is
     where
       of_own : (class : SectionClass) → section_class (object l o) t ≡ Some class
-          → Misses l k address (section_size (object l o) t)
+          → Misses (base_of l.kind) k address (section_size (object l o) t)
       of_own class is =
           let x = extent_for class (layout l) in
           let found = finds_sections l.kind l.objects o t stands.0 in
@@ -146,7 +125,7 @@ module _ (l : Linking) (given : IsGiven l) (limits : FitsTable l) (k : ℕ)
           ]
 
       of_class : (found : Option SectionClass) → section_class (object l o) t ≡ found → (class : SectionClass)
-          → is_class class found ≡ true → Misses l k address (section_size (object l o) t)
+          → is_class class found ≡ true → Misses (base_of l.kind) k address (section_size (object l o) t)
       of_class None e class is = absurd (cc)
       of_class (Some own) e class is = of_own own e
 
