@@ -45,14 +45,15 @@ module _ (l : Linking) where
   pieces_drop (suc n) from [] = refl
   pieces_drop (suc n) from (part ∷ more) = pieces_drop n (after part) more
 
-  -- some of the parts, from where the one before them ends
-  pub record IsRun (start from to : ℕ) (parts : List PlacedPart) : Type 0 where
+  -- some of the parts, from where the one before them ends, are some of the pieces
+  pub record IsRun (start from to : ℕ) (parts : List PlacedPart) (pieces : List (List ℕ)) : Type 0 where
     pub rise : Rise l start (slice_range parts from to)
-    pub made : joined (slice_range (pieces_of l 4096 parts) from to) ≡ laid_parts l start (slice_range parts from to)
+    pub made : laid_parts l start (slice_range parts from to) ≡ joined (slice_range pieces from to)
 
-  pub run_of : (start from to : ℕ) (parts : List PlacedPart) → Rise l 4096 parts
-      → start ≡ 4096 + length (laid_parts l 4096 (take from parts)) → IsRun start from to parts
-  run_of start from to parts rise is =
+  pub run_of : (start from to : ℕ) (parts : List PlacedPart) (pieces : List (List ℕ)) → Rise l 4096 parts
+      → start ≡ 4096 + length (laid_parts l 4096 (take from parts)) → pieces_of l 4096 parts ≡ pieces
+      → IsRun start from to parts pieces
+  run_of start from to parts pieces rise is are =
       let front = take from parts in
       let back = drop from parts in
       let own = take (to - from) back in
@@ -63,11 +64,17 @@ module _ (l : Linking) where
         rise = (cut l start own (drop (to - from) back)
         (subst (λ xs. Rise l start xs) (sym (take-append-drop (to - from) back)) rises)).front_rise;
         made =
-            ap (λ ps. joined (take (to - from) ps)) (pieces_drop from 4096 parts)
-            ∙ ap joined (pieces_take (to - from) (ends 4096 front) back)
-            ∙ pieces_joined (ends 4096 front) own
-            ∙ ap (λ n. laid_parts l n own) (sym at);
+            ap (λ n. laid_parts l n own) at
+            ∙ sym (pieces_joined (ends 4096 front) own)
+            ∙ ap joined (sym (pieces_take (to - from) (ends 4096 front) back))
+            ∙ ap (λ ps. joined (take (to - from) ps)) (sym (pieces_drop from 4096 parts))
+            ∙ ap (λ ps. joined (slice_range ps from to)) are;
       }
+
+-- a part is a piece
+pub as_many : (l : Linking) (parts items : List PlacedPart) (pieces : List (List ℕ)) → parts ≡ items
+    → pieces_of l 4096 items ≡ pieces → length parts ≡ length pieces
+as_many l parts items pieces same are = ap length same ∙ sym (pieces_count l 4096 items) ∙ ap length are
 
 -- how many bytes the first pieces have
 pub front_size : (l : Linking) (n : ℕ) (parts : List PlacedPart)

@@ -10,7 +10,7 @@ ghost use Rattle.link_tables.specs.Faults.{IsSound, Links};
 
 use crate::draft::{draft_lists, draft_of};
 use crate::file::{parts_of, push_made};
-use crate::pieces::{HALVINGS, fill, start_of};
+use crate::pieces::{THREADS, fill, start_of};
 use crate::ready::ReadyLink;
 use image_writer::{Frame, frame_of};
 use link_needs::Plan;
@@ -25,7 +25,7 @@ use tls_layout::PAGE;
 /// The file of a ready link, piece by piece: the page of headers, each section with the zeros before it, and what
 /// stands behind the sections. A section is linked when its piece is made.
 #[derive(Drop)]
-pub struct ImagePieces<'r, 'l, 's, 'a, R: Threads + Sync> {
+pub struct ImagePieces<'r, 'l, 's, 'a, R: Threads> {
     rt: &'r R,
     plan: &'r Plan<'l, 's, 'a>,
     parts: Vec<PlacedPart>,
@@ -33,9 +33,8 @@ pub struct ImagePieces<'r, 'l, 's, 'a, R: Threads + Sync> {
     back: Vec<u8>,
 }
 
-impl<'r, 'l, 's, 'a, R: Threads + Sync> Model for ImagePieces<'r, 'l, 's, 'a, R> {
+impl<'r, 'l, 's, 'a, R: Threads> Model for ImagePieces<'r, 'l, 's, 'a, R> {
     ghost use Rattle.std.specs.Prelude.{◌≡◌, length};
-    ghost use Rattle.std.specs.Thread.{IsSync};
     ghost use Rattle.ports.specs.Pieces.{PiecesView};
     ghost use Rattle.link_core.specs.Laying.{pieces_of, AreParts};
 
@@ -47,12 +46,10 @@ impl<'r, 'l, 's, 'a, R: Threads + Sync> Model for ImagePieces<'r, 'l, 's, 'a, R>
       back = image.back.items;
     } };
 
-    // Several threads may share the host, which the bound tells functions alone.
-    ghost invariant = { λ image. AreParts image.plan.now image.parts.items × (length image.front.items ≡ 4096)
-        × IsSync R.row };
+    ghost invariant = { λ image. AreParts image.plan.now image.parts.items × (length image.front.items ≡ 4096) };
 }
 
-impl<R: Threads + Sync> ImagePieces<'_, '_, '_, '_, R> {
+impl<R: Threads> ImagePieces<'_, '_, '_, '_, R> {
     /// How many bytes the file has.
     pub fn size(&self) -> usize
         ensures { result ≡ length (whole self.now) }
@@ -62,7 +59,7 @@ impl<R: Threads + Sync> ImagePieces<'_, '_, '_, '_, R> {
     }
 }
 
-impl<R: Threads + Sync> Pieces for ImagePieces<'_, '_, '_, '_, R> {
+impl<R: Threads> Pieces for ImagePieces<'_, '_, '_, '_, R> {
     ghost view = { λ image. image };
 
     fn front(&self) -> &[u8] {
@@ -84,7 +81,7 @@ impl<R: Threads + Sync> Pieces for ImagePieces<'_, '_, '_, '_, R> {
     fn make(&self, from: usize, to: usize, into: &mut [u8]) {
         let parts = self.parts.as_slice();
         let start = start_of(self.plan, parts, from);
-        fill(self.rt, self.plan, &parts[from..to], start, HALVINGS, into);
+        fill(self.rt, self.plan, &parts[from..to], start, THREADS, into);
     }
 }
 
@@ -122,7 +119,7 @@ fn back_of(
 impl<'l, 's, 'a> ReadyLink<'l, 's, 'a> {
     /// The file of the image that [`write`](Self::write) makes, piece by piece. All fields must hold their values.
     /// Fails only when memory runs out.
-    pub fn pieces<'r, R: Threads + Sync>(
+    pub fn pieces<'r, R: Threads>(
         &'r self,
         rt: &'r R,
         alloc: Global,
