@@ -4,12 +4,14 @@ use Rattle.image_writer.proofs.made.image_of.Goals as goal
 
 pub layout_of-layout-requires : goal.layout_of-layout-requires
 layout_of-layout-requires c =
-    let b = bounded c.args.draft.now (loadable_told c.args.draft.now c.args.file.items c.requires.inside c.requires.linkable) in
+    let can = loadable_told c.args.draft.now c.args.file.items c.requires.inside c.requires.linkable in
+    let b = bounded c.args.draft.now can in
     omega (arith, b.low, b.above, b.below)
 
 pub next_page-requires : goal.next_page-requires
 next_page-requires c =
-    let b = bounded c.args.draft.now (loadable_told c.args.draft.now c.args.file.items c.requires.inside c.requires.linkable) in
+    let can = loadable_told c.args.draft.now c.args.file.items c.requires.inside c.requires.linkable in
+    let b = bounded c.args.draft.now can in
     omega (arith, b.low, b.above, b.below)
 
 pub with_tables-requires-clause-loadable : goal.with_tables-requires-clause-loadable
@@ -18,12 +20,14 @@ with_tables-requires-clause-loadable c =
 
 pub file_offset-at-requires-clause-above : goal.file_offset-at-requires-clause-above
 file_offset-at-requires-clause-above c =
-    let b = bounded c.args.draft.now (loadable_told c.args.draft.now c.args.file.items c.requires.inside c.requires.linkable) in
+    let can = loadable_told c.args.draft.now c.args.file.items c.requires.inside c.requires.linkable in
+    let b = bounded c.args.draft.now can in
     omega (arith, b.above, c.next_page.ensures)
 
 pub file_offset-at-requires-clause-below : goal.file_offset-at-requires-clause-below
 file_offset-at-requires-clause-below c =
-    let b = bounded c.args.draft.now (loadable_told c.args.draft.now c.args.file.items c.requires.inside c.requires.linkable) in
+    let can = loadable_told c.args.draft.now c.args.file.items c.requires.inside c.requires.linkable in
+    let b = bounded c.args.draft.now can in
     omega (arith, b.low, b.above, b.below, c.next_page.ensures)
 
 pub size-requires : goal.size-requires

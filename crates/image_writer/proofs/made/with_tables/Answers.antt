@@ -21,5 +21,5 @@ returns c =
     ∙ ap (λ ys. ys ++ (tables_place c.next_page.result c.size.result ∷ []))
     ((c.in_ok-extend_from_slice.ensures {u = tt}).items
     ∙ ap (λ ys. ys ++ c.args.draft.now.parts.now) (c.in_ok-all.ensures {u = tt}).items)
-    ∙ places_held c.args.draft.now c.args.layout.now c.next_page.result c.size.result c.requires.layout c.next_page.ensures
-    c.size.ensures
+    ∙ places_held c.args.draft.now c.args.layout.now c.next_page.result c.size.result c.requires.layout
+    c.next_page.ensures c.size.ensures
