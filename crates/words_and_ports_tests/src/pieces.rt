@@ -112,7 +112,15 @@ fn a_host_store_writes_pieces_in_runs(rt: HostRuntime) -> Result<(), Fail> {
         back: b">",
     };
     let mut whole = MemoryStore::new(alloc);
-    assert!(rt; whole.put_pieces("marked", &Parts { front: b"><", ..parts }) == Ok(()));
+    assert!(rt;
+        whole.put_pieces(
+            "marked",
+            &Parts {
+                front: b"><",
+                ..parts
+            }
+        ) == Ok(())
+    );
     let temp = env::temp_dir(&rt)?;
     let id = process::id(rt.process());
     let folder = new_folder(&rt, alloc, temp.as_path().as_str(), id, "put-pieces")?;

@@ -201,6 +201,7 @@ impl Store for MemoryStore {
             self.plan.counts_fault();
             return Err(PutFault::Failed);
         }
-        Ok(self.keep(name, join(self.alloc, pieces)?)?)
+        let bytes = join(self.alloc, pieces)?;
+        Ok(self.keep(name, bytes)?)
     }
 }
