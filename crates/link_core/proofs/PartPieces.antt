@@ -1,5 +1,5 @@
 -- The pieces of a file are the parts laid one after another.
-use Rattle.std.proofs.Common.{◌≡◌, ◌+◌, ◌-◌, ◌≤◌, ◌∙◌, ◌++◌, ℕ, zero, suc, List, [], ◌∷◌, drop, length, map, take}
+use Rattle.std.proofs.Common.{◌≡◌, ◌+◌, ◌-◌, ◌∙◌, ◌++◌, ℕ, zero, suc, List, [], ◌∷◌, drop, length, map, take}
 use Rattle.std.proofs.Common.{length-append, refl, sym, ap, subst, arith}
 use Rattle.std.specs.Prelude.{slice_range}
 use Rattle.std.proofs.lemmas.List.{take-append-drop}
@@ -62,7 +62,7 @@ module _ (l : Linking) where
       let rises = subst (λ n. Rise l n back) (sym at) whole.back_rise in
       record {
         rise = (cut l start own (drop (to - from) back)
-        (subst (λ xs. Rise l start xs) (sym (take-append-drop (to - from) back)) rises)).front_rise;
+            (subst (λ xs. Rise l start xs) (sym (take-append-drop (to - from) back)) rises)).front_rise;
         made =
             ap (λ n. laid_parts l n own) at
             ∙ sym (pieces_joined (ends 4096 front) own)

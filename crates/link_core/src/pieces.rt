@@ -227,13 +227,7 @@ fn fill_both<R: Threads>(
 }
 
 /// Fills the bytes from `from` on with some parts.
-fn fill_tail<R: Threads>(
-    rt: &R,
-    plan: &Plan,
-    parts: &[PlacedPart],
-    from: usize,
-    bytes: &mut [u8],
-)
+fn fill_tail<R: Threads>(rt: &R, plan: &Plan, parts: &[PlacedPart], from: usize, bytes: &mut [u8])
     requires near { All (IsNear plan.now.objects) parts.now }
     requires rise { Rise plan.now from parts.now }
     requires zero { drop from bytes.old ≡ zeros (length (laid_parts plan.now from parts.now)) }

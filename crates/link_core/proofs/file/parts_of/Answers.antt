@@ -1,6 +1,5 @@
-use Rattle.std.proofs.Common.{◌≡◌, ◌∙◌, List, ap, subst}
+use Rattle.std.proofs.Common.{◌≡◌, ◌∙◌, ap, subst}
 use Rattle.std.specs.List.{All}
-use Rattle.placed_sections.specs.declared.part.PlacedPart.{PlacedPart}
 use Rattle.placed_sections.specs.Files.{placed}
 use Rattle.placed_sections.specs.Laws.{IsNear}
 use Rattle.link_needs.specs.Linking.{Linking, layout}

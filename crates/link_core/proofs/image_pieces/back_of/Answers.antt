@@ -1,4 +1,4 @@
-use Rattle.std.proofs.Common.{◌≡◌, ◌+◌, ◌∙◌, ◌++◌, length, ap, arith, take}
+use Rattle.std.proofs.Common.{◌≡◌, ◌+◌, ◌∙◌, ◌++◌, length, ap, arith}
 use Rattle.std.proofs.Math.Seq.{take-length}
 use Rattle.link_core.specs.Laying.{laid_parts, made_behind}
 use Rattle.link_core.proofs.image_pieces.back_of.Goals as goal

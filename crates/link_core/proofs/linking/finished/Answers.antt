@@ -1,11 +1,10 @@
-use Rattle.std.proofs.Common.{◌≡◌, ◌∙◌, ◌++◌, sym, ap, subst}
+use Rattle.std.proofs.Common.{◌≡◌, ◌∙◌, sym, ap, subst}
 use Rattle.std.specs.Prelude.{IfOk}
 use Rattle.image_file.specs.Spelled.{Spelled}
 use Rattle.image_writer.specs.Tables.{finished}
-use Rattle.link_needs.specs.Linking.{layout}
 use Rattle.link_core.specs.Bytes.{file}
 use Rattle.link_tables.specs.Faults.{IsSound}
-use Rattle.link_core.specs.Images.{got_places, image_of, places, section_places, stub_places}
+use Rattle.link_core.specs.Images.{image_of}
 use Rattle.link_core.proofs.LinkDrafts.{can_link, ends, inside, same_contents}
 use Rattle.link_core.proofs.linking.finished.Goals as goal
 

@@ -1,5 +1,4 @@
 use Rattle.std.proofs.Common.{◌∙◌, None, arith}
-use Rattle.placed_sections.specs.declared.part.PlacedPart.{PlacedPart}
 use Rattle.link_core.proofs.Laying.{front_ends}
 use Rattle.link_core.proofs.pieces.start_of.Goals as goal
 

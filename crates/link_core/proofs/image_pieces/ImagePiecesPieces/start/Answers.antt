@@ -1,4 +1,4 @@
-use Rattle.std.proofs.Common.{◌∙◌, ◌-◌, List, ap, length, take, sym, arith}
+use Rattle.std.proofs.Common.{List, ap, length, take, arith}
 use Rattle.placed_sections.specs.declared.part.PlacedPart.{PlacedPart}
 use Rattle.ports.specs.Pieces.{PiecesView, joined}
 use Rattle.link_core.specs.Laying.{laid_parts}
