@@ -1,10 +1,14 @@
 -- Pieces of the file, one after another.
 use Rattle.std.proofs.Common.{◌≡◌, ◌+◌, ◌-◌, ◌<◌, ◌≤◌, ◌==◌, ◌∙◌, ◌++◌, ℕ, zero, suc, false, List, [], ◌∷◌, drop, get_or, length, map, take}
-use Rattle.std.proofs.Common.{length-append, refl, sym, ap, subst, arith}
+use Rattle.std.proofs.Common.{append_assoc, length-append, refl, sym, ap, subst, arith}
+use Rattle.std.specs.List.{All}
 use Rattle.std.proofs.lemmas.Bool.Decides.{nat_tests}
-use Rattle.std.proofs.lemmas.List.{drop-replicate, length-replicate, map-append, take-replicate}
+use Rattle.std.proofs.lemmas.List.{drop-replicate, get_or-take, length-replicate, length-take-le, map-append}
+use Rattle.std.proofs.lemmas.List.{take-append-drop, take-replicate}
+use Rattle.std.proofs.Math.Seq.{drop-append_seam}
 use Rattle.placed_sections.specs.declared.part.PlacedPart.{PlacedPart}
 use Rattle.placed_sections.specs.Files.{bytes_in, filled, placed, sections_file}
+use Rattle.placed_sections.specs.Laws.{IsNear}
 use Rattle.placed_sections.proofs.Chains.{laid-append, laid-length, rising-split}
 use Rattle.placed_sections.proofs.Filed.{page_of}
 use Rattle.placed_sections.proofs.Laid.{placed_map}
@@ -12,9 +16,10 @@ use Rattle.placed_sections.proofs.Whole.{all_rise}
 use Rattle.tls_relocs.specs.Laid.{Placed, Rising, end_of, laid, zeros}
 use Rattle.link_needs.specs.Given.{IsGiven}
 use Rattle.link_needs.specs.Linking.{Linking, layout}
-use Rattle.link_core.specs.Bytes.{linked_section}
-use Rattle.link_core.specs.Laying.{Rise, laid_parts}
+use Rattle.link_core.specs.Bytes.{file, linked_section}
+use Rattle.link_core.specs.Laying.{AreParts, Rise, laid_parts, made_behind}
 use Rattle.link_core.proofs.LengthsKept.{linked_whole}
+use Rattle.link_core.proofs.WritingParts.{made_is}
 
 -- ** bytes
 
@@ -85,6 +90,18 @@ pub all_length : (l : Linking) (from : ℕ) (parts : List PlacedPart) (n : ℕ) 
 all_length l from parts n d count rise =
     laid-length from (map (filled (linked_section l)) parts) rise ∙ last_ends l from parts n d count
 
+-- where the first parts end: where the last of them does
+pub front_ends : (l : Linking) (parts : List PlacedPart) (n : ℕ) (d : PlacedPart) → Rise l 4096 parts → 0 < n
+    → n ≤ length parts
+    → (get_or parts (n - 1) d).place + length (bytes_in (linked_section l) (get_or parts (n - 1) d).section)
+    ≡ 4096 + length (laid_parts l 4096 (take n parts))
+front_ends l parts n d rise some inside =
+    let front = take n parts in
+    let parted = cut l 4096 front (drop n parts) (subst (λ xs. Rise l 4096 xs) (sym (take-append-drop n parts)) rise) in
+    ap (λ (p : PlacedPart). p.place + length (bytes_in (linked_section l) p.section))
+    (sym (get_or-take n parts (n - 1) d (omega arith)))
+    ∙ sym (all_length l 4096 front (n - 1) d (omega (arith, length-take-le n parts inside)) parted.front_rise)
+
 -- that of two halves
 pub both_length : (from middle : ℕ) (all front back : List ℕ) → all ≡ front ++ back → from + length front ≡ middle
     → (length all ≡ middle - from + length back) × (length front ≡ middle - from)
@@ -100,12 +117,14 @@ parts_filled l parts are =
     ap (map (filled (linked_section l))) are
     ∙ placed_map (filled (linked_section l)) (λ part. part) (layout l) l.objects
 
-pub parts_rise : (l : Linking) → IsGiven l → (parts : List PlacedPart) (page : List ℕ)
-    → parts ≡ placed (λ part. part) (layout l) l.objects → length page ≡ 4096 → Rise l (length page) parts
-parts_rise l given parts page are len =
-    subst (λ n. Rise l n parts) (sym len)
-    (subst (λ xs. Rising 4096 xs) (sym (parts_filled l parts are))
-    (all_rise l.kind (linked_section l) l.objects (linked_whole l given)))
+pub parts_are : (l : Linking) → IsGiven l → (parts : List PlacedPart)
+    → parts ≡ placed (λ part. part) (layout l) l.objects → All (IsNear l.objects) parts → AreParts l parts
+parts_are l given parts are near = record {
+  near = near;
+  rise =
+      subst (λ xs. Rising 4096 xs) (sym (parts_filled l parts are))
+      (all_rise l.kind (linked_section l) l.objects (linked_whole l given));
+}
 
 pub parts_file : (l : Linking) (parts : List PlacedPart) (page : List ℕ)
     → parts ≡ placed (λ part. part) (layout l) l.objects → length page ≡ 4096 → page ≡ zeros (length page)
@@ -113,3 +132,27 @@ pub parts_file : (l : Linking) (parts : List PlacedPart) (page : List ℕ)
 parts_file l parts page are len zeros_are =
     ap (λ xs. page ++ laid (length page) xs) (parts_filled l parts are)
     ∙ sym (page_of (layout l) (linked_section l) l.objects page len zeros_are).whole
+
+-- the file behind its first page
+pub file_behind : (l : Linking) (parts : List PlacedPart) (n : ℕ) (last : List ℕ)
+    → parts ≡ placed (λ part. part) (layout l) l.objects → n ≡ 4096
+    → drop n (file l) ++ last ≡ laid_parts l n parts ++ (made_behind l (n + length (laid_parts l n parts)) ++ last)
+unfolding file
+file_behind l parts n last are is =
+    let page = zeros n in
+    let sections = sections_file (layout l) (linked_section l) l.objects in
+    let own = laid_parts l n parts in
+    let len : length page ≡ n = length-replicate {A = ℕ} n 0 in
+    let whole : sections ≡ page ++ own =
+    sym (parts_file l parts page are (len ∙ is) (ap zeros (sym len))) ∙ ap (λ m. page ++ laid_parts l m parts) len in
+    let long : length sections ≡ n + length own = omega (arith, ap length whole, length-append page own, len) in
+    let made = made_behind l (n + length own) in
+    let all : file l ≡ page ++ (own ++ made) =
+    sym (made_is l sections)
+    ∙ ap (λ m. sections ++ made_behind l m) long
+    ∙ ap (λ xs. xs ++ made) whole
+    ∙ append_assoc page own made in
+    ap (λ xs. drop n xs ++ last) all
+    ∙ ap (λ m. drop m (page ++ (own ++ made)) ++ last) (sym len)
+    ∙ ap (λ xs. xs ++ last) (drop-append_seam page (own ++ made))
+    ∙ append_assoc own made last

@@ -1,15 +1,19 @@
-//! The parts of an image, and the image that they make.
+//! The parts of an image, and its draft: what it is made from, before its dynamic tables are laid out.
 
 ghost use Rattle.std.specs.Prelude.{◌≡◌, ◌<◌, ◌++◌, IfOk, OnOk};
-ghost use Rattle.link_tables.specs.Dynamic.{is_flagged};
+ghost use Rattle.image_writer.specs.Contents.{contents_of};
+ghost use Rattle.link_tables.specs.Dynamic.{image_relocations, is_flagged, names, symbols as symbols_of_link};
+ghost use Rattle.link_tables.specs.Faults.{names_in, symbols_in};
 ghost use Rattle.link_needs.specs.Linking.{layout};
-ghost use Rattle.link_core.specs.Images.{file_kind, filled, got_number, got_places, section_places};
+ghost use Rattle.link_core.specs.Bytes.{file};
+ghost use Rattle.link_core.specs.Images.{contents, file_kind, filled, got_number, got_places, places, section_places};
 ghost use Rattle.link_core.specs.Images.{stub_places, tls_part};
 
-use image_file::{FileKind, PartClass, TlsPart};
-use image_writer::PartPlace;
+use image_file::{FileKind, ImageRelocation, PartClass, TlsPart};
+use image_writer::{Draft, NamedSymbol, PartPlace};
 use link_faults::ImageKind;
 use link_needs::{Inputs, Plan};
+use link_tables::{Tables, relocations, symbols};
 use std::alloc::{AllocError, Global};
 use tls_layout::{Extent, Placement};
 
@@ -107,4 +111,64 @@ pub fn is_flagged(inputs: &Inputs) -> bool
     ensures { result ≡ is_flagged inputs.now }
 {
     inputs.kind.is_module() && inputs.has_initial()
+}
+
+/// The lists of a draft.
+#[derive(Drop)]
+pub struct DraftLists<'a> {
+    parts: Vec<PartPlace>,
+    /// The number of the part that only the loader writes.
+    got: Option<u64>,
+    symbols: Vec<NamedSymbol<'a>>,
+    relocations: Vec<ImageRelocation>,
+}
+
+/// Makes the lists of a link's draft.
+pub fn draft_lists<'a>(
+    alloc: Global,
+    tables: &Tables<'_, '_, 'a>,
+) -> Result<DraftLists<'a>, AllocError>
+    ensures parts { IfOk result (λ lists. lists.parts.items ≡ places tables.now) }
+    ensures got { IfOk result (λ lists. lists.got ≡ got_number tables.now) }
+    ensures symbols { IfOk result (λ lists. symbols_in lists.symbols.items ≡ symbols_of_link tables.now) }
+    ensures names { IfOk result (λ lists. names_in lists.symbols.items ≡ names tables.now) }
+    ensures relocations { IfOk result (λ lists. lists.relocations.items ≡ image_relocations tables.now) }
+{
+    let plan = &tables.plan;
+    let inputs = &plan.inputs;
+    let mut parts = section_places(alloc, &inputs.placement)?;
+    let got = push_made(plan, &mut parts)?;
+    let symbols = symbols(alloc, tables)?;
+    let relocations = relocations(alloc, tables)?;
+    Ok(DraftLists {
+        parts,
+        got,
+        symbols,
+        relocations,
+    })
+}
+
+/// The draft of these lists.
+pub fn draft_of<'d, 'a: 'd>(inputs: &Inputs, lists: &'d DraftLists<'a>) -> Draft<'d>
+    requires parts { lists.now.parts.items ≡ places inputs.now }
+    requires got { lists.now.got ≡ got_number inputs.now }
+    requires symbols { symbols_in lists.now.symbols.items ≡ symbols_of_link inputs.now }
+    requires names { names_in lists.now.symbols.items ≡ names inputs.now }
+    requires relocations { lists.now.relocations.items ≡ image_relocations inputs.now }
+    ensures kind { result.kind ≡ file_kind inputs.now.kind }
+    ensures parts { result.parts.now ≡ places inputs.now }
+    ensures contents { contents_of result (file inputs.now) ≡ contents inputs.now }
+{
+    let parts = lists.parts.as_slice();
+    let symbols = lists.symbols.as_slice();
+    let relocations = lists.relocations.as_slice();
+    Draft {
+        kind: file_kind(inputs.kind),
+        parts,
+        got: lists.got,
+        tls: tls_part(&inputs.placement),
+        symbols,
+        relocations,
+        is_flagged: is_flagged(inputs),
+    }
 }

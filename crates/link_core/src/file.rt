@@ -5,17 +5,18 @@ ghost use Rattle.std.specs.List.{flat_map};
 ghost use Rattle.elf_records.specs.Fields.{bytes_of};
 ghost use Rattle.got_pairs.specs.Entries.{words};
 ghost use Rattle.link_faults.specs.ImageKinds.{base_of};
-ghost use Rattle.placed_sections.specs.Files.{offset_of as file_offset};
+ghost use Rattle.placed_sections.specs.Files.{offset_of as file_offset, placed};
 ghost use Rattle.tls_relocs.specs.Fields.{field_bytes};
 ghost use Rattle.tls_relocs.specs.Laid.{zeros};
 ghost use Rattle.link_needs.specs.Linking.{layout};
-ghost use Rattle.link_core.specs.Bytes.{file as file_of_link, table_bytes, with_got, with_stub};
+ghost use Rattle.link_core.specs.Bytes.{file as file_of_link, table_bytes};
+ghost use Rattle.link_core.specs.Laying.{got_behind, made_behind, stub_behind, AreParts};
 
 use crate::pieces::{push_parts, push_zeros};
 use elf_object::RelocationKind;
 use got_pairs::{Entry, GotPlan, Need, Word};
 use link_needs::Plan;
-use placed_sections::{first_page, offset_of, place_sections};
+use placed_sections::{PlacedPart, first_page, offset_of, place_sections};
 use std::alloc::{AllocError, Global};
 use std::thread::Threads;
 use tls_relocs::{Field, value};
@@ -72,15 +73,19 @@ fn push_entries(got: &GotPlan, file: &mut Vec<u8>) -> Result<(), AllocError>
     Ok(())
 }
 
-/// Adds the global offset table at its place, if it has entries.
-fn push_got(plan: &Plan, file: &mut Vec<u8>) -> Result<(), AllocError>
-    ensures { OnOk result (file.new.items ≡ with_got plan.now file.old.items) }
+/// Adds the global offset table at its place, if it has entries, to bytes that begin at offset `start` of the file.
+fn push_got(plan: &Plan, start: u64, bytes: &mut Vec<u8>) -> Result<(), AllocError>
+    ensures { OnOk result (bytes.new.items
+        ≡ bytes.old.items ++ got_behind plan.now (start + length bytes.old.items)) }
 {
     if plan.got.size() == 0 {
         return Ok(());
     }
-    pad(file, place_in_file(plan, plan.got_start))?;
-    push_entries(&plan.got, file)
+    pad(
+        bytes,
+        place_in_file(plan, plan.got_start).saturating_sub(start),
+    )?;
+    push_entries(&plan.got, bytes)
 }
 
 /// Adds the bytes of a field to the file.
@@ -96,21 +101,46 @@ fn push_field(file: &mut Vec<u8>, field: Field) -> Result<(), AllocError>
 }
 
 /// Adds the stub at its place, if there is one: a jump through the word of `__tls_get_addr`.
-fn push_stub(plan: &Plan, file: &mut Vec<u8>) -> Result<(), AllocError>
-    ensures { OnOk result (file.new.items ≡ with_stub plan.now file.old.items) }
+fn push_stub(plan: &Plan, start: u64, bytes: &mut Vec<u8>) -> Result<(), AllocError>
+    ensures { OnOk result (bytes.new.items
+        ≡ bytes.old.items ++ stub_behind plan.now (start + length bytes.old.items)) }
 {
     if !plan.has_stub {
         return Ok(());
     }
-    pad(file, place_in_file(plan, plan.stub_start))?;
+    pad(
+        bytes,
+        place_in_file(plan, plan.stub_start).saturating_sub(start),
+    )?;
     let word = plan.need_address(Some(Need::RuntimeWord));
     // jmp *word(%rip)
-    file.extend_from_slice(&[0xff, 0x25])?;
+    bytes.extend_from_slice(&[0xff, 0x25])?;
     match value(RelocationKind::GotPcRel, 0, -4, plan.stub_start + 2, word) {
-        Ok(field) => push_field(file, field),
+        Ok(field) => push_field(bytes, field),
         // A distance inside an image fits.
         Err(_) => Ok(()),
     }
+}
+
+/// Adds what stands behind the sections.
+pub fn push_made(plan: &Plan, start: u64, bytes: &mut Vec<u8>) -> Result<(), AllocError>
+    ensures { OnOk result (bytes.new.items
+        ≡ bytes.old.items ++ made_behind plan.now (start + length bytes.old.items)) }
+{
+    push_got(plan, start, bytes)?;
+    push_stub(plan, start, bytes)
+}
+
+/// The parts of the file behind its first page.
+pub fn parts_of(alloc: Global, plan: &Plan) -> Result<Vec<PlacedPart>, AllocError>
+    ensures parts { IfOk result (λ parts. AreParts plan.now parts.items) }
+    ensures placed { IfOk result (λ parts.
+        parts.items ≡ placed (λ part. part) (layout plan.now) plan.now.objects) }
+{
+    plan.is_given();
+    let inputs = &plan.inputs;
+    let parts = place_sections(alloc, &inputs.placement, inputs.objects)?;
+    Ok(parts)
 }
 
 /// The file of a link. A field that can't hold its value is left as it was.
@@ -118,12 +148,10 @@ fn push_stub(plan: &Plan, file: &mut Vec<u8>) -> Result<(), AllocError>
 pub fn file_of<R: Threads + Sync>(rt: &R, alloc: Global, plan: &Plan) -> Result<Vec<u8>, AllocError>
     ensures { IfOk result (λ file. file.items ≡ file_of_link plan.now) }
 {
-    plan.is_given();
     let inputs = &plan.inputs;
-    let parts = place_sections(alloc, &inputs.placement, inputs.objects)?;
+    let parts = parts_of(alloc, plan)?;
     let mut file = first_page(alloc, &inputs.placement)?;
     push_parts(rt, plan, parts.as_slice(), &mut file)?;
-    push_got(plan, &mut file)?;
-    push_stub(plan, &mut file)?;
+    push_made(plan, 0, &mut file)?;
     Ok(file)
 }

@@ -22,7 +22,8 @@
 //! whether each field holds its value, and returns a [`ReadyLink`], which has no byte of the image.
 //! [`ReadyLink::overflow`] finds the first field that can't hold its value. It writes no byte either, so a caller that
 //! wants no image can ask whether objects can be linked. If there is no such field, [`ReadyLink::write`] does what is
-//! below the gap, and fails only when memory runs out. [`link`] does all three.
+//! below the gap, and fails only when memory runs out. [`link`] does all three. [`ReadyLink::pieces`] has the file of the
+//! same image for a caller that wants only its bytes: each section is a piece, and is linked when its piece is made.
 //!
 //! **The rule of bytes** (`specs/Bytes`): each section is at its place, and of its bytes only the fields of relocations
 //! and the rewritten sequences are changed. After the sections come the table and the stub, and after these the dynamic
@@ -63,6 +64,7 @@
 
 mod draft;
 mod file;
+mod image_pieces;
 pub mod laws;
 mod linked;
 mod linking;
@@ -71,6 +73,7 @@ mod pieces;
 mod ready;
 mod sections;
 
+pub use image_pieces::ImagePieces;
 pub use linked::Linked;
 pub use linking::link;
 pub use ready::{ReadyLink, prepare};

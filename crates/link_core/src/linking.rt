@@ -1,59 +1,27 @@
 //! Linking objects.
 
 ghost use Rattle.std.specs.Prelude.{◌≡◌, ◌-◌, ◌<◌, ◌^◌, ℕ, [], IfErr, IfOk, OnOk, length, map, slice_index_or};
-ghost use Rattle.image_writer.specs.Contents.{contents_of};
 ghost use Rattle.sequence_match.specs.Faults.{AreSites};
 ghost use Rattle.tls_symbols.specs.Bindings.{object_at};
 ghost use Rattle.link_needs.specs.Linking.{link_of};
 ghost use Rattle.link_core.specs.Bytes.{file as file_of_link};
-ghost use Rattle.link_tables.specs.Dynamic.{image_relocations, names, symbols as symbols_of_link};
-ghost use Rattle.link_tables.specs.Faults.{names_in, symbols_in, IsLinkFault, IsSound, Links};
-ghost use Rattle.link_core.specs.Images.{contents, file_kind as file_kind_of, got_number};
-ghost use Rattle.link_core.specs.Images.{image_of as image_of_link, linked_of, places};
+ghost use Rattle.link_tables.specs.Faults.{IsLinkFault, IsSound, Links};
+ghost use Rattle.link_core.specs.Images.{image_of as image_of_link, linked_of};
 ghost use Rattle.link_core.specs.Laws.{HasNoStray};
 
-use crate::draft::{file_kind, is_flagged, push_made, section_places, tls_part};
+use crate::draft::{draft_lists, draft_of};
 use crate::file::file_of;
 use crate::linked::Linked;
 use crate::ready::{ReadyLink, prepare};
 use elf_object::Object;
-use image_file::{Image, ImageRelocation};
-use image_writer::{Draft, NamedSymbol, PartPlace, image_of};
+use image_file::Image;
+use image_writer::image_of;
 use link_faults::{ImageKind, LinkFault};
-use link_needs::Inputs;
-use link_tables::{Tables, relocations, symbols};
+use link_tables::Tables;
 use sequence_match::Site;
 use std::alloc::{AllocError, Global};
 use std::thread::Threads;
 use tls_symbols::Exports;
-
-/// Collects what an image is made from, before its dynamic tables are laid out.
-fn draft_of<'d>(
-    inputs: &Inputs,
-    parts: &'d [PartPlace],
-    got: Option<u64>,
-    symbols: &'d [NamedSymbol<'d>],
-    relocations: &'d [ImageRelocation],
-) -> Draft<'d>
-    requires parts { parts.now ≡ places inputs.now }
-    requires got { got ≡ got_number inputs.now }
-    requires symbols { symbols_in symbols.now ≡ symbols_of_link inputs.now }
-    requires names { names_in symbols.now ≡ names inputs.now }
-    requires relocations { relocations.now ≡ image_relocations inputs.now }
-    ensures kind { result.kind ≡ file_kind_of inputs.now.kind }
-    ensures parts { result.parts.now ≡ places inputs.now }
-    ensures contents { contents_of result (file_of_link inputs.now) ≡ contents inputs.now }
-{
-    Draft {
-        kind: file_kind(inputs.kind),
-        parts,
-        got,
-        tls: tls_part(&inputs.placement),
-        symbols,
-        relocations,
-        is_flagged: is_flagged(inputs),
-    }
-}
 
 /// Makes the image from its file.
 fn finished(alloc: Global, tables: &Tables, file: Vec<u8>) -> Result<Image, AllocError>
@@ -62,18 +30,8 @@ fn finished(alloc: Global, tables: &Tables, file: Vec<u8>) -> Result<Image, Allo
     ensures { IfOk result (λ image. image ≡ image_of_link tables.now) }
 {
     let plan = &tables.plan;
-    let inputs = &plan.inputs;
-    let mut parts = section_places(alloc, &inputs.placement)?;
-    let got = push_made(plan, &mut parts)?;
-    let symbols = symbols(alloc, tables)?;
-    let relocations = relocations(alloc, tables)?;
-    let draft = draft_of(
-        inputs,
-        parts.as_slice(),
-        got,
-        symbols.as_slice(),
-        relocations.as_slice(),
-    );
+    let lists = draft_lists(alloc, tables)?;
+    let draft = draft_of(&plan.inputs, &lists);
     image_of(alloc, &draft, file)
 }
 

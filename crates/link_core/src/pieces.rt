@@ -1,26 +1,26 @@
 //! The sections of the file, linked by several threads, each in its own piece of the file. A piece has whole sections.
 
 ghost use Rattle.std.specs.Prelude.{◌≡◌, ◌+◌, ◌<◌, ◌≤◌, ◌^◌, [], ◌∷◌, ◌++◌, All, OnOk, drop, length, take};
-ghost use Rattle.std.specs.Thread.{IsSync};
 ghost use Rattle.elf_object.specs.Lent.{section_size};
 ghost use Rattle.placed_sections.specs.Files.{bytes_in};
 ghost use Rattle.placed_sections.specs.Laws.{IsNear, IsOwn};
 ghost use Rattle.tls_relocs.specs.Laid.{zeros};
 ghost use Rattle.tls_symbols.specs.Bindings.{object_at};
 ghost use Rattle.link_core.specs.Bytes.{linked_section};
-ghost use Rattle.link_core.specs.Laying.{laid_parts, Rise};
+ghost use Rattle.link_core.specs.Laying.{laid_parts, AreParts, Rise};
 
 use crate::sections::link_section;
 use link_needs::Plan;
 use placed_sections::{PlacedPart, SectionRef};
 use std::alloc::AllocError;
 use std::thread::{Threads, join_mut};
+use tls_layout::PAGE;
 
-/// Parts that span this many bytes are halved: each half is worth a thread of its own.
-const WORTH_TWO_THREADS: u64 = 1 << 18;
+/// Parts that span this many bytes are worth a thread of their own.
+const WORTH_A_THREAD: u64 = 1 << 17;
 
-/// How many times parts are halved at most.
-const HALVINGS: u32 = 3;
+/// How many threads fill a file at most.
+pub const THREADS: u64 = 8;
 
 /// Fills a section, whose bytes are still zero, with those of its object, and links it.
 fn fill_section(plan: &Plan, own: SectionRef, bytes: &mut [u8])
@@ -62,6 +62,19 @@ fn end_of(plan: &Plan, part: &PlacedPart) -> usize
     }
 }
 
+/// Where the zeros before the part of this number begin in the file: where the part before it ends.
+pub fn start_of(plan: &Plan, parts: &[PlacedPart], number: usize) -> usize
+    requires parts { AreParts plan.now parts.now }
+    requires inside { number ≤ length parts.now }
+    ensures start { result ≡ 4096 + length (laid_parts plan.now 4096 (take number parts.now)) }
+    ensures near { (4096 ≤ result) × (result ≤ 2 ^ 27) }
+{
+    if number == 0 {
+        return PAGE as usize;
+    }
+    end_of(plan, &parts[number - 1])
+}
+
 /// Fills one part. `bytes` are those of the file from offset `from` up to the part's end, still zero; the gap before
 /// the part stays so.
 fn fill_part(plan: &Plan, part: &PlacedPart, from: usize, bytes: &mut [u8])
@@ -88,12 +101,13 @@ fn span(parts: &[PlacedPart]) -> u64
     parts[parts.len() - 1].place.saturating_sub(parts[0].place)
 }
 
-/// How many parts begin in the first half of the bytes; at least one, and not all.
-fn count_of_front(parts: &[PlacedPart]) -> usize
-    requires { 2 ≤ length parts.now }
+/// How many parts begin in the first of so many shares of the bytes; at least one, and not all.
+fn count_of_front(parts: &[PlacedPart], shares: u64) -> usize
+    requires some { 2 ≤ length parts.now }
+    requires shares { 2 ≤ shares }
     ensures { (0 < result) × (result < length parts.now) }
 {
-    let middle = parts[0].place.saturating_add(span(parts) / 2);
+    let middle = parts[0].place.saturating_add(span(parts) / shares);
     let count = parts.partition_point(|part| part.place <= middle);
     count.max(1).min(parts.len() - 1)
 }
@@ -107,11 +121,12 @@ struct Halves<'p> {
     middle: usize,
 }
 
-/// Cuts parts in two, by their bytes.
-fn halves_of<'p>(plan: &Plan, parts: &'p [PlacedPart], from: usize) -> Halves<'p>
+/// Cuts parts in two, by their bytes: the front is one of so many shares.
+fn halves_of<'p>(plan: &Plan, parts: &'p [PlacedPart], from: usize, shares: u64) -> Halves<'p>
     requires near { All (IsNear plan.now.objects) parts.now }
     requires rise { Rise plan.now from parts.now }
     requires some { 2 ≤ length parts.now }
+    requires shares { 2 ≤ shares }
     ensures near { All (IsNear plan.now.objects) result.front.now × All (IsNear plan.now.objects) result.back.now }
     ensures rise { Rise plan.now from result.front.now × Rise plan.now result.middle result.back.now }
     ensures from { result.from ≡ from }
@@ -120,7 +135,7 @@ fn halves_of<'p>(plan: &Plan, parts: &'p [PlacedPart], from: usize) -> Halves<'p
         ≡ laid_parts plan.now from result.front.now ++ laid_parts plan.now result.middle result.back.now }
     ensures fewer { (length result.front.now < length parts.now) × (length result.back.now < length parts.now) }
 {
-    let count = count_of_front(parts);
+    let count = count_of_front(parts, shares);
     let (front, back) = parts.split_at(count);
     Halves {
         front,
@@ -144,20 +159,21 @@ fn fill_each(plan: &Plan, parts: &[PlacedPart], from: usize, bytes: &mut [u8])
     if more.is_empty() {
         return fill_part(plan, part, from, bytes);
     }
-    let halves = halves_of(plan, parts, from);
+    let halves = halves_of(plan, parts, from, 2);
     let (first, second) = bytes.split_at_mut(halves.middle - from);
     fill_each(plan, halves.front, from, first);
     fill_each(plan, halves.back, halves.middle, second);
 }
 
-/// Likewise, by as many threads as the parts are worth, at most eight.
-#[cycle(halves)]
-fn fill<R: Threads + Sync>(
+/// Likewise, by as many threads as the parts are worth, at most `threads`. Only this thread starts others, so the host
+/// need not be shared with them.
+#[cycle(shares)]
+pub fn fill<R: Threads>(
     rt: &R,
     plan: &Plan,
     parts: &[PlacedPart],
     from: usize,
-    halvings: u32,
+    threads: u64,
     bytes: &mut [u8],
 )
     requires near { All (IsNear plan.now.objects) parts.now }
@@ -165,21 +181,22 @@ fn fill<R: Threads + Sync>(
     requires zero { bytes.old ≡ zeros (length (laid_parts plan.now from parts.now)) }
     ensures { bytes.new ≡ laid_parts plan.now from parts.now }
 {
-    if halvings == 0 || span(parts) < WORTH_TWO_THREADS {
+    let threads = threads.min(span(parts) / WORTH_A_THREAD);
+    if threads < 2 {
         return fill_each(plan, parts, from, bytes);
     }
-    let halves = halves_of(plan, parts, from);
+    let halves = halves_of(plan, parts, from, threads);
     let (first, second) = bytes.split_at_mut(halves.middle - from);
-    fill_both(rt, plan, halves, halvings - 1, first, second);
+    fill_both(rt, plan, halves, threads - 1, first, second);
 }
 
-/// Fills the bytes of two halves at the same time.
-#[cycle(halves)]
-fn fill_both<R: Threads + Sync>(
+/// Fills the bytes of two halves at the same time: those of the front in a thread of their own.
+#[cycle(shares)]
+fn fill_both<R: Threads>(
     rt: &R,
     plan: &Plan,
     halves: Halves,
-    halvings: u32,
+    threads: u64,
     first: &mut [u8],
     second: &mut [u8],
 )
@@ -197,26 +214,20 @@ fn fill_both<R: Threads + Sync>(
         middle,
     } = halves;
     let mut fill_front = || -> ()
-        requires { IsSync R.row × All (IsNear plan.now.objects) front.now × Rise plan.now from front.now
+        requires { All (IsNear plan.now.objects) front.now × Rise plan.now from front.now
             × (first.now ≡ zeros (length (laid_parts plan.now from front.now))) }
         ensures { first.exit.now ≡ laid_parts plan.entry.now from front.entry.now }
-    { fill(rt, plan, front, from, halvings, first) };
+    { fill_each(plan, front, from, first) };
     let mut fill_back = || -> ()
-        requires { IsSync R.row × All (IsNear plan.now.objects) back.now × Rise plan.now middle back.now
+        requires { All (IsNear plan.now.objects) back.now × Rise plan.now middle back.now
             × (second.now ≡ zeros (length (laid_parts plan.now middle back.now))) }
         ensures { second.exit.now ≡ laid_parts plan.entry.now middle back.entry.now }
-    { fill(rt, plan, back, middle, halvings, second) };
+    { fill(rt, plan, back, middle, threads, second) };
     join_mut(rt, &mut fill_front, &mut fill_back);
 }
 
 /// Fills the bytes from `from` on with some parts.
-fn fill_tail<R: Threads + Sync>(
-    rt: &R,
-    plan: &Plan,
-    parts: &[PlacedPart],
-    from: usize,
-    bytes: &mut [u8],
-)
+fn fill_tail<R: Threads>(rt: &R, plan: &Plan, parts: &[PlacedPart], from: usize, bytes: &mut [u8])
     requires near { All (IsNear plan.now.objects) parts.now }
     requires rise { Rise plan.now from parts.now }
     requires zero { drop from bytes.old ≡ zeros (length (laid_parts plan.now from parts.now)) }
@@ -225,7 +236,7 @@ fn fill_tail<R: Threads + Sync>(
     ensures bytes { bytes.new ≡ take from bytes.old ++ laid_parts plan.now from parts.now }
 {
     let (_, tail) = bytes.split_at_mut(from);
-    fill(rt, plan, parts, from, HALVINGS, tail);
+    fill(rt, plan, parts, from, THREADS, tail);
 }
 
 /// Appends zeros.

@@ -21,7 +21,7 @@ overflow_sub-end g c =
     omega (arith, above, last, c.end_of-end.ensures.end, c.len-from.ensures, old.ok.0)
 
 pub fill_tail-requires-clause-zero : goal.fill_tail-requires-clause-zero
-fill_tail-requires-clause-zero g c = λ κs lives.
+fill_tail-requires-clause-zero g c =
     let l = c.args.plan.now in
     let old = c.args.file.now in
     let parts = c.args.parts.now in
