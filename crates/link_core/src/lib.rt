@@ -64,7 +64,6 @@
 
 mod draft;
 mod file;
-mod image_pieces;
 pub mod laws;
 mod linked;
 mod linking;
@@ -73,7 +72,9 @@ mod pieces;
 mod ready;
 mod sections;
 
-pub use image_pieces::ImagePieces;
+pub use draft::{DraftLists, draft_lists, draft_of};
+pub use file::{parts_of, push_made};
 pub use linked::Linked;
 pub use linking::link;
+pub use pieces::{THREADS, fill, start_of};
 pub use ready::{ReadyLink, prepare};

@@ -1,7 +1,7 @@
 use Rattle.std.proofs.Common.{◌≡◌, ◌+◌, ◌∙◌, ◌++◌, length, ap, arith}
 use Rattle.std.proofs.Math.Seq.{take-length}
 use Rattle.link_core.specs.Laying.{laid_parts, made_behind}
-use Rattle.link_core.proofs.image_pieces.back_of.Goals as goal
+use Rattle.image_pieces.proofs.pieces.back_of.Goals as goal
 
 pub returns : goal.returns
 returns c =

@@ -8,11 +8,10 @@ ghost use Rattle.link_core.specs.Images.{image_of};
 ghost use Rattle.link_core.specs.Laying.{laid_parts, made_behind, AreParts};
 ghost use Rattle.link_tables.specs.Faults.{IsSound, Links};
 
-use crate::draft::{draft_lists, draft_of};
-use crate::file::{parts_of, push_made};
-use crate::pieces::{THREADS, fill, start_of};
-use crate::ready::ReadyLink;
 use image_writer::{Frame, frame_of};
+use link_core::{
+    ReadyLink, THREADS, draft_lists, draft_of, fill, parts_of, push_made, start_of,
+};
 use link_needs::Plan;
 use link_tables::Tables;
 use placed_sections::PlacedPart;
@@ -36,7 +35,8 @@ pub struct ImagePieces<'r, 'l, 's, 'a, R: Threads> {
 impl<'r, 'l, 's, 'a, R: Threads> Model for ImagePieces<'r, 'l, 's, 'a, R> {
     ghost use Rattle.std.specs.Prelude.{◌≡◌, length};
     ghost use Rattle.ports.specs.Pieces.{PiecesView};
-    ghost use Rattle.link_core.specs.Laying.{pieces_of, AreParts};
+    ghost use Rattle.link_core.specs.Laying.{AreParts};
+    ghost use Rattle.image_pieces.specs.Pieces.{pieces_of};
 
     ghost Value = { PiecesView };
 
@@ -116,28 +116,37 @@ fn back_of(
     Ok(back)
 }
 
-impl<'l, 's, 'a> ReadyLink<'l, 's, 'a> {
-    /// The file of the image that [`write`](Self::write) makes, piece by piece. All fields must hold their values.
-    /// Fails only when memory runs out.
-    pub fn pieces<'r, R: Threads>(
-        &'r self,
-        rt: &'r R,
-        alloc: Global,
-    ) -> Result<ImagePieces<'r, 'l, 's, 'a, R>, AllocError>
-        requires { Links self.now }
-        ensures { IfOk result (λ pieces. whole pieces ≡ written (image_of self.now)) }
-    {
-        let tables = &self.tables;
-        let plan = &tables.plan;
-        let Frame { front, back: last } = image_frame(alloc, tables)?;
-        let parts = parts_of(alloc, plan)?;
-        let back = back_of(alloc, plan, parts.as_slice(), last.as_slice())?;
-        Ok(ImagePieces {
-            rt,
-            plan,
-            parts,
-            front,
-            back,
-        })
-    }
+/// The pieces of the file of these tables' image.
+fn laid_of<'r, 'l, 's, 'a, R: Threads>(
+    rt: &'r R,
+    alloc: Global,
+    tables: &'r Tables<'l, 's, 'a>,
+) -> Result<ImagePieces<'r, 'l, 's, 'a, R>, AllocError>
+    requires { IsSound tables.now }
+    ensures { IfOk result (λ pieces. whole pieces ≡ written (image_of tables.now)) }
+{
+    let plan = &tables.plan;
+    let Frame { front, back: last } = image_frame(alloc, tables)?;
+    let parts = parts_of(alloc, plan)?;
+    let back = back_of(alloc, plan, parts.as_slice(), last.as_slice())?;
+    Ok(ImagePieces {
+        rt,
+        plan,
+        parts,
+        front,
+        back,
+    })
+}
+
+/// The file of the image that [`ReadyLink::write`] makes, piece by piece. All fields must hold their values, which
+/// [`ReadyLink::overflow`] tests. Fails only when memory runs out.
+pub fn pieces_of<'r, 'l, 's, 'a, R: Threads>(
+    rt: &'r R,
+    alloc: Global,
+    ready: &'r ReadyLink<'l, 's, 'a>,
+) -> Result<ImagePieces<'r, 'l, 's, 'a, R>, AllocError>
+    requires { Links ready.now }
+    ensures { IfOk result (λ pieces. whole pieces ≡ written (image_of ready.now)) }
+{
+    laid_of(rt, alloc, ready.tables())
 }

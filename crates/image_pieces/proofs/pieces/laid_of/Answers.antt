@@ -1,13 +1,11 @@
 use Rattle.std.proofs.Common.{◌≡◌, ◌∙◌, ◌++◌, ◌+◌, List, ℕ, drop, length, refl, sym, ap}
-use Rattle.image_writer.specs.Written.{written}
 use Rattle.placed_sections.specs.declared.part.PlacedPart.{PlacedPart}
 use Rattle.link_needs.specs.Linking.{Linking}
 use Rattle.link_core.specs.Bytes.{file}
-use Rattle.link_core.specs.Images.{image_of}
 use Rattle.link_core.specs.Laying.{laid_parts, made_behind}
 use Rattle.link_core.proofs.Laying.{file_behind}
-use Rattle.link_core.proofs.PartPieces.{pieces_joined}
-use Rattle.link_core.proofs.ready.ReadyLink.pieces.Goals as goal
+use Rattle.image_pieces.proofs.PartPieces.{pieces_joined}
+use Rattle.image_pieces.proofs.pieces.laid_of.Goals as goal
 
 pub returns : goal.returns
 returns g c =
@@ -26,4 +24,3 @@ returns g c =
     ∙ ap (λ (xs : List ℕ). front ++ xs) (sym (file_behind l parts 4096 last c.in_ok-parts.ensures.placed refl))
     ∙ ap (λ (l' : Linking). front ++ (drop 4096 (file l') ++ last)) c.tables.view_is
     ∙ sym c.in_ok-front.ensures.file
-    ∙ ap (λ (l' : Linking). written (image_of l')) c.self.view_is

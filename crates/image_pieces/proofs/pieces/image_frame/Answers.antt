@@ -7,7 +7,7 @@ use Rattle.link_tables.specs.Faults.{IsSound}
 use Rattle.link_core.specs.Bytes.{file}
 use Rattle.link_core.specs.Images.{image_of}
 use Rattle.link_core.proofs.Framed.{framed}
-use Rattle.link_core.proofs.image_pieces.image_frame.Goals as goal
+use Rattle.image_pieces.proofs.pieces.image_frame.Goals as goal
 
 pub frame_of-requires : goal.frame_of-requires
 frame_of-requires c =
