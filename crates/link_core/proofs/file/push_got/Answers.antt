@@ -10,13 +10,13 @@ use Rattle.link_core.proofs.WritingRoom.{stand_near}
 use Rattle.link_core.proofs.WritingParts.{got_pushed, on_ok_then}
 use Rattle.link_core.proofs.file.push_got.Goals as goal
 
-pub place_in_file-requires-clause-from_base : goal.place_in_file-requires-clause-from_base
-place_in_file-requires-clause-from_base c =
+pub place_in_file-place-requires-clause-from_base : goal.place_in_file-place-requires-clause-from_base
+place_in_file-place-requires-clause-from_base c =
     let near = stand_near c.plan.inside.inputs c.plan.invariant.given c.plan.invariant.limits in
     omega (arith, near.above, c.plan.invariant.start_is, ap (λ (l : Linking). base_of l.kind) c.plan.view_is)
 
-pub place_in_file-requires-clause-fits : goal.place_in_file-requires-clause-fits
-place_in_file-requires-clause-fits c =
+pub place_in_file-place-requires-clause-fits : goal.place_in_file-place-requires-clause-fits
+place_in_file-place-requires-clause-fits c =
     let near = stand_near c.plan.inside.inputs c.plan.invariant.given c.plan.invariant.limits in
     omega (arith, near.after, near.near, c.plan.invariant.start_is)
 

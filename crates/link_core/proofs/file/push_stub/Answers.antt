@@ -13,13 +13,13 @@ use Rattle.link_core.proofs.WritingParts.{on_ok_then, stub_bare, stub_pushed}
 use Rattle.link_core.proofs.WritingRoom.{stand_near}
 use Rattle.link_core.proofs.file.push_stub.Goals as goal
 
-pub place_in_file-requires-clause-from_base : goal.place_in_file-requires-clause-from_base
-place_in_file-requires-clause-from_base c =
+pub place_in_file-place-requires-clause-from_base : goal.place_in_file-place-requires-clause-from_base
+place_in_file-place-requires-clause-from_base c =
     let near = stand_near c.plan.inside.inputs c.plan.invariant.given c.plan.invariant.limits in
     omega (arith, near.above, near.after, c.plan.invariant.stub_is, ap (λ (l : Linking). base_of l.kind) c.plan.view_is)
 
-pub place_in_file-requires-clause-fits : goal.place_in_file-requires-clause-fits
-place_in_file-requires-clause-fits c =
+pub place_in_file-place-requires-clause-fits : goal.place_in_file-place-requires-clause-fits
+place_in_file-place-requires-clause-fits c =
     let near = stand_near c.plan.inside.inputs c.plan.invariant.given c.plan.invariant.limits in
     omega (arith, near.near, c.plan.invariant.stub_is)
 
