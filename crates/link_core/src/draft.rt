@@ -159,16 +159,13 @@ pub fn draft_of<'d, 'a: 'd>(inputs: &Inputs, lists: &'d DraftLists<'a>) -> Draft
     ensures parts { result.parts.now ≡ places inputs.now }
     ensures contents { contents_of result (file inputs.now) ≡ contents inputs.now }
 {
-    let parts = lists.parts.as_slice();
-    let symbols = lists.symbols.as_slice();
-    let relocations = lists.relocations.as_slice();
     Draft {
         kind: file_kind(inputs.kind),
-        parts,
+        parts: lists.parts.as_slice(),
         got: lists.got,
         tls: tls_part(&inputs.placement),
-        symbols,
-        relocations,
+        symbols: lists.symbols.as_slice(),
+        relocations: lists.relocations.as_slice(),
         is_flagged: is_flagged(inputs),
     }
 }

@@ -81,10 +81,8 @@ fn push_got(plan: &Plan, start: u64, bytes: &mut Vec<u8>) -> Result<(), AllocErr
     if plan.got.size() == 0 {
         return Ok(());
     }
-    pad(
-        bytes,
-        place_in_file(plan, plan.got_start).saturating_sub(start),
-    )?;
+    let place = place_in_file(plan, plan.got_start);
+    pad(bytes, place.saturating_sub(start))?;
     push_entries(&plan.got, bytes)
 }
 
@@ -108,10 +106,8 @@ fn push_stub(plan: &Plan, start: u64, bytes: &mut Vec<u8>) -> Result<(), AllocEr
     if !plan.has_stub {
         return Ok(());
     }
-    pad(
-        bytes,
-        place_in_file(plan, plan.stub_start).saturating_sub(start),
-    )?;
+    let place = place_in_file(plan, plan.stub_start);
+    pad(bytes, place.saturating_sub(start))?;
     let word = plan.need_address(Some(Need::RuntimeWord));
     // jmp *word(%rip)
     bytes.extend_from_slice(&[0xff, 0x25])?;

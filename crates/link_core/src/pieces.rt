@@ -112,11 +112,10 @@ fn count_of_front(parts: &[PlacedPart], shares: u64) -> usize
     count.max(1).min(parts.len() - 1)
 }
 
-/// Parts that are cut in two: where each half begins in the file.
+/// Parts that are cut in two, and where the second half begins in the file.
 #[derive(Clone, Copy)]
 struct Halves<'p> {
     front: &'p [PlacedPart],
-    from: usize,
     back: &'p [PlacedPart],
     middle: usize,
 }
@@ -129,7 +128,6 @@ fn halves_of<'p>(plan: &Plan, parts: &'p [PlacedPart], from: usize, shares: u64)
     requires shares { 2 ≤ shares }
     ensures near { All (IsNear plan.now.objects) result.front.now × All (IsNear plan.now.objects) result.back.now }
     ensures rise { Rise plan.now from result.front.now × Rise plan.now result.middle result.back.now }
-    ensures from { result.from ≡ from }
     ensures ends { from + length (laid_parts plan.now from result.front.now) ≡ result.middle }
     ensures laid { laid_parts plan.now from parts.now
         ≡ laid_parts plan.now from result.front.now ++ laid_parts plan.now result.middle result.back.now }
@@ -139,7 +137,6 @@ fn halves_of<'p>(plan: &Plan, parts: &'p [PlacedPart], from: usize, shares: u64)
     let (front, back) = parts.split_at(count);
     Halves {
         front,
-        from,
         back,
         middle: end_of(plan, &front[count - 1]),
     }
@@ -185,34 +182,13 @@ pub fn fill<R: Threads>(
     if threads < 2 {
         return fill_each(plan, parts, from, bytes);
     }
-    let halves = halves_of(plan, parts, from, threads);
-    let (first, second) = bytes.split_at_mut(halves.middle - from);
-    fill_both(rt, plan, halves, threads - 1, first, second);
-}
-
-/// Fills the bytes of two halves at the same time: those of the front in a thread of their own.
-#[cycle(shares)]
-fn fill_both<R: Threads>(
-    rt: &R,
-    plan: &Plan,
-    halves: Halves,
-    threads: u64,
-    first: &mut [u8],
-    second: &mut [u8],
-)
-    requires front { All (IsNear plan.now.objects) halves.front.now × Rise plan.now halves.from halves.front.now }
-    requires back { All (IsNear plan.now.objects) halves.back.now × Rise plan.now halves.middle halves.back.now }
-    requires first_zero { first.old ≡ zeros (length (laid_parts plan.now halves.from halves.front.now)) }
-    requires second_zero { second.old ≡ zeros (length (laid_parts plan.now halves.middle halves.back.now)) }
-    ensures first { first.new ≡ laid_parts plan.now halves.entry.from halves.entry.front.now }
-    ensures second { second.new ≡ laid_parts plan.now halves.entry.middle halves.entry.back.now }
-{
     let Halves {
         front,
-        from,
         back,
         middle,
-    } = halves;
+    } = halves_of(plan, parts, from, threads);
+    let fewer = threads - 1;
+    let (first, second) = bytes.split_at_mut(middle - from);
     let mut fill_front = || -> ()
         requires { All (IsNear plan.now.objects) front.now × Rise plan.now from front.now
             × (first.now ≡ zeros (length (laid_parts plan.now from front.now))) }
@@ -222,7 +198,7 @@ fn fill_both<R: Threads>(
         requires { All (IsNear plan.now.objects) back.now × Rise plan.now middle back.now
             × (second.now ≡ zeros (length (laid_parts plan.now middle back.now))) }
         ensures { second.exit.now ≡ laid_parts plan.entry.now middle back.entry.now }
-    { fill(rt, plan, back, middle, threads, second) };
+    { fill(rt, plan, back, middle, fewer, second) };
     join_mut(rt, &mut fill_front, &mut fill_back);
 }
 

@@ -10,20 +10,20 @@ use Rattle.link_core.proofs.WritingRoom.{stand_near}
 use Rattle.link_core.proofs.WritingParts.{got_pushed, on_ok_then}
 use Rattle.link_core.proofs.file.push_got.Goals as goal
 
-pub place_in_file-requires-clause-from_base : goal.place_in_file-requires-clause-from_base
-place_in_file-requires-clause-from_base c =
+pub place_in_file-place-requires-clause-from_base : goal.place_in_file-place-requires-clause-from_base
+place_in_file-place-requires-clause-from_base c =
     let near = stand_near c.plan.inside.inputs c.plan.invariant.given c.plan.invariant.limits in
     omega (arith, near.above, c.plan.invariant.start_is, ap (λ (l : Linking). base_of l.kind) c.plan.view_is)
 
-pub place_in_file-requires-clause-fits : goal.place_in_file-requires-clause-fits
-place_in_file-requires-clause-fits c =
+pub place_in_file-place-requires-clause-fits : goal.place_in_file-place-requires-clause-fits
+place_in_file-place-requires-clause-fits c =
     let near = stand_near c.plan.inside.inputs c.plan.invariant.given c.plan.invariant.limits in
     omega (arith, near.after, near.near, c.plan.invariant.start_is)
 
 pub pad-requires : goal.pad-requires
 pad-requires c =
     let near = stand_near c.plan.inside.inputs c.plan.invariant.given c.plan.invariant.limits in
-    omega (arith, near.after, near.near, c.plan.invariant.start_is, c.place_in_file.ensures, c.saturating_sub.ensures)
+    omega (arith, near.after, near.near, c.plan.invariant.start_is, c.place_in_file-place.ensures, c.saturating_sub.ensures)
 
 pub returns : goal.returns
 returns c =
@@ -33,7 +33,7 @@ returns c =
     let got = c.plan.invariant.got_is ∙ ap table c.plan.view_is in
     let begins = c.plan.invariant.start_is ∙ ap got_start c.plan.view_is in
     let room = c.saturating_sub.ensures
-    ∙ ap (λ n. n - start) (c.place_in_file.ensures ∙ ap (offset_of (layout l)) begins) in
+    ∙ ap (λ n. n - start) (c.place_in_file-place.ensures ∙ ap (offset_of (layout l)) begins) in
     let size = c.size.ensures ∙ ap (λ t. total_size t.entries) got in
     let some = λ (none : got_size l ≡ 0). c.if-size-eq0.false (size ∙ none) in
     on_ok_then c.push_entries.result (λ e.

@@ -13,20 +13,20 @@ use Rattle.link_core.proofs.WritingParts.{on_ok_then, stub_bare, stub_pushed}
 use Rattle.link_core.proofs.WritingRoom.{stand_near}
 use Rattle.link_core.proofs.file.push_stub.Goals as goal
 
-pub place_in_file-requires-clause-from_base : goal.place_in_file-requires-clause-from_base
-place_in_file-requires-clause-from_base c =
+pub place_in_file-place-requires-clause-from_base : goal.place_in_file-place-requires-clause-from_base
+place_in_file-place-requires-clause-from_base c =
     let near = stand_near c.plan.inside.inputs c.plan.invariant.given c.plan.invariant.limits in
     omega (arith, near.above, near.after, c.plan.invariant.stub_is, ap (λ (l : Linking). base_of l.kind) c.plan.view_is)
 
-pub place_in_file-requires-clause-fits : goal.place_in_file-requires-clause-fits
-place_in_file-requires-clause-fits c =
+pub place_in_file-place-requires-clause-fits : goal.place_in_file-place-requires-clause-fits
+place_in_file-place-requires-clause-fits c =
     let near = stand_near c.plan.inside.inputs c.plan.invariant.given c.plan.invariant.limits in
     omega (arith, near.near, c.plan.invariant.stub_is)
 
 pub pad-requires : goal.pad-requires
 pad-requires c =
     let near = stand_near c.plan.inside.inputs c.plan.invariant.given c.plan.invariant.limits in
-    omega (arith, near.near, c.plan.invariant.stub_is, c.place_in_file.ensures, c.saturating_sub.ensures)
+    omega (arith, near.near, c.plan.invariant.stub_is, c.place_in_file-place.ensures, c.saturating_sub.ensures)
 
 pub overflow_add-plan-inside : goal.overflow_add-plan-inside
 overflow_add-plan-inside c =
@@ -40,7 +40,7 @@ returns-in-Ok c =
     let bytes = c.args.bytes.now.items in
     let begins = c.plan.invariant.stub_is ∙ ap stub_start c.plan.view_is in
     let room = c.saturating_sub.ensures
-    ∙ ap (λ n. n - start) (c.place_in_file.ensures ∙ ap (offset_of (layout l)) begins) in
+    ∙ ap (λ n. n - start) (c.place_in_file-place.ensures ∙ ap (offset_of (layout l)) begins) in
     let some = sym (c.plan.invariant.stubbed_is ∙ ap has_stub c.plan.view_is) ∙ c.if-not-plan.false in
     let word = ap (stored_field GotPcRel 0 (negsuc 3) (c.plan.inside.stub_start + 2)) c.need_address-word.ensures in
     let place = ap (λ n. stored_field GotPcRel 0 (negsuc 3) (n + 2) (need_address l (Some RuntimeWord))) begins in
@@ -60,7 +60,7 @@ returns-in-Err c =
     let bytes = c.args.bytes.now.items in
     let begins = c.plan.invariant.stub_is ∙ ap stub_start c.plan.view_is in
     let room = c.saturating_sub.ensures
-    ∙ ap (λ n. n - start) (c.place_in_file.ensures ∙ ap (offset_of (layout l)) begins) in
+    ∙ ap (λ n. n - start) (c.place_in_file-place.ensures ∙ ap (offset_of (layout l)) begins) in
     let some = sym (c.plan.invariant.stubbed_is ∙ ap has_stub c.plan.view_is) ∙ c.if-not-plan.false in
     let word = ap (stored_field GotPcRel 0 (negsuc 3) (c.plan.inside.stub_start + 2)) c.need_address-word.ensures in
     let place = ap (λ n. stored_field GotPcRel 0 (negsuc 3) (n + 2) (need_address l (Some RuntimeWord))) begins in

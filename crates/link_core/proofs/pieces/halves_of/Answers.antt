@@ -1,4 +1,4 @@
-use Rattle.std.proofs.Common.{◌≡◌, ◌-◌, ◌∙◌, ◌++◌, ℕ, List, None, drop, map, refl, sym, ap, subst, arith}
+use Rattle.std.proofs.Common.{◌≡◌, ◌-◌, ◌∙◌, ◌++◌, ℕ, List, None, drop, map, sym, ap, subst, arith}
 use Rattle.std.specs.List.{All}
 use Rattle.std.proofs.lemmas.List.{take-append-drop}
 use Rattle.std.proofs.lemmas.List.Elements.{All-drop, All-take}
@@ -35,7 +35,6 @@ returns c =
         subst (All P) (sym split.back) (All-drop P n parts c.requires.near),
       );
       rise = (step.front_rise, subst (λ (at : ℕ). Rise l at back) ends step.back_rise);
-      from = refl;
       ends = step.length_is ∙ ends;
       laid =
           ap (laid_parts l from) whole ∙ step.laid
