@@ -9,9 +9,7 @@ ghost use Rattle.link_core.specs.Laying.{laid_parts, made_behind, AreParts};
 ghost use Rattle.link_tables.specs.Faults.{IsSound, Links};
 
 use image_writer::{Frame, frame_of};
-use link_core::{
-    ReadyLink, THREADS, draft_lists, draft_of, fill, parts_of, push_made, start_of,
-};
+use link_core::{ReadyLink, THREADS, draft_lists, draft_of, fill, parts_of, push_made, start_of};
 use link_needs::Plan;
 use link_tables::Tables;
 use placed_sections::PlacedPart;
