@@ -26,19 +26,21 @@ pub(super) fn room_for<P: Pieces>(alloc: Global, pieces: &P) -> Result<Vec<u8>, 
 fn largest<P: Pieces>(pieces: &P) -> usize
     ensures { EachFits result (P.view pieces.now).pieces }
 {
-    let mut most = 0;
+    let (mut most, mut start) = (0, 0);
     for number in 0..pieces.count() {
-        most = most.max(size(pieces, number, number + 1));
+        most = most.max(size(pieces, number, start, number + 1));
+        start = pieces.start(number + 1);
     }
     most
 }
 
-/// How many bytes the pieces from number `from` on and before `to` have together.
-fn size<P: Pieces>(pieces: &P, from: usize, to: usize) -> usize
-    requires { (from ≤ to) × (to ≤ length (P.view pieces.now).pieces) }
+/// How many bytes the pieces from number `from` on and before `to` have together. Those before them have `start`.
+fn size<P: Pieces>(pieces: &P, from: usize, start: usize, to: usize) -> usize
+    requires order { (from ≤ to) × (to ≤ length (P.view pieces.now).pieces) }
+    requires start { start ≡ length (joined (take from (P.view pieces.now).pieces)) }
     ensures { result ≡ length (joined (slice_range (P.view pieces.now).pieces from to)) }
 {
-    pieces.start(to) - pieces.start(from)
+    pieces.start(to) - start
 }
 
 /// Where the run from number `from` on ends: behind one piece, and each next one as long as they fit in `room`.
@@ -48,9 +50,9 @@ fn end_of_run<P: Pieces>(pieces: &P, from: usize, room: usize) -> usize
     ensures order { (from < result) × (result ≤ length (P.view pieces.now).pieces) }
     ensures fits { length (joined (slice_range (P.view pieces.now).pieces from result)) ≤ room }
 {
-    let count = pieces.count();
+    let (count, start) = (pieces.count(), pieces.start(from));
     let mut to = from + 1;
-    while to < count && size(pieces, from, to + 1) <= room {
+    while to < count && size(pieces, from, start, to + 1) <= room {
         to += 1;
     }
     to
@@ -72,7 +74,8 @@ fn write_run<W: Write, P: Pieces>(
     ensures err { OnErr result (AppendsFront (W.contents to.old) (W.contents to.new)
         (joined (slice_range (P.view pieces.now).pieces from end))) }
 {
-    let run = &mut buffer[..size(pieces, from, end)];
+    let size = size(pieces, from, pieces.start(from), end);
+    let run = &mut buffer[..size];
     run.fill(0);
     pieces.make(from, end, run);
     write_all(to, run)
