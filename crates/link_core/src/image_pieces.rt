@@ -1,11 +1,10 @@
 //! The file of a link, piece by piece, for a caller that wants no buffer of its size.
 
-ghost use Rattle.std.specs.Prelude.{◌≡◌, ◌+◌, ◌++◌, IfOk, drop, length};
+ghost use Rattle.std.specs.Prelude.{◌≡◌, ◌++◌, IfOk, drop, length};
 ghost use Rattle.image_writer.specs.Written.{written};
 ghost use Rattle.ports.specs.Pieces.{whole};
 ghost use Rattle.link_core.specs.Bytes.{file as file_of_link};
 ghost use Rattle.link_core.specs.Images.{image_of};
-ghost use Rattle.link_core.specs.Laying.{laid_parts, made_behind, AreParts};
 ghost use Rattle.link_tables.specs.Faults.{IsSound, Links};
 
 use crate::draft::{draft_lists, draft_of};
@@ -99,23 +98,6 @@ fn image_frame(alloc: Global, tables: &Tables) -> Result<Frame, AllocError>
     Ok(frame)
 }
 
-/// What stands behind the parts: the table, the stub, and these last bytes.
-fn back_of(
-    alloc: Global,
-    plan: &Plan,
-    parts: &[PlacedPart],
-    last: &[u8],
-) -> Result<Vec<u8>, AllocError>
-    requires { AreParts plan.now parts.now }
-    ensures { IfOk result (λ back. back.items
-        ≡ made_behind plan.now (4096 + length (laid_parts plan.now 4096 parts.now)) ++ last.now) }
-{
-    let mut back = Vec::new(alloc);
-    push_made(plan, start_of(plan, parts, parts.len()) as u64, &mut back)?;
-    back.extend_from_slice(last)?;
-    Ok(back)
-}
-
 impl<'l, 's, 'a> ReadyLink<'l, 's, 'a> {
     /// The file of the image that [`write`](Self::write) makes, piece by piece. All fields must hold their values.
     /// Fails only when memory runs out.
@@ -131,7 +113,13 @@ impl<'l, 's, 'a> ReadyLink<'l, 's, 'a> {
         let plan = &tables.plan;
         let Frame { front, back: last } = image_frame(alloc, tables)?;
         let parts = parts_of(alloc, plan)?;
-        let back = back_of(alloc, plan, parts.as_slice(), last.as_slice())?;
+        let mut back = Vec::new(alloc);
+        push_made(
+            plan,
+            start_of(plan, parts.as_slice(), parts.len()) as u64,
+            &mut back,
+        )?;
+        back.extend_from_slice(last.as_slice())?;
         Ok(ImagePieces {
             rt,
             plan,
