@@ -49,6 +49,6 @@ pub use faults::{FetchFault, PutFault};
 pub use fetching::fetch_each;
 pub use host::{HostFault, HostSink, HostStore, LARGEST_FILE, ProgressStore};
 pub use memory::{MemorySink, MemoryStore};
-pub use pieces::Pieces;
+pub use pieces::{Pieces, join};
 pub use sinks::Sink;
 pub use stores::Store;
