@@ -1,6 +1,8 @@
-//! The file of a link, piece by piece, for a caller that wants no buffer of its size.
+//! The file of a link, piece by piece.
 
-ghost use Rattle.std.specs.Prelude.{◌≡◌, ◌++◌, IfOk, drop, length};
+ghost use Rattle.std.specs.Prelude.{◌≡◌, ◌++◌, IfOk, OnOk, drop, length};
+ghost use Rattle.image_faults.specs.Faults.{IsImage};
+ghost use Rattle.image_file.specs.Spelled.{spelled};
 ghost use Rattle.image_writer.specs.Written.{written};
 ghost use Rattle.ports.specs.Pieces.{whole};
 ghost use Rattle.link_core.specs.Bytes.{file as file_of_link};
@@ -90,6 +92,8 @@ fn image_frame(alloc: Global, tables: &Tables) -> Result<Frame, AllocError>
     ensures page { IfOk result (λ frame. length frame.front.items ≡ 4096) }
     ensures file { IfOk result (λ frame. written (image_of tables.now)
         ≡ frame.front.items ++ (drop 4096 (file_of_link tables.now) ++ frame.back.items)) }
+    ensures again { OnOk result
+        (IsImage (written (image_of tables.now)) × (spelled (written (image_of tables.now)) ≡ image_of tables.now)) }
 {
     let plan = &tables.plan;
     let lists = draft_lists(alloc, tables)?;
@@ -107,7 +111,9 @@ impl<'l, 's, 'a> ReadyLink<'l, 's, 'a> {
         alloc: Global,
     ) -> Result<ImagePieces<'r, 'l, 's, 'a, R>, AllocError>
         requires { Links self.now }
-        ensures { IfOk result (λ pieces. whole pieces ≡ written (image_of self.now)) }
+        ensures whole { IfOk result (λ pieces. whole pieces ≡ written (image_of self.now)) }
+        ensures again { OnOk result
+            (IsImage (written (image_of self.now)) × (spelled (written (image_of self.now)) ≡ image_of self.now)) }
     {
         let tables = &self.tables;
         let plan = &tables.plan;

@@ -10,8 +10,8 @@ use Rattle.link_core.proofs.Laying.{file_behind}
 use Rattle.link_core.proofs.PartPieces.{pieces_joined}
 use Rattle.link_core.proofs.ready.ReadyLink.pieces.Goals as goal
 
-pub returns : goal.returns
-returns g c =
+pub returns-clause-whole : goal.returns-clause-whole
+returns-clause-whole g c =
     let l = c.tables.inside.plan in
     let parts = c.in_ok-parts.parts.items in
     let front = c.in_ok-front.field-0.front.items in
