@@ -1,12 +1,13 @@
 -- A draft's file as its parts in its frame, and parts that stand at their offsets in a file.
-use Rattle.std.proofs.Common.{ℕ, zero, suc, ◌+◌, ◌-◌, ◌<◌, ◌≤◌, ◌≡◌, ◌⊎◌, inl, inr, Some, List, [], ◌∷◌, ◌++◌, length, map, take, drop, get_or, replicate, refl, sym, ap, ◌∙◌, arith}
+use Rattle.std.proofs.Common.{ℕ, zero, suc, ◌+◌, ◌-◌, ◌<◌, ◌≤◌, ◌≡◌, ◌⊎◌, inl, inr, All, Some, List, [], ◌∷◌, ◌++◌, length, map, take, drop, get_or, replicate, refl, sym, ap, ◌∙◌, arith}
 use Rattle.std.specs.List.{slice_get}
 use Rattle.std.proofs.lemmas.List.{append-nil, drop_all, drop-drop, length-replicate, replicate-append-replicate, take-append-drop}
 use Rattle.std.proofs.lemmas.Option.{get_or_from_slice_get}
 use Rattle.std.proofs.Math.Seq.{drop-cons}
 use Rattle.std.proofs.lemmas.List.Elements.{All-cons}
 use Rattle.elf_records.specs.Fields.{part_at, splice}
-use Rattle.image_file.specs.Spelled.{Part}
+use Rattle.image_faults.specs.Faults.{IsImage}
+use Rattle.image_file.specs.Spelled.{Part, spelled}
 use Rattle.image_rules.specs.declared.places.FileKind.{FileKind}
 use Rattle.image_writer.specs.declared.draft.Draft.{Draft}
 use Rattle.image_writer.specs.declared.outline.PartPlace.{PartPlace}
@@ -18,11 +19,12 @@ use Rattle.image_writer.specs.Loadable.{HoldsTls, IsLoadable}
 use Rattle.image_writer.specs.Outlined.{end_of}
 use Rattle.image_writer.specs.Page.{base_of, file_offset, page}
 use Rattle.image_writer.specs.Tables.{finished, tables, tables_part}
-use Rattle.image_writer.specs.Told.{next_page, places_end}
+use Rattle.image_writer.specs.Told.{next_page, places_end, IsRelocationFitting, IsSymbolFitting}
 use Rattle.image_writer.specs.Written.{laid, written}
-use Rattle.image_writer.proofs.Filing.{written_behind}
-use Rattle.image_writer.proofs.Finishing.{address-is, loadable_told, outline-is, tables_told, tls_held}
+use Rattle.image_writer.proofs.Filing.{is_file, written_behind}
+use Rattle.image_writer.proofs.Finishing.{address-is, fitting, loadable_told, outline-is, tables_told, tls_held}
 use Rattle.image_writer.proofs.Laying.{laid-append, reach}
+use Rattle.image_writer.proofs.Linked.{stands_for}
 use Rattle.image_writer.proofs.Making.{part_in-size, parts_end-in}
 
 -- a draft that can be linked has a frame
@@ -56,6 +58,14 @@ frames_hold d file inside =
     (append-nil (tables c) ∙ tables_told d file inside)
     )
     )
+
+pub read_again : (d : Draft) (file : List ℕ) → IsLinkable (contents_of d file)
+    → All IsSymbolFitting d.symbols.now → All IsRelocationFitting d.relocations.now
+    → IsImage (written (finished (contents_of d file)))
+    × (spelled (written (finished (contents_of d file))) ≡ finished (contents_of d file))
+read_again d file linkable symbols relocations =
+    let c = contents_of d file in
+    stands_for c (written (finished c)) linkable (fitting d file symbols relocations) (is_file (finished c) linkable.loadable)
 
 -- what is put into bytes that were made of zeros, after some of them
 pub put_behind : (empty grown lent put new : List ℕ) (gap n long : ℕ) → empty ≡ [] → n ≡ length new

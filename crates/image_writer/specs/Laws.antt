@@ -1,5 +1,7 @@
 -- The laws of a draft's file that is made of its frame and its parts.
 use Rattle.std.specs.Prelude.{◌≡◌, ◌+◌, ◌<◌, ◌≤◌, ◌⊎◌, ℕ, List, [], ◌∷◌, ◌++◌, Some, All, length, drop, map, slice_get}
+use Rattle.image_faults.specs.Faults.{IsImage}
+use Rattle.image_file.specs.Spelled.{spelled}
 use Rattle.image_rules.specs.declared.places.FileKind.{FileKind}
 use Rattle.image_writer.specs.declared.draft.Draft.{Draft}
 use Rattle.image_writer.specs.declared.outline.PartPlace.{PartPlace}
@@ -10,7 +12,7 @@ use Rattle.image_writer.specs.Loadable.{HoldsTls, IsLoadable}
 use Rattle.image_writer.specs.Outlined.{end_of}
 use Rattle.image_writer.specs.Page.{base_of, file_offset}
 use Rattle.image_writer.specs.Tables.{finished}
-use Rattle.image_writer.specs.Told.{places_end}
+use Rattle.image_writer.specs.Told.{places_end, IsRelocationFitting, IsSymbolFitting}
 use Rattle.image_writer.specs.Written.{laid, written}
 
 -- a draft has a frame if it can be linked, whatever bytes its parts have
@@ -23,6 +25,13 @@ abbrev pub FramesHoldTheParts : Type 0
 FramesHoldTheParts = (d : Draft) (file : List ℕ) → IsLinkable (contents_of d file) → AreInside d file
     → written (finished (contents_of d file))
     ≡ front_of d ++ (laid (base_of d.kind) (contents_of d file).parts ++ back_of d)
+
+-- and it is read as that very image, if all numbers of the draft lie in the ranges of their types
+abbrev pub FilesAreRead : Type 0
+FilesAreRead = (d : Draft) (file : List ℕ) → IsLinkable (contents_of d file)
+    → All IsSymbolFitting d.symbols.now → All IsRelocationFitting d.relocations.now
+    → IsImage (written (finished (contents_of d file)))
+    × (spelled (written (finished (contents_of d file))) ≡ finished (contents_of d file))
 
 -- each part begins no earlier than the one before it ends
 abbrev pub Rise : ℕ → List PartPlace → Type 0

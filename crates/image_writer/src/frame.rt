@@ -1,11 +1,11 @@
 //! What stands around the parts of a draft's image, for a file that is made piece by piece.
 
-ghost use Rattle.std.specs.Prelude.{◌≡◌, IfOk};
+ghost use Rattle.std.specs.Prelude.{◌≡◌, All, IfOk, OnOk};
 ghost use Rattle.image_writer.specs.Frames.{back_of, front_of, outline_told};
 ghost use Rattle.image_writer.specs.Loadable.{IsLoadable, HoldsTls};
 ghost use Rattle.image_writer.specs.Outlined.{outlined};
 ghost use Rattle.image_writer.specs.Page.{page};
-ghost use Rattle.image_writer.specs.Told.{told, layout_of};
+ghost use Rattle.image_writer.specs.Told.{told, layout_of, IsRelocationFitting, IsSymbolFitting};
 
 use crate::draft::Draft;
 use crate::layout::{Layout, layout_of, next_page, places_end};
@@ -41,7 +41,9 @@ fn front_of(alloc: Global, outline: &Outline<'_>) -> Result<Vec<u8>, AllocError>
 fn back_of(alloc: Global, draft: &Draft<'_>, layout: &Layout) -> Result<Vec<u8>, AllocError>
     requires layout { layout.now ≡ layout_of (told draft.now) }
     requires loadable { IsLoadable (outline_told draft.now) }
-    ensures { IfOk result (λ back. back.items ≡ back_of draft.now) }
+    ensures back { IfOk result (λ back. back.items ≡ back_of draft.now) }
+    ensures symbols { OnOk result (All IsSymbolFitting draft.now.symbols.now) }
+    ensures relocations { OnOk result (All IsRelocationFitting draft.now.relocations.now) }
 {
     let address = next_page(draft);
     let gap = (address - places_end(draft)) as usize;
@@ -57,6 +59,8 @@ pub fn frame_of(alloc: Global, draft: &Draft<'_>) -> Result<Frame, AllocError>
     requires tls { HoldsTls (outline_told draft.now) }
     ensures front { IfOk result (λ frame. frame.front.items ≡ front_of draft.now) }
     ensures back { IfOk result (λ frame. frame.back.items ≡ back_of draft.now) }
+    ensures symbols { OnOk result (All IsSymbolFitting draft.now.symbols.now) }
+    ensures relocations { OnOk result (All IsRelocationFitting draft.now.relocations.now) }
 {
     let layout = layout_of(draft);
     let parts = with_tables(alloc, draft, &layout)?;

@@ -17,7 +17,7 @@
 //!   draft's parts, symbols, names and relocations. `specs/Linkable` says what it requires of the draft.
 //! - [`frame_of`] makes of a draft what its image's file has before and behind the bytes of the parts: the page of
 //!   headers, and the tables. So a file can be made piece by piece, with no buffer of its size; [`laws`] say that the
-//!   parts in their frame are the very file that `image_of` and `into_file` make.
+//!   parts in their frame are the very file that `image_of` and `into_file` make, and that it is read as that image.
 //!
 //! Memory is allocated first and at once. If it runs out, `write` leaves its output as it was. `write` copies parts
 //! once, `into_file` copies none, and `image_of` keeps the file that it was given.

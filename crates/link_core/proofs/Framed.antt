@@ -1,15 +1,19 @@
 -- The file of an image is the link's file in the frame of its draft.
-use Rattle.std.proofs.Common.{◌≡◌, ◌+◌, ◌∙◌, ◌++◌, ℕ, List, [], ◌∷◌, drop, map, refl, sym, ap, subst}
+use Rattle.std.proofs.Common.{◌≡◌, ◌+◌, ◌≤◌, ◌∙◌, ◌++◌, ℕ, All, List, [], ◌∷◌, drop, length, map, sym, ap, subst}
+use Rattle.image_faults.specs.Faults.{IsImage}
+use Rattle.image_file.specs.Spelled.{spelled}
+use Rattle.image_rules.specs.declared.places.FileKind.{FileKind}
 use Rattle.image_writer.specs.declared.draft.Draft.{Draft}
 use Rattle.image_writer.specs.declared.outline.PartPlace.{PartPlace}
 use Rattle.image_writer.specs.Contents.{Contents, contents_of, part_in}
 use Rattle.image_writer.specs.Frames.{AreInside, back_of, front_of}
 use Rattle.image_writer.specs.Laws.{Rise}
 use Rattle.image_writer.specs.Linkable.{IsLinkable}
-use Rattle.image_writer.specs.Page.{base_of}
+use Rattle.image_writer.specs.Page.{base_of, file_offset}
 use Rattle.image_writer.specs.Tables.{finished}
+use Rattle.image_writer.specs.Told.{IsRelocationFitting, IsSymbolFitting}
 use Rattle.image_writer.specs.Written.{laid, written}
-use Rattle.image_writer.proofs.Framing.{frames_hold, has_frame, parts_in_place}
+use Rattle.image_writer.proofs.Framing.{frames_hold, has_frame, parts_in_place, read_again}
 use Rattle.link_needs.specs.Given.{FitsTable, IsGiven}
 use Rattle.link_needs.specs.Linking.{Linking}
 use Rattle.link_tables.specs.Faults.{IsSound}
@@ -18,9 +22,9 @@ use Rattle.link_core.specs.Images.{contents, file_kind, image_of, places}
 use Rattle.link_core.specs.Laws.{IsDraftOf, IsFramed}
 use Rattle.link_core.proofs.Few.{table_fits}
 use Rattle.link_core.proofs.FramedGaps.{between_is_zero}
-use Rattle.link_core.proofs.Lengths.{file_reaches}
+use Rattle.link_core.proofs.Lengths.{file_reaches, places_inside}
 use Rattle.link_core.proofs.LengthsPlaces.{Follow, all_follow, same_base}
-use Rattle.link_core.proofs.LinkDrafts.{can_link, inside}
+use Rattle.link_core.proofs.Linkable.{linkable}
 
 -- parts that follow rise
 rises : (at : ℕ) (ps : List PartPlace) → Follow at ps → Rise at ps
@@ -41,11 +45,17 @@ module _ (l : Linking) (given : IsGiven l) (sound : IsSound l) (d : Draft) (is :
   unfolding contents
   kind_is = ap (λ (c : Contents). c.kind) is.same
 
+  -- all parts lie in the file
+  abbrev AreIn : FileKind → List PartPlace → Type 0
+  AreIn kind = All (λ (p : PartPlace). file_offset kind p.address + p.size ≤ length (file l))
+
   can : IsLinkable (contents_of d (file l))
-  can = can_link l given sound d (file l) refl kind_is is.parts is.same
+  can = subst IsLinkable (sym is.same) (linkable l given sound)
 
   within : AreInside d (file l)
-  within = inside l given sound d (file l) refl kind_is is.parts is.same
+  within =
+      subst (AreIn d.kind) (sym is.parts)
+      (subst (λ kind. AreIn kind (places l)) (sym kind_is) (places_inside l given (table_fits l given sound.limits)))
 
   lies : drop 4096 (file l) ≡ laid (base_of d.kind) (contents_of d (file l)).parts
   lies =
@@ -64,3 +74,11 @@ module _ (l : Linking) (given : IsGiven l) (sound : IsSound l) (d : Draft) (is :
         whole = ap (λ c. written (finished c)) (sym is.same) ∙ frames_hold d (file l) within
             ∙ ap (λ parts. front_of d ++ (parts ++ back_of d)) (sym lies);
       }
+
+  -- and it is read as that image, if the numbers of the draft fit
+  pub is_read : All IsSymbolFitting d.symbols.now → All IsRelocationFitting d.relocations.now
+      → IsImage (written (image_of l)) × (spelled (written (image_of l)) ≡ image_of l)
+  unfolding image_of
+  is_read symbols relocations =
+      subst (λ (c : Contents). IsImage (written (finished c)) × (spelled (written (finished c)) ≡ finished c)) is.same
+      (read_again d (file l) can symbols relocations)

@@ -1,8 +1,7 @@
 -- Pieces of the file, one after another.
-use Rattle.std.proofs.Common.{◌≡◌, ◌+◌, ◌-◌, ◌<◌, ◌≤◌, ◌==◌, ◌∙◌, ◌++◌, ℕ, zero, suc, false, List, [], ◌∷◌, drop, get_or, length, map, take}
+use Rattle.std.proofs.Common.{◌≡◌, ◌+◌, ◌-◌, ◌<◌, ◌≤◌, ◌∙◌, ◌++◌, ℕ, zero, suc, List, [], ◌∷◌, drop, get_or, length, map, take}
 use Rattle.std.proofs.Common.{append_assoc, length-append, refl, sym, ap, subst, arith}
 use Rattle.std.specs.List.{All}
-use Rattle.std.proofs.lemmas.Bool.Decides.{nat_tests}
 use Rattle.std.proofs.lemmas.List.{drop-replicate, get_or-take, length-replicate, length-take-le, map-append}
 use Rattle.std.proofs.lemmas.List.{take-append-drop, take-replicate}
 use Rattle.std.proofs.Math.Seq.{drop-append_seam}
@@ -10,7 +9,6 @@ use Rattle.placed_sections.specs.declared.part.PlacedPart.{PlacedPart}
 use Rattle.placed_sections.specs.Files.{bytes_in, filled, placed, sections_file}
 use Rattle.placed_sections.specs.Laws.{IsNear}
 use Rattle.placed_sections.proofs.Chains.{laid-append, laid-length, rising-split}
-use Rattle.placed_sections.proofs.Filed.{page_of}
 use Rattle.placed_sections.proofs.Laid.{placed_map}
 use Rattle.placed_sections.proofs.Whole.{all_rise}
 use Rattle.tls_relocs.specs.Laid.{Placed, Rising, end_of, laid, zeros}
@@ -22,10 +20,6 @@ use Rattle.link_core.proofs.LengthsKept.{linked_whole}
 use Rattle.link_core.proofs.WritingParts.{made_is}
 
 -- ** bytes
-
--- what is not empty
-pub not_empty : (n : ℕ) → (n == 0) ≡ false → 0 < n
-not_empty n some = grind (arith, nat_tests)
 
 -- zeros that are cut
 pub zeros_in_front : (m k : ℕ) (front now : List ℕ) → front ≡ take m now → now ≡ zeros k → m ≤ k → front ≡ zeros m
@@ -126,25 +120,19 @@ parts_are l given parts are near = record {
       (all_rise l.kind (linked_section l) l.objects (linked_whole l given));
 }
 
-pub parts_file : (l : Linking) (parts : List PlacedPart) (page : List ℕ)
-    → parts ≡ placed (λ part. part) (layout l) l.objects → length page ≡ 4096 → page ≡ zeros (length page)
-    → page ++ laid_parts l (length page) parts ≡ sections_file (layout l) (linked_section l) l.objects
-parts_file l parts page are len zeros_are =
-    ap (λ xs. page ++ laid (length page) xs) (parts_filled l parts are)
-    ∙ sym (page_of (layout l) (linked_section l) l.objects page len zeros_are).whole
-
 -- the file behind its first page
 pub file_behind : (l : Linking) (parts : List PlacedPart) (n : ℕ) (last : List ℕ)
     → parts ≡ placed (λ part. part) (layout l) l.objects → n ≡ 4096
     → drop n (file l) ++ last ≡ laid_parts l n parts ++ (made_behind l (n + length (laid_parts l n parts)) ++ last)
-unfolding file
+unfolding file sections_file
 file_behind l parts n last are is =
     let page = zeros n in
     let sections = sections_file (layout l) (linked_section l) l.objects in
     let own = laid_parts l n parts in
     let len : length page ≡ n = length-replicate {A = ℕ} n 0 in
     let whole : sections ≡ page ++ own =
-    sym (parts_file l parts page are (len ∙ is) (ap zeros (sym len))) ∙ ap (λ m. page ++ laid_parts l m parts) len in
+    ap (λ m. zeros m ++ laid m (placed (filled (linked_section l)) (layout l) l.objects)) (sym is)
+    ∙ ap (λ xs. page ++ laid n xs) (sym (parts_filled l parts are)) in
     let long : length sections ≡ n + length own = omega (arith, ap length whole, length-append page own, len) in
     let made = made_behind l (n + length own) in
     let all : file l ≡ page ++ (own ++ made) =

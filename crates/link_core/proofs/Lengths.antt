@@ -1,15 +1,13 @@
 -- The file ends where the last part does, and each part lies in it.
-use Rattle.std.proofs.Common.{◌≡◌, ◌+◌, ◌≤◌, length, sym, ap, ◌∙◌, arith}
+use Rattle.std.proofs.Common.{◌≡◌, ◌+◌, ◌≤◌, length, ap, ◌∙◌, arith}
 use Rattle.std.specs.List.{All}
-use Rattle.image_writer.specs.Contents.{parts_end}
 use Rattle.image_writer.specs.Page.{file_offset}
 use Rattle.image_writer.specs.Told.{places_end}
-use Rattle.image_writer.proofs.Making.{parts_end-in}
 use Rattle.link_faults.specs.ImageKinds.{base_of}
 use Rattle.link_needs.specs.Linking.{Linking}
 use Rattle.link_core.specs.Bytes.{file}
 use Rattle.link_needs.specs.Given.{FitsTable, IsGiven}
-use Rattle.link_core.specs.Images.{contents, file_kind, places}
+use Rattle.link_core.specs.Images.{file_kind, places}
 use Rattle.link_core.proofs.LengthsPlaces.{all_follow, end_from, lie_between, places_end-is, same_base}
 use Rattle.link_core.proofs.LengthsRaw.{file_length}
 
@@ -29,11 +27,3 @@ file_reaches l given limits =
     let last = places_end-is (file_kind l.kind) (places l) in
     let start = ap (λ n. end_from n (places l)) base in
     omega (arith, file_length l given limits, last ∙ start ∙ (all_follow l).ends, base)
-
-pub file_ends : (l : Linking) → IsGiven l → FitsTable l
-    → length (file l) ≡ file_offset (file_kind l.kind) (parts_end (file_kind l.kind) (contents l).parts)
-unfolding contents
-file_ends l given limits =
-    let kind = file_kind l.kind in
-    file_reaches l given limits
-    ∙ ap (file_offset kind) (sym (parts_end-in kind (file l) (places l) (places_inside l given limits)))

@@ -30,6 +30,7 @@ pub mod LoadsTls
 pub mod NamesHeld
 pub mod NewFields
 pub mod Overflows
+pub mod PartPieces
 pub mod Relatives
 pub mod RelativesApart
 pub mod RelativesFields

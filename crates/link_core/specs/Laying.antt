@@ -21,6 +21,12 @@ pub record AreParts (l : Linking) (parts : List PlacedPart) : Type 0 where
   pub near : All (IsNear l.objects) parts
   pub rise : Rise l 4096 parts
 
+-- each by itself, with the zeros before it
+abbrev pub pieces_of : Linking → ℕ → List PlacedPart → List (List ℕ)
+pieces_of l from [] = []
+pieces_of l from (part ∷ more) =
+    laid_parts l from (part ∷ []) ∷ pieces_of l (part.place + length (bytes_in (linked_section l) part.section)) more
+
 -- ** what stands behind the first n bytes of the file
 
 -- the table, behind zeros

@@ -1,4 +1,4 @@
-//! The bytes of an image's file, without its headers and its dynamic tables.
+//! Where the sections lie in an image's file, and the bytes behind them, without the dynamic tables.
 
 ghost use Rattle.std.specs.Prelude.{◌≡◌, ◌+◌, ◌<◌, ◌≤◌, ◌-◌, ◌^◌, ◌++◌, IfOk, OnOk, length};
 ghost use Rattle.std.specs.List.{flat_map};
@@ -9,16 +9,14 @@ ghost use Rattle.placed_sections.specs.Files.{offset_of as file_offset, placed};
 ghost use Rattle.tls_relocs.specs.Fields.{field_bytes};
 ghost use Rattle.tls_relocs.specs.Laid.{zeros};
 ghost use Rattle.link_needs.specs.Linking.{layout};
-ghost use Rattle.link_core.specs.Bytes.{file as file_of_link, table_bytes};
+ghost use Rattle.link_core.specs.Bytes.{table_bytes};
 ghost use Rattle.link_core.specs.Laying.{got_behind, made_behind, stub_behind, AreParts};
 
-use crate::pieces::{push_parts, push_zeros};
 use elf_object::RelocationKind;
 use got_pairs::{Entry, GotPlan, Need, Word};
 use link_needs::Plan;
-use placed_sections::{PlacedPart, first_page, offset_of, place_sections};
+use placed_sections::{PlacedPart, offset_of, place_sections};
 use std::alloc::{AllocError, Global};
-use std::thread::Threads;
 use tls_relocs::{Field, value};
 
 /// Where the byte of an address stands in the file.
@@ -36,7 +34,8 @@ fn pad(file: &mut Vec<u8>, offset: u64) -> Result<(), AllocError>
     requires { offset < 2 ^ 32 }
     ensures { OnOk result (file.new.items ≡ file.old.items ++ zeros (offset - length file.old.items)) }
 {
-    push_zeros(file, (offset as usize).saturating_sub(file.len()))
+    let count = (offset as usize).saturating_sub(file.len());
+    file.resize(file.len() + count, 0)
 }
 
 /// Adds a word to the file.
@@ -137,17 +136,4 @@ pub fn parts_of(alloc: Global, plan: &Plan) -> Result<Vec<PlacedPart>, AllocErro
     let inputs = &plan.inputs;
     let parts = place_sections(alloc, &inputs.placement, inputs.objects)?;
     Ok(parts)
-}
-
-/// The file of a link. A field that can't hold its value is left as it was.
-#[tactic(auto, unfolding(crate::specs::Bytes::file))]
-pub fn file_of<R: Threads + Sync>(rt: &R, alloc: Global, plan: &Plan) -> Result<Vec<u8>, AllocError>
-    ensures { IfOk result (λ file. file.items ≡ file_of_link plan.now) }
-{
-    let inputs = &plan.inputs;
-    let parts = parts_of(alloc, plan)?;
-    let mut file = first_page(alloc, &inputs.placement)?;
-    push_parts(rt, plan, parts.as_slice(), &mut file)?;
-    push_made(plan, 0, &mut file)?;
-    Ok(file)
 }

@@ -14,16 +14,16 @@
 //! sections   each at its place in the file                                   placed_sections
 //! fields     the value of each relocation, written in its section            tls_relocs, here
 //! sequences  the new ones, written over those that are rewritten             relax_sites, here
-//! file       the sections, the table, the stub                               here
-//! tables     symbols and relocations for a loader                            link_tables, image_writer
+//! tables     headers, and symbols and relocations for a loader               link_tables, image_writer
+//! file       the headers, the sections, the table, the stub, the tables      here
 //! ```
 //!
 //! Linking has two halves. [`prepare`] does what is above the gap. It tests all that can refuse the objects, except
 //! whether each field holds its value, and returns a [`ReadyLink`], which has no byte of the image.
 //! [`ReadyLink::overflow`] finds the first field that can't hold its value. It writes no byte either, so a caller that
-//! wants no image can ask whether objects can be linked. If there is no such field, [`ReadyLink::write`] does what is
-//! below the gap, and fails only when memory runs out. [`link`] does all three. [`ReadyLink::pieces`] has the file of the
-//! same image for a caller that wants only its bytes: each section is a piece, and is linked when its piece is made.
+//! wants no image can ask whether objects can be linked. If there is no such field, [`ReadyLink::pieces`] is what is
+//! below the gap: the file, of which each section is a piece, linked when the piece is made. [`ReadyLink::write`] joins
+//! the pieces, for a caller that wants an image. Both fail only when memory runs out. [`link`] prepares, asks, writes.
 //!
 //! **The rule of bytes** (`specs/Bytes`): each section is at its place, and of its bytes only the fields of relocations
 //! and the rewritten sequences are changed. After the sections come the table and the stub, and after these the dynamic
@@ -64,6 +64,7 @@
 
 mod draft;
 mod file;
+mod image_pieces;
 pub mod laws;
 mod linked;
 mod linking;
@@ -72,9 +73,7 @@ mod pieces;
 mod ready;
 mod sections;
 
-pub use draft::{DraftLists, draft_lists, draft_of};
-pub use file::{parts_of, push_made};
+pub use image_pieces::ImagePieces;
 pub use linked::Linked;
 pub use linking::link;
-pub use pieces::{THREADS, fill, start_of};
 pub use ready::{ReadyLink, prepare};

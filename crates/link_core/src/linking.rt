@@ -4,55 +4,40 @@ ghost use Rattle.std.specs.Prelude.{◌≡◌, ◌-◌, ◌<◌, ◌^◌, ℕ, [
 ghost use Rattle.sequence_match.specs.Faults.{AreSites};
 ghost use Rattle.tls_symbols.specs.Bindings.{object_at};
 ghost use Rattle.link_needs.specs.Linking.{link_of};
-ghost use Rattle.link_core.specs.Bytes.{file as file_of_link};
 ghost use Rattle.link_tables.specs.Faults.{IsLinkFault, IsSound, Links};
-ghost use Rattle.link_core.specs.Images.{image_of as image_of_link, linked_of};
+ghost use Rattle.link_core.specs.Images.{image_of, linked_of};
 ghost use Rattle.link_core.specs.Laws.{HasNoStray};
 
-use crate::draft::{draft_lists, draft_of};
-use crate::file::file_of;
 use crate::linked::Linked;
 use crate::ready::{ReadyLink, prepare};
 use elf_object::Object;
 use image_file::Image;
-use image_writer::image_of;
 use link_faults::{ImageKind, LinkFault};
-use link_tables::Tables;
+use ports::join;
 use sequence_match::Site;
 use std::alloc::{AllocError, Global};
 use std::thread::Threads;
 use tls_symbols::Exports;
 
-/// Makes the image from its file.
-fn finished(alloc: Global, tables: &Tables, file: Vec<u8>) -> Result<Image, AllocError>
-    requires sound { IsSound tables.now }
-    requires file { file.items ≡ file_of_link tables.now }
-    ensures { IfOk result (λ image. image ≡ image_of_link tables.now) }
+/// The image of a ready link: its pieces, joined.
+fn image<R: Threads>(rt: &R, alloc: Global, ready: &ReadyLink) -> Result<Image, AllocError>
+    requires { Links ready.now }
+    ensures { IfOk result (λ image. image ≡ image_of ready.now) }
 {
-    let plan = &tables.plan;
-    let lists = draft_lists(alloc, tables)?;
-    let draft = draft_of(&plan.inputs, &lists);
-    image_of(alloc, &draft, file)
-}
-
-/// The image of a link.
-fn image<R: Threads + Sync>(rt: &R, alloc: Global, tables: &Tables) -> Result<Image, AllocError>
-    requires { IsSound tables.now }
-    ensures { IfOk result (λ image. image ≡ image_of_link tables.now) }
-{
-    let file = file_of(rt, alloc, &tables.plan)?;
-    finished(alloc, tables, file)
+    let pieces = ready.pieces(rt, alloc)?;
+    let file = join(alloc, &pieces)?;
+    Ok(Image::from_bytes(file))
 }
 
 impl ReadyLink<'_, '_, '_> {
     /// Writes the image. All fields must hold their values, which [`overflow`](Self::overflow) tests. Fails only when
     /// memory runs out.
     #[tactic(auto, unfolding(crate::specs::Images::linked_of))]
-    pub fn write<R: Threads + Sync>(self, rt: &R, alloc: Global) -> Result<Linked, AllocError>
+    pub fn write<R: Threads>(self, rt: &R, alloc: Global) -> Result<Linked, AllocError>
         requires { Links self }
         ensures { IfOk result (λ linked. linked ≡ linked_of self.entry) }
     {
-        let image = image(rt, alloc, &self.tables)?;
+        let image = image(rt, alloc, &self)?;
         Ok(Linked {
             image,
             choices: self.into_choices(),

@@ -12,7 +12,6 @@ ghost use Rattle.link_core.specs.Laying.{laid_parts, AreParts, Rise};
 use crate::sections::link_section;
 use link_needs::Plan;
 use placed_sections::{PlacedPart, SectionRef};
-use std::alloc::AllocError;
 use std::thread::{Threads, join_mut};
 use tls_layout::PAGE;
 
@@ -200,47 +199,4 @@ pub fn fill<R: Threads>(
         ensures { second.exit.now ≡ laid_parts plan.entry.now middle back.entry.now }
     { fill(rt, plan, back, middle, fewer, second) };
     join_mut(rt, &mut fill_front, &mut fill_back);
-}
-
-/// Fills the bytes from `from` on with some parts.
-fn fill_tail<R: Threads>(rt: &R, plan: &Plan, parts: &[PlacedPart], from: usize, bytes: &mut [u8])
-    requires near { All (IsNear plan.now.objects) parts.now }
-    requires rise { Rise plan.now from parts.now }
-    requires zero { drop from bytes.old ≡ zeros (length (laid_parts plan.now from parts.now)) }
-    requires inside { from ≤ length bytes.old }
-    ensures filled { length bytes.new ≡ length bytes.old }
-    ensures bytes { bytes.new ≡ take from bytes.old ++ laid_parts plan.now from parts.now }
-{
-    let (_, tail) = bytes.split_at_mut(from);
-    fill(rt, plan, parts, from, THREADS, tail);
-}
-
-/// Appends zeros.
-pub fn push_zeros(file: &mut Vec<u8>, count: usize) -> Result<(), AllocError>
-    requires { count < 2 ^ 32 }
-    ensures { OnOk result (file.new.items ≡ file.old.items ++ zeros count) }
-{
-    file.resize(file.len() + count, 0)
-}
-
-/// Appends parts to the file: makes room for all of them, which threads fill.
-pub fn push_parts<R: Threads + Sync>(
-    rt: &R,
-    plan: &Plan,
-    parts: &[PlacedPart],
-    file: &mut Vec<u8>,
-) -> Result<(), AllocError>
-    requires near { All (IsNear plan.now.objects) parts.now }
-    requires rise { Rise plan.now (length file.old.items) parts.now }
-    ensures { OnOk result
-        (file.new.items ≡ file.old.items ++ laid_parts plan.now (length file.old.items) parts.now) }
-{
-    if parts.is_empty() {
-        return Ok(());
-    }
-    let from = file.len();
-    let end = end_of(plan, &parts[parts.len() - 1]);
-    push_zeros(file, end - from)?;
-    fill_tail(rt, plan, parts, from, file.as_mut_slice());
-    Ok(())
 }

@@ -218,14 +218,6 @@ fn plan_in<'l, 's, 'a>(tables: Tables<'l, 's, 'a>) -> Plan<'l, 's, 'a>
 }
 
 impl<'l, 's, 'a> ReadyLink<'l, 's, 'a> {
-    /// The link with its tables, for a caller that makes the bytes of the image itself.
-    pub fn tables(&self) -> &Tables<'l, 's, 'a>
-        ensures tables { result.now ≡ self.now }
-        ensures sound { IsSound result.now }
-    {
-        &self.tables
-    }
-
     /// The inputs of the link, for a caller that wants no byte of the image.
     pub fn into_inputs(self) -> Inputs<'l, 's, 'a>
         ensures { result ≡ self.entry }

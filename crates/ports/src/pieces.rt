@@ -61,15 +61,18 @@ impl<'b> Pieces for Whole<'b> {
     fn make(&self, _from: usize, _to: usize, _into: &mut [u8]) {}
 }
 
-/// The whole file, in memory.
-pub(crate) fn join<P: Pieces>(alloc: Global, pieces: &P) -> Result<Vec<u8>, AllocError>
+/// The whole file, in one buffer.
+pub fn join<P: Pieces>(alloc: Global, pieces: &P) -> Result<Vec<u8>, AllocError>
     ensures { IfOk result (λ file. file.items ≡ whole (P.view pieces.now)) }
 {
+    let front = pieces.front();
     let count = pieces.count();
-    let mut made = vec![in alloc; 0; pieces.start(count)]?;
-    pieces.make(0, count, &mut made);
-    let mut file = Vec::from_slice(alloc, pieces.front())?;
-    file.extend_from_slice(&made)?;
+    let Some(end) = front.len().checked_add(pieces.start(count)) else {
+        return Err(AllocError);
+    };
+    let mut file = Vec::from_slice(alloc, front)?;
+    file.resize(end, 0)?;
+    pieces.make(0, count, &mut file[front.len()..]);
     file.extend_from_slice(pieces.back())?;
     Ok(file)
 }

@@ -25,8 +25,8 @@ put_tables-requires-clause-small c =
     let size = (layout_facts c.args.draft.now c.args.layout.now c.requires.layout).size_is in
     omega (arith, size, b.low, b.above, b.below)
 
-pub returns : goal.returns
-returns c =
+pub returns-clause-back : goal.returns-clause-back
+returns-clause-back c =
     let d = c.args.draft.now in
     let T = tables_at (next_page d) (told d) in
     let gap = c.next_page-address.result - c.places_end.result in

@@ -1,10 +1,9 @@
 use Rattle.std.proofs.Common.{◌∙◌, ◌≤◌, List, ℕ, ap, length, rules, subst, sym, arith}
 use Rattle.ports.specs.Pieces.{PiecesView}
 use Rattle.tls_relocs.specs.Laid.{zeros}
-use Rattle.link_core.specs.Laying.{Rise}
-use Rattle.image_pieces.specs.Pieces.{pieces_of}
-use Rattle.image_pieces.proofs.PartPieces.{as_many, run_of}
-use Rattle.image_pieces.proofs.pieces.ImagePiecesPieces.make.Goals as goal
+use Rattle.link_core.specs.Laying.{Rise, pieces_of}
+use Rattle.link_core.proofs.PartPieces.{as_many, run_of}
+use Rattle.link_core.proofs.image_pieces.ImagePiecesPieces.make.Goals as goal
 
 pub start_of-start-requires-clause-inside : goal.start_of-start-requires-clause-inside
 start_of-start-requires-clause-inside g c =

@@ -1,15 +1,19 @@
-//! The file of a link, piece by piece, for a caller that wants no buffer of its size.
+//! The file of a link, piece by piece.
 
-ghost use Rattle.std.specs.Prelude.{◌≡◌, ◌+◌, ◌++◌, IfOk, drop, length};
+ghost use Rattle.std.specs.Prelude.{◌≡◌, ◌++◌, IfOk, OnOk, drop, length};
+ghost use Rattle.image_faults.specs.Faults.{IsImage};
+ghost use Rattle.image_file.specs.Spelled.{spelled};
 ghost use Rattle.image_writer.specs.Written.{written};
 ghost use Rattle.ports.specs.Pieces.{whole};
 ghost use Rattle.link_core.specs.Bytes.{file as file_of_link};
 ghost use Rattle.link_core.specs.Images.{image_of};
-ghost use Rattle.link_core.specs.Laying.{laid_parts, made_behind, AreParts};
 ghost use Rattle.link_tables.specs.Faults.{IsSound, Links};
 
+use crate::draft::{draft_lists, draft_of};
+use crate::file::{parts_of, push_made};
+use crate::pieces::{THREADS, fill, start_of};
+use crate::ready::ReadyLink;
 use image_writer::{Frame, frame_of};
-use link_core::{ReadyLink, THREADS, draft_lists, draft_of, fill, parts_of, push_made, start_of};
 use link_needs::Plan;
 use link_tables::Tables;
 use placed_sections::PlacedPart;
@@ -33,8 +37,7 @@ pub struct ImagePieces<'r, 'l, 's, 'a, R: Threads> {
 impl<'r, 'l, 's, 'a, R: Threads> Model for ImagePieces<'r, 'l, 's, 'a, R> {
     ghost use Rattle.std.specs.Prelude.{◌≡◌, length};
     ghost use Rattle.ports.specs.Pieces.{PiecesView};
-    ghost use Rattle.link_core.specs.Laying.{AreParts};
-    ghost use Rattle.image_pieces.specs.Pieces.{pieces_of};
+    ghost use Rattle.link_core.specs.Laying.{pieces_of, AreParts};
 
     ghost Value = { PiecesView };
 
@@ -89,6 +92,8 @@ fn image_frame(alloc: Global, tables: &Tables) -> Result<Frame, AllocError>
     ensures page { IfOk result (λ frame. length frame.front.items ≡ 4096) }
     ensures file { IfOk result (λ frame. written (image_of tables.now)
         ≡ frame.front.items ++ (drop 4096 (file_of_link tables.now) ++ frame.back.items)) }
+    ensures again { OnOk result
+        (IsImage (written (image_of tables.now)) × (spelled (written (image_of tables.now)) ≡ image_of tables.now)) }
 {
     let plan = &tables.plan;
     let lists = draft_lists(alloc, tables)?;
@@ -97,54 +102,36 @@ fn image_frame(alloc: Global, tables: &Tables) -> Result<Frame, AllocError>
     Ok(frame)
 }
 
-/// What stands behind the parts: the table, the stub, and these last bytes.
-fn back_of(
-    alloc: Global,
-    plan: &Plan,
-    parts: &[PlacedPart],
-    last: &[u8],
-) -> Result<Vec<u8>, AllocError>
-    requires { AreParts plan.now parts.now }
-    ensures { IfOk result (λ back. back.items
-        ≡ made_behind plan.now (4096 + length (laid_parts plan.now 4096 parts.now)) ++ last.now) }
-{
-    let mut back = Vec::new(alloc);
-    push_made(plan, start_of(plan, parts, parts.len()) as u64, &mut back)?;
-    back.extend_from_slice(last)?;
-    Ok(back)
-}
-
-/// The pieces of the file of these tables' image.
-fn laid_of<'r, 'l, 's, 'a, R: Threads>(
-    rt: &'r R,
-    alloc: Global,
-    tables: &'r Tables<'l, 's, 'a>,
-) -> Result<ImagePieces<'r, 'l, 's, 'a, R>, AllocError>
-    requires { IsSound tables.now }
-    ensures { IfOk result (λ pieces. whole pieces ≡ written (image_of tables.now)) }
-{
-    let plan = &tables.plan;
-    let Frame { front, back: last } = image_frame(alloc, tables)?;
-    let parts = parts_of(alloc, plan)?;
-    let back = back_of(alloc, plan, parts.as_slice(), last.as_slice())?;
-    Ok(ImagePieces {
-        rt,
-        plan,
-        parts,
-        front,
-        back,
-    })
-}
-
-/// The file of the image that [`ReadyLink::write`] makes, piece by piece. All fields must hold their values, which
-/// [`ReadyLink::overflow`] tests. Fails only when memory runs out.
-pub fn pieces_of<'r, 'l, 's, 'a, R: Threads>(
-    rt: &'r R,
-    alloc: Global,
-    ready: &'r ReadyLink<'l, 's, 'a>,
-) -> Result<ImagePieces<'r, 'l, 's, 'a, R>, AllocError>
-    requires { Links ready.now }
-    ensures { IfOk result (λ pieces. whole pieces ≡ written (image_of ready.now)) }
-{
-    laid_of(rt, alloc, ready.tables())
+impl<'l, 's, 'a> ReadyLink<'l, 's, 'a> {
+    /// The file of the image that [`write`](Self::write) makes, piece by piece. All fields must hold their values.
+    /// Fails only when memory runs out.
+    pub fn pieces<'r, R: Threads>(
+        &'r self,
+        rt: &'r R,
+        alloc: Global,
+    ) -> Result<ImagePieces<'r, 'l, 's, 'a, R>, AllocError>
+        requires { Links self.now }
+        ensures whole { IfOk result (λ pieces. whole pieces ≡ written (image_of self.now)) }
+        ensures again { OnOk result
+            (IsImage (written (image_of self.now)) × (spelled (written (image_of self.now)) ≡ image_of self.now)) }
+    {
+        let tables = &self.tables;
+        let plan = &tables.plan;
+        let Frame { front, back: last } = image_frame(alloc, tables)?;
+        let parts = parts_of(alloc, plan)?;
+        let mut back = Vec::new(alloc);
+        push_made(
+            plan,
+            start_of(plan, parts.as_slice(), parts.len()) as u64,
+            &mut back,
+        )?;
+        back.extend_from_slice(last.as_slice())?;
+        Ok(ImagePieces {
+            rt,
+            plan,
+            parts,
+            front,
+            back,
+        })
+    }
 }

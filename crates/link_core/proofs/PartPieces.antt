@@ -11,8 +11,7 @@ use Rattle.ports.specs.Pieces.{joined}
 use Rattle.tls_relocs.specs.Laid.{end_of}
 use Rattle.link_needs.specs.Linking.{Linking}
 use Rattle.link_core.specs.Bytes.{linked_section}
-use Rattle.link_core.specs.Laying.{Rise, laid_parts}
-use Rattle.image_pieces.specs.Pieces.{pieces_of}
+use Rattle.link_core.specs.Laying.{Rise, laid_parts, pieces_of}
 use Rattle.link_core.proofs.Laying.{cut}
 
 module _ (l : Linking) where

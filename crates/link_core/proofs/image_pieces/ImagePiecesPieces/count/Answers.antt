@@ -1,7 +1,7 @@
 use Rattle.std.proofs.Common.{◌∙◌, ap, refl}
 use Rattle.ports.specs.Pieces.{PiecesView}
-use Rattle.image_pieces.proofs.PartPieces.{as_many}
-use Rattle.image_pieces.proofs.pieces.ImagePiecesPieces.count.Goals as goal
+use Rattle.link_core.proofs.PartPieces.{as_many}
+use Rattle.link_core.proofs.image_pieces.ImagePiecesPieces.count.Goals as goal
 
 pub returns : goal.returns
 returns g c =

@@ -2,8 +2,8 @@ use Rattle.std.proofs.Common.{List, ap, length, take, arith}
 use Rattle.placed_sections.specs.declared.part.PlacedPart.{PlacedPart}
 use Rattle.ports.specs.Pieces.{PiecesView, joined}
 use Rattle.link_core.specs.Laying.{laid_parts}
-use Rattle.image_pieces.proofs.PartPieces.{as_many, front_size}
-use Rattle.image_pieces.proofs.pieces.ImagePiecesPieces.start.Goals as goal
+use Rattle.link_core.proofs.PartPieces.{as_many, front_size}
+use Rattle.link_core.proofs.image_pieces.ImagePiecesPieces.start.Goals as goal
 
 pub start_of-requires-clause-inside : goal.start_of-requires-clause-inside
 start_of-requires-clause-inside g c =
