@@ -1,7 +1,6 @@
 -- Why a command gives no output, and how that relates to the store.
-use Rattle.std.specs.Prelude.{◌≡◌, ◌≤◌, ℕ, Option, Result, Ok, Err}
+use Rattle.std.specs.Prelude.{◌≡◌, ◌≤◌, ℕ, Result, Ok, Err}
 use Rattle.ports.specs.Counts.{Counted}
-use Rattle.ports.specs.Files.{Files}
 use Rattle.command_replies.specs.declared.fault.CommandFault.{CommandFault}
 use Rattle.command_replies.specs.declared.fault.CommandFault.TheVariants as fault
 use Rattle.command_replies.specs.Statuses.{code_of}
@@ -13,14 +12,6 @@ StoreCounts before now (Ok x) = now ≡ before
 StoreCounts before now (Err fault.Store) = Counted before now
 StoreCounts before now (Err fault.OutOfMemory) = now ≡ before
 StoreCounts before now (Err (fault.Refused reply)) = (now ≡ before) × (5 ≤ code_of reply.status)
-
--- the files are as before if a command is refused or the store failed; if it succeeded, or ran out of memory for
--- saying so, they may differ
-abbrev pub KeepsFiles : {T : Type 0} → Option Files → Option Files → Result T CommandFault → Type 0
-KeepsFiles before after (Ok x) = Unit {0}
-KeepsFiles before after (Err fault.OutOfMemory) = Unit {0}
-KeepsFiles before after (Err fault.Store) = after ≡ before
-KeepsFiles before after (Err (fault.Refused reply)) = after ≡ before
 
 -- the command did not give up because of the store; a refusal has a status of its own
 abbrev pub IsNoStoreFault : CommandFault → Type 0

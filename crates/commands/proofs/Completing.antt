@@ -141,7 +141,7 @@ task_done fs after (Check job) status text good says =
     let own = ends None VerdictSays true Kept fs job good refl (λ name there. tt) status text says in verdict_done _ status text own.linked.says
 task_done fs after (Link job image out rewriting) status text has_it says =
     let own =
-    ends (Some image) (OfImage image (λ j number. IsPut fs after image out)) (is_allowed rewriting) Kept fs job has_it.good
+    ends (Some image) (OfImage image (λ j number. IsPut (Some fs) after image out)) (is_allowed rewriting) Kept fs job has_it.good
     (has_declared has_it.good.job image has_it.declared) (λ name there. tt) status text says
     in
     own.linked.says.says.says.says.0

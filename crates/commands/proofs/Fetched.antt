@@ -29,12 +29,14 @@ module _ (E : Ending) (relax : Bool) (w : WritableSections) (fs : Files) (job : 
   pub objects_say : (status : ℕ) (text : List ℕ) → BytesSay E relax w (bytes_in files) job status text → ObjectsSay E relax w fs job status text
   objects_say status text says = record { there = are.there; says = at_files status text says }
 
-pub files_say : (E : Ending) (relax : Bool) (w : WritableSections) (old : Option Files) (job : JobParts) (files : Fetched) → IfSome old (λ fs. AreFilesOf fs (object_names job) files)
+-- E: by the files before the last step, which are those that were fetched from
+pub files_say : (E : Option Files → Ending) (relax : Bool) (w : WritableSections) (old mid : Option Files) → mid ≡ old → (job : JobParts) (files : Fetched) → IfSome old (λ fs. AreFilesOf fs (object_names job) files)
     → ((k : ℕ) → 1 ≤ k → k ≤ length job.images → Contains job.mentions k) → (r : Result Text CommandFault)
-    → Comes items (BytesSay E relax w (bytes_in files) job) r → IfSome old (λ fs. Comes items (ObjectsSay E relax w fs job) r)
-files_say E relax w None job files are every r says = tt
-files_say E relax w (Some fs) job files are every r says =
-    comes_by (BytesSay E relax w (bytes_in files) job) (ObjectsSay E relax w fs job) r (objects_say E relax w fs job files are every) says
+    → Comes items (BytesSay (E mid) relax w (bytes_in files) job) r → IfSome old (λ fs. Comes items (ObjectsSay (E (Some fs)) relax w fs job) r)
+files_say E relax w None mid same job files are every r says = tt
+files_say E relax w (Some fs) mid same job files are every r says =
+    comes_by (BytesSay (E (Some fs)) relax w (bytes_in files) job) (ObjectsSay (E (Some fs)) relax w fs job) r (objects_say (E (Some fs)) relax w fs job files are every)
+    (subst (λ (m : Option Files). Comes items (BytesSay (E m) relax w (bytes_in files) job) r) same says)
 
 -- ** images
 

@@ -1,45 +1,45 @@
--- What is made of one image: its file, or the lines of its sites.
+-- What is made of one image: the file that is put, or the lines of its sites.
 use Rattle.std.proofs.Common.{◌≡◌, ◌∙◌, ◌+◌, ◌<◌, ℕ, zero, suc, List, All, [], ◌∷◌, get_or, length, map, refl, sym, ap, subst, arith}
-use Rattle.std.specs.Prelude.{IfOk, Result, Ok, Err}
+use Rattle.std.specs.Prelude.{IfOk, Option, Result, Ok, Err}
 use Rattle.std.specs.Option.{option_map_or}
 use Rattle.std.proofs.lemmas.List.{length-map}
+use Rattle.command_replies.specs.declared.fault.CommandFault.{CommandFault}
+use Rattle.command_replies.specs.Steps.{Comes}
 use Rattle.dynamic_symbols.specs.Laws.{SitesHaveSymbols}
-use Rattle.image_file.specs.Spelled.{Spelled}
-use Rattle.image_writer.specs.Loadable.{HoldsTls}
-use Rattle.image_writer.specs.Outlined.{outline_of}
 use Rattle.image_writer.specs.Written.{written}
 use Rattle.job_link.specs.Given.{Given, IsGiven as IsGivenImage}
 use Rattle.job_link.specs.Linked.{link_in}
 use Rattle.job_text.specs.declared.images.Image.{Image}
 use Rattle.job_text.specs.Jobs.{JobParts}
-use Rattle.link_core.specs.Faults.{Links}
-use Rattle.link_core.specs.Images.{LinkedImage, image_of, linked_of}
-use Rattle.link_core.specs.Laws.{ImagesHoldTls}
-use Rattle.link_needs.specs.Given.{IsGiven}
+use Rattle.link_core.specs.Images.{image_of}
 use Rattle.link_needs.specs.Linking.{Linking, choice, choices_from}
+use Rattle.ports.specs.Files.{Files, with_file}
 use Rattle.relax_sites.specs.declared.choices.Choice.{Choice}
 use Rattle.sequence_forms.specs.declared.places.Site.{Site}
 use Rattle.commands.specs.InOrder.{AreLinked}
 use Rattle.commands.specs.Jobs.{objects_of}
-use Rattle.commands.specs.Links.{AreLines, HaveLines, IsFile, OfLink, lines_of}
+use Rattle.commands.specs.Links.{AreLines, HaveLines, IsPut, OfLink, Output, linked_text, lines_of}
 use Rattle.commands.proofs.Places.{both_at, mapped_at, some_at}
 use Rattle.commands.proofs.Ready.{count, count_linked}
+use Rattle.commands.proofs.Saying.{Text, comes_by, items}
 
--- ** a file
+-- ** one image
 
 module _ (ls : List Linking) (place : ℕ) (l : Linking) (below : place < length ls) (l_is : l ≡ get_or ls place l) where
   pub its : (P : Linking → Type 0) → All P ls → P l
   its P all = subst P (sym l_is) (all place l below)
 
-  pub can_write : ImagesHoldTls → All IsGiven ls → All Links ls → (linked : LinkedImage) → linked ≡ linked_of l → HoldsTls (outline_of linked.image)
-  unfolding linked_of
-  can_write tls given links linked e = subst (λ s. HoldsTls (outline_of s)) (sym (ap (λ v. v.image) e)) (tls l (its IsGiven given) (its Links links))
+  pub says_at : (O : Output) (r : Result Text CommandFault) → Comes items (O l) r → Comes items (OfLink place O ls) r
+  says_at O r = comes_by (O l) (OfLink place O ls) r (λ status text says. record { link = l; there = some_at ls place l below l_is; says = says })
 
-  pub is_file : {V E : Type 0} (items : V → List ℕ) (result : Result V E) (image : Spelled) → image ≡ image_of l
-      → IfOk result (λ file. items file ≡ written image) → IfOk result (λ file. OfLink place IsFile ls 0 (items file))
-  is_file items (Ok file) image e is =
-      record { link = l; there = some_at ls place l below l_is; says = (refl, is ∙ ap written e) }
-  is_file items (Err none) image e is = tt
+-- ** its file
+
+pub is_put : (before after : Option Files) (image out : List ℕ) (l : Linking) (file text : List ℕ) → file ≡ written (image_of l) → after ≡ with_file out file before
+    → text ≡ linked_text image (length file) → IsPut before after image out l 0 text
+is_put before after image out l file text file_is after_is text_is = record {
+  files_are = after_is ∙ ap (λ b. with_file out b before) file_is;
+  says = (refl, text_is ∙ ap (λ (b : List ℕ). linked_text image (length b)) file_is);
+}
 
 -- ** lines
 

@@ -14,7 +14,6 @@ mod Membership
 mod Mentioned
 mod NoFault
 mod Places
-mod Putting
 mod Raced
 mod Ready
 mod SameGiven

@@ -59,7 +59,7 @@ module _ (job : JobParts) (images : List Given) (ls : List Linking) (are : AreLi
       let few : length images ≤ 64 = omega (arith, count, are.few) in
       All-weaker IsGivenImage (λ g. IsGiven (link_in images are.relax g)) (λ g own. is_given images are.relax g few own) images are.given.given
 
-  pub all_given : All IsGiven ls
+  all_given : All IsGiven ls
   all_given = each IsGiven given
 
   pub all_link : All Links ls

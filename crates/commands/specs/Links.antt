@@ -1,10 +1,11 @@
 -- What `link` and `sites` say over the files of a store.
 use Rattle.std.specs.Prelude.{◌≡◌, ◌+◌, ◌<◌, ◌⊎◌, ℕ, true, List, [], ◌++◌, codes, length, slice_get, slice_index_or}
-use Rattle.std.specs.Prelude.{Option, Some, None}
+use Rattle.std.specs.Prelude.{Option, Some, None, Result, Ok, Err}
 use Rattle.std.specs.Fmt.{decimal}
 use Rattle.std.specs.List.{flat_map, range_with_len}
 use Rattle.command_line.specs.declared.tasks.Rewriting.{Rewriting}
 use Rattle.command_line.specs.Rewritings.{is_allowed}
+use Rattle.command_replies.specs.declared.fault.CommandFault.{CommandFault}
 use Rattle.command_replies.specs.Says.{Is}
 use Rattle.image_writer.specs.Written.{written}
 use Rattle.job_link.specs.declared.writable.WritableSections.TheVariants.{Kept}
@@ -42,14 +43,10 @@ abbrev pub Output : Type 1
 Output = Linking → ℕ → List ℕ → Type 0
 
 -- `link`: the file holds the whole written image, and the other files are as before
-pub record IsPut (fs : Files) (after : Option Files) (image out : List ℕ) (l : Linking)
+pub record IsPut (before after : Option Files) (image out : List ℕ) (l : Linking)
     (status : ℕ) (text : List ℕ) : Type 0 where
-  pub files_are : after ≡ with_file out (written (image_of l)) (Some fs)
+  pub files_are : after ≡ with_file out (written (image_of l)) before
   pub says : Is 0 (linked_text image (length (written (image_of l)))) status text
-
--- before the put: the bytes of that file
-abbrev pub IsFile : Output
-IsFile l status text = Is 0 (written (image_of l)) status text
 
 -- `sites`: the lines of the sites of its objects, which have these names
 abbrev pub AreLines : List (List ℕ) → Output
@@ -73,7 +70,7 @@ pub record OfImage (name : List ℕ) (O : JobParts → ℕ → Output) (job : Jo
 -- `link JOB IMAGE OUT [--no-relax]`; the second files are those after it
 abbrev pub LinkSays : Files → Option Files → List ℕ → List ℕ → List ℕ → Rewriting → ℕ → List ℕ → Type 0
 LinkSays fs after job image out rewriting status text =
-    FileSays (Some image) (OfImage image (λ own number. IsPut fs after image out))
+    FileSays (Some image) (OfImage image (λ own number. IsPut (Some fs) after image out))
     (is_allowed rewriting) Kept fs job status text
 
 -- `sites JOB IMAGE`
@@ -85,6 +82,12 @@ SitesSays fs job image status text =
 abbrev pub Leaves : Option Files → Option Files → (Files → ℕ → List ℕ → Type 0) → Type 0
 Leaves None after Says = after ≡ None
 Leaves (Some fs) after Says = (after ≡ Some fs) ⊎ ((text : List ℕ) × Says fs 0 text)
+
+-- the files after a step of a command that puts a file of that name, or none: as before, but where it is put
+abbrev pub FilesAfter : {T : Type 0} → Option (List ℕ) → Option Files → Option Files → Result T CommandFault → Type 0
+FilesAfter None before after result = after ≡ before
+FilesAfter (Some out) before after (Ok x) = (bytes : List ℕ) × (after ≡ with_file out bytes before)
+FilesAfter (Some out) before after (Err fault) = after ≡ before
 
 -- ---- the names asked for: the job, and then its objects, if it has the image
 abbrev pub image_names : Files → List ℕ → List ℕ → List (List ℕ)

@@ -16,38 +16,48 @@ use Rattle.commands.specs.declared.purpose.Purpose.{Purpose}
 use Rattle.commands.specs.declared.purpose.Purpose.TheVariants.{Run, Check, File, Sites}
 use Rattle.commands.specs.Checks.{VerdictSays}
 use Rattle.commands.specs.Jobs.{FileSays, JobSays, objects_of}
-use Rattle.commands.specs.Links.{AreLines, IsFile, OfImage, OfLink}
+use Rattle.commands.specs.Links.{AreLines, IsPut, OfImage, OfLink}
 use Rattle.commands.specs.RunJobs.{IsRun}
 
 -- the name of the image that a command is about
 abbrev pub wanted_by : Purpose → Option (List ℕ)
 wanted_by (Run telling) = None
 wanted_by Check = None
-wanted_by (File image) = Some image.now
+wanted_by (File put) = Some put.image.now
 wanted_by (Sites image) = Some image.now
 
--- what is said if all images link
-abbrev pub Tells : Purpose → JobParts → List Linking → ℕ → List ℕ → Type 0
-Tells (Run telling) job ls status text = IsRun telling job ls status text
-Tells Check job ls status text = VerdictSays job ls status text
-Tells (File image) job ls status text = OfImage image.now (λ own number. IsFile) job ls status text
-Tells (Sites image) job ls status text =
+-- the name of the file that it puts
+abbrev pub put_by : Purpose → Option (List ℕ)
+put_by (Run telling) = None
+put_by Check = None
+put_by (File put) = Some put.out.now
+put_by (Sites image) = None
+
+-- what is said if all images link, with the files before and after
+abbrev pub Tells : Purpose → Option Files → Option Files → JobParts → List Linking → ℕ → List ℕ → Type 0
+Tells (Run telling) before after job ls status text = IsRun telling job ls status text
+Tells Check before after job ls status text = VerdictSays job ls status text
+Tells (File put) before after job ls status text =
+    OfImage put.image.now (λ own number. IsPut before after put.image.now put.out.now) job ls status text
+Tells (Sites image) before after job ls status text =
     OfImage image.now (λ own number. AreLines (objects_of own number)) job ls status text
 
-abbrev pub JobTold : Purpose → Rewriting → Files → Result JobParts JobFault → ℕ → List ℕ → Type 0
-JobTold purpose rewriting fs job status text =
-    JobSays (wanted_by purpose) (Tells purpose) (is_allowed rewriting) Kept fs job status text
+-- the second files are those after the command
+abbrev pub JobTold : Purpose → Rewriting → Files → Option Files → Result JobParts JobFault → ℕ → List ℕ → Type 0
+JobTold purpose rewriting fs after job status text =
+    JobSays (wanted_by purpose) (Tells purpose (Some fs) after) (is_allowed rewriting) Kept fs job status text
 
-abbrev pub FileTold : Purpose → Rewriting → Files → List ℕ → ℕ → List ℕ → Type 0
-FileTold purpose rewriting fs name status text =
-    FileSays (wanted_by purpose) (Tells purpose) (is_allowed rewriting) Kept fs name status text
+abbrev pub FileTold : Purpose → Rewriting → Files → Option Files → List ℕ → ℕ → List ℕ → Type 0
+FileTold purpose rewriting fs after name status text =
+    FileSays (wanted_by purpose) (Tells purpose (Some fs) after) (is_allowed rewriting) Kept fs name status text
 
 -- ---- with the image found
 
 abbrev pub Finds : Purpose → JobParts → Placed → Type 0
 Finds (Run telling) job ending = ending ≡ found.Run telling
 Finds Check job ending = ending ≡ found.Check
-Finds (File image) job (found.File place) = image_number job.images image.now ≡ Some (place + 1)
+Finds (File put) job (found.File place own) =
+    (own ≡ put) × (image_number job.images put.image.now ≡ Some (place + 1))
 Finds (Sites image) job (found.Sites place) = image_number job.images image.now ≡ Some (place + 1)
 Finds purpose job ending = ⊥
 
@@ -55,7 +65,7 @@ Finds purpose job ending = ⊥
 abbrev pub IsWithin : Placed → JobParts → Type 0
 IsWithin (found.Run telling) job = Unit {0}
 IsWithin found.Check job = Unit {0}
-IsWithin (found.File place) job = place < length job.images
+IsWithin (found.File place put) job = place < length job.images
 IsWithin (found.Sites place) job = place < length job.images
 
 -- the fault of a name without an image
@@ -63,8 +73,16 @@ abbrev pub IsMissing : Bool → JobFault → Type 0
 IsMissing true fault = ⊥
 IsMissing false fault = fault ≡ At 0 Name
 
-abbrev pub Makes : Placed → JobParts → List Linking → ℕ → List ℕ → Type 0
-Makes (found.Run telling) job ls status text = IsRun telling job ls status text
-Makes found.Check job ls status text = VerdictSays job ls status text
-Makes (found.File place) job ls status text = OfLink place IsFile ls status text
-Makes (found.Sites place) job ls status text = OfLink place (AreLines (objects_of job place)) ls status text
+abbrev pub puts : Placed → Option (List ℕ)
+puts (found.Run telling) = None
+puts found.Check = None
+puts (found.File place put) = Some put.out.now
+puts (found.Sites place) = None
+
+abbrev pub Makes : Placed → Option Files → Option Files → JobParts → List Linking → ℕ → List ℕ → Type 0
+Makes (found.Run telling) before after job ls status text = IsRun telling job ls status text
+Makes found.Check before after job ls status text = VerdictSays job ls status text
+Makes (found.File place put) before after job ls status text =
+    OfLink place (IsPut before after put.image.now put.out.now) ls status text
+Makes (found.Sites place) before after job ls status text =
+    OfLink place (AreLines (objects_of job place)) ls status text

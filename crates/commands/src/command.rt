@@ -1,7 +1,7 @@
 //! The commands: the steps of each, from its words to its output, in the order in which their faults come.
-ghost use Rattle.std.specs.Prelude.{◌≡◌, [], ◌∷◌, IfOk, IfSome};
+ghost use Rattle.std.specs.Prelude.{◌≡◌, [], ◌∷◌, IfOk, IfSome, OnErr};
 ghost use Rattle.command_line.specs.Words.{IsInLimits};
-ghost use Rattle.command_replies.specs.Faults.{StoreCounts, NoStoreFault, KeepsFiles};
+ghost use Rattle.command_replies.specs.Faults.{StoreCounts, NoStoreFault};
 ghost use Rattle.command_replies.specs.Steps.{Asks, Comes};
 ghost use Rattle.image_text.specs.Shown.{shown};
 ghost use Rattle.commands.specs.Links.{SitesSays, image_names};
@@ -9,8 +9,8 @@ ghost use Rattle.commands.specs.Listings.{ListingSays};
 ghost use Rattle.commands.specs.Tasks.{ShowSays, TaskLeaves, TaskSays, task_names};
 
 use crate::generated::generated;
-use crate::links::{Put, link};
-use crate::purpose::Purpose;
+use crate::links::link;
+use crate::purpose::{Purpose, Put};
 use crate::telling::Telling;
 use crate::told::told;
 use command_line::{Rewriting, Task};
@@ -31,7 +31,7 @@ pub fn output<R: Threads + Sync, S: Store>(
 ) -> Result<Vec<u8>, CommandFault>
     requires { IsInLimits task.now }
     ensures files { TaskLeaves (S.files store.old) (S.files store.new) task.now }
-    ensures kept { KeepsFiles (S.files store.old) (S.files store.new) result }
+    ensures kept { OnErr result (S.files store.new ≡ S.files store.old) }
     ensures cause { StoreCounts (S.faults store.old) (S.faults store.new) result }
     ensures says { IfSome (S.files store.old) (λ fs. Comes (λ text. text.items)
         (TaskSays fs (S.files store.new) task.now) result) }
@@ -61,7 +61,7 @@ pub fn output<R: Threads + Sync, S: Store>(
         }
         Task::Sites { job, image } => sites(rt, alloc, store, job.as_str(), image.as_str()),
         Task::Show { file } => show(alloc, store, file.as_str()),
-        Task::Gen { count } => generated(rt, alloc, *count),
+        Task::Gen { count } => generated(rt, alloc, store, *count),
     }
 }
 

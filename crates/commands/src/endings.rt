@@ -1,49 +1,59 @@
 //! The last step of each command, for a job whose images all link.
 //!
-//! The images are ready to be written, and no byte of them is laid. `run` writes them all, `link` writes only the one
-//! that it puts, and `check` and `sites` write none.
-ghost use Rattle.std.specs.Prelude.{◌<◌, All, IfOk, length};
-ghost use Rattle.command_replies.specs.Faults.{NoStoreFault};
+//! The images are ready to be written, and no byte of them is laid. `run` writes them all; `link` puts one, whose bytes
+//! are made piece by piece as the store asks for them; and `check` and `sites` write none.
+ghost use Rattle.std.specs.Prelude.{◌≡◌, IfOk, Some};
+ghost use Rattle.command_replies.specs.Faults.{NoStoreFault, StoreCounts};
 ghost use Rattle.command_replies.specs.Steps.{Comes};
 ghost use Rattle.commands.specs.InOrder.{AreLinked};
-ghost use Rattle.commands.specs.Links.{IsFile, OfLink};
-ghost use Rattle.commands.specs.Purposes.{IsWithin, Makes};
+ghost use Rattle.commands.specs.Links.{FilesAfter, IsPut, linked_text};
+ghost use Rattle.commands.specs.Purposes.{IsWithin, Makes, puts};
 ghost use Rattle.commands.specs.RunJobs.{IsRun};
 ghost use Rattle.link_core.specs.Faults.{Links};
-ghost use Rattle.link_needs.specs.Given.{IsGiven};
 
 use crate::checks::verdict_line;
-use crate::purpose::Ending;
+use crate::purpose::{Ending, Put};
 use crate::runs::{are_of_few, told_run};
 use crate::site_lines::image_lines;
 use crate::telling::Telling;
 use command_replies::CommandFault;
-use image_writer::into_file;
 use job_link::ImageObjects;
 use job_text::Job;
 use link_core::ReadyLink;
-use link_core::laws::images_hold_tls;
+use ports::Store;
 use std::alloc::{AllocError, Global};
 use std::thread::Threads;
 
+/// A job with the objects of its images, all of which are ready to be written.
+#[derive(Drop)]
+pub struct LinkedJob<'j, 'i, 'a> {
+    pub job: &'j Job,
+    pub images: &'i [ImageObjects<'a>],
+    pub ready: Vec<ReadyLink<'i, 'i, 'a>>,
+}
+
 /// Ends the command for a job whose images are ready: returns its output, or a refusal.
-pub fn ended<R: Threads + Sync>(
+pub fn ended<R: Threads + Sync, S: Store>(
     rt: &R,
     alloc: Global,
-    job: &Job,
-    images: &[ImageObjects],
-    ready: Vec<ReadyLink>,
+    store: &mut S,
+    linked: LinkedJob,
     ending: Ending,
 ) -> Result<Vec<u8>, CommandFault>
-    requires linked { AreLinked job.now images.now ready.items }
-    requires place { IsWithin ending job.now }
-    ensures says { Comes (λ text. text.items) (Makes ending job.now ready.entry.items) result }
-    ensures cause { NoStoreFault result }
+    requires linked { AreLinked linked.job.now linked.images.now linked.ready.items }
+    requires place { IsWithin ending linked.job.now }
+    ensures files { FilesAfter (puts ending.entry) (S.files store.old) (S.files store.new) result }
+    ensures cause { StoreCounts (S.faults store.old) (S.faults store.new) result }
+    ensures says { Comes (λ text. text.items)
+        (Makes ending.entry (S.files store.old) (S.files store.new)
+        linked.entry.job.now linked.entry.ready.items) result }
+    ensures asked { S.asked store.new ≡ S.asked store.old }
 {
+    let LinkedJob { job, images, ready } = linked;
     match ending {
         Ending::Run(telling) => run(rt, alloc, job, images, ready, telling),
         Ending::Check => verdict_line(alloc, job, ready),
-        Ending::File { place } => Ok(file_of(rt, alloc, ready, place)?),
+        Ending::File { place, put } => put_image(rt, alloc, store, &ready[place], put),
         Ending::Sites { place } => Ok(image_lines(alloc, job, images, ready, place)?),
     }
 }
@@ -68,20 +78,31 @@ fn run<R: Threads + Sync>(
     }
 }
 
-/// The file of the image at that place. The other images are dropped unwritten.
-fn file_of<R: Threads + Sync>(
+/// Puts the image of this link, and returns the line that says so. The put comes last: where it or a step before it
+/// fails, the files are as before.
+fn put_image<R: Threads + Sync, S: Store>(
     rt: &R,
     alloc: Global,
-    ready: Vec<ReadyLink>,
-    place: usize,
-) -> Result<Vec<u8>, AllocError>
-    requires place { place < length ready.items }
-    requires given { All IsGiven ready.items }
-    requires links { All Links ready.items }
-    ensures { IfOk result (λ file. OfLink place IsFile ready.entry.items 0 file.items) }
+    store: &mut S,
+    link: &ReadyLink,
+    put: Put,
+) -> Result<Vec<u8>, CommandFault>
+    requires links { Links link.now }
+    ensures files { FilesAfter (Some put.entry.out.now) (S.files store.old) (S.files store.new) result }
+    ensures cause { StoreCounts (S.faults store.old) (S.faults store.new) result }
+    ensures says { Comes (λ text. text.items) (IsPut (S.files store.old) (S.files store.new)
+        put.entry.image.now put.entry.out.now link.now) result }
+    ensures asked { S.asked store.new ≡ S.asked store.old }
 {
-    images_hold_tls();
-    let mut ready = ready;
-    let linked = ready.swap_remove(place).write(rt, alloc)?;
-    into_file(alloc, linked.image)
+    let pieces = link.pieces(rt, alloc)?;
+    let line = linked_line(alloc, put.image, pieces.size())?;
+    store.put_pieces(put.out, &pieces)?;
+    Ok(line)
+}
+
+/// The line for an image that is put, with its length.
+fn linked_line(alloc: Global, image: &str, size: usize) -> Result<Vec<u8>, AllocError>
+    ensures { IfOk result (λ text. text.items ≡ linked_text image.now size) }
+{
+    Ok(format!(in alloc; "linked {image} {size}\n")?.into_bytes())
 }

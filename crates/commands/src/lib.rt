@@ -19,9 +19,9 @@
 //! images; and links all images. No byte of an image is laid until then. Only then does a command go its own way
 //! (`endings`): `run` (`runs`) writes all images, reads them back, runs the job's threads over them and prints the
 //! transcript; `check` (`checks`) says whether what they do is decided by the objects alone, or depends on what a
-//! linker chooses; `sites` (`site_lines`) prints what stands in the place of each sequence; and `link` (`links`) writes
-//! only its image, and puts the file into the store, whole. `gen` (`generated`) is `run` of a job that it makes instead
-//! of fetching it. `race` (`races`) is `run` without an order: each thread of the job in a thread of its own
+//! linker chooses; `sites` (`site_lines`) prints what stands in the place of each sequence; and `link` (`links`) puts
+//! its image into the store, which asks for the bytes piece by piece. `gen` (`generated`) is `run` of a job that it makes
+//! instead of fetching it. `race` (`races`) is `run` without an order: each thread of the job in a thread of its own
 //! (`race_runs`). Only `race` may wait, so its steps stand next to those of the others, which are tasks.
 //!
 //! `run` and `check` are tied: if `check` says `clean`, `run` prints what the objects mean, event by event and line by
@@ -35,8 +35,8 @@
 //! Each step may end the command, with a `CommandFault`; a `Reply` holds its status and its line, which reach the
 //! sink in one piece (`command_replies`).
 //!
-//! Only `link` changes the store's files, and only by one put, of a whole file, as its last step: a refused command
-//! leaves the files as they were, and one that reports success has put the whole file.
+//! Only `link` changes the store's files, and only by one put, of a whole file, behind which no step of it can fail: a
+//! command that gives no output leaves the files as they were, and one that reports success has put the whole file.
 #![tactic(auto)]
 
 mod checks;

@@ -3,22 +3,23 @@
 //! `run`, `check`, `link` and `sites` take these steps, and so does `gen`, which begins with files that it
 //! made. The command (`Purpose`) decides only the last step (`endings`). Each function returns the
 //! command's output, or a refusal.
-ghost use Rattle.std.specs.Prelude.{◌≡◌, ℕ, List, IfSome, map};
+ghost use Rattle.std.specs.Prelude.{◌≡◌, ℕ, List, IfSome, Some, map};
 ghost use Rattle.command_line.specs.Rewritings.{is_allowed};
-ghost use Rattle.command_replies.specs.Faults.{NoStoreFault, StoreCounts};
+ghost use Rattle.command_replies.specs.Faults.{StoreCounts};
 ghost use Rattle.command_replies.specs.Steps.{Asks, Comes};
 ghost use Rattle.commands.specs.InOrder.{AreInOrder};
 ghost use Rattle.commands.specs.Jobs.{BytesSay, ImagesSay, ObjectsSay, asked_names, job_names};
-ghost use Rattle.commands.specs.Purposes.{FileTold, IsWithin, JobTold, Makes, wanted_by};
+ghost use Rattle.commands.specs.Links.{FilesAfter};
+ghost use Rattle.commands.specs.Purposes.{FileTold, IsWithin, JobTold, Makes, put_by, puts, wanted_by};
 ghost use Rattle.job_link.specs.declared.writable.WritableSections.TheVariants.{Kept};
 ghost use Rattle.job_link.specs.Given.{AreGiven};
 ghost use Rattle.job_link.specs.Mentions.{bytes_in, object_names};
 ghost use Rattle.job_text.specs.Jobs.{job_of as job_of_text};
 ghost use Rattle.elf_records.specs.Fields.{AreBytes};
 
-use crate::endings::ended;
+use crate::endings::{LinkedJob, ended};
 use crate::laws::images_are_in_order;
-use crate::purpose::{Ending, Purpose};
+use crate::purpose::{Course, Purpose};
 use command_line::Rewriting;
 use command_replies::{
     CommandFault, job_of, job_refusal, link_refusal, object_refusal, whole_file,
@@ -33,6 +34,7 @@ use std::alloc::Global;
 use std::thread::Threads;
 
 /// Fetches the job in the file of that name, and goes on.
+#[tactic(auto, using(crate::proofs::Kept::gives_up))]
 pub fn told<R: Threads + Sync, S: Store>(
     rt: &R,
     alloc: Global,
@@ -41,10 +43,10 @@ pub fn told<R: Threads + Sync, S: Store>(
     rewriting: Rewriting,
     purpose: Purpose,
 ) -> Result<Vec<u8>, CommandFault>
-    ensures files { S.files store.new ≡ S.files store.old }
+    ensures files { FilesAfter (put_by purpose.entry) (S.files store.old) (S.files store.new) result }
     ensures cause { StoreCounts (S.faults store.old) (S.faults store.new) result }
     ensures says { IfSome (S.files store.old) (λ fs. Comes (λ text. text.items)
-        (FileTold purpose.entry rewriting fs name.now) result) }
+        (FileTold purpose.entry rewriting fs (S.files store.new) name.now) result) }
     ensures asks { IfSome (S.files store.old) (λ fs. Asks (asked_names fs name.now (wanted_by purpose.entry))
         (S.asked store.old) (S.asked store.new) result) }
 {
@@ -55,6 +57,7 @@ pub fn told<R: Threads + Sync, S: Store>(
 }
 
 /// Reads the job of a text, and goes on. An image that it does not have is refused before its objects are fetched.
+#[tactic(auto, using(crate::proofs::Kept::gives_up))]
 fn told_of_text<R: Threads + Sync, S: Store>(
     rt: &R,
     alloc: Global,
@@ -63,17 +66,17 @@ fn told_of_text<R: Threads + Sync, S: Store>(
     rewriting: Rewriting,
     purpose: Purpose,
 ) -> Result<Vec<u8>, CommandFault>
-    ensures files { S.files store.new ≡ S.files store.old }
+    ensures files { FilesAfter (put_by purpose.entry) (S.files store.old) (S.files store.new) result }
     ensures cause { StoreCounts (S.faults store.old) (S.faults store.new) result }
     ensures says { IfSome (S.files store.old) (λ fs. Comes (λ text. text.items)
-        (JobTold purpose.entry rewriting fs (job_of_text text.now)) result) }
+        (JobTold purpose.entry rewriting fs (S.files store.new) (job_of_text text.now)) result) }
     ensures asks { Asks (job_names (wanted_by purpose.entry) (job_of_text text.now))
         (S.asked store.old) (S.asked store.new) result }
 {
     images_are_in_order();
     match job_of(alloc, text) {
         Ok(job) => match purpose.ending(&job) {
-            Ok(ending) => told_of_objects(rt, alloc, store, &job, rewriting, ending),
+            Ok(ending) => told_of_objects(rt, alloc, store, &job, Course { rewriting, ending }),
             Err(fault) => Err(CommandFault::Refused(job_refusal(alloc, fault)?)),
         },
         Err(fault) => Err(fault),
@@ -81,45 +84,50 @@ fn told_of_text<R: Threads + Sync, S: Store>(
 }
 
 /// Fetches the objects of a job, and goes on.
+#[tactic(auto, using(crate::proofs::Kept::gives_up))]
 fn told_of_objects<R: Threads + Sync, S: Store>(
     rt: &R,
     alloc: Global,
     store: &mut S,
     job: &Job,
-    rewriting: Rewriting,
-    ending: Ending,
+    course: Course,
 ) -> Result<Vec<u8>, CommandFault>
     requires order { AreInOrder (map (λ image. image.kind) job.now.images) }
-    requires place { IsWithin ending job.now }
-    ensures files { S.files store.new ≡ S.files store.old }
+    requires place { IsWithin course.ending job.now }
+    ensures files { FilesAfter (puts course.entry.ending) (S.files store.old) (S.files store.new) result }
     ensures cause { StoreCounts (S.faults store.old) (S.faults store.new) result }
     ensures says { IfSome (S.files store.old) (λ fs. Comes (λ text. text.items)
-        (ObjectsSay (Makes ending) (is_allowed rewriting) Kept fs job.now) result) }
+        (ObjectsSay (Makes course.entry.ending (Some fs) (S.files store.new)) (is_allowed course.entry.rewriting)
+        Kept fs job.now) result) }
     ensures asks { Asks (object_names job.now) (S.asked store.old) (S.asked store.new) result }
 {
     job.keeps_limits();
     let files = fetch_objects(rt, alloc, store, job)?;
-    told_of_files(rt, alloc, job, &files, rewriting, ending)
+    told_of_files(rt, alloc, store, job, &files, course)
 }
 
 /// Reads these files of a job, and goes on.
-pub fn told_of_files<R: Threads + Sync>(
+#[tactic(auto, using(crate::proofs::Kept::gives_up))]
+pub fn told_of_files<R: Threads + Sync, S: Store>(
     rt: &R,
     alloc: Global,
+    store: &mut S,
     job: &Job,
     files: &Files,
-    rewriting: Rewriting,
-    ending: Ending,
+    course: Course,
 ) -> Result<Vec<u8>, CommandFault>
     requires order { AreInOrder (map (λ image. image.kind) job.now.images) }
-    requires place { IsWithin ending job.now }
+    requires place { IsWithin course.ending job.now }
+    ensures files { FilesAfter (puts course.entry.ending) (S.files store.old) (S.files store.new) result }
+    ensures cause { StoreCounts (S.faults store.old) (S.faults store.new) result }
     ensures says { Comes (λ text. text.items)
-        (BytesSay (Makes ending) (is_allowed rewriting) Kept (bytes_in files.now) job.now) result }
-    ensures cause { NoStoreFault result }
+        (BytesSay (Makes course.entry.ending (S.files store.old) (S.files store.new))
+        (is_allowed course.entry.rewriting) Kept (bytes_in files.now) job.now) result }
+    ensures asked { S.asked store.new ≡ S.asked store.old }
 {
     files.are_bytes();
     match read_objects(rt, alloc, job, files, WritableSections::Kept) {
-        Ok(images) => told_of_images(rt, alloc, job, images.as_slice(), rewriting, ending),
+        Ok(images) => told_of_images(rt, alloc, store, job, images.as_slice(), course),
         Err(refusal) => {
             let reply = object_refusal(alloc, refusal.name, refusal.fault)?;
             Err(CommandFault::Refused(reply))
@@ -128,21 +136,25 @@ pub fn told_of_files<R: Threads + Sync>(
 }
 
 /// Links these images of a job, and ends the command.
-fn told_of_images<R: Threads + Sync>(
+#[tactic(auto, using(crate::proofs::Kept::gives_up))]
+fn told_of_images<R: Threads + Sync, S: Store>(
     rt: &R,
     alloc: Global,
+    store: &mut S,
     job: &Job,
     images: &[ImageObjects],
-    rewriting: Rewriting,
-    ending: Ending,
+    course: Course,
 ) -> Result<Vec<u8>, CommandFault>
     requires given { (bytes : List ℕ → List ℕ) × AreGiven bytes job.now images.now
         × ((name : List ℕ) → AreBytes (bytes name)) }
     requires order { AreInOrder (map (λ image. image.kind) job.now.images) }
-    requires place { IsWithin ending job.now }
+    requires place { IsWithin course.ending job.now }
+    ensures files { FilesAfter (puts course.entry.ending) (S.files store.old) (S.files store.new) result }
+    ensures cause { StoreCounts (S.faults store.old) (S.faults store.new) result }
     ensures says { Comes (λ text. text.items)
-        (ImagesSay (Makes ending) (is_allowed rewriting) job.now images.now) result }
-    ensures cause { NoStoreFault result }
+        (ImagesSay (Makes course.entry.ending (S.files store.old) (S.files store.new))
+        (is_allowed course.entry.rewriting) job.now images.now) result }
+    ensures asked { S.asked store.new ≡ S.asked store.old }
 {
     job.keeps_limits();
     let startup = startup_exports(alloc, images)?;
@@ -151,9 +163,12 @@ fn told_of_images<R: Threads + Sync>(
         alloc,
         images,
         startup.as_slice(),
-        rewriting.is_allowed(),
+        course.rewriting.is_allowed(),
     ) {
-        Ok(ready) => ended(rt, alloc, job, images, ready, ending),
+        Ok(ready) => {
+            let linked = LinkedJob { job, images, ready };
+            ended(rt, alloc, store, linked, course.ending)
+        }
         Err(refusal) => {
             let reply = link_refusal(alloc, job, refusal.number, refusal.fault)?;
             Err(CommandFault::Refused(reply))

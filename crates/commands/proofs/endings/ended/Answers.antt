@@ -1,23 +1,35 @@
-use Rattle.std.proofs.Common.{subst, arith, rules}
-use Rattle.commands.specs.Purposes.{IsWithin}
-use Rattle.commands.proofs.Ready.{all_given, all_link, count_linked}
+use Rattle.std.proofs.Common.{arith, subst, sym}
+use Rattle.command_replies.specs.Steps.{Comes}
+use Rattle.link_core.specs.Faults.{Links}
+use Rattle.commands.specs.Links.{IsPut}
+use Rattle.commands.specs.declared.purpose.Ending.{Ending}
+use Rattle.commands.specs.Purposes.{IsWithin, Makes}
+use Rattle.commands.proofs.ImageEndings.{its, says_at}
+use Rattle.commands.proofs.Ready.{all_link, count_linked}
+use Rattle.commands.proofs.Saying.{items}
 use Rattle.commands.proofs.endings.ended.Goals as goal
 
 pub verdict_line-requires : goal.verdict_line-requires
-verdict_line-requires g c = (c.args.images.now, c.requires.linked)
+verdict_line-requires g c = (c.args.linked.images.now, c.requires.linked)
 
-pub file_of-requires : goal.file_of-requires
-file_of-requires g c =
-    let job = c.args.job.now in
-    let images = c.args.images.now in
-    let ls = c.args.ready.items in
-    let within = subst (λ e. IsWithin e job) c.in-File.is c.requires.place in (
-      search rules,
-      (
-        omega (arith, within, count_linked job images ls c.requires.linked),
-        (
-          all_given job images ls c.requires.linked,
-          all_link job images ls c.requires.linked,
-        ),
-      ),
-    )
+pub put_image-requires-clause-links : goal.put_image-requires-clause-links
+put_image-requires-clause-links g c κs within =
+    let job = c.args.linked.job.now in
+    let images = c.args.linked.images.now in
+    let ls = c.args.linked.ready.items in
+    let inside = subst (λ e. IsWithin e job) c.in-File.is c.requires.place in
+    its ls c.in-File.place c.index.result.now (omega (arith, inside, count_linked job images ls c.requires.linked)) c.index.ensures Links
+    (all_link job images ls c.requires.linked)
+
+pub returns-in-File-clause-says : goal.returns-in-File-clause-says
+returns-in-File-clause-says g c =
+    let job = c.args.linked.job.now in
+    let images = c.args.linked.images.now in
+    let ls = c.args.linked.ready.items in
+    let before = g.S.Store.files c.args.store.now in
+    let after = g.S.Store.files c.put_image.new.store in
+    let put = c.in-File.put in
+    let inside = subst (λ e. IsWithin e job) c.in-File.is c.requires.place in
+    subst (λ (e : Ending). Comes items (Makes e before after job ls) c.put_image.result) (sym c.in-File.is)
+    (says_at ls c.in-File.place c.index.result.now (omega (arith, inside, count_linked job images ls c.requires.linked)) c.index.ensures
+    (IsPut before after put.image.now put.out.now) c.put_image.result c.put_image.ensures.says)

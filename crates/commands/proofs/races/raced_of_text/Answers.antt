@@ -8,7 +8,8 @@ use Rattle.commands.proofs.races.raced_of_text.Goals as goal
 
 pub returns-in_ok-files-in-Ok-clause-says : goal.returns-in_ok-files-in-Ok-clause-says
 returns-in_ok-files-in-Ok-clause-says g c =
-    rw c.in-Ok.ensures.job (files_say IsRace (is_allowed c.args.rewriting) Refused (g.S.Store.files c.args.store.now) c.in-Ok.job c.in_ok-files-in-Ok.files c.in_ok-files-in-Ok.ensures.bytes
+    rw c.in-Ok.ensures.job (files_say (λ before. IsRace) (is_allowed c.args.rewriting) Refused (g.S.Store.files c.args.store.now) (g.S.Store.files c.fetch_objects.new.store)
+    c.in_ok-files-in-Ok.ensures.files c.in-Ok.job c.in_ok-files-in-Ok.files c.in_ok-files-in-Ok.ensures.bytes
     c.keeps_limits.ensures.mentioned c.raced_of_files.result c.raced_of_files.ensures.says)
 
 pub returns-in_ok-files-in-Ok-clause-asks : goal.returns-in_ok-files-in-Ok-clause-asks

@@ -32,5 +32,5 @@ link_refusal-requires g c =
 
 pub returns-in-Ok-clause-says : goal.returns-in-Ok-clause-says
 returns-in-Ok-clause-says g c =
-    linked_say (Makes c.args.ending) c.is_allowed.result (is_allowed c.args.rewriting) c.is_allowed.ensures c.args.job.now c.args.images.now c.in-Ok.ready.items c.in-Ok.ensures.links
+    linked_say (Makes c.args.course.ending (g.S.Store.files c.args.store.now) (g.S.Store.files c.ended.new.store)) c.is_allowed.result (is_allowed c.args.course.rewriting) c.is_allowed.ensures c.args.job.now c.args.images.now c.in-Ok.ready.items c.in-Ok.ensures.links
     c.in-Ok.ensures.ready c.ended.result c.ended.ensures.says
