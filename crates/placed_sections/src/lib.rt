@@ -31,10 +31,9 @@
 //!
 //! What stands in a section is left open: any bytes, as many as it has in memory. `link_core` asks [`place_sections`]
 //! for the sections that have an address and bytes, in the order of the file, each with its offset; among them stands
-//! where a class ends. It asks [`first_page`] for the page that the file begins with, and for memory up to the end of
-//! the sections. Then it links each section by itself. The list is made in five walks over the sections: for code,
-//! constants, the initial image of thread-local storage, and data with bytes and without. No byte of a section is read
-//! for it.
+//! where a class ends. Then it links each section by itself. The list is made in five walks over the sections: for
+//! code, constants, the initial image of thread-local storage, and data with bytes and without. No byte of a section is
+//! read for it.
 //!
 //! [`laws`] states what the file holds, offset by offset: where it ends, that each section lies in it with what stands
 //! in it, and that zeros stand between them. `specs/Files` has the order of sections, and the file of any contents;
@@ -46,4 +45,4 @@ mod part;
 mod placing;
 
 pub use part::{PlacedPart, SectionRef};
-pub use placing::{first_page, offset_of, place_sections};
+pub use placing::{offset_of, place_sections};

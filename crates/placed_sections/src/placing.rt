@@ -8,7 +8,6 @@ ghost use Rattle.placed_sections.specs.Files.{end_mark, offset_of as file_offset
 ghost use Rattle.placed_sections.specs.Files.{placed_object, placed_section};
 ghost use Rattle.placed_sections.specs.Laws.{IsNear};
 ghost use Rattle.tls_layout.specs.Places.{address_of, IsLawful};
-ghost use Rattle.tls_relocs.specs.Laid.{zeros};
 
 use crate::part::{PlacedPart, SectionRef};
 use elf_object::{Object, SectionClass};
@@ -168,19 +167,4 @@ pub fn place_sections(
     push_class(placement, INITIAL_DATA, objects, &mut parts)?;
     push_class(placement, ZERO_DATA, objects, &mut parts)?;
     Ok(parts)
-}
-
-/// A page of zeros, where headers will stand. Memory is reserved up to the end of the sections. Fails only when memory
-/// runs out.
-#[tactic(auto, using(tls_layout::proofs::Bounds::room_above))]
-pub fn first_page(alloc: Global, placement: &Placement) -> Result<Vec<u8>, AllocError>
-    ensures len { IfOk result (λ file. length file.items ≡ 4096) }
-    ensures zeros { IfOk result (λ file. file.items ≡ zeros (length file.items)) }
-{
-    let mut file = Vec::with_capacity(
-        alloc,
-        offset_of(placement.kind(), placement.room()) as usize,
-    )?;
-    file.resize(PAGE as usize, 0)?;
-    Ok(file)
 }
