@@ -1,5 +1,5 @@
 -- The image that a command names, and the place where it is found.
-use Rattle.std.proofs.Common.{◌≡◌, ℕ, true, List, Option, Some, refl, sym, ap, subst}
+use Rattle.std.proofs.Common.{◌≡◌, ℕ, true, List, Option, Some, refl, ap, subst}
 use Rattle.std.specs.Prelude.{is_some}
 use Rattle.job_text.specs.Jobs.{JobParts}
 use Rattle.link_needs.specs.Linking.{Linking}
