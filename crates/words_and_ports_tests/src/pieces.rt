@@ -1,25 +1,25 @@
-//! Files that are put piece by piece: small pieces, empty ones, and one that is larger than a run.
-ghost use Rattle.std.specs.Prelude.{map};
+//! Files that are put piece by piece: a few pieces, and more bytes than a run has.
+ghost use Rattle.std.specs.Prelude.{[], ◌∷◌, map};
 
 use crate::disk::{Fault, FaultyDisk};
 use crate::files::{new_folder, path, read_back};
 use ports::{HostStore, MemoryStore, Pieces, PutFault, Store};
-use std::alloc::Global;
+use std::alloc::{AllocError, Global};
 use std::test::Fail;
 use std::{env, fs, io, process};
 
-/// A file of pieces that are there.
+/// A file whose pieces are single bytes that are there.
 #[derive(Clone, Copy)]
 struct Parts<'b> {
     front: &'b [u8],
-    pieces: &'b [&'b [u8]],
+    bytes: &'b [u8],
     back: &'b [u8],
 }
 
 impl<'b> Pieces for Parts<'b> {
     ghost view = { λ a. record {
       front = a.front.now;
-      pieces = map (λ piece. piece.now) a.pieces.now;
+      pieces = map (λ byte. byte ∷ []) a.bytes.now;
       back = a.back.now;
     } };
 
@@ -32,42 +32,30 @@ impl<'b> Pieces for Parts<'b> {
     }
 
     fn count(&self) -> usize {
-        self.pieces.len()
+        self.bytes.len()
     }
 
     fn start(&self, number: usize) -> usize {
-        let mut size = 0;
-        for piece in &self.pieces[..number] {
-            size += piece.len();
-        }
-        size
+        number
     }
 
-    /// Adds to what is there, so that bytes which are not zero show.
     fn make(&self, from: usize, to: usize, into: &mut [u8]) {
-        let mut at = 0;
-        for piece in &self.pieces[from..to] {
-            for &byte in piece.iter() {
-                into[at] += byte;
-                at += 1;
-            }
-        }
+        into.copy_from_slice(&self.bytes[from..to]);
     }
 }
 
 #[test]
 fn a_store_in_memory_joins_pieces(rt: HostRuntime) -> Result<(), Fail> {
-    let pieces = [b"first".as_slice(), b"second".as_slice()];
     let parts = Parts {
         front: b"<",
-        pieces: &pieces,
+        bytes: b"pieces",
         back: b">",
     };
     let mut store = MemoryStore::new(rt.alloc());
     store.fail_at(2);
     assert!(rt; store.put_pieces("a", &parts) == Ok(()));
     assert!(rt; store.put_pieces("b", &parts) == Err(PutFault::Failed));
-    assert!(rt; store.get("a") == Some(b"<firstsecond>".as_slice()) && store.faults() == 1);
+    assert!(rt; store.get("a") == Some(b"<pieces>".as_slice()) && store.faults() == 1);
     assert!(rt; store.get("b").is_none());
     Ok(())
 }
@@ -92,23 +80,22 @@ fn put_twice(
     Ok((refused, read_back(rt, alloc, file.as_str())?))
 }
 
+/// Bytes for several runs, such that no two runs begin alike.
+fn unlike_bytes(alloc: Global) -> Result<Vec<u8>, AllocError> {
+    let mut bytes = vec![in alloc; 0; 5_000_000]?;
+    for (number, byte) in bytes.iter_mut().enumerate() {
+        *byte = (number % 251) as u8;
+    }
+    Ok(bytes)
+}
+
 #[test]
 fn a_host_store_writes_pieces_in_runs(rt: HostRuntime) -> Result<(), Fail> {
     let alloc = rt.alloc();
-    let small = vec![in alloc; b'a'; 600_000]?;
-    let large = vec![in alloc; b'b'; 1_500_000]?;
-    let pieces = [
-        b"first".as_slice(),
-        b"".as_slice(),
-        small.as_slice(),
-        small.as_slice(),
-        large.as_slice(),
-        b"".as_slice(),
-        b"last".as_slice(),
-    ];
+    let bytes = unlike_bytes(alloc)?;
     let parts = Parts {
         front: b"<",
-        pieces: &pieces,
+        bytes: bytes.as_slice(),
         back: b">",
     };
     let mut whole = MemoryStore::new(alloc);
