@@ -14,7 +14,7 @@ TOP = os.path.dirname(os.path.dirname(HERE))
 
 # The areas: a name, the colours of its boxes, and the crates.
 AREAS = [
-    ("commands, and the outside", "#fff3c4", "#b58900", r"tlsld|commands|command_.*|terminal_notes|ports|job_text|generated_job|run_summary"),
+    ("commands, and the outside", "#fff3c4", "#b58900", r"tlsld|commands|command_.*|terminal_notes|ports|file_bytes|job_text|generated_job|run_summary"),
     ("check: what objects mean", "#e3f4f1", "#20807a", r"marked_(bytes|memory)|memory_image|meant_.*|job_check"),
     ("definitions and laws, no code", "#f9e4e4", "#a05050",
         r"thread_blocks|job_meaning|whole_meaning|linked_modules|relocated_parts|loaded_(bytes|words|names)|closed_.*|linked_jobs"

@@ -7,7 +7,7 @@ use Rattle.std.proofs.Math.Seq.{take-length}
 use Rattle.placed_sections.specs.declared.part.PlacedPart.{PlacedPart}
 use Rattle.placed_sections.specs.Files.{bytes_in, filled}
 use Rattle.placed_sections.proofs.Chains.{laid-append}
-use Rattle.ports.specs.Pieces.{joined}
+use Rattle.file_bytes.specs.Pieces.{joined}
 use Rattle.tls_relocs.specs.Laid.{end_of}
 use Rattle.link_needs.specs.Linking.{Linking}
 use Rattle.link_core.specs.Bytes.{linked_section}

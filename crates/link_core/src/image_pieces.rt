@@ -4,7 +4,7 @@ ghost use Rattle.std.specs.Prelude.{◌≡◌, ◌++◌, IfOk, OnOk, drop, lengt
 ghost use Rattle.image_faults.specs.Faults.{IsImage};
 ghost use Rattle.image_file.specs.Spelled.{spelled};
 ghost use Rattle.image_writer.specs.Written.{written};
-ghost use Rattle.ports.specs.Pieces.{whole};
+ghost use Rattle.file_bytes.specs.Pieces.{whole};
 ghost use Rattle.link_core.specs.Bytes.{file as file_of_link};
 ghost use Rattle.link_core.specs.Images.{image_of};
 ghost use Rattle.link_tables.specs.Faults.{IsSound, Links};
@@ -17,7 +17,7 @@ use image_writer::{Frame, frame_of};
 use link_needs::Plan;
 use link_tables::Tables;
 use placed_sections::PlacedPart;
-use ports::Pieces;
+use file_bytes::Pieces;
 use std::alloc::{AllocError, Global};
 use std::marker::Model;
 use std::thread::Threads;
@@ -36,7 +36,7 @@ pub struct ImagePieces<'r, 'l, 's, 'a, R: Threads> {
 
 impl<'r, 'l, 's, 'a, R: Threads> Model for ImagePieces<'r, 'l, 's, 'a, R> {
     ghost use Rattle.std.specs.Prelude.{◌≡◌, length};
-    ghost use Rattle.ports.specs.Pieces.{PiecesView};
+    ghost use Rattle.file_bytes.specs.Pieces.{PiecesView};
     ghost use Rattle.link_core.specs.Laying.{pieces_of, AreParts};
 
     ghost Value = { PiecesView };

@@ -13,7 +13,7 @@ use crate::ready::{ReadyLink, prepare};
 use elf_object::Object;
 use image_file::Image;
 use link_faults::{ImageKind, LinkFault};
-use ports::join;
+use file_bytes::join;
 use sequence_match::Site;
 use std::alloc::{AllocError, Global};
 use std::thread::Threads;

@@ -1,5 +1,3 @@
 pub mod Counting
 pub mod Lookups
-pub mod PieceLemmas
-pub mod StreamLemmas
 pub mod Yielded

@@ -5,4 +5,3 @@ pub mod Files
 pub mod Pieces
 pub mod Sinks
 pub mod States
-pub mod Streams

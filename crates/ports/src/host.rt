@@ -1,9 +1,7 @@
 //! The store and the sink of the host: its file system, and a writer such as its standard output.
 mod progress;
-mod runs;
 mod sink;
 mod store;
-mod streams;
 
 pub use progress::ProgressStore;
 pub use sink::HostSink;

@@ -5,9 +5,9 @@
 //! a file system. It works over two traits, and any store and any sink that keep their clauses will do:
 //!
 //! - A [`Store`] has files by name. `fetch` appends a file's bytes to a buffer; `put` makes some bytes a file's whole
-//!   content. `put_pieces` does so with [`Pieces`], which are made when they are asked for: so no buffer need be as
-//!   large as an image. [`join`] makes all of them in one. `read` and `count` are the two halves of a fetch: `read`
-//!   changes nothing, so threads may share it. [`fetch_each`] fetches several files this way.
+//!   content. `put_pieces` does so with the pieces of `file_bytes`, which are made when they are asked for: so no
+//!   buffer need be as large as an image. `read` and `count` are the two halves of a fetch: `read` changes nothing, so
+//!   threads may share it. [`fetch_each`] fetches several files this way.
 //! - A [`Sink`] takes bytes in pieces. `put` appends a piece; after a refusal, a prefix of it may be there.
 //!
 //! **What a clause can say of the outside.** A store may show its files, as a finite map from names to bytes, and the
@@ -41,7 +41,6 @@ mod faults;
 mod fetching;
 mod host;
 mod memory;
-mod pieces;
 mod sinks;
 mod stores;
 
@@ -49,6 +48,5 @@ pub use faults::{FetchFault, PutFault};
 pub use fetching::fetch_each;
 pub use host::{HostFault, HostSink, HostStore, LARGEST_FILE, ProgressStore};
 pub use memory::{MemorySink, MemoryStore};
-pub use pieces::{Pieces, join};
 pub use sinks::Sink;
 pub use stores::Store;

@@ -3,9 +3,10 @@ ghost use Rattle.std.specs.Prelude.{◌≡◌, ℕ, List, ◌++◌, length, take
 ghost use Rattle.std.specs.Prelude.{Option, IsErr, OnOk, OnErr, IfOk, IfSome, MatchOption};
 ghost use Rattle.ports.specs.Counts.{FetchCounts, PutCounts};
 ghost use Rattle.ports.specs.Files.{Files, file_at, with_file, with_name, IsFile};
-ghost use Rattle.ports.specs.Pieces.{whole};
+ghost use Rattle.file_bytes.specs.Pieces.{whole};
 
-use crate::{FetchFault, Pieces, PutFault};
+use crate::{FetchFault, PutFault};
+use file_bytes::Pieces;
 use std::alloc::Global;
 
 /// Files by name: where jobs and objects come from, and where an image goes.

@@ -1,7 +1,7 @@
 -- Pieces of one byte each.
 use Rattle.std.proofs.Common.{◌≡◌, ◌∙◌, ◌-◌, ℕ, List, [], ◌∷◌, ap, drop, map, refl, slice_range, take}
 use Rattle.std.proofs.lemmas.List.{drop-map, take-map}
-use Rattle.ports.specs.Pieces.{joined}
+use Rattle.file_bytes.specs.Pieces.{joined}
 
 pub joined_singles : (bytes : List ℕ) → joined (map (λ byte. byte ∷ []) bytes) ≡ bytes
 joined_singles [] = refl

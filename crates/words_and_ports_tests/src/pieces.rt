@@ -3,7 +3,8 @@ ghost use Rattle.std.specs.Prelude.{[], ◌∷◌, map};
 
 use crate::disk::{Fault, FaultyDisk};
 use crate::files::{new_folder, path, read_back};
-use ports::{HostStore, MemoryStore, Pieces, PutFault, Store};
+use file_bytes::Pieces;
+use ports::{HostStore, MemoryStore, PutFault, Store};
 use std::alloc::{AllocError, Global};
 use std::test::Fail;
 use std::{env, fs, io, process};

@@ -1,7 +1,8 @@
 //! Shows the progress of a long command to the person who waits for it.
 ghost use Rattle.std.specs.Prelude.{◌≡◌};
 
-use crate::{FetchFault, Pieces, PutFault, Store};
+use crate::{FetchFault, PutFault, Store};
+use file_bytes::Pieces;
 use std::alloc::Global;
 use std::marker::Model;
 use std::rt::Clock;

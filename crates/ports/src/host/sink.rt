@@ -2,10 +2,10 @@
 ghost use Rattle.std.specs.Prelude.{◌≡◌, [], OnOk, OnErr, IsOk};
 ghost use Rattle.std.specs.Io.KnownBytes.{Appends};
 ghost use Rattle.ports.specs.Sinks.{Puts};
-ghost use Rattle.ports.specs.Streams.{AppendsFront};
+ghost use Rattle.file_bytes.specs.Streams.{AppendsFront};
 
-use super::streams::write_all;
 use crate::{PutFault, Sink};
+use file_bytes::write_all;
 use std::io::Write;
 use std::marker::Model;
 

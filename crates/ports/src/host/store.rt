@@ -3,12 +3,10 @@ ghost use Rattle.std.specs.Prelude.{◌≡◌, ◌+◌, ◌++◌, ◌≤◌, len
 ghost use Rattle.std.specs.Prelude.{IsErr, OnOk, OnErr, IfOk, IfSome, MatchOption};
 ghost use Rattle.ports.specs.Counts.{counted, Counted, FetchCounts, PutCounts, faults_after_fetch, faults_after_put};
 ghost use Rattle.ports.specs.Files.{file_at, with_file, with_name, IsFile};
-ghost use Rattle.ports.specs.Pieces.{whole, EachFits};
+ghost use Rattle.file_bytes.specs.Pieces.{whole, EachFits};
 
-use super::runs::{room_for, write_pieces};
-use super::streams::{read_all, too_large};
-use crate::pieces::Whole;
-use crate::{FetchFault, Pieces, PutFault, Store};
+use crate::{FetchFault, PutFault, Store};
+use file_bytes::{Pieces, Whole, read_all, room_for, too_large, write_pieces};
 use std::alloc::Global;
 use std::fs::{File, OpenFile};
 use std::io::{ErrorKind, Read};

@@ -5,11 +5,11 @@ ghost use Rattle.std.specs.Option.{option_copied};
 ghost use Rattle.std.specs.FinMap as map;
 ghost use Rattle.ports.specs.Counts.{FetchCounts, PutCounts, faults_after_fetch, faults_after_put};
 ghost use Rattle.ports.specs.Files.{file_at, with_file, with_name, IsFile};
-ghost use Rattle.ports.specs.Pieces.{whole};
+ghost use Rattle.file_bytes.specs.Pieces.{whole};
 
 use super::plan::FaultPlan;
-use crate::pieces::{Whole, join};
-use crate::{FetchFault, Pieces, PutFault, Store};
+use crate::{FetchFault, PutFault, Store};
+use file_bytes::{Pieces, Whole, join};
 use std::alloc::{AllocError, Global};
 use std::collections::BTreeMap;
 use std::marker::Model;

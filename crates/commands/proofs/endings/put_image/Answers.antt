@@ -1,5 +1,5 @@
 use Rattle.std.proofs.Common.{◌∙◌, ap}
-use Rattle.ports.specs.Pieces.{whole}
+use Rattle.file_bytes.specs.Pieces.{whole}
 use Rattle.commands.specs.Links.{linked_text}
 use Rattle.commands.proofs.ImageEndings.{is_put}
 use Rattle.commands.proofs.endings.put_image.Goals as goal

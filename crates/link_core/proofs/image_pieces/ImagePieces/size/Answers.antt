@@ -1,6 +1,6 @@
 use Rattle.std.proofs.Common.{◌+◌, ◌∙◌, List, ap, length, take}
 use Rattle.placed_sections.specs.declared.part.PlacedPart.{PlacedPart}
-use Rattle.ports.specs.Pieces.{PiecesView, whole}
+use Rattle.file_bytes.specs.Pieces.{PiecesView, whole}
 use Rattle.link_core.specs.Laying.{laid_parts}
 use Rattle.link_core.proofs.PartPieces.{whole_size}
 use Rattle.link_core.proofs.image_pieces.ImagePieces.size.Goals as goal

@@ -1,5 +1,5 @@
 use Rattle.std.proofs.Common.{◌∙◌, ap, refl}
-use Rattle.ports.specs.Pieces.{PiecesView}
+use Rattle.file_bytes.specs.Pieces.{PiecesView}
 use Rattle.link_core.proofs.PartPieces.{as_many}
 use Rattle.link_core.proofs.image_pieces.ImagePiecesPieces.count.Goals as goal
 

@@ -1,5 +1,5 @@
 use Rattle.std.proofs.Common.{◌∙◌, ◌≤◌, List, ℕ, ap, length, rules, subst, sym, arith}
-use Rattle.ports.specs.Pieces.{PiecesView}
+use Rattle.file_bytes.specs.Pieces.{PiecesView}
 use Rattle.tls_relocs.specs.Laid.{zeros}
 use Rattle.link_core.specs.Laying.{Rise, pieces_of}
 use Rattle.link_core.proofs.PartPieces.{as_many, run_of}

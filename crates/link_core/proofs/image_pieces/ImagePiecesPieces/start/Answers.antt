@@ -1,6 +1,6 @@
 use Rattle.std.proofs.Common.{List, ap, length, take, arith}
 use Rattle.placed_sections.specs.declared.part.PlacedPart.{PlacedPart}
-use Rattle.ports.specs.Pieces.{PiecesView, joined}
+use Rattle.file_bytes.specs.Pieces.{PiecesView, joined}
 use Rattle.link_core.specs.Laying.{laid_parts}
 use Rattle.link_core.proofs.PartPieces.{as_many, front_size}
 use Rattle.link_core.proofs.image_pieces.ImagePiecesPieces.start.Goals as goal

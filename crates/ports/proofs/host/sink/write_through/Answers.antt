@@ -1,4 +1,4 @@
-use Rattle.ports.proofs.StreamLemmas.{AppendsFront-whole, OnErr-always}
+use Rattle.file_bytes.proofs.StreamLemmas.{AppendsFront-whole, OnErr-always}
 use Rattle.ports.proofs.host.sink.write_through.Goals as goal
 
 -- where the flush fails, the whole piece has been written

@@ -1,0 +1,6 @@
+-- a write that was interrupted has given nothing to the writer
+use Rattle.std.specs.Io.KnownBytes.{Keeps}
+use Rattle.file_bytes.proofs.streams.write_some.Given as goal
+
+abbrev pub invariant-loop : goal.invariant-loop
+invariant-loop g l = Keeps (g.W.Write.contents l.initial.to) (g.W.Write.contents l.to)

@@ -1,6 +1,0 @@
--- a write that was interrupted has given nothing to the writer
-use Rattle.std.specs.Io.KnownBytes.{Keeps}
-use Rattle.ports.proofs.host.streams.write_some.Given as goal
-
-abbrev pub invariant-loop : goal.invariant-loop
-invariant-loop g l = Keeps (g.W.Write.contents l.initial.to) (g.W.Write.contents l.to)
