@@ -3,7 +3,8 @@ use Rattle.std.proofs.Common.{◌≡◌, ◌+◌, ◌^◌, ◌<◌, ◌≤◌, �
 use Rattle.std.specs.Prelude.{slice_index_or}
 use Rattle.std.proofs.lemmas.List.FromFn.{get_or-map-range_with_len, length-map-range_with_len}
 use Rattle.link_faults.specs.declared.image_kind.ImageKind.{ImageKind}
-use Rattle.link_needs.specs.Refusals.{relocation_count, FitsKind, FitsStorage}
+use Rattle.link_needs.specs.Refusals.{FitsKind, FitsStorage}
+use Rattle.tls_symbols.specs.Counts.{relocation_count}
 use Rattle.sequence_forms.specs.declared.places.Site.{Site}
 use Rattle.sequence_match.specs.Faults.{AreSites}
 use Rattle.tls_layout.specs.Places.{tls_size}

@@ -80,6 +80,7 @@ fn ready_one<'i, 'a, R: Threads + Sync>(
     ensures fault { IfErr result (IsLinkFault (link_beside startup.now relax image.now)) }
 {
     match prepare(
+        rt,
         alloc,
         image.objects(),
         image.sites(),

@@ -29,7 +29,6 @@ pub mod LoadsTables
 pub mod LoadsTls
 pub mod NamesHeld
 pub mod NewFields
-pub mod Overflows
 pub mod PartPieces
 pub mod Relatives
 pub mod RelativesApart

@@ -1,14 +1,13 @@
--- The first field that can't hold its value, sought in some of the objects.
-use Rattle.std.specs.Prelude.{◌≤◌, ◌<◌, ℕ, Option, Some, None}
-use Rattle.link_faults.specs.declared.fault.LinkFault.{LinkFault}
-use Rattle.link_needs.specs.Linking.{Linking}
-use Rattle.link_tables.specs.Faults.{IsFirstOverflow, Overflows}
+-- What is asked of fields.
+use Rattle.link_core.specs.declared.overflow.FieldQuestion.{FieldQuestion}
+use Rattle.link_tables.specs.Faults.{IsOverflow}
+use Rattle.tls_symbols.specs.declared.uses.Use.{Use}
+use Rattle.tls_symbols.specs.Walks.{IsUse}
 
--- no object from number `from` on and before `to` has such a field
-abbrev pub NoneAmong : Linking → ℕ → ℕ → Type 0
-NoneAmong l from to = (o s e : ℕ) → from ≤ o → o < to → Overflows l o s e → ⊥
+-- the field of a relocation can't hold its value
+abbrev pub Overfills : FieldQuestion → Use → Type 0
+Overfills q u = IsOverflow q.plan.now u.place.object u.section u.relocation
 
--- what is told of these objects: none has such a field; or theirs is the first of all, if none before them has one
-abbrev pub IsToldAmong : Linking → ℕ → ℕ → Option LinkFault → Type 0
-IsToldAmong l from to None = NoneAmong l from to
-IsToldAmong l from to (Some told) = NoneAmong l 0 from → IsFirstOverflow l told
+-- the relocation is one of the link's
+abbrev pub IsOfLink : FieldQuestion → Use → Type 0
+IsOfLink q u = IsUse q.plan.now.objects u

@@ -55,8 +55,8 @@
 //! relocations and bytes.
 //!
 //! A section is linked by itself: what is written in it never depends on what is written in another. So threads fill
-//! a large file, each some sections of it, in place (`specs/Laying`). Several look for a field that can't hold its value,
-//! each at some objects (`specs/Overflows`). No clause of the image depends on how many threads there are.
+//! a large file, each some sections of it, in place (`specs/Laying`). No clause of the image depends on how many threads
+//! there are.
 //!
 //! The rules are those of "ELF Handling For Thread-Local Storage" (Drepper), of the psABI ("Thread-Local Storage",
 //! "Relocation Types") and of the gABI ("Program Loading and Dynamic Linking").

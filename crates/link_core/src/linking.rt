@@ -82,7 +82,7 @@ pub fn link<'a, R: Threads + Sync>(
     ensures links { OnOk result (Links (link_of objects.now sites.now kind startup.now relax)) }
     ensures fault { IfErr result (IsLinkFault (link_of objects.now sites.now kind startup.now relax)) }
 {
-    match prepare(alloc, objects, sites, kind, startup, relax) {
+    match prepare(rt, alloc, objects, sites, kind, startup, relax) {
         Ok(ready) => written(rt, alloc, ready),
         Err(fault) => Err(fault),
     }

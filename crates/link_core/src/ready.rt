@@ -22,6 +22,7 @@ use relax_sites::Choice;
 use sequence_match::Site;
 use std::alloc::{AllocError, Global};
 use std::marker::Model;
+use std::thread::Threads;
 use tls_layout::{Placement, TlsSize, place, static_offsets};
 use tls_symbols::{Bindings, Exports, resolve};
 
@@ -107,7 +108,8 @@ fn named<'a>(
 
 /// How far below the thread pointer the block begins. The fault is that code asks for thread-local storage and finds
 /// none.
-fn storage(
+fn storage<R: Threads + Sync>(
+    rt: &R,
     alloc: Global,
     objects: &[Object],
     bindings: &Bindings,
@@ -122,7 +124,7 @@ fn storage(
     ensures fault { IfErr result
         (LacksStorage bindings.now.objects bindings.now.startup kind (tls_size placement.now.sections)) }
 {
-    ask_tls(objects, bindings, kind, placement.tls_size())?;
+    ask_tls(rt, objects, bindings, kind, placement.tls_size())?;
     Ok(block_offset(alloc, placement)?)
 }
 
@@ -145,30 +147,46 @@ fn planned<'l, 's, 'a>(
     Ok(ReadyLink { tables })
 }
 
-/// A ready link of objects with these bindings, which the image's kind admits. The error is the first fault of those
-/// that remain, except `Overflow`.
-fn within_limits<'l, 's, 'a>(
-    alloc: Global,
+/// What is linked, and how.
+#[derive(Clone, Copy)]
+struct Request<'l, 'a> {
     objects: &'l [Object<'a>],
     sites: &'l [Vec<Site>],
     kind: ImageKind,
     relax: bool,
+}
+
+/// A ready link of what is asked for with these bindings, which the image's kind admits. The error is the first fault
+/// of those that remain, except `Overflow`.
+fn within_limits<'l, 's, 'a, R: Threads + Sync>(
+    rt: &R,
+    alloc: Global,
+    asked: Request<'l, 'a>,
     bindings: Bindings<'l, 's, 'a>,
 ) -> Result<ReadyLink<'l, 's, 'a>, LinkFault>
     requires few { length bindings.startup < 2 ^ 32 - 1 }
-    requires each { length sites.now ≡ length objects.now }
-    requires sites { (o : ℕ) → o < length objects.now
-        → AreSites (object_at objects.now o) (slice_index_or (map (λ own. own.items) sites.now) o []) }
-    requires objects { bindings.objects ≡ objects.now }
-    requires resolved { AreResolved objects.now bindings.startup }
-    requires kind { FitsKind objects.now kind }
-    ensures ready { IfOk result (λ ready. ready ≡ link_of objects.now sites.now kind bindings.entry.startup relax) }
-    ensures sound { OnOk result (IsSound (link_of objects.now sites.now kind bindings.entry.startup relax)) }
-    ensures fault { IfErr result (IsLinkFault (link_of objects.now sites.now kind bindings.entry.startup relax)) }
+    requires each { length asked.sites.now ≡ length asked.objects.now }
+    requires sites { (o : ℕ) → o < length asked.objects.now → AreSites (object_at asked.objects.now o)
+        (slice_index_or (map (λ own. own.items) asked.sites.now) o []) }
+    requires objects { bindings.objects ≡ asked.objects.now }
+    requires resolved { AreResolved asked.objects.now bindings.startup }
+    requires kind { FitsKind asked.objects.now asked.kind }
+    ensures ready { IfOk result (λ ready. ready
+        ≡ link_of asked.objects.now asked.sites.now asked.kind bindings.entry.startup asked.relax) }
+    ensures sound { OnOk result
+        (IsSound (link_of asked.objects.now asked.sites.now asked.kind bindings.entry.startup asked.relax)) }
+    ensures fault { IfErr result
+        (IsLinkFault (link_of asked.objects.now asked.sites.now asked.kind bindings.entry.startup asked.relax)) }
 {
+    let Request {
+        objects,
+        sites,
+        kind,
+        relax,
+    } = asked;
     let placement = place(alloc, objects, kind)?;
     let names = named(alloc, objects, sites, kind, relax, &bindings)?;
-    let block_offset = storage(alloc, objects, &bindings, kind, &placement)?;
+    let block_offset = storage(rt, alloc, objects, &bindings, kind, &placement)?;
     let inputs = Inputs {
         kind,
         relax,
@@ -184,7 +202,8 @@ fn within_limits<'l, 's, 'a>(
 
 /// Makes a link of objects ready, beside startup images that export these names. The error is the first fault, except
 /// `Overflow`. No byte of the image is written.
-pub fn prepare<'l, 's, 'a>(
+pub fn prepare<'l, 's, 'a, R: Threads + Sync>(
+    rt: &R,
     alloc: Global,
     objects: &'l [Object<'a>],
     sites: &'l [Vec<Site>],
@@ -200,9 +219,15 @@ pub fn prepare<'l, 's, 'a>(
     ensures sound { OnOk result (IsSound (link_of objects.now sites.now kind startup.now relax)) }
     ensures fault { IfErr result (IsLinkFault (link_of objects.now sites.now kind startup.now relax)) }
 {
-    let bindings = resolve(alloc, objects, startup)?;
-    ask_kind(objects, kind)?;
-    within_limits(alloc, objects, sites, kind, relax, bindings)
+    let bindings = resolve(rt, alloc, objects, startup)?;
+    ask_kind(rt, objects, kind)?;
+    let asked = Request {
+        objects,
+        sites,
+        kind,
+        relax,
+    };
+    within_limits(rt, alloc, asked, bindings)
 }
 
 /// A link without the names of its dynamic tables.

@@ -6,6 +6,5 @@ pub mod NeedsLemmas
 pub mod PlanLemmas
 pub mod Reached
 pub mod SortingLaws
-pub mod Sums
 pub mod UsableSites
 pub mod ValueLemmas

@@ -1,7 +1,7 @@
 -- Walks that add what code needs, or look for a call of the stub: what is left of them.
 use Rattle.std.proofs.Common.{◌≡◌, ◌≢◌, ◌+◌, ◌-◌, ◌<◌, ◌≤◌, ◌∙◌, ◌||◌, ℕ, Bool, true, false, List, ◌∷◌, ◌++◌, drop}
-use Rattle.std.proofs.Common.{Option, Some, None, filter, length, refl, sym, ap, append_assoc, append-nil}
-use Rattle.std.specs.Prelude.{option_and_then, option_map, slice_index_or, if◌then◌else◌}
+use Rattle.std.proofs.Common.{filter, length, sym, ap, append_assoc, append-nil}
+use Rattle.std.specs.Prelude.{slice_index_or, if◌then◌else◌}
 use Rattle.std.specs.List.{All, flat_map, list_any, range_with_len}
 use Rattle.std.proofs.Math.ListN.{drop_of_length-le}
 use Rattle.std.proofs.lemmas.List.Elements.{All-filter, filter_passes}
@@ -11,16 +11,11 @@ use Rattle.elf_object.specs.declared.relocation.Relocation.{Relocation}
 use Rattle.elf_object.specs.Lawful.{IsLawful}
 use Rattle.elf_object.specs.Parts.{symbol_count}
 use Rattle.got_pairs.specs.declared.need.Need.{Need}
-use Rattle.relax_sites.specs.declared.choices.Choice.{Choice}
-use Rattle.relax_sites.specs.declared.choices.Choice.TheVariants.{Keep, GdLe, GdIe, LdLe, IeLe, DescLe, DescIe}
-use Rattle.relax_sites.specs.declared.rows.NewField.{NewField}
-use Rattle.relax_sites.specs.Rows.{new_field}
 use Rattle.sequence_forms.specs.declared.places.Site.{Site}
-use Rattle.tls_symbols.specs.Bindings.{bound_to, may_import}
 use Rattle.tls_symbols.proofs.Search.{range_first, range_none}
 use Rattle.link_needs.specs.Linking.{Linking}
 use Rattle.link_needs.specs.Needs.{any_stub_call, is_address_kind, is_stub_call}
-use Rattle.link_needs.specs.Needs.{need_by, new_relocation, reaching, relocation_need, site_needs, site_needs_from}
+use Rattle.link_needs.specs.Needs.{site_needs, site_needs_from}
 
 -- ** elements of a list
 
@@ -100,37 +95,3 @@ fields_symbols b t xs lawful = λ k d h.
     let r = slice_index_or (filter test xs) k d in
     let law : IsLawful b t r = All-filter test (IsLawful b t) xs lawful k d h in
     (law.symbol (some_type r.kind (filter_passes test xs k d h))).1
-
--- ** what a site reaches
-
--- it is a matter of the type alone of the relocation by which the site reaches it
-module _ (l : Linking) (o : ℕ) (site : Site) where
-  abbrev reached : Option RelocationKind → Option Need
-  reached kind = option_and_then (λ k. need_by l o site.symbol (bound_to l.objects l.startup o site.symbol (may_import k)) k) kind
-
-  by_field : (f : Option NewField)
-      → reached (option_map (λ r. r.kind) (option_map (new_relocation site) f))
-      ≡ option_and_then (relocation_need l o) (option_map (new_relocation site) f)
-  unfolding relocation_need
-  by_field None = refl
-  by_field (Some f) = refl
-
-  by_type : (choice : Choice)
-      → reached (option_map (λ r. r.kind) (reaching site choice)) ≡ option_and_then (relocation_need l o) (reaching site choice)
-  unfolding relocation_need
-  by_type Keep = refl
-  by_type GdLe = by_field (new_field site.form GdLe)
-  by_type GdIe = by_field (new_field site.form GdIe)
-  by_type LdLe = by_field (new_field site.form LdLe)
-  by_type IeLe = by_field (new_field site.form IeLe)
-  by_type DescLe = by_field (new_field site.form DescLe)
-  by_type DescIe = by_field (new_field site.form DescIe)
-
-  pub reached_by : (choice : Choice) (kind : RelocationKind) → Some kind ≡ option_map (λ r. r.kind) (reaching site choice)
-      → need_by l o site.symbol (bound_to l.objects l.startup o site.symbol (may_import kind)) kind
-      ≡ option_and_then (relocation_need l o) (reaching site choice)
-  reached_by choice kind is = ap reached is ∙ by_type choice
-
-  pub reached_none : (choice : Choice) → None ≡ option_map (λ r. r.kind) (reaching site choice)
-      → None ≡ option_and_then (relocation_need l o) (reaching site choice)
-  reached_none choice is = ap reached is ∙ by_type choice

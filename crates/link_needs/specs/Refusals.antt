@@ -1,6 +1,6 @@
 -- Which relocations are refused: those that no linker of static thread-local storage can fill in (psABI, "Relocation
 -- Types"; Drepper, "ELF Handling For Thread-Local Storage", section 4).
-use Rattle.std.specs.Prelude.{◌==◌, ◌&&◌, ◌||◌, ℕ, Bool, true, false, Option, ◌≡◌, ◌<◌, List, Some, length, ◌-◌, sum_by}
+use Rattle.std.specs.Prelude.{◌==◌, ◌&&◌, ◌||◌, ℕ, Bool, true, false, Option, ◌≡◌, ◌<◌, List, Some, length}
 use Rattle.elf_records.specs.declared.relocation.RelocationKind.{RelocationKind}
 use Rattle.elf_records.specs.declared.relocation_row.Refused.{Refused}
 use Rattle.elf_records.specs.declared.relocation_row.Refused.TheVariants.{InModule, WhereMoved}
@@ -14,16 +14,14 @@ use Rattle.link_faults.specs.declared.fault.LinkFaultKind.TheVariants.{LocalExec
 use Rattle.link_faults.specs.declared.binding.Binding.{Binding}
 use Rattle.link_faults.specs.Bindings.{is_here}
 use Rattle.link_faults.specs.ImageKinds.{is_module, is_moved}
-use Rattle.elf_object.specs.declared.relocation.Relocation.{Relocation}
 use Rattle.link_faults.specs.declared.fault.LinkFault.{LinkFault}
 use Rattle.link_faults.specs.declared.fault.LinkFault.TheVariants.{At}
 use Rattle.tls_symbols.specs.Bindings.{binding_of, object_at}
+use Rattle.tls_symbols.specs.declared.uses.Use.{Use}
 use Rattle.tls_symbols.specs.Faults.{Test, IsFirstCharged, NoneCharged, NamesWithin}
+use Rattle.tls_symbols.specs.Searches.{Passes}
 use Rattle.link_needs.specs.declared.charge.Charge.{Charge}
 use Rattle.link_needs.specs.declared.charge.Charge.TheVariants.{ByType, ByKind, ByStorage}
-use Rattle.std.specs.List.{range_with_len}
-use Rattle.elf_object.specs.Lent.{relocations}
-use Rattle.elf_object.specs.Object.{section_count}
 
 -- whether a type of relocation is refused, whatever its symbol is bound to: an offset from the thread pointer, which a
 -- module's code can't know, and an address in 32 bits, which can't hold the address of an image that is moved
@@ -100,25 +98,19 @@ test_of (ByType fault image) = by_type fault image
 test_of (ByKind image) = by_kind image
 test_of (ByStorage image bindings) = by_storage bindings.now.objects bindings.now.startup image 0
 
+abbrev pub IsAbout : Charge → Use → Type 0
+IsAbout charge u = Passes (test_of charge) u
+
 -- the question is about these objects
 abbrev pub IsAskedOf : List (List ℕ) → Charge → Type 0
 IsAskedOf objects (ByType fault image) = Unit {0}
 IsAskedOf objects (ByKind image) = Unit {0}
 IsAskedOf objects (ByStorage image bindings) = bindings.now.objects ≡ objects
 
--- the question may be asked about a relocation of object o: its symbol exists
-abbrev pub IsAskedWithin : Charge → ℕ → Relocation → Type 0
-IsAskedWithin (ByType fault image) o r = Unit {0}
-IsAskedWithin (ByKind image) o r = Unit {0}
-IsAskedWithin (ByStorage image bindings) o r =
-    (o < length bindings.now.objects) × NamesWithin (object_at bindings.now.objects o) r
-
--- ** how many relocations there are
-
--- the number of relocations of those sections of an object that linking keeps; type NONE counts too
-unfoldable pub own_count : List ℕ → ℕ
-own_count b = sum_by (λ t. length (relocations b t)) (range_with_len 1 (section_count b - 1))
-
--- the number for all objects
-abbrev pub relocation_count : List (List ℕ) → ℕ
-relocation_count objects = sum_by own_count objects
+-- the question may be asked about a relocation: its symbol exists
+abbrev pub IsAskedWithin : Charge → Use → Type 0
+IsAskedWithin (ByType fault image) u = Unit {0}
+IsAskedWithin (ByKind image) u = Unit {0}
+IsAskedWithin (ByStorage image bindings) u =
+    (u.place.object < length bindings.now.objects)
+    × NamesWithin (object_at bindings.now.objects u.place.object) u.relocation

@@ -3,13 +3,13 @@
 ghost use Rattle.std.specs.Prelude.{◌≡◌, ◌≢◌, ◌<◌, length};
 ghost use Rattle.elf_object.specs.Parts.{symbol_count};
 ghost use Rattle.tls_symbols.specs.Bindings.{binding_of, object_at};
-ghost use Rattle.link_needs.specs.Refusals.{test_of, IsAskedWithin, asks_storage, is_refused, is_refused_at_all};
+ghost use Rattle.link_needs.specs.Refusals.{test_of, IsAbout, IsAskedWithin, asks_storage, is_refused, is_refused_at_all};
 ghost use Rattle.link_faults.specs.Bindings.{is_here};
 
 use elf_object::{Relocation, RelocationKind};
 use elf_records::relocation_row::{Refused, TableEntry};
 use link_faults::{Binding, ImageKind, LinkFaultKind};
-use tls_symbols::{Bindings, Question};
+use tls_symbols::{Bindings, Question, Use};
 
 /// A question about the relocations of an image.
 #[derive(Clone, Copy)]
@@ -76,18 +76,30 @@ fn asks_storage(
     }
 }
 
+impl Charge<'_, '_, '_, '_> {
+    /// Whether it is about a relocation of an object.
+    fn asks_of(&self, found: &Use) -> bool
+        requires { IsAskedWithin self.now found.now }
+        ensures { result ≡ test_of self.now found.now.place.object found.now.relocation }
+    {
+        let kind = found.relocation.kind;
+        match self {
+            Charge::ByType(fault, image) => is_refused(*fault, *image, kind),
+            Charge::ByKind(image) => is_refused_at_all(*image, kind),
+            Charge::ByStorage(image, bindings) => {
+                let object = found.place.object as usize;
+                asks_storage(bindings, *image, object, &found.relocation)
+            }
+        }
+    }
+}
+
 impl Question for Charge<'_, '_, '_, '_> {
-    ghost test = { test_of };
+    ghost about = { IsAbout };
 
     ghost may_ask = { IsAskedWithin };
 
-    fn is_about(&self, object: usize, relocation: &Relocation) -> bool {
-        match self {
-            Charge::ByType(fault, image) => is_refused(*fault, *image, relocation.kind),
-            Charge::ByKind(image) => is_refused_at_all(*image, relocation.kind),
-            Charge::ByStorage(image, bindings) => {
-                asks_storage(bindings, *image, object, relocation)
-            }
-        }
+    fn is_about(&self, found: &Use) -> bool {
+        self.asks_of(found)
     }
 }

@@ -58,15 +58,13 @@
 
 mod asking;
 mod charge;
-mod count;
 mod inputs;
 pub mod laws;
 mod needs;
 mod plan;
 mod symbol_values;
 
-pub use asking::{ask_kind, ask_tls};
-pub use count::{MAX_RELOCATIONS, has_few_relocations, relocation_count};
+pub use asking::{MAX_RELOCATIONS, ask_kind, ask_tls, has_few_relocations};
 pub use inputs::Inputs;
 pub use needs::new_relocation;
 pub use plan::{Plan, plan_of};

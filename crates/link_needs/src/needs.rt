@@ -174,10 +174,13 @@ impl<'l, 's, 'a> Inputs<'l, 's, 'a> {
         ensures { result ≡ option_and_then (relocation_need self.now object) (reaching site.now choice) }
     {
         match reaching(site, choice) {
-            Some(kind) => {
-                let bound = self.bound(object, site.symbol, kind);
-                self.need(object, site.symbol, bound, kind)
-            }
+            Some(kind) => match kind.row().entry {
+                TableEntry::NoEntry => None,
+                _ => {
+                    let bound = self.bound(object, site.symbol, kind);
+                    self.need(object, site.symbol, bound, kind)
+                }
+            },
             None => None,
         }
     }

@@ -80,13 +80,14 @@ fn all_sites(alloc: Global, objects: &[Object]) -> Result<Vec<Vec<Site>>, Fail>
 /// The dynamic symbols of an image: each defined one as OBJECT.SYMBOL, then the names of imports, and how many bytes
 /// all names take.
 pub(crate) fn said(
+    rt: &HostRuntime,
     alloc: Global,
     files: &[Vec<u8>],
     images: &[Vec<Vec<u8>>],
 ) -> Result<String, Fail> {
     let objects = read(alloc, files)?;
     let startup = exports_of(alloc, images)?;
-    let bindings = resolve(alloc, objects.as_slice(), startup.as_slice())?;
+    let bindings = resolve(rt, alloc, objects.as_slice(), startup.as_slice())?;
     all_said(alloc, &bindings, objects.as_slice())
 }
 

@@ -172,13 +172,14 @@ pub(crate) fn exported(alloc: Global, images: &[Vec<Vec<u8>>]) -> Result<Vec<u8>
 /// The binding of each relocation of each object's code, or the fault: `here OBJECT SYMBOL`, `startup
 /// IMAGE`, `run-time` or `none`.
 pub(crate) fn said(
+    rt: &HostRuntime,
     alloc: Global,
     files: &[Vec<u8>],
     images: &[Vec<Vec<u8>>],
 ) -> Result<String, Fail> {
     let objects = read(alloc, files)?;
     let startup = exports_of(alloc, images)?;
-    match resolve(alloc, objects.as_slice(), startup.as_slice()) {
+    match resolve(rt, alloc, objects.as_slice(), startup.as_slice()) {
         Ok(bindings) => Ok(all_said(alloc, &bindings, objects.as_slice())?),
         Err(LinkFault::OutOfMemory) => Ok(String::from_str(alloc, "memory")?),
         Err(fault) => Ok(format!(in alloc; "{fault}")?),

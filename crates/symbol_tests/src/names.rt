@@ -50,12 +50,12 @@ fn same(rt: &impl Abort, found: &str, want: &str, line: &str) {
 }
 
 /// Checks one case.
-fn check(rt: &impl Abort, alloc: Global, line: &str) -> Result<(), Fail> {
+fn check(rt: &HostRuntime, alloc: Global, line: &str) -> Result<(), Fail> {
     let (want, rest) = line.split_once(": ").ok_or("an answer")?;
     let own = rest.split('|').next().unwrap_or("");
     let files = files_of(alloc, own)?;
     let images = images_of(alloc, rest)?;
-    same(rt, said(alloc, &files, &images)?.as_str(), want, line);
+    same(rt, said(rt, alloc, &files, &images)?.as_str(), want, line);
     Ok(())
 }
 

@@ -6,10 +6,10 @@ use crate::images::{exports_of, files_of, images_of, read};
 use elf_object::Object;
 use link_faults::ImageKind::{Exe, Late, Pie, Start};
 use link_faults::{ImageKind, LinkFault};
-use link_needs::{ask_kind, ask_tls, has_few_relocations, relocation_count};
+use link_needs::{ask_kind, ask_tls, has_few_relocations};
 use std::alloc::Global;
 use std::test::Fail;
-use tls_symbols::{Bindings, resolve};
+use tls_symbols::{Bindings, relocation_count, resolve};
 
 /// Each line: the kind of the image, the size of its TLS segment, the result, and the object, whose symbols are a
 /// variable, a function and a variable of the program. Its relocations are in section 3: 0 is NONE, 10 is 32, 11 is
@@ -38,6 +38,7 @@ fn kind_of(word: &str) -> ImageKind {
 
 /// Makes both checks.
 fn asked(
+    rt: &HostRuntime,
     objects: &[Object],
     bindings: &Bindings,
     kind: ImageKind,
@@ -45,12 +46,13 @@ fn asked(
 ) -> Result<(), LinkFault>
     requires { bindings.now.objects ≡ objects.now }
 {
-    ask_kind(objects, kind)?;
-    ask_tls(objects, bindings, kind, size)
+    ask_kind(rt, objects, kind)?;
+    ask_tls(rt, objects, bindings, kind, size)
 }
 
 /// The result for an image of these objects and bindings, with this kind and this size of its TLS segment.
 fn told(
+    rt: &HostRuntime,
     alloc: Global,
     objects: &[Object],
     bindings: &Bindings,
@@ -59,28 +61,34 @@ fn told(
 ) -> Result<String, Fail>
     requires { bindings.now.objects ≡ objects.now }
 {
-    match asked(objects, bindings, kind, size) {
+    match asked(rt, objects, bindings, kind, size) {
         Ok(()) => Ok(format!(in alloc; "{} fit", relocation_count(objects))?),
         Err(fault) => Ok(format!(in alloc; "{fault}")?),
     }
 }
 
 /// The result for an image of this object, with this kind and this size of its TLS segment.
-fn said(alloc: Global, words: &str, kind: ImageKind, size: u64) -> Result<String, Fail> {
+fn said(
+    rt: &HostRuntime,
+    alloc: Global,
+    words: &str,
+    kind: ImageKind,
+    size: u64,
+) -> Result<String, Fail> {
     let files = files_of(alloc, words)?;
     let program = images_of(alloc, "|v:y")?;
     let objects = read(alloc, files.as_slice())?;
     let startup = exports_of(alloc, program.as_slice())?;
-    let bindings = resolve(alloc, objects.as_slice(), startup.as_slice())?;
-    told(alloc, objects.as_slice(), &bindings, kind, size)
+    let bindings = resolve(rt, alloc, objects.as_slice(), startup.as_slice())?;
+    told(rt, alloc, objects.as_slice(), &bindings, kind, size)
 }
 
 /// Whether the result of a case is that of its line.
-fn holds(alloc: Global, line: &str) -> Result<bool, Fail> {
+fn holds(rt: &HostRuntime, alloc: Global, line: &str) -> Result<bool, Fail> {
     let (kind, rest) = line.split_once('|').ok_or("a kind")?;
     let (size, rest) = rest.split_once('|').ok_or("a size")?;
     let (want, words) = rest.split_once('|').ok_or("an answer")?;
-    let found = said(alloc, words, kind_of(kind), size.parse()?)?;
+    let found = said(rt, alloc, words, kind_of(kind), size.parse()?)?;
     Ok(found.as_str() == want)
 }
 
@@ -88,7 +96,7 @@ fn holds(alloc: Global, line: &str) -> Result<bool, Fail> {
 fn refusals(rt: HostRuntime) -> Result<(), Fail> {
     for line in CASES.lines() {
         if !line.starts_with("//") {
-            assert!(rt; holds(rt.alloc(), line)?, "{line}");
+            assert!(rt; holds(&rt, rt.alloc(), line)?, "{line}");
         }
     }
     assert!(rt; has_few_relocations(&[]));

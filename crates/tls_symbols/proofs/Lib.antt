@@ -1,3 +1,4 @@
+pub mod Among
 pub mod BoundAlike
 pub mod Charged
 pub mod Exported
@@ -10,6 +11,7 @@ pub mod Resolves
 pub mod Search
 pub mod SectionUses
 pub mod Sections
+pub mod Sums
 pub mod Told
 pub mod Unfit
 pub mod Walked

@@ -3,14 +3,15 @@
 use Rattle.std.specs.Prelude.{◌<◌, ◌||◌, ℕ, Bool, List, length, map, ◌≡◌, true, false, [], Option, Some, None}
 use Rattle.std.specs.Prelude.{slice_index_or, if◌then◌else◌}
 use Rattle.elf_records.specs.declared.relocation.RelocationKind.{RelocationKind}
-use Rattle.elf_object.specs.declared.relocation.Relocation.{Relocation}
 use Rattle.link_faults.specs.declared.fault.LinkFaultKind.TheVariants.{Undefined, NotTls}
 use Rattle.tls_symbols.specs.declared.charges.Charge.{Charge}
 use Rattle.tls_symbols.specs.declared.charges.Charge.TheVariants.{Unbound, Unsuited, Either}
 use Rattle.tls_symbols.specs.declared.charges.NameQuestion.{NameQuestion}
 use Rattle.tls_symbols.specs.declared.standings.Bound.{Bound}
+use Rattle.tls_symbols.specs.declared.uses.Use.{Use}
 use Rattle.tls_symbols.specs.Bindings.{object_at, bound_to, is_tls_binding}
 use Rattle.tls_symbols.specs.Faults.{is_faulty, is_unfit, Test, differ, is_tls_kind, NamesWithin}
+use Rattle.tls_symbols.specs.Searches.{Passes}
 use Rattle.elf_object.specs.Parts.{symbol_count}
 use Rattle.link_faults.specs.declared.binding.Binding.{Binding}
 use Rattle.tls_symbols.specs.declared.standings.Bound.TheVariants.{Nothing, ThreadLocal, Ordinary}
@@ -72,9 +73,12 @@ is_charged Either kind bound = is_unbound bound || is_unsuited kind bound
 abbrev pub asked_by : NameQuestion → Test
 asked_by q = test_of q.charge q.names.now.objects.now q.names.now.startup.now
 
--- the question may be asked about a relocation of object o
-pub record IsAsked (q : NameQuestion) (o : ℕ) (r : Relocation) : Type 0 where
+abbrev pub IsAbout : NameQuestion → Use → Type 0
+IsAbout q u = Passes (asked_by q) u
+
+-- the question may be asked about a relocation
+pub record IsAsked (q : NameQuestion) (u : Use) : Type 0 where
   pub standings : AllStandings q.names.now.objects.now q.names.now.startup.now
       (map (λ own. own.items) q.standings.now)
-  pub object : o < length q.names.now.objects.now
-  pub symbol : NamesWithin (object_at q.names.now.objects.now o) r
+  pub object : u.place.object < length q.names.now.objects.now
+  pub symbol : NamesWithin (object_at q.names.now.objects.now u.place.object) u.relocation

@@ -77,11 +77,6 @@ Test = ℕ → Relocation → Bool
 abbrev pub NamesWithin : List ℕ → Relocation → Type 0
 NamesWithin b r = r.kind ≢ Nothing → r.symbol < symbol_count b
 
--- what may be asked about a relocation may be asked in each of the objects
-abbrev pub MayAsk : (ℕ → Relocation → Type 0) → List (List ℕ) → Type 0
-MayAsk may_ask objects =
-    (o : ℕ) → o < length objects → (r : Relocation) → NamesWithin (object_at objects o) r → may_ask o r
-
 -- entry e of section s of object o is a relocation that passes the test
 abbrev pub IsChargedAt : Test → List (List ℕ) → ℕ → ℕ → ℕ → Type 0
 IsChargedAt test objects o s e =

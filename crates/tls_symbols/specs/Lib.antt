@@ -1,8 +1,10 @@
 pub mod Bindings
 pub mod Charges
+pub mod Counts
 pub mod Definitions
 pub mod Faults
 pub mod Known
 pub mod Laws
 pub mod Numbers
+pub mod Searches
 pub mod Walks

@@ -16,12 +16,13 @@ use crate::export_list::Exports;
 use crate::image_names::{ImageNames, binding, definition_named, know_names, symbol_definition};
 use crate::imports::{Imports, imports_of};
 use crate::place::Place;
+use crate::searching::first_use;
 use crate::standings::{Standing, standings};
-use crate::uses::first_use;
 use elf_object::{Object, Relocation};
 use link_faults::{Binding, LinkFault, LinkFaultKind, SymbolRef};
 use std::alloc::{AllocError, Global};
 use std::marker::Model;
+use std::thread::Threads;
 
 /// What the names of an image are bound to. Contracts see its objects and what the startup images export.
 #[derive(Drop)]
@@ -41,7 +42,12 @@ impl<'l, 's, 'a> Model for Bindings<'l, 's, 'a> {
 }
 
 /// The first relocation with this fault.
-fn first_charged(names: &ImageNames, standings: &[Vec<Standing>], charge: Charge) -> Option<Place>
+fn first_charged<R: Threads + Sync>(
+    rt: &R,
+    names: &ImageNames,
+    standings: &[Vec<Standing>],
+    charge: Charge,
+) -> Option<Place>
     requires { AllStandings names.now.objects.now names.now.startup.now (map (λ own. own.items) standings.now) }
     ensures { MatchOption result
         (NoneCharged (test_of charge names.now.objects.now names.now.startup.now) names.now.objects.now)
@@ -53,38 +59,46 @@ fn first_charged(names: &ImageNames, standings: &[Vec<Standing>], charge: Charge
         standings,
         charge,
     };
-    first_use(&question, names.objects)
+    first_use(rt, &question, names.objects)
 }
 
 /// The first fault of names, if some relocation or symbol has one: each kind is searched for in turn.
-fn first_of_all(names: &ImageNames, standings: &[Vec<Standing>]) -> Option<LinkFault>
+fn first_of_all<R: Threads + Sync>(
+    rt: &R,
+    names: &ImageNames,
+    standings: &[Vec<Standing>],
+) -> Option<LinkFault>
     requires known { IsKnown names.now }
     requires standings { AllStandings names.now.objects.now names.now.startup.now
         (map (λ own. own.items) standings.now) }
     ensures { MatchOption result (AreResolved names.now.objects.now names.now.startup.now)
         (IsFault names.now.objects.now names.now.startup.now) }
 {
-    if let Some(place) = first_charged(names, standings, Charge::Unbound) {
+    if let Some(place) = first_charged(rt, names, standings, Charge::Unbound) {
         return Some(place.fault(LinkFaultKind::Undefined));
     }
     if let Some(place) = first_duplicate(names) {
         return Some(place.fault(LinkFaultKind::Duplicate));
     }
-    match first_charged(names, standings, Charge::Unsuited) {
+    match first_charged(rt, names, standings, Charge::Unsuited) {
         Some(place) => Some(place.fault(LinkFaultKind::NotTls)),
         None => None,
     }
 }
 
 /// The first fault of the names of an image. If no relocation has one, a single walk over them shows it.
-fn first_fault(alloc: Global, names: &ImageNames) -> Result<Option<LinkFault>, AllocError>
+fn first_fault<R: Threads + Sync>(
+    rt: &R,
+    alloc: Global,
+    names: &ImageNames,
+) -> Result<Option<LinkFault>, AllocError>
     requires { IsKnown names.now }
     ensures { IfOk result (λ fault. MatchOption fault (AreResolved names.now.objects.now names.now.startup.now)
         (IsFault names.now.objects.now names.now.startup.now)) }
 {
     let standings = standings(alloc, names)?;
-    match first_charged(names, &standings, Charge::Either) {
-        Some(_) => Ok(first_of_all(names, &standings)),
+    match first_charged(rt, names, &standings, Charge::Either) {
+        Some(_) => Ok(first_of_all(rt, names, &standings)),
         None => match first_duplicate(names) {
             Some(place) => Ok(Some(place.fault(LinkFaultKind::Duplicate))),
             None => Ok(None),
@@ -94,8 +108,9 @@ fn first_fault(alloc: Global, names: &ImageNames) -> Result<Option<LinkFault>, A
 
 /// Binds the names of an image of these objects. `startup` has what each startup image exports, in image order; an
 /// image that is one itself is among them. The error is the first fault: `Undefined`, else `Duplicate`, else `NotTls`,
-/// at the first object, section and entry.
-pub fn resolve<'l, 's, 'a>(
+/// at the first object, section and entry. Threads look at objects side by side.
+pub fn resolve<'l, 's, 'a, R: Threads + Sync>(
+    rt: &R,
     alloc: Global,
     objects: &'l [Object<'a>],
     startup: &'s [Exports<'a>],
@@ -107,7 +122,7 @@ pub fn resolve<'l, 's, 'a>(
     ensures fault { IfErr result (IsFault objects.now startup.now) }
 {
     let names = know_names(alloc, objects, startup)?;
-    match first_fault(alloc, &names)? {
+    match first_fault(rt, alloc, &names)? {
         Some(fault) => Err(fault),
         None => Ok(Bindings { names }),
     }

@@ -3,13 +3,15 @@
 ghost use Rattle.std.specs.Prelude.{◌≡◌, ◌<◌, length, map};
 ghost use Rattle.elf_object.specs.Parts.{symbol_count};
 ghost use Rattle.tls_symbols.specs.Bindings.{object_at};
-ghost use Rattle.tls_symbols.specs.Charges.{asked_by, is_charged, IsAsked};
+ghost use Rattle.tls_symbols.specs.Charges.{asked_by, is_charged, IsAbout, IsAsked};
 ghost use Rattle.tls_symbols.specs.Charges.{is_unbound, is_unsuited, AllStandings, IsStanding};
+ghost use Rattle.tls_symbols.specs.Faults.{NamesWithin};
 
 use crate::image_names::ImageNames;
 use crate::imports::imports_of;
+use crate::searching::Question;
 use crate::standings::{Bound, Standing};
-use crate::uses::Question;
+use crate::uses::Use;
 use elf_object::{Relocation, RelocationKind};
 
 /// A fault that a relocation can have because of what its symbol is bound to.
@@ -77,17 +79,30 @@ fn standing_at(
     own[symbol as usize]
 }
 
-impl Question for NameQuestion<'_, '_, '_, '_> {
-    ghost test = { asked_by };
-
-    ghost may_ask = { IsAsked };
-
-    fn is_about(&self, object: usize, relocation: &Relocation) -> bool {
+impl NameQuestion<'_, '_, '_, '_> {
+    /// Whether it is about a relocation of an object.
+    fn asks_of(&self, object: usize, relocation: &Relocation) -> bool
+        requires standings { AllStandings self.now.names.now.objects.now self.now.names.now.startup.now
+            (map (λ own. own.items) self.now.standings.now) }
+        requires object { object < length self.now.names.now.objects.now }
+        requires symbol { NamesWithin (object_at self.now.names.now.objects.now object) relocation.now }
+        ensures { result ≡ asked_by self.now object relocation.now }
+    {
         if !relocation.kind.names_symbol() {
             return false;
         }
         let standing = standing_at(self.names, self.standings, object, relocation.symbol);
         let bound = standing.bound(imports_of(relocation.kind));
         is_charged(self.charge, bound, relocation.kind)
+    }
+}
+
+impl Question for NameQuestion<'_, '_, '_, '_> {
+    ghost about = { IsAbout };
+
+    ghost may_ask = { IsAsked };
+
+    fn is_about(&self, found: &Use) -> bool {
+        self.asks_of(found.place.object as usize, &found.relocation)
     }
 }

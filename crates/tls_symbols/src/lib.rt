@@ -34,7 +34,7 @@
 //!
 //! [`Uses`] is an iterator over the relocations of all objects, by object, section and entry. It goes by the sections
 //! that hold relocations, which is the order of faults, or by the sections that they apply to. [`first_use`] finds the
-//! first relocation that a [`Question`] is about.
+//! first relocation that a [`Question`] is about; threads look at objects side by side.
 //!
 //! The rule of cost: **a name is read and hashed once, and is a number from then on.** Names are numbered in the order
 //! in which they are met. Each symbol keeps the number of its name and whether it is thread-local. Tables by these
@@ -46,11 +46,12 @@
 //! `specs/Definitions` says which definition a name has, `specs/Bindings` what a symbol is bound to and what an image
 //! exports, and `specs/Faults` what each kind of fault means and which is the first. The other files of specs/ are
 //! about what the code keeps: numbers and tables (`Numbers`, `Known`), what each symbol is bound to and what a question
-//! about names asks (`Charges`), and the walk (`Walks`).
+//! about names asks (`Charges`), the walk (`Walks`), and a search by threads, each in some objects (`Searches`).
 #![tactic(auto)]
 
 mod bindings;
 mod charges;
+mod count;
 mod duplicates;
 mod export_list;
 mod exporting;
@@ -60,15 +61,18 @@ mod imports;
 pub mod laws;
 mod numbers;
 mod place;
+mod searching;
 mod standings;
 mod tls_place;
 mod uses;
 
 pub use bindings::{Bindings, resolve};
+pub use count::relocation_count;
 pub use export_list::Exports;
 pub use exporting::exports;
 pub use imports::{Imports, imports_of};
 pub use numbers::symbol_total;
 pub use place::Place;
+pub use searching::{Question, first_use};
 pub use tls_place::is_tls_place;
-pub use uses::{Question, Use, Uses, first_use};
+pub use uses::{Use, Uses};

@@ -1,13 +1,10 @@
-//! An iterator over the relocations of all objects, and the first that a question is about. No other function loops
-//! over them to look for one.
+//! An iterator over the relocations of all objects.
 
 ghost use Rattle.std.specs.Prelude.{◌≡◌, ℕ, MatchBool, MatchOption, []};
 ghost use Rattle.std.specs.Iterator.{YieldsFirst, item_count};
 ghost use Rattle.std.specs.List.{All};
 ghost use Rattle.elf_object.specs.Faults.{IsObject};
 ghost use Rattle.elf_object.specs.Lent.{relocations};
-ghost use Rattle.elf_object.specs.declared.relocation.Relocation.{Relocation};
-ghost use Rattle.tls_symbols.specs.Faults.{IsFirstCharged, NoneCharged, Test, MayAsk};
 ghost use Rattle.tls_symbols.specs.Walks.{entries_from, section_uses, uses, uses_from, uses_held, uses_left};
 ghost use Rattle.tls_symbols.specs.Walks.{GoesOn, IsCounted, IsUse};
 
@@ -188,33 +185,4 @@ impl Iterator for Uses<'_, '_> {
             }
         }
     }
-}
-
-/// A question about the relocations of objects.
-pub trait Question {
-    // which relocations it is about, by the number of their object
-    ghost test: { Self → Test };
-
-    // which relocations it may be asked about
-    ghost may_ask: { Self → ℕ → Relocation → Type 0 };
-
-    /// Whether it is about a relocation of an object. `object` is the object's index in the list.
-    fn is_about(&self, object: usize, relocation: &Relocation) -> bool
-        requires { may_ask self.now object relocation.now }
-        ensures { result ≡ test self.now object relocation.now };
-}
-
-/// The first relocation that a question is about, by object, by the section that holds it, and by its number there.
-/// Those of sections that linking drops are left out.
-pub fn first_use<Q: Question>(question: &Q, objects: &[Object]) -> Option<Place>
-    requires { MayAsk (Q.may_ask question.now) objects.now }
-    ensures { MatchOption result (NoneCharged (Q.test question.now) objects.now)
-        (λ place. IsFirstCharged (Q.test question.now) objects.now place.object place.section place.entry) }
-{
-    for found in Uses::of(objects) {
-        if question.is_about(found.place.object as usize, &found.relocation) {
-            return Some(found.place);
-        }
-    }
-    None
 }

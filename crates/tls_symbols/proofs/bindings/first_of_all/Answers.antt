@@ -4,27 +4,27 @@ use Rattle.tls_symbols.proofs.Resolves.{undefined_first, none_undefined, duplica
 use Rattle.tls_symbols.proofs.bindings.first_of_all.Goals as goal
 
 pub returns-in-Some : goal.returns-in-Some
-returns-in-Some c =
+returns-in-Some g c =
     let objects = c.args.names.now.objects.now in
     let startup = c.args.names.now.startup.now in
     subst (IsFault objects startup) (sym c.fault.ensures) (undefined_first objects startup c.in-Some.place c.in-Some.ensures)
 
 pub returns-in-Some-first_duplicate : goal.returns-in-Some-first_duplicate
-returns-in-Some-first_duplicate c =
+returns-in-Some-first_duplicate g c =
     let objects = c.args.names.now.objects.now in
     let startup = c.args.names.now.startup.now in
     let earlier = none_undefined objects startup c.in_default.ensures in
     subst (IsFault objects startup) (sym c.fault-in-Some-first_duplicate.ensures) (duplicate_first objects startup earlier c.in-Some-first_duplicate.place c.in-Some-first_duplicate.ensures)
 
 pub returns-in-Some-first_charged : goal.returns-in-Some-first_charged
-returns-in-Some-first_charged c =
+returns-in-Some-first_charged g c =
     let objects = c.args.names.now.objects.now in
     let startup = c.args.names.now.startup.now in
     let earlier = none_duplicate objects startup (none_undefined objects startup c.in_default.ensures) c.in_default-first_duplicate.ensures in
     subst (IsFault objects startup) (sym c.fault-in-Some-first_charged.ensures) (not_tls_first objects startup earlier c.in-Some-first_charged.place c.in-Some-first_charged.ensures)
 
 pub returns-in-None : goal.returns-in-None
-returns-in-None c =
+returns-in-None g c =
     let objects = c.args.names.now.objects.now in
     let startup = c.args.names.now.startup.now in
     let earlier = none_duplicate objects startup (none_undefined objects startup c.in_default.ensures) c.in_default-first_duplicate.ensures in

@@ -1,5 +1,5 @@
 use Rattle.std.proofs.Common.{◌+◌, ◌*◌}
-use Rattle.link_core.proofs.overflow.+halves.Given as goal
+use Rattle.tls_symbols.proofs.searching.+halves.Given as goal
 
 abbrev pub decreases-first_of_halves : goal.decreases-first_of_halves
 decreases-first_of_halves g l = 2 * l.halvings

@@ -2,7 +2,7 @@ use Rattle.std.proofs.Common.{◌∙◌, sym, ap}
 use Rattle.elf_records.specs.RelocationRows.{may_import}
 use Rattle.tls_symbols.specs.Charges.{bound_in}
 use Rattle.tls_symbols.proofs.Charged.{charged_is}
-use Rattle.tls_symbols.proofs.charges.NameQuestionQuestion.is_about.Goals as goal
+use Rattle.tls_symbols.proofs.charges.NameQuestion.asks_of.Goals as goal
 
 pub returns : goal.returns
 returns c =

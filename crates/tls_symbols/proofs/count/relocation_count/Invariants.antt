@@ -1,8 +1,8 @@
 use Rattle.std.proofs.Common.{◌≡◌, ◌+◌, ◌*◌, ◌<◌, ◌≤◌, ◌^◌, ℕ, List, drop, slice_index_or}
 use Rattle.std.specs.Prelude.{sum_by}
 use Rattle.elf_object.specs.Faults.{IsObject}
-use Rattle.link_needs.specs.Refusals.{own_count, relocation_count}
-use Rattle.link_needs.proofs.count.relocation_count.Given as goal
+use Rattle.tls_symbols.specs.Counts.{own_count, relocation_count}
+use Rattle.tls_symbols.proofs.count.relocation_count.Given as goal
 
 -- what is counted and what the objects that are left have is all
 abbrev pub invariant-loop-object : goal.invariant-loop-object

@@ -1,0 +1,27 @@
+-- The first use that has a property, sought in all objects, or in some of them.
+use Rattle.std.specs.Prelude.{◌≡◌, ◌≤◌, ◌<◌, ℕ, true, List, Option, Some, None}
+use Rattle.tls_symbols.specs.declared.place.Place.{Place}
+use Rattle.tls_symbols.specs.declared.uses.Use.{Use}
+use Rattle.tls_symbols.specs.Faults.{Test}
+use Rattle.tls_symbols.specs.Walks.{IsFirstUsed, IsUse, IsUsedAt}
+
+-- what may be asked about a relocation may be asked about each of the objects'
+abbrev pub MayAsk : (Use → Type 0) → List (List ℕ) → Type 0
+MayAsk may_ask objects = (u : Use) → IsUse objects u → may_ask u
+
+abbrev pub NoneUsed : (Use → Type 0) → List (List ℕ) → Type 0
+NoneUsed P objects = (o s e : ℕ) → IsUsedAt P objects o s e → ⊥
+
+-- no object from number `from` on and before `to` has such a use
+abbrev pub NoneAmong : (Use → Type 0) → List (List ℕ) → ℕ → ℕ → Type 0
+NoneAmong P objects from to = (o s e : ℕ) → from ≤ o → o < to → IsUsedAt P objects o s e → ⊥
+
+-- what is told of these objects: none has such a use; or theirs is the first of all, if none before them has one
+abbrev pub IsToldAmong : (Use → Type 0) → List (List ℕ) → ℕ → ℕ → Option Place → Type 0
+IsToldAmong P objects from to None = NoneAmong P objects from to
+IsToldAmong P objects from to (Some place) =
+    NoneAmong P objects 0 from → IsFirstUsed P objects place.object place.section place.entry
+
+-- the use passes a test
+abbrev pub Passes : Test → Use → Type 0
+Passes test u = test u.place.object u.relocation ≡ true
