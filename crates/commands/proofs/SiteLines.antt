@@ -4,7 +4,7 @@ use Rattle.std.specs.List.{flat_map, range_with_len}
 use Rattle.relax_sites.specs.declared.choices.Choice.{Choice}
 use Rattle.sequence_forms.specs.declared.places.Site.{Site}
 use Rattle.site_text.specs.Lines.{site_lines}
-use Rattle.tls_symbols.proofs.Search.{range_first, range_none}
+use Rattle.elf_object.proofs.Ranges.{range_first, range_none}
 use Rattle.commands.specs.Links.{lines_at, lines_of}
 
 module _ (names objects : List (List ℕ)) (sites : List (List Site)) (choices : List (List Choice)) where

@@ -18,7 +18,7 @@ use Rattle.sequence_forms.specs.declared.places.Site.{Site}
 use Rattle.link_faults.specs.declared.symbol_ref.SymbolRef.{SymbolRef}
 use Rattle.tls_symbols.specs.Bindings.{object_at}
 use Rattle.tls_symbols.specs.Definitions.{definition_of}
-use Rattle.tls_symbols.proofs.Search.{range_first}
+use Rattle.elf_object.proofs.Ranges.{range_first}
 use Rattle.dynamic_symbols.specs.Names.{defined_at, distinct, imported_at, imported_from, imported_in, is_definition, is_import}
 use Rattle.dynamic_symbols.specs.Found.{with_name, with_names}
 use Rattle.tls_symbols.proofs.Numbered.{same_names}

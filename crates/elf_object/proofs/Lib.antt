@@ -1,1 +1,4 @@
 pub mod Lists
+pub mod Ranges
+pub mod Sections
+pub mod Sums

@@ -1,7 +1,7 @@
 -- What an object lends: names, bytes, symbols and relocations, as functions of the file's bytes (gABI, "Sections",
 -- "Symbol Table", "Relocation"). Number 0 of the sections and of the symbols is reserved, and nothing of it is read.
-use Rattle.std.specs.Prelude.{◌≡◌, ◌+◌, ◌*◌, ◌==◌, ◌&&◌, ℕ, not, List, [], map, slice_range, Option, None}
-use Rattle.std.specs.Prelude.{is_some, nat_lt, unwrap_or, if◌then◌else◌}
+use Rattle.std.specs.Prelude.{◌≡◌, ◌+◌, ◌*◌, ◌==◌, ◌&&◌, ℕ, Bool, true, false, not, List, [], map, slice_range}
+use Rattle.std.specs.Prelude.{Option, Some, None, is_some, nat_lt, unwrap_or, if◌then◌else◌}
 use Rattle.std.specs.List.{range_with_len}
 use Rattle.elf_records.specs.Strings.{text_at}
 use Rattle.elf_records.specs.Records.{rela_at, rela_symbol, rela_kind, symbol_binding as binding_number}
@@ -10,6 +10,7 @@ use Rattle.elf_records.specs.declared.section_header.TheConstants.{SHT_NULL, SHT
 use Rattle.elf_records.specs.declared.symbol.TheConstants.{SHN_UNDEF, SHN_ABS}
 use Rattle.elf_records.specs.Symbols.{binding_numbered, type_numbered, visibility_numbered}
 use Rattle.object_faults.specs.declared.class.SectionClass.{SectionClass}
+use Rattle.object_faults.specs.declared.class.SectionClass.TheVariants.{Tls}
 use Rattle.elf_records.specs.declared.symbol.SymbolBinding.{SymbolBinding}
 use Rattle.elf_records.specs.declared.symbol.SymbolBinding.TheVariants.{Local}
 use Rattle.elf_records.specs.declared.symbol.SymbolType.{SymbolType}
@@ -43,6 +44,11 @@ section_name b s = if is_section b s then text_at (section_bytes b (header b).e_
 -- the class that linking keeps section s in
 unfoldable pub section_class : List ℕ → ℕ → Option SectionClass
 section_class b s = if is_section b s then kept_class (section b s) else None
+
+-- whether a section that is kept in this class is one of thread-local storage
+abbrev pub is_tls_class : Option SectionClass → Bool
+is_tls_class (Some (Tls initial)) = true
+is_tls_class class = false
 
 -- the size of section s in memory
 unfoldable pub section_size : List ℕ → ℕ → ℕ
@@ -82,6 +88,11 @@ symbol_value b e = if nat_lt 0 e then (symbol b e).value else 0
 
 unfoldable pub symbol_size : List ℕ → ℕ → ℕ
 symbol_size b e = if nat_lt 0 e then (symbol b e).size else 0
+
+-- whether a symbol with this place is thread-local: it is in a section of thread-local storage
+abbrev pub is_tls_place : List ℕ → SymbolPlace → Bool
+is_tls_place b (InSection s) = is_tls_class (section_class b s)
+is_tls_place b place = false
 
 -- symbol e, as it is lent
 pub record IsSymbolPart (b : List ℕ) (e : ℕ) (part : SymbolPart) : Type 0 where

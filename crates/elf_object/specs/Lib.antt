@@ -9,6 +9,7 @@ pub use Rattle.object_faults.specs.Relocations
 pub use Rattle.object_faults.specs.Searches
 pub use Rattle.object_faults.specs.Tables
 pub use Rattle.object_rules.specs.FaultNames
+pub mod Counts
 pub mod Lawful
 pub mod LawsOfParts
 pub mod LawsOfRelocations

@@ -20,17 +20,23 @@
 //! offset 0 of section 3. `symbol_name(2)` is `x`, and `relocs(1)` has one entry: at offset 4 of the code, `TpOff32` of
 //! symbol 2.
 //!
+//! [`relocation_count`] counts the relocations of several objects, and [`is_tls_place`] tells whether a symbol is
+//! thread-local, by its place.
+//!
 //! The format is that of the System V ABI (gABI, "Object Files") and of its supplement for x86-64 (psABI,
 //! "Relocation"). `specs/Lent` states what is lent, as functions of the file's bytes.
 #![tactic(auto)]
 
+mod count;
 mod object;
 mod part;
 mod part_names;
 mod relocation;
 mod relocs;
 mod symbol;
+mod tls_place;
 
+pub use count::relocation_count;
 pub use elf_records::{SymbolBinding, SymbolType, Visibility};
 pub use object::Object;
 pub use object_faults::{FaultKind, ObjectFault, RelocationKind, SectionClass};
@@ -38,3 +44,4 @@ pub use part::{SectionPart, SymbolPart};
 pub use relocation::Relocation;
 pub use relocs::Relocs;
 pub use symbol::SymbolPlace;
+pub use tls_place::is_tls_place;

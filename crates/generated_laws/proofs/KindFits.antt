@@ -9,7 +9,7 @@ use Rattle.elf_object.specs.Lent.{relocations}
 use Rattle.link_faults.specs.declared.fault.LinkFaultKind.TheVariants.{LocalExecInModule, NarrowInModule}
 use Rattle.link_faults.specs.declared.image_kind.ImageKind.{ImageKind}
 use Rattle.link_needs.specs.Refusals.{FitsKind, FitsStorage, by_storage, by_type}
-use Rattle.tls_symbols.specs.Counts.{own_count, relocation_count}
+use Rattle.elf_object.specs.Counts.{own_count, relocation_count}
 use Rattle.tls_symbols.specs.Bindings.{object_at}
 use Rattle.generated_job.specs.Shapes.{Shape}
 use Rattle.generated_laws.specs.Reading.{ReadsAs, relocation_of}

@@ -1,7 +1,7 @@
 -- What generated objects meet of what is asked before an image is laid out.
 use Rattle.std.proofs.Common.{◌≡◌, ◌^◌, ◌≤◌, ◌∙◌, ℕ, length, sym, subst, ap}
 use Rattle.link_needs.specs.Refusals.{FitsKind, FitsStorage}
-use Rattle.tls_symbols.specs.Counts.{relocation_count}
+use Rattle.elf_object.specs.Counts.{relocation_count}
 use Rattle.link_core.specs.Dynamic.{imports, own_symbols}
 use Rattle.link_core.specs.Faults.{IsSound}
 use Rattle.link_needs.specs.Given.{IsGiven}

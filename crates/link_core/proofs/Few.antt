@@ -13,7 +13,7 @@ use Rattle.got_pairs.specs.declared.need.Need.TheVariants.{RuntimeWord}
 use Rattle.got_pairs.specs.Entries.{entry_of}
 use Rattle.got_pairs.specs.Plans.{starts_from}
 use Rattle.got_pairs.specs.Needs.{size_of}
-use Rattle.tls_symbols.specs.Counts.{own_count, relocation_count}
+use Rattle.elf_object.specs.Counts.{own_count, relocation_count}
 use Rattle.link_faults.specs.ImageKinds.{is_moved}
 use Rattle.sequence_forms.specs.declared.places.Site.{Site}
 use Rattle.sequence_match.specs.Faults.{AreSites}

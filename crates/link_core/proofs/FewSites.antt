@@ -16,7 +16,7 @@ use Rattle.elf_records.specs.RelocationRows.{is_of_sequence}
 use Rattle.elf_object.specs.declared.relocation.Relocation.{Relocation}
 use Rattle.elf_object.specs.Lent.{relocations}
 use Rattle.elf_object.specs.Object.{section_count}
-use Rattle.tls_symbols.specs.Counts.{own_count}
+use Rattle.elf_object.specs.Counts.{own_count}
 use Rattle.sequence_forms.specs.declared.forms.Form.{Form}
 use Rattle.sequence_forms.specs.declared.forms.Form.TheVariants.{Gd}
 use Rattle.sequence_forms.specs.declared.places.Site.{Site}

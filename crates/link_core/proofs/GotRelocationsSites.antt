@@ -30,7 +30,8 @@ use Rattle.tls_layout.proofs.LawsOfTls.{have_offsets, lie_in_segment}
 use Rattle.link_faults.specs.declared.binding.Binding.{Binding}
 use Rattle.link_faults.specs.declared.binding.Binding.TheVariants.{Here}
 use Rattle.link_faults.specs.declared.symbol_ref.SymbolRef.{SymbolRef}
-use Rattle.tls_symbols.specs.Bindings.{is_tls_class, is_tls_place, is_tls_symbol, IsBindingWithin}
+use Rattle.tls_symbols.specs.Bindings.{is_tls_symbol, IsBindingWithin}
+use Rattle.elf_object.specs.Lent.{is_tls_class, is_tls_place}
 use Rattle.tls_symbols.specs.Definitions.{IsWithin}
 use Rattle.tls_symbols.specs.Faults.{differ, held_in, is_faulty, is_mismatched, is_tls_kind, names_symbol, Stands}
 use Rattle.tls_symbols.proofs.Within.{binding_within}

@@ -25,7 +25,7 @@ use Rattle.image_file.specs.declared.symbol.ImageSymbol.{ImageSymbol}
 use Rattle.image_writer.specs.Linkable.{tls_size as size_of}
 use Rattle.tls_layout.specs.Places.{tls_alignment, tls_image, tls_size, initial_tls}
 use Rattle.tls_layout.specs.Sections.{Layout}
-use Rattle.tls_symbols.specs.Bindings.{is_tls_class, is_tls_place}
+use Rattle.elf_object.specs.Lent.{is_tls_class, is_tls_place}
 use Rattle.tls_symbols.specs.Definitions.{same_binding}
 use Rattle.link_needs.specs.Linking.{Linking, address, layout, object, offset, offset_in}
 use Rattle.link_tables.specs.Dynamic.{defined, foreign, imports, own_symbols, runtime_symbols, symbols}

@@ -18,7 +18,7 @@
 //! An image is linked as an [`ImageKind`]: the program, at a fixed address or at any, or a module, which a program
 //! loads. The kind decides where the image begins and which access models it may use (Drepper, "ELF Handling For
 //! Thread-Local Storage", section 4). In memory it consists of [`Part`]s, bytes at an address each. A [`SymbolRef`]
-//! is a symbol of one of its objects. A relocation's symbol is bound to such a symbol, to the symbol of that name in
+//! is a symbol of one of its objects, and a [`Place`] that of a relocation or a symbol in a fault. A relocation's symbol is bound to such a symbol, to the symbol of that name in
 //! an image that is loaded with it, or to the run time's function: its [`Binding`].
 //!
 //! The crate has no rules of its own beyond these words, so that each crate of linking can use them
@@ -29,10 +29,12 @@ mod binding;
 mod fault;
 mod image_kind;
 mod part;
+mod place;
 mod symbol_ref;
 
 pub use binding::Binding;
 pub use fault::{LinkFault, LinkFaultKind};
 pub use image_kind::{EXE_BASE, ImageKind};
 pub use part::Part;
+pub use place::Place;
 pub use symbol_ref::SymbolRef;

@@ -12,7 +12,7 @@ use Rattle.elf_object.specs.Lawful.{IsLawful}
 use Rattle.elf_object.specs.Parts.{symbol_count}
 use Rattle.got_pairs.specs.declared.need.Need.{Need}
 use Rattle.sequence_forms.specs.declared.places.Site.{Site}
-use Rattle.tls_symbols.proofs.Search.{range_first, range_none}
+use Rattle.elf_object.proofs.Ranges.{range_first, range_none}
 use Rattle.link_needs.specs.Linking.{Linking}
 use Rattle.link_needs.specs.Needs.{any_stub_call, is_address_kind, is_stub_call}
 use Rattle.link_needs.specs.Needs.{site_needs, site_needs_from}

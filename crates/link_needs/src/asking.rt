@@ -4,14 +4,14 @@ ghost use Rattle.std.specs.Prelude.{◌≡◌, ◌≤◌, ◌↔◌, IsTrue, Mat
 ghost use Rattle.std.specs.List.{All};
 ghost use Rattle.elf_object.specs.Faults.{IsObject};
 ghost use Rattle.link_needs.specs.Refusals.{by_kind, test_of, FitsKind, FitsStorage, IsAskedOf, IsKindFault, IsStorageFault};
-ghost use Rattle.tls_symbols.specs.Counts.{relocation_count};
+ghost use Rattle.elf_object.specs.Counts.{relocation_count};
 ghost use Rattle.tls_symbols.specs.Faults.{IsFirstCharged, NoneCharged};
 
 use crate::charge::Charge;
-use elf_object::Object;
-use link_faults::{ImageKind, LinkFault, LinkFaultKind};
+use elf_object::{Object, relocation_count};
+use link_faults::{ImageKind, LinkFault, LinkFaultKind, Place};
 use std::thread::Threads;
-use tls_symbols::{Bindings, Place, first_use, relocation_count};
+use tls_symbols::{Bindings, first_use};
 
 /// The most relocations that an image may have.
 pub const MAX_RELOCATIONS: u128 = 1 << 19;

@@ -10,7 +10,7 @@ use Rattle.link_faults.specs.declared.fault.LinkFault.{LinkFault}
 use Rattle.link_faults.specs.declared.fault.LinkFault.TheVariants.{OutOfMemory, At}
 use Rattle.link_faults.specs.declared.fault.LinkFaultKind.TheVariants as fault
 use Rattle.link_needs.specs.Refusals.{FitsKind, FitsStorage, IsKindFault, IsStorageFault}
-use Rattle.tls_symbols.specs.Counts.{relocation_count}
+use Rattle.elf_object.specs.Counts.{relocation_count}
 use Rattle.tls_layout.specs.Places.{span, tls_size, IsLawful}
 use Rattle.link_faults.specs.declared.image_kind.ImageKind.{ImageKind}
 use Rattle.link_faults.specs.declared.symbol_ref.SymbolRef.{SymbolRef}

@@ -10,6 +10,7 @@ ghost use Rattle.link_tables.specs.Faults.{names_in, symbols_in};
 ghost use Rattle.link_needs.specs.Linking.{address, offset};
 
 use crate::tables::Tables;
+use elf_object::is_tls_place;
 use elf_records::symbol::GET_ADDRESS_NAME;
 use elf_records::{SymbolBinding, SymbolType, Visibility};
 use got_pairs::Need;
@@ -18,7 +19,6 @@ use image_writer::NamedSymbol;
 use link_faults::SymbolRef;
 use link_needs::Inputs;
 use std::alloc::{AllocError, Global};
-use tls_symbols::is_tls_place;
 
 /// A symbol of another image.
 fn foreign(kind: SymbolType) -> ImageSymbol

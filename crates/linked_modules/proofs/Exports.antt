@@ -14,7 +14,8 @@ use Rattle.elf_object.specs.Lent.{symbol_binding, symbol_name, symbol_place, sym
 use Rattle.elf_object.specs.Parts.{symbol_count}
 use Rattle.link_faults.specs.declared.symbol_ref.SymbolRef.{SymbolRef}
 use Rattle.tls_symbols.specs.Bindings.{exported_at, exported_from, exported_in, exported_names, is_exported, is_symbol}
-use Rattle.tls_symbols.specs.Bindings.{is_its_definition, is_tls_place, is_tls_symbol, object_at}
+use Rattle.tls_symbols.specs.Bindings.{is_its_definition, is_tls_symbol, object_at}
+use Rattle.elf_object.specs.Lent.{is_tls_place}
 use Rattle.elf_records.specs.Symbols.{is_visible}
 use Rattle.tls_symbols.specs.Definitions.{definition_of, is_defined, same_binding}
 use Rattle.tls_symbols.proofs.Within.{dropped_is}

@@ -31,7 +31,7 @@ use Rattle.tls_layout.specs.Places.{address_of, class_of, room}
 use Rattle.tls_layout.specs.Sections.{is_class}
 use Rattle.tls_layout.proofs.LawsOfPlaces.{classes_follow, have_addresses, lie_in_classes}
 use Rattle.tls_layout.proofs.LawsOfSections.{finds_sections}
-use Rattle.tls_symbols.specs.Bindings.{is_tls_class, is_tls_place}
+use Rattle.elf_object.specs.Lent.{is_tls_class, is_tls_place}
 use Rattle.tls_symbols.specs.Definitions.{definition_of}
 use Rattle.whole_meaning.specs.Bytes.{below, code_place, function_at, function_of}
 use Rattle.whole_meaning.specs.Spots.{begin_of, bias_of}

@@ -19,7 +19,7 @@ use Rattle.elf_records.specs.Symbols.{is_tls}
 use Rattle.link_faults.specs.declared.symbol_ref.SymbolRef.{SymbolRef}
 use Rattle.link_needs.specs.Given.{IsGiven}
 use Rattle.link_needs.specs.Linking.{Linking, object}
-use Rattle.tls_symbols.specs.Bindings.{is_tls_class, is_tls_place}
+use Rattle.elf_object.specs.Lent.{is_tls_class, is_tls_place}
 use Rattle.tls_symbols.specs.Definitions.{is_defined, same_binding}
 
 not_local : (y : SymbolBinding) → same_binding Local y ≡ false → y ≢ Local

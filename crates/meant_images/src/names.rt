@@ -11,11 +11,10 @@ ghost use Rattle.whole_meaning.specs.Bytes.{below, function_at, function_of, var
 ghost use Rattle.whole_meaning.specs.Loads.{info_of, wants_surplus};
 ghost use Rattle.whole_meaning.specs.Spots.{in_room};
 
-use elf_object::{Object, SectionClass, SymbolPlace};
+use elf_object::{Object, SectionClass, SymbolPlace, is_tls_place};
 use link_faults::SymbolRef;
 use link_needs::Inputs;
 use module_table::ImageInfo;
-use tls_symbols::is_tls_place;
 
 /// The size of an instance's address range.
 const SPAN: u64 = 1 << 26;
@@ -29,7 +28,7 @@ fn below(end: u64, at: u64) -> Option<u64>
 }
 
 /// The class that linking keeps a section in, if it keeps it.
-#[tactic(auto, using(tls_symbols::proofs::Sections::past_class))]
+#[tactic(auto, using(elf_object::proofs::Sections::past_class))]
 fn class_of(object: &Object, section: u32) -> Option<SectionClass>
     ensures { result ≡ section_class object.now section }
 {

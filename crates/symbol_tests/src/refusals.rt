@@ -3,13 +3,13 @@
 ghost use Rattle.std.specs.Prelude.{◌≡◌};
 
 use crate::images::{exports_of, files_of, images_of, read};
-use elf_object::Object;
+use elf_object::{Object, relocation_count};
 use link_faults::ImageKind::{Exe, Late, Pie, Start};
 use link_faults::{ImageKind, LinkFault};
 use link_needs::{ask_kind, ask_tls, has_few_relocations};
 use std::alloc::Global;
 use std::test::Fail;
-use tls_symbols::{Bindings, relocation_count, resolve};
+use tls_symbols::{Bindings, resolve};
 
 /// Each line: the kind of the image, the size of its TLS segment, the result, and the object, whose symbols are a
 /// variable, a function and a variable of the program. Its relocations are in section 3: 0 is NONE, 10 is 32, 11 is

@@ -17,7 +17,8 @@ use Rattle.tls_layout.specs.declared.sections.Section.{Section}
 use Rattle.tls_layout.specs.declared.extent.Extent.{Extent}
 use Rattle.tls_layout.specs.Rounding.{round_up, IsMultiple}
 use Rattle.elf_object.specs.Lawful.{IsPower}
-use Rattle.tls_layout.specs.Sections.{Layout, dropped, position, section_at, is_in, is_tls_class, IsOrdinary}
+use Rattle.tls_layout.specs.Sections.{Layout, dropped, position, section_at, is_in, IsOrdinary}
+use Rattle.elf_object.specs.Lent.{is_tls_class}
 use Rattle.tls_layout.specs.Places.{next_end, end_of, place_in, read_only, tls_image, initial_tls, zero_tls, tls_size, tls_alignment, greatest_alignment, next_alignment, address_at, offset_by}
 use Rattle.tls_layout.specs.Places.{offset_at, section_found, section_named, address_of, tls_offset_of, IsLawful}
 use Rattle.tls_layout.specs.Laws.{LiesInTls, LieInTheSegment, HaveOffsets, OffsetsAreApart, AlignmentSuits, IsFrontOfSegment}

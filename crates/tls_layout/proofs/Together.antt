@@ -13,7 +13,8 @@ use Rattle.link_faults.specs.ImageKinds.{base_of}
 use Rattle.tls_layout.specs.declared.sections.Section.{Section}
 use Rattle.tls_layout.specs.declared.extent.Extent.{Extent}
 use Rattle.tls_layout.specs.Rounding.{round_up, page_up}
-use Rattle.tls_layout.specs.Sections.{section_at, is_class, is_tls_class, dropped, IsOrdinary}
+use Rattle.tls_layout.specs.Sections.{section_at, is_class, dropped, IsOrdinary}
+use Rattle.elf_object.specs.Lent.{is_tls_class}
 use Rattle.tls_layout.specs.Places.{end_of, place_in, extent_of, executable, read_only, tls_image, initial_data, zero_data, span, address_by, address_at, initial_tls, zero_tls, tls_size}
 use Rattle.tls_layout.specs.Places.{offset_by, offset_at, next_alignment}
 use Rattle.tls_layout.specs.Passes.{GivesPlaces, HaveNone, AreAddresses, AreOffsets}

@@ -9,7 +9,8 @@ use Rattle.link_faults.specs.ImageKinds.{base_of}
 use Rattle.tls_layout.specs.declared.sections.Section.{Section}
 use Rattle.tls_layout.specs.declared.extent.Extent.{Extent}
 use Rattle.tls_layout.specs.Rounding.{round_up, page_up}
-use Rattle.tls_layout.specs.Sections.{Layout, dropped, position, section_at, is_in, is_tls_class, IsOrdinary}
+use Rattle.tls_layout.specs.Sections.{Layout, dropped, position, section_at, is_in, IsOrdinary}
+use Rattle.elf_object.specs.Lent.{is_tls_class}
 
 -- ---- the sections of one class, one after another
 

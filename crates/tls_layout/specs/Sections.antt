@@ -71,10 +71,6 @@ is_class class (Some other) = same_class class other
 abbrev pub is_in : SectionClass → Section → Bool
 is_in class section = is_class class section.class
 
-abbrev pub is_tls_class : Option SectionClass → Bool
-is_tls_class (Some (Tls initial)) = true
-is_tls_class _ = false
-
 -- a section that linking keeps has at most 2^20 bytes, and its alignment is a power of two up to 4,096
 abbrev pub IsOrdinary : Section → Type 0
 IsOrdinary section = (section.size ≤ 2 ^ 20) × IsPower section.alignment

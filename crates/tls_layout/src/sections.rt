@@ -1,7 +1,8 @@
 //! A section, as a layout uses it.
 
 ghost use Rattle.std.specs.Prelude.{◌≡◌};
-ghost use Rattle.tls_layout.specs.Sections.{seen_as, is_class, is_in, is_tls_class};
+ghost use Rattle.tls_layout.specs.Sections.{seen_as, is_class, is_in};
+ghost use Rattle.elf_object.specs.Lent.{is_tls_class};
 
 use elf_object::{SectionClass, SectionPart};
 

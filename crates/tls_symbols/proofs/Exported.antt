@@ -4,7 +4,7 @@ use Rattle.std.specs.List.{flat_map, range_with_len}
 use Rattle.elf_object.specs.Lent.{symbol_name}
 use Rattle.elf_object.specs.Parts.{symbol_count}
 use Rattle.tls_symbols.specs.Bindings.{exported_at, is_exported}
-use Rattle.tls_symbols.proofs.Search.{range_first}
+use Rattle.elf_object.proofs.Ranges.{range_first}
 
 module _ (objects : List (List ℕ)) (o : ℕ) (b : List ℕ) (seen : List (List ℕ)) (a : ℕ) (below : a < symbol_count b) where
   pub export_here : is_exported objects o b a ≡ true

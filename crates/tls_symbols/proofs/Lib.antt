@@ -1,8 +1,8 @@
 pub mod Among
 pub mod BoundAlike
 pub mod Charged
-pub mod Exported
 pub mod ExportLaw
+pub mod Exported
 pub mod FirstFaults
 pub mod FirstUses
 pub mod KnownNames
@@ -10,8 +10,6 @@ pub mod Numbered
 pub mod Resolves
 pub mod Search
 pub mod SectionUses
-pub mod Sections
-pub mod Sums
 pub mod Told
 pub mod Unfit
 pub mod Walked

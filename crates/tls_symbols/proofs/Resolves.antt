@@ -1,7 +1,7 @@
 -- One search after another: what they find is the first fault, and where they find nothing the names are resolved.
 use Rattle.std.proofs.Common.{ℕ, List, arith}
 use Rattle.link_faults.specs.declared.fault.LinkFaultKind.TheVariants.{Undefined, Duplicate, NotTls}
-use Rattle.tls_symbols.specs.declared.place.Place.{Place}
+use Rattle.link_faults.specs.declared.place.Place.{Place}
 use Rattle.tls_symbols.specs.Faults.{is_faulty, IsFirst, IsFirstCharged, IsFirstDuplicate, NoDuplicate, NoneBelow, NoneCharged, Stands}
 
 module _ (objects : List (List ℕ)) (startup : List (List (List ℕ))) where

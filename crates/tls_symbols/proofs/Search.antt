@@ -1,12 +1,7 @@
 -- The first of some numbers that passes a test, and what holds of a list.
 use Rattle.std.proofs.Common.{◌≡◌, ◌+◌, ◌-◌, ◌<◌, ◌≤◌, ℕ, suc, Bool, true, false, List, [], ◌∷◌, Some, None, refl, ap, subst, arith}
 use Rattle.std.specs.List.{All, find, range_with_len}
-
-pub range_first : (a n : ℕ) → a < n → range_with_len a (n - a) ≡ a ∷ range_with_len (a + 1) (n - (a + 1))
-range_first a n h = let some : n - a ≡ suc (n - (a + 1)) = omega arith in ap (range_with_len a) some
-
-pub range_none : (a n : ℕ) → n ≤ a → range_with_len a (n - a) ≡ []
-range_none a n h = let none : n - a ≡ 0 = omega arith in ap (range_with_len a) none
+use Rattle.elf_object.proofs.Ranges.{range_first, range_none}
 
 pub find_here : (P : ℕ → Bool) (a n : ℕ) → a < n → P a ≡ true → find P (range_with_len a (n - a)) ≡ Some a
 find_here P a n h here = rw (range_first a n h, here) refl

@@ -12,7 +12,7 @@ use Rattle.tls_symbols.specs.declared.uses.Use.{Use}
 use Rattle.tls_symbols.specs.Bindings.{object_at}
 use Rattle.tls_symbols.specs.Faults.{held_for, held_in}
 use Rattle.tls_symbols.specs.Walks.{entries_from, steps_from, uses_from, uses_held}
-use Rattle.tls_symbols.proofs.Search.{range_first, range_none}
+use Rattle.elf_object.proofs.Ranges.{range_first, range_none}
 
 nonzero_is : (n t : ℕ) → nonzero n ≡ Some t → n ≡ t
 nonzero_is n t e = grind (arith, nat_tests)

@@ -4,16 +4,12 @@ use Rattle.std.specs.Prelude.{◌+◌, ◌-◌, ◌&&◌, ◌++◌, ℕ, Bool, t
 use Rattle.std.specs.Prelude.{slice_index_or, nat_eq, if◌then◌else◌}
 use Rattle.std.specs.List.{flat_map, list_any, range_with_len}
 use Rattle.std.specs.Str.{bytes_eq}
-use Rattle.object_faults.specs.declared.class.SectionClass.{SectionClass}
-use Rattle.object_faults.specs.declared.class.SectionClass.TheVariants.{Tls}
 use Rattle.elf_records.specs.declared.relocation.RelocationKind.{RelocationKind}
 pub use Rattle.elf_records.specs.RelocationRows.{may_import}
 use Rattle.elf_object.specs.declared.relocation.Relocation.{Relocation}
 use Rattle.elf_records.specs.declared.symbol.SymbolBinding.TheVariants.{Local}
-use Rattle.elf_object.specs.declared.symbol.SymbolPlace.{SymbolPlace}
-use Rattle.elf_object.specs.declared.symbol.SymbolPlace.TheVariants.{InSection}
 use Rattle.elf_records.specs.Symbols.{get_address, is_visible}
-use Rattle.elf_object.specs.Lent.{section_class, symbol_binding, symbol_name, symbol_place, symbol_visibility}
+use Rattle.elf_object.specs.Lent.{is_tls_place, symbol_binding, symbol_name, symbol_place, symbol_visibility}
 use Rattle.elf_object.specs.Parts.{symbol_count}
 use Rattle.link_faults.specs.declared.binding.Binding.{Binding}
 use Rattle.link_faults.specs.declared.binding.Binding.TheVariants.{Here, Startup, Runtime}
@@ -27,15 +23,6 @@ abbrev pub object_at : List (List ℕ) → ℕ → List ℕ
 object_at objects o = slice_index_or objects o []
 
 -- ** symbols of thread-local storage
-
-abbrev pub is_tls_class : Option SectionClass → Bool
-is_tls_class (Some (Tls initial)) = true
-is_tls_class class = false
-
--- whether a symbol with this place is thread-local: it is in a section of thread-local storage
-abbrev pub is_tls_place : List ℕ → SymbolPlace → Bool
-is_tls_place b (InSection s) = is_tls_class (section_class b s)
-is_tls_place b place = false
 
 abbrev pub is_tls_symbol : List ℕ → ℕ → Bool
 is_tls_symbol b e = is_tls_place b (symbol_place b e)

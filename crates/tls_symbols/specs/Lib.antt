@@ -1,6 +1,5 @@
 pub mod Bindings
 pub mod Charges
-pub mod Counts
 pub mod Definitions
 pub mod Faults
 pub mod Known

@@ -1,6 +1,6 @@
 -- The first use that has a property, sought in all objects, or in some of them.
 use Rattle.std.specs.Prelude.{◌≡◌, ◌≤◌, ◌<◌, ℕ, true, List, Option, Some, None}
-use Rattle.tls_symbols.specs.declared.place.Place.{Place}
+use Rattle.link_faults.specs.declared.place.Place.{Place}
 use Rattle.tls_symbols.specs.declared.uses.Use.{Use}
 use Rattle.tls_symbols.specs.Faults.{Test}
 use Rattle.tls_symbols.specs.Walks.{IsFirstUsed, IsUse, IsUsedAt}

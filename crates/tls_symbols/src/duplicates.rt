@@ -11,9 +11,8 @@ ghost use Rattle.tls_symbols.specs.Faults.{is_duplicate, IsFirstDuplicate, NoDup
 ghost use Rattle.tls_symbols.specs.Known.{IsKnown};
 
 use crate::image_names::{ImageNames, is_run_time, symbol_definition};
-use crate::place::Place;
 use elf_object::{Object, SymbolBinding, SymbolPlace};
-use link_faults::SymbolRef;
+use link_faults::{Place, SymbolRef};
 
 /// Whether the definition is this symbol of this object.
 pub fn is_symbol(definition: Option<SymbolRef>, object: usize, symbol: u32) -> bool

@@ -10,8 +10,7 @@ ghost use Rattle.tls_symbols.specs.Known.{IsKnown};
 use crate::duplicates::is_symbol;
 use crate::export_list::Exports;
 use crate::image_names::{ImageNames, know_names, symbol_definition};
-use crate::tls_place::is_tls_place;
-use elf_object::{Object, SymbolBinding};
+use elf_object::{Object, SymbolBinding, is_tls_place};
 use std::alloc::{AllocError, Global};
 
 /// Whether the image exports a name through this symbol: the name binds to the symbol, and it is thread-local and

@@ -51,7 +51,6 @@
 
 mod bindings;
 mod charges;
-mod count;
 mod duplicates;
 mod export_list;
 mod exporting;
@@ -60,19 +59,14 @@ mod image_names;
 mod imports;
 pub mod laws;
 mod numbers;
-mod place;
 mod searching;
 mod standings;
-mod tls_place;
 mod uses;
 
 pub use bindings::{Bindings, resolve};
-pub use count::relocation_count;
 pub use export_list::Exports;
 pub use exporting::exports;
 pub use imports::{Imports, imports_of};
 pub use numbers::symbol_total;
-pub use place::Place;
 pub use searching::{Question, first_use};
-pub use tls_place::is_tls_place;
 pub use uses::{Use, Uses};

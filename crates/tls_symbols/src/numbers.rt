@@ -8,8 +8,7 @@ ghost use Rattle.tls_symbols.specs.Numbers.{AllListed, AllNumbered, AreListed, A
 ghost use Rattle.tls_symbols.specs.Numbers.{IsNamed, IsNumbered};
 
 use crate::export_list::Exports;
-use crate::tls_place::is_tls_place;
-use elf_object::{Object, SymbolBinding, SymbolPart};
+use elf_object::{Object, SymbolBinding, SymbolPart, is_tls_place};
 use elf_records::symbol::GET_ADDRESS_NAME;
 use indexmap::IndexSet;
 use std::alloc::{AllocError, Global};

@@ -6,10 +6,9 @@ ghost use Rattle.tls_symbols.specs.declared.uses.Use.{Use};
 ghost use Rattle.tls_symbols.specs.Searches.{IsToldAmong, MayAsk, NoneUsed};
 ghost use Rattle.tls_symbols.specs.Walks.{IsFirstUsed};
 
-use crate::count::relocation_count;
-use crate::place::Place;
 use crate::uses::{Use, Uses};
-use elf_object::Object;
+use elf_object::{Object, relocation_count};
+use link_faults::Place;
 use std::thread::{Threads, join};
 
 /// This many relocations are worth a thread of their own.

@@ -8,8 +8,8 @@ ghost use Rattle.elf_object.specs.Lent.{relocations};
 ghost use Rattle.tls_symbols.specs.Walks.{entries_from, section_uses, uses, uses_from, uses_held, uses_left};
 ghost use Rattle.tls_symbols.specs.Walks.{GoesOn, IsCounted, IsUse};
 
-use crate::place::Place;
 use elf_object::{Object, Relocation, Relocs};
+use link_faults::Place;
 
 /// A relocation of a section that linking keeps.
 #[derive(Clone, Copy)]

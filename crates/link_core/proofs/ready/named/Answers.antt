@@ -2,7 +2,7 @@ use Rattle.std.proofs.Common.{◌∙◌, ◌<◌, ◌≤◌, ◌^◌, map, inl, 
 use Rattle.std.proofs.lemmas.List.{length-map}
 use Rattle.std.specs.Global.{Vec}
 use Rattle.sequence_match.proofs.SitesSymbols.{sites_symbols}
-use Rattle.tls_symbols.specs.Counts.{relocation_count}
+use Rattle.elf_object.specs.Counts.{relocation_count}
 use Rattle.sequence_forms.specs.declared.places.Site.{Site}
 use Rattle.link_needs.specs.Linking.{link_of}
 use Rattle.link_tables.specs.Faults.{IsCrowded, IsLinkFault}

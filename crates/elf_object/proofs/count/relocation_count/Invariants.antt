@@ -1,8 +1,8 @@
 use Rattle.std.proofs.Common.{◌≡◌, ◌+◌, ◌*◌, ◌<◌, ◌≤◌, ◌^◌, ℕ, List, drop, slice_index_or}
 use Rattle.std.specs.Prelude.{sum_by}
 use Rattle.elf_object.specs.Faults.{IsObject}
-use Rattle.tls_symbols.specs.Counts.{own_count, relocation_count}
-use Rattle.tls_symbols.proofs.count.relocation_count.Given as goal
+use Rattle.elf_object.specs.Counts.{own_count, relocation_count}
+use Rattle.elf_object.proofs.count.relocation_count.Given as goal
 
 -- what is counted and what the objects that are left have is all
 abbrev pub invariant-loop-object : goal.invariant-loop-object

@@ -1,9 +1,9 @@
 //! Whether a symbol is thread-local, by its place.
 
 ghost use Rattle.std.specs.Prelude.{◌≡◌};
-ghost use Rattle.tls_symbols.specs.Bindings.{is_tls_place};
+ghost use Rattle.elf_object.specs.Lent.{is_tls_place};
 
-use elf_object::{Object, SectionClass, SymbolPlace};
+use crate::{Object, SectionClass, SymbolPlace};
 
 /// Whether a symbol with this place is thread-local: it is in a section of thread-local storage.
 #[tactic(auto, using(crate::proofs::Sections::past_class))]

@@ -3,7 +3,7 @@
 ghost use Rattle.std.specs.Prelude.{◌≡◌, Some};
 ghost use Rattle.link_faults.specs.declared.fault.LinkFault.TheVariants.{At};
 
-use link_faults::{LinkFault, LinkFaultKind};
+use crate::{LinkFault, LinkFaultKind};
 
 /// The place of a relocation or a symbol.
 #[derive(Clone, Copy, PartialEq, Eq, Debug)]

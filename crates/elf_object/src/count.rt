@@ -4,9 +4,9 @@ ghost use Rattle.std.specs.Prelude.{◌≡◌, ◌+◌, ◌*◌, ◌<◌, ◌≤
 ghost use Rattle.std.specs.List.{All};
 ghost use Rattle.elf_object.specs.Faults.{IsObject};
 ghost use Rattle.elf_object.specs.Lent.{relocations};
-ghost use Rattle.tls_symbols.specs.Counts.{own_count, relocation_count};
+ghost use Rattle.elf_object.specs.Counts.{own_count, relocation_count};
 
-use elf_object::Object;
+use crate::Object;
 
 /// The number of relocations of an object's sections that linking keeps.
 #[tactic(auto, unfolding(crate::specs::Counts::own_count))]

@@ -3,7 +3,7 @@ use Rattle.std.proofs.Common.{◌≡◌, ◌+◌, ◌-◌, ◌<◌, ◌∙◌, �
 use Rattle.std.specs.Prelude.{sum_by}
 use Rattle.std.specs.List.{range_with_len}
 use Rattle.std.proofs.lemmas.List.Sums.{sum_by-cons}
-use Rattle.tls_symbols.proofs.Search.{range_first}
+use Rattle.elf_object.proofs.Ranges.{range_first}
 
 -- the sum over a and on is that at a and that over the later ones
 sum_first : (f : ℕ → ℕ) (a n : ℕ) → a < n → sum_by f (range_with_len a (n - a)) ≡ f a + sum_by f (range_with_len (a + 1) (n - (a + 1)))

@@ -3,8 +3,8 @@ use Rattle.std.specs.Prelude.{sum_by}
 use Rattle.std.specs.List.{range_with_len}
 use Rattle.elf_object.specs.Lent.{relocations}
 use Rattle.elf_object.specs.Object.{section_count}
-use Rattle.tls_symbols.specs.Counts.{own_count}
-use Rattle.tls_symbols.proofs.count.own_count.Given as goal
+use Rattle.elf_object.specs.Counts.{own_count}
+use Rattle.elf_object.proofs.count.own_count.Given as goal
 
 -- what is counted and what the sections that are left have is all
 abbrev pub invariant-loop-section : goal.invariant-loop-section

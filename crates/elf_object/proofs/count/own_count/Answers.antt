@@ -1,9 +1,9 @@
 use Rattle.std.proofs.Common.{◌≡◌, ◌<◌, ◌∙◌, length, ap, arith}
 use Rattle.elf_object.specs.Lent.{relocations}
 use Rattle.elf_object.specs.Object.{section_count}
-use Rattle.tls_symbols.specs.Counts.{own_count}
-use Rattle.tls_symbols.proofs.Sums.{sum_kept}
-use Rattle.tls_symbols.proofs.count.own_count.Goals as goal
+use Rattle.elf_object.specs.Counts.{own_count}
+use Rattle.elf_object.proofs.Sums.{sum_kept}
+use Rattle.elf_object.proofs.count.own_count.Goals as goal
 
 pub loop-section-preserved : goal.loop-section-preserved
 loop-section-preserved c =
