@@ -75,31 +75,40 @@ fn too_large() -> LinkFault
     }
 }
 
-/// The names of an image. The fault is that it has too many relocations, or too long names.
-fn named<'a>(
-    alloc: Global,
-    objects: &[Object<'a>],
-    sites: &[Vec<Site>],
+/// What is linked, and how.
+#[derive(Clone, Copy)]
+struct Request<'l, 'a> {
+    objects: &'l [Object<'a>],
+    sites: &'l [Vec<Site>],
     kind: ImageKind,
     relax: bool,
+}
+
+/// The names of an image. The fault is that it has too many relocations, or too long names.
+fn named<'a, R: Threads + Sync>(
+    rt: &R,
+    alloc: Global,
+    asked: Request<'_, 'a>,
     bindings: &Bindings<'_, '_, 'a>,
 ) -> Result<Names<'a>, LinkFault>
     requires few { length bindings.now.startup < 2 ^ 32 - 1 }
-    requires each { length sites.now ≡ length objects.now }
-    requires sites { (o : ℕ) → o < length objects.now
-        → AreSites (object_at objects.now o) (slice_index_or (map (λ own. own.items) sites.now) o []) }
-    requires objects { bindings.now.objects ≡ objects.now }
-    requires resolved { AreResolved objects.now bindings.now.startup }
-    requires kind { FitsKind objects.now kind }
-    requires lawful { IsLawful (layout_of kind objects.now) }
-    ensures prepared { IfOk result (λ names.
-        ArePrepared (link_of objects.now sites.now kind bindings.now.startup relax)
+    requires each { length asked.sites.now ≡ length asked.objects.now }
+    requires sites { (o : ℕ) → o < length asked.objects.now → AreSites (object_at asked.objects.now o)
+        (slice_index_or (map (λ own. own.items) asked.sites.now) o []) }
+    requires objects { bindings.now.objects ≡ asked.objects.now }
+    requires resolved { AreResolved asked.objects.now bindings.now.startup }
+    requires kind { FitsKind asked.objects.now asked.kind }
+    requires lawful { IsLawful (layout_of asked.kind asked.objects.now) }
+    ensures prepared { IfOk result (λ names. ArePrepared
+        (link_of asked.objects.now asked.sites.now asked.kind bindings.now.startup asked.relax)
         names.own.items (map (λ name. name.now) names.imports.keys)) }
-    ensures fault { IfErr result (IsLinkFault (link_of objects.now sites.now kind bindings.now.startup relax)) }
+    ensures fault { IfErr result
+        (IsLinkFault (link_of asked.objects.now asked.sites.now asked.kind bindings.now.startup asked.relax)) }
 {
+    let objects = asked.objects;
     let few = has_few_relocations(objects);
     let own = defined_symbols(alloc, objects, bindings)?;
-    let imports = imports(alloc, objects, bindings, sites)?;
+    let imports = imports(rt, alloc, objects, bindings, asked.sites)?;
     if !few || !names_fit(objects, own.as_slice(), imports.as_slice()) {
         return Err(too_large());
     }
@@ -129,7 +138,8 @@ fn storage<R: Threads + Sync>(
 }
 
 /// A link of these inputs, with its offset table laid out. Fails only when memory runs out.
-fn planned<'l, 's, 'a>(
+fn planned<'l, 's, 'a, R: Threads + Sync>(
+    rt: &R,
     alloc: Global,
     inputs: Inputs<'l, 's, 'a>,
     names: Names<'a>,
@@ -138,22 +148,13 @@ fn planned<'l, 's, 'a>(
     requires sound { IsSound inputs }
     ensures { IfOk result (λ ready. ready ≡ inputs.entry) }
 {
-    let plan = plan_of(alloc, inputs)?;
+    let plan = plan_of(rt, alloc, inputs)?;
     let tables = Tables {
         plan,
         own: names.own,
         imports: names.imports,
     };
     Ok(ReadyLink { tables })
-}
-
-/// What is linked, and how.
-#[derive(Clone, Copy)]
-struct Request<'l, 'a> {
-    objects: &'l [Object<'a>],
-    sites: &'l [Vec<Site>],
-    kind: ImageKind,
-    relax: bool,
 }
 
 /// A ready link of what is asked for with these bindings, which the image's kind admits. The error is the first fault
@@ -185,7 +186,7 @@ fn within_limits<'l, 's, 'a, R: Threads + Sync>(
         relax,
     } = asked;
     let placement = place(alloc, objects, kind)?;
-    let names = named(alloc, objects, sites, kind, relax, &bindings)?;
+    let names = named(rt, alloc, asked, &bindings)?;
     let block_offset = storage(rt, alloc, objects, &bindings, kind, &placement)?;
     let inputs = Inputs {
         kind,
@@ -196,7 +197,7 @@ fn within_limits<'l, 's, 'a, R: Threads + Sync>(
         placement,
         block_offset,
     };
-    let ready = planned(alloc, inputs, names)?;
+    let ready = planned(rt, alloc, inputs, names)?;
     Ok(ready)
 }
 

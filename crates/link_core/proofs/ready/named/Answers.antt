@@ -13,12 +13,12 @@ use Rattle.link_core.proofs.ready.named.Goals.{then-not-few-via-then-not-few}
 use Rattle.link_core.proofs.ready.named.Goals.{then-not-few-via-else-not-few+then-not-names_fit}
 
 pub imports-requires-clause-symbols : goal.imports-requires-clause-symbols
-imports-requires-clause-symbols c = λ o there.
+imports-requires-clause-symbols g c = λ o there.
     sites_symbols _ _ (c.has_few_relocations-few.ensures.objects o _ there) (c.requires.sites o there)
 
 pub returns-then-not-few-clause-fault : goal.returns-then-not-few-clause-fault
-returns-then-not-few-clause-fault c =
-    let l = link_of c.args.objects.now c.args.sites.now c.args.kind c.args.bindings.now.startup c.args.relax in
+returns-then-not-few-clause-fault g c =
+    let l = link_of c.args.asked.objects.now c.args.asked.sites.now c.args.asked.kind c.args.bindings.now.startup c.args.asked.relax in
     let large : IsCrowded l =
     elim c.then-not-few.branch [
       | then-not-few-via-then-not-few w ↦
@@ -36,12 +36,12 @@ returns-then-not-few-clause-fault c =
     (limit_fault l c.requires.resolved c.requires.kind c.requires.lawful.small_tls large)
 
 pub returns-clause-prepared : goal.returns-clause-prepared
-returns-clause-prepared c =
-    let l = link_of c.args.objects.now c.args.sites.now c.args.kind c.args.bindings.now.startup c.args.relax in record {
+returns-clause-prepared g c =
+    let l = link_of c.args.asked.objects.now c.args.asked.sites.now c.args.asked.kind c.args.bindings.now.startup c.args.asked.relax in record {
       given = record {
         few_startup = c.requires.few;
         are_objects = c.has_few_relocations-few.ensures.objects;
-        each = length-map c.args.sites.now (λ (own : Vec Site). own.items) ∙ c.requires.each;
+        each = length-map c.args.asked.sites.now (λ (own : Vec Site). own.items) ∙ c.requires.each;
         are_sites = c.requires.sites;
       };
       limits = record {
