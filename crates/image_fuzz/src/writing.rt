@@ -1,33 +1,9 @@
 //! Writes images that were read.
 
-ghost use Rattle.std.specs.Prelude.{IsTrue};
-ghost use Rattle.image_writer.specs.Loadable.{HoldsTls};
-ghost use Rattle.image_writer.specs.Outlined.{outline_of};
-
 use anyhow::{Result, ensure};
 use image_file::{Image, read};
-use image_writer::write;
+use image_writer::{holds_tls, write};
 use std::alloc::Global;
-
-/// Whether the TLS segment begins no further than the last part ends, as the writer requires.
-#[tactic(auto, using(crate::proofs::LastPart::held))]
-fn holds_tls(image: &Image) -> bool
-    ensures { IsTrue result → HoldsTls (outline_of image.now) }
-{
-    let Some(tls) = image.tls() else {
-        return true;
-    };
-    let Some(number) = image.part_count().checked_sub(1) else {
-        return false;
-    };
-    let Some(part) = image.part(number) else {
-        return false;
-    };
-    match part.address.checked_add(part.bytes.len() as u64) {
-        Some(end) => tls.address <= end,
-        None => false,
-    }
-}
 
 /// The file that the writer makes of an image, if the writer accepts it.
 fn written(alloc: Global, image: &Image) -> Result<Option<Vec<u8>>> {

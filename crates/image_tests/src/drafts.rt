@@ -1,17 +1,20 @@
-//! Images made from a linker's drafts, and their files.
+//! Files of images made from a linker's drafts, and written again.
 
-ghost use Rattle.std.specs.Prelude.{◌≡◌, length};
-ghost use Rattle.image_writer.specs.Loadable.{HoldsTls};
-ghost use Rattle.image_writer.specs.Outlined.{outline_of};
+ghost use Rattle.std.specs.Prelude.{◌≡◌, ◌≤◌, length};
+ghost use Rattle.image_writer.specs.Contents.{contents_of};
+ghost use Rattle.image_writer.specs.Frames.{AreInside};
+ghost use Rattle.image_writer.specs.Linkable.{IsLinkable};
 
 use crate::images::{SURPLUS, WRITTEN};
 use crate::reading::bytes_of;
 use image_file::{
-    FileKind, Image, ImageRelocation, ImageSymbol, LoaderKind, PartClass, SymbolBinding,
-    SymbolType, TlsPart, Visibility,
+    FileKind, ImageRelocation, ImageSymbol, LoaderKind, PartClass, SymbolBinding, SymbolType,
+    TlsPart, Visibility, read,
 };
-use image_writer::{Draft, NamedSymbol, PartPlace, image_of, into_file, write};
+use image_writer::laws::linkable_drafts_have_frames;
+use image_writer::{Draft, Frame, NamedSymbol, PartPlace, frame_of, holds_tls, into_file, write};
 use std::alloc::{AllocError, Global};
+use std::process::Abort;
 use std::test::Fail;
 
 /// A GLOBAL symbol.
@@ -51,25 +54,23 @@ fn place(class: PartClass, address: u64, size: u64) -> PartPlace
     }
 }
 
-/// The file of an image, made in two ways: appended to nothing, and made from the image itself.
-#[derive(Drop)]
-struct Files {
-    appended: Vec<u8>,
-    made: Vec<u8>,
-}
-
-fn files_of(alloc: Global, image: Image) -> Result<Files, AllocError>
-    requires { HoldsTls (outline_of image) }
+/// The file of a draft's image: what stands behind the first page of a file, in the draft's frame.
+fn file_of(alloc: Global, draft: &Draft<'_>, file: &[u8]) -> Result<Vec<u8>, AllocError>
+    requires linkable { IsLinkable (contents_of draft.now file.now) }
+    requires inside { AreInside draft.now file.now }
+    requires page { 4096 ≤ length file.now }
 {
-    let mut appended = Vec::new(alloc);
-    write(alloc, &image, &mut appended)?;
-    let made = into_file(alloc, image)?;
-    Ok(Files { appended, made })
+    linkable_drafts_have_frames();
+    let Frame { front, back } = frame_of(alloc, draft)?;
+    let mut made = front;
+    made.extend_from_slice(&file[4096..])?;
+    made.extend_from_slice(back.as_slice())?;
+    Ok(made)
 }
 
-/// Writes the image `WRITTEN` from a file of a page and the bytes of its parts.
-fn written_program(alloc: Global, file: Vec<u8>) -> Result<Files, AllocError>
-    requires { length file.items ≡ 20486 }
+/// The file of the image `WRITTEN`, of a file of a page and the bytes of its parts.
+fn framed_program(alloc: Global, file: &[u8]) -> Result<Vec<u8>, AllocError>
+    requires { length file.now ≡ 20486 }
 {
     let draft = Draft {
         kind: FileKind::Exe,
@@ -101,12 +102,12 @@ fn written_program(alloc: Global, file: Vec<u8>) -> Result<Files, AllocError>
         }],
         is_flagged: false,
     };
-    files_of(alloc, image_of(alloc, &draft, file)?)
+    file_of(alloc, &draft, file)
 }
 
-/// Writes a module that uses static TLS from a file of a page and the bytes of its parts.
-fn written_surplus(alloc: Global, file: Vec<u8>) -> Result<Files, AllocError>
-    requires { length file.items ≡ 12296 }
+/// The file of a module that uses static TLS, of a file of a page and the bytes of its parts.
+fn framed_surplus(alloc: Global, file: &[u8]) -> Result<Vec<u8>, AllocError>
+    requires { length file.now ≡ 12296 }
 {
     let draft = Draft {
         kind: FileKind::Module,
@@ -134,7 +135,7 @@ fn written_surplus(alloc: Global, file: Vec<u8>) -> Result<Files, AllocError>
         }],
         is_flagged: true,
     };
-    files_of(alloc, image_of(alloc, &draft, file)?)
+    file_of(alloc, &draft, file)
 }
 
 /// The bytes of an image's parts without its tables, after a page of zeros.
@@ -152,15 +153,41 @@ fn with_one(file: Vec<u8>, at: usize) -> Result<Vec<u8>, Fail> {
     Ok(file)
 }
 
+/// The files that the writer makes of an image: appended to nothing, and made from the image itself.
+#[derive(Drop)]
+struct Files {
+    appended: Vec<u8>,
+    made: Vec<u8>,
+}
+
+/// Reads an image, and writes it again.
+fn files_of(alloc: Global, file: &[u8]) -> Result<Files, Fail> {
+    let image = read(alloc, file)?;
+    if !holds_tls(&image) {
+        return Err("the TLS segment begins in the file")?;
+    }
+    let mut appended = Vec::new(alloc);
+    write(alloc, &image, &mut appended)?;
+    let made = into_file(alloc, image)?;
+    Ok(Files { appended, made })
+}
+
+/// Checks that a file is read as an image whose files are these bytes.
+fn is_written_as(rt: &(impl Abort + AllocGlobal), file: &[u8], want: &[u8]) -> Result<(), Fail> {
+    let files = files_of(rt.alloc(), file)?;
+    assert_eq!(rt; files.appended.as_slice(), want);
+    assert_eq!(rt; files.made.as_slice(), want);
+    Ok(())
+}
+
 #[test]
 fn makes_the_program_of_its_draft(rt: HostRuntime) -> Result<(), Fail> {
     let want = bytes_of(rt.alloc(), WRITTEN)?;
     let file = parts_of(rt.alloc(), want.as_slice(), 20_486)?;
     assert_eq!(rt; file.len(), 20_486);
-    let files = written_program(rt.alloc(), file)?;
-    assert_eq!(rt; files.appended.as_slice(), want.as_slice());
-    assert_eq!(rt; files.made.as_slice(), want.as_slice());
-    Ok(())
+    let framed = framed_program(rt.alloc(), file.as_slice())?;
+    assert_eq!(rt; framed.as_slice(), want.as_slice());
+    is_written_as(&rt, framed.as_slice(), want.as_slice())
 }
 
 #[test]
@@ -168,10 +195,9 @@ fn makes_the_module_of_its_draft(rt: HostRuntime) -> Result<(), Fail> {
     let want = bytes_of(rt.alloc(), SURPLUS)?;
     let file = parts_of(rt.alloc(), want.as_slice(), 12_296)?;
     assert_eq!(rt; file.len(), 12_296);
-    let files = written_surplus(rt.alloc(), file)?;
-    assert_eq!(rt; files.appended.as_slice(), want.as_slice());
-    assert_eq!(rt; files.made.as_slice(), want.as_slice());
-    Ok(())
+    let framed = framed_surplus(rt.alloc(), file.as_slice())?;
+    assert_eq!(rt; framed.as_slice(), want.as_slice());
+    is_written_as(&rt, framed.as_slice(), want.as_slice())
 }
 
 /// The first part has 23 bytes: the byte at 4,096 + 23 belongs to no part.
@@ -181,8 +207,7 @@ fn puts_zeros_between_parts(rt: HostRuntime) -> Result<(), Fail> {
     let file = parts_of(rt.alloc(), want.as_slice(), 20_486)?;
     let file = with_one(file, 4_119)?;
     assert_eq!(rt; file.len(), 20_486);
-    let files = written_program(rt.alloc(), file)?;
-    assert_eq!(rt; files.appended.as_slice(), want.as_slice());
-    assert_eq!(rt; files.made.as_slice(), want.as_slice());
-    Ok(())
+    let framed = framed_program(rt.alloc(), file.as_slice())?;
+    assert_eq!(rt; framed.get(4_119), Some(&1));
+    is_written_as(&rt, framed.as_slice(), want.as_slice())
 }

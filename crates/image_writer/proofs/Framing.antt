@@ -22,7 +22,7 @@ use Rattle.image_writer.specs.Tables.{finished, tables, tables_part}
 use Rattle.image_writer.specs.Told.{next_page, places_end, IsRelocationFitting, IsSymbolFitting}
 use Rattle.image_writer.specs.Written.{laid, written}
 use Rattle.image_writer.proofs.Filing.{is_file, written_behind}
-use Rattle.image_writer.proofs.Finishing.{address-is, fitting, loadable_told, outline-is, tables_told, tls_held}
+use Rattle.image_writer.proofs.Finishing.{address-is, fitting, loadable_told, outline-is, tables_told, tls_told}
 use Rattle.image_writer.proofs.Laying.{laid-append, reach}
 use Rattle.image_writer.proofs.Linked.{stands_for}
 use Rattle.image_writer.proofs.Making.{part_in-size, parts_end-in}
@@ -31,7 +31,7 @@ use Rattle.image_writer.proofs.Making.{part_in-size, parts_end-in}
 pub has_frame : (d : Draft) (file : List ℕ) → IsLinkable (contents_of d file) → AreInside d file
     → IsLoadable (outline_told d) × HoldsTls (outline_told d)
 has_frame d file linkable inside =
-    (loadable_told d file inside linkable, tls_held d file (outline_told d) inside linkable refl)
+    (loadable_told d file inside linkable, tls_told d file inside linkable)
 
 -- laying comes to the end of the last part
 reach_end : (kind : FileKind) (ps : List Part) → reach (base_of kind) ps ≡ parts_end kind ps

@@ -18,6 +18,7 @@ pub mod HeaderRules
 pub mod Headings
 pub mod InPlace
 pub mod Laying
+pub mod LastPart
 pub mod Layouts
 pub mod Linked
 pub mod Loaded

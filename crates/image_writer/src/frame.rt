@@ -9,12 +9,12 @@ ghost use Rattle.image_writer.specs.Told.{told, layout_of, IsRelocationFitting, 
 
 use crate::draft::Draft;
 use crate::layout::{Layout, layout_of, next_page, places_end};
-use crate::made::{outline_of, with_tables};
-use crate::outline::Outline;
+use crate::outline::{Outline, PartPlace};
 use crate::page::put_page;
 use crate::put::grow;
 use crate::tables::put_tables;
 use elf_records::alignment::PAGE;
+use image_file::PartClass;
 use std::alloc::{AllocError, Global};
 
 /// What stands before and after the parts of a draft in the file of its image.
@@ -23,6 +23,41 @@ pub struct Frame {
     pub front: Vec<u8>,
     /// Zeros up to the next page, and the dynamic tables.
     pub back: Vec<u8>,
+}
+
+/// The parts of a draft, and after them the part of the tables.
+fn with_tables(
+    alloc: Global,
+    draft: &Draft<'_>,
+    layout: &Layout,
+) -> Result<Vec<PartPlace>, AllocError>
+    requires layout { layout.now ≡ layout_of (told draft.now) }
+    requires loadable { IsLoadable (outline_told draft.now) }
+    ensures { IfOk result (λ all. all.items ≡ (outline_told draft.now).parts) }
+{
+    let mut all = Vec::with_capacity(alloc, draft.parts.len() + 1)?;
+    all.extend_from_slice(draft.parts)?;
+    all.push(PartPlace {
+        class: PartClass::ReadOnly,
+        address: next_page(draft),
+        size: layout.size(),
+    })?;
+    Ok(all)
+}
+
+/// What the headers say of the image of a draft, with all its parts.
+fn outline_of<'a>(draft: &Draft<'_>, layout: &Layout, parts: &'a [PartPlace]) -> Outline<'a>
+    requires layout { layout.now ≡ layout_of (told draft.now) }
+    requires parts { parts.now ≡ (outline_told draft.now).parts }
+    ensures { outlined result ≡ outline_told draft.now }
+{
+    Outline {
+        kind: draft.kind,
+        parts,
+        array_size: layout.array_size,
+        got: draft.got,
+        tls: draft.tls,
+    }
 }
 
 /// The page of headers.

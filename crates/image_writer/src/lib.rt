@@ -1,4 +1,4 @@
-//! The bytes of an image's file: writes an image that was read, and makes one of what a linker has laid out.
+//! The bytes of an image's file: writes an image that was read, and frames the parts that a linker has laid out.
 //!
 //! A loader reads a file from its first bytes: a header, and *program headers*, one for each part to load, one for
 //! the dynamic array, one for the TLS segment and one for the part that only the loader writes. Here they fill the
@@ -9,18 +9,17 @@
 //!
 //! The rule that it keeps: **reading what was written gives what it was made of.**
 //! - [`write`] appends the file of an [`Image`](image_file::Image), and that file is read as this very image. It
-//!   requires that the TLS segment begins no further than the last part ends.
+//!   requires that the TLS segment begins no further than the last part ends, as [`holds_tls`] tests.
 //! - [`into_file`] makes that file from the image's own bytes, and takes the image. The parts are at their offsets
 //!   already; it puts headers and the zeros between parts around them.
-//! - [`image_of`] makes an image from a [`Draft`], which is all that a linker knows except the tables, and from the
-//!   file so far. It puts the tables after the last part and the headers over the first page. The image has the
-//!   draft's parts, symbols, names and relocations. `specs/Linkable` says what it requires of the draft.
-//! - [`frame_of`] makes of a draft what its image's file has before and behind the bytes of the parts: the page of
-//!   headers, and the tables. So a file can be made piece by piece, with no buffer of its size; [`laws`] say that the
-//!   parts in their frame are the very file that `image_of` and `into_file` make, and that it is read as that image.
+//! - [`frame_of`] makes of a [`Draft`], which is all that a linker knows of an image except the tables, what the file
+//!   has before and behind the bytes of the parts: the page of headers, and the tables. So a file is made piece by
+//!   piece, with no buffer of its size. [`laws`] say that the parts in their frame are the very file that `write` makes
+//!   of the image, and that it is read as that image, which has the draft's parts, symbols, names and relocations.
+//!   `specs/Linkable` says what they require of the draft.
 //!
 //! Memory is allocated first and at once. If it runs out, `write` leaves its output as it was. `write` copies parts
-//! once, `into_file` copies none, and `image_of` keeps the file that it was given.
+//! once, `into_file` copies none, and `frame_of` reads none.
 //!
 //! For example, a module that defines one symbol, `x`, thread-local at offset 8, has these tables at address 0x1000,
 //!
@@ -46,7 +45,6 @@ mod entries;
 mod frame;
 pub mod laws;
 mod layout;
-mod made;
 mod outline;
 mod page;
 mod put;
@@ -55,7 +53,6 @@ mod written;
 
 pub use draft::{Draft, NamedSymbol};
 pub use frame::{Frame, frame_of};
-pub use made::image_of;
 pub use outline::{Outline, PartPlace};
 pub use page::file_offset;
-pub use written::{into_file, write};
+pub use written::{holds_tls, into_file, write};

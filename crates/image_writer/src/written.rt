@@ -1,6 +1,6 @@
 //! Writes the file of an image.
 
-ghost use Rattle.std.specs.Prelude.{◌≡◌, ◌+◌, ◌-◌, ◌^◌, ◌<◌, ◌≤◌, ◌++◌, OnOk, OnErr, IfOk, length, map, replicate};
+ghost use Rattle.std.specs.Prelude.{◌≡◌, ◌↔◌, ◌+◌, ◌-◌, ◌^◌, ◌<◌, ◌≤◌, ◌++◌, OnOk, OnErr, IfOk, IsTrue, length, map, replicate};
 ghost use Rattle.elf_records.specs.Fields.{splice};
 ghost use Rattle.image_faults.specs.Faults.{IsImage};
 ghost use Rattle.image_file.specs.Spelled.{spelled};
@@ -144,6 +144,21 @@ fn put_around(outline: &Outline<'_>, out: &mut [u8])
 {
     put_gaps(outline, out);
     put_page(outline, out, 0);
+}
+
+/// Whether the TLS segment of an image, if there is one, begins no further than the last part ends: what [`write`] and
+/// [`into_file`] require of it.
+#[tactic(auto, using(crate::proofs::LastPart::none_held, crate::proofs::LastPart::held, crate::proofs::LastPart::empty_held))]
+pub fn holds_tls(image: &Image) -> bool
+    ensures { IsTrue result ↔ HoldsTls (outline_of image.now) }
+{
+    let Some(tls) = image.tls() else {
+        return true;
+    };
+    match image.part(image.part_count().saturating_sub(1)) {
+        Some(last) => tls.address <= last.address.saturating_add(last.bytes.len() as u64),
+        None => tls.address == 0,
+    }
 }
 
 /// Gives up an image for its file. The bytes of its parts stay where they are, without a copy. The file is read as that

@@ -2,7 +2,7 @@ use Rattle.std.proofs.Common.{[], ◌∷◌, ◌++◌, ap, ◌∙◌, arith}
 use Rattle.image_writer.specs.Told.{tables_place}
 use Rattle.image_writer.proofs.Finishing.{bounded, places_held}
 use Rattle.image_writer.proofs.Layouts.{layout_facts}
-use Rattle.image_writer.proofs.made.with_tables.Goals as goal
+use Rattle.image_writer.proofs.frame.with_tables.Goals as goal
 
 pub next_page-requires : goal.next_page-requires
 next_page-requires c =
