@@ -1,8 +1,9 @@
 -- Walks that add what code needs, or look for a call of the stub: what is left of them.
-use Rattle.std.proofs.Common.{◌≡◌, ◌≢◌, ◌+◌, ◌-◌, ◌<◌, ◌≤◌, ◌∙◌, ◌||◌, ℕ, Bool, true, false, List, ◌∷◌, ◌++◌, drop}
-use Rattle.std.proofs.Common.{filter, length, sym, ap, append_assoc, append-nil}
-use Rattle.std.specs.Prelude.{slice_index_or, if◌then◌else◌}
-use Rattle.std.specs.List.{All, flat_map, list_any, range_with_len}
+use Rattle.std.proofs.Common.{◌≡◌, ◌≢◌, ◌+◌, ◌-◌, ◌<◌, ◌≤◌, ◌∙◌, ◌||◌, ℕ, suc, zero, Bool, true, false, List, [], ◌∷◌, ◌++◌}
+use Rattle.std.proofs.Common.{drop, filter, length, map, sym, ap, append_assoc, append-nil, arith}
+use Rattle.std.specs.Prelude.{Ok, slice_index_or, if◌then◌else◌}
+use Rattle.std.specs.declared.result.Result.{Result}
+use Rattle.std.specs.List.{All, AllZip, flat_map, list_any, range_with_len}
 use Rattle.std.proofs.Math.ListN.{drop_of_length-le}
 use Rattle.std.proofs.lemmas.List.Elements.{All-filter, filter_passes}
 use Rattle.elf_records.specs.declared.relocation.RelocationKind.{RelocationKind}
@@ -13,6 +14,7 @@ use Rattle.elf_object.specs.Parts.{symbol_count}
 use Rattle.got_pairs.specs.declared.need.Need.{Need}
 use Rattle.sequence_forms.specs.declared.places.Site.{Site}
 use Rattle.elf_object.proofs.Ranges.{range_first, range_none}
+use Rattle.sequence_match.proofs.OwnSites.{drop_at}
 use Rattle.link_needs.specs.Linking.{Linking}
 use Rattle.link_needs.specs.Needs.{any_stub_call, is_address_kind, is_stub_call}
 use Rattle.link_needs.specs.Needs.{site_needs, site_needs_from}
@@ -38,19 +40,24 @@ module _ {A : Type 0} (f : ℕ → List A) (seen : List A) (a n : ℕ) where
   pub counted_all : n ≤ a → seen ≡ seen ++ flat_map f (range_with_len a (n - a))
   counted_all past = sym (ap (λ ys. seen ++ flat_map f ys) (range_none a n past) ∙ append-nil seen)
 
--- ** objects, and the sites of each
+-- ** objects, each found by itself
 
-module _ (l : Linking) (seen : List Need) (sites : List (List Site)) (i : ℕ) where
-  pub sites_walked : (own : List Site) → drop i sites ≡ own ∷ drop (i + 1) sites
-      → (seen ++ flat_map (site_needs l i) own) ++ site_needs_from l (i + 1) (drop (i + 1) sites)
-      ≡ seen ++ site_needs_from l i (drop i sites)
-  sites_walked own here =
-      append_assoc seen (flat_map (site_needs l i) own) (site_needs_from l (i + 1) (drop (i + 1) sites))
-      ∙ ap (λ vs. seen ++ site_needs_from l i vs) (sym here)
-
-  pub sites_walked_all : length sites ≤ i → seen ≡ seen ++ site_needs_from l i (drop i sites)
-  sites_walked_all past =
-      sym (ap (λ vs. seen ++ site_needs_from l i vs) (drop_of_length-le sites past) ∙ append-nil seen)
+-- what was found for the number of each object is what the objects need from the first on: found is a list that a
+-- result z has, of is what it is for an object by its number, and all are the results, of which R holds
+module _ {X Y Z E : Type 0} (from : ℕ → List X → List Y) (step : ℕ → X → List Y) (xs : List X) (d : X)
+    (found : Z → List Y) (R : ℕ → Result Z E → Type 0) (none : (o : ℕ) → from o [] ≡ [])
+    (more : (o : ℕ) (x : X) (ys : List X) → from o (x ∷ ys) ≡ step o x ++ from (o + 1) ys)
+    (of : (o : ℕ) (z : Z) → R o (Ok z) → found z ≡ step o (slice_index_or xs o d)) where
+  pub each_found : (o n : ℕ) (all : List Z) → o + n ≡ length xs → AllZip R (range_with_len o n) (map Ok all)
+      → flat_map found all ≡ from o (drop o xs)
+  each_found o zero [] long are = sym (ap (from o) (drop_of_length-le xs (omega (arith, long))) ∙ none o)
+  each_found o zero (z ∷ all) long are = absurd are
+  each_found o (suc n) [] long are = absurd are
+  each_found o (suc n) (z ∷ all) long are =
+      let x = slice_index_or xs o d in
+      let rest = each_found (o + 1) n all (omega (arith, long)) are.1 in
+      ap (λ ys. ys ++ flat_map found all) (of o z are.0) ∙ ap (λ ys. step o x ++ ys) rest
+      ∙ sym (ap (from o) (drop_at xs o d (omega (arith, long))) ∙ more o x (drop (o + 1) xs))
 
 -- ** calls of the stub
 
