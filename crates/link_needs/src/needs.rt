@@ -2,12 +2,12 @@
 
 ghost use Rattle.std.specs.Prelude.{◌≡◌, ◌+◌, ◌<◌, ◌≤◌, ◌^◌, ◌++◌, ◌&&◌, [], ◌∷◌, IfOk, IfSome, OnOk, filter, length};
 ghost use Rattle.std.specs.Prelude.{map, option_and_then, option_map, if◌then◌else◌};
-ghost use Rattle.std.specs.List.{All, flat_map};
+ghost use Rattle.std.specs.List.{All, AllZip, flat_map, range_with_len};
 ghost use Rattle.elf_object.specs.Lawful.{IsLawful};
 ghost use Rattle.elf_object.specs.Lent.{relocations};
 ghost use Rattle.elf_object.specs.Parts.{symbol_count};
 ghost use Rattle.tls_symbols.specs.Bindings.{IsBindingWithin, object_at};
-ghost use Rattle.link_needs.specs.Linking.{choice, choices_from, choices_in};
+ghost use Rattle.link_needs.specs.Linking.{choice, choices_from, choices_in, sites_at};
 ghost use Rattle.link_needs.specs.Needs.{address_fields, address_need, address_needs, as_list, calls, calls_stub};
 ghost use Rattle.link_needs.specs.Needs.{is_address_kind, own_word, reaching, relocation_need};
 ghost use Rattle.link_needs.specs.Needs.{is_kept, need_by, needs, new_relocation, object_needs, object_needs_from};
@@ -304,14 +304,24 @@ impl<'l, 's, 'a> Inputs<'l, 's, 'a> {
         Ok(())
     }
 
+    /// The sites of an object.
+    fn own_sites(&self, object: usize) -> &'l [Site]
+        requires { object < length self.now.objects }
+        ensures sites { result.now ≡ sites_at self.now object }
+        ensures usable { All (IsUsable (object_at self.now.objects object)) result.now }
+    {
+        let sites = self.sites;
+        sites[object].as_slice()
+    }
+
     /// What the code of an object needs, and which sequences take the places of its sites'.
     fn own_wanted(&self, alloc: Global, object: usize) -> Result<OwnWanted<'a>, AllocError>
         requires { object < length self.now.objects }
         ensures { IfOk result (λ own. AreOwn self.now object own.sites.items own.fields.items own.choices.items) }
     {
         let mut sites = Vec::new(alloc);
-        let choices =
-            self.push_own_sites(alloc, object, self.sites[object].as_slice(), &mut sites)?;
+        let own = self.own_sites(object);
+        let choices = self.push_own_sites(alloc, object, own, &mut sites)?;
         let mut fields = Vec::new(alloc);
         self.push_object(alloc, object, &mut fields)?;
         Ok(OwnWanted {
@@ -333,12 +343,9 @@ impl<'l, 's, 'a> Inputs<'l, 's, 'a> {
         rt: &R,
         alloc: Global,
     ) -> Result<Vec<OwnWanted<'a>>, AllocError>
-        ensures sites { IfOk result (λ all. flat_map (λ own. own.sites.items) all.items
-            ≡ site_needs_from self.now 0 self.now.sites) }
-        ensures fields { IfOk result (λ all. flat_map (λ own. own.fields.items) all.items
-            ≡ object_needs_from self.now 0 self.now.objects) }
-        ensures choices { IfOk result (λ all. map (λ own. own.choices.items) all.items
-            ≡ choices_from self.now 0 self.now.sites) }
+        ensures { IfOk result (λ all. AllZip
+            (λ object own. AreOwn self.now object own.sites.items own.fields.items own.choices.items)
+            (range_with_len 0 (length self.now.objects)) all.items) }
     {
         (0..self.objects.len())
             .into_par_iter()
@@ -365,16 +372,18 @@ impl<'l, 's, 'a> Inputs<'l, 's, 'a> {
         ensures choices { IfOk result (λ wanted. map (λ own. own.items) wanted.choices.items
             ≡ choices_from self.now 0 self.now.sites) }
     {
-        joined(alloc, self.each_wanted(rt, alloc)?)
+        let all = self.each_wanted(rt, alloc)?;
+        self.is_given();
+        joined(alloc, all)
     }
 }
 
 /// What objects need, in their order: first all their sites, and then all their address fields.
 fn joined<'a>(alloc: Global, all: Vec<OwnWanted<'a>>) -> Result<Wanted<'a>, AllocError>
     ensures needs { IfOk result (λ wanted. wanted.needs.items
-        ≡ flat_map (λ own. own.sites.items) all.items ++ flat_map (λ own. own.fields.items) all.items) }
+        ≡ flat_map (λ own. own.sites.items) all.entry.items ++ flat_map (λ own. own.fields.items) all.entry.items) }
     ensures choices { IfOk result (λ wanted. map (λ own. own.items) wanted.choices.items
-        ≡ map (λ own. own.choices.items) all.items) }
+        ≡ map (λ own. own.choices.items) all.entry.items) }
 {
     let mut needs = Vec::new(alloc);
     let mut fields = Vec::new(alloc);
