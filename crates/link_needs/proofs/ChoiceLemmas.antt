@@ -1,8 +1,7 @@
 -- Which sequences stand in the place of sites, object by object.
-use Rattle.std.proofs.Common.{◌≡◌, ◌∙◌, ◌+◌, ◌<◌, ◌≤◌, ◌++◌, ℕ, zero, suc, false, List, [], ◌∷◌, Option, Some, None}
-use Rattle.std.proofs.Common.{length, drop, map, sym, ap, arith, add-one, append_assoc, append-nil, drop-cons, refl}
-use Rattle.std.proofs.Math.ListN.{drop_of_length-le}
-use Rattle.std.proofs.lemmas.List.{get_or-map, length-map, map-append}
+use Rattle.std.proofs.Common.{◌≡◌, ◌∙◌, ◌+◌, ◌<◌, ℕ, zero, suc, false, List, [], ◌∷◌, Option, Some, None}
+use Rattle.std.proofs.Common.{length, map, sym, ap, arith, refl}
+use Rattle.std.proofs.lemmas.List.{get_or-map, length-map}
 use Rattle.std.specs.Global.{Vec}
 use Rattle.std.specs.Prelude.{slice_index_or}
 use Rattle.link_faults.specs.declared.binding.Binding.{Binding}
@@ -15,33 +14,6 @@ use Rattle.sequence_forms.specs.declared.forms.Form.{Form}
 use Rattle.sequence_forms.specs.declared.places.Site.{Site}
 use Rattle.link_needs.specs.Linking.{Linking, binding, choice, choices_from, choices_in, chosen, sites_at}
 use Rattle.sequence_match.specs.Sites.{first_of}
-
--- ** those of an object, and those of the later ones
-
-choices_first : (l : Linking) (o : ℕ) (xs : List (List Site)) → o < length xs
-    → choices_from l o (drop o xs) ≡ choices_in l o (slice_index_or xs o []) ∷ choices_from l (o + 1) (drop (o + 1) xs)
-choices_first l o xs there =
-    let same : drop (suc o) xs ≡ drop (o + 1) xs = ap (λ n. drop n xs) (sym (add-one o)) in
-    ap (choices_from l o) (drop-cons xs o [] there)
-    ∙ ap (λ ys. choices_in l o (slice_index_or xs o []) ∷ choices_from l (o + 1) ys) same
-
-pub choices_next : (l : Linking) (o : ℕ) (xs : List (List Site)) (now next : List (Vec Choice))
-    (whole : List (List Choice)) (own : Vec Choice) → o < length xs → next ≡ now ++ own ∷ []
-    → own.items ≡ choices_in l o (slice_index_or xs o [])
-    → map (λ v. v.items) now ++ choices_from l o (drop o xs) ≡ whole
-    → map (λ v. v.items) next ++ choices_from l (o + 1) (drop (o + 1) xs) ≡ whole
-choices_next l o xs now next whole own there more is kept =
-    let rest = choices_from l (o + 1) (drop (o + 1) xs) in
-    let shown = map (λ (v : Vec Choice). v.items) now in
-    ap (λ ys. map (λ v. v.items) ys ++ rest) more
-    ∙ (ap (λ ys. ys ++ rest) (map-append (λ (v : Vec Choice). v.items) now (own ∷ []))
-    ∙ (append_assoc shown (own.items ∷ []) rest
-    ∙ (ap (λ x. shown ++ x ∷ rest) is ∙ (ap (λ ys. shown ++ ys) (sym (choices_first l o xs there)) ∙ kept))))
-
-pub choices_end : (l : Linking) (o : ℕ) (xs : List (List Site)) (now whole : List (List Choice)) → length xs ≤ o
-    → now ++ choices_from l o (drop o xs) ≡ whole → now ≡ whole
-choices_end l o xs now whole past kept =
-    sym (append-nil now) ∙ (ap (λ ys. now ++ choices_from l o ys) (sym (drop_of_length-le xs past)) ∙ kept)
 
 -- ** those of one object among those of all
 

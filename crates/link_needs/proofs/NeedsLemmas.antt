@@ -1,8 +1,10 @@
 -- Walks that add what code needs, or look for a call of the stub: what is left of them.
-use Rattle.std.proofs.Common.{◌≡◌, ◌≢◌, ◌+◌, ◌-◌, ◌<◌, ◌≤◌, ◌∙◌, ◌||◌, ℕ, Bool, true, false, List, ◌∷◌, ◌++◌, drop}
-use Rattle.std.proofs.Common.{filter, length, sym, ap, append_assoc, append-nil}
-use Rattle.std.specs.Prelude.{slice_index_or, if◌then◌else◌}
-use Rattle.std.specs.List.{All, flat_map, list_any, range_with_len}
+use Rattle.std.proofs.Common.{◌≡◌, ◌≢◌, ◌+◌, ◌-◌, ◌<◌, ◌≤◌, ◌∙◌, ◌||◌, ℕ, refl, suc, zero, Bool, true, false, List, [], ◌∷◌, ◌++◌}
+use Rattle.std.proofs.Common.{drop, filter, length, map, sym, ap, append_assoc, append-nil, arith, subst}
+use Rattle.std.specs.Global.{Vec}
+use Rattle.std.specs.Prelude.{Err, IfOk, MatchResult, Ok, slice_index_or, if◌then◌else◌}
+use Rattle.std.specs.declared.result.Result.{Result}
+use Rattle.std.specs.List.{All, AllZip, flat_map, list_any, range_with_len}
 use Rattle.std.proofs.Math.ListN.{drop_of_length-le}
 use Rattle.std.proofs.lemmas.List.Elements.{All-filter, filter_passes}
 use Rattle.elf_records.specs.declared.relocation.RelocationKind.{RelocationKind}
@@ -13,9 +15,13 @@ use Rattle.elf_object.specs.Parts.{symbol_count}
 use Rattle.got_pairs.specs.declared.need.Need.{Need}
 use Rattle.sequence_forms.specs.declared.places.Site.{Site}
 use Rattle.elf_object.proofs.Ranges.{range_first, range_none}
-use Rattle.link_needs.specs.Linking.{Linking}
+use Rattle.sequence_match.proofs.OwnSites.{drop_at}
+use Rattle.link_needs.specs.Linking.{Linking, choices_from, choices_in}
+use Rattle.link_needs.specs.Plans.{AreOwn}
+use Rattle.relax_sites.specs.declared.choices.Choice.{Choice}
+use Rattle.std.proofs.lemmas.List.Concat.{flat_map_single}
 use Rattle.link_needs.specs.Needs.{any_stub_call, is_address_kind, is_stub_call}
-use Rattle.link_needs.specs.Needs.{site_needs, site_needs_from}
+use Rattle.link_needs.specs.Needs.{object_needs, object_needs_from, site_needs, site_needs_from}
 
 -- ** elements of a list
 
@@ -38,19 +44,63 @@ module _ {A : Type 0} (f : ℕ → List A) (seen : List A) (a n : ℕ) where
   pub counted_all : n ≤ a → seen ≡ seen ++ flat_map f (range_with_len a (n - a))
   counted_all past = sym (ap (λ ys. seen ++ flat_map f ys) (range_none a n past) ∙ append-nil seen)
 
--- ** objects, and the sites of each
+-- ** objects, each by itself
 
-module _ (l : Linking) (seen : List Need) (sites : List (List Site)) (i : ℕ) where
-  pub sites_walked : (own : List Site) → drop i sites ≡ own ∷ drop (i + 1) sites
-      → (seen ++ flat_map (site_needs l i) own) ++ site_needs_from l (i + 1) (drop (i + 1) sites)
-      ≡ seen ++ site_needs_from l i (drop i sites)
-  sites_walked own here =
-      append_assoc seen (flat_map (site_needs l i) own) (site_needs_from l (i + 1) (drop (i + 1) sites))
-      ∙ ap (λ vs. seen ++ site_needs_from l i vs) (sym here)
+-- where each x by its number gives a step, and each z is found for a number, all zs together give what all xs do
+module _ {X Y Z : Type 0} (from : ℕ → List X → List Y) (step : ℕ → X → List Y) (xs : List X) (d : X)
+    (none : (o : ℕ) → from o [] ≡ [])
+    (more : (o : ℕ) (x : X) (ys : List X) → from o (x ∷ ys) ≡ step o x ++ from (o + 1) ys)
+    (found : Z → List Y) (R : ℕ → Z → Type 0)
+    (of : (o : ℕ) (z : Z) → R o z → found z ≡ step o (slice_index_or xs o d)) where
+  all_found : (o n : ℕ) (zs : List Z) → o + n ≡ length xs → AllZip R (range_with_len o n) zs
+      → flat_map found zs ≡ from o (drop o xs)
+  all_found o zero [] long are =
+      sym (ap (from o) (drop_of_length-le xs (omega (arith, long))) ∙ none o)
+  all_found o zero (z ∷ zs) long are = absurd are
+  all_found o (suc n) [] long are = absurd are
+  all_found o (suc n) (z ∷ zs) long are =
+      let x = slice_index_or xs o d in
+      let rest = all_found (o + 1) n zs (omega (arith, long)) are.1 in
+      ap (λ ys. ys ++ flat_map found zs) (of o z are.0) ∙ ap (λ ys. step o x ++ ys) rest
+      ∙ sym (ap (from o) (drop_at xs o d (omega (arith, long))) ∙ more o x (drop (o + 1) xs))
 
-  pub sites_walked_all : length sites ≤ i → seen ≡ seen ++ site_needs_from l i (drop i sites)
-  sites_walked_all past =
-      sym (ap (λ vs. seen ++ site_needs_from l i vs) (drop_of_length-le sites past) ∙ append-nil seen)
+module _ {Z : Type 0} (l : Linking) (sites fields : Z → List Need) (choices : Z → List Choice) (zs : List Z)
+    (are : AllZip (λ o z. AreOwn l o (sites z) (fields z) (choices z)) (range_with_len 0 (length l.objects)) zs) where
+  pub fields_found : flat_map fields zs ≡ object_needs_from l 0 l.objects
+  fields_found =
+      all_found (object_needs_from l) (object_needs l) l.objects [] (λ o. refl) (λ o x ys. refl) fields
+      (λ o z. AreOwn l o (sites z) (fields z) (choices z)) (λ o z own. own.fields_are) 0 (length l.objects) zs
+      (omega arith) are
+
+  module _ (each : length l.sites ≡ length l.objects) where
+    pub sites_found : flat_map sites zs ≡ site_needs_from l 0 l.sites
+    sites_found =
+        all_found (site_needs_from l) (λ o own. flat_map (site_needs l o) own) l.sites [] (λ o. refl)
+        (λ o x ys. refl) sites (λ o z. AreOwn l o (sites z) (fields z) (choices z)) (λ o z own. own.sites_are) 0
+        (length l.objects) zs (omega (arith, each)) are
+
+    pub choices_found : map choices zs ≡ choices_from l 0 l.sites
+    choices_found =
+        sym (flat_map_single choices zs)
+        ∙ all_found (choices_from l) (λ o own. choices_in l o own ∷ []) l.sites [] (λ o. refl)
+        (λ o x ys. refl) (λ z. choices z ∷ []) (λ o z. AreOwn l o (sites z) (fields z) (choices z))
+        (λ o z own. ap (λ ys. ys ∷ []) own.choices_are) 0 (length l.objects) zs (omega (arith, each)) are
+
+-- what holds of each result that is no error holds of what all hold, if none is
+zipped_ok : {X Y : Type 0} (E : Type 0) (R : X → Y → Type 0) (xs : List X) (zs : List Y)
+    → AllZip (λ x (y : Result Y E). IfOk y (R x)) xs (map Ok zs) → AllZip R xs zs
+zipped_ok E R [] [] are = tt
+zipped_ok E R [] (z ∷ zs) are = absurd are
+zipped_ok E R (x ∷ xs) [] are = absurd are
+zipped_ok E R (x ∷ xs) (z ∷ zs) are = (are.0, zipped_ok E R xs zs are.1)
+
+pub all_ok : {X Y E : Type 0} (R : X → Y → Type 0) (xs : List X) (ys : List (Result Y E)) (r : Result (Vec Y) E)
+    (Q : E → Type 0) → AllZip (λ x y. IfOk y (R x)) xs ys
+    → MatchResult r (λ v. (zs : List Y) × (ys ≡ map Ok zs) × (v.items ≡ zs)) Q → IfOk r (λ v. AllZip R xs v.items)
+all_ok R xs ys (Ok v) Q are kept =
+    subst (AllZip R xs) (sym kept.2)
+    (zipped_ok _ R xs kept.0 (subst (AllZip (λ x y. IfOk y (R x)) xs) kept.1 are))
+all_ok R xs ys (Err e) Q are kept = tt
 
 -- ** calls of the stub
 

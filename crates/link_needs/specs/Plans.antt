@@ -5,11 +5,12 @@ use Rattle.std.specs.Prelude.{◌^◌}
 use Rattle.got_pairs.specs.Plans.{Table}
 use Rattle.relax_sites.specs.declared.choices.Choice.{Choice}
 use Rattle.link_needs.specs.Given.{FitsTable, IsGiven}
-use Rattle.link_needs.specs.Linking.{Linking, choices_from, address, object, offset}
-use Rattle.link_needs.specs.Needs.{got_start, has_stub, stub_start, table}
+use Rattle.link_needs.specs.Linking.{Linking, choices_from, choices_in, address, object, offset, sites_at}
+use Rattle.link_needs.specs.Needs.{got_start, has_stub, object_needs, site_needs, stub_start, table}
 use Rattle.link_needs.specs.declared.symbol_values.SymbolValue.{SymbolValue}
 use Rattle.link_needs.specs.Values.{counts_from_thread_pointer, is_rewriting, goes_where}
-use Rattle.std.specs.List.{range_with_len}
+use Rattle.std.specs.List.{flat_map, range_with_len}
+use Rattle.got_pairs.specs.declared.need.Need.{Need}
 use Rattle.elf_records.specs.declared.relocation.RelocationKind.{RelocationKind}
 use Rattle.elf_records.specs.RelocationRows.{row, is_offset}
 pub use Rattle.elf_records.specs.RelocationRows.{reaches_entry}
@@ -29,6 +30,15 @@ pub record IsUsable (b : List ℕ) (site : Site) : Type 0 where
   pub small : site.start + site.len ≤ 2 ^ 20
   pub whole : site.len ≡ form_length site.form
   pub register : site.reg ≤ 15
+
+-- ** what one object needs
+
+-- these belong to object o: what its sites need, what its address fields need, and which sequences take the places of
+-- its sites'
+pub record AreOwn (l : Linking) (o : ℕ) (sites fields : List Need) (choices : List Choice) : Type 0 where
+  pub sites_are : sites ≡ flat_map (site_needs l o) (sites_at l o)
+  pub fields_are : fields ≡ object_needs l o (object l o)
+  pub choices_are : choices ≡ choices_in l o (sites_at l o)
 
 -- ** what a symbol is bound to
 

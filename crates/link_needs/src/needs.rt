@@ -2,26 +2,28 @@
 
 ghost use Rattle.std.specs.Prelude.{◌≡◌, ◌+◌, ◌<◌, ◌≤◌, ◌^◌, ◌++◌, ◌&&◌, [], ◌∷◌, IfOk, IfSome, OnOk, filter, length};
 ghost use Rattle.std.specs.Prelude.{map, option_and_then, option_map, if◌then◌else◌};
-ghost use Rattle.std.specs.List.{All, flat_map};
+ghost use Rattle.std.specs.List.{All, AllZip, flat_map, range_with_len};
 ghost use Rattle.elf_object.specs.Lawful.{IsLawful};
 ghost use Rattle.elf_object.specs.Lent.{relocations};
 ghost use Rattle.elf_object.specs.Parts.{symbol_count};
 ghost use Rattle.tls_symbols.specs.Bindings.{IsBindingWithin, object_at};
-ghost use Rattle.link_needs.specs.Linking.{choice, choices_from, choices_in};
+ghost use Rattle.link_needs.specs.Linking.{choice, choices_from, choices_in, sites_at};
 ghost use Rattle.link_needs.specs.Needs.{address_fields, address_need, address_needs, as_list, calls, calls_stub};
 ghost use Rattle.link_needs.specs.Needs.{is_address_kind, own_word, reaching, relocation_need};
 ghost use Rattle.link_needs.specs.Needs.{is_kept, need_by, needs, new_relocation, object_needs, object_needs_from};
 ghost use Rattle.link_needs.specs.Needs.{section_needs, site_needs, site_needs_from, target_by};
-ghost use Rattle.link_needs.specs.Plans.{IsUsable};
+ghost use Rattle.link_needs.specs.Plans.{AreOwn, IsUsable};
 
 use crate::inputs::Inputs;
-use elf_object::{Object, Relocation, RelocationKind};
+use elf_object::{Object, Relocation, RelocationKind, relocation_count};
 use elf_records::relocation_row::TableEntry;
 use got_pairs::{Name, Need, Target};
 use link_faults::Binding;
+use rayon::prelude::*;
 use relax_sites::{Choice, NewField, new_field};
 use sequence_match::{Form, Site};
 use std::alloc::{AllocError, Global};
+use std::thread::Threads;
 
 /// What all code needs of the table, and which sequence takes the place of each site's. Each site is decided once; a
 /// site that reaches an entry is bound a second time, for its entry.
@@ -30,6 +32,17 @@ pub(crate) struct Wanted<'a> {
     pub needs: Vec<Need<'a>>,
     pub choices: Vec<Vec<Choice>>,
 }
+
+/// Likewise of one object: what its sites need, and its address fields.
+#[derive(Drop)]
+struct OwnWanted<'a> {
+    sites: Vec<Need<'a>>,
+    fields: Vec<Need<'a>>,
+    choices: Vec<Choice>,
+}
+
+/// A thread of its own pays for this many relocations of objects.
+const WORTH_A_THREAD: u128 = 1 << 13;
 
 /// Whether a sequence of this form calls the run time, directly or through its word.
 fn calls(form: Form) -> bool
@@ -226,25 +239,6 @@ impl<'l, 's, 'a> Inputs<'l, 's, 'a> {
         Ok(choices)
     }
 
-    /// Adds what all sites need. Returns which sequence takes the place of each.
-    fn push_sites(
-        &self,
-        alloc: Global,
-        needs: &mut Vec<Need<'a>>,
-    ) -> Result<Vec<Vec<Choice>>, AllocError>
-        ensures needs { OnOk result
-            (needs.new.items ≡ needs.old.items ++ site_needs_from self.now 0 self.now.sites) }
-        ensures choices { IfOk result (λ all. map (λ own. own.items) all.items
-            ≡ choices_from self.now 0 self.now.sites) }
-    {
-        let mut all = Vec::with_capacity(alloc, self.sites.len())?;
-        for (object, own) in self.sites.iter().enumerate() {
-            let choices = self.push_own_sites(alloc, object, own.as_slice(), needs)?;
-            all.push(choices)?;
-        }
-        Ok(all)
-    }
-
     /// What an address field needs, by its binding.
     fn own_word(&self, bound: Option<Binding>) -> Option<Need<'a>>
         requires { IfSome bound (IsBindingWithin self.now.objects) }
@@ -310,29 +304,97 @@ impl<'l, 's, 'a> Inputs<'l, 's, 'a> {
         Ok(())
     }
 
-    /// Adds what all address fields need.
-    fn push_objects(&self, alloc: Global, needs: &mut Vec<Need<'a>>) -> Result<(), AllocError>
-        ensures { OnOk result
-            (needs.new.items ≡ needs.old.items ++ object_needs_from self.now 0 self.now.objects) }
+    /// The sites of an object.
+    fn own_sites(&self, object: usize) -> &'l [Site]
+        requires { object < length self.now.objects }
+        ensures sites { result.now ≡ sites_at self.now object }
+        ensures usable { All (IsUsable (object_at self.now.objects object)) result.now }
     {
-        for object in 0..self.objects.len() {
-            self.push_object(alloc, object, needs)?;
-        }
-        Ok(())
+        let sites = self.sites;
+        sites[object].as_slice()
+    }
+
+    /// What the code of an object needs, and which sequences take the places of its sites'.
+    fn own_wanted(&self, alloc: Global, object: usize) -> Result<OwnWanted<'a>, AllocError>
+        requires { object < length self.now.objects }
+        ensures { IfOk result (λ own. AreOwn self.now object own.sites.items own.fields.items own.choices.items) }
+    {
+        let mut sites = Vec::new(alloc);
+        let own = self.own_sites(object);
+        let choices = self.push_own_sites(alloc, object, own, &mut sites)?;
+        let mut fields = Vec::new(alloc);
+        self.push_object(alloc, object, &mut fields)?;
+        Ok(OwnWanted {
+            sites,
+            fields,
+            choices,
+        })
+    }
+
+    /// How many objects are worth a thread of their own, by the mean of their relocations; at least one.
+    fn share(&self) -> usize {
+        let mean = relocation_count(self.objects) / (self.objects.len() as u128).max(1);
+        WORTH_A_THREAD.div_ceil(mean.max(1)) as usize
+    }
+
+    /// What the code of each object needs, in order. Threads share the objects.
+    fn each_wanted<R: Threads + Sync>(
+        &self,
+        rt: &R,
+        alloc: Global,
+    ) -> Result<Vec<OwnWanted<'a>>, AllocError>
+        ensures { IfOk result (λ all. AllZip
+            (λ object own. AreOwn self.now object own.sites.items own.fields.items own.choices.items)
+            (range_with_len 0 (length self.now.objects)) all.items) }
+    {
+        (0..self.objects.len())
+            .into_par_iter()
+            .with_min_len(self.share())
+            .map(
+                |object: usize| -> Result<OwnWanted, AllocError>
+                    requires { object < length self.now.objects }
+                    ensures { IfOk result (λ own. AreOwn self.entry.now object own.sites.items
+                        own.fields.items own.choices.items) }
+                { self.own_wanted(alloc, object) },
+            )
+            .collect::<Result<Vec<OwnWanted>, AllocError>>(rt, alloc)?
     }
 
     /// What all code needs: first sequences, in the order of their sites, and then address fields, in the order of
     /// their places. And which sequence takes the place of each site's.
-    pub(crate) fn wanted(&self, alloc: Global) -> Result<Wanted<'a>, AllocError>
+    #[tactic(auto, unfolding(crate::specs::Needs::needs))]
+    pub(crate) fn wanted<R: Threads + Sync>(
+        &self,
+        rt: &R,
+        alloc: Global,
+    ) -> Result<Wanted<'a>, AllocError>
         ensures needs { IfOk result (λ wanted. wanted.needs.items ≡ needs self.now) }
         ensures choices { IfOk result (λ wanted. map (λ own. own.items) wanted.choices.items
             ≡ choices_from self.now 0 self.now.sites) }
     {
-        let mut needs = Vec::new(alloc);
-        let choices = self.push_sites(alloc, &mut needs)?;
-        self.push_objects(alloc, &mut needs)?;
-        Ok(Wanted { needs, choices })
+        let all = self.each_wanted(rt, alloc)?;
+        self.is_given();
+        joined(alloc, all)
     }
+}
+
+/// What objects need, in their order: first all their sites, and then all their address fields.
+fn joined<'a>(alloc: Global, all: Vec<OwnWanted<'a>>) -> Result<Wanted<'a>, AllocError>
+    ensures needs { IfOk result (λ wanted. wanted.needs.items
+        ≡ flat_map (λ own. own.sites.items) all.entry.items ++ flat_map (λ own. own.fields.items) all.entry.items) }
+    ensures choices { IfOk result (λ wanted. map (λ own. own.items) wanted.choices.items
+        ≡ map (λ own. own.choices.items) all.entry.items) }
+{
+    let mut needs = Vec::new(alloc);
+    let mut fields = Vec::new(alloc);
+    let mut choices = Vec::with_capacity(alloc, all.len())?;
+    for mut own in all {
+        needs.append(&mut own.sites)?;
+        fields.append(&mut own.fields)?;
+        choices.push(own.choices)?;
+    }
+    needs.append(&mut fields)?;
+    Ok(Wanted { needs, choices })
 }
 
 /// The address fields of a section, in the order of the file. Not over `Uses`: those of one section alone are kept.

@@ -25,6 +25,7 @@ use relax_sites::Choice;
 use sequence_match::{Form, Site};
 use std::alloc::{AllocError, Global};
 use std::marker::Model;
+use std::thread::Threads;
 use tls_layout::page_up;
 use tls_relocs::{Field, Overflow, value};
 
@@ -135,14 +136,15 @@ impl<'l, 's, 'a> Inputs<'l, 's, 'a> {
 }
 
 /// Lays out the offset table of a link after its sections.
-pub fn plan_of<'l, 's, 'a>(
+pub fn plan_of<'l, 's, 'a, R: Threads + Sync>(
+    rt: &R,
     alloc: Global,
     inputs: Inputs<'l, 's, 'a>,
 ) -> Result<Plan<'l, 's, 'a>, AllocError>
     requires { FitsTable inputs }
     ensures { IfOk result (λ plan. plan ≡ inputs.entry) }
 {
-    let Wanted { needs, choices } = inputs.wanted(alloc)?;
+    let Wanted { needs, choices } = inputs.wanted(rt, alloc)?;
     let got = plan(alloc, needs.as_slice(), inputs.kind, inputs.block_offset)?;
     let got_start = inputs.placement.room();
     let stub_start = page_up(got_start + got.size());

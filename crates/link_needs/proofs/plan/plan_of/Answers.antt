@@ -9,7 +9,7 @@ use Rattle.link_needs.proofs.PlanLemmas.{ends_at, plan_is, table_small}
 use Rattle.link_needs.proofs.plan.plan_of.Goals as goal
 
 pub page_up-stub_start-requires : goal.page_up-stub_start-requires
-page_up-stub_start-requires c =
+page_up-stub_start-requires g c =
     let l = c.args.inputs in
     let found = c.as_slice.result.now in
     let needs_are : found ≡ needs l = c.as_slice.ensures.value ∙ c.in_ok-needs.ensures.needs in
@@ -29,7 +29,7 @@ page_up-stub_start-requires c =
     )
 
 pub invariant_of-result : goal.invariant_of-result
-invariant_of-result c =
+invariant_of-result g c =
     let l = c.args.inputs in
     let found = c.as_slice.result.now in
     let needs_are : found ≡ needs l = c.as_slice.ensures.value ∙ c.in_ok-needs.ensures.needs in
