@@ -88,7 +88,7 @@ pub(crate) fn said(
     let objects = read(alloc, files)?;
     let startup = exports_of(alloc, images)?;
     let bindings = resolve(rt, alloc, objects.as_slice(), startup.as_slice())?;
-    all_said(alloc, &bindings, objects.as_slice())
+    all_said(rt, alloc, &bindings, objects.as_slice())
 }
 
 /// Adds each symbol as OBJECT.SYMBOL.
@@ -129,11 +129,16 @@ fn told(
 }
 
 /// The dynamic symbols for some bindings, as text.
-fn all_said(alloc: Global, bindings: &Bindings, objects: &[Object]) -> Result<String, Fail>
+fn all_said(
+    rt: &HostRuntime,
+    alloc: Global,
+    bindings: &Bindings,
+    objects: &[Object],
+) -> Result<String, Fail>
     requires { objects.now ≡ bindings.now.objects }
 {
     let sites = all_sites(alloc, objects)?;
     let symbols = defined_symbols(alloc, objects, bindings)?;
-    let names = imports(alloc, objects, bindings, sites.as_slice())?;
+    let names = imports(rt, alloc, objects, bindings, sites.as_slice())?;
     told(alloc, objects, symbols.as_slice(), names.as_slice())
 }

@@ -1,46 +1,47 @@
-use Rattle.std.proofs.Common.{◌<◌, ◌∙◌, ◌+◌, drop, length, map, sym, ap, subst, arith}
-use Rattle.tls_symbols.specs.Bindings.{object_at}
+use Rattle.std.proofs.Common.{◌≡◌, ◌∙◌, ◌+◌, ◌<◌, ◌≤◌, [], drop, length, map, sym, ap, arith, subst}
+use Rattle.std.specs.Prelude.{slice_index_or}
+use Rattle.std.proofs.lemmas.List.{length-map}
 use Rattle.dynamic_symbols.specs.Names.{distinct, imported_from, imported_in, imports}
-use Rattle.dynamic_symbols.specs.Found.{with_names}
-use Rattle.sequence_match.specs.Sites.{HaveSymbols}
-use Rattle.dynamic_symbols.proofs.Adding.{added, ended_from, object_is, walk_from}
-use Rattle.sequence_match.proofs.OwnSites.{own_sites, drop_here}
+use Rattle.dynamic_symbols.specs.Found.{with_names, AreImports}
+use Rattle.dynamic_symbols.proofs.Adding.{added, ended_from, made_at, made_count, walk_from}
 use Rattle.dynamic_symbols.proofs.importing.imports.Goals as goal
 
-pub add_imported-requires-clause-symbols : goal.add_imported-requires-clause-symbols
-add_imported-requires-clause-symbols c =
-    let objects = c.args.objects.now in
-    let sites = c.args.sites.now in
-    let i = c.loop-index.index in
-    let own = c.index-sites-index.result in
-    let b = c.index-objects-index.result in
-    let below : i < length objects = omega (arith, c.loop-index-test.true, c.requires.each) in
-    let sites_are = own_sites sites i own c.index-sites-index.is c.loop-index-test.true ∙ sym c.deref.ensures.value in
-    subst (λ o. HaveSymbols o c.deref.result.now) (object_is objects i b c.index-objects-index.is below)
-    (subst (HaveSymbols (object_at objects i)) sites_are (c.requires.symbols i below))
-
-pub loop-index-preserved : goal.loop-index-preserved
-loop-index-preserved c =
+pub loop-own-preserved : goal.loop-own-preserved
+loop-own-preserved g c =
     let objects = c.args.bindings.now.objects in
     let startup = c.args.bindings.now.startup in
-    let sites = c.args.sites.now in
-    let i = c.loop-index.index in
-    let own = c.index-sites-index.result in
-    let seen = map (λ name. name.now) c.loop-index.names.keys in
-    let rest = imported_from objects startup (i + 1) (map (λ v. v.items) (drop (i + 1) sites)) in
-    ap (λ ns. with_names ns rest) c.in_ok-add_imported.ensures
-    ∙ ap (λ ys. with_names (with_names seen (imported_in objects startup i ys)) rest) c.deref.ensures.value
-    ∙ walk_from objects startup seen sites i own (drop_here sites i own c.index-sites-index.is c.loop-index-test.true)
-    ∙ c.loop-index.invariant
+    let sites = map (λ own. own.items) c.args.sites.now in
+    let is = AreImports objects startup sites in
+    let n = length c.args.sites.now in
+    let i = c.loop-own.own-index in
+    let each = c.as_slice-own-items.result.now in
+    let count : length each ≡ length sites = made_count is 0 n each c.loop-own.invariant.0 ∙ sym (length-map c.args.sites.now (λ own. own.items)) in
+    let below : i < length sites = omega (arith, c.loop-own-test.true, count) in
+    let seen = map (λ name. name.now) c.loop-own.names.keys in
+    let rest = imported_from objects startup (i + 1) (drop (i + 1) sites) in
+    let made = made_at is 0 n each i i c.own-item.result (omega arith) c.loop-own.invariant.0 c.loop-own-test.true in
+    let own : map (λ name. name.now) c.in-Ok.own.items ≡ imported_in objects startup i (slice_index_or sites i []) =
+    subst (is i) (sym c.own-item.is ∙ c.in-Ok.is) made in (
+      c.loop-own.invariant.0,
+      ap (λ ns. with_names ns rest) c.in_ok-add_names-in-Ok.ensures
+          ∙ ap (λ ns. with_names (with_names seen (map (λ name. name.now) ns)) rest) c.as_slice.ensures.value
+          ∙ ap (λ ns. with_names (with_names seen ns) rest) own
+          ∙ walk_from objects startup seen sites i below
+          ∙ c.loop-own.invariant.1,
+    )
 
 pub returns : goal.returns
 unfolding imports
-returns c =
+returns g c =
     let objects = c.args.bindings.now.objects in
     let startup = c.args.bindings.now.startup in
-    let sites = c.args.sites.now in
-    let listed = map (λ own. own.items) sites in
-    ended_from objects startup (map (λ name. name.now) c.loop-index.names.keys) sites c.loop-index.index c.loop-index-test.false
-    ∙ c.loop-index.invariant
-    ∙ added (imported_from objects startup 0 listed)
-    ∙ ap (λ os. distinct (imported_from os startup 0 listed)) (sym c.requires.objects)
+    let sites = map (λ own. own.items) c.args.sites.now in
+    let each = c.as_slice-own-items.result.now in
+    let count : length each ≡ length sites =
+    made_count (AreImports objects startup sites) 0 (length c.args.sites.now) each c.loop-own.invariant.0
+    ∙ sym (length-map c.args.sites.now (λ own. own.items)) in
+    let past : length sites ≤ c.loop-own.own-index = omega (arith, c.loop-own-test.false, count) in
+    ended_from objects startup (map (λ name. name.now) c.loop-own.names.keys) sites c.loop-own.own-index past
+    ∙ c.loop-own.invariant.1
+    ∙ added (imported_from objects startup 0 sites)
+    ∙ ap (λ os. distinct (imported_from os startup 0 sites)) (sym c.requires.objects)
