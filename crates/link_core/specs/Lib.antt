@@ -7,3 +7,4 @@ pub mod Laying
 pub mod Laws
 pub mod Meant
 pub mod Overflows
+pub mod Requests
