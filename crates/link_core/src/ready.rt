@@ -11,6 +11,7 @@ ghost use Rattle.tls_symbols.specs.Bindings.{object_at};
 ghost use Rattle.tls_symbols.specs.Faults.{AreResolved};
 ghost use Rattle.link_needs.specs.Linking.{choices_from, link_of};
 ghost use Rattle.link_tables.specs.Faults.{ArePrepared, IsLinkFault, IsSound, LacksStorage};
+ghost use Rattle.link_core.specs.Requests.{link_asked};
 
 use dynamic_symbols::{defined_symbols, imports, names_fit};
 use elf_object::Object;
@@ -99,11 +100,9 @@ fn named<'a, R: Threads + Sync>(
     requires resolved { AreResolved asked.objects.now bindings.now.startup }
     requires kind { FitsKind asked.objects.now asked.kind }
     requires lawful { IsLawful (layout_of asked.kind asked.objects.now) }
-    ensures prepared { IfOk result (λ names. ArePrepared
-        (link_of asked.objects.now asked.sites.now asked.kind bindings.now.startup asked.relax)
+    ensures prepared { IfOk result (λ names. ArePrepared (link_asked asked.entry bindings.now.startup)
         names.own.items (map (λ name. name.now) names.imports.keys)) }
-    ensures fault { IfErr result
-        (IsLinkFault (link_of asked.objects.now asked.sites.now asked.kind bindings.now.startup asked.relax)) }
+    ensures fault { IfErr result (IsLinkFault (link_asked asked.entry bindings.now.startup)) }
 {
     let objects = asked.objects;
     let few = has_few_relocations(objects);
@@ -172,12 +171,9 @@ fn within_limits<'l, 's, 'a, R: Threads + Sync>(
     requires objects { bindings.objects ≡ asked.objects.now }
     requires resolved { AreResolved asked.objects.now bindings.startup }
     requires kind { FitsKind asked.objects.now asked.kind }
-    ensures ready { IfOk result (λ ready. ready
-        ≡ link_of asked.objects.now asked.sites.now asked.kind bindings.entry.startup asked.relax) }
-    ensures sound { OnOk result
-        (IsSound (link_of asked.objects.now asked.sites.now asked.kind bindings.entry.startup asked.relax)) }
-    ensures fault { IfErr result
-        (IsLinkFault (link_of asked.objects.now asked.sites.now asked.kind bindings.entry.startup asked.relax)) }
+    ensures ready { IfOk result (λ ready. ready ≡ link_asked asked.entry bindings.entry.startup) }
+    ensures sound { OnOk result (IsSound (link_asked asked.entry bindings.entry.startup)) }
+    ensures fault { IfErr result (IsLinkFault (link_asked asked.entry bindings.entry.startup)) }
 {
     let Request {
         objects,
