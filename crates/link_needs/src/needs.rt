@@ -7,7 +7,7 @@ ghost use Rattle.elf_object.specs.Lawful.{IsLawful};
 ghost use Rattle.elf_object.specs.Lent.{relocations};
 ghost use Rattle.elf_object.specs.Parts.{symbol_count};
 ghost use Rattle.tls_symbols.specs.Bindings.{IsBindingWithin, object_at};
-ghost use Rattle.link_needs.specs.Linking.{choice, choices_from, choices_in, sites_at};
+ghost use Rattle.link_needs.specs.Linking.{choice, choices_from};
 ghost use Rattle.link_needs.specs.Needs.{address_fields, address_need, address_needs, as_list, calls, calls_stub};
 ghost use Rattle.link_needs.specs.Needs.{is_address_kind, own_word, reaching, relocation_need};
 ghost use Rattle.link_needs.specs.Needs.{is_kept, need_by, needs, new_relocation, object_needs, object_needs_from};
@@ -217,28 +217,6 @@ impl<'l, 's, 'a> Inputs<'l, 's, 'a> {
         Ok(choice)
     }
 
-    /// Adds what the sites of an object need. Returns which sequences take their places.
-    fn push_own_sites(
-        &self,
-        alloc: Global,
-        object: usize,
-        own: &[Site],
-        needs: &mut Vec<Need<'a>>,
-    ) -> Result<Vec<Choice>, AllocError>
-        requires object { object < length self.now.objects }
-        requires sites { All (IsUsable (object_at self.now.objects object)) own.now }
-        ensures needs { OnOk result
-            (needs.new.items ≡ needs.old.items ++ flat_map (site_needs self.now object) own.now) }
-        ensures choices { IfOk result (λ choices. choices.items ≡ choices_in self.now object own.now) }
-    {
-        let mut choices = Vec::with_capacity(alloc, own.len())?;
-        for site in own {
-            let choice = self.push_site(object, site, needs)?;
-            choices.push(choice)?;
-        }
-        Ok(choices)
-    }
-
     /// What an address field needs, by its binding.
     fn own_word(&self, bound: Option<Binding>) -> Option<Need<'a>>
         requires { IfSome bound (IsBindingWithin self.now.objects) }
@@ -304,24 +282,19 @@ impl<'l, 's, 'a> Inputs<'l, 's, 'a> {
         Ok(())
     }
 
-    /// The sites of an object.
-    fn own_sites(&self, object: usize) -> &'l [Site]
-        requires { object < length self.now.objects }
-        ensures sites { result.now ≡ sites_at self.now object }
-        ensures usable { All (IsUsable (object_at self.now.objects object)) result.now }
-    {
-        let sites = self.sites;
-        sites[object].as_slice()
-    }
-
     /// What the code of an object needs, and which sequences take the places of its sites'.
     fn own_wanted(&self, alloc: Global, object: usize) -> Result<OwnWanted<'a>, AllocError>
         requires { object < length self.now.objects }
         ensures { IfOk result (λ own. AreOwn self.now object own.sites.items own.fields.items own.choices.items) }
     {
+        let all = self.sites;
+        let own = all[object].as_slice();
         let mut sites = Vec::new(alloc);
-        let own = self.own_sites(object);
-        let choices = self.push_own_sites(alloc, object, own, &mut sites)?;
+        let mut choices = Vec::with_capacity(alloc, own.len())?;
+        for site in own {
+            let choice = self.push_site(object, site, &mut sites)?;
+            choices.push(choice)?;
+        }
         let mut fields = Vec::new(alloc);
         self.push_object(alloc, object, &mut fields)?;
         Ok(OwnWanted {

@@ -5,14 +5,15 @@ use Rattle.link_needs.specs.Given.{IsGiven}
 use Rattle.link_needs.specs.Plans.{IsUsable}
 use Rattle.link_needs.specs.Linking.{Linking, object}
 use Rattle.link_needs.proofs.PlanLemmas.{own_usable}
-use Rattle.link_needs.proofs.inputs.Inputs.own_sites.Goals as goal
+use Rattle.link_needs.proofs.inputs.Inputs.own_wanted.Goals as goal
 
-pub returns-clause-usable : goal.returns-clause-usable
-returns-clause-usable c =
+pub push_site-requires-clause-site : goal.push_site-requires-clause-site
+push_site-requires-clause-site c =
     let l = c.args.self.now in
     let given : IsGiven l = subst IsGiven c.self.view_is c.self.invariant.given in
     let sites = simp length-map at (ap (λ (l : Linking). length l.sites) c.self.view_is) in
     let each = given.each in
-    subst (All (IsUsable (object l c.args.object))) (sym c.as_slice.ensures.value)
+    subst (All (IsUsable (object l c.args.object))) (sym c.as_slice-own.ensures.value)
     (own_usable l c.self.inside.sites.now (ap (λ (l : Linking). l.sites) c.self.view_is) c.args.object
-    c.index-sites-object.result c.index-sites-object.is (omega (arith, sites, each, c.requires)) given)
+    c.index-all-object.result c.index-all-object.is (omega (arith, sites, each, c.requires)) given)
+    c.loop-site.site-index _ c.loop-site-test.true
