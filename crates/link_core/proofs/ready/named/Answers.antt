@@ -13,7 +13,7 @@ use Rattle.link_core.proofs.ready.named.Goals.{then-not-few-via-then-not-few}
 use Rattle.link_core.proofs.ready.named.Goals.{then-not-few-via-else-not-few+then-not-names_fit}
 
 pub imports-requires-clause-symbols : goal.imports-requires-clause-symbols
-imports-requires-clause-symbols g c = λ o there.
+imports-requires-clause-symbols g c κs within = λ o there.
     sites_symbols _ _ (c.has_few_relocations-few.ensures.objects o _ there) (c.requires.sites o there)
 
 pub returns-then-not-few-clause-fault : goal.returns-then-not-few-clause-fault

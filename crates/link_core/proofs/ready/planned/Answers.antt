@@ -1,11 +1,11 @@
-use Rattle.std.proofs.Common.{map, subst, sym}
+use Rattle.std.proofs.Common.{map, rules, subst, sym}
 use Rattle.link_needs.specs.Linking.{Linking}
 use Rattle.link_tables.specs.Faults.{ArePrepared, IsSound}
 use Rattle.link_core.proofs.Few.{table_fits}
 use Rattle.link_core.proofs.ready.planned.Goals as goal
 
 pub plan_of-requires : goal.plan_of-requires
-plan_of-requires g c = table_fits c.args.inputs c.requires.prepared.given c.requires.prepared.limits
+plan_of-requires g c = (search rules, table_fits c.args.inputs c.requires.prepared.given c.requires.prepared.limits)
 
 pub invariant_of-tables : goal.invariant_of-tables
 invariant_of-tables g c =

@@ -9,7 +9,7 @@ use Rattle.link_core.proofs.StepFaults.{same_storage, storage_fault}
 use Rattle.link_core.proofs.ready.within_limits.Goals as goal
 
 pub named-requires-clause-lawful : goal.named-requires-clause-lawful
-named-requires-clause-lawful g c = subst IsLawful c.in_ok-placement.ensures.places c.in_ok-placement.ensures.lawful
+named-requires-clause-lawful g c κs within = subst IsLawful c.in_ok-placement.ensures.places c.in_ok-placement.ensures.lawful
 
 pub returns-in_err-block_offset-clause-fault : goal.returns-in_err-block_offset-clause-fault
 returns-in_err-block_offset-clause-fault g c =
@@ -47,7 +47,7 @@ returns-clause-sound g c = record {
 }
 
 pub planned-requires-clause-sound : goal.planned-requires-clause-sound
-planned-requires-clause-sound g c = record {
+planned-requires-clause-sound g c κs within = record {
   resolved = c.requires.resolved;
   kind = c.requires.kind;
   limits = c.in_ok-names.ensures.prepared.limits;
@@ -60,4 +60,4 @@ planned-requires-clause-sound g c = record {
 }
 
 pub planned-requires-clause-prepared : goal.planned-requires-clause-prepared
-planned-requires-clause-prepared g c = c.in_ok-names.ensures.prepared
+planned-requires-clause-prepared g c κs within = c.in_ok-names.ensures.prepared
