@@ -16,6 +16,7 @@ use object_builder::{Section, Symbol, object_of};
 use sequence_match::{Site, sites};
 use std::alloc::{AllocError, Global};
 use std::test::Fail;
+use std::thread::Threads;
 use tls_symbols::{Bindings, resolve};
 
 /// The section of each object's variables; the second one has its code.
@@ -80,7 +81,7 @@ fn all_sites(alloc: Global, objects: &[Object]) -> Result<Vec<Vec<Site>>, Fail>
 /// The dynamic symbols of an image: each defined one as OBJECT.SYMBOL, then the names of imports, and how many bytes
 /// all names take.
 pub(crate) fn said(
-    rt: &HostRuntime,
+    rt: &(impl Threads + Sync),
     alloc: Global,
     files: &[Vec<u8>],
     images: &[Vec<Vec<u8>>],
@@ -130,7 +131,7 @@ fn told(
 
 /// The dynamic symbols for some bindings, as text.
 fn all_said(
-    rt: &HostRuntime,
+    rt: &(impl Threads + Sync),
     alloc: Global,
     bindings: &Bindings,
     objects: &[Object],

@@ -4,6 +4,7 @@ use crate::images::{exported, files_of, images_of, said};
 use std::alloc::Global;
 use std::process::Abort;
 use std::test::Fail;
+use std::thread::Threads;
 
 /// Each line: the binding of each use, or the fault; then the objects of an image, separated by `/`, and each startup
 /// image after a `|`. An object is words KIND:NAME, its symbols from number 1 on, and TYPE@SYMBOL, its uses by
@@ -50,7 +51,7 @@ fn same(rt: &impl Abort, found: &str, want: &str, line: &str) {
 }
 
 /// Checks one case.
-fn check(rt: &HostRuntime, alloc: Global, line: &str) -> Result<(), Fail> {
+fn check(rt: &(impl Abort + Threads + Sync), alloc: Global, line: &str) -> Result<(), Fail> {
     let (want, rest) = line.split_once(": ").ok_or("an answer")?;
     let own = rest.split('|').next().unwrap_or("");
     let files = files_of(alloc, own)?;

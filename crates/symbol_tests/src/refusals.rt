@@ -9,6 +9,7 @@ use link_faults::{ImageKind, LinkFault};
 use link_needs::{ask_kind, ask_tls, has_few_relocations};
 use std::alloc::Global;
 use std::test::Fail;
+use std::thread::Threads;
 use tls_symbols::{Bindings, resolve};
 
 /// Each line: the kind of the image, the size of its TLS segment, the result, and the object, whose symbols are a
@@ -38,7 +39,7 @@ fn kind_of(word: &str) -> ImageKind {
 
 /// Makes both checks.
 fn asked(
-    rt: &HostRuntime,
+    rt: &(impl Threads + Sync),
     objects: &[Object],
     bindings: &Bindings,
     kind: ImageKind,
@@ -52,7 +53,7 @@ fn asked(
 
 /// The result for an image of these objects and bindings, with this kind and this size of its TLS segment.
 fn told(
-    rt: &HostRuntime,
+    rt: &(impl Threads + Sync),
     alloc: Global,
     objects: &[Object],
     bindings: &Bindings,
@@ -69,7 +70,7 @@ fn told(
 
 /// The result for an image of this object, with this kind and this size of its TLS segment.
 fn said(
-    rt: &HostRuntime,
+    rt: &(impl Threads + Sync),
     alloc: Global,
     words: &str,
     kind: ImageKind,
@@ -84,7 +85,7 @@ fn said(
 }
 
 /// Whether the result of a case is that of its line.
-fn holds(rt: &HostRuntime, alloc: Global, line: &str) -> Result<bool, Fail> {
+fn holds(rt: &(impl Threads + Sync), alloc: Global, line: &str) -> Result<bool, Fail> {
     let (kind, rest) = line.split_once('|').ok_or("a kind")?;
     let (size, rest) = rest.split_once('|').ok_or("a size")?;
     let (want, words) = rest.split_once('|').ok_or("an answer")?;

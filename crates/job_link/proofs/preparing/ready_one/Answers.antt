@@ -6,7 +6,7 @@ use Rattle.job_link.proofs.Exported.{made_beside, sites_held}
 use Rattle.job_link.proofs.preparing.ready_one.Goals as goal
 
 pub prepare-requires-clause-sites : goal.prepare-requires-clause-sites
-prepare-requires-clause-sites g c =
+prepare-requires-clause-sites g c κs within =
     sites_held c.objects.result.now c.sites.result.now c.args.image.now c.objects.ensures.objects c.sites.ensures.sites
     c.objects.ensures.given
 
