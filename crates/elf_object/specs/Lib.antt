@@ -16,4 +16,5 @@ pub mod LawsOfRelocations
 pub mod LawsOfSections
 pub mod Laws
 pub mod Lent
+pub mod Noted
 pub mod Object

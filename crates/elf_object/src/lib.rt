@@ -28,6 +28,7 @@
 #![tactic(auto)]
 
 mod count;
+mod noted;
 mod object;
 mod part;
 mod part_names;
@@ -38,6 +39,7 @@ mod tls_place;
 
 pub use count::relocation_count;
 pub use elf_records::{SymbolBinding, SymbolType, Visibility};
+pub use noted::{Notes, Roles, Traits};
 pub use object::Object;
 pub use object_faults::{FaultKind, ObjectFault, RelocationKind, SectionClass};
 pub use part::{SectionPart, SymbolPart};
