@@ -1,6 +1,6 @@
 -- What is known of an object's relocations without a look at each: in which roles they name a symbol, and what they
 -- have among them.
-use Rattle.std.specs.Prelude.{◌≡◌, ◌+◌, ◌-◌, ◌<◌, ◌^◌, ◌==◌, ◌&&◌, ◌||◌, ℕ, ℤ, pos, negsuc, Bool, true, false, not, nat_lt}
+use Rattle.std.specs.Prelude.{◌≡◌, ◌-◌, ◌<◌, ◌^◌, ◌==◌, ◌&&◌, ◌||◌, ℕ, ℤ, pos, negsuc, Bool, true, false, not, nat_lt}
 use Rattle.std.specs.Prelude.{List, length, slice_index_or}
 use Rattle.std.specs.List.{flat_map, list_any, range_with_len}
 use Rattle.elf_records.specs.declared.relocation_row.FieldForm.{FieldForm}
@@ -14,7 +14,6 @@ use Rattle.elf_records.specs.declared.relocation_row.TableEntry.TheVariants.{Mod
 use Rattle.elf_records.specs.declared.relocation_row.TableEntry.TheVariants.{Descriptor}
 use Rattle.elf_records.specs.RelocationRows.{row}
 use Rattle.elf_object.specs.declared.relocation.Relocation.{Relocation}
-use Rattle.elf_object.specs.declared.noted.Notes.{Notes}
 use Rattle.elf_object.specs.declared.noted.Roles.{Roles}
 use Rattle.elf_object.specs.declared.noted.Traits.{Traits}
 use Rattle.elf_object.specs.Lent.{relocations}
@@ -110,7 +109,7 @@ abbrev pub AreRoles : List Relocation → List Roles → Type 0
 AreRoles all roles = (e : ℕ) (d : Roles) → e < length roles → slice_index_or roles e d ≡ roles_of all e
 
 -- the notes are of these relocations, and have a place for each of the symbols
-pub record AreNoted (symbols : ℕ) (all : List Relocation) (notes : Notes) : Type 0 where
-  pub len : length notes.roles.items ≡ symbols
-  pub roles_are : AreRoles all notes.roles.items
-  pub traits_are : notes.traits ≡ traits_of all
+pub record AreNoted (symbols : ℕ) (all : List Relocation) (roles : List Roles) (traits : Traits) : Type 0 where
+  pub len : length roles ≡ symbols
+  pub roles_are : AreRoles all roles
+  pub traits_are : traits ≡ traits_of all

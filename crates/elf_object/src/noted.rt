@@ -1,7 +1,7 @@
 //! What is noted of relocations when an object is read. Most questions about them are then answered without a look at
 //! each.
 
-ghost use Rattle.std.specs.Prelude.{◌≡◌, ◌++◌, ◌∷◌, [], List, IfOk, length};
+ghost use Rattle.std.specs.Prelude.{◌≡◌, ◌++◌, ◌∷◌, ℕ, [], List, IfOk, length};
 ghost use Rattle.elf_object.specs.Lent.{relocations};
 ghost use Rattle.elf_object.specs.Noted.{all_relocations, is_wide, reaches_storage, with_role, with_traits};
 ghost use Rattle.elf_object.specs.Noted.{AreNoted, AreRoles};
@@ -16,7 +16,7 @@ use object_faults::Tables;
 use std::alloc::{AllocError, Global};
 
 /// In which roles relocations name a symbol.
-#[derive(Clone, Copy, PartialEq, Eq, Debug)]
+#[derive(Clone, Copy)]
 pub struct Roles {
     /// As a symbol that is not thread-local.
     pub ordinary: bool,
@@ -27,7 +27,7 @@ pub struct Roles {
 }
 
 /// What relocations have among them.
-#[derive(Clone, Copy, PartialEq, Eq, Debug)]
+#[derive(Clone, Copy)]
 pub struct Traits {
     /// A type that modules refuse.
     pub in_module: bool,
@@ -119,8 +119,8 @@ fn note_role(relocation: &Relocation, roles: &mut [Roles])
 fn note_section(tables: &Tables, targets: &[u32], section: u64, notes: &mut Notes)
     requires len { length targets.now ≡ tables.now.count }
     requires found { AreTargets tables.now.bytes.now targets.now }
-    ensures { (symbols : ℕ) (seen : List Relocation) → AreNoted symbols seen notes.old
-        → AreNoted symbols (seen ++ relocations tables.now.bytes.now section) notes.new }
+    ensures { (symbols : ℕ) (seen : List Relocation) → AreNoted symbols seen notes.old.roles.items notes.old.traits
+        → AreNoted symbols (seen ++ relocations tables.now.bytes.now section) notes.new.roles.items notes.new.traits }
 {
     for relocation in relocs_in(tables, table_of(tables, targets, section)) {
         notes.traits = notes.traits.with(&relocation);
@@ -132,8 +132,8 @@ fn note_section(tables: &Tables, targets: &[u32], section: u64, notes: &mut Note
 pub fn noted(alloc: Global, tables: &Tables, targets: &[u32]) -> Result<Notes, AllocError>
     requires len { length targets.now ≡ tables.now.count }
     requires found { AreTargets tables.now.bytes.now targets.now }
-    ensures { IfOk result
-        (AreNoted (symbol_count tables.now.bytes.now) (all_relocations tables.now.bytes.now)) }
+    ensures { IfOk result (λ notes. AreNoted (symbol_count tables.now.bytes.now)
+        (all_relocations tables.now.bytes.now) notes.roles.items notes.traits) }
 {
     let none = Roles {
         ordinary: false,

@@ -33,7 +33,7 @@ pub struct Object<'a> {
 }
 
 impl<'a> Model for Object<'a> {
-    ghost use Rattle.std.specs.Prelude.{ℕ, List};
+    ghost use Rattle.std.specs.Prelude.{◌≡◌, ℕ, List};
     ghost use Rattle.elf_object.specs.Lawful.{IsKeptAs, IsLawful, IsPlaced, IsShared};
     ghost use Rattle.elf_object.specs.Checked.{IsRead};
     ghost use Rattle.elf_object.specs.Counts.{own_count};
@@ -46,7 +46,8 @@ impl<'a> Model for Object<'a> {
 
     ghost invariant = { λ o. IsRead o.tables.bytes.now o.targets.items
         × (o.count ≡ own_count o.tables.bytes.now)
-        × AreNoted (symbol_count o.tables.bytes.now) (all_relocations o.tables.bytes.now) o.notes };
+        × AreNoted (symbol_count o.tables.bytes.now) (all_relocations o.tables.bytes.now)
+        o.notes.roles.items o.notes.traits };
 }
 
 impl<'a> Object<'a> {
