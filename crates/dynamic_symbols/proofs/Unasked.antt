@@ -1,4 +1,4 @@
--- The sites of an object none of whose symbols may be a startup image's import nothing.
+-- An object that has no symbol of a startup image imports nothing.
 use Rattle.std.proofs.Common.{◌≡◌, ◌+◌, ◌<◌, ◌∙◌, ℕ, Bool, true, false, List, [], ◌∷◌, ◌++◌, Option, Some, None, length, refl, sym, ap, arith}
 use Rattle.std.specs.Prelude.{if◌then◌else◌}
 use Rattle.std.specs.List.{list_any, range_with_len}
