@@ -15,7 +15,7 @@ use Rattle.elf_records.specs.declared.relocation_row.FieldValue.TheVariants.{Seg
 use Rattle.elf_records.specs.declared.relocation_row.FieldValue.TheVariants.{DescriptorDistance}
 use Rattle.elf_records.specs.RelocationRows.{row}
 use Rattle.tls_relocs.specs.Values.{fits_signed, fits_unsigned, formed, held, word32}
-use Rattle.link_core.specs.Overflows.{is_far}
+use Rattle.elf_object.specs.Noted.{is_far}
 
 -- the numbers of a relocation: its symbol's, its place, and the entry or what is subtracted
 pub record AreSmall (s p g : ℕ) : Type 0 where

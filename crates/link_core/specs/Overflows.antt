@@ -1,11 +1,9 @@
 -- What is asked of fields.
-use Rattle.std.specs.Prelude.{◌^◌, ℤ, pos, negsuc, Bool, true, false, not, nat_lt}
-use Rattle.elf_object.specs.declared.relocation.Relocation.{Relocation}
-use Rattle.elf_records.specs.declared.relocation_row.FieldForm.{FieldForm}
-use Rattle.elf_records.specs.declared.relocation_row.FieldForm.TheVariants.{Signed32, Unsigned32}
-use Rattle.elf_records.specs.RelocationRows.{row}
+use Rattle.std.specs.Prelude.{◌≡◌, ◌<◌, ℕ, List, length}
 use Rattle.link_core.specs.declared.overflow.FieldQuestion.{FieldQuestion}
-use Rattle.link_tables.specs.Faults.{IsOverflow}
+use Rattle.link_needs.specs.Given.{IsGiven}
+use Rattle.link_needs.specs.Linking.{object}
+use Rattle.link_tables.specs.Faults.{IsOverflow, IsSound}
 use Rattle.tls_symbols.specs.declared.uses.Use.{Use}
 use Rattle.tls_symbols.specs.Walks.{IsUse}
 
@@ -17,13 +15,9 @@ Overfills q u = IsOverflow q.plan.now u.place.object u.section u.relocation
 abbrev pub IsOfLink : FieldQuestion → Use → Type 0
 IsOfLink q u = IsUse q.plan.now.objects u
 
--- whether an addend may be too far from zero for a field of this form, wherever its symbol and its field are
-abbrev pub is_far : FieldForm → ℤ → Bool
-is_far Signed32 (pos n) = not (nat_lt n (2 ^ 30))
-is_far Signed32 (negsuc n) = not (nat_lt n (2 ^ 30))
-is_far Unsigned32 (pos n) = not (nat_lt n (2 ^ 30))
-is_far Unsigned32 (negsuc n) = true
-is_far form a = false
-
-abbrev pub is_wide : Relocation → Bool
-is_wide r = is_far (row r.kind).form r.addend
+-- object o is one of the link's, which has no other fault
+pub record IsOfSound (q : FieldQuestion) (o : ℕ) (b : List ℕ) : Type 0 where
+  pub given : IsGiven q.plan.now
+  pub sound : IsSound q.plan.now
+  pub there : o < length q.plan.now.objects
+  pub here : b ≡ object q.plan.now o
