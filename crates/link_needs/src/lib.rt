@@ -67,6 +67,6 @@ mod symbol_values;
 
 pub use asking::{MAX_RELOCATIONS, ask_kind, ask_tls, has_few_relocations};
 pub use inputs::Inputs;
-pub use needs::new_relocation;
+pub use needs::{AbsoluteField, new_relocation};
 pub use plan::{Plan, plan_of};
 pub use symbol_values::SymbolValue;
