@@ -17,7 +17,6 @@ use link_faults::Binding;
 use object_builder::{Section, Symbol, object_of, rela};
 use std::alloc::{AllocError, Global};
 use std::rt::Clock;
-use std::thread::Threads;
 use std::time::{Duration, Instant};
 use std::{env, io};
 use tls_symbols::{Bindings, resolve};
@@ -135,13 +134,13 @@ fn tell(rt: &impl Clock, bindings: &Bindings, objects: &[Object]) -> io::Result<
 
 /// Binds the names of all objects, and prints the results.
 fn bind(
-    rt: &(impl Print + Clock + Threads + Sync),
+    rt: &(impl Print + Clock),
     alloc: Global,
     objects: &[Object],
     is_timed: bool,
 ) -> Result<()> {
     let start = Instant::now(rt)?;
-    let bindings = resolve(rt, alloc, objects, &[])?;
+    let bindings = resolve(alloc, objects, &[])?;
     let binding = start.elapsed(rt)?;
     let (bound, telling) = tell(rt, &bindings, objects)?;
     println!(rt; "{} objects, {bound} relocations bound", objects.len())?;

@@ -1,17 +1,16 @@
 -- Names that are added one by one, and the list that they come to.
 use Rattle.std.proofs.Common.{◌≡◌, ◌+◌, ◌-◌, ◌<◌, ◌≤◌, ◌∙◌, ◌&&◌, ◌||◌, ℕ, Bool, true, false, not, cond, List, Option}
-use Rattle.std.proofs.Common.{[], ◌∷◌, ◌++◌, drop, filter, map, refl, sym, ap, Bor, append_assoc, append-nil, length, zero, suc, subst, arith}
+use Rattle.std.proofs.Common.{[], ◌∷◌, ◌++◌, drop, filter, map, refl, sym, ap, Bor, append_assoc, append-nil, length}
+use Rattle.std.specs.Global.{Vec}
 use Rattle.std.specs.Prelude.{if◌then◌else◌, slice_index_or}
-use Rattle.std.specs.List.{AllZip, cons_option, filter_map, flat_map, list_any, range_with_len}
+use Rattle.std.specs.List.{cons_option, filter_map, flat_map, list_any, range_with_len}
 use Rattle.std.specs.Str.{bytes_eq}
 use Rattle.std.proofs.Math.ListN.{drop_of_length-le}
 use Rattle.std.proofs.lemmas.Bool.{not-true}
 use Rattle.std.proofs.lemmas.List.{get_or_default, map-append}
 use Rattle.std.proofs.lemmas.List.Elements.{filter_map-append}
 use Rattle.std.proofs.lemmas.List.Folds.{list_any-append}
-use Rattle.std.proofs.lemmas.List.FromFn.{length-range_with_len}
 use Rattle.std.proofs.lemmas.Slice.Eq.{bytes_eq-Decides}
-use Rattle.std.proofs.lemmas.Slice.Zip.{AllZip-long}
 use Rattle.indexmap.specs.IndexSet.{insert_key}
 use Rattle.elf_object.specs.Lent.{symbol_name}
 use Rattle.elf_object.specs.Parts.{symbol_count}
@@ -20,7 +19,6 @@ use Rattle.link_faults.specs.declared.symbol_ref.SymbolRef.{SymbolRef}
 use Rattle.tls_symbols.specs.Bindings.{object_at}
 use Rattle.tls_symbols.specs.Definitions.{definition_of}
 use Rattle.elf_object.proofs.Ranges.{range_first}
-use Rattle.sequence_match.proofs.OwnSites.{drop_at}
 use Rattle.dynamic_symbols.specs.Names.{defined_at, distinct, imported_at, imported_from, imported_in, is_definition, is_import}
 use Rattle.dynamic_symbols.specs.Found.{with_name, with_names}
 use Rattle.tls_symbols.proofs.Numbered.{same_names}
@@ -142,70 +140,32 @@ module _ {X : Type 0} (f : X → List (List ℕ)) (seen : List (List ℕ)) (x : 
   pub walk : with_names (with_names seen (f x)) (flat_map f (drop (i + 1) xs)) ≡ with_names seen (flat_map f (drop i xs))
   walk = sym (with_names-append seen (f x) (flat_map f (drop (i + 1) xs))) ∙ ap (λ ys. with_names seen (flat_map f ys)) (sym here)
 
--- one name of a list, and those behind it
-pub walk_names : (keys new more : List (Bor (List ℕ))) (i : ℕ) (d : Bor (List ℕ)) → i < length more → new ≡ insert_key same_names keys (slice_index_or more i d)
-    → with_names (map (λ n. n.now) new) (map (λ n. n.now) (drop (i + 1) more)) ≡ with_names (map (λ n. n.now) keys) (map (λ n. n.now) (drop i more))
-walk_names keys new more i d below is =
-    ap (λ ks. with_names (map (λ n. n.now) ks) (map (λ n. n.now) (drop (i + 1) more))) is
-    ∙ ap (λ ns. with_names ns (map (λ n. n.now) (drop (i + 1) more))) (inserted keys (slice_index_or more i d))
-    ∙ ap (λ ns. with_names (map (λ n. n.now) keys) (map (λ n. n.now) ns)) (sym (drop_at more i d below))
+  pub walk_one : (name : List ℕ) → f x ≡ name ∷ [] → with_names (with_name seen name) (flat_map f (drop (i + 1) xs)) ≡ with_names seen (flat_map f (drop i xs))
+  walk_one name one = ap (λ ys. with_names (with_names seen ys) (flat_map f (drop (i + 1) xs))) (sym one) ∙ walk
 
--- names that are taken from elements in turn: of one element, and of those behind it
-module _ {X : Type 0} (f : X → List (List ℕ)) (seen : List (Bor (List ℕ))) (x : X) (xs : List X) (i : ℕ) (here : drop i xs ≡ x ∷ drop (i + 1) xs) where
-  taken : map (λ n. n.now) seen ++ (f x ++ flat_map f (drop (i + 1) xs)) ≡ map (λ n. n.now) seen ++ flat_map f (drop i xs)
-  taken = ap (λ ys. map (λ n. n.now) seen ++ flat_map f ys) (sym here)
-
-  pub taken_one : (name : Bor (List ℕ)) → f x ≡ name.now ∷ []
-      → map (λ n. n.now) (seen ++ name ∷ []) ++ flat_map f (drop (i + 1) xs) ≡ map (λ n. n.now) seen ++ flat_map f (drop i xs)
-  taken_one name one =
-      ap (λ ns. ns ++ flat_map f (drop (i + 1) xs)) (map-append (λ n. n.now) seen (name ∷ []))
-      ∙ append_assoc (map (λ n. n.now) seen) (name.now ∷ []) (flat_map f (drop (i + 1) xs))
-      ∙ ap (λ ys. map (λ n. n.now) seen ++ (ys ++ flat_map f (drop (i + 1) xs))) (sym one) ∙ taken
-
-  pub taken_none : f x ≡ [] → map (λ n. n.now) seen ++ flat_map f (drop (i + 1) xs) ≡ map (λ n. n.now) seen ++ flat_map f (drop i xs)
-  taken_none none = ap (λ ys. map (λ n. n.now) seen ++ (ys ++ flat_map f (drop (i + 1) xs))) (sym none) ∙ taken
-
--- all are taken behind the end
-pub all_taken : {X : Type 0} (f : X → List (List ℕ)) (seen : List (Bor (List ℕ))) (xs : List X) (i : ℕ) → length xs ≤ i
-    → map (λ n. n.now) seen ≡ map (λ n. n.now) seen ++ flat_map f (drop i xs)
-all_taken f seen xs i past =
-    sym (append-nil (map (λ n. n.now) seen)) ∙ sym (ap (λ ys. map (λ n. n.now) seen ++ flat_map f ys) (drop_of_length-le xs past))
+  pub walk_none : f x ≡ [] → with_names seen (flat_map f (drop (i + 1) xs)) ≡ with_names seen (flat_map f (drop i xs))
+  walk_none none = ap (λ ys. with_names (with_names seen ys) (flat_map f (drop (i + 1) xs))) (sym none) ∙ walk
 
 -- what is left of a list behind its end
 pub ended : {X : Type 0} (f : X → List (List ℕ)) (seen : List (List ℕ)) (xs : List X) (i : ℕ) → length xs ≤ i → seen ≡ with_names seen (flat_map f (drop i xs))
 ended f seen xs i past = sym (ap (λ ys. with_names seen (flat_map f ys)) (drop_of_length-le xs past))
 
 -- the sites of one object, and of those behind it
-module _ (objects : List (List ℕ)) (startup : List (List (List ℕ))) (seen : List (List ℕ)) (sites : List (List Site)) (i : ℕ) where
-  pub walk_from : i < length sites
-      → with_names (with_names seen (imported_in objects startup i (slice_index_or sites i []))) (imported_from objects startup (i + 1) (drop (i + 1) sites))
-      ≡ with_names seen (imported_from objects startup i (drop i sites))
-  walk_from below =
-      sym (with_names-append seen (imported_in objects startup i (slice_index_or sites i [])) (imported_from objects startup (i + 1) (drop (i + 1) sites)))
-      ∙ ap (λ ys. with_names seen (imported_from objects startup i ys)) (sym (drop_at sites i [] below))
+module _ (objects : List (List ℕ)) (startup : List (List (List ℕ))) (seen : List (List ℕ)) (sites : List (Vec Site)) (i : ℕ) where
+  pub walk_from : (own : Vec Site) → drop i sites ≡ own ∷ drop (i + 1) sites
+      → with_names (with_names seen (imported_in objects startup i own.items)) (imported_from objects startup (i + 1) (map (λ v. v.items) (drop (i + 1) sites)))
+      ≡ with_names seen (imported_from objects startup i (map (λ v. v.items) (drop i sites)))
+  walk_from own here =
+      sym (with_names-append seen (imported_in objects startup i own.items) (imported_from objects startup (i + 1) (map (λ v. v.items) (drop (i + 1) sites))))
+      ∙ ap (λ vs. with_names seen (imported_from objects startup i (map (λ v. v.items) vs))) (sym here)
 
-  pub ended_from : length sites ≤ i → seen ≡ with_names seen (imported_from objects startup i (drop i sites))
-  ended_from past = sym (ap (λ ys. with_names seen (imported_from objects startup i ys)) (drop_of_length-le sites past))
+  pub ended_from : length sites ≤ i → seen ≡ with_names seen (imported_from objects startup i (map (λ v. v.items) (drop i sites)))
+  ended_from past = sym (ap (λ vs. with_names seen (imported_from objects startup i (map (λ v. v.items) vs))) (drop_of_length-le sites past))
 
 -- ** what is read at a place
 
 pub object_is : (objects : List (List ℕ)) (i : ℕ) (b : List ℕ) → b ≡ slice_index_or objects i b → i < length objects → object_at objects i ≡ b
 object_is objects i b is below = get_or_default objects i [] b below ∙ sym is
-
--- what was made of numbers that rise, at a place
-module _ {X : Type 0} (P : ℕ → X → Type 0) where
-  pub made_at : (a n : ℕ) (xs : List X) (i j : ℕ) (d : X) → a + i ≡ j → AllZip P (range_with_len a n) xs → i < length xs → P j (slice_index_or xs i d)
-  made_at a zero [] i j d is made below = absurd (omega (arith, below))
-  made_at a zero (x ∷ xs) i j d is made below = absurd made
-  made_at a (suc n) [] i j d is made below = absurd made
-  made_at a (suc n) (x ∷ xs) zero j d is made below =
-      let same : a ≡ j = omega (arith, is) in
-      subst (λ k. P k x) same made.0
-  made_at a (suc n) (x ∷ xs) (suc i) j d is made below =
-      made_at (a + 1) n xs i j d (omega (arith, is)) made.1 (omega (arith, below))
-
-  pub made_count : (a n : ℕ) (xs : List X) → AllZip P (range_with_len a n) xs → length xs ≡ n
-  made_count a n xs made = AllZip-long P (range_with_len a n) xs made ∙ length-range_with_len a n
 
 -- ** a definition for each name
 

@@ -3,3 +3,4 @@ pub mod Foreign
 pub mod Lists
 pub mod Named
 pub mod Sums
+pub mod Unasked

@@ -32,10 +32,10 @@
 //! Each name takes a symbol table entry of 24 bytes, its own bytes, and a zero after them ([`name_size`]). The names of
 //! an image may take [`NAME_LIMIT`] bytes; [`names_fit`] tests that.
 //!
-//! Each symbol and each site is read once, and names are found by hash. Threads share the objects whose sites are
-//! asked; then the names are joined in the order of the objects. `specs/Names` defines the two lists step by step.
-//! `specs/Laws` has what is proved of every such list: its symbols are in the objects, its names are distinct, and no
-//! import is defined here or is `__tls_get_addr`. `specs/Found` is about what the walks keep: names, and their symbols.
+//! Names are found by hash. Each site is read once, and none of an object that has no symbol of a startup image.
+//! `specs/Names` defines the two lists step by step. `specs/Laws` has what is proved of every such list: its symbols are
+//! in the objects, its names are distinct, and no import is defined here or is `__tls_get_addr`. `specs/Found` is about
+//! what the walks look for and keep: names, and their symbols.
 #![tactic(auto)]
 
 mod defining;

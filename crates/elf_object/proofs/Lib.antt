@@ -1,4 +1,5 @@
 pub mod Lists
+pub mod Noting
 pub mod Ranges
 pub mod Sections
 pub mod Sums

@@ -11,9 +11,11 @@ pub use Rattle.object_faults.specs.Tables
 pub use Rattle.object_rules.specs.FaultNames
 pub mod Counts
 pub mod Lawful
+pub mod LawsOfNotes
 pub mod LawsOfParts
 pub mod LawsOfRelocations
 pub mod LawsOfSections
 pub mod Laws
 pub mod Lent
+pub mod Noted
 pub mod Object

@@ -20,6 +20,10 @@
 //! offset 0 of section 3. `symbol_name(2)` is `x`, and `relocs(1)` has one entry: at offset 4 of the code, `TpOff32` of
 //! symbol 2.
 //!
+//! Reading also notes what most questions about relocations depend on: in which roles they name each symbol
+//! ([`Object::roles`]), and what they have among them ([`Object::traits`]). So a linker looks for a fault among the
+//! symbols, and at relocations only where there is one (`specs/Noted`).
+//!
 //! [`relocation_count`] counts the relocations of several objects, and [`is_tls_place`] tells whether a symbol is
 //! thread-local, by its place.
 //!
@@ -28,6 +32,7 @@
 #![tactic(auto)]
 
 mod count;
+mod noted;
 mod object;
 mod part;
 mod part_names;
@@ -38,6 +43,7 @@ mod tls_place;
 
 pub use count::relocation_count;
 pub use elf_records::{SymbolBinding, SymbolType, Visibility};
+pub use noted::{Notes, Roles, Traits};
 pub use object::Object;
 pub use object_faults::{FaultKind, ObjectFault, RelocationKind, SectionClass};
 pub use part::{SectionPart, SymbolPart};

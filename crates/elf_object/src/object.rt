@@ -10,7 +10,11 @@ ghost use Rattle.elf_object.specs.Firsts.{nonzero};
 ghost use Rattle.elf_object.specs.Lawful.{IsKeptAs, IsLawful, IsPlaced, IsShared};
 ghost use Rattle.elf_object.specs.Object.{section_count as count_of_sections, IsWritable};
 ghost use Rattle.elf_object.specs.Faults.{IsObject, IsFault, IsFirstAt};
+ghost use Rattle.elf_object.specs.Counts.{own_count};
+ghost use Rattle.elf_object.specs.Noted.{all_relocations, roles_of, traits_of};
 
+use crate::count::own_count;
+use crate::noted::{Notes, Roles, Traits, noted};
 use crate::part::{SectionPart, SymbolPart, class_in, section_part, symbol_part};
 use crate::part_names::{section_name, short_symbol_name, symbol_name};
 use crate::relocs::{Relocs, relocs_in, table_of, target_of};
@@ -24,18 +28,26 @@ use std::marker::Model;
 pub struct Object<'a> {
     tables: Tables<'a>,
     targets: Vec<u32>,
+    count: u64,
+    notes: Notes,
 }
 
 impl<'a> Model for Object<'a> {
-    ghost use Rattle.std.specs.Prelude.{ℕ, List};
+    ghost use Rattle.std.specs.Prelude.{◌≡◌, ℕ, List};
     ghost use Rattle.elf_object.specs.Lawful.{IsKeptAs, IsLawful, IsPlaced, IsShared};
     ghost use Rattle.elf_object.specs.Checked.{IsRead};
+    ghost use Rattle.elf_object.specs.Counts.{own_count};
+    ghost use Rattle.elf_object.specs.Noted.{all_relocations, AreNoted};
+    ghost use Rattle.elf_object.specs.Parts.{symbol_count};
 
     ghost Value = { List ℕ };
 
     ghost view = { λ o. o.tables.bytes.now };
 
-    ghost invariant = { λ o. IsRead o.tables.bytes.now o.targets.items };
+    ghost invariant = { λ o. IsRead o.tables.bytes.now o.targets.items
+        × (o.count ≡ own_count o.tables.bytes.now)
+        × AreNoted (symbol_count o.tables.bytes.now) (all_relocations o.tables.bytes.now)
+        o.notes.roles.items o.notes.traits };
 }
 
 impl<'a> Object<'a> {
@@ -45,7 +57,14 @@ impl<'a> Object<'a> {
         ensures fault { IfErr result (IsFault bytes.now) }
     {
         let FaultFree { tables, targets } = fault_free(alloc, bytes)?;
-        Ok(Object { tables, targets })
+        let count = own_count(&tables, &targets);
+        let notes = noted(alloc, &tables, &targets)?;
+        Ok(Object {
+            tables,
+            targets,
+            count,
+            notes,
+        })
     }
 }
 
@@ -154,6 +173,30 @@ impl<'a> Object<'a> {
     {
         let table = table_of(&self.tables, &self.targets, u64::from(section));
         relocs_in(&self.tables, table)
+    }
+
+    /// How many relocations the sections have that linking keeps.
+    pub fn relocation_count(&self) -> u64
+        ensures count { result ≡ own_count self.now }
+        ensures object { IsObject self.now }
+    {
+        self.count
+    }
+
+    /// In which roles relocations of those sections name a symbol.
+    #[inline]
+    pub fn roles(&self, symbol: u32) -> Roles
+        requires { symbol < count_of_symbols self.now }
+        ensures { result ≡ roles_of (all_relocations self.now) symbol }
+    {
+        self.notes.roles[symbol as usize]
+    }
+
+    /// What relocations of those sections have among them.
+    pub fn traits(&self) -> Traits
+        ensures { result ≡ traits_of (all_relocations self.now) }
+    {
+        self.notes.traits
     }
 
     /// The section that holds the symbols, if there is one.

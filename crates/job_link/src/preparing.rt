@@ -51,16 +51,13 @@ pub fn startup_exports<'a>(
 }
 
 /// A link that is ready, if the values of all its fields fit; else the first that does not.
-fn fitting<'l, 's, 'a, R: Threads + Sync>(
-    rt: &R,
-    ready: ReadyLink<'l, 's, 'a>,
-) -> Result<ReadyLink<'l, 's, 'a>, LinkFault>
+fn fitting<'l, 's, 'a>(ready: ReadyLink<'l, 's, 'a>) -> Result<ReadyLink<'l, 's, 'a>, LinkFault>
     requires { IsSound ready }
     ensures ready { IfOk result (λ same. same ≡ ready.entry) }
     ensures links { OnOk result (Links ready.entry) }
     ensures fault { IfErr result (IsLinkFault ready.entry) }
 {
-    match ready.overflow(rt) {
+    match ready.overflow() {
         None => Ok(ready),
         Some(fault) => Err(fault),
     }
@@ -88,7 +85,7 @@ fn ready_one<'i, 'a, R: Threads + Sync>(
         startup,
         relax,
     ) {
-        Ok(ready) => fitting(rt, ready),
+        Ok(ready) => fitting(ready),
         Err(fault) => Err(fault),
     }
 }

@@ -29,10 +29,7 @@ fn small_images(rt: HostRuntime) -> Result<(), Fail> {
         object(alloc, &first, b"", &[])?,
         object(alloc, &second, b"", &[])?,
     ]?;
-    assert_eq!(rt;
-        said(&rt, alloc, &files, &startup)?.as_str(),
-        "1.3 0.3 1.1 / 78"
-    );
+    assert_eq!(rt; said(alloc, &files, &startup)?.as_str(), "1.3 0.3 1.1 / 78");
     // The relocations are in another order than the sites: y, w, v only by a descriptor's call, errno. The second
     // object uses errno and y again. w is defined here.
     let uses = [
@@ -66,7 +63,7 @@ fn small_images(rt: HostRuntime) -> Result<(), Fail> {
     )?;
     let files = vec![in alloc; first, second]?;
     assert_eq!(rt;
-        said(&rt, alloc, &files, &startup)?.as_str(),
+        said(alloc, &files, &startup)?.as_str(),
         "0.4 / y v errno 108"
     );
     Ok(())

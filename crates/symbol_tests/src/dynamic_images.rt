@@ -16,7 +16,6 @@ use object_builder::{Section, Symbol, object_of};
 use sequence_match::{Site, sites};
 use std::alloc::{AllocError, Global};
 use std::test::Fail;
-use std::thread::Threads;
 use tls_symbols::{Bindings, resolve};
 
 /// The section of each object's variables; the second one has its code.
@@ -81,15 +80,14 @@ fn all_sites(alloc: Global, objects: &[Object]) -> Result<Vec<Vec<Site>>, Fail>
 /// The dynamic symbols of an image: each defined one as OBJECT.SYMBOL, then the names of imports, and how many bytes
 /// all names take.
 pub(crate) fn said(
-    rt: &(impl Threads + Sync),
     alloc: Global,
     files: &[Vec<u8>],
     images: &[Vec<Vec<u8>>],
 ) -> Result<String, Fail> {
     let objects = read(alloc, files)?;
     let startup = exports_of(alloc, images)?;
-    let bindings = resolve(rt, alloc, objects.as_slice(), startup.as_slice())?;
-    all_said(rt, alloc, &bindings, objects.as_slice())
+    let bindings = resolve(alloc, objects.as_slice(), startup.as_slice())?;
+    all_said(alloc, &bindings, objects.as_slice())
 }
 
 /// Adds each symbol as OBJECT.SYMBOL.
@@ -130,16 +128,11 @@ fn told(
 }
 
 /// The dynamic symbols for some bindings, as text.
-fn all_said(
-    rt: &(impl Threads + Sync),
-    alloc: Global,
-    bindings: &Bindings,
-    objects: &[Object],
-) -> Result<String, Fail>
+fn all_said(alloc: Global, bindings: &Bindings, objects: &[Object]) -> Result<String, Fail>
     requires { objects.now ≡ bindings.now.objects }
 {
     let sites = all_sites(alloc, objects)?;
     let symbols = defined_symbols(alloc, objects, bindings)?;
-    let names = imports(rt, alloc, objects, bindings, sites.as_slice())?;
+    let names = imports(alloc, objects, bindings, sites.as_slice())?;
     told(alloc, objects, symbols.as_slice(), names.as_slice())
 }

@@ -10,7 +10,6 @@ use link_faults::{Binding, LinkFault};
 use object_builder::{Section, Symbol, object_of, rela};
 use std::alloc::{AllocError, Global};
 use std::test::Fail;
-use std::thread::Threads;
 use tls_symbols::{Bindings, Exports, exports, resolve};
 
 /// The section of each object's code. Section 1 holds its variables, section 3 the code's relocations, if there are
@@ -173,14 +172,13 @@ pub(crate) fn exported(alloc: Global, images: &[Vec<Vec<u8>>]) -> Result<Vec<u8>
 /// The binding of each relocation of each object's code, or the fault: `here OBJECT SYMBOL`, `startup
 /// IMAGE`, `run-time` or `none`.
 pub(crate) fn said(
-    rt: &(impl Threads + Sync),
     alloc: Global,
     files: &[Vec<u8>],
     images: &[Vec<Vec<u8>>],
 ) -> Result<String, Fail> {
     let objects = read(alloc, files)?;
     let startup = exports_of(alloc, images)?;
-    match resolve(rt, alloc, objects.as_slice(), startup.as_slice()) {
+    match resolve(alloc, objects.as_slice(), startup.as_slice()) {
         Ok(bindings) => Ok(all_said(alloc, &bindings, objects.as_slice())?),
         Err(LinkFault::OutOfMemory) => Ok(String::from_str(alloc, "memory")?),
         Err(fault) => Ok(format!(in alloc; "{fault}")?),

@@ -4,7 +4,6 @@ use crate::images::{exported, files_of, images_of, said};
 use std::alloc::Global;
 use std::process::Abort;
 use std::test::Fail;
-use std::thread::Threads;
 
 /// Each line: the binding of each use, or the fault; then the objects of an image, separated by `/`, and each startup
 /// image after a `|`. An object is words KIND:NAME, its symbols from number 1 on, and TYPE@SYMBOL, its uses by
@@ -51,12 +50,12 @@ fn same(rt: &impl Abort, found: &str, want: &str, line: &str) {
 }
 
 /// Checks one case.
-fn check(rt: &(impl Abort + Threads + Sync), alloc: Global, line: &str) -> Result<(), Fail> {
+fn check(rt: &impl Abort, alloc: Global, line: &str) -> Result<(), Fail> {
     let (want, rest) = line.split_once(": ").ok_or("an answer")?;
     let own = rest.split('|').next().unwrap_or("");
     let files = files_of(alloc, own)?;
     let images = images_of(alloc, rest)?;
-    same(rt, said(rt, alloc, &files, &images)?.as_str(), want, line);
+    same(rt, said(alloc, &files, &images)?.as_str(), want, line);
     Ok(())
 }
 

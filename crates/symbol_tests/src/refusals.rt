@@ -9,7 +9,6 @@ use link_faults::{ImageKind, LinkFault};
 use link_needs::{ask_kind, ask_tls, has_few_relocations};
 use std::alloc::Global;
 use std::test::Fail;
-use std::thread::Threads;
 use tls_symbols::{Bindings, resolve};
 
 /// Each line: the kind of the image, the size of its TLS segment, the result, and the object, whose symbols are a
@@ -39,7 +38,6 @@ fn kind_of(word: &str) -> ImageKind {
 
 /// Makes both checks.
 fn asked(
-    rt: &(impl Threads + Sync),
     objects: &[Object],
     bindings: &Bindings,
     kind: ImageKind,
@@ -47,13 +45,12 @@ fn asked(
 ) -> Result<(), LinkFault>
     requires { bindings.now.objects ≡ objects.now }
 {
-    ask_kind(rt, objects, kind)?;
-    ask_tls(rt, objects, bindings, kind, size)
+    ask_kind(objects, kind)?;
+    ask_tls(objects, bindings, kind, size)
 }
 
 /// The result for an image of these objects and bindings, with this kind and this size of its TLS segment.
 fn told(
-    rt: &(impl Threads + Sync),
     alloc: Global,
     objects: &[Object],
     bindings: &Bindings,
@@ -62,34 +59,28 @@ fn told(
 ) -> Result<String, Fail>
     requires { bindings.now.objects ≡ objects.now }
 {
-    match asked(rt, objects, bindings, kind, size) {
+    match asked(objects, bindings, kind, size) {
         Ok(()) => Ok(format!(in alloc; "{} fit", relocation_count(objects))?),
         Err(fault) => Ok(format!(in alloc; "{fault}")?),
     }
 }
 
 /// The result for an image of this object, with this kind and this size of its TLS segment.
-fn said(
-    rt: &(impl Threads + Sync),
-    alloc: Global,
-    words: &str,
-    kind: ImageKind,
-    size: u64,
-) -> Result<String, Fail> {
+fn said(alloc: Global, words: &str, kind: ImageKind, size: u64) -> Result<String, Fail> {
     let files = files_of(alloc, words)?;
     let program = images_of(alloc, "|v:y")?;
     let objects = read(alloc, files.as_slice())?;
     let startup = exports_of(alloc, program.as_slice())?;
-    let bindings = resolve(rt, alloc, objects.as_slice(), startup.as_slice())?;
-    told(rt, alloc, objects.as_slice(), &bindings, kind, size)
+    let bindings = resolve(alloc, objects.as_slice(), startup.as_slice())?;
+    told(alloc, objects.as_slice(), &bindings, kind, size)
 }
 
 /// Whether the result of a case is that of its line.
-fn holds(rt: &(impl Threads + Sync), alloc: Global, line: &str) -> Result<bool, Fail> {
+fn holds(alloc: Global, line: &str) -> Result<bool, Fail> {
     let (kind, rest) = line.split_once('|').ok_or("a kind")?;
     let (size, rest) = rest.split_once('|').ok_or("a size")?;
     let (want, words) = rest.split_once('|').ok_or("an answer")?;
-    let found = said(rt, alloc, words, kind_of(kind), size.parse()?)?;
+    let found = said(alloc, words, kind_of(kind), size.parse()?)?;
     Ok(found.as_str() == want)
 }
 
@@ -97,7 +88,7 @@ fn holds(rt: &(impl Threads + Sync), alloc: Global, line: &str) -> Result<bool, 
 fn refusals(rt: HostRuntime) -> Result<(), Fail> {
     for line in CASES.lines() {
         if !line.starts_with("//") {
-            assert!(rt; holds(&rt, rt.alloc(), line)?, "{line}");
+            assert!(rt; holds(rt.alloc(), line)?, "{line}");
         }
     }
     assert!(rt; has_few_relocations(&[]));

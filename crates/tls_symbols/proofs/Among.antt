@@ -1,19 +1,23 @@
 -- The first use that has a property: found in some of the objects, and so in all of them.
 use Rattle.std.proofs.Common.{◌≡◌, ◌∙◌, ◌+◌, ◌-◌, ◌<◌, ◌≤◌, ℕ, List, [], ◌∷◌, Option, Some, None, drop, length, inl, inr}
-use Rattle.std.proofs.Common.{sym, ap, subst, arith}
+use Rattle.std.proofs.Common.{refl, sym, ap, subst, arith}
 use Rattle.std.specs.Prelude.{slice_get, IsSomeAnd, MatchOption}
-use Rattle.std.specs.List.{slice_range, Contains}
+use Rattle.std.specs.List.{slice_range, All, Contains}
 use Rattle.std.proofs.lemmas.Bool.{cases_lt}
 use Rattle.std.proofs.lemmas.List.{get_or-drop, get_or-take, length-drop, length-take-le}
+use Rattle.elf_object.specs.declared.relocation.Relocation.{Relocation}
+use Rattle.elf_object.specs.Faults.{IsObject}
 use Rattle.elf_object.specs.Lawful.{IsLawful}
+use Rattle.elf_object.specs.LawsOfRelocations.{lawful}
 use Rattle.elf_object.specs.Lent.{relocation_target, relocations}
 use Rattle.elf_object.specs.Object.{section_count}
 use Rattle.link_faults.specs.declared.place.Place.{Place}
 use Rattle.tls_symbols.specs.declared.uses.Use.{Use}
 use Rattle.tls_symbols.specs.Bindings.{object_at}
 use Rattle.tls_symbols.specs.Faults.{held_in, Earlier, IsFirstCharged, NoneCharged, Test}
-use Rattle.tls_symbols.specs.Searches.{IsToldAmong, NoneAmong, NoneUsed, Passes}
+use Rattle.tls_symbols.specs.Searches.{NoneAmong, NoneIn, NoneUsed, Passes}
 use Rattle.tls_symbols.specs.Walks.{use_at, Decides, IsFirstUsed, IsUse, IsUsedAt}
+use Rattle.tls_symbols.proofs.FirstUses.{held_own}
 
 module _ (P : Use → Type 0) (objects : List (List ℕ)) where
   -- a use of objects of which the first has this number, by the object's number among all
@@ -105,6 +109,10 @@ module _ (P : Use → Type 0) (objects : List (List ℕ)) where
         last p t f (inl less) below = omega (arith, less, below, count)
         last p t f (inr (same, rest)) below = omega (arith, same, below, count)
 
+    -- these are objects, so one of all is
+    own_object : (o : ℕ) → All IsObject some → o < to - from → IsObject (object_at objects (o + from))
+    own_object o each below = subst IsObject (object_is o below) (each o [] (omega (arith, below, count)))
+
     -- uses that decide for these objects tell of them
     pub tells : (us : List Use) → Decides (Moved from) some us → Tells from to us
     tells [] decides = none_among decides
@@ -114,12 +122,37 @@ module _ (P : Use → Type 0) (objects : List (List ℕ)) where
       λ lacks. tells more (decides.2 lacks),
     )
 
-  -- all objects
-  pub told_of_all : (told : Option Place) → IsToldAmong P objects 0 (length objects) told
-      → MatchOption told (NoneUsed P objects)
-      (λ place. IsFirstUsed P objects place.object place.section place.entry)
-  told_of_all None is = λ o s e at. is o s e (omega arith) at.0 at
-  told_of_all (Some place) is = is (λ o s e zero before at. omega (arith, before))
+  -- an object in which no relocation has the property
+  pub none_in : (o : ℕ) → o + 1 ≤ length objects → All IsObject (slice_range objects o (o + 1))
+      → NoneIn P o (object_at objects o) → NoneAmong P objects o (o + 1)
+  none_in o within each none p s e low high at =
+      let same : p ≡ o = omega (arith, low, high) in
+      let moved : IsUsedAt P objects o s e = subst (λ p. IsUsedAt P objects p s e) same at in
+      by_entry (slice_get (held_in b s) e) refl moved.3
+    where
+      b : List ℕ
+      b = object_at objects o
+
+      object : IsObject b
+      object =
+          let first : 0 + o ≡ o = omega arith in
+          subst (λ o. IsObject (object_at objects o)) first (own_object o (o + 1) (omega arith) within 0 each (omega arith))
+
+      by_entry : (found : Option Relocation) → slice_get (held_in b s) e ≡ found
+          → IsSomeAnd found (λ r. P (use_at o s (relocation_target b s) e r)) → ⊥
+      by_entry None is has = has
+      by_entry (Some r) is has =
+          let t = relocation_target b s in
+          let own = held_own b s e r is in
+          none (use_at o s t e r)
+          (record { object = refl; own = own; lawful = subst (IsLawful b t) own.2 (lawful b object t own.0 r own.1) }) has
+
+  -- one object more
+  pub none_next : (o : ℕ) → NoneAmong P objects 0 o → NoneAmong P objects o (o + 1) → NoneAmong P objects 0 (o + 1)
+  none_next o before here p s e low high at = elim (cases_lt p o) [
+    | inl less ↦ before p s e low less at
+    | inr behind ↦ here p s e behind high at
+  ]
 
 -- what is found by a test
 pub charged : (test : Test) (objects : List (List ℕ)) (told : Option Place)

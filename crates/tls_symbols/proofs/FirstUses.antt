@@ -21,7 +21,7 @@ use Rattle.tls_symbols.proofs.Walked.{held_is, held_none}
 use Rattle.tls_symbols.proofs.Within.{Dropped, dropped_is}
 
 -- what a section holds are relocations of the section that they are for
-held_own : (b : List ℕ) (s e : ℕ) (r : Relocation) → slice_get (held_in b s) e ≡ Some r → Contains (relocations b (relocation_target b s)) r
+pub held_own : (b : List ℕ) (s e : ℕ) (r : Relocation) → slice_get (held_in b s) e ≡ Some r → Contains (relocations b (relocation_target b s)) r
 held_own b s e r is = by (nonzero (relocation_target b s)) refl
   where
     by : (target : Option ℕ) → nonzero (relocation_target b s) ≡ target → Contains (relocations b (relocation_target b s)) r

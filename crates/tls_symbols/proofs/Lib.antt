@@ -11,6 +11,5 @@ pub mod Resolves
 pub mod Search
 pub mod SectionUses
 pub mod Told
-pub mod Unfit
 pub mod Walked
 pub mod Within

@@ -1,5 +1,5 @@
 -- The first of some numbers that passes a test, and what holds of a list.
-use Rattle.std.proofs.Common.{◌≡◌, ◌+◌, ◌-◌, ◌<◌, ◌≤◌, ℕ, suc, Bool, true, false, List, [], ◌∷◌, Some, None, refl, ap, subst, arith}
+use Rattle.std.proofs.Common.{◌≡◌, ◌+◌, ◌-◌, ◌<◌, ◌≤◌, ℕ, suc, Bool, true, false, List, ◌∷◌, Some, None, refl, subst, arith}
 use Rattle.std.specs.List.{All, find, range_with_len}
 use Rattle.elf_object.proofs.Ranges.{range_first, range_none}
 

@@ -1,27 +1,24 @@
 //! What the symbols of an image's relocations are bound to.
 
-ghost use Rattle.std.specs.Prelude.{◌≡◌, ◌<◌, ◌-◌, ◌^◌, IfErr, IfOk, IfSome, MatchOption, OnOk, false, length, map};
+ghost use Rattle.std.specs.Prelude.{◌≡◌, ◌<◌, ◌-◌, ◌^◌, IfErr, IfOk, IfSome, MatchOption, OnOk, false, length};
 ghost use Rattle.elf_object.specs.Lent.{symbol_binding, symbol_name};
 ghost use Rattle.elf_records.specs.declared.symbol.SymbolBinding.TheVariants.{Local};
 ghost use Rattle.elf_object.specs.Parts.{symbol_count};
 ghost use Rattle.tls_symbols.specs.Bindings.{binding_of, bound_to, may, object_at, IsBindingWithin};
 ghost use Rattle.tls_symbols.specs.Definitions.{definition_of, same_binding, IsWithin};
-ghost use Rattle.tls_symbols.specs.Charges.{test_of, AllStandings};
-ghost use Rattle.tls_symbols.specs.Faults.{AreResolved, IsFault, IsFirstCharged, NoneCharged};
+ghost use Rattle.tls_symbols.specs.Faults.{is_faulty, AreResolved, IsFault, IsFirstCharged, NoneCharged};
 ghost use Rattle.tls_symbols.specs.Known.{IsKnown};
 
-use crate::charges::{Charge, NameQuestion};
+use crate::charges::NameQuestion;
 use crate::duplicates::first_duplicate;
 use crate::export_list::Exports;
 use crate::image_names::{ImageNames, binding, definition_named, know_names, symbol_definition};
 use crate::imports::{Imports, imports_of};
 use crate::searching::first_use;
-use crate::standings::{Standing, standings};
 use elf_object::{Object, Relocation};
 use link_faults::{Binding, LinkFault, LinkFaultKind, Place, SymbolRef};
-use std::alloc::{AllocError, Global};
+use std::alloc::Global;
 use std::marker::Model;
-use std::thread::Threads;
 
 /// What the names of an image are bound to. Contracts see its objects and what the startup images export.
 #[derive(Drop)]
@@ -41,75 +38,38 @@ impl<'l, 's, 'a> Model for Bindings<'l, 's, 'a> {
 }
 
 /// The first relocation with this fault.
-fn first_charged<R: Threads + Sync>(
-    rt: &R,
-    names: &ImageNames,
-    standings: &[Vec<Standing>],
-    charge: Charge,
-) -> Option<Place>
-    requires { AllStandings names.now.objects.now names.now.startup.now (map (λ own. own.items) standings.now) }
+fn first_charged(names: &ImageNames, kind: LinkFaultKind) -> Option<Place>
+    requires { IsKnown names.now }
     ensures { MatchOption result
-        (NoneCharged (test_of charge names.now.objects.now names.now.startup.now) names.now.objects.now)
-        (λ place. IsFirstCharged (test_of charge names.now.objects.now names.now.startup.now) names.now.objects.now
+        (NoneCharged (is_faulty kind names.now.objects.now names.now.startup.now) names.now.objects.now)
+        (λ place. IsFirstCharged (is_faulty kind names.now.objects.now names.now.startup.now) names.now.objects.now
         place.object place.section place.entry) }
 {
-    let question = NameQuestion {
-        names,
-        standings,
-        charge,
-    };
-    first_use(rt, &question, names.objects)
+    first_use(&NameQuestion { names, kind }, names.objects)
 }
 
 /// The first fault of names, if some relocation or symbol has one: each kind is searched for in turn.
-fn first_of_all<R: Threads + Sync>(
-    rt: &R,
-    names: &ImageNames,
-    standings: &[Vec<Standing>],
-) -> Option<LinkFault>
-    requires known { IsKnown names.now }
-    requires standings { AllStandings names.now.objects.now names.now.startup.now
-        (map (λ own. own.items) standings.now) }
+fn first_fault(names: &ImageNames) -> Option<LinkFault>
+    requires { IsKnown names.now }
     ensures { MatchOption result (AreResolved names.now.objects.now names.now.startup.now)
         (IsFault names.now.objects.now names.now.startup.now) }
 {
-    if let Some(place) = first_charged(rt, names, standings, Charge::Unbound) {
+    if let Some(place) = first_charged(names, LinkFaultKind::Undefined) {
         return Some(place.fault(LinkFaultKind::Undefined));
     }
     if let Some(place) = first_duplicate(names) {
         return Some(place.fault(LinkFaultKind::Duplicate));
     }
-    match first_charged(rt, names, standings, Charge::Unsuited) {
+    match first_charged(names, LinkFaultKind::NotTls) {
         Some(place) => Some(place.fault(LinkFaultKind::NotTls)),
         None => None,
     }
 }
 
-/// The first fault of the names of an image. If no relocation has one, a single walk over them shows it.
-fn first_fault<R: Threads + Sync>(
-    rt: &R,
-    alloc: Global,
-    names: &ImageNames,
-) -> Result<Option<LinkFault>, AllocError>
-    requires { IsKnown names.now }
-    ensures { IfOk result (λ fault. MatchOption fault (AreResolved names.now.objects.now names.now.startup.now)
-        (IsFault names.now.objects.now names.now.startup.now)) }
-{
-    let standings = standings(alloc, names)?;
-    match first_charged(rt, names, &standings, Charge::Either) {
-        Some(_) => Ok(first_of_all(rt, names, &standings)),
-        None => match first_duplicate(names) {
-            Some(place) => Ok(Some(place.fault(LinkFaultKind::Duplicate))),
-            None => Ok(None),
-        },
-    }
-}
-
 /// Binds the names of an image of these objects. `startup` has what each startup image exports, in image order; an
 /// image that is one itself is among them. The error is the first fault: `Undefined`, else `Duplicate`, else `NotTls`,
-/// at the first object, section and entry. Threads look at objects side by side.
-pub fn resolve<'l, 's, 'a, R: Threads + Sync>(
-    rt: &R,
+/// at the first object, section and entry.
+pub fn resolve<'l, 's, 'a>(
     alloc: Global,
     objects: &'l [Object<'a>],
     startup: &'s [Exports<'a>],
@@ -121,7 +81,7 @@ pub fn resolve<'l, 's, 'a, R: Threads + Sync>(
     ensures fault { IfErr result (IsFault objects.now startup.now) }
 {
     let names = know_names(alloc, objects, startup)?;
-    match first_fault(rt, alloc, &names)? {
+    match first_fault(&names) {
         Some(fault) => Err(fault),
         None => Ok(Bindings { names }),
     }

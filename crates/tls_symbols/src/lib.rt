@@ -34,19 +34,20 @@
 //!
 //! [`Uses`] is an iterator over the relocations of all objects, by object, section and entry. It goes by the sections
 //! that hold relocations, which is the order of faults, or by the sections that they apply to. [`first_use`] finds the
-//! first relocation that a [`Question`] is about; threads look at objects side by side.
+//! first relocation that a [`Question`] is about. The question is first asked about an object, by what was noted of its
+//! relocations when it was read: they are walked only where it may be about one of them.
 //!
 //! The rule of cost: **a name is read and hashed once, and is a number from then on.** Names are numbered in the order
 //! in which they are met. Each symbol keeps the number of its name and whether it is thread-local. Tables by these
 //! numbers hold the first GLOBAL and the first WEAK definition and the first startup image. So a few look-ups in lists
-//! bind a relocation, however many names there are. LOCAL names are not read. What a symbol is bound to is found once.
-//! If no relocation has a fault, one walk over all of them shows it, and the searches for the first fault of each kind
-//! are skipped.
+//! bind a relocation, however many names there are. LOCAL names are not read. A fault depends on a symbol and on the
+//! role in which relocations name it, and an object has noted these roles. So faults are looked for among symbols, and
+//! relocations are walked only in an object that has one.
 //!
 //! `specs/Definitions` says which definition a name has, `specs/Bindings` what a symbol is bound to and what an image
 //! exports, and `specs/Faults` what each kind of fault means and which is the first. The other files of specs/ are
-//! about what the code keeps: numbers and tables (`Numbers`, `Known`), what each symbol is bound to and what a question
-//! about names asks (`Charges`), the walk (`Walks`), and a search by threads, each in some objects (`Searches`).
+//! about what the code keeps: numbers and tables (`Numbers`, `Known`), what a question about names asks (`Charges`),
+//! the walk (`Walks`), and the search for the first relocation that a question is about (`Searches`).
 #![tactic(auto)]
 
 mod bindings;
@@ -60,7 +61,6 @@ mod imports;
 pub mod laws;
 mod numbers;
 mod searching;
-mod standings;
 mod uses;
 
 pub use bindings::{Bindings, resolve};

@@ -8,5 +8,5 @@ use Rattle.elf_object.proofs.count.relocation_count.Given as goal
 abbrev pub invariant-loop-object : goal.invariant-loop-object
 invariant-loop-object l =
     (l.count + sum_by own_count (drop l.object-index l.objects) ≡ relocation_count l.objects) ×
-    (l.count ≤ 2 ^ 36 * l.object-index) ×
+    (l.count ≤ 2 ^ 64 * l.object-index) ×
     ((k : ℕ) (d : List ℕ) → k < l.object-index → IsObject (slice_index_or l.objects k d))

@@ -11,7 +11,7 @@ prepare-requires-clause-sites g c κs within =
     c.objects.ensures.given
 
 pub fitting-requires : goal.fitting-requires
-fitting-requires g c = (search rules, subst IsSound (sym c.in-Ok.ensures.ready) c.in-Ok.ensures.sound)
+fitting-requires g c = subst IsSound (sym c.in-Ok.ensures.ready) c.in-Ok.ensures.sound
 
 pub returns-in-Ok-clause-ready : goal.returns-in-Ok-clause-ready
 returns-in-Ok-clause-ready g c =
