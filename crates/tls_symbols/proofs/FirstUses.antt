@@ -1,10 +1,8 @@
--- The first use that has a property: what a walk over the uses of objects finds.
-use Rattle.std.proofs.Common.{◌≡◌, ◌+◌, ◌-◌, ◌<◌, ◌≤◌, ◌++◌, ◌∙◌, ℕ, zero, suc, List, [], ◌∷◌, Option, Some, None, drop, length, inl, inr, refl, sym, ap, subst, arith}
+-- The first use that has a property: found place by place.
+use Rattle.std.proofs.Common.{◌≡◌, ◌+◌, ◌<◌, ◌≤◌, ◌∙◌, ℕ, List, Option, Some, None, length, inl, inr, refl, sym, ap, subst, arith}
 use Rattle.std.specs.Prelude.{slice_get, IsSomeAnd}
-use Rattle.std.specs.List.{flat_map, range_with_len, All, Contains}
 use Rattle.std.proofs.lemmas.Bool.{cases_lt}
-use Rattle.std.proofs.lemmas.List.{append_assoc, length-drop}
-use Rattle.std.proofs.lemmas.Option.{get_or_from_slice_get, slice_get_within}
+use Rattle.std.proofs.lemmas.Option.{get_or_from_slice_get, slice_get_past, slice_get_within}
 use Rattle.object_faults.specs.Firsts.{nonzero}
 use Rattle.elf_object.specs.declared.relocation.Relocation.{Relocation}
 use Rattle.elf_object.specs.Faults.{IsObject}
@@ -12,35 +10,49 @@ use Rattle.elf_object.specs.Lawful.{IsLawful}
 use Rattle.elf_object.specs.LawsOfRelocations.{lawful}
 use Rattle.elf_object.specs.Lent.{relocation_target, relocations}
 use Rattle.elf_object.specs.Object.{section_count}
-use Rattle.tls_symbols.specs.declared.uses.Order.TheVariants.{Holders}
 use Rattle.tls_symbols.specs.declared.uses.Use.{Use}
 use Rattle.tls_symbols.specs.Bindings.{object_at}
-use Rattle.tls_symbols.specs.Faults.{held_in, Earlier}
-use Rattle.tls_symbols.specs.Walks.{entries_from, use_at, uses, uses_from, uses_held, Decides, IsUse, IsUsedAt}
+use Rattle.tls_symbols.specs.Faults.{held_in}
+use Rattle.tls_symbols.specs.Searches.{IsUseIn, NoneIn}
+use Rattle.tls_symbols.specs.Walks.{use_at, IsUse, IsUsedAt, NoneBefore}
 use Rattle.tls_symbols.proofs.Walked.{held_is, held_none}
-use Rattle.tls_symbols.proofs.Within.{Dropped, dropped_is}
 
--- what a section holds are relocations of the section that they are for
-pub held_own : (b : List ℕ) (s e : ℕ) (r : Relocation) → slice_get (held_in b s) e ≡ Some r → Contains (relocations b (relocation_target b s)) r
-held_own b s e r is = by (nonzero (relocation_target b s)) refl
-  where
-    by : (target : Option ℕ) → nonzero (relocation_target b s) ≡ target → Contains (relocations b (relocation_target b s)) r
-    by None none = let nothing = sym is ∙ ap (λ rs. slice_get rs e) (held_none b s none) in absurd (cc)
-    by (Some t) some =
-        let held = held_is b s t some in
-        let at : slice_get (relocations b t) e ≡ Some r = ap (λ rs. slice_get rs e) (sym held.0) ∙ is in
-        subst (λ t. Contains (relocations b t) r) (sym held.1) (e, slice_get_within (relocations b t) e r at, get_or_from_slice_get (relocations b t) e r r at)
+-- section s of object o holds these relocations, which are those of section t
+pub record Holds (objects : List (List ℕ)) (o s t : ℕ) (rs : List Relocation) : Type 0 where
+  pub object : IsObject (object_at objects o)
+  pub target : relocation_target (object_at objects o) s ≡ t
+  pub held : held_in (object_at objects o) s ≡ rs
+  pub own : rs ≡ relocations (object_at objects o) t
 
-module _ (P : Use → Type 0) (objects : List (List ℕ)) (each : All IsObject objects) where
-  -- none has the property before a place
-  abbrev Before : ℕ → ℕ → ℕ → Type 0
-  Before o s e = (p t f : ℕ) → Earlier p t f o s e → IsUsedAt P objects p t f → ⊥
+pub holds : (objects : List (List ℕ)) (o s t : ℕ) (b : List ℕ) (rs : List Relocation) → IsObject b → b ≡ object_at objects o
+    → Some t ≡ nonzero (relocation_target b s) → rs ≡ relocations b t → Holds objects o s t rs
+holds objects o s t b rs object here target own =
+    let held = held_is b s t (sym target) in
+    let P : List ℕ → Type 0 = λ b. IsObject b × (relocation_target b s ≡ t) × (held_in b s ≡ rs) × (rs ≡ relocations b t) in
+    let all : P (object_at objects o) = subst P here (object, held.1, held.0 ∙ sym own, own) in
+    record { object = all.0; target = all.1; held = all.2; own = all.3 }
 
+-- each is a relocation of the object
+use_in : (objects : List (List ℕ)) (o s t : ℕ) (rs : List Relocation) → Holds objects o s t rs → (e : ℕ) (r : Relocation)
+    → slice_get rs e ≡ Some r → IsUseIn o (object_at objects o) (use_at o s t e r)
+use_in objects o s t rs holds e r is =
+    let b = object_at objects o in
+    let found : slice_get (relocations b t) e ≡ Some r = ap (λ rs. slice_get rs e) (sym holds.own) ∙ is in
+    let within = slice_get_within (relocations b t) e r found in
+    let here = get_or_from_slice_get (relocations b t) e r r found in
+    record { object = refl; own = (e, within, here); lawful = subst (IsLawful b t) here (lawful b holds.object t e r within) }
+
+pub use_of : (objects : List (List ℕ)) (o s t : ℕ) (rs : List Relocation) → Holds objects o s t rs → (e n : ℕ) (r : Relocation)
+    → slice_get rs e ≡ Some r → o < length objects → IsUse objects (use_at o n t e r)
+use_of objects o s t rs holds e n r is there =
+    let found = use_in objects o s t rs holds e r is in record { object = there; own = found.own; lawful = found.lawful }
+
+module _ (P : Use → Type 0) (objects : List (List ℕ)) where
   moved : (p t f o s e : ℕ) → p ≡ o → t ≡ s → f ≡ e → IsUsedAt P objects p t f → IsUsedAt P objects o s e
   moved p t f o s e here there at is =
       subst (λ o. IsUsedAt P objects o s e) here (subst (λ s. IsUsedAt P objects p s e) there (subst (IsUsedAt P objects p t) at is))
 
-  after_entry : (o s e : ℕ) → Before o s e → (IsUsedAt P objects o s e → ⊥) → Before o s (e + 1)
+  after_entry : (o s e : ℕ) → NoneBefore P objects o s e → (IsUsedAt P objects o s e → ⊥) → NoneBefore P objects o s (e + 1)
   after_entry o s e before none p t f (inl less) at = before p t f (inl less) at
   after_entry o s e before none p t f (inr (same, inl less)) at = before p t f (inr (same, inl less)) at
   after_entry o s e before none p t f (inr (same, inr (section, less))) at = elim (cases_lt f e) [
@@ -48,7 +60,7 @@ module _ (P : Use → Type 0) (objects : List (List ℕ)) (each : All IsObject o
     | inr past ↦ none (moved p t f o s e same section (omega (arith, less, past)) at)
   ]
 
-  after_section : (o s e : ℕ) → Before o s e → ((f : ℕ) → e ≤ f → IsUsedAt P objects o s f → ⊥) → Before o (s + 1) 0
+  after_section : (o s e : ℕ) → NoneBefore P objects o s e → ((f : ℕ) → e ≤ f → IsUsedAt P objects o s f → ⊥) → NoneBefore P objects o (s + 1) 0
   after_section o s e before none p t f (inl less) at = before p t f (inl less) at
   after_section o s e before none p t f (inr (same, inr (section, less))) at = absurd (omega (arith, less))
   after_section o s e before none p t f (inr (same, inl less)) at = elim (cases_lt t s) [
@@ -61,87 +73,70 @@ module _ (P : Use → Type 0) (objects : List (List ℕ)) (each : All IsObject o
         ]
   ]
 
-  after_object : (o s : ℕ) → Before o s 0 → section_count (object_at objects o) ≤ s → Before (o + 1) 1 0
-  after_object o s before past p t f (inr (same, inl less)) at = let some = at.1 in omega (arith, less, some)
-  after_object o s before past p t f (inr (same, inr (section, less))) at = omega (arith, less)
-  after_object o s before past p t f (inl less) at = elim (cases_lt p o) [
-    | inl below ↦ before p t f (inl below) at
+  -- a section of an object
+  module _ (o s : ℕ) where
+    abbrev b : List ℕ
+    b = object_at objects o
+
+    -- what an entry of it is, by the section that the entries apply to
+    abbrev At : ℕ → ℕ → Option Relocation → Type 0
+    At e t found = IsSomeAnd found (λ r. P (use_at o s t e r))
+
+    -- the section holds no relocations, or those of a section that linking drops
+    none_there : (e : ℕ) → nonzero (relocation_target b s) ≡ None → IsUsedAt P objects o s e → ⊥
+    none_there e is at = subst (λ rs. At e (relocation_target b s) (slice_get rs e)) (held_none b s is) at.3
+
+    pub skips_section : (c : List ℕ) → c ≡ b → None ≡ nonzero (relocation_target c s) → NoneBefore P objects o s 0
+        → NoneBefore P objects o (s + 1) 0
+    skips_section c here is before =
+        let none = sym (subst (λ b. None ≡ nonzero (relocation_target b s)) here is) in
+        after_section o s 0 before (λ f behind at. none_there f none at)
+
+    module _ (t : ℕ) (rs : List Relocation) (holds : Holds objects o s t rs) where
+      by_target : (e : ℕ) → IsUsedAt P objects o s e → At e t (slice_get rs e)
+      by_target e at =
+          subst (λ t. At e t (slice_get rs e)) holds.target
+          (subst (λ rs. At e (relocation_target b s) (slice_get rs e)) holds.held at.3)
+
+      pub used_here : (e : ℕ) (r : Relocation) → o < length objects → 0 < s → s < section_count b → slice_get rs e ≡ Some r
+          → P (use_at o s t e r) → IsUsedAt P objects o s e
+      used_here e r there some below found has = (
+        there,
+        some,
+        below,
+        subst (λ rs. At e (relocation_target b s) (slice_get rs e)) (sym holds.held)
+            (subst (λ t. At e t (slice_get rs e)) (sym holds.target) (subst (At e t) (sym found) has)),
+      )
+
+      pub next_entry : (e : ℕ) (r : Relocation) → slice_get rs e ≡ Some r → (P (use_at o s t e r) → ⊥)
+          → NoneBefore P objects o s e → NoneBefore P objects o s (e + 1)
+      next_entry e r found lacks before = after_entry o s e before (λ at. lacks (subst (At e t) found (by_target e at)))
+
+      pub next_section : (e : ℕ) → length rs ≤ e → NoneBefore P objects o s e → NoneBefore P objects o (s + 1) 0
+      next_section e past before = after_section o s e before
+          (λ f behind at. subst (At f t) (slice_get_past rs f (omega (arith, past, behind))) (by_target f at))
+
+    -- no relocation of the object has the property
+    none_here : (e : ℕ) → IsObject b → NoneIn P o b → IsUsedAt P objects o s e → ⊥
+    none_here e object none at = of_target (nonzero (relocation_target b s)) refl
+      where
+        of_entry : (t : ℕ) → Holds objects o s t (relocations b t) → (found : Option Relocation) → slice_get (relocations b t) e ≡ found
+            → At e t found → ⊥
+        of_entry t holds None is has = has
+        of_entry t holds (Some r) is has = none (use_at o s t e r) (use_in objects o s t (relocations b t) holds e r is) has
+
+        of_target : (target : Option ℕ) → nonzero (relocation_target b s) ≡ target → ⊥
+        of_target None is = none_there e is at
+        of_target (Some t) is =
+            let held = holds objects o s t b (relocations b t) object refl (sym is) refl in
+            of_entry t held (slice_get (relocations b t) e) refl (by_target t (relocations b t) held e at)
+
+  pub skips_object : (o : ℕ) → IsObject (object_at objects o) → NoneIn P o (object_at objects o) → NoneBefore P objects o 1 0
+      → NoneBefore P objects (o + 1) 1 0
+  skips_object o object none before p s e (inr (same, inl less)) at = let some = at.1 in omega (arith, less, some)
+  skips_object o object none before p s e (inr (same, inr (section, less))) at = omega (arith, less)
+  skips_object o object none before p s e (inl less) at = elim (cases_lt p o) [
+    | inl below ↦ before p s e (inl below) at
     | inr behind ↦
-        let same : p ≡ o = omega (arith, less, behind) in
-        let here : IsUsedAt P objects o t f = moved p t f o t f same refl refl at in
-        let below = here.2 in before p t f (inr (same, inl (omega (arith, below, past)))) at
+        let same : p ≡ o = omega (arith, less, behind) in none_here o s e object none (moved p s e o s e same refl refl at)
   ]
-
-  module _ (o s : ℕ) (there : o < length objects) (some : 0 < s) (below : s < section_count (object_at objects o)) where
-    -- the entries of a section that are left, and what is behind them
-    in_section : (e : ℕ) (xs : List Relocation) (more : List Use) → Before o s e
-        → ((k : ℕ) → slice_get (held_in (object_at objects o) s) (e + k) ≡ slice_get xs k) → (Before o (s + 1) 0 → Decides P objects more)
-        → Decides P objects (entries_from o s (relocation_target (object_at objects o) s) e xs ++ more)
-    in_section e [] more before left rest = rest (after_section o s e before (λ f behind at. none f behind at.3))
-      where
-        b : List ℕ
-        b = object_at objects o
-
-        none : (f : ℕ) → e ≤ f → IsSomeAnd (slice_get (held_in b s) f) (λ r. P (use_at o s (relocation_target b s) f r)) → ⊥
-        none f behind at =
-            let same : e + (f - e) ≡ f = omega (arith, behind) in
-            let is : slice_get (held_in b s) f ≡ None = ap (slice_get (held_in b s)) (sym same) ∙ left (f - e) in
-            subst (λ x. IsSomeAnd x (λ r. P (use_at o s (relocation_target b s) f r))) is at
-    in_section e (r ∷ xs) more before left rest = (is_use, (λ has. (at has, before)), λ lacks. in_section (e + 1) xs more (after_entry o s e before (λ is. lacks (has is.3))) next rest)
-      where
-        b : List ℕ
-        b = object_at objects o
-
-        t : ℕ
-        t = relocation_target b s
-
-        found : slice_get (held_in b s) e ≡ Some r
-        found = let same : e ≡ e + 0 = omega arith in ap (slice_get (held_in b s)) same ∙ left 0
-
-        is_use : IsUse objects (use_at o s t e r)
-        is_use = let own = held_own b s e r found in record {
-          object = there;
-          own = own;
-          lawful = subst (IsLawful b t) own.2 (lawful b (each o [] there) t own.0 r own.1);
-        }
-
-        at : P (use_at o s t e r) → IsUsedAt P objects o s e
-        at has = (there, some, below, subst (λ x. IsSomeAnd x (λ r. P (use_at o s t e r))) (sym found) has)
-
-        has : IsSomeAnd (slice_get (held_in b s) e) (λ r. P (use_at o s t e r)) → P (use_at o s t e r)
-        has = subst (λ x. IsSomeAnd x (λ r. P (use_at o s t e r))) found
-
-        next : (k : ℕ) → slice_get (held_in b s) (e + 1 + k) ≡ slice_get xs k
-        next k = let same : e + 1 + k ≡ e + suc k = omega arith in ap (slice_get (held_in b s)) same ∙ left (suc k)
-
-  -- the sections of an object that are left, and what is behind them
-  in_object : (o s n : ℕ) (more : List Use) → o < length objects → 0 < s → n ≡ section_count (object_at objects o) - s → Before o s 0
-      → (Before (o + 1) 1 0 → Decides P objects more) → Decides P objects (flat_map (uses_held Holders o (object_at objects o)) (range_with_len s n) ++ more)
-  in_object o s zero more there some left before rest = rest (after_object o s before (omega (arith, left)))
-  in_object o s (suc n) more there some left before rest =
-      let b = object_at objects o in
-      let behind = flat_map (uses_held Holders o b) (range_with_len (s + 1) n) in
-      let below : s < section_count b = omega (arith, left) in
-      subst (Decides P objects) (sym (append_assoc (uses_held Holders o b s) behind more))
-      (in_section o s there some below 0 (held_in b s) (behind ++ more) before (λ k. let same : 0 + k ≡ k = omega arith in ap (slice_get (held_in b s)) same)
-      (λ next. in_object o (s + 1) n more there (omega arith) (omega (arith, left)) next rest))
-
-  -- the objects that are left
-  in_objects : (o : ℕ) (left : List (List ℕ)) → drop o objects ≡ left → Before o 1 0 → Decides P objects (uses_from Holders o 1 left)
-  in_objects o [] e before = λ p t f at. let past : length (drop o objects) ≡ 0 = ap length e in before p t f (inl (omega (arith, at.0, past, length-drop o objects))) at
-  in_objects o (b ∷ more) e before = subst
-      (λ b. Decides P objects (flat_map (uses_held Holders o b) (range_with_len 1 (section_count b - 1)) ++ uses_from Holders (o + 1) 1 more)) first.here
-      (in_object o 1 (section_count (object_at objects o) - 1) (uses_from Holders (o + 1) 1 more) first.within (omega arith) refl before (in_objects (o + 1) more first.rest))
-    where
-      first : Dropped objects o [] b more
-      first = dropped_is objects o [] b more e
-
-  -- the first of the uses that has the property is the first of all
-  pub decides : Decides P objects (uses objects)
-  unfolding uses
-  decides = in_objects 0 objects refl none
-    where
-      none : Before 0 1 0
-      none p t f (inl less) at = omega (arith, less)
-      none p t f (inr (same, inl less)) at = let some = at.1 in omega (arith, less, some)
-      none p t f (inr (same, inr (section, less))) at = omega (arith, less)

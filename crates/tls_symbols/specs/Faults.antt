@@ -38,10 +38,6 @@ is_faulty NotTls objects startup o r =
     names_symbol r.kind && is_mismatched objects r.kind (binding_of objects startup o r)
 is_faulty kind objects startup o r = false
 
--- whether it has one of the two faults
-abbrev pub is_unfit : List (List ℕ) → List (List (List ℕ)) → ℕ → Relocation → Bool
-is_unfit objects startup o r = is_faulty Undefined objects startup o r || is_faulty NotTls objects startup o r
-
 -- ** the faults of a symbol
 
 -- whether symbol e of object o is a second GLOBAL definition: its name binds to another symbol

@@ -1,5 +1,5 @@
--- The first use that has a property, sought in all objects, or in some of them.
-use Rattle.std.specs.Prelude.{◌≡◌, ◌≤◌, ◌<◌, ℕ, true, List, Option, Some, None, length}
+-- The search for the first use that has a property.
+use Rattle.std.specs.Prelude.{◌≡◌, ◌<◌, ℕ, true, List, Option, Some, None, length}
 use Rattle.std.specs.List.{Contains}
 use Rattle.elf_object.specs.Lawful.{IsLawful}
 use Rattle.elf_object.specs.Lent.{relocations}
@@ -7,7 +7,7 @@ use Rattle.link_faults.specs.declared.place.Place.{Place}
 use Rattle.tls_symbols.specs.declared.uses.Use.{Use}
 use Rattle.tls_symbols.specs.Bindings.{object_at}
 use Rattle.tls_symbols.specs.Faults.{Test}
-use Rattle.tls_symbols.specs.Walks.{IsFirstUsed, IsUse, IsUsedAt}
+use Rattle.tls_symbols.specs.Walks.{IsFirstUsed, IsUse, IsUsedAt, NoneBefore}
 
 -- what may be asked about a relocation may be asked about each of the objects'
 abbrev pub MayAsk : (Use → Type 0) → List (List ℕ) → Type 0
@@ -30,15 +30,10 @@ NoneIn P o b = (u : Use) → IsUseIn o b u → P u → ⊥
 abbrev pub NoneUsed : (Use → Type 0) → List (List ℕ) → Type 0
 NoneUsed P objects = (o s e : ℕ) → IsUsedAt P objects o s e → ⊥
 
--- no object from number `from` on and before `to` has such a use
-abbrev pub NoneAmong : (Use → Type 0) → List (List ℕ) → ℕ → ℕ → Type 0
-NoneAmong P objects from to = (o s e : ℕ) → from ≤ o → o < to → IsUsedAt P objects o s e → ⊥
-
--- what is told of these objects: none has such a use; or theirs is the first of all, if none before them has one
-abbrev pub IsToldAmong : (Use → Type 0) → List (List ℕ) → ℕ → ℕ → Option Place → Type 0
-IsToldAmong P objects from to None = NoneAmong P objects from to
-IsToldAmong P objects from to (Some place) =
-    NoneAmong P objects 0 from → IsFirstUsed P objects place.object place.section place.entry
+-- what is found: the first of all, or none before section s of object o
+abbrev pub IsFoundUpTo : (Use → Type 0) → List (List ℕ) → ℕ → ℕ → Option Place → Type 0
+IsFoundUpTo P objects o s None = NoneBefore P objects o s 0
+IsFoundUpTo P objects o s (Some place) = IsFirstUsed P objects place.object place.section place.entry
 
 -- the use passes a test
 abbrev pub Passes : Test → Use → Type 0

@@ -32,10 +32,9 @@
 //! is bound to, and which definition a name or a symbol has in the image. What a symbol is bound to depends on whether
 //! it may be another image's variable ([`Imports`]), and on nothing else in a relocation.
 //!
-//! [`Uses`] is an iterator over the relocations of all objects, by object, section and entry. It goes by the sections
-//! that hold relocations, which is the order of faults, or by the sections that they apply to. [`first_use`] finds the
-//! first relocation that a [`Question`] is about. The question is first asked about an object, by what was noted of its
-//! relocations when it was read: they are walked only where it may be about one of them.
+//! [`first_use`] finds the first relocation that a [`Question`] is about, by object, section and entry. The question is
+//! first asked about an object, by what was noted of its relocations when it was read: they are walked only where it
+//! may be about one of them.
 //!
 //! The rule of cost: **a name is read and hashed once, and is a number from then on.** Names are numbered in the order
 //! in which they are met. Each symbol keeps the number of its name and whether it is thread-local. Tables by these
@@ -47,7 +46,7 @@
 //! `specs/Definitions` says which definition a name has, `specs/Bindings` what a symbol is bound to and what an image
 //! exports, and `specs/Faults` what each kind of fault means and which is the first. The other files of specs/ are
 //! about what the code keeps: numbers and tables (`Numbers`, `Known`), what a question about names asks (`Charges`),
-//! the walk (`Walks`), and the search for the first relocation that a question is about (`Searches`).
+//! relocations with a property (`Walks`), and the search for the first (`Searches`).
 #![tactic(auto)]
 
 mod bindings;
@@ -69,4 +68,4 @@ pub use exporting::exports;
 pub use imports::{Imports, imports_of};
 pub use numbers::symbol_total;
 pub use searching::{Question, first_use};
-pub use uses::{Use, Uses};
+pub use uses::Use;

@@ -1,11 +1,13 @@
-//! The first relocation that a question is about. No other function loops over relocations to look for one.
+//! The first relocation that a question is about: each fault of a relocation is found so.
 
 ghost use Rattle.std.specs.Prelude.{◌≡◌, ◌<◌, ◌+◌, ℕ, List, MatchBool, MatchOption, false, length};
+ghost use Rattle.elf_object.specs.Object.{section_count};
 ghost use Rattle.tls_symbols.specs.declared.uses.Use.{Use};
-ghost use Rattle.tls_symbols.specs.Searches.{IsToldAmong, MayAsk, MayAskIn, NoneIn, NoneUsed};
-ghost use Rattle.tls_symbols.specs.Walks.{IsFirstUsed};
+ghost use Rattle.tls_symbols.specs.Bindings.{object_at};
+ghost use Rattle.tls_symbols.specs.Searches.{IsFoundUpTo, MayAsk, MayAskIn, NoneIn, NoneUsed};
+ghost use Rattle.tls_symbols.specs.Walks.{IsFirstUsed, NoneBefore};
 
-use crate::uses::{Use, Uses};
+use crate::uses::Use;
 use elf_object::Object;
 use link_faults::Place;
 
@@ -31,21 +33,58 @@ pub trait Question {
         ensures { MatchBool result (about self.now found.now) (about self.now found.now → ⊥) };
 }
 
-/// The first relocation that a question is about, of the object with this number.
-fn first_in<Q: Question>(question: &Q, objects: &[Object], number: usize) -> Option<Place>
-    requires within { number < length objects.now }
+/// The first relocation that a question is about, of those that a section of an object holds. `table` is the section's
+/// number.
+fn first_held<Q: Question>(
+    question: &Q,
+    objects: &[Object],
+    number: usize,
+    table: u32,
+) -> Option<Place>
+    requires number { number < length objects.now }
+    requires table { (0 < table) × (table < section_count (object_at objects.now number)) }
     requires asked { MayAsk (Q.may_ask question.now) objects.now }
-    requires asked_in { MayAskIn (Q.may_ask_in question.now) objects.now }
-    ensures { IsToldAmong (Q.about question.now) objects.now number (number + 1) result }
+    requires before { NoneBefore (Q.about question.now) objects.now number table 0 }
+    ensures { IsFoundUpTo (Q.about question.now) objects.now number (table + 1) result }
 {
-    let uses = Uses::of(&objects[number..number + 1]);
-    if !question.may_be_in(number, &objects[number]) {
+    let object = &objects[number];
+    let Some(section) = object.relocation_target(table) else {
         return None;
-    }
-    for mut found in uses {
-        found.place.object += number as u64;
+    };
+    let relocs = object.relocs(section);
+    for entry in 0..relocs.len() {
+        let found = Use {
+            place: Place {
+                object: number as u64,
+                section: u64::from(table),
+                entry,
+            },
+            section,
+            relocation: relocs.at(entry),
+        };
         if question.is_about(&found) {
             return Some(found.place);
+        }
+    }
+    None
+}
+
+/// The first relocation that a question is about, of an object.
+fn first_in<Q: Question>(question: &Q, objects: &[Object], number: usize) -> Option<Place>
+    requires number { number < length objects.now }
+    requires asked { MayAsk (Q.may_ask question.now) objects.now }
+    requires asked_in { MayAskIn (Q.may_ask_in question.now) objects.now }
+    requires before { NoneBefore (Q.about question.now) objects.now number 1 0 }
+    ensures { IsFoundUpTo (Q.about question.now) objects.now (number + 1) 1 result }
+{
+    let object = &objects[number];
+    let count = object.section_count();
+    if !question.may_be_in(number, object) {
+        return None;
+    }
+    for table in 1..count {
+        if let Some(place) = first_held(question, objects, number, table) {
+            return Some(place);
         }
     }
     None

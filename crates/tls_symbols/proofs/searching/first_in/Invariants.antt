@@ -1,11 +1,6 @@
-use Rattle.std.proofs.Common.{◌+◌}
-use Rattle.tls_symbols.specs.Walks.{uses_left}
-use Rattle.tls_symbols.proofs.Among.{Tells}
+use Rattle.tls_symbols.specs.Walks.{NoneBefore}
 use Rattle.tls_symbols.proofs.searching.first_in.Given as goal
 
--- the uses that are left tell
-abbrev pub invariant-loop-found : goal.invariant-loop-found
-invariant-loop-found g l =
-    (goal.iterator-loop-found g).can_next l.found-iterator ×
-    (goal.iterator-loop-found g).is_finite l.found-iterator ×
-    Tells (g.Q.Question.about l.question) l.objects l.number (l.number + 1) (uses_left l.found-iterator)
+-- no section so far holds one that is asked for
+abbrev pub invariant-loop-table : goal.invariant-loop-table
+invariant-loop-table g l = NoneBefore (g.Q.Question.about l.question) l.objects l.number l.table 0
