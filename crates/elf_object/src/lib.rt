@@ -20,6 +20,10 @@
 //! offset 0 of section 3. `symbol_name(2)` is `x`, and `relocs(1)` has one entry: at offset 4 of the code, `TpOff32` of
 //! symbol 2.
 //!
+//! Reading also notes what most questions about relocations depend on: in which roles they name each symbol
+//! ([`Object::roles`]), and what they have among them ([`Object::traits`]). So a linker looks for a fault among the
+//! symbols, and at relocations only where there is one (`specs/Noted`).
+//!
 //! [`relocation_count`] counts the relocations of several objects, and [`is_tls_place`] tells whether a symbol is
 //! thread-local, by its place.
 //!

@@ -15,6 +15,8 @@ mod jobs;
 #[cfg(test)]
 mod link_faults_tests;
 #[cfg(test)]
+mod noted_relocations;
+#[cfg(test)]
 mod objects;
 #[cfg(test)]
 mod records;

@@ -28,6 +28,10 @@ pub mod LoadsPlaces
 pub mod LoadsTables
 pub mod LoadsTls
 pub mod NamesHeld
+pub mod NarrowFields
+pub mod NarrowNumbers
+pub mod NarrowSums
+pub mod NarrowSymbols
 pub mod NewFields
 pub mod PartPieces
 pub mod Relatives

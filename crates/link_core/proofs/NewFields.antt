@@ -157,7 +157,7 @@ here_alike objects startup o x y found same e =
 -- ** numbers
 
 -- the block begins near the thread pointer
-block_near : (l : Linking) → FitsTable l → block_offset l < 2 ^ 21
+pub block_near : (l : Linking) → FitsTable l → block_offset l < 2 ^ 21
 unfolding block_offset
 block_near l limits =
     let sections = (layout l).sections in
@@ -166,7 +166,7 @@ block_near l limits =
     omega (arith, near, power.1, limits.lawful.small_tls)
 
 -- each entry of the table lies low
-entry_low : (l : Linking) → (need : Option Need) → got_start l + total_size (entries l) ≤ 2 ^ 25
+pub entry_low : (l : Linking) → (need : Option Need) → got_start l + total_size (entries l) ≤ 2 ^ 25
     → need_address l need ≤ 2 ^ 25
 entry_low l None small = omega arith
 entry_low l (Some need) small = of_start (start_of (entries l) need) refl

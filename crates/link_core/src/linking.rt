@@ -46,13 +46,13 @@ impl ReadyLink<'_, '_, '_> {
 }
 
 /// Writes the image of a ready link. The error is the first field that can't hold its value.
-fn written<R: Threads + Sync>(rt: &R, alloc: Global, ready: ReadyLink) -> Result<Linked, LinkFault>
+fn written<R: Threads>(rt: &R, alloc: Global, ready: ReadyLink) -> Result<Linked, LinkFault>
     requires { IsSound ready }
     ensures linked { IfOk result (λ linked. linked ≡ linked_of ready.entry) }
     ensures links { OnOk result (Links ready.entry) }
     ensures fault { IfErr result (IsLinkFault ready.entry) }
 {
-    match ready.overflow(rt) {
+    match ready.overflow() {
         None => Ok(ready.write(rt, alloc)?),
         Some(fault) => Err(fault),
     }

@@ -3,13 +3,12 @@
 ghost use Rattle.std.specs.Prelude.{OnErr, OnOk};
 ghost use Rattle.tls_symbols.specs.Walks.{IsUse};
 ghost use Rattle.link_tables.specs.Faults.{IsFilled, IsOverflow, IsToldOverflow};
-ghost use Rattle.link_core.specs.Overflows.{IsOfLink, Overfills};
+ghost use Rattle.link_core.specs.Overflows.{IsOfLink, IsOfSound, Overfills};
 
 use crate::ready::ReadyLink;
-use elf_object::RelocationKind;
+use elf_object::{Object, RelocationKind};
 use link_faults::{LinkFault, LinkFaultKind};
 use link_needs::Plan;
-use std::thread::Threads;
 use tls_relocs::Overflow;
 use tls_symbols::{Question, Use, first_use};
 
@@ -48,6 +47,12 @@ impl Question for FieldQuestion<'_, '_, '_, '_> {
 
     ghost may_ask = { IsOfLink };
 
+    ghost may_ask_in = { IsOfSound };
+
+    fn may_be_in(&self, _number: usize, object: &Object) -> bool {
+        object.traits().is_wide
+    }
+
     fn is_about(&self, found: &Use) -> bool {
         match ask_field(self.plan, found) {
             Ok(()) => false,
@@ -57,14 +62,15 @@ impl Question for FieldQuestion<'_, '_, '_, '_> {
 }
 
 impl ReadyLink<'_, '_, '_> {
-    /// The first field that can't hold its value, if there is one. No byte of the image is written.
-    pub fn overflow<R: Threads + Sync>(&self, rt: &R) -> Option<LinkFault>
+    /// The first field that can't hold its value, if there is one: only an object with an addend far from zero has one.
+    /// No byte of the image is written.
+    pub fn overflow(&self) -> Option<LinkFault>
         ensures { IsToldOverflow self.now result }
     {
         let tables = &self.tables;
         let plan = &tables.plan;
         let inputs = &plan.inputs;
-        match first_use(rt, &FieldQuestion { plan }, inputs.objects) {
+        match first_use(&FieldQuestion { plan }, inputs.objects) {
             Some(place) => Some(place.fault(LinkFaultKind::Overflow)),
             None => None,
         }

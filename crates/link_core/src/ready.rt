@@ -86,8 +86,7 @@ struct Request<'l, 'a> {
 }
 
 /// The names of an image. The fault is that it has too many relocations, or too long names.
-fn named<'a, R: Threads + Sync>(
-    rt: &R,
+fn named<'a>(
     alloc: Global,
     asked: Request<'_, 'a>,
     bindings: &Bindings<'_, '_, 'a>,
@@ -107,7 +106,7 @@ fn named<'a, R: Threads + Sync>(
     let objects = asked.objects;
     let few = has_few_relocations(objects);
     let own = defined_symbols(alloc, objects, bindings)?;
-    let imports = imports(rt, alloc, objects, bindings, asked.sites)?;
+    let imports = imports(alloc, objects, bindings, asked.sites)?;
     if !few || !names_fit(objects, own.as_slice(), imports.as_slice()) {
         return Err(too_large());
     }
@@ -116,8 +115,7 @@ fn named<'a, R: Threads + Sync>(
 
 /// How far below the thread pointer the block begins. The fault is that code asks for thread-local storage and finds
 /// none.
-fn storage<R: Threads + Sync>(
-    rt: &R,
+fn storage(
     alloc: Global,
     objects: &[Object],
     bindings: &Bindings,
@@ -132,7 +130,7 @@ fn storage<R: Threads + Sync>(
     ensures fault { IfErr result
         (LacksStorage bindings.now.objects bindings.now.startup kind (tls_size placement.now.sections)) }
 {
-    ask_tls(rt, objects, bindings, kind, placement.tls_size())?;
+    ask_tls(objects, bindings, kind, placement.tls_size())?;
     Ok(block_offset(alloc, placement)?)
 }
 
@@ -182,8 +180,8 @@ fn within_limits<'l, 's, 'a, R: Threads + Sync>(
         relax,
     } = asked;
     let placement = place(alloc, objects, kind)?;
-    let names = named(rt, alloc, asked, &bindings)?;
-    let block_offset = storage(rt, alloc, objects, &bindings, kind, &placement)?;
+    let names = named(alloc, asked, &bindings)?;
+    let block_offset = storage(alloc, objects, &bindings, kind, &placement)?;
     let inputs = Inputs {
         kind,
         relax,
@@ -216,8 +214,8 @@ pub fn prepare<'l, 's, 'a, R: Threads + Sync>(
     ensures sound { OnOk result (IsSound (link_of objects.now sites.now kind startup.now relax)) }
     ensures fault { IfErr result (IsLinkFault (link_of objects.now sites.now kind startup.now relax)) }
 {
-    let bindings = resolve(rt, alloc, objects, startup)?;
-    ask_kind(rt, objects, kind)?;
+    let bindings = resolve(alloc, objects, startup)?;
+    ask_kind(objects, kind)?;
     let asked = Request {
         objects,
         sites,

@@ -70,7 +70,7 @@ fn write_field(plan: &Plan, own: PlacedSection, relocation: &Relocation, bytes: 
     }
 }
 
-/// Writes the fields of a section's relocations. Not over `Uses`, which goes through whole objects.
+/// Writes the fields of a section's relocations.
 fn write_fields(plan: &Plan, own: PlacedSection, bytes: &mut [u8])
     requires object { own.object < length plan.now.objects }
     requires address { own.address ≡ unwrap_or (address_of (layout plan.now) own.object own.section) 0 }

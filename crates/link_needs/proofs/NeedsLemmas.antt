@@ -1,5 +1,5 @@
 -- Walks that add what code needs, or look for a call of the stub: what is left of them.
-use Rattle.std.proofs.Common.{◌≡◌, ◌≢◌, ◌+◌, ◌-◌, ◌<◌, ◌≤◌, ◌∙◌, ◌||◌, ℕ, refl, suc, zero, Bool, true, false, List, [], ◌∷◌, ◌++◌}
+use Rattle.std.proofs.Common.{◌≡◌, ◌≢◌, ◌+◌, ◌-◌, ◌<◌, ◌≤◌, ◌∙◌, ℕ, refl, suc, zero, Bool, true, false, List, [], ◌∷◌, ◌++◌}
 use Rattle.std.proofs.Common.{drop, filter, length, map, sym, ap, append_assoc, append-nil, arith, subst}
 use Rattle.std.specs.Global.{Vec}
 use Rattle.std.specs.Prelude.{Err, IfOk, MatchResult, Ok, slice_index_or, if◌then◌else◌}
@@ -12,24 +12,15 @@ use Rattle.elf_records.specs.declared.relocation.RelocationKind.TheVariants.{Not
 use Rattle.elf_object.specs.declared.relocation.Relocation.{Relocation}
 use Rattle.elf_object.specs.Lawful.{IsLawful}
 use Rattle.elf_object.specs.Parts.{symbol_count}
-use Rattle.got_pairs.specs.declared.need.Need.{Need}
 use Rattle.sequence_forms.specs.declared.places.Site.{Site}
 use Rattle.elf_object.proofs.Ranges.{range_first, range_none}
 use Rattle.sequence_match.proofs.OwnSites.{drop_at}
 use Rattle.link_needs.specs.Linking.{Linking, choices_from, choices_in}
+use Rattle.link_needs.specs.declared.needs.OwnWanted.{OwnWanted}
 use Rattle.link_needs.specs.Plans.{AreOwn}
-use Rattle.relax_sites.specs.declared.choices.Choice.{Choice}
 use Rattle.std.proofs.lemmas.List.Concat.{flat_map_single}
-use Rattle.link_needs.specs.Needs.{any_stub_call, is_address_kind, is_stub_call}
-use Rattle.link_needs.specs.Needs.{object_needs, object_needs_from, site_needs, site_needs_from}
-
--- ** elements of a list
-
-module _ {X A : Type 0} (f : X → List A) (seen : List A) (xs : List X) (i : ℕ) where
-  pub walked : (x : X) → drop i xs ≡ x ∷ drop (i + 1) xs
-      → (seen ++ f x) ++ flat_map f (drop (i + 1) xs) ≡ seen ++ flat_map f (drop i xs)
-  walked x here =
-      append_assoc seen (f x) (flat_map f (drop (i + 1) xs)) ∙ ap (λ ys. seen ++ flat_map f ys) (sym here)
+use Rattle.link_needs.specs.Needs.{absolutes, absolutes_from, any_stub_call, is_address_kind, is_stub_call}
+use Rattle.link_needs.specs.Needs.{object_absolutes, object_needs, object_needs_from, site_needs, site_needs_from}
 
 -- ** numbers below an end
 
@@ -64,27 +55,31 @@ module _ {X Y Z : Type 0} (from : ℕ → List X → List Y) (step : ℕ → X �
       ap (λ ys. ys ++ flat_map found zs) (of o z are.0) ∙ ap (λ ys. step o x ++ ys) rest
       ∙ sym (ap (from o) (drop_at xs o d (omega (arith, long))) ∙ more o x (drop (o + 1) xs))
 
-module _ {Z : Type 0} (l : Linking) (sites fields : Z → List Need) (choices : Z → List Choice) (zs : List Z)
-    (are : AllZip (λ o z. AreOwn l o (sites z) (fields z) (choices z)) (range_with_len 0 (length l.objects)) zs) where
-  pub fields_found : flat_map fields zs ≡ object_needs_from l 0 l.objects
+module _ (l : Linking) (zs : List OwnWanted) (are : AllZip (AreOwn l) (range_with_len 0 (length l.objects)) zs) where
+  pub fields_found : flat_map (λ own. own.fields.items) zs ≡ object_needs_from l 0 l.objects
   fields_found =
-      all_found (object_needs_from l) (object_needs l) l.objects [] (λ o. refl) (λ o x ys. refl) fields
-      (λ o z. AreOwn l o (sites z) (fields z) (choices z)) (λ o z own. own.fields_are) 0 (length l.objects) zs
-      (omega arith) are
+      all_found (object_needs_from l) (object_needs l) l.objects [] (λ o. refl) (λ o x ys. refl)
+      (λ own. own.fields.items) (AreOwn l) (λ o z own. own.fields_are) 0 (length l.objects) zs (omega arith) are
+
+  pub absolutes_found : flat_map (λ own. own.absolutes.items) zs ≡ absolutes l
+  unfolding absolutes
+  absolutes_found =
+      all_found (absolutes_from l) (object_absolutes l) l.objects [] (λ o. refl) (λ o x ys. refl)
+      (λ own. own.absolutes.items) (AreOwn l) (λ o z own. own.absolutes_are) 0 (length l.objects) zs (omega arith) are
 
   module _ (each : length l.sites ≡ length l.objects) where
-    pub sites_found : flat_map sites zs ≡ site_needs_from l 0 l.sites
+    pub sites_found : flat_map (λ own. own.sites.items) zs ≡ site_needs_from l 0 l.sites
     sites_found =
         all_found (site_needs_from l) (λ o own. flat_map (site_needs l o) own) l.sites [] (λ o. refl)
-        (λ o x ys. refl) sites (λ o z. AreOwn l o (sites z) (fields z) (choices z)) (λ o z own. own.sites_are) 0
-        (length l.objects) zs (omega (arith, each)) are
+        (λ o x ys. refl) (λ own. own.sites.items) (AreOwn l) (λ o z own. own.sites_are) 0 (length l.objects) zs
+        (omega (arith, each)) are
 
-    pub choices_found : map choices zs ≡ choices_from l 0 l.sites
+    pub choices_found : map (λ own. own.choices.items) zs ≡ choices_from l 0 l.sites
     choices_found =
-        sym (flat_map_single choices zs)
+        sym (flat_map_single (λ (own : OwnWanted). own.choices.items) zs)
         ∙ all_found (choices_from l) (λ o own. choices_in l o own ∷ []) l.sites [] (λ o. refl)
-        (λ o x ys. refl) (λ z. choices z ∷ []) (λ o z. AreOwn l o (sites z) (fields z) (choices z))
-        (λ o z own. ap (λ ys. ys ∷ []) own.choices_are) 0 (length l.objects) zs (omega (arith, each)) are
+        (λ o x ys. refl) (λ own. own.choices.items ∷ []) (AreOwn l) (λ o z own. ap (λ ys. ys ∷ []) own.choices_are) 0
+        (length l.objects) zs (omega (arith, each)) are
 
 -- what holds of each result that is no error holds of what all hold, if none is
 zipped_ok : {X Y : Type 0} (E : Type 0) (R : X → Y → Type 0) (xs : List X) (zs : List Y)
@@ -103,15 +98,6 @@ all_ok R xs ys (Ok v) Q are kept =
 all_ok R xs ys (Err e) Q are kept = tt
 
 -- ** calls of the stub
-
-module _ {X : Type 0} (test : X → Bool) (xs : List X) (i : ℕ) where
-  -- one is found, one is not, and none is left
-  pub any_here : (x : X) → drop i xs ≡ x ∷ drop (i + 1) xs → test x ≡ true → list_any test (drop i xs) ≡ true
-  any_here x here is = ap (list_any test) here ∙ ap (λ b. b || list_any test (drop (i + 1) xs)) is
-
-  pub any_later : (x : X) → drop i xs ≡ x ∷ drop (i + 1) xs → test x ≡ false
-      → list_any test (drop (i + 1) xs) ≡ list_any test (drop i xs)
-  any_later x here is = sym (ap (list_any test) here ∙ ap (λ b. b || list_any test (drop (i + 1) xs)) is)
 
 module _ (l : Linking) (sites : List (List Site)) (i : ℕ) where
   pub stub_here : (own : List Site) → drop i sites ≡ own ∷ drop (i + 1) sites

@@ -4,13 +4,15 @@ use Rattle.std.specs.Prelude.{◌≡◌, ℕ, Bool, List, true, false, Option, S
 use Rattle.std.specs.Prelude.{◌^◌}
 use Rattle.got_pairs.specs.Plans.{Table}
 use Rattle.relax_sites.specs.declared.choices.Choice.{Choice}
+use Rattle.link_needs.specs.declared.needs.AbsoluteField.{AbsoluteField}
+use Rattle.link_needs.specs.declared.needs.OwnWanted.{OwnWanted}
 use Rattle.link_needs.specs.Given.{FitsTable, IsGiven}
 use Rattle.link_needs.specs.Linking.{Linking, choices_from, choices_in, address, object, offset, sites_at}
-use Rattle.link_needs.specs.Needs.{got_start, has_stub, object_needs, site_needs, stub_start, table}
+use Rattle.link_needs.specs.Needs.{absolutes, got_start, has_stub, object_absolutes, object_needs, site_needs, stub_start}
+use Rattle.link_needs.specs.Needs.{table}
 use Rattle.link_needs.specs.declared.symbol_values.SymbolValue.{SymbolValue}
 use Rattle.link_needs.specs.Values.{counts_from_thread_pointer, is_rewriting, goes_where}
 use Rattle.std.specs.List.{flat_map, range_with_len}
-use Rattle.got_pairs.specs.declared.need.Need.{Need}
 use Rattle.elf_records.specs.declared.relocation.RelocationKind.{RelocationKind}
 use Rattle.elf_records.specs.RelocationRows.{row, is_offset}
 pub use Rattle.elf_records.specs.RelocationRows.{reaches_entry}
@@ -33,12 +35,13 @@ pub record IsUsable (b : List ℕ) (site : Site) : Type 0 where
 
 -- ** what one object needs
 
--- these belong to object o: what its sites need, what its address fields need, and which sequences take the places of
--- its sites'
-pub record AreOwn (l : Linking) (o : ℕ) (sites fields : List Need) (choices : List Choice) : Type 0 where
-  pub sites_are : sites ≡ flat_map (site_needs l o) (sites_at l o)
-  pub fields_are : fields ≡ object_needs l o (object l o)
-  pub choices_are : choices ≡ choices_in l o (sites_at l o)
+-- these belong to object o: what its sites need, what its address fields need, its absolute fields, and which sequences
+-- take the places of its sites'
+pub record AreOwn (l : Linking) (o : ℕ) (own : OwnWanted) : Type 0 where
+  pub sites_are : own.sites.items ≡ flat_map (site_needs l o) (sites_at l o)
+  pub fields_are : own.fields.items ≡ object_needs l o (object l o)
+  pub absolutes_are : own.absolutes.items ≡ object_absolutes l o (object l o)
+  pub choices_are : own.choices.items ≡ choices_in l o (sites_at l o)
 
 -- ** what a symbol is bound to
 
@@ -80,15 +83,16 @@ goes_by value kind = goes_where (is_own value) (is_run_time value) (row kind).re
 
 -- ** what is kept
 
--- these belong to the link: what its symbols are bound to, which sequences take the places of its sites, its table,
--- where the table and the stub begin, whether there is a stub, whether sequences are rewritten, and whether offsets
--- count from the thread pointer
-pub record IsPlan (l : Linking) (values : List (List SymbolValue)) (choices : List (List Choice)) (got : Table)
-    (start stub : ℕ) (stubbed rewriting counting : Bool) : Type 0 where
+-- these belong to the link: what its symbols are bound to, which sequences take the places of its sites, its absolute
+-- fields, its table, where the table and the stub begin, whether there is a stub, whether sequences are rewritten, and
+-- whether offsets count from the thread pointer
+pub record IsPlan (l : Linking) (values : List (List SymbolValue)) (choices : List (List Choice))
+    (fields : List AbsoluteField) (got : Table) (start stub : ℕ) (stubbed rewriting counting : Bool) : Type 0 where
   pub given : IsGiven l
   pub limits : FitsTable l
   pub values_are : values ≡ all_values l
   pub choices_are : choices ≡ choices_from l 0 l.sites
+  pub absolutes_are : fields ≡ absolutes l
   pub got_is : got ≡ table l
   pub start_is : start ≡ got_start l
   pub stub_is : stub ≡ stub_start l

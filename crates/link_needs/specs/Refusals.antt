@@ -1,6 +1,6 @@
 -- Which relocations are refused: those that no linker of static thread-local storage can fill in (psABI, "Relocation
 -- Types"; Drepper, "ELF Handling For Thread-Local Storage", section 4).
-use Rattle.std.specs.Prelude.{◌==◌, ◌&&◌, ◌||◌, ℕ, Bool, true, false, Option, ◌≡◌, ◌<◌, List, Some, length}
+use Rattle.std.specs.Prelude.{◌==◌, ◌&&◌, ℕ, Bool, true, false, Option, ◌≡◌, ◌<◌, List, Some, length}
 use Rattle.elf_records.specs.declared.relocation.RelocationKind.{RelocationKind}
 use Rattle.elf_records.specs.declared.relocation_row.Refused.{Refused}
 use Rattle.elf_records.specs.declared.relocation_row.Refused.TheVariants.{InModule, WhereMoved}
@@ -8,6 +8,7 @@ use Rattle.elf_records.specs.declared.relocation_row.TableEntry.{TableEntry}
 use Rattle.elf_records.specs.declared.relocation_row.TableEntry.TheVariants.{ModulePair, SymbolPair, Descriptor}
 use Rattle.elf_records.specs.declared.relocation_row.TableEntry.TheVariants.{SymbolWord}
 use Rattle.elf_records.specs.RelocationRows.{row}
+use Rattle.elf_object.specs.declared.noted.Traits.{Traits}
 use Rattle.link_faults.specs.declared.image_kind.ImageKind.{ImageKind}
 use Rattle.link_faults.specs.declared.fault.LinkFaultKind.{LinkFaultKind}
 use Rattle.link_faults.specs.declared.fault.LinkFaultKind.TheVariants.{LocalExecInModule, NarrowInModule, NoTls}
@@ -21,7 +22,7 @@ use Rattle.tls_symbols.specs.declared.uses.Use.{Use}
 use Rattle.tls_symbols.specs.Faults.{Test, IsFirstCharged, NoneCharged, NamesWithin}
 use Rattle.tls_symbols.specs.Searches.{Passes}
 use Rattle.link_needs.specs.declared.charge.Charge.{Charge}
-use Rattle.link_needs.specs.declared.charge.Charge.TheVariants.{ByType, ByKind, ByStorage}
+use Rattle.link_needs.specs.declared.charge.Charge.TheVariants.{ByType, ByStorage}
 
 -- whether a type of relocation is refused, whatever its symbol is bound to: an offset from the thread pointer, which a
 -- module's code can't know, and an address in 32 bits, which can't hold the address of an image that is moved
@@ -32,10 +33,6 @@ is_refused_by fault image refused = false
 
 abbrev pub is_refused : LinkFaultKind → ImageKind → RelocationKind → Bool
 is_refused fault image type = is_refused_by fault image (row type).refused
-
--- whether a type of relocation is refused with some fault
-abbrev pub is_refused_at_all : ImageKind → RelocationKind → Bool
-is_refused_at_all image type = is_refused LocalExecInModule image type || is_refused NarrowInModule image type
 
 -- whether a relocation asks for storage of the image itself, by its type and its binding: for the image's block
 -- (TLSLD), for the descriptor of a variable in it, and in a module for a variable's pair of words or its offset
@@ -54,10 +51,6 @@ asks_storage image type bound = entry_asks_storage image (row type).entry bound
 -- the relocations that the image's kind refuses
 abbrev pub by_type : LinkFaultKind → ImageKind → Test
 by_type fault image o r = is_refused fault image r.kind
-
--- those that it refuses with any fault
-abbrev pub by_kind : ImageKind → Test
-by_kind image o r = is_refused_at_all image r.kind
 
 -- those that ask for storage of an image that has none; startup is what the startup images export
 abbrev pub by_storage : List (List ℕ) → List (List (List ℕ)) → ImageKind → ℕ → Test
@@ -95,7 +88,6 @@ IsStorageFault objects startup image size fault = ⊥
 -- the relocations that a question is about
 abbrev pub test_of : Charge → Test
 test_of (ByType fault image) = by_type fault image
-test_of (ByKind image) = by_kind image
 test_of (ByStorage image bindings) = by_storage bindings.now.objects bindings.now.startup image 0
 
 abbrev pub IsAbout : Charge → Use → Type 0
@@ -104,13 +96,21 @@ IsAbout charge u = Passes (test_of charge) u
 -- the question is about these objects
 abbrev pub IsAskedOf : List (List ℕ) → Charge → Type 0
 IsAskedOf objects (ByType fault image) = Unit {0}
-IsAskedOf objects (ByKind image) = Unit {0}
 IsAskedOf objects (ByStorage image bindings) = bindings.now.objects ≡ objects
 
 -- the question may be asked about a relocation: its symbol exists
 abbrev pub IsAskedWithin : Charge → Use → Type 0
 IsAskedWithin (ByType fault image) u = Unit {0}
-IsAskedWithin (ByKind image) u = Unit {0}
 IsAskedWithin (ByStorage image bindings) u =
     (u.place.object < length bindings.now.objects)
     × NamesWithin (object_at bindings.now.objects u.place.object) u.relocation
+
+-- any object may be asked of, by what its relocations have among them
+abbrev pub IsAskedIn : Charge → ℕ → List ℕ → Type 0
+IsAskedIn charge o b = Unit {0}
+
+abbrev pub asks_among : Charge → Traits → Bool
+asks_among (ByType LocalExecInModule image) traits = traits.in_module && is_module image
+asks_among (ByType NarrowInModule image) traits = traits.where_moved && is_moved image
+asks_among (ByType fault image) traits = false
+asks_among (ByStorage image bindings) traits = traits.reaches_storage

@@ -3,14 +3,13 @@
 ghost use Rattle.std.specs.Prelude.{◌≡◌, ◌≤◌, ◌↔◌, IsTrue, MatchOption, MatchResult};
 ghost use Rattle.std.specs.List.{All};
 ghost use Rattle.elf_object.specs.Faults.{IsObject};
-ghost use Rattle.link_needs.specs.Refusals.{by_kind, test_of, FitsKind, FitsStorage, IsAskedOf, IsKindFault, IsStorageFault};
+ghost use Rattle.link_needs.specs.Refusals.{test_of, FitsKind, FitsStorage, IsAskedOf, IsKindFault, IsStorageFault};
 ghost use Rattle.elf_object.specs.Counts.{relocation_count};
 ghost use Rattle.tls_symbols.specs.Faults.{IsFirstCharged, NoneCharged};
 
 use crate::charge::Charge;
 use elf_object::{Object, relocation_count};
 use link_faults::{ImageKind, LinkFault, LinkFaultKind, Place};
-use std::thread::Threads;
 use tls_symbols::{Bindings, first_use};
 
 /// The most relocations that an image may have.
@@ -18,56 +17,27 @@ pub const MAX_RELOCATIONS: u128 = 1 << 19;
 
 /// The first relocation of the objects that the question is about, if there is one.
 #[tactic(auto, using(crate::proofs::Asked::may_ask))]
-fn first_place<R: Threads + Sync>(rt: &R, charge: &Charge, objects: &[Object]) -> Option<Place>
+fn first_place(charge: &Charge, objects: &[Object]) -> Option<Place>
     requires { IsAskedOf objects.now charge.now }
     ensures { MatchOption result (NoneCharged (test_of charge.now) objects.now)
         (λ place. IsFirstCharged (test_of charge.now) objects.now place.object place.section place.entry) }
 {
-    first_use(rt, charge, objects)
-}
-
-/// The first relocation that an image of this kind refuses, if there is one. A program at a fixed address refuses none.
-fn first_refused<R: Threads + Sync>(rt: &R, objects: &[Object], kind: ImageKind) -> Option<Place>
-    ensures { MatchOption result (FitsKind objects.now kind)
-        (λ place. IsFirstCharged (by_kind kind) objects.now place.object place.section place.entry) }
-{
-    match kind {
-        ImageKind::Exe => None,
-        _ => first_place(rt, &Charge::ByKind(kind), objects),
-    }
-}
-
-/// Asks about one fault after another: does an image of this kind refuse a relocation with it?
-fn ask_faults<R: Threads + Sync>(
-    rt: &R,
-    objects: &[Object],
-    kind: ImageKind,
-) -> Result<(), LinkFault>
-    ensures { MatchResult result (λ _. FitsKind objects.now kind) (IsKindFault objects.now kind) }
-{
-    let local_exec = Charge::ByType(LinkFaultKind::LocalExecInModule, kind);
-    if let Some(place) = first_place(rt, &local_exec, objects) {
-        return Err(place.fault(LinkFaultKind::LocalExecInModule));
-    }
-    let narrow = Charge::ByType(LinkFaultKind::NarrowInModule, kind);
-    match first_place(rt, &narrow, objects) {
-        Some(place) => Err(place.fault(LinkFaultKind::NarrowInModule)),
-        None => Ok(()),
-    }
+    first_use(charge, objects)
 }
 
 /// Tests whether an image of these objects may be of this kind. The code of a module may hold no offset from the thread
 /// pointer, and an image that may be loaded at any address may hold no address in 32 bits. The error is the first
 /// fault: `LocalExecInModule`, else `NarrowInModule`, at the first object, section and entry.
-pub fn ask_kind<R: Threads + Sync>(
-    rt: &R,
-    objects: &[Object],
-    kind: ImageKind,
-) -> Result<(), LinkFault>
+pub fn ask_kind(objects: &[Object], kind: ImageKind) -> Result<(), LinkFault>
     ensures { MatchResult result (λ _. FitsKind objects.now kind) (IsKindFault objects.now kind) }
 {
-    match first_refused(rt, objects, kind) {
-        Some(_) => ask_faults(rt, objects, kind),
+    let local_exec = Charge::ByType(LinkFaultKind::LocalExecInModule, kind);
+    if let Some(place) = first_place(&local_exec, objects) {
+        return Err(place.fault(LinkFaultKind::LocalExecInModule));
+    }
+    let narrow = Charge::ByType(LinkFaultKind::NarrowInModule, kind);
+    match first_place(&narrow, objects) {
+        Some(place) => Err(place.fault(LinkFaultKind::NarrowInModule)),
         None => Ok(()),
     }
 }
@@ -75,8 +45,7 @@ pub fn ask_kind<R: Threads + Sync>(
 /// Tests whether an image of these objects has the thread-local storage that its code asks for. `tls_size` is the size
 /// of its TLS segment; `bindings` are those of the objects. The error is the fault `NoTls` at the first object, section
 /// and entry.
-pub fn ask_tls<R: Threads + Sync>(
-    rt: &R,
+pub fn ask_tls(
     objects: &[Object],
     bindings: &Bindings,
     kind: ImageKind,
@@ -90,7 +59,7 @@ pub fn ask_tls<R: Threads + Sync>(
     if tls_size != 0 {
         return Ok(());
     }
-    match first_place(rt, &Charge::ByStorage(kind, bindings), objects) {
+    match first_place(&Charge::ByStorage(kind, bindings), objects) {
         Some(place) => Err(place.fault(LinkFaultKind::NoTls)),
         None => Ok(()),
     }

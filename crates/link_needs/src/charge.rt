@@ -3,10 +3,11 @@
 ghost use Rattle.std.specs.Prelude.{◌≡◌, ◌≢◌, ◌<◌, length};
 ghost use Rattle.elf_object.specs.Parts.{symbol_count};
 ghost use Rattle.tls_symbols.specs.Bindings.{binding_of, object_at};
-ghost use Rattle.link_needs.specs.Refusals.{test_of, IsAbout, IsAskedWithin, asks_storage, is_refused, is_refused_at_all};
+ghost use Rattle.link_needs.specs.Refusals.{asks_among, asks_storage, is_refused, test_of};
+ghost use Rattle.link_needs.specs.Refusals.{IsAbout, IsAskedIn, IsAskedWithin};
 ghost use Rattle.link_faults.specs.Bindings.{is_here};
 
-use elf_object::{Relocation, RelocationKind};
+use elf_object::{Object, Relocation, RelocationKind, Traits};
 use elf_records::relocation_row::{Refused, TableEntry};
 use link_faults::{Binding, ImageKind, LinkFaultKind};
 use tls_symbols::{Bindings, Question, Use};
@@ -16,8 +17,6 @@ use tls_symbols::{Bindings, Question, Use};
 pub enum Charge<'b, 'l, 's, 'a> {
     /// Does the kind of the image refuse its type, with this fault?
     ByType(LinkFaultKind, ImageKind),
-    /// Does the kind of the image refuse its type, with any fault?
-    ByKind(ImageKind),
     /// Does it ask for storage of the image itself, which has none?
     ByStorage(ImageKind, &'b Bindings<'l, 's, 'a>),
 }
@@ -31,14 +30,6 @@ fn is_refused(fault: LinkFaultKind, image: ImageKind, kind: RelocationKind) -> b
         (LinkFaultKind::NarrowInModule, Refused::WhereMoved) => image.is_moved(),
         _ => false,
     }
-}
-
-/// Whether an image of this kind refuses relocations of a type at all.
-fn is_refused_at_all(image: ImageKind, kind: RelocationKind) -> bool
-    ensures { result ≡ is_refused_at_all image kind }
-{
-    is_refused(LinkFaultKind::LocalExecInModule, image, kind)
-        || is_refused(LinkFaultKind::NarrowInModule, image, kind)
 }
 
 /// Whether a relocation is bound to a symbol of the image itself.
@@ -77,6 +68,22 @@ fn asks_storage(
 }
 
 impl Charge<'_, '_, '_, '_> {
+    /// Whether it may be about one of the relocations with these traits.
+    fn asks_among(&self, traits: Traits) -> bool
+        ensures { result ≡ asks_among self.now traits }
+    {
+        match self {
+            Charge::ByType(LinkFaultKind::LocalExecInModule, image) => {
+                traits.in_module && image.is_module()
+            }
+            Charge::ByType(LinkFaultKind::NarrowInModule, image) => {
+                traits.where_moved && image.is_moved()
+            }
+            Charge::ByType(_, _) => false,
+            Charge::ByStorage(_, _) => traits.reaches_storage,
+        }
+    }
+
     /// Whether it is about a relocation of an object.
     fn asks_of(&self, found: &Use) -> bool
         requires { IsAskedWithin self.now found.now }
@@ -85,7 +92,6 @@ impl Charge<'_, '_, '_, '_> {
         let kind = found.relocation.kind;
         match self {
             Charge::ByType(fault, image) => is_refused(*fault, *image, kind),
-            Charge::ByKind(image) => is_refused_at_all(*image, kind),
             Charge::ByStorage(image, bindings) => {
                 let object = found.place.object as usize;
                 asks_storage(bindings, *image, object, &found.relocation)
@@ -98,6 +104,12 @@ impl Question for Charge<'_, '_, '_, '_> {
     ghost about = { IsAbout };
 
     ghost may_ask = { IsAskedWithin };
+
+    ghost may_ask_in = { IsAskedIn };
+
+    fn may_be_in(&self, _number: usize, object: &Object) -> bool {
+        self.asks_among(object.traits())
+    }
 
     fn is_about(&self, found: &Use) -> bool {
         self.asks_of(found)

@@ -30,9 +30,9 @@
 //! the table. If sequences are kept, it needs the pair of `x`, the words 1 and 8 (module 1, offset 8), and the word of
 //! `__tls_get_addr`, through which the stub jumps.
 //!
-//! What a symbol is bound to, and which sequence takes the place of each, is found once. Each relocation is read by a
-//! fixed number of walks. What code needs depends on no other object: threads share the objects, and what they find is
-//! joined in order.
+//! What a symbol is bound to, and which sequence takes the place of each, is found once. One walk over an object's
+//! relocations finds those that reach a word of the table, and the fields with addresses that a loader fills in. What
+//! code needs depends on no other object: threads share the objects, and what they find is joined in order.
 //!
 //! **Refusals.** Objects may have no fault, and all of their names may be bound, and still no image can be made of
 //! them. Code that holds a variable's distance from the thread pointer (local exec) works in a program, whose block has
@@ -67,6 +67,6 @@ mod symbol_values;
 
 pub use asking::{MAX_RELOCATIONS, ask_kind, ask_tls, has_few_relocations};
 pub use inputs::Inputs;
-pub use needs::new_relocation;
+pub use needs::{AbsoluteField, new_relocation};
 pub use plan::{Plan, plan_of};
 pub use symbol_values::SymbolValue;

@@ -1,21 +1,19 @@
 //! What code needs of the global offset table.
 
-ghost use Rattle.std.specs.Prelude.{◌≡◌, ◌+◌, ◌<◌, ◌≤◌, ◌^◌, ◌++◌, ◌&&◌, [], ◌∷◌, IfOk, IfSome, OnOk, filter, length};
-ghost use Rattle.std.specs.Prelude.{map, option_and_then, option_map, if◌then◌else◌};
+ghost use Rattle.std.specs.Prelude.{◌≡◌, ◌+◌, ◌<◌, ◌≤◌, ◌^◌, ◌++◌, ◌&&◌, [], ◌∷◌, IfOk, IfSome, OnOk, length, map};
+ghost use Rattle.std.specs.Prelude.{option_and_then, option_map, if◌then◌else◌};
 ghost use Rattle.std.specs.List.{All, AllZip, flat_map, range_with_len};
-ghost use Rattle.elf_object.specs.Lawful.{IsLawful};
-ghost use Rattle.elf_object.specs.Lent.{relocations};
 ghost use Rattle.elf_object.specs.Parts.{symbol_count};
 ghost use Rattle.tls_symbols.specs.Bindings.{IsBindingWithin, object_at};
 ghost use Rattle.link_needs.specs.Linking.{choice, choices_from};
-ghost use Rattle.link_needs.specs.Needs.{address_fields, address_need, address_needs, as_list, calls, calls_stub};
-ghost use Rattle.link_needs.specs.Needs.{is_address_kind, own_word, reaching, relocation_need};
-ghost use Rattle.link_needs.specs.Needs.{is_kept, need_by, needs, new_relocation, object_needs, object_needs_from};
-ghost use Rattle.link_needs.specs.Needs.{section_needs, site_needs, site_needs_from, target_by};
+ghost use Rattle.link_needs.specs.Needs.{absolutes, address_fields, address_need, as_list, calls, calls_stub, is_kept};
+ghost use Rattle.link_needs.specs.Needs.{need_by, needs, new_relocation, object_absolutes, object_needs};
+ghost use Rattle.link_needs.specs.Needs.{reaching, relocation_need, section_absolutes, section_needs, site_needs};
+ghost use Rattle.link_needs.specs.Needs.{target_by};
 ghost use Rattle.link_needs.specs.Plans.{AreOwn, IsUsable};
 
 use crate::inputs::Inputs;
-use elf_object::{Object, Relocation, RelocationKind, relocation_count};
+use elf_object::{Relocation, RelocationKind, relocation_count};
 use elf_records::relocation_row::TableEntry;
 use got_pairs::{Name, Need, Target};
 use link_faults::Binding;
@@ -25,20 +23,30 @@ use sequence_match::{Form, Site};
 use std::alloc::{AllocError, Global};
 use std::thread::Threads;
 
-/// What all code needs of the table, and which sequence takes the place of each site's. Each site is decided once; a
-/// site that reaches an entry is bound a second time, for its entry.
+/// A field of 8 bytes that holds an address, in a section of an object.
+#[derive(Clone, Copy)]
+pub struct AbsoluteField {
+    pub object: usize,
+    pub section: u32,
+    pub relocation: Relocation,
+}
+
+/// What all code needs of the table, the absolute fields, and which sequence takes the place of each site's. Each site
+/// is decided once; a site that reaches an entry is bound a second time, for its entry.
 #[derive(Drop)]
 pub(crate) struct Wanted<'a> {
     pub needs: Vec<Need<'a>>,
+    pub absolutes: Vec<AbsoluteField>,
     pub choices: Vec<Vec<Choice>>,
 }
 
 /// Likewise of one object: what its sites need, and its address fields.
 #[derive(Drop)]
-struct OwnWanted<'a> {
-    sites: Vec<Need<'a>>,
-    fields: Vec<Need<'a>>,
-    choices: Vec<Choice>,
+pub struct OwnWanted<'a> {
+    pub sites: Vec<Need<'a>>,
+    pub fields: Vec<Need<'a>>,
+    pub absolutes: Vec<AbsoluteField>,
+    pub choices: Vec<Choice>,
 }
 
 /// A thread of its own pays for this many relocations of objects.
@@ -217,67 +225,85 @@ impl<'l, 's, 'a> Inputs<'l, 's, 'a> {
         Ok(choice)
     }
 
-    /// What an address field needs, by its binding.
-    fn own_word(&self, bound: Option<Binding>) -> Option<Need<'a>>
-        requires { IfSome bound (IsBindingWithin self.now.objects) }
-        ensures { as_list result ≡ own_word self.now bound }
-    {
-        match bound {
-            Some(Binding::Here(found)) => Some(Need::AddressWord {
-                symbol: found,
-                place: self.address(found),
-            }),
-            _ => None,
-        }
-    }
-
-    /// Adds what an address field needs.
-    fn push_field(
+    /// The address fields of a section, in the order of their places. Adds its absolute fields.
+    fn address_fields(
         &self,
+        alloc: Global,
         object: usize,
-        relocation: &Relocation,
-        needs: &mut Vec<Need<'a>>,
-    ) -> Result<(), AllocError>
+        section: u32,
+        absolutes: &mut Vec<AbsoluteField>,
+    ) -> Result<Vec<Relocation>, AllocError>
         requires object { object < length self.now.objects }
-        requires symbol { relocation.now.symbol < symbol_count (object_at self.now.objects object) }
-        ensures { OnOk result (needs.new.items ≡ needs.old.items ++ address_needs self.now object relocation.now) }
+        ensures fields { IfOk result (λ fields.
+            fields.items ≡ address_fields (object_at self.now.objects object) section) }
+        ensures symbols { IfOk result (λ fields.
+            All (λ r. r.symbol < symbol_count (object_at self.now.objects object)) fields.items) }
+        ensures absolutes { OnOk result (absolutes.new.items
+            ≡ absolutes.old.items ++ section_absolutes self.now object (object_at self.now.objects object) section) }
     {
-        let bound = self.bound(object, relocation.symbol, relocation.kind);
-        push_some(self.own_word(bound), needs)
+        let is_moved = self.kind.is_moved();
+        let mut fields = Vec::new(alloc);
+        for relocation in self.object(object).relocs(section) {
+            if relocation.kind.reaches_address() {
+                fields.push(relocation)?;
+            }
+            if is_moved && relocation.kind.is_absolute() {
+                absolutes.push(AbsoluteField {
+                    object,
+                    section,
+                    relocation,
+                })?;
+            }
+        }
+        fields.sort_by_key(|relocation| relocation.offset)?;
+        Ok(fields)
     }
 
-    /// Adds what the address fields of a section need.
+    /// Adds what the address fields of a section need, and its absolute fields.
     fn push_section(
         &self,
         alloc: Global,
         object: usize,
         section: u32,
         needs: &mut Vec<Need<'a>>,
+        absolutes: &mut Vec<AbsoluteField>,
     ) -> Result<(), AllocError>
         requires object { object < length self.now.objects }
-        ensures { OnOk result (needs.new.items
+        ensures needs { OnOk result (needs.new.items
             ≡ needs.old.items ++ section_needs self.now object (object_at self.now.objects object) section) }
+        ensures absolutes { OnOk result (absolutes.new.items
+            ≡ absolutes.old.items ++ section_absolutes self.now object (object_at self.now.objects object) section) }
     {
-        let fields = address_fields(alloc, self.object(object), section)?;
+        let fields = self.address_fields(alloc, object, section, absolutes)?;
         for relocation in &fields {
-            self.push_field(object, relocation, needs)?;
+            let bound = self.bound(object, relocation.symbol, relocation.kind);
+            if let Some(Binding::Here(found)) = bound {
+                let place = self.address(found);
+                needs.push(Need::AddressWord {
+                    symbol: found,
+                    place,
+                })?;
+            }
         }
         Ok(())
     }
 
-    /// Adds what the address fields of an object need.
+    /// Adds what the address fields of an object need, and its absolute fields.
     fn push_object(
         &self,
         alloc: Global,
         object: usize,
         needs: &mut Vec<Need<'a>>,
+        absolutes: &mut Vec<AbsoluteField>,
     ) -> Result<(), AllocError>
         requires { object < length self.now.objects }
-        ensures { OnOk result (needs.new.items
+        ensures needs { OnOk result (needs.new.items
             ≡ needs.old.items ++ object_needs self.now object (object_at self.now.objects object)) }
+        ensures absolutes { OnOk result (absolutes.new.items
+            ≡ absolutes.old.items ++ object_absolutes self.now object (object_at self.now.objects object)) }
     {
         for section in 0..self.object(object).section_count() {
-            self.push_section(alloc, object, section, needs)?;
+            self.push_section(alloc, object, section, needs, absolutes)?;
         }
         Ok(())
     }
@@ -285,7 +311,7 @@ impl<'l, 's, 'a> Inputs<'l, 's, 'a> {
     /// What the code of an object needs, and which sequences take the places of its sites'.
     fn own_wanted(&self, alloc: Global, object: usize) -> Result<OwnWanted<'a>, AllocError>
         requires { object < length self.now.objects }
-        ensures { IfOk result (λ own. AreOwn self.now object own.sites.items own.fields.items own.choices.items) }
+        ensures { IfOk result (AreOwn self.now object) }
     {
         let all = self.sites;
         let own = all[object].as_slice();
@@ -296,10 +322,12 @@ impl<'l, 's, 'a> Inputs<'l, 's, 'a> {
             choices.push(choice)?;
         }
         let mut fields = Vec::new(alloc);
-        self.push_object(alloc, object, &mut fields)?;
+        let mut absolutes = Vec::new(alloc);
+        self.push_object(alloc, object, &mut fields, &mut absolutes)?;
         Ok(OwnWanted {
             sites,
             fields,
+            absolutes,
             choices,
         })
     }
@@ -316,9 +344,8 @@ impl<'l, 's, 'a> Inputs<'l, 's, 'a> {
         rt: &R,
         alloc: Global,
     ) -> Result<Vec<OwnWanted<'a>>, AllocError>
-        ensures { IfOk result (λ all. AllZip
-            (λ object own. AreOwn self.now object own.sites.items own.fields.items own.choices.items)
-            (range_with_len 0 (length self.now.objects)) all.items) }
+        ensures { IfOk result (λ all.
+            AllZip (AreOwn self.now) (range_with_len 0 (length self.now.objects)) all.items) }
     {
         (0..self.objects.len())
             .into_par_iter()
@@ -326,15 +353,14 @@ impl<'l, 's, 'a> Inputs<'l, 's, 'a> {
             .map(
                 |object: usize| -> Result<OwnWanted, AllocError>
                     requires { object < length self.now.objects }
-                    ensures { IfOk result (λ own. AreOwn self.entry.now object own.sites.items
-                        own.fields.items own.choices.items) }
+                    ensures { IfOk result (AreOwn self.entry.now object) }
                 { self.own_wanted(alloc, object) },
             )
             .collect::<Result<Vec<OwnWanted>, AllocError>>(rt, alloc)?
     }
 
     /// What all code needs: first sequences, in the order of their sites, and then address fields, in the order of
-    /// their places. And which sequence takes the place of each site's.
+    /// their places. And the absolute fields, and which sequence takes the place of each site's.
     #[tactic(auto, unfolding(crate::specs::Needs::needs))]
     pub(crate) fn wanted<R: Threads + Sync>(
         &self,
@@ -342,6 +368,7 @@ impl<'l, 's, 'a> Inputs<'l, 's, 'a> {
         alloc: Global,
     ) -> Result<Wanted<'a>, AllocError>
         ensures needs { IfOk result (λ wanted. wanted.needs.items ≡ needs self.now) }
+        ensures absolutes { IfOk result (λ wanted. wanted.absolutes.items ≡ absolutes self.now) }
         ensures choices { IfOk result (λ wanted. map (λ own. own.items) wanted.choices.items
             ≡ choices_from self.now 0 self.now.sites) }
     {
@@ -355,43 +382,25 @@ impl<'l, 's, 'a> Inputs<'l, 's, 'a> {
 fn joined<'a>(alloc: Global, all: Vec<OwnWanted<'a>>) -> Result<Wanted<'a>, AllocError>
     ensures needs { IfOk result (λ wanted. wanted.needs.items
         ≡ flat_map (λ own. own.sites.items) all.entry.items ++ flat_map (λ own. own.fields.items) all.entry.items) }
+    ensures absolutes { IfOk result (λ wanted. wanted.absolutes.items
+        ≡ flat_map (λ own. own.absolutes.items) all.entry.items) }
     ensures choices { IfOk result (λ wanted. map (λ own. own.items) wanted.choices.items
         ≡ map (λ own. own.choices.items) all.entry.items) }
 {
     let mut needs = Vec::new(alloc);
     let mut fields = Vec::new(alloc);
+    let mut absolutes = Vec::new(alloc);
     let mut choices = Vec::with_capacity(alloc, all.len())?;
     for mut own in all {
         needs.append(&mut own.sites)?;
         fields.append(&mut own.fields)?;
+        absolutes.append(&mut own.absolutes)?;
         choices.push(own.choices)?;
     }
     needs.append(&mut fields)?;
-    Ok(Wanted { needs, choices })
-}
-
-/// The address fields of a section, in the order of the file. Not over `Uses`: those of one section alone are kept.
-fn found_fields(alloc: Global, object: &Object, section: u32) -> Result<Vec<Relocation>, AllocError>
-    ensures fields { IfOk result (λ fields.
-        fields.items ≡ filter (λ (r : Relocation). is_address_kind r.kind) (relocations object.now section)) }
-    ensures lawful { All (IsLawful object.now section) (relocations object.now section) }
-{
-    object
-        .relocs(section)
-        .filter(|relocation| relocation.kind.reaches_address())
-        .collect(alloc)
-}
-
-/// The address fields of a section, in the order of their places.
-fn address_fields(
-    alloc: Global,
-    object: &Object,
-    section: u32,
-) -> Result<Vec<Relocation>, AllocError>
-    ensures fields { IfOk result (λ fields. fields.items ≡ address_fields object.now section) }
-    ensures symbols { IfOk result (λ fields. All (λ r. r.symbol < symbol_count object.now) fields.items) }
-{
-    let mut fields = found_fields(alloc, object, section)?;
-    fields.sort_by_key(|relocation| relocation.offset)?;
-    Ok(fields)
+    Ok(Wanted {
+        needs,
+        absolutes,
+        choices,
+    })
 }

@@ -16,7 +16,7 @@ ghost use Rattle.link_needs.specs.Needs.{calls_stub, has_stub, is_kept, is_stub_
 ghost use Rattle.link_needs.specs.Values.{other_number, counts_from_thread_pointer, field, is_local, is_rewriting};
 
 use crate::inputs::Inputs;
-use crate::needs::{Wanted, calls_stub, is_kept};
+use crate::needs::{AbsoluteField, calls_stub, is_kept};
 use crate::symbol_values::SymbolValue;
 use elf_object::{Relocation, RelocationKind};
 use elf_records::relocation_row::{FieldValue, Replaced};
@@ -37,6 +37,8 @@ pub struct Plan<'l, 's, 'a> {
     pub values: Vec<Vec<SymbolValue>>,
     /// Which sequence takes the place of each site's.
     pub choices: Vec<Vec<Choice>>,
+    /// The fields with addresses that a loader fills in, in the order of objects, sections and the file.
+    pub absolutes: Vec<AbsoluteField>,
     pub got: GotPlan<'a>,
     /// The address of the global offset table.
     pub got_start: u64,
@@ -59,8 +61,8 @@ impl<'l, 's, 'a> Model for Plan<'l, 's, 'a> {
     ghost view = { λ plan. plan.inputs };
 
     ghost invariant = { λ plan. IsPlan
-        plan.inputs (map (λ own. own.items) plan.values.items) (map (λ own. own.items) plan.choices.items) plan.got
-        plan.got_start plan.stub_start plan.has_stub plan.is_rewriting plan.counts_from_thread_pointer };
+        plan.inputs (map (λ own. own.items) plan.values.items) (map (λ own. own.items) plan.choices.items)
+        plan.absolutes.items plan.got plan.got_start plan.stub_start plan.has_stub plan.is_rewriting plan.counts_from_thread_pointer };
 }
 
 /// Whether a site calls the stub, by the sequence that takes its place.
@@ -144,18 +146,24 @@ pub fn plan_of<'l, 's, 'a, R: Threads + Sync>(
     requires { FitsTable inputs }
     ensures { IfOk result (λ plan. plan ≡ inputs.entry) }
 {
-    let Wanted { needs, choices } = inputs.wanted(rt, alloc)?;
-    let got = plan(alloc, needs.as_slice(), inputs.kind, inputs.block_offset)?;
+    let wanted = inputs.wanted(rt, alloc)?;
+    let got = plan(
+        alloc,
+        wanted.needs.as_slice(),
+        inputs.kind,
+        inputs.block_offset,
+    )?;
     let got_start = inputs.placement.room();
     let stub_start = page_up(got_start + got.size());
-    let has_stub = inputs.has_stub(choices.as_slice());
+    let has_stub = inputs.has_stub(wanted.choices.as_slice());
     let values = inputs.symbol_values(alloc)?;
     let is_rewriting = inputs.is_rewriting();
     let counts_from_thread_pointer = inputs.counts_from_thread_pointer();
     Ok(Plan {
         inputs,
         values,
-        choices,
+        choices: wanted.choices,
+        absolutes: wanted.absolutes,
         got,
         got_start,
         stub_start,

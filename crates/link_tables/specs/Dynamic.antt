@@ -35,6 +35,7 @@ use Rattle.tls_relocs.specs.Values.{modulo}
 use Rattle.link_faults.specs.declared.symbol_ref.SymbolRef.{SymbolRef}
 use Rattle.tls_symbols.specs.Bindings.{is_tls_symbol}
 use Rattle.elf_records.specs.Symbols.{get_address}
+use Rattle.link_needs.specs.declared.needs.AbsoluteField.{AbsoluteField}
 use Rattle.link_needs.specs.Linking.{Linking, address, binding, block_offset, object, offset, place}
 use Rattle.link_needs.specs.Needs.{entries, got_start, sorted_by, uses_runtime}
 use Rattle.link_needs.specs.Values.{own_number}
@@ -137,6 +138,10 @@ relative place addend = record { place = place; kind = loader.Relative; symbol =
 -- S + A, as 64 bits hold it
 abbrev pub sum_of : Linking → ℕ → Relocation → ℤ
 sum_of l o r = cast_signed w64 (modulo (2 ^ 64) (pos (own_number l r.kind (binding l o r)) +ℤ r.addend))
+
+abbrev pub relative_of : Linking → AbsoluteField → ImageRelocation
+relative_of l field =
+    relative (place l field.object field.section field.relocation.offset) (sum_of l field.object field.relocation)
 
 abbrev pub field_relocations : Linking → ℕ → ℕ → Relocation → List ImageRelocation
 field_relocations l o t r =

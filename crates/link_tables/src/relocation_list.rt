@@ -2,24 +2,20 @@
 
 ghost use Rattle.std.specs.Prelude.{◌≡◌, ◌+◌, ◌*◌, ◌<◌, ◌≤◌, ◌^◌, ◌++◌, IfOk, OnOk, length, option_map, slice_get};
 ghost use Rattle.std.specs.Prelude.{unwrap_or};
-ghost use Rattle.std.specs.List.{position_from};
+ghost use Rattle.std.specs.List.{Contains, position_from};
 ghost use Rattle.std.specs.Str.{bytes_eq};
 ghost use Rattle.got_pairs.specs.Entries.{entry_of, words};
-ghost use Rattle.link_faults.specs.ImageKinds.{is_moved};
-ghost use Rattle.tls_symbols.specs.Walks.{IsUse};
-ghost use Rattle.link_tables.specs.Dynamic.{entry_relocations, field_relocations, got_relocations, image_relocations};
-ghost use Rattle.link_tables.specs.Dynamic.{imports, loader_kind};
-ghost use Rattle.link_tables.specs.Dynamic.{number_of, own_symbols};
-ghost use Rattle.link_tables.specs.Dynamic.{object_relocations_from, relatives, relocation_of, word_relocations};
+ghost use Rattle.link_tables.specs.Dynamic.{entry_relocations, got_relocations, image_relocations, imports, loader_kind};
+ghost use Rattle.link_tables.specs.Dynamic.{number_of, own_symbols, relative_of, relatives, relocation_of};
+ghost use Rattle.link_tables.specs.Dynamic.{word_relocations};
 ghost use Rattle.link_needs.specs.Linking.{block_offset};
-ghost use Rattle.link_needs.specs.Needs.{entries, got_size, got_start};
+ghost use Rattle.link_needs.specs.Needs.{absolutes, entries, got_size, got_start};
 
 use crate::tables::Tables;
 use got_pairs::{DynamicKind, DynamicRelocation, DynamicSymbol, Entry, Word};
 use image_file::{ImageRelocation, LoaderKind};
-use link_needs::Plan;
+use link_needs::{AbsoluteField, Plan};
 use std::alloc::{AllocError, Global};
-use tls_symbols::{Use, Uses};
 
 /// The type of the relocation of a GOT word.
 fn loader_kind(kind: DynamicKind) -> LoaderKind
@@ -172,48 +168,22 @@ fn push_got(tables: &Tables, all: &mut Vec<ImageRelocation>) -> Result<(), Alloc
     Ok(())
 }
 
-/// Adds the relocation of a field, if it holds an address of 8 bytes.
-fn push_field(plan: &Plan, found: &Use, all: &mut Vec<ImageRelocation>) -> Result<(), AllocError>
-    requires { IsUse plan.now.objects found.now }
-    ensures { OnOk result (all.new.items ≡ all.old.items
-        ++ field_relocations plan.now found.now.place.object found.now.section found.now.relocation) }
+/// The relocation of a field that holds an address.
+fn relative_of(plan: &Plan, field: &AbsoluteField) -> ImageRelocation
+    requires { Contains (absolutes plan.now) field.now }
+    ensures { result ≡ relative_of plan.now field.now }
 {
-    let relocation = found.relocation;
-    if !relocation.kind.is_absolute() {
-        return Ok(());
-    }
+    let relocation = field.relocation;
     let inputs = &plan.inputs;
-    let object = found.place.object as usize;
-    let address = inputs.section_address(object, found.section);
-    let symbol = plan.symbol_value(object, relocation.symbol);
+    let address = inputs.section_address(field.object, field.section);
+    let symbol = plan.symbol_value(field.object, relocation.symbol);
     let place = plan.own_number(relocation.kind, symbol);
-    all.push(ImageRelocation {
+    ImageRelocation {
         place: address + relocation.offset,
         kind: LoaderKind::Relative,
         symbol: 0,
         addend: place.wrapping_add_signed(relocation.addend).cast_signed(),
-    })?;
-    Ok(())
-}
-
-/// The relocations of all fields, section by section.
-fn found_fields(alloc: Global, plan: &Plan) -> Result<Vec<ImageRelocation>, AllocError>
-    ensures { IfOk result (λ all. all.items ≡ object_relocations_from plan.now 0 plan.now.objects) }
-{
-    let mut all = Vec::new(alloc);
-    let inputs = &plan.inputs;
-    for found in Uses::by_section(inputs.objects) {
-        push_field(plan, &found, &mut all)?;
     }
-    Ok(all)
-}
-
-/// Whether the image may be loaded at any address.
-fn is_moved(plan: &Plan) -> bool
-    ensures { result ≡ is_moved plan.now.kind }
-{
-    let inputs = &plan.inputs;
-    inputs.kind.is_moved()
 }
 
 /// The relocations of fields with addresses, in the order of their places. Only an image that may be loaded at any
@@ -221,10 +191,10 @@ fn is_moved(plan: &Plan) -> bool
 fn relatives(alloc: Global, plan: &Plan) -> Result<Vec<ImageRelocation>, AllocError>
     ensures { IfOk result (λ all. all.items ≡ relatives plan.now) }
 {
-    if !is_moved(plan) {
-        return Ok(Vec::new(alloc));
+    let mut all = Vec::new(alloc);
+    for field in &plan.absolutes {
+        all.push(relative_of(plan, field))?;
     }
-    let mut all = found_fields(alloc, plan)?;
     all.sort_by_key(|relocation| relocation.place)?;
     Ok(all)
 }

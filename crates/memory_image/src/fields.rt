@@ -184,7 +184,7 @@ impl<'i, 'l, 's, 'a> Fields<'i, 'l, 's, 'a> {
         ensures { bytes.new ≡ with_fields self.now.table self.now.inputs.now object section bytes.old
             (relocations (object_in self.now.inputs.now object) section) }
     {
-        // Not over `Uses`: sections are laid one by one, those without relocations too.
+        // Sections are laid one by one, those without relocations too.
         for relocation in self.inputs.object(object).relocs(section) {
             let field = self.field(object, section, &relocation);
             apply(field, bytes, relocation.offset as usize);

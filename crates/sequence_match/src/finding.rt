@@ -264,7 +264,7 @@ fn search_section(
     requires { AreGetters object.now getters.now }
     ensures { IfOk result (AreFindings object.now section) }
 {
-    // Not over `Uses` of `tls_symbols`, which stands above: sequences are known before names are bound.
+    // Sequences are known before names are bound, and are found section by section.
     let relocations = object.relocs(section);
     if rise(&relocations) {
         return search_with(alloc, object, getters, section, &relocations, None);

@@ -1,4 +1,4 @@
-//! The first relocation that a question is about. No other function loops over relocations to look for one.
+//! The first relocation that a question is about: each fault of a relocation is found so.
 
 ghost use Rattle.std.specs.Prelude.{◌≡◌, ◌<◌, ◌+◌, ℕ, List, MatchBool, MatchOption, false, length};
 ghost use Rattle.elf_object.specs.Object.{section_count};

@@ -13,11 +13,11 @@ use Rattle.link_core.proofs.ready.named.Goals.{then-not-few-via-then-not-few}
 use Rattle.link_core.proofs.ready.named.Goals.{then-not-few-via-else-not-few+then-not-names_fit}
 
 pub imports-requires-clause-symbols : goal.imports-requires-clause-symbols
-imports-requires-clause-symbols g c κs within = λ o there.
+imports-requires-clause-symbols c = λ o there.
     sites_symbols _ _ (c.has_few_relocations-few.ensures.objects o _ there) (c.requires.sites o there)
 
 pub returns-then-not-few-clause-fault : goal.returns-then-not-few-clause-fault
-returns-then-not-few-clause-fault g c =
+returns-then-not-few-clause-fault c =
     let l = link_of c.args.asked.objects.now c.args.asked.sites.now c.args.asked.kind c.args.bindings.now.startup c.args.asked.relax in
     let large : IsCrowded l =
     elim c.then-not-few.branch [
@@ -36,7 +36,7 @@ returns-then-not-few-clause-fault g c =
     (limit_fault l c.requires.resolved c.requires.kind c.requires.lawful.small_tls large)
 
 pub returns-clause-prepared : goal.returns-clause-prepared
-returns-clause-prepared g c =
+returns-clause-prepared c =
     let l = link_of c.args.asked.objects.now c.args.asked.sites.now c.args.asked.kind c.args.bindings.now.startup c.args.asked.relax in record {
       given = record {
         few_startup = c.requires.few;

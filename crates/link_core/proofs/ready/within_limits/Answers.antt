@@ -9,7 +9,7 @@ use Rattle.link_core.proofs.StepFaults.{same_storage, storage_fault}
 use Rattle.link_core.proofs.ready.within_limits.Goals as goal
 
 pub named-requires-clause-lawful : goal.named-requires-clause-lawful
-named-requires-clause-lawful g c κs within = subst IsLawful c.in_ok-placement.ensures.places c.in_ok-placement.ensures.lawful
+named-requires-clause-lawful g c = subst IsLawful c.in_ok-placement.ensures.places c.in_ok-placement.ensures.lawful
 
 pub returns-in_err-block_offset-clause-fault : goal.returns-in_err-block_offset-clause-fault
 returns-in_err-block_offset-clause-fault g c =

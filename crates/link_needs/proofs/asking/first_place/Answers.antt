@@ -3,4 +3,4 @@ use Rattle.link_needs.specs.Refusals.{test_of}
 use Rattle.link_needs.proofs.asking.first_place.Goals as goal
 
 pub returns : goal.returns
-returns g c = charged (test_of c.args.charge.now) c.args.objects.now c.first_use.result c.first_use.ensures
+returns c = charged (test_of c.args.charge.now) c.args.objects.now c.first_use.result c.first_use.ensures

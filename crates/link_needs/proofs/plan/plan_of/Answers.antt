@@ -12,7 +12,7 @@ pub page_up-stub_start-requires : goal.page_up-stub_start-requires
 page_up-stub_start-requires g c =
     let l = c.args.inputs in
     let found = c.as_slice.result.now in
-    let needs_are : found ≡ needs l = c.as_slice.ensures.value ∙ c.in_ok-needs.ensures.needs in
+    let needs_are : found ≡ needs l = c.as_slice.ensures.value ∙ c.in_ok-wanted.ensures.needs in
     let got = c.in_ok-got.got in
     let start = c.room-got_start.result in
     let begins : start ≡ got_start l =
@@ -32,7 +32,7 @@ pub invariant_of-result : goal.invariant_of-result
 invariant_of-result g c =
     let l = c.args.inputs in
     let found = c.as_slice.result.now in
-    let needs_are : found ≡ needs l = c.as_slice.ensures.value ∙ c.in_ok-needs.ensures.needs in
+    let needs_are : found ≡ needs l = c.as_slice.ensures.value ∙ c.in_ok-wanted.ensures.needs in
     let got = c.in_ok-got.got in
     let start = c.room-got_start.result in
     let begins : start ≡ got_start l =
@@ -46,7 +46,8 @@ invariant_of-result g c =
       given = subst IsGiven c.inputs.view_is c.inputs.invariant.given;
       limits = c.requires;
       values_are = c.in_ok-values.ensures;
-      choices_are = c.in_ok-needs.ensures.choices;
+      choices_are = c.in_ok-wanted.ensures.choices;
+      absolutes_are = c.in_ok-wanted.ensures.absolutes;
       got_is = is;
       start_is = begins;
       stub_is = c.page_up-stub_start.ensures.page

@@ -30,9 +30,7 @@ returns g c =
     ∙ (λ i. nat_range (c.with_min_len.ensures.base i).start (c.with_min_len.ensures.base i).end)
     ∙ (λ i. nat_range (ends.0 i) (ends.1 i)) ∙ ap (range_with_len 0) all in
     let are =
-    subst (λ (l : Linking). AllZip (λ o r. IfOk r (λ own. AreOwn l o own.sites.items own.fields.items own.choices.items)) chain.0 results)
-    (ap (λ f. f.0.now) c.map.ensures.f) chain.2 in
-    all_ok (λ o own. AreOwn l o own.sites.items own.fields.items own.choices.items) (range_with_len 0 (length l.objects)) results
-    c.in_ok-collect.field-0 _
-    (subst (λ os. AllZip (λ o r. IfOk r (λ own. AreOwn l o own.sites.items own.fields.items own.choices.items)) os results) numbers are)
+    subst (λ (l : Linking). AllZip (λ o r. IfOk r (AreOwn l o)) chain.0 results) (ap (λ f. f.0.now) c.map.ensures.f) chain.2 in
+    all_ok (AreOwn l) (range_with_len 0 (length l.objects)) results c.in_ok-collect.field-0 _
+    (subst (λ os. AllZip (λ o r. IfOk r (AreOwn l o)) os results) numbers are)
     c.in_ok-collect.ensures.2
