@@ -50,9 +50,11 @@
 //! 403000  ff 25 0a f0 ff ff             jmp *0x402010(%rip)
 //! ```
 //!
-//! Names are compared by hash, each section is copied once, and each relocation is read by a fixed number of walks. Each
-//! section finds its sequences by binary search. But for these searches, time is linear in objects, sections, symbols,
-//! relocations and bytes.
+//! Names are compared by hash, and each section is copied once. Each relocation is looked at twice: for what it needs
+//! (link_needs), and where its field is written. Faults are looked for among what objects noted of their relocations
+//! when they were read; only an object that may have a fault is walked for it, and a field whose addend is near zero
+//! never overflows. Each section finds its sequences by binary search. But for these searches, time is linear in
+//! objects, sections, symbols, relocations and bytes.
 //!
 //! A section is linked by itself: what is written in it never depends on what is written in another. So threads fill
 //! a large file, each some sections of it, in place (`specs/Laying`). No clause of the image depends on how many threads
