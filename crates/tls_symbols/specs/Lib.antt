@@ -5,5 +5,6 @@ pub mod Faults
 pub mod Known
 pub mod Laws
 pub mod Numbers
+pub mod Offers
 pub mod Searches
 pub mod Walks

@@ -5,12 +5,14 @@ ghost use Rattle.elf_object.specs.Lent.{symbol_binding, symbol_place};
 ghost use Rattle.elf_object.specs.Parts.{symbol_count};
 ghost use Rattle.elf_records.specs.declared.symbol.SymbolBinding.TheVariants.{Local};
 ghost use Rattle.tls_symbols.specs.Definitions.{is_defined, same_binding};
+ghost use Rattle.tls_symbols.specs.Offers.{NotesAmong, TellsAmong};
 ghost use Rattle.tls_symbols.specs.Numbers.{NotesDefinitions, NotesExports, TellsExports, own_numbers, with_first};
 ghost use Rattle.tls_symbols.specs.Numbers.{AllListed, AllNumbered, AreListed, AreNumbered, TellsDefinitions};
 
 use crate::export_list::Exports;
 use crate::numbers::Numbers;
 use elf_object::{Object, SymbolBinding, SymbolPlace};
+use indexmap::IndexSet;
 use link_faults::SymbolRef;
 use std::alloc::{AllocError, Global};
 
@@ -85,6 +87,47 @@ pub fn first_definitions(
     let mut table = vec![in alloc; None; numbers.names.len()]?;
     for (index, object) in objects.iter().enumerate() {
         note_object(numbers, index, object, binding, &mut table);
+    }
+    Ok(table)
+}
+
+/// Enters the definitions of an object with this binding, of names that have a number.
+fn note_among(
+    names: &IndexSet<&[u8]>,
+    index: usize,
+    object: &Object,
+    binding: SymbolBinding,
+    table: &mut [Option<SymbolRef>],
+)
+    requires shared { same_binding Local binding ≡ false }
+    requires len { length table.old ≡ length names.now.keys }
+    ensures { NotesAmong names.now.keys binding index object.now table.old table.new }
+{
+    for symbol in 1..object.symbol_count() {
+        if is_definition(object, symbol, binding) {
+            let found = SymbolRef {
+                object: index as u64,
+                symbol,
+            };
+            let number = names.get_index_of(object.symbol_name(symbol));
+            note_definition(table, number, found);
+        }
+    }
+}
+
+/// The first definition of each of these names, with this binding.
+pub fn first_among(
+    alloc: Global,
+    names: &IndexSet<&[u8]>,
+    objects: &[Object],
+    binding: SymbolBinding,
+) -> Result<Vec<Option<SymbolRef>>, AllocError>
+    requires { same_binding Local binding ≡ false }
+    ensures { IfOk result (λ table. TellsAmong names.now.keys binding objects.now table.items) }
+{
+    let mut table = vec![in alloc; None; names.len()]?;
+    for (index, object) in objects.iter().enumerate() {
+        note_among(names, index, object, binding, &mut table);
     }
     Ok(table)
 }

@@ -55,7 +55,7 @@ fn first_names<'a>(alloc: Global, room: usize) -> Result<IndexSet<&'a [u8]>, All
 }
 
 /// The number of a name.
-fn number_name<'a>(names: &mut IndexSet<&'a [u8]>, name: &'a [u8]) -> Result<usize, AllocError>
+pub fn number_name<'a>(names: &mut IndexSet<&'a [u8]>, name: &'a [u8]) -> Result<usize, AllocError>
     ensures number { IfOk result (IsNumberOf names.new.keys name.now) }
     ensures grows { OnOk result (Grows names.old.keys names.new.keys) }
 {
