@@ -1,16 +1,31 @@
--- One symbol after another, and the names that they export.
+-- One symbol after another that an image may export, and those that it does.
 use Rattle.std.proofs.Common.{◌≡◌, ◌+◌, ◌-◌, ◌<◌, ◌++◌, ℕ, true, false, List, [], ◌∷◌, refl, append_assoc}
-use Rattle.std.specs.List.{flat_map, range_with_len}
-use Rattle.elf_object.specs.Lent.{symbol_name}
+use Rattle.std.specs.List.{flat_map, range_with_len, All}
 use Rattle.elf_object.specs.Parts.{symbol_count}
-use Rattle.tls_symbols.specs.Bindings.{exported_at, is_exported}
 use Rattle.elf_object.proofs.Ranges.{range_first}
+use Rattle.link_faults.specs.declared.symbol_ref.SymbolRef.{SymbolRef}
+use Rattle.tls_symbols.specs.declared.exporting.Offer.{Offer}
+use Rattle.tls_symbols.specs.Numbers.{Names, Grows}
+use Rattle.tls_symbols.specs.Offers.{is_offered, name_at, offered_at, IsOffer}
 
-module _ (objects : List (List ℕ)) (o : ℕ) (b : List ℕ) (seen : List (List ℕ)) (a : ℕ) (below : a < symbol_count b) where
-  pub export_here : is_exported objects o b a ≡ true
-      → (seen ++ symbol_name b a ∷ []) ++ flat_map (exported_at objects o b) (range_with_len (a + 1) (symbol_count b - (a + 1))) ≡ seen ++ flat_map (exported_at objects o b) (range_with_len a (symbol_count b - a))
-  export_here here = rw (range_first a (symbol_count b) below, here) (append_assoc seen (symbol_name b a ∷ []) (flat_map (exported_at objects o b) (range_with_len (a + 1) (symbol_count b - (a + 1)))))
+module _ (o : ℕ) (b : List ℕ) (seen : List SymbolRef) (a : ℕ) (below : a < symbol_count b) where
+  pub offer_here : is_offered b a ≡ true
+      → (seen ++ record { object = o; symbol = a } ∷ [])
+      ++ flat_map (offered_at o b) (range_with_len (a + 1) (symbol_count b - (a + 1)))
+      ≡ seen ++ flat_map (offered_at o b) (range_with_len a (symbol_count b - a))
+  offer_here here =
+      rw (range_first a (symbol_count b) below, here)
+      (append_assoc seen (record { object = o; symbol = a } ∷ [])
+      (flat_map (offered_at o b) (range_with_len (a + 1) (symbol_count b - (a + 1)))))
 
-  pub export_later : is_exported objects o b a ≡ false
-      → seen ++ flat_map (exported_at objects o b) (range_with_len (a + 1) (symbol_count b - (a + 1))) ≡ seen ++ flat_map (exported_at objects o b) (range_with_len a (symbol_count b - a))
-  export_later other = rw (range_first a (symbol_count b) below, other) refl
+  pub offer_later : is_offered b a ≡ false
+      → seen ++ flat_map (offered_at o b) (range_with_len (a + 1) (symbol_count b - (a + 1)))
+      ≡ seen ++ flat_map (offered_at o b) (range_with_len a (symbol_count b - a))
+  offer_later other = rw (range_first a (symbol_count b) below, other) refl
+
+-- among more names an offer keeps its number
+pub offers_grow : (old new : Names) (objects : List (List ℕ)) (offers : List Offer) → Grows old new
+    → All (IsOffer old objects) offers → All (IsOffer new objects) offers
+offers_grow old new objects offers grows all k d below =
+    let was = all k d below in
+    record { within = was.within; number = grows.keeps _ _ was.number }
