@@ -11,5 +11,6 @@ pub mod Resolves
 pub mod Search
 pub mod SectionUses
 pub mod Told
+pub mod ToldAmong
 pub mod Walked
 pub mod Within

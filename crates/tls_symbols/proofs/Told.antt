@@ -76,6 +76,13 @@ module _ (names : Names) (binding : SymbolBinding) (o : ℕ) (b : List ℕ) wher
         ap (λ f. found_or o f None) (sym (find_later (defines b binding name) a (symbol_count b) below
         (both_false (same_binding binding (symbol_binding b a)) (is_defined (symbol_place b a)) (bytes_eq name (symbol_name b a)) other)))
 
+    -- a symbol that defines another name does not define this one
+    pub note_other : (same_binding binding (symbol_binding b a) && is_defined (symbol_place b a)) ≡ true → (name : List ℕ) → bytes_eq name (symbol_name b a) ≡ false
+        → left (a + 1) name ≡ left a name
+    note_other defined name other =
+        ap (λ f. found_or o f None) (sym (find_later (defines b binding name) a (symbol_count b) below
+        (both_true (same_binding binding (symbol_binding b a)) (is_defined (symbol_place b a)) (bytes_eq name (symbol_name b a)) false defined other)))
+
     pub note_step : (table : List (Option SymbolRef)) (n : ℕ) → (same_binding binding (symbol_binding b a) && is_defined (symbol_place b a)) ≡ true
         → IsNumberOf names (symbol_name b a) n → length table ≡ length names → (name : List ℕ)
         → option_or (told names (with_first table n (record { object = o; symbol = a })) name) (left (a + 1) name) ≡ option_or (told names table name) (left a name)
@@ -93,8 +100,7 @@ module _ (names : Names) (binding : SymbolBinding) (o : ℕ) (b : List ℕ) wher
             (both_true (same_binding binding (symbol_binding b a)) (is_defined (symbol_place b a)) (bytes_eq name (symbol_name b a)) true defined same)))
         by_test false other =
             ap (λ t. option_or t (left (a + 1) name)) (told_other names table (symbol_name b a) name n (record { object = o; symbol = a }) is other)
-            ∙ ap (λ f. option_or (told names table name) (found_or o f None)) (sym (find_later (defines b binding name) a (symbol_count b) below
-            (both_true (same_binding binding (symbol_binding b a)) (is_defined (symbol_place b a)) (bytes_eq name (symbol_name b a)) false defined other)))
+            ∙ ap (λ f. option_or (told names table name) f) (note_other defined name other)
 
     -- the symbol's definition was noted by the number of its name
     pub note_named : (old new : List (Option SymbolRef)) (number : Option ℕ) → (same_binding binding (symbol_binding b a) && is_defined (symbol_place b a)) ≡ true

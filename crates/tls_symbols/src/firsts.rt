@@ -99,8 +99,7 @@ fn note_among(
     binding: SymbolBinding,
     table: &mut [Option<SymbolRef>],
 )
-    requires shared { same_binding Local binding ≡ false }
-    requires len { length table.old ≡ length names.now.keys }
+    requires { length table.old ≡ length names.now.keys }
     ensures { NotesAmong names.now.keys binding index object.now table.old table.new }
 {
     for symbol in 1..object.symbol_count() {
