@@ -28,7 +28,7 @@ pub numbered_name : (names : Names) (b : List ℕ) (e : ℕ) (known : KnownSymbo
 numbered_name names b e known n is some =
     let named : IsNamed names b e (Some n) = subst (IsNamed names b e) some is.name in record { shared = named.0; number = named.1 }
 
-or_else_weak : (strong weak : Option SymbolRef) → option_or strong weak ≡ or_weak strong weak
+pub or_else_weak : (strong weak : Option SymbolRef) → option_or strong weak ≡ or_weak strong weak
 or_else_weak (Some x) weak = refl
 or_else_weak None weak = refl
 

@@ -86,6 +86,9 @@ pub fn exports<'a>(alloc: Global, objects: &[Object<'a>]) -> Result<Exports<'a>,
 {
     let mut names = IndexSet::new(alloc);
     let offers = offers_of(alloc, objects, &mut names)?;
+    if offers.is_empty() {
+        return Ok(Exports::of(Vec::new(alloc)));
+    }
     let strong = first_among(alloc, &names, objects, SymbolBinding::Global)?;
     let weak = first_among(alloc, &names, objects, SymbolBinding::Weak)?;
     let mut exported = Vec::new(alloc);

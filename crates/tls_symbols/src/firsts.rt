@@ -121,7 +121,6 @@ pub fn first_among(
     objects: &[Object],
     binding: SymbolBinding,
 ) -> Result<Vec<Option<SymbolRef>>, AllocError>
-    requires { same_binding Local binding ≡ false }
     ensures { IfOk result (λ table. TellsAmong names.now.keys binding objects.now table.items) }
 {
     let mut table = vec![in alloc; None; names.len()]?;

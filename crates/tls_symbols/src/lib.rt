@@ -41,12 +41,14 @@
 //! numbers hold the first GLOBAL and the first WEAK definition and the first startup image. So a few look-ups in lists
 //! bind a relocation, however many names there are. LOCAL names are not read. A fault depends on a symbol and on the
 //! role in which relocations name it, and an object has noted these roles. So faults are looked for among symbols, and
-//! relocations are walked only in an object that has one.
+//! relocations are walked only in an object that has one. For what an image exports, names of thread-local symbols
+//! alone are numbered.
 //!
 //! `specs/Definitions` says which definition a name has, `specs/Bindings` what a symbol is bound to and what an image
 //! exports, and `specs/Faults` what each kind of fault means and which is the first. The other files of specs/ are
-//! about what the code keeps: numbers and tables (`Numbers`, `Known`), what a question about names asks (`Charges`),
-//! relocations with a property (`Walks`), and the search for the first (`Searches`).
+//! about what the code keeps: numbers and tables (`Numbers`, `Known`), what an image may export (`Offers`), what a
+//! question about names asks (`Charges`), relocations with a property (`Walks`), and the search for the first
+//! (`Searches`).
 #![tactic(auto)]
 
 mod bindings;

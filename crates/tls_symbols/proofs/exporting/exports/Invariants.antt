@@ -1,10 +1,11 @@
-use Rattle.std.proofs.Common.{◌≡◌, ◌++◌, ◌<◌, ℕ, List, IfOk, OnOk, length, map, ◌+◌, ◌-◌, ◌*◌, ◌≤◌}
-use Rattle.std.specs.List.{All}
-use Rattle.elf_object.specs.Parts.{symbol_count}
-use Rattle.tls_symbols.specs.Bindings.{exported_names, object_at}
-use Rattle.tls_symbols.specs.Numbers.{Grows}
-use Rattle.tls_symbols.specs.Offers.{is_offered, offered_from, offered_in, IsOffer}
+use Rattle.std.proofs.Common.{◌≡◌, ◌++◌, drop, map}
+use Rattle.std.specs.List.{flat_map}
+use Rattle.tls_symbols.specs.Bindings.{exported_names}
+use Rattle.tls_symbols.proofs.Exported.{bound_name}
 use Rattle.tls_symbols.proofs.exporting.exports.Given as goal
 
+-- with those of the offers that are left, the names are those that are wanted
 abbrev pub invariant-loop-offer : goal.invariant-loop-offer
-invariant-loop-offer l = ?
+invariant-loop-offer l =
+    map (λ name. name.now) l.exported.items
+    ++ flat_map (λ offer. bound_name l.objects offer.found) (drop l.offer-index l.offer-items) ≡ exported_names l.objects

@@ -15,9 +15,9 @@ loop-index-preserved c =
     let seen = map (λ offer. offer.found) c.loop-index.offers.items in
     let below : i < length objects = search rules in
     let here : drop i objects ≡ object_at objects i ∷ drop (i + 1) objects =
-        drop-cons objects i [] below ∙ ap (λ m. object_at objects i ∷ drop m objects) next in
+    drop-cons objects i [] below ∙ ap (λ m. object_at objects i ∷ drop m objects) next in
     let same : c.index-objects-index.result ≡ object_at objects i =
-        c.index-objects-index.is ∙ get_or_default objects i c.index-objects-index.result [] below in
+    c.index-objects-index.is ∙ get_or_default objects i c.index-objects-index.result [] below in
     record {
       found =
           ap (λ xs. xs ++ rest) c.in_ok-push_offers.ensures.found

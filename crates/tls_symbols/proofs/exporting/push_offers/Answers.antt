@@ -1,11 +1,10 @@
-use Rattle.std.proofs.Common.{◌≡◌, ◌∙◌, ◌+◌, ◌-◌, ◌<◌, ◌++◌, [], ◌∷◌, length, map, refl, sym, ap, subst, arith, rules}
+use Rattle.std.proofs.Common.{◌≡◌, ◌∙◌, ◌+◌, ◌-◌, ◌<◌, ◌++◌, [], ◌∷◌, map, refl, sym, ap, subst, arith}
 use Rattle.std.specs.List.{flat_map, range_with_len, All}
 use Rattle.std.proofs.lemmas.List.{append-nil, map-append}
 use Rattle.std.proofs.lemmas.List.Elements.{All-push}
 use Rattle.elf_object.specs.Lent.{symbol_name}
 use Rattle.elf_object.specs.Parts.{symbol_count}
 use Rattle.tls_symbols.specs.declared.exporting.Offer.{Offer}
-use Rattle.tls_symbols.specs.Bindings.{object_at}
 use Rattle.tls_symbols.specs.Numbers.{Grows, IsNumberOf}
 use Rattle.tls_symbols.specs.Offers.{offered_at, offered_in, IsOffer}
 use Rattle.tls_symbols.proofs.Exported.{offer_here, offer_later, offers_grow}
@@ -56,15 +55,15 @@ loop-symbol-preserved c =
                 (subst (All (IsOffer new objects)) (sym items) more);
           }
       | else-is_offered w ↦ record {
-          grows = subst (λ n. Grows c.args.names.now.keys n.keys) (sym w.names-is) was.grows;
-          found =
-              ap (λ v. map (λ offer. offer.found) v.items ++ rest) w.offers-is
-              ∙ offer_later o b seen a below (sym c.is_offered.ensures ∙ w.if-is_offered.false) ∙ was.found;
-          numbered = λ objects there here all.
-              subst (λ n. All (IsOffer n.keys objects) c.if-is_offered.offers.items) (sym w.names-is)
-              (subst (λ v. All (IsOffer c.loop-symbol.names.keys objects) v.items) (sym w.offers-is)
-              (was.numbered objects there here all));
-        }
+        grows = subst (λ n. Grows c.args.names.now.keys n.keys) (sym w.names-is) was.grows;
+        found =
+            ap (λ v. map (λ offer. offer.found) v.items ++ rest) w.offers-is
+            ∙ offer_later o b seen a below (sym c.is_offered.ensures ∙ w.if-is_offered.false) ∙ was.found;
+        numbered = λ objects there here all.
+            subst (λ n. All (IsOffer n.keys objects) c.if-is_offered.offers.items) (sym w.names-is)
+            (subst (λ v. All (IsOffer c.loop-symbol.names.keys objects) v.items) (sym w.offers-is)
+            (was.numbered objects there here all));
+      }
     ]
 
 pub returns-clause-found : goal.returns-clause-found
