@@ -88,7 +88,7 @@ module _ (l : Linking) (linked : IsLinked l) (o t address : ℕ) (at : IsSection
         )
 
 pub own_bytes_stand : OwnBytesStand
-own_bytes_stand l o t address k linked at below kept plain = own_stands l linked o t address at k kept below plain
+own_bytes_stand l linked o t address k at below kept plain = own_stands l linked o t address at k kept below plain
 
 pub fields_stand : FieldsStand
-fields_stand l o t address k r linked at has covers kept = field_stands l linked o t address at k kept r has covers
+fields_stand l linked o t address k r at has covers kept = field_stands l linked o t address at k kept r has covers

@@ -1,6 +1,7 @@
 mod Choosing
 mod Covering
 mod Example
+mod Holding
 mod Kept
 mod Parts
 mod Rewritten

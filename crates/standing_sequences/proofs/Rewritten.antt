@@ -165,7 +165,7 @@ module _ (l : Linking) (linked : IsLinked l) (o t address : ℕ) (at : IsSection
       ∙ same_outside (new_field site.form c) refl k byte h outside
 
 pub rewritten_forms_stand : RewrittenFormsStand
-rewritten_forms_stand l o t address site choice linked at is m = (
+rewritten_forms_stand l linked o t address site choice at is m = (
   bytes l linked o t address at site is choice m,
   are_of_form l linked o t address at site is choice m,
   long l linked o t address at site is choice m,

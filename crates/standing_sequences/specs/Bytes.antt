@@ -5,7 +5,6 @@ use Rattle.std.specs.List.{find}
 use Rattle.elf_object.specs.Lent.{relocations}
 use Rattle.elf_records.specs.Fields.{splice}
 use Rattle.image_file.specs.Spelled.{Part, Spelled}
-use Rattle.link_core.specs.Images.{image_of}
 use Rattle.link_core.specs.Laws.{HasNoStray}
 use Rattle.link_needs.specs.Given.{IsGiven}
 use Rattle.link_needs.specs.Linking.{Linking, layout, object}
@@ -97,7 +96,7 @@ HasForm image address site choice =
     → IsOutside (new_field site.form choice) k → byte_at image (address + k) ≡ Some byte
 
 -- the bytes there look like the sequence itself: they are the object's own, except in its fields
-abbrev pub HasOwnForm : Linking → ℕ → ℕ → Site → Type 0
-HasOwnForm l o address site =
+abbrev pub HasOwnForm : Linking → Spelled → ℕ → ℕ → Site → Type 0
+HasOwnForm l image o address site =
     (k : ℕ) → k < site.len → IsPlain l o site.section (site.start + k)
-    → byte_at (image_of l) (address + k) ≡ own_byte l o site.section (site.start + k)
+    → byte_at image (address + k) ≡ own_byte l o site.section (site.start + k)
