@@ -24,7 +24,8 @@ use Rattle.sequence_match.proofs.Sections.{fields_apart}
 use Rattle.sequence_match.specs.Code.{AreApart}
 use Rattle.sequence_match.specs.Faults.{IsSite}
 use Rattle.sequence_match.specs.Sites.{Covers, IsEntry}
-use Rattle.standing_sequences.specs.Bytes.{IsKept, IsLinked, IsPlain}
+use Rattle.standing_sequences.specs.Bytes.{IsKept, IsPlain}
+use Rattle.standing_sequences.specs.Laws.{IsLinked}
 use Rattle.standing_sequences.specs.Table.{IsSequence}
 use Rattle.standing_sequences.proofs.Choosing.{matches}
 

@@ -5,8 +5,8 @@ use Rattle.link_core.proofs.Few.{table_fits}
 use Rattle.link_core.proofs.StandingPlaces.{lies_of}
 use Rattle.link_needs.specs.Linking.{Linking, object}
 use Rattle.object_faults.specs.declared.class.SectionClass.TheVariants.{Executable}
-use Rattle.standing_sequences.specs.Bytes.{IsLinked, IsSectionAt}
-use Rattle.standing_sequences.specs.Laws.{LinkedImagesHoldTheTable}
+use Rattle.standing_sequences.specs.Bytes.{IsSectionAt}
+use Rattle.standing_sequences.specs.Laws.{IsLinked, LinkedImagesHoldTheTable}
 use Rattle.standing_sequences.proofs.Kept.{fields_stand, own_bytes_stand}
 use Rattle.standing_sequences.proofs.Rewritten.{rewritten_forms_stand}
 use Rattle.standing_sequences.proofs.Sequences.{by_the_table}

@@ -24,9 +24,9 @@ use Rattle.tls_relocs.specs.declared.fields.Field.{Field}
 use Rattle.tls_relocs.specs.declared.fields.Field.TheVariants.{Empty}
 use Rattle.tls_relocs.specs.Elements.{slice_get-splice_after, slice_get-splice_before}
 use Rattle.tls_relocs.specs.Fields.{field_bytes}
-use Rattle.standing_sequences.specs.Bytes.{AreOfForm, HasForm, IsFilled, IsLinked, IsOutside, IsSectionAt, Stand}
+use Rattle.standing_sequences.specs.Bytes.{AreOfForm, HasForm, IsFilled, IsOutside, IsSectionAt, Stand}
 use Rattle.standing_sequences.specs.Bytes.{byte_at}
-use Rattle.standing_sequences.specs.Laws.{RewrittenFormsStand}
+use Rattle.standing_sequences.specs.Laws.{IsLinked, RewrittenFormsStand}
 use Rattle.standing_sequences.specs.Table.{IsSequence, Matches}
 use Rattle.standing_sequences.proofs.Choosing.{listed_changes, listed_own, matched}
 use Rattle.standing_sequences.proofs.Covering.{own_site, rewritten_found}

@@ -18,8 +18,8 @@ use Rattle.sequence_forms.specs.declared.places.Site.{Site}
 use Rattle.sequence_forms.specs.Forms.{fits, row}
 use Rattle.sequence_match.specs.Faults.{code_of}
 use Rattle.sequence_match.specs.Sites.{IsLiteral}
-use Rattle.standing_sequences.specs.Bytes.{HasForm, HasOwnForm, IsLinked, IsPlain, IsSectionAt, byte_at, own_byte}
-use Rattle.standing_sequences.specs.Laws.{SequencesStandByTheTable}
+use Rattle.standing_sequences.specs.Bytes.{HasForm, HasOwnForm, IsPlain, IsSectionAt, byte_at, own_byte}
+use Rattle.standing_sequences.specs.Laws.{IsLinked, SequencesStandByTheTable}
 use Rattle.standing_sequences.specs.Table.{IsDue, IsSequence, Matches, MayReplace}
 use Rattle.standing_sequences.proofs.Choosing.{listed_changes, matched, matches}
 use Rattle.standing_sequences.proofs.Covering.{one_sequence, own_site}

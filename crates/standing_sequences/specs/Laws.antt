@@ -1,7 +1,10 @@
 -- The image of linked objects holds the table.
 use Rattle.std.specs.Prelude.{◌≡◌, ◌≢◌, ℕ, false, Some, slice_get}
 use Rattle.link_core.specs.Images.{image_of}
+use Rattle.link_core.specs.Laws.{HasNoStray}
+use Rattle.link_needs.specs.Given.{IsGiven}
 use Rattle.link_needs.specs.Linking.{Linking, choice}
+use Rattle.link_tables.specs.Faults.{Links}
 use Rattle.relax_sites.specs.declared.choices.Choice.{Choice}
 use Rattle.relax_sites.specs.declared.choices.Choice.TheVariants.{Keep}
 use Rattle.relax_sites.specs.Rows.{new_bytes, new_field}
@@ -10,9 +13,16 @@ use Rattle.sequence_forms.specs.declared.forms.Form.{Form}
 use Rattle.sequence_forms.specs.declared.places.Site.{Site}
 use Rattle.sequence_forms.specs.Forms.{fits, row}
 use Rattle.sequence_match.specs.Sites.{IsLiteral}
-use Rattle.standing_sequences.specs.Bytes.{IsLinked, IsOutside}
+use Rattle.standing_sequences.specs.Bytes.{IsOutside}
 use Rattle.standing_sequences.specs.Images.{FormsStand, HoldsTheTable, OwnStand, SequencesStand, ValuesStand}
 use Rattle.standing_sequences.specs.Table.{Matches, MayReplace}
+
+-- objects that link, whose thread-local accesses are all sequences: `link` makes `image_of` from them, and `run`
+-- loads it
+pub record IsLinked (l : Linking) : Type 0 where
+  pub given : IsGiven l
+  pub links : Links l
+  pub stray : HasNoStray l
 
 -- ** byte by byte
 
