@@ -1,5 +1,5 @@
 -- The image of linked objects holds the table.
-use Rattle.std.proofs.Common.{◌≡◌, ◌<◌, ◌×◌, ℕ, Some, length}
+use Rattle.std.proofs.Common.{◌≡◌, ◌<◌, ℕ, Some, length}
 use Rattle.elf_object.specs.Lent.{section_class}
 use Rattle.link_core.proofs.Few.{table_fits}
 use Rattle.link_core.proofs.StandingPlaces.{lies_of}

@@ -1,3 +1,4 @@
+mod Agreeing
 mod Choosing
 mod Covering
 mod Example

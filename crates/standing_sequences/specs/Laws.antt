@@ -1,9 +1,11 @@
 -- The image of linked objects holds the table.
-use Rattle.std.specs.Prelude.{◌≡◌, ◌≢◌, ℕ, false, Some, slice_get}
+use Rattle.std.specs.Prelude.{◌≡◌, ◌≢◌, ◌+◌, ◌<◌, ℕ, false, Some, slice_get}
+use Rattle.elf_object.specs.Lent.{section_size}
+use Rattle.image_file.specs.Spelled.{Spelled}
 use Rattle.link_core.specs.Images.{image_of}
 use Rattle.link_core.specs.Laws.{HasNoStray}
 use Rattle.link_needs.specs.Given.{IsGiven}
-use Rattle.link_needs.specs.Linking.{Linking, choice}
+use Rattle.link_needs.specs.Linking.{Linking, choice, object}
 use Rattle.link_tables.specs.Faults.{Links}
 use Rattle.relax_sites.specs.declared.choices.Choice.{Choice}
 use Rattle.relax_sites.specs.declared.choices.Choice.TheVariants.{Keep}
@@ -13,7 +15,7 @@ use Rattle.sequence_forms.specs.declared.forms.Form.{Form}
 use Rattle.sequence_forms.specs.declared.places.Site.{Site}
 use Rattle.sequence_forms.specs.Forms.{fits, row}
 use Rattle.sequence_match.specs.Sites.{IsLiteral}
-use Rattle.standing_sequences.specs.Bytes.{IsOutside}
+use Rattle.standing_sequences.specs.Bytes.{IsOutside, IsSectionAt, byte_at}
 use Rattle.standing_sequences.specs.Images.{FormsStand, HoldsTheTable, OwnStand, SequencesStand, ValuesStand}
 use Rattle.standing_sequences.specs.Table.{Matches, MayReplace}
 
@@ -60,6 +62,12 @@ SequencesStandByTheTable = (l : Linking) → IsLinked l → SequencesStand l (im
 
 abbrev pub LinkedImagesHoldTheTable : Type 0
 LinkedImagesHoldTheTable = (l : Linking) → IsLinked l → HoldsTheTable l (image_of l)
+
+-- and that is all of each section: two images that hold the table have the same bytes there
+abbrev pub ImagesWithTheTableAgree : Type 0
+ImagesWithTheTableAgree = (l : Linking) (image other : Spelled) → IsLinked l → HoldsTheTable l image
+    → HoldsTheTable l other → (o t address k : ℕ) → IsSectionAt l o t address → k < section_size (object l o) t
+    → byte_at image (address + k) ≡ byte_at other (address + k)
 
 -- ** the linker's choice
 
