@@ -37,12 +37,15 @@ images_back [] = refl
 images_back (l ∷ ls) = ap (λ more. loaded_image l ∷ more) (images_back ls)
 
 -- each by itself
-each_back : (ls : List Linking) → map loaded_image ls ≡ map image_of ls → All (λ (l : Linking). loaded_image l ≡ image_of l) ls
-each_back [] same = All-nil (λ (l : Linking). loaded_image l ≡ image_of l)
+abbrev IsBack : Linking → Type 0
+IsBack l = loaded_image l ≡ image_of l
+
+each_back : (ls : List Linking) → map loaded_image ls ≡ map image_of ls → All IsBack ls
+each_back [] same = All-nil IsBack
 each_back (l ∷ ls) same =
     let head : loaded_image l ≡ image_of l = cc in
     let tail : map loaded_image ls ≡ map image_of ls = cc in
-    All-cons (λ (k : Linking). loaded_image k ≡ image_of k) l ls head (each_back ls tail)
+    All-cons IsBack l ls head (each_back ls tail)
 
 module _ (job : JobParts) (ls : List Linking) (links : AreLinks job ls) (all : List LinkedImage) (all_is : all ≡ map linked_of ls)
     (images : List Spelled) (back : AreBack job all images) where
@@ -90,7 +93,8 @@ module _ (job : JobParts) (ls : List Linking) (links : AreLinks job ls) (few : l
       subst (λ (n : JobImages). Tells (world_of job n) transcript)
       (m_is ∙ modules_linked job ls links all all_is images back) printed
 
-  has_run : LinkedJobsPrint → TranscriptsTellTheirThreads → VerdictKnowsNoSetting → LinkedImagesHoldTheTable → HasRun job ls transcript
+  has_run : LinkedJobsPrint → TranscriptsTellTheirThreads → VerdictKnowsNoSetting → LinkedImagesHoldTheTable
+      → HasRun job ls transcript
   has_run jobs threads settings hold = record {
     printed_is =
         subst (λ (n : JobImages). Tells (world_of job n) transcript)
