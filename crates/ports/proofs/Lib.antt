@@ -1,3 +1,3 @@
-pub mod Counting
+pub mod Claimed
 pub mod Lookups
 pub mod Yielded

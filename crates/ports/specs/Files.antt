@@ -23,10 +23,6 @@ file_at files name = map.get files name
 abbrev pub IsFile : Option Files → List ℕ → List ℕ → Type 0
 IsFile told name bytes = IfSome told (λ files. file_at files name ≡ Some bytes)
 
--- a name, and the result of reading the file of that name
-abbrev pub IsReading : {A : Type 0} → Option Files → Bor (List ℕ) → Bor (List ℕ) × Result (Vec ℕ A) FetchFault → Type 0
-IsReading told name came = (came.0.now ≡ name.now) × IfOk came.1 (λ file. IsFile told name.now file.items)
-
 -- the files with these bytes under that name, and each other file as it was
 abbrev pub with_file : List ℕ → List ℕ → Option Files → Option Files
 with_file name bytes = option_map (λ files. map.insert files name bytes)

@@ -37,16 +37,19 @@
 //! store within, so its clauses are those of that store; the lines and their times are only tested.
 #![tactic(auto)]
 
+mod claims;
 mod faults;
 mod fetching;
 mod host;
 mod memory;
+mod settling;
 mod sinks;
 mod stores;
 
+pub use claims::Claim;
 pub use faults::{FetchFault, PutFault};
 pub use fetching::fetch_each;
-pub use host::{HostFault, HostSink, HostStore, LARGEST_FILE, ProgressStore};
-pub use memory::{MemorySink, MemoryStore};
+pub use host::{HostBrand, HostFault, HostSink, HostStore, LARGEST_FILE, ProgressStore};
+pub use memory::{MemoryBrand, MemorySink, MemoryStore};
 pub use sinks::Sink;
 pub use stores::Store;

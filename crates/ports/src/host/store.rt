@@ -1,13 +1,17 @@
 //! The host's file system as a store.
 ghost use Rattle.std.specs.Prelude.{◌≡◌, ◌+◌, ◌++◌, ◌≤◌, length, take};
 ghost use Rattle.std.specs.Prelude.{IsErr, OnOk, OnErr, IfOk, IfSome, MatchOption};
+ghost use Rattle.std.specs.List.{All, AllZip};
+ghost use Rattle.ports.specs.Claims.{IsFileOf, IsRead, fewer, untold_count};
 ghost use Rattle.ports.specs.Counts.{counted, Counted, FetchCounts, PutCounts, faults_after_fetch, faults_after_put};
 ghost use Rattle.ports.specs.Files.{file_at, with_file, with_name, IsFile};
 ghost use Rattle.file_bytes.specs.Pieces.{whole, EachFits};
 
-use crate::{FetchFault, PutFault, Store};
+use crate::claims::claims_to;
+use crate::settling::{Counts, settle_each};
+use crate::{Claim, FetchFault, PutFault, Store};
 use file_bytes::{Pieces, Whole, read_all, room_for, too_large, write_pieces};
-use std::alloc::Global;
+use std::alloc::{AllocError, Global};
 use std::fs::{File, OpenFile};
 use std::io::{ErrorKind, Read};
 use std::marker::Model;
@@ -130,7 +134,14 @@ impl<'a, R: Files + Sync> HostStore<'a, R> {
     }
 }
 
+/// The brand of the claims of a [`HostStore`], which alone has a value of it.
+pub struct HostBrand {
+    _own: (),
+}
+
 impl<'a, R: Files + Sync> Store for HostStore<'a, R> {
+    type Brand = HostBrand;
+
     ghost use Rattle.ports.specs.Files.{untold_files, untold_names};
 
     ghost files = { λ _. untold_files };
@@ -138,6 +149,8 @@ impl<'a, R: Files + Sync> Store for HostStore<'a, R> {
     ghost faults = { λ faults. faults };
 
     ghost asked = { λ _. untold_names };
+
+    ghost out = { λ _. untold_count };
 
     fn fetch(&mut self, name: &str, into: &mut Vec<u8>) -> Result<(), FetchFault>
         ensures files { untold_files ≡ untold_files }
@@ -147,6 +160,7 @@ impl<'a, R: Files + Sync> Store for HostStore<'a, R> {
         ensures kept { OnErr result (into.new.items ≡ into.old.items) }
         ensures cause { FetchCounts self.old self.new result }
         ensures asked { untold_names ≡ with_name name.now untold_names }
+        ensures out { untold_count ≡ untold_count }
 
         ensures fits { OnOk result (length into.new.items ≤ length into.old.items + LARGEST_FILE) }
         ensures count { self.new ≡ faults_after_fetch self.old result }
@@ -164,37 +178,34 @@ impl<'a, R: Files + Sync> Store for HostStore<'a, R> {
         }
     }
 
-    fn read(&self, alloc: Global, name: &str) -> Result<Vec<u8>, FetchFault>
-        ensures file { IfOk result (λ file. IsFile untold_files name.now file.items) }
-
-        ensures fits { IfOk result (λ file. length file.items ≤ LARGEST_FILE) }
-    {
-        let mut file = Vec::new(alloc);
-        read_file(self.rt, name, &mut file)?;
-        Ok(file)
+    fn claim<'n>(
+        &mut self,
+        alloc: Global,
+        names: &[&'n str],
+    ) -> Result<Vec<Claim<'n, HostBrand>>, AllocError> {
+        claims_to(alloc, &HostBrand { _own: () }, names)
     }
 
-    fn count(
-        &mut self,
-        name: &str,
-        read: Result<Vec<u8>, FetchFault>,
-    ) -> Result<Vec<u8>, FetchFault>
-        ensures files { untold_files ≡ untold_files }
-        ensures bytes { IfOk result (λ file. IsFile untold_files name.now file.items) }
-        ensures cause { FetchCounts self.old self.new result }
-        ensures asked { untold_names ≡ with_name name.now untold_names }
-        ensures same { OnOk result (result ≡ read) }
+    fn read(&self, alloc: Global, claim: &mut Claim<'_, HostBrand>) {
+        let file = read_whole(self.rt, alloc, claim.name());
+        claim.fill(&HostBrand { _own: () }, file);
+    }
 
-        ensures given { result ≡ read }
+    fn settle(
+        &mut self,
+        alloc: Global,
+        claims: Vec<Claim<'_, HostBrand>>,
+    ) -> Result<Vec<Vec<u8>>, FetchFault>
+        requires read { All (IsRead untold_files) claims.items }
+        ensures files { untold_files ≡ untold_files }
+        ensures bytes { IfOk result (λ came. AllZip (IsFileOf untold_files) claims.entry.items came.items) }
+        ensures cause { FetchCounts self.old self.new result }
+        ensures asked { untold_names ≡ untold_names }
+        ensures out { untold_count ≡ fewer (length claims.entry.items) untold_count }
+
         ensures count { self.new ≡ faults_after_fetch self.old result }
     {
-        if let Err(FetchFault::Failed) = read {
-            // Threads share `read`, so it remembers nothing: the host is asked again.
-            let alloc = self.alloc;
-            let error = try_read(self.rt, name).err();
-            self.faults.add(alloc, name, error);
-        }
-        read
+        settle_each(alloc, self, claims)
     }
 
     fn put(&mut self, name: &str, bytes: &[u8]) -> Result<(), PutFault>
@@ -202,6 +213,7 @@ impl<'a, R: Files + Sync> Store for HostStore<'a, R> {
         ensures err { OnErr result (untold_files ≡ untold_files) }
         ensures cause { PutCounts self.old self.new result }
         ensures asked { untold_names ≡ untold_names }
+        ensures out { untold_count ≡ untold_count }
 
         ensures count { self.new ≡ faults_after_put self.old result }
     {
@@ -214,11 +226,50 @@ impl<'a, R: Files + Sync> Store for HostStore<'a, R> {
         ensures err { OnErr result (untold_files ≡ untold_files) }
         ensures cause { PutCounts self.old self.new result }
         ensures asked { untold_names ≡ untold_names }
+        ensures out { untold_count ≡ untold_count }
 
         ensures count { self.new ≡ faults_after_put self.old result }
     {
         put_file(self.rt, self.alloc, &mut self.faults, name, pieces)
     }
+}
+
+impl<'a, R: Files + Sync> Counts for HostStore<'a, R> {
+    ghost use Rattle.ports.specs.Files.{untold_files};
+
+    ghost files = { λ _. untold_files };
+
+    ghost faults = { λ faults. faults };
+
+    fn count(
+        &mut self,
+        name: &str,
+        read: Result<Vec<u8>, FetchFault>,
+    ) -> Result<Vec<u8>, FetchFault>
+        ensures files { untold_files ≡ untold_files }
+        ensures bytes { IfOk result (λ file. IsFile untold_files name.now file.items) }
+        ensures cause { FetchCounts self.old self.new result }
+        ensures count { self.new ≡ faults_after_fetch self.old result }
+
+        ensures given { result ≡ read }
+    {
+        if let Err(FetchFault::Failed) = read {
+            // Threads share `read`, so it remembers nothing: the host is asked again.
+            let alloc = self.alloc;
+            let error = try_read(self.rt, name).err();
+            self.faults.add(alloc, name, error);
+        }
+        read
+    }
+}
+
+/// The bytes of the file, or why there are none.
+fn read_whole<R: Files>(rt: &R, alloc: Global, name: &str) -> Result<Vec<u8>, FetchFault>
+    ensures { IfOk result (λ file. length file.items ≤ LARGEST_FILE) }
+{
+    let mut file = Vec::new(alloc);
+    read_file(rt, name, &mut file)?;
+    Ok(file)
 }
 
 /// Appends the file's bytes. On a refusal `into` is as before.
