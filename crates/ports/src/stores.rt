@@ -2,7 +2,7 @@
 ghost use Rattle.std.specs.Prelude.{◌≡◌, ℕ, List, ◌++◌, length, take};
 ghost use Rattle.std.specs.Prelude.{Option, IsErr, OnOk, OnErr, IfOk, IfSome, MatchOption};
 ghost use Rattle.std.specs.List.{All, AllZip};
-ghost use Rattle.ports.specs.Claims.{IsFileOf, IsFor, IsFresh, IsRead, fewer, more, texts};
+ghost use Rattle.ports.specs.Claims.{Brings, IsFileOf, IsFor, IsFresh, IsRead, fewer, more, texts};
 ghost use Rattle.ports.specs.Counts.{FetchCounts, PutCounts};
 ghost use Rattle.ports.specs.Files.{Files, file_at, with_file, with_name, with_names};
 ghost use Rattle.file_bytes.specs.Pieces.{whole};
@@ -78,6 +78,7 @@ pub trait Store: Sync {
         requires read { All (IsRead (files self.old)) claims.items }
         ensures files { files self.new ≡ files self.old }
         ensures bytes { IfOk result (λ came. AllZip (IsFileOf (files self.old)) claims.entry.items came.items) }
+        ensures came { IfOk result (λ came. AllZip Brings claims.entry.items came.items) }
         ensures cause { FetchCounts (faults self.old) (faults self.new) result }
         ensures asked { asked self.new ≡ asked self.old }
         ensures out { out self.new ≡ fewer (length claims.entry.items) (out self.old) };

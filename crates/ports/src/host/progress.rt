@@ -1,7 +1,7 @@
 //! Shows the progress of a long command to the person who waits for it.
 ghost use Rattle.std.specs.Prelude.{◌≡◌, IfOk, length};
 ghost use Rattle.std.specs.List.{All, AllZip};
-ghost use Rattle.ports.specs.Claims.{IsFileOf, IsRead, fewer};
+ghost use Rattle.ports.specs.Claims.{Brings, IsFileOf, IsRead, fewer};
 ghost use Rattle.ports.specs.Counts.{FetchCounts};
 
 use crate::{Claim, FetchFault, PutFault, Store};
@@ -145,6 +145,7 @@ impl<'a, S: Store + Drop, R: Clock + Eprint + Sync> Store for ProgressStore<'a, 
         requires read { All (IsRead (S.files self.old)) claims.items }
         ensures files { S.files self.new ≡ S.files self.old }
         ensures bytes { IfOk result (λ came. AllZip (IsFileOf (S.files self.old)) claims.entry.items came.items) }
+        ensures came { IfOk result (λ came. AllZip Brings claims.entry.items came.items) }
         ensures cause { FetchCounts (S.faults self.old) (S.faults self.new) result }
         ensures asked { S.asked self.new ≡ S.asked self.old }
         ensures out { S.out self.new ≡ fewer (length claims.entry.items) (S.out self.old) }

@@ -1,8 +1,8 @@
 //! The host's file system as a store.
-ghost use Rattle.std.specs.Prelude.{◌≡◌, ◌+◌, ◌++◌, ◌≤◌, length, take};
-ghost use Rattle.std.specs.Prelude.{IsErr, OnOk, OnErr, IfOk, IfSome, MatchOption};
+ghost use Rattle.std.specs.Prelude.{◌≡◌, ◌≢◌, ◌+◌, ◌-◌, ◌++◌, ◌≤◌, length, take};
+ghost use Rattle.std.specs.Prelude.{IsErr, IsErrOf, OnOk, OnErr, IfOk, IfSome, MatchOption};
 ghost use Rattle.std.specs.List.{All, AllZip};
-ghost use Rattle.ports.specs.Claims.{IsFileOf, IsRead, fewer, untold_count};
+ghost use Rattle.ports.specs.Claims.{Brings, IsFileOf, IsFresh, IsRead, Settles, fewer, never, untold_count};
 ghost use Rattle.ports.specs.Counts.{counted, Counted, FetchCounts, PutCounts, faults_after_fetch, faults_after_put};
 ghost use Rattle.ports.specs.Files.{file_at, with_file, with_name, IsFile};
 ghost use Rattle.file_bytes.specs.Pieces.{whole, EachFits};
@@ -186,7 +186,13 @@ impl<'a, R: Files + Sync> Store for HostStore<'a, R> {
         claims_to(alloc, &HostBrand { _own: () }, names)
     }
 
-    fn read(&self, alloc: Global, claim: &mut Claim<'_, HostBrand>) {
+    fn read(&self, alloc: Global, claim: &mut Claim<'_, HostBrand>)
+        requires fresh { IsFresh claim.old }
+        ensures name { claim.new.name.now ≡ claim.old.name.now }
+        ensures read { IsRead untold_files claim.new }
+
+        ensures fits { IfSome claim.new.came (λ came. IfOk came (λ file. length file.items ≤ LARGEST_FILE)) }
+    {
         let file = read_whole(self.rt, alloc, claim.name());
         claim.fill(&HostBrand { _own: () }, file);
     }
@@ -199,11 +205,13 @@ impl<'a, R: Files + Sync> Store for HostStore<'a, R> {
         requires read { All (IsRead untold_files) claims.items }
         ensures files { untold_files ≡ untold_files }
         ensures bytes { IfOk result (λ came. AllZip (IsFileOf untold_files) claims.entry.items came.items) }
+        ensures came { IfOk result (λ came. AllZip Brings claims.entry.items came.items) }
         ensures cause { FetchCounts self.old self.new result }
         ensures asked { untold_names ≡ untold_names }
         ensures out { untold_count ≡ fewer (length claims.entry.items) untold_count }
 
         ensures count { self.new ≡ faults_after_fetch self.old result }
+        ensures settles { Settles never never claims.entry.items result }
     {
         settle_each(alloc, self, claims)
     }
@@ -241,6 +249,8 @@ impl<'a, R: Files + Sync> Counts for HostStore<'a, R> {
 
     ghost faults = { λ faults. faults };
 
+    ghost due = { λ _. never };
+
     fn count(
         &mut self,
         name: &str,
@@ -250,8 +260,9 @@ impl<'a, R: Files + Sync> Counts for HostStore<'a, R> {
         ensures bytes { IfOk result (λ file. IsFile untold_files name.now file.items) }
         ensures cause { FetchCounts self.old self.new result }
         ensures count { self.new ≡ faults_after_fetch self.old result }
-
-        ensures given { result ≡ read }
+        ensures call { never ≡ never - 1 }
+        ensures fails { never ≡ 1 → IsErrOf result FetchFault.Failed }
+        ensures given { never ≢ 1 → result ≡ read }
     {
         if let Err(FetchFault::Failed) = read {
             // Threads share `read`, so it remembers nothing: the host is asked again.

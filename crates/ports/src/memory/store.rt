@@ -3,7 +3,7 @@ ghost use Rattle.std.specs.Prelude.{◌≡◌, ◌≢◌, ◌-◌, ◌⊎◌, �
 ghost use Rattle.std.specs.Prelude.{None, Some, IsErr, OnOk, OnErr, IsErrOf, IfOk, IfSome, MatchOption};
 ghost use Rattle.std.specs.Option.{option_copied};
 ghost use Rattle.std.specs.List.{All, AllZip};
-ghost use Rattle.ports.specs.Claims.{IsFileOf, IsFresh, IsRead, fewer, untold_count};
+ghost use Rattle.ports.specs.Claims.{Brings, IsFileOf, IsFresh, IsRead, Settles, fewer, untold_count};
 ghost use Rattle.std.specs.FinMap as map;
 ghost use Rattle.ports.specs.Counts.{FetchCounts, PutCounts, faults_after_fetch, faults_after_put};
 ghost use Rattle.ports.specs.Files.{file_at, with_file, with_name, IsFile};
@@ -167,7 +167,14 @@ impl Store for MemoryStore {
         claims_to(alloc, &MemoryBrand { _own: () }, names)
     }
 
-    fn read(&self, alloc: Global, claim: &mut Claim<'_, MemoryBrand>) {
+    fn read(&self, alloc: Global, claim: &mut Claim<'_, MemoryBrand>)
+        requires fresh { IsFresh claim.old }
+        ensures name { claim.new.name.now ≡ claim.old.name.now }
+        ensures read { IsRead (Some self.now.files) claim.new }
+
+        ensures fails { IfSome claim.new.came (λ came. IsErrOf came FetchFault.Failed
+            ↔ (file_at self.now.files claim.old.name.now ≡ None)) }
+    {
         let file = self.copy_of(alloc, claim.name());
         claim.fill(&MemoryBrand { _own: () }, file);
     }
@@ -180,11 +187,13 @@ impl Store for MemoryStore {
         requires read { All (IsRead (Some self.old.files)) claims.items }
         ensures files { Some self.new.files ≡ Some self.old.files }
         ensures bytes { IfOk result (λ came. AllZip (IsFileOf (Some self.old.files)) claims.entry.items came.items) }
+        ensures came { IfOk result (λ came. AllZip Brings claims.entry.items came.items) }
         ensures cause { FetchCounts self.old.faults self.new.faults result }
         ensures asked { untold_names ≡ untold_names }
         ensures out { untold_count ≡ fewer (length claims.entry.items) untold_count }
 
         ensures count { self.new.faults ≡ faults_after_fetch self.old.faults result }
+        ensures settles { Settles self.old.fails_in self.new.fails_in claims.entry.items result }
     {
         settle_each(alloc, self, claims)
     }
@@ -229,6 +238,8 @@ impl Counts for MemoryStore {
 
     ghost faults = { λ s. s.faults };
 
+    ghost due = { λ s. s.fails_in };
+
     fn count(
         &mut self,
         name: &str,
@@ -240,10 +251,9 @@ impl Counts for MemoryStore {
         ensures cause { FetchCounts self.old.faults self.new.faults result }
         ensures count { self.new.faults ≡ faults_after_fetch self.old.faults result }
 
-        ensures fails { IsErrOf result FetchFault.Failed ↔ ((self.old.fails_in ≡ 1)
-            ⊎ IsErrOf read FetchFault.Failed) }
-        ensures given { self.old.fails_in ≢ 1 → result ≡ read }
         ensures call { self.new.fails_in ≡ self.old.fails_in - 1 }
+        ensures fails { self.old.fails_in ≡ 1 → IsErrOf result FetchFault.Failed }
+        ensures given { self.old.fails_in ≢ 1 → result ≡ read }
     {
         let fails_now = self.plan.counts_call();
         match read {
