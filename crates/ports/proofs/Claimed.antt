@@ -59,9 +59,10 @@ files_of_names told [] (b ∷ bs) now files f l e h = absurd f
 files_of_names told (n ∷ ns) [] now files f l e h = absurd f
 files_of_names told (n ∷ ns) (b ∷ bs) [] files f l e h = absurd (omega (arith, l))
 files_of_names told (n ∷ ns) (b ∷ bs) (c ∷ cs) [] f l e h = absurd h
-files_of_names told (n ∷ ns) (b ∷ bs) (c ∷ cs) (x ∷ xs) f l e h =
-    (subst (λ (name : List ℕ). IsFile told name x.items) ((e zero b (omega arith)).0 ∙ f.0.0) h.0,
-    files_of_names told ns bs cs xs f.1 (omega (arith, l)) (λ k d lt. e (suc k) d (omega (arith, lt))) h.1)
+files_of_names told (n ∷ ns) (b ∷ bs) (c ∷ cs) (x ∷ xs) f l e h = (
+  subst (λ (name : List ℕ). IsFile told name x.items) ((e zero b (omega arith)).0 ∙ f.0.0) h.0,
+  files_of_names told ns bs cs xs f.1 (omega (arith, l)) (λ k d lt. e (suc k) d (omega (arith, lt))) h.1,
+)
 
 -- all were read
 pub all_read : {B : Type 0} (told : Option Files) (before now : List (Claim B)) → length now ≡ length before

@@ -17,21 +17,19 @@
 //! most 80 bytes, those outside 0x20 to 0x7e in hexadecimal.
 //!
 //! [`KeptSink`] keeps the line, and [`note_of`] chooses the note by the status. The object is read once more for it,
-//! by the name in the line ([`Aftermath`]): the names are those of that file and of no other. If memory runs out, or
+//! by the name in the line (`ports::Aftermath`): the names are those of that file and of no other. If memory runs out, or
 //! the file is gone, there is no note; if the file has changed, the names are those that it has now. Nothing else
 //! differs.
 //!
 //! Names lie in an object as the System V ABI has it (gABI, "Object Files").
 #![tactic(auto)]
 
-mod aftermath;
 mod kept_sink;
 mod names;
 mod notes;
 mod printable;
 mod refusals;
 
-pub use aftermath::Aftermath;
 pub use kept_sink::KeptSink;
 pub use names::{Part, section_name, symbol_name};
 pub use notes::{COMMANDS, file_note, note_of, object_note};

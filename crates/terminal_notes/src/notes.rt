@@ -3,11 +3,10 @@ ghost use Rattle.std.specs.Prelude.{◌≡◌, ◌++◌, OnOk, IfOk, IfSome, str
 ghost use Rattle.ports.specs.Files.{IsFile};
 ghost use Rattle.terminal_notes.specs.Notes.{commands_note, file_note, object_note, place_note, symbol_words, IsNote};
 
-use crate::aftermath::Aftermath;
 use crate::names::{section_name, symbol_name};
 use crate::printable::append_printable;
 use crate::refusals::{ObjectRefusal, object_refusal};
-use ports::HostFault;
+use ports::{Aftermath, HostFault};
 use std::alloc::{AllocError, Global};
 
 /// The commands, for who gave words that are none.
@@ -80,9 +79,7 @@ fn refused_note<S: Aftermath>(alloc: Global, line: &[u8], store: &S) -> Option<V
     ensures { IfSome result (λ note. IsNote (IsFile (S.files store.now)) line.now note.items) }
 {
     let refusal = object_refusal(alloc, line)?;
-    let Ok(object) = store.bytes_of(alloc, refusal.name.as_str()) else {
-        return None;
-    };
+    let object = store.read_again(alloc, refusal.name.as_str()).ok()?;
     object_note(alloc, &refusal, object.as_slice())
 }
 
@@ -100,7 +97,7 @@ pub fn note_of<S: Aftermath>(
 {
     match status {
         2 => Vec::from_slice(alloc, COMMANDS).ok(),
-        3 => host_note(alloc, store.fault()?),
+        3 => host_note(alloc, store.last_fault()?),
         6 => refused_note(alloc, line, store),
         _ => None,
     }

@@ -9,7 +9,7 @@ ghost use Rattle.file_bytes.specs.Pieces.{whole, EachFits};
 
 use crate::claims::claims_to;
 use crate::settling::{Counts, settle_each};
-use crate::{Claim, FetchFault, PutFault, Store};
+use crate::{Aftermath, Claim, FetchFault, PutFault, Store};
 use file_bytes::{Pieces, Whole, read_all, room_for, too_large, write_pieces};
 use std::alloc::{AllocError, Global};
 use std::fs::{File, OpenFile};
@@ -115,22 +115,6 @@ impl<'a, R: Files + Sync> HostStore<'a, R> {
         ensures { result ≡ self.now }
     {
         self.faults.count
-    }
-
-    /// The last fault, unless there was no memory to remember it or the host does not say why it failed.
-    pub fn last_fault(&self) -> Option<&HostFault> {
-        self.faults.last.as_ref()
-    }
-
-    /// Reads a file once more, to show what a refusal is about. Only a plain file is opened, since a pipe may wait for
-    /// a writer that has gone.
-    pub fn read_again(&self, alloc: Global, name: &str) -> io::Result<Vec<u8>> {
-        if !fs::metadata(self.rt, name)?.is_file() {
-            return Err(io::Error::from(ErrorKind::InvalidInput));
-        }
-        let mut file = Vec::new(alloc);
-        read_file(self.rt, name, &mut file)?;
-        Ok(file)
     }
 }
 
@@ -242,6 +226,20 @@ impl<'a, R: Files + Sync> Store for HostStore<'a, R> {
     }
 }
 
+impl<'a, R: Files + Sync> Aftermath for HostStore<'a, R> {
+    ghost use Rattle.ports.specs.Files.{untold_files};
+
+    ghost files = { λ _. untold_files };
+
+    fn read_again(&self, alloc: Global, name: &str) -> io::Result<Vec<u8>> {
+        read_plain(self.rt, alloc, name)
+    }
+
+    fn last_fault(&self) -> Option<&HostFault> {
+        self.faults.last.as_ref()
+    }
+}
+
 impl<'a, R: Files + Sync> Counts for HostStore<'a, R> {
     ghost use Rattle.ports.specs.Files.{untold_files};
 
@@ -278,6 +276,16 @@ impl<'a, R: Files + Sync> Counts for HostStore<'a, R> {
 fn read_whole<R: Files>(rt: &R, alloc: Global, name: &str) -> Result<Vec<u8>, FetchFault>
     ensures { IfOk result (λ file. length file.items ≤ LARGEST_FILE) }
 {
+    let mut file = Vec::new(alloc);
+    read_file(rt, name, &mut file)?;
+    Ok(file)
+}
+
+/// The bytes of a plain file. No other is opened, since a pipe may wait for a writer that has gone.
+fn read_plain<R: Files>(rt: &R, alloc: Global, name: &str) -> io::Result<Vec<u8>> {
+    if !fs::metadata(rt, name)?.is_file() {
+        return Err(io::Error::from(ErrorKind::InvalidInput));
+    }
     let mut file = Vec::new(alloc);
     read_file(rt, name, &mut file)?;
     Ok(file)
