@@ -14,9 +14,9 @@
 //! **What a clause can say of the outside.** A store may show its files, as a finite map from names to bytes, and the
 //! names that were asked for so far and how many claims are out; a sink may show its bytes, and how many pieces it was
 //! given. What is shown stays shown, and the clauses of each call say how the call changes it. What is not shown is
-//! `None`, and clauses claim nothing of it. Every store and sink keeps a count of its faults, in 64 bits: it never falls; it rises (or stays at
-//! its greatest value) in each call that returns `Failed`, and stays in every other call. So the counts alone expose
-//! a caller that hides a fault or makes one up.
+//! `None`, and clauses claim nothing of it. Every store and sink keeps a count of its faults, in 64 bits: it never
+//! falls; it rises (or stays at its greatest value) in each call that returns `Failed`, and stays in every other call.
+//! So the counts alone expose a caller that hides a fault or makes one up.
 //!
 //! **No file is read unasked.** A file's bytes come by `fetch`, which asks, or by a claim. Only a store makes a claim,
 //! for it alone has a value of its brand; a claim is read once, and what came of it shows when it is settled. So a

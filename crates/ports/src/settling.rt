@@ -19,7 +19,8 @@ pub(crate) trait Counts {
     // Which call is set to fail, counted from the next one, which is 1; 0 means none.
     ghost due: { Self → ℕ };
 
-    /// Counts a fetch of the file of that name, for which reading gave this result. Returns it, or that the store fails.
+    /// Counts a fetch of the file of that name, for which reading gave this result. Returns it, or that the store
+    /// fails.
     fn count(
         &mut self,
         name: &str,
