@@ -49,6 +49,7 @@ pub fn ended<R: Threads + Sync, S: Store>(
         (Makes ending.entry (S.files store.old) (S.files store.new)
         linked.entry.job.now linked.entry.ready.items) result }
     ensures asked { S.asked store.new ≡ S.asked store.old }
+    ensures out { S.out store.new ≡ S.out store.old }
 {
     let LinkedJob { job, images, ready } = linked;
     match ending {
@@ -94,6 +95,7 @@ fn put_image<R: Threads + Sync, S: Store>(
     ensures says { Comes (λ text. text.items) (IsPut (S.files store.old) (S.files store.new)
         put.entry.image.now put.entry.out.now link.now) result }
     ensures asked { S.asked store.new ≡ S.asked store.old }
+    ensures out { S.out store.new ≡ S.out store.old }
 {
     linked_images_hold_the_table();
     let pieces = link.pieces(rt, alloc)?;
