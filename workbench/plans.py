@@ -1,0 +1,112 @@
+"""Objects and cases in the making: what stands in them, before `make.py` writes them and asks `tlsld` what is expected."""
+import os
+import struct
+import sys
+
+TOP = os.path.dirname(os.path.dirname(os.path.abspath(__file__)))
+sys.path.insert(0, f"{TOP}/tests")
+
+from object_writer import CODE, FUNCTION, NOTYPE, THREAD_LOCAL, VARIABLE, Object  # noqa: E402
+from assembler import Code  # noqa: E402
+
+ELEMENTS = 4
+HIDDEN, PROTECTED = 2, 3
+
+
+class Variable:
+    """A thread-local variable of four numbers: its name, how it is bound, whether it begins as zeros, and zeros before it."""
+
+    def __init__(self, name, binding="own", zero=False, before=0, alignment=4, first=0x5000):
+        self.name, self.binding, self.zero, self.before = name, binding, zero, before
+        self.alignment, self.first = alignment, first
+
+    def content(self):
+        return struct.pack("<4I", *(0 if self.zero else self.first + at for at in range(ELEMENTS)))
+
+
+class ObjectPlan:
+    """An object: sections of code, variables, and how its relocations are put in order."""
+
+    def __init__(self, variables=(), order=None):
+        self.codes, self.variables, self.order = [], list(variables), order
+
+    def code(self, name=".text", alignment=16):
+        made = Code()
+        self.codes.append((name, alignment, made))
+        return made
+
+    def places(self, zero):
+        """Where the variables of one section lie in it."""
+        at, placed = 0, []
+        for it in self.variables:
+            if it.zero == zero:
+                at = -(-(at + it.before) // it.alignment) * it.alignment
+                placed.append((it, at))
+                at += 4 * ELEMENTS
+        return placed, at
+
+    def data(self, made):
+        """Adds the sections of variables; answers which variable lies where."""
+        where = {}
+        for zero, name in ((False, ".tdata"), (True, ".tbss")):
+            placed, size = self.places(zero)
+            if not placed:
+                continue
+            content = bytearray(size)
+            for it, at in placed:
+                content[at:at + 4 * ELEMENTS] = it.content()
+            alignment = max(it.alignment for it, _ in placed)
+            section = made.section(name, THREAD_LOCAL, b"" if zero else content, alignment, size if zero else 0)
+            where |= {it.name: (it, section, at) for it, at in placed}
+        return where
+
+    def symbols(self, made, sections, where):
+        """Adds all symbols, local ones first; answers their numbers by name."""
+        numbers = {}
+        for local in (True, False):
+            for name, (it, section, at) in where.items():
+                if (it.binding == "local") == local:
+                    visibility = {"hidden": HIDDEN, "protected": PROTECTED}.get(it.binding, 0)
+                    numbers[name] = made.symbol(name, VARIABLE, section, at, 4 * ELEMENTS, local, it.binding == "weak", visibility)
+        for section, (_, _, code) in zip(sections, self.codes):
+            for name, at, size in code.functions:
+                numbers[name] = made.symbol(name, FUNCTION, section, at, size)
+        for _, _, code in self.codes:
+            for it in code.fields:
+                if it.symbol not in numbers:
+                    plain = it.symbol.startswith("_")
+                    numbers[it.symbol] = made.symbol(it.symbol, NOTYPE if plain else VARIABLE)
+        return numbers
+
+    def write(self, path):
+        made = Object()
+        sections = [made.section(name, CODE, code.bytes, alignment) for name, alignment, code in self.codes]
+        where = self.data(made)
+        made.section(".note.GNU-stack", 0, b"", 1)
+        numbers = self.symbols(made, sections, where)
+        for section, (_, _, code) in zip(sections, self.codes):
+            fields = self.order(code.fields) if self.order else code.fields
+            for it in fields:
+                section.relocate(it.at, it.kind, numbers[it.symbol], it.addend)
+        made.write(path)
+
+    def sites(self):
+        """The sequences: the section's number, the place there, the length, the form and the function."""
+        for number, (_, _, code) in enumerate(self.codes, 1):
+            for it in code.sites:
+                yield number, it.at, it.length, it.form, it.function
+
+    def functions(self):
+        return {name: (code, at) for _, _, code in self.codes for name, at, _ in code.functions}
+
+
+class CasePlan:
+    """A case: objects by the names of their files, the kinds and settings in which it is linked, and for an odd form why it is one.
+
+    The twin of an odd case is a plan that does the same by a form of the table: it says which values are right.
+    """
+
+    def __init__(self, name, about, objects, kinds=("static", "plain", "pie", "shared"), settings=(True, False), library=False,
+                 why="", twin=None):
+        self.name, self.about, self.objects, self.kinds, self.settings = name, about, objects, kinds, settings
+        self.library, self.why, self.twin = library, why, twin

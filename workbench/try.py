@@ -1,0 +1,116 @@
+#!/usr/bin/env python3
+"""try.py COMMAND..: tries linkers on every sequence of the corpus, and says of each what the linker made of it.
+
+A COMMAND is a linker's, in one word, as 'ld.lld {kind} {relax} -o {out} {objects}': {kind} becomes -static, -pie, -shared or nothing,
+{relax} --no-relax or nothing. A command without one of them gets only the cases that need none. README.md has the verdicts.
+The status is 1 where anything is wrong, 2 for words that can't be used and for a linker that is not there, else 0.
+"""
+import argparse
+import os
+import shutil
+import sys
+import tempfile
+from concurrent.futures import ThreadPoolExecutor
+
+import reports
+import verdicts
+from cases import read_cases
+from linkers import HERE, BadCommand, Linker, link, system_files
+
+
+def arguments():
+    asked = argparse.ArgumentParser(description=__doc__, formatter_class=argparse.RawDescriptionHelpFormatter)
+    asked.add_argument("commands", nargs="+", metavar="COMMAND")
+    asked.add_argument("--cases", default=f"{HERE}/cases", metavar="FOLDER", help="another corpus")
+    asked.add_argument("--case", action="append", default=[], metavar="NAME", help="this case alone; may be given again")
+    asked.add_argument("--keep", action="store_true", help="leaves the files of a case in the folder NAME, with a report")
+    asked.add_argument("--all", action="store_true", help="prints a row for every sequence, not only where linkers do otherwise")
+    asked.add_argument("--json", action="store_true", help="prints the rows as JSON")
+    asked.add_argument("--tap", action="store_true", help="prints the rows as TAP, for a CI")
+    asked.add_argument("--seconds", type=float, default=10, help="the limit of time of each link and each run")
+    asked.add_argument("--jobs", type=int, default=os.cpu_count(), help="how many run side by side")
+    return asked.parse_args()
+
+
+class Bench:
+    """What is tried: cases by linkers, in folders below one."""
+
+    def __init__(self, words, room):
+        self.words, self.room, self.system = words, room, system_files()
+        self.linkers = [Linker(it, words.seconds) for it in words.commands]
+        self.cases = read_cases(words.cases, words.case)
+
+    def trials(self):
+        """Each image to be linked: the linker's number, a case, and what is expected of the image."""
+        for number, linker in enumerate(self.linkers):
+            for case in self.cases:
+                for it in case.links:
+                    if linker.takes(it.kind, it.relax):
+                        yield number, case, it
+
+    def folder(self, number, case, it):
+        relax = "rewritten" if it.relax else "kept"
+        return f"{self.room}/{case.name}/{number + 1}-{self.linkers[number].name}/{it.kind}-{relax}"
+
+    def tried(self, trial):
+        """Links one image, and says what it is worth."""
+        number, case, it = trial
+        room = self.folder(number, case, it)
+        made = link(self.linkers[number], case, it.kind, it.relax, room, self.system)
+        rows = verdicts.rows_of(case, it, made, room, self.system, self.words.seconds)
+        if self.words.keep:
+            reports.leave(self.linkers[number], case, it, made, rows, room)
+        else:
+            shutil.rmtree(room, ignore_errors=True)
+        return number, rows
+
+    def rows(self):
+        """The verdicts of each linker, in the corpus's order."""
+        found = [[] for _ in self.linkers]
+        with ThreadPoolExecutor(max(1, self.words.jobs)) as pool:
+            for number, rows in pool.map(self.tried, self.trials()):
+                found[number] += rows
+        return found
+
+
+def kept_room(words):
+    """The folder in which the files of a case are left; it must not be there yet."""
+    if len(words.case) != 1 or os.path.exists(words.case[0]):
+        raise BadCommand("--keep wants one --case, and no file or folder of its name here")
+    return os.getcwd()
+
+
+def tell(words, bench, found):
+    if words.json:
+        print(reports.as_json(bench, found))
+    elif words.tap:
+        print(reports.as_tap(bench, found))
+    else:
+        print(reports.as_table(bench, found, words.all))
+
+
+def status(bench, found):
+    if any(row.verdict == verdicts.WRONG for rows in found for row in rows):
+        return 1
+    return 0 if all(it.is_there for it in bench.linkers) else 2
+
+
+def main():
+    words = arguments()
+    with tempfile.TemporaryDirectory(prefix="workbench-") as room:
+        try:
+            bench = Bench(words, kept_room(words) if words.keep else room)
+        except (BadCommand, OSError) as fault:
+            print(f"try.py: {fault}", file=sys.stderr)
+            return 2
+        unknown = set(words.case) - {it.name for it in bench.cases}
+        if unknown or not bench.cases:
+            print(f"try.py: no case {' '.join(sorted(unknown)) or words.cases}", file=sys.stderr)
+            return 2
+        found = bench.rows()
+        tell(words, bench, found)
+        return status(bench, found)
+
+
+if __name__ == "__main__":
+    sys.exit(main())
