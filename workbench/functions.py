@@ -30,7 +30,7 @@ class Reach:
 
     def __init__(self, form, variable, register="rax", addend=0, call=None, between=0):
         self.form, self.variable, self.register, self.addend, self.between = form, variable, register, addend, between
-        self.call = call or (REX_GOTPCRELX if form == "gd-ind" else GOTPCRELX if form == "ld-ind" else PLT32)
+        self.call = call or (GOTPCRELX if form.endswith("-ind") else PLT32)
 
     def calls(self):
         return self.form in ("gd", "gd-ind", "ld", "ld-ind")

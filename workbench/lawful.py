@@ -1,6 +1,6 @@
 """The cases of lawful sequences that were thought of: every form, binding and register, and places that are easy to get wrong."""
 from assembler import REGISTERS
-from functions import FORMS, GOTPCREL, GOTPCRELX, PC32, PLT32, REX_GOTPCRELX, Function, Reach
+from functions import FORMS, GOTPCREL, PC32, REX_GOTPCRELX, Function, Reach
 from plans import CasePlan, ObjectPlan, Variable
 
 BINDINGS = {
@@ -8,7 +8,9 @@ BINDINGS = {
     "weak": "a weak variable", "protected": "a protected variable", "other": "another object's variable",
     "lib": "a shared object's variable",
 }
-CALLS = {"gd": [PLT32], "ld": [PLT32], "gd-ind": [GOTPCREL, GOTPCRELX, REX_GOTPCRELX], "ld-ind": [GOTPCREL, GOTPCRELX]}
+# The types of relocation that a call may have beside the usual ones, which are PLT32 and GOTPCRELX.
+CALLS = [("gd", PC32, "pc32"), ("ld", PC32, "pc32"), ("gd-ind", GOTPCREL, "gotpcrel"), ("ld-ind", GOTPCREL, "gotpcrel"),
+    ("gd-ind", REX_GOTPCRELX, "rex-gotpcrelx"), ("ld-ind", REX_GOTPCRELX, "rex-gotpcrelx")]
 
 
 def written(plan, code, reaches):
@@ -19,23 +21,23 @@ def written(plan, code, reaches):
 
 
 def ways(form, variable):
-    """Each way to write a form: by every register that it can name, or with each type of the call's relocation."""
+    """Each way to write a form: by every register that it can name, of others twice; a descriptor's parts may stand apart."""
     if form in ("ie-mov", "ie-add"):
         return [Reach(form, variable, it) for it in REGISTERS]
     if form == "desc":
         return [Reach(form, variable, between=it) for it in (0, 0, 5)]
-    return [Reach(form, variable, call=it) for it in CALLS[form]]
+    return [Reach(form, variable)] * 2
 
 
 def bound(form, binding):
     """A case: a form, in each way, to a variable of this binding."""
-    name = "lib_second" if binding == "lib" else "x"
+    name = "lib_second" if binding == "lib" else "shown"
     objects = {}
-    own = [Variable("before", "local"), Variable("x", binding, first=0x5100), Variable("after", "local", zero=True)]
+    own = [Variable("before", "local"), Variable("shown", binding, first=0x5100), Variable("after", "local", zero=True)]
     plan = ObjectPlan(own if binding not in ("other", "lib") else [Variable("unused", "local")])
     objects["first.o"] = written(plan, plan.code(), ways(form, name))
     if binding == "other":
-        objects["second.o"] = ObjectPlan([Variable("before", "local"), Variable("x", first=0x5100)])
+        objects["second.o"] = ObjectPlan([Variable("before", "local"), Variable("shown", first=0x5100)])
     kinds = ("plain", "pie", "shared") if binding == "lib" else ("static", "plain", "pie", "shared")
     return CasePlan(f"{form}-{binding}", f"{form} of {BINDINGS[binding]}", objects, kinds, library=binding == "lib")
 
@@ -58,28 +60,28 @@ def every_form(variable):
 
 
 def calls():
-    """Calls by the older type of relocation, which some linkers refuse in shared objects."""
-    for form in ("gd", "ld"):
-        yield alone(f"{form}-pc32", f"{form} with a call by R_X86_64_PC32", [Reach(form, "x", call=PC32)], [Variable("x", first=0x5100)])
+    for form, call, name in CALLS:
+        about = f"{form} with a call by R_X86_64_{name.upper().replace('-', '_')}"
+        yield alone(f"{form}-{name}", about, [Reach(form, "shown", call=call)], [Variable("shown", first=0x5100)])
 
 
 def offsets():
-    far = [Variable("near", first=0x5200), Variable("x", first=0x5100, before=0x7f000, zero=True)]
+    far = [Variable("near", first=0x5200), Variable("shown", first=0x5100, before=0x7f000, zero=True)]
     yield alone("far", "each form, with a variable far from the thread pointer", every_form("near"), far)
-    yield alone("far-zero", "each form, of a variable behind half a million zeros", every_form("x"), far)
-    aligned = [Variable("first"), Variable("x", first=0x5100, before=3, alignment=4096), Variable("zero", zero=True, alignment=64)]
-    yield alone("aligned", "each form, of a variable that is aligned to 4,096", every_form("x"), aligned)
-    added = [Reach(form, "x", addend=4 * at) for form in ("ld", "ld-ind", "le") for at in range(4)]
-    own = [Variable("before", "local"), Variable("x", first=0x5100)]
+    yield alone("far-zero", "each form, of a variable behind half a million zeros", every_form("shown"), far)
+    aligned = [Variable("first"), Variable("shown", first=0x5100, before=3, alignment=4096), Variable("zero", zero=True, alignment=64)]
+    yield alone("aligned", "each form, of a variable that is aligned to 4,096", every_form("shown"), aligned)
+    added = [Reach(form, "shown", addend=4 * at) for form in ("ld", "ld-ind", "le") for at in range(4)]
+    own = [Variable("before", "local"), Variable("shown", first=0x5100)]
     yield alone("addends", "offsets and distances with addends", added, own, kinds=("static", "plain", "pie"))
     in_module = [it for it in added if it.form != "le"]
     yield alone("addends-module", "offsets with addends, in a module", in_module, own, kinds=("shared",))
 
 
 def orders():
-    own = [Variable("before", "local"), Variable("x", first=0x5100)]
-    yield alone("order-falling", "relocations from the last to the first", every_form("x"), own, order=lambda it: it[::-1])
-    yield alone("order-seconds-last", "the calls' relocations behind all others", every_form("x"), own,
+    own = [Variable("before", "local"), Variable("shown", first=0x5100)]
+    yield alone("order-falling", "relocations from the last to the first", every_form("shown"), own, order=lambda it: it[::-1])
+    yield alone("order-seconds-last", "the calls' relocations behind all others", every_form("shown"), own,
         order=lambda it: sorted(it, key=lambda field: field.symbol == "__tls_get_addr"))
 
 
@@ -99,7 +101,7 @@ def split(code, at, rest):
 
 def cut(reach, begins):
     """A case whose function goes on in the next object, before its last sequence or behind it."""
-    first, second = ObjectPlan([Variable("x", first=0x5100)]), ObjectPlan()
+    first, second = ObjectPlan([Variable("shown", first=0x5100)]), ObjectPlan()
     code = first.code(alignment=1)
     Function(code, "f0", reach).write()
     site = code.sites[-1]
@@ -110,8 +112,8 @@ def cut(reach, begins):
 
 def ends():
     for form in FORMS:
-        yield cut(Reach(form, "x"), True)
-        yield cut(Reach(form, "x"), False)
+        yield cut(Reach(form, "shown"), True)
+        yield cut(Reach(form, "shown"), False)
 
 
 def cases():

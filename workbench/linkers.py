@@ -14,6 +14,8 @@ KINDS = {"static": ["-static"], "plain": [], "pie": ["-pie"], "shared": ["-share
 PARTS = ("{kind}", "{relax}", "{out}", "{objects}")
 CRASHES = re.compile(r"internal error|PLEASE submit|segmentation fault|core dumped|assertion|stack dump", re.I)
 
+ERRORS = re.compile(r"error|undefined|unsupported|can't|cannot|can not|unrecogni|invalid|fatal|must|transition|unresolv", re.I)
+
 
 class BadCommand(Exception):
     """A command that can't be used, and why."""
@@ -115,8 +117,7 @@ class Made:
 def message(said):
     """The line of a linker's messages that says most: the first with an error in it, else the last."""
     lines = [it.strip() for it in said.splitlines() if it.strip()]
-    told = [it for it in lines if re.search(r"error|undefined|unsupported|can't|cannot|unrecogni|invalid|fatal|must", it, re.I)]
-    return (told or lines[-1:] or ["without a word"])[0]
+    return next((it for it in lines if ERRORS.search(it)), (lines or ["without a word"])[-1])
 
 
 def prepare(case, kind, room):

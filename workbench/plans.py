@@ -10,6 +10,7 @@ from object_writer import CODE, FUNCTION, NOTYPE, THREAD_LOCAL, VARIABLE, Object
 from assembler import Code  # noqa: E402
 
 ELEMENTS = 4
+RUN_TIME, TABLE = "__tls_get_addr", "_GLOBAL_OFFSET_TABLE_"
 HIDDEN, PROTECTED = 2, 3
 
 
@@ -74,7 +75,7 @@ class ObjectPlan:
         for _, _, code in self.codes:
             for it in code.fields:
                 if it.symbol not in numbers:
-                    plain = it.symbol.startswith("_")
+                    plain = it.symbol in (RUN_TIME, TABLE)
                     numbers[it.symbol] = made.symbol(it.symbol, NOTYPE if plain else VARIABLE)
         return numbers
 

@@ -2,13 +2,11 @@
 import random
 
 from assembler import REGISTERS
-from functions import FORMS, GOTPCREL, GOTPCRELX, PLT32, REX_GOTPCRELX, Function, Reach
+from functions import FORMS, Function, Reach
 from plans import ELEMENTS, CasePlan, ObjectPlan, Variable
 
 KINDS = ["static", "plain", "pie", "shared"]
 LIBRARY = ["lib_first", "lib_second", "lib_zero"]
-CALLS = {"gd": [PLT32], "ld": [PLT32], "gd-ind": [GOTPCREL, GOTPCRELX, REX_GOTPCRELX],
-    "ld-ind": [GOTPCREL, GOTPCRELX, REX_GOTPCRELX]}
 
 
 def variables(draw, count, prefix):
@@ -18,7 +16,7 @@ def variables(draw, count, prefix):
         binding = draw.choice(["own", "own", "local", "hidden", "weak", "protected"])
         zero = draw.random() < 0.4
         made.append(Variable(f"{prefix}{at}", binding, zero, draw.choice([0, 0, 4, 12, 100, 5000 if zero else 40]),
-            draw.choice([4, 4, 8, 16, 64, 256]), 0x5000 + 0x100 * at + 0x1000 * (prefix == "y")))
+            draw.choice([4, 4, 8, 16, 64, 256]), 0x5000 + 0x100 * at + 0x1000 * (prefix == "next_")))
     return made
 
 
@@ -30,16 +28,15 @@ def reach(draw, own, foreign, kind):
     variable = draw.choice(own if near else own + foreign)
     register = draw.choice(REGISTERS) if form in ("ie-mov", "ie-add") else "rax"
     added = 4 * draw.randrange(ELEMENTS) if near else 0
-    call = draw.choice(CALLS[form]) if form in CALLS else None
-    return Reach(form, variable, register, added, call, draw.randrange(4) if form == "desc" else 0)
+    return Reach(form, variable, register, added, between=draw.randrange(4) if form == "desc" else 0)
 
 
 def case(draw, name):
     """One case."""
     kind = draw.choice(KINDS)
     library = kind != "static" and draw.random() < 0.3
-    first = variables(draw, draw.randint(1, 4), "x")
-    second = variables(draw, draw.randint(1, 3), "y") if draw.random() < 0.3 else []
+    first = variables(draw, draw.randint(1, 4), "near_")
+    second = variables(draw, draw.randint(1, 3), "next_") if draw.random() < 0.3 else []
     own = [it.name for it in first]
     foreign = [it.name for it in second if it.binding != "local"] + (LIBRARY if library else [])
     plan = ObjectPlan(first)
