@@ -15,12 +15,15 @@ class Site:
 
 
 class Link:
-    """What is expected of one image: of each sequence the choice and its bytes; or the line with which `tlsld` refuses it."""
+    """What is expected of one image: of each sequence the choice, its bytes, and where in `tlsld`'s image they stand; and that image's
+    size. Or the line with which `tlsld` refuses it."""
 
     def __init__(self, told):
         self.kind, self.relax = told["kind"], told["relax"]
         self.refused = told.get("refused", "")
+        self.size = told.get("size", 0)
         self.made = [(choice, bytes.fromhex(digits)) for choice, digits, _ in told.get("made", [])]
+        self.places = [place for _, _, place in told.get("made", [])]
 
 
 class Case:

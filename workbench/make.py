@@ -20,19 +20,20 @@ from concurrent.futures import ThreadPoolExecutor
 import lawful
 import odd
 import random_cases
-from plans import TOP
+from plans import TOP, CasePlan
 from tlsld import BUILT, Linker, Refused
 
 CASES = f"{TOP}/workbench/cases"
 SEED, COUNT, MOST = 1, 200, 4 * 2 ** 20
 
 
-def functions_of(objects):
-    """Where each function of a case's objects stands in its section, by name; those that are called begin with f."""
-    return {name: (file, *place) for file, plan in objects.items() for name, place in plan.functions().items()}
+def called(objects):
+    """The names of the functions that are called: f0, f1 and so on."""
+    names = [name for plan in objects.values() for name in plan.functions() if name.startswith("f")]
+    return sorted(names, key=lambda name: int(name[1:]))
 
 
-def places(case, where, image, starts, sites):
+def places(case, image, starts, sites):
     """The bytes in the place of each sequence, and where they stand in the image's file."""
     for file, section, at, length, _, _ in sites:
         code = case.objects[file].codes[section - 1][2]
@@ -55,9 +56,9 @@ def linked(case, linker, kind, relax, names, sites):
         if sorted(choices) != sorted((file, section, at) for file, section, at, *_ in sites):
             sys.exit(f"{case.name}: sites are {sorted(choices)}")
         made = []
-        for site, (code, place) in zip(sites, places(case, None, image, starts, sites)):
+        for site, (code, place) in zip(sites, places(case, image, starts, sites)):
             made.append([choices[tuple(site[:3])] if relax else "keep", code, place])
-        return {"kind": kind, "relax": relax, "made": made}, linker.values(names, *words)
+        return {"kind": kind, "relax": relax, "size": len(image), "made": made}, linker.values(names, *words)
     except Refused as line:
         return {"kind": kind, "relax": relax, "refused": str(line)}, None
 
@@ -68,9 +69,8 @@ def twin_values(case):
         for file, plan in case.twin.items():
             plan.write(f"{room}/{file}")
         linker = Linker(room)
-        named = type(case)(case.name, "", case.twin, library=case.library)
-        names = sorted((it for it in functions_of(case.twin) if it.startswith("f")), key=lambda it: int(it[1:]))
-        linker.begin(named, "plain", names)
+        names = called(case.twin)
+        linker.begin(CasePlan(case.name, "", case.twin, library=case.library), "plain", names)
         return linker.values(names)
 
 
@@ -88,7 +88,7 @@ def expected(case, room):
     """Writes a case's objects into a folder, and answers what is expected of it."""
     for file, plan in case.objects.items():
         plan.write(f"{room}/{file}")
-    names = sorted((it for it in functions_of(case.objects) if it.startswith("f")), key=lambda it: int(it[1:]))
+    names = called(case.objects)
     sites = [] if case.why else sites_of(case)
     values, links = twin_values(case) if case.twin else None, []
     with tempfile.TemporaryDirectory() as at:
@@ -120,8 +120,8 @@ def spelled(value):
     links = []
     for link in value["links"]:
         head = f'  {{"kind": "{link["kind"]}", "relax": {json.dumps(link["relax"])}, '
-        rest = f'"refused": {json.dumps(link["refused"])}' if "refused" in link else '"made": [' + ", ".join(
-            json.dumps(it) for it in link["made"]) + "]"
+        rest = f'"refused": {json.dumps(link["refused"])}' if "refused" in link else f'"size": {link["size"]}, "made": [' + (
+            ", ".join(json.dumps(it) for it in link["made"]) + "]")
         links.append(head + rest + "}")
     parts.append(' "links": [\n' + ",\n".join(links) + "\n ]")
     return "{\n" + ",\n".join(parts) + "\n}\n"

@@ -98,7 +98,8 @@ class ObjectPlan:
                 yield number, it.at, it.length, it.form, it.function
 
     def functions(self):
-        return {name: (code, at) for _, _, code in self.codes for name, at, _ in code.functions}
+        """The names of its functions."""
+        return [name for _, _, code in self.codes for name, _, _ in code.functions]
 
 
 class CasePlan:
