@@ -1,9 +1,9 @@
 //! Runs commands over files in memory, and compares the output and the status of each with the expected ones.
 //!
-//! This is the test of the whole program: of the examples, whose output stands next to them for readers, of the cases by
-//! which the workbench tries other linkers, of cases that were worked out by hand, of malformed files, and of stores and sinks that fail. It is a program and not a
-//! crate of test functions, since the runs are data: so the crate, which uses all others, is proved once for any
-//! number of runs, and the runs use what each of the two compilers builds.
+//! This is the test of the whole program: of the examples, whose output stands next to them for readers, of the cases
+//! by which the workbench tries other linkers, of cases that were worked out by hand, of malformed files, and of stores
+//! and sinks that fail. It is a program and not a crate of test functions, since the runs are data: so the crate, which
+//! uses all others, is proved once for any number of runs, and the runs use what each of the two compilers builds.
 //!
 //! The runs stand in lists among the crate's data. A list is read from top to bottom, a line at a time; a line is words
 //! with single spaces between them:
@@ -60,10 +60,9 @@
 //! tests/fuzz.py runs many slices with seeds of their own, adds their rows up, and measures time and memory. Without
 //! words the lists are all that is run.
 //!
-//! The lists of the examples and of the workbench's cases and the files next to them are copies that
-//! tests/example_data.py writes; it knows which
-//! file of an example belongs to which command. The others are written by hand: `cases/README.md` and
-//! `lying/README.md` describe their objects and images.
+//! The lists of the examples and of the workbench's cases, and the files next to them, are copies that
+//! tests/example_data.py writes; it knows which file of an example belongs to which command. The others are written by
+//! hand: `cases/README.md` and `lying/README.md` describe their objects and images.
 #![tactic(auto)]
 
 mod changed;
