@@ -1,8 +1,8 @@
 """The cases of workbench/cases as the gate has them: a folder of files, and the list of what is run over them.
 
-Of each case the list has a job for each kind of image, the transcript that is expected of it, and the bytes that `link` is to put in
-the place of each sequence; of an odd one the refusal. tests/example_data.py puts them into crates/command_runs, whose main.rt says
-what the lines of a list are.
+Of each case the list has a job for each kind of image, the transcript that is expected of it, and the bytes that `link`
+is to put in the place of each sequence; of an odd one the refusal. tests/example_data.py puts them into
+crates/command_runs, whose main.rt says what the lines of a list are.
 """
 import os
 import sys

@@ -1,4 +1,5 @@
-"""A small assembler: the instructions that stand around a case's sequences, jumps to labels, and fields of relocations."""
+"""A small assembler: the instructions that stand around a case's sequences, jumps to labels, and fields of relocations.
+"""
 import struct
 
 REGISTERS = ["rax", "rcx", "rdx", "rbx", "rsp", "rbp", "rsi", "rdi", *[f"r{n}" for n in range(8, 16)]]

@@ -8,15 +8,18 @@ CALLING = ("gd", "gd-ind", "ld", "ld-ind")
 
 
 class Site:
-    """A sequence of a case: the object, the section's number there, the offset, the length, the form, and its function."""
+    """A sequence of a case: the object, the section's number there, the offset, the length, the form, and its function.
+    """
 
     def __init__(self, file, section, at, length, form, function):
-        self.file, self.section, self.at, self.length, self.form, self.function = file, section, at, length, form, function
+        self.file, self.section, self.at, self.length = file, section, at, length
+        self.form, self.function = form, function
 
 
 class Link:
-    """What is expected of one image: of each sequence the choice, its bytes, and where in `tlsld`'s image they stand; and that image's
-    size. Or the line with which `tlsld` refuses it."""
+    """What is expected of one image: of each sequence the choice, its bytes, and where in `tlsld`'s image they stand;
+    and that image's size. Or the line with which `tlsld` refuses it.
+    """
 
     def __init__(self, told):
         self.kind, self.relax = told["kind"], told["relax"]

@@ -1,5 +1,6 @@
 #!/usr/bin/env python3
-"""damage.py WAY WORD..: runs `ld` on the words, and then changes what it wrote, in a way that selftest.py has to be told of.
+"""damage.py WAY WORD..: runs `ld` on the words, and then changes what it wrote, in a way that selftest.py has to be
+told of.
 
     nothing    leaves it
     byte       changes one byte of the first general dynamic sequence that was rewritten
@@ -73,7 +74,8 @@ def forbidden(image):
     for at, _ in image.places(GOTTPOFF):
         if image.bytes[at - 2] == 0x8b:
             register = image.bytes[at - 1] >> 3 & 7
-            image.put(at - 3, bytes([0x49 if image.bytes[at - 3] == 0x4c else 0x48, 0xc7, 0xc0 + register, 0xf0, 0xff, 0xff, 0xff]))
+            prefix = 0x49 if image.bytes[at - 3] == 0x4c else 0x48
+            image.put(at - 3, bytes([prefix, 0xc7, 0xc0 + register, 0xf0, 0xff, 0xff, 0xff]))
             return
 
 
@@ -104,7 +106,8 @@ def mold(image):
         longer = image.bytes[at - 3] == image.bytes[at] == 0x66
         begins = at - 3 + longer
         if image.bytes[begins:].startswith(LD_LE):
-            image.put(at - 3, bytes.fromhex("31c0 64488b00 482d") + struct.pack("<i", image.distance()) + b"\x90" * longer)
+            distance = struct.pack("<i", image.distance())
+            image.put(at - 3, bytes.fromhex("31c0 64488b00 482d") + distance + b"\x90" * longer)
             changed = True
     for at, _ in image.places(DTPOFF32):
         if changed:
@@ -123,7 +126,7 @@ def helper():
     return "first-block.o"
 
 
-WAYS = {"nothing": None, "byte": byte, "forbidden": forbidden, "addend": addend, "behind": behind, "first": first, "mold": mold}
+WAYS = {"nothing": None} | {it.__name__: it for it in (byte, forbidden, addend, behind, first, mold)}
 
 
 def main():

@@ -38,7 +38,8 @@ class File:
     def __init__(self, path):
         with open(path, "rb") as file:
             self.bytes = file.read()
-        if len(self.bytes) < 64 or self.bytes[:5] != b"\x7fELF\2" or struct.unpack_from("<H", self.bytes, 18)[0] != X86_64:
+        machine = self.bytes[18:20]
+        if len(self.bytes) < 64 or self.bytes[:5] != b"\x7fELF\2" or machine != struct.pack("<H", X86_64):
             raise NotElf
         try:
             self.read()
@@ -50,9 +51,14 @@ class File:
         programs, sections = struct.unpack_from("<QQ", self.bytes, 32)
         count_programs, = struct.unpack_from("<H", self.bytes, 56)
         count, names = struct.unpack_from("<HH", self.bytes, 60)
-        self.segments = [struct.unpack_from("<IIQQQQQQ", self.bytes, programs + 56 * at) for at in range(count_programs)]
-        headers = [struct.unpack_from("<IIQQQQIIQQ", self.bytes, sections + 64 * at) for at in range(count)]
+        self.segments = self.rows("<IIQQQQQQ", programs, count_programs)
+        headers = self.rows("<IIQQQQIIQQ", sections, count)
         self.sections = [Section(self.string(headers[names][4] + it[0]), it) for it in headers]
+
+    def rows(self, layout, at, count):
+        """The rows of a table."""
+        size = struct.calcsize(layout)
+        return [struct.unpack_from(layout, self.bytes, at + size * number) for number in range(count)]
 
     def string(self, at):
         return self.bytes[at:self.bytes.index(b"\0", at)].decode(errors="replace")
@@ -63,7 +69,7 @@ class File:
             for table in self.sections:
                 if table.kind == kind:
                     names = self.sections[table.link].offset
-                    rows = [struct.unpack_from("<IBBHQQ", self.bytes, table.offset + at) for at in range(0, table.size, 24)]
+                    rows = self.rows("<IBBHQQ", table.offset, table.size // 24)
                     return [Symbol(self.string(names + it[0]), it) for it in rows]
         return []
 
@@ -74,8 +80,7 @@ class File:
         """The relocations of a section."""
         for table in self.sections:
             if table.kind == RELOCATIONS and table.info == number:
-                for at in range(0, table.size, 24):
-                    place, info, addend = struct.unpack_from("<QQq", self.bytes, table.offset + at)
+                for place, info, addend in self.rows("<QQq", table.offset, table.size // 24):
                     yield Relocation(place, info & 0xffffffff, info >> 32, addend)
 
     def code_sections(self):

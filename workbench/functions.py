@@ -1,8 +1,10 @@
-"""The functions of the corpus: each reaches a variable by one sequence, with all that code may rely on set before and read behind.
+"""The functions of the corpus: each reaches a variable by one sequence, with all that code may rely on set before and
+read behind.
 
-A function takes a number and returns what the variable held; it has added the number to it by then. If something was lost that
-the form leaves, it returns another number: above 2^32, and the part above says what (LOST). So a case returns values and no addresses.
-What each form leaves is in docs/SEQUENCES, "What code may rely on": `make.py` asks `tlsld check` whether each function is clean.
+A function takes a number and returns what the variable held; it has added the number to it by then. If something was
+lost that the form leaves, it returns another number: above 2^32, and the part above says what (LOST). So a case returns
+values and no addresses. What each form leaves is in docs/SEQUENCES, "What code may rely on": `make.py` asks `tlsld
+check` whether each function is clean.
 """
 import struct
 
@@ -15,8 +17,10 @@ SAVED = ["rbx", "rbp", "r12", "r13", "r14", "r15"]
 LOST = [*REGISTERS, "the stack below %rsp", "the zero flag", "the sign flag", "the carry flag", "the overflow flag"]
 BELOW = len(REGISTERS)
 FORMS = ["gd", "gd-ind", "ld", "ld-ind", "ie-mov", "ie-add", "desc"]
-# The states of the flags that are set before a form that leaves them: a comparison, and the jumps that are taken if one is lost.
-FLAG_STATES = [("less", ["ne", "s", "b", "no"]), ("equal", ["e", "ns", "ae", "no"]), ("overflowing", ["ne", "s", "b", "o"])]
+# The states of the flags that are set before a form that leaves them: a comparison, and the jumps that are taken if one
+# is lost.
+FLAG_STATES = [("less", ["ne", "s", "b", "no"]), ("equal", ["e", "ns", "ae", "no"]),
+    ("overflowing", ["ne", "s", "b", "o"])]
 OPPOSITE = {"e": "ne", "ne": "e", "s": "ns", "ns": "s", "b": "ae", "ae": "b", "o": "no", "no": "o"}
 
 
@@ -26,7 +30,9 @@ def canary(register):
 
 
 class Reach:
-    """How a function reaches its variable: a form, the variable's name, a register where the form names one, and what it adds."""
+    """How a function reaches its variable: a form, the variable's name, a register where the form names one, and what
+    it adds.
+    """
 
     def __init__(self, form, variable, register="rax", addend=0, call=None, between=0):
         self.form, self.variable, self.register, self.addend, self.between = form, variable, register, addend, between
@@ -152,7 +158,9 @@ class Function:
             code.thread_pointer(0x03, "rax")
 
     def close(self):
-        """Adds the argument to the variable, and returns what it held; behind it stands what is returned if something is lost."""
+        """Adds the argument to the variable, and returns what it held; behind it stands what is returned if something
+        is lost.
+        """
         code = self.code
         code.raw("488b1424 8b08 01ca 8910 89c8")
         code.label("back")

@@ -1,4 +1,6 @@
-"""The cases of lawful sequences that were thought of: every form, binding and register, and places that are easy to get wrong."""
+"""The cases of lawful sequences that were thought of: every form, binding and register, and places that are easy to get
+wrong.
+"""
 from assembler import REGISTERS
 from functions import FORMS, GOTPCREL, PC32, REX_GOTPCRELX, Function, Reach
 from plans import CasePlan, ObjectPlan, Variable
@@ -21,7 +23,9 @@ def written(plan, code, reaches):
 
 
 def ways(form, variable):
-    """Each way to write a form: by every register that it can name, of others twice; a descriptor's parts may stand apart."""
+    """Each way to write a form: by every register that it can name, of others twice; a descriptor's parts may stand
+    apart.
+    """
     if form in ("ie-mov", "ie-add"):
         return [Reach(form, variable, it) for it in REGISTERS]
     if form == "desc":
@@ -69,7 +73,8 @@ def offsets():
     far = [Variable("near", first=0x5200), Variable("shown", first=0x5100, before=0x7f000, zero=True)]
     yield alone("far", "each form, with a variable far from the thread pointer", every_form("near"), far)
     yield alone("far-zero", "each form, of a variable behind half a million zeros", every_form("shown"), far)
-    aligned = [Variable("first"), Variable("shown", first=0x5100, before=3, alignment=4096), Variable("zero", zero=True, alignment=64)]
+    aligned = [Variable("first"), Variable("shown", first=0x5100, before=3, alignment=4096),
+        Variable("zero", zero=True, alignment=64)]
     yield alone("aligned", "each form, of a variable that is aligned to 4,096", every_form("shown"), aligned)
     added = [Reach(form, "shown", addend=4 * at) for form in ("ld", "ld-ind", "le") for at in range(4)]
     own = [Variable("before", "local"), Variable("shown", first=0x5100)]
@@ -80,7 +85,8 @@ def offsets():
 
 def orders():
     own = [Variable("before", "local"), Variable("shown", first=0x5100)]
-    yield alone("order-falling", "relocations from the last to the first", every_form("shown"), own, order=lambda it: it[::-1])
+    yield alone("order-falling", "relocations from the last to the first", every_form("shown"), own,
+        order=lambda it: it[::-1])
     yield alone("order-seconds-last", "the calls' relocations behind all others", every_form("shown"), own,
         order=lambda it: sorted(it, key=lambda field: field.symbol == "__tls_get_addr"))
 
@@ -107,7 +113,8 @@ def cut(reach, begins):
     site = code.sites[-1]
     split(code, site.at if begins else site.at + site.length, second.code(alignment=1))
     what = f"{reach.form} as the {'first' if begins else 'last'} bytes of a section"
-    return CasePlan(f"{'begin' if begins else 'end'}-{reach.form}", what, {"first.o": first, "second.o": second}, settings=(True,))
+    name, objects = f"{'begin' if begins else 'end'}-{reach.form}", {"first.o": first, "second.o": second}
+    return CasePlan(name, what, objects, settings=(True,))
 
 
 def ends():

@@ -14,7 +14,8 @@ KINDS = {"static": ["-static"], "plain": [], "pie": ["-pie"], "shared": ["-share
 PARTS = ("{kind}", "{relax}", "{out}", "{objects}")
 CRASHES = re.compile(r"internal error|PLEASE submit|segmentation fault|core dumped|assertion|stack dump", re.I)
 
-ERRORS = re.compile(r"error|undefined|unsupported|can't|cannot|can not|unrecogni|invalid|fatal|must|transition|unresolv", re.I)
+ERRORS = re.compile(
+    r"error|undefined|unsupported|can't|can ?not|unrecogni|invalid|fatal|must|transition|unresolv", re.I)
 
 
 class BadCommand(Exception):
@@ -22,7 +23,9 @@ class BadCommand(Exception):
 
 
 def ended(words, room, seconds, environment=None):
-    """Runs words as a process of its own, with all that it starts: its status (None where the time was up) and what it printed."""
+    """Runs words as a process of its own, with all that it starts: its status (None where the time was up) and what it
+    printed.
+    """
     ran = subprocess.Popen(words, cwd=room, stdin=subprocess.DEVNULL, stdout=subprocess.PIPE, stderr=subprocess.STDOUT,
         env=environment, start_new_session=True)
     try:
@@ -67,7 +70,9 @@ class Linker:
         self.is_there = shutil.which(self.words[0]) is not None
 
     def takes(self, kind, relax):
-        """Whether the command can ask for such an image: without {kind} it makes plain programs, without {relax} it rewrites."""
+        """Whether the command can ask for such an image: without {kind} it makes plain programs, without {relax} it
+        rewrites.
+        """
         return ("{kind}" in self.command or kind == "plain") and ("{relax}" in self.command or relax)
 
     def filled(self, kind, relax, objects):
@@ -141,7 +146,8 @@ def link(linker, case, kind, relax, room, system):
     if status is None:
         return Made("hangs", f"no end after {linker.seconds} seconds")
     if status < 0 or status >= 128 or (status and CRASHES.search(said)):
-        return Made("crashes", message(said) if said else f"signal {-status}")
+        told = next((it.strip() for it in said.splitlines() if CRASHES.search(it)), "")
+        return Made("crashes", told or (f"signal {-status}" if status < 0 else message(said)))
     if status:
         return Made("refused", message(said))
     try:

@@ -1,10 +1,11 @@
 #!/usr/bin/env python3
-"""make.py [--check] [--seed N --count N --into FOLDER]: makes the corpus, workbench/cases, or says whether it is in step.
+"""make.py [--check] [--seed N --count N --into FOLDER]: makes the corpus, workbench/cases, or says whether it is in
+step.
 
-Each case is a folder with an object or two, and the file `expected`. The objects are written here, byte by byte (functions.py,
-lawful.py, odd.py, random_cases.py); what is expected is what the built `tlsld` says of them: which bytes it puts in the place of
-each sequence, and what each function returns. A lawful case is one that `tlsld check` calls clean. An odd case is refused; what it
-should return is said of its twin, which does the same by a form of the table.
+Each case is a folder with an object or two, and the file `expected`. The objects are written here, byte by byte
+(functions.py, lawful.py, odd.py, random_cases.py); what is expected is what the built `tlsld` says of them: which bytes
+it puts in the place of each sequence, and what each function returns. A lawful case is one that `tlsld check` calls
+clean. An odd case is refused; what it should return is said of its twin, which does the same by a form of the table.
 
 With --seed and --count it makes as many random cases of that seed into a folder, for `try.py --cases FOLDER`.
 """
@@ -47,7 +48,9 @@ def sites_of(case):
 
 
 def linked(case, linker, kind, relax, names, sites):
-    """What is expected of one link: the choice and the bytes of each sequence and their place, and what functions return."""
+    """What is expected of one link: the choice and the bytes of each sequence and their place, and what functions
+    return.
+    """
     linker.begin(case, kind, names)
     words = [] if relax else ["--no-relax"]
     try:
@@ -116,14 +119,9 @@ def spelled(value):
         return "[\n" + ",\n".join("  " + json.dumps(it) for it in rows) + "\n ]" if rows else "[]"
     parts = [f' "{key}": {json.dumps(value[key])}' for key in ("about", "why", "objects", "library")]
     parts.append(f' "sites": {lines(value["sites"])}')
-    parts.append(' "values": {\n' + ",\n".join(f'  "{name}": {json.dumps(it)}' for name, it in value["values"].items()) + "\n }")
-    links = []
-    for link in value["links"]:
-        head = f'  {{"kind": "{link["kind"]}", "relax": {json.dumps(link["relax"])}, '
-        rest = f'"refused": {json.dumps(link["refused"])}' if "refused" in link else f'"size": {link["size"]}, "made": [' + (
-            ", ".join(json.dumps(it) for it in link["made"]) + "]")
-        links.append(head + rest + "}")
-    parts.append(' "links": [\n' + ",\n".join(links) + "\n ]")
+    values = [f'  "{name}": {json.dumps(it)}' for name, it in value["values"].items()]
+    parts.append(' "values": {\n' + ",\n".join(values) + "\n }")
+    parts.append(f' "links": {lines(value["links"])}')
     return "{\n" + ",\n".join(parts) + "\n}\n"
 
 
@@ -147,7 +145,8 @@ def all_cases():
 
 def differences(ours, theirs):
     """The files in which two corpora differ."""
-    there = {os.path.relpath(f"{at}/{name}", root) for root in (ours, theirs) for at, _, names in os.walk(root) for name in names}
+    there = {os.path.relpath(f"{at}/{name}", root) for root in (ours, theirs)
+        for at, _, names in os.walk(root) for name in names}
     for name in sorted(there):
         mine, other = f"{ours}/{name}", f"{theirs}/{name}"
         if not (os.path.exists(mine) and os.path.exists(other) and filecmp.cmp(mine, other, shallow=False)):
@@ -165,7 +164,8 @@ def check():
         wrong = list(differences(CASES, room))
     for name in wrong:
         print(f"workbench/cases/{name} is not what make.py makes")
-    print("run workbench/make.py" if wrong else f"workbench/cases is in step: {len(os.listdir(CASES))} cases, {size(CASES):,} bytes")
+    about = f"workbench/cases is in step: {len(os.listdir(CASES))} cases, {size(CASES):,} bytes"
+    print("run workbench/make.py" if wrong else about)
     sys.exit(1 if wrong or size(CASES) > MOST else 0)
 
 

@@ -45,7 +45,8 @@ def command(kind, image, functions, system):
         return ["./out", *words]
     if kind == "shared":
         return [sys.executable, "-I", "-S", f"{HERE}/drivers/module.py", *words]
-    return [system["ld-linux-x86-64.so.2"], "--library-path", ".:" + os.path.dirname(system["libc.so.6"]), "./out", *words]
+    folders = ".:" + os.path.dirname(system["libc.so.6"])
+    return [system["ld-linux-x86-64.so.2"], "--library-path", folders, "./out", *words]
 
 
 def run(image, kind, functions, room, system, seconds):

@@ -1,10 +1,11 @@
-"""The odd cases: sequences that stand in no row of the table. `tlsld` refuses each; another linker may make something right of it.
+"""The odd cases: sequences that stand in no row of the table. `tlsld` refuses each; another linker may make something
+right of it.
 
-Each has why it is odd, and does what its form would do where it is lawful: reach the variable, whatever a linker puts there. Its twin
-reaches it by a form of the table, and says what is right.
+Each has why it is odd, and does what its form would do where it is lawful: reach the variable, whatever a linker puts
+there. Its twin reaches it by a form of the table, and says what is right.
 """
-from functions import (DTPOFF32, GOTPC32_TLSDESC, GOTPCREL, GOTTPOFF, PLT32, RUN_TIME, TLSDESC_CALL, TLSGD, TLSLD, TPOFF32, Function,
-    Reach)
+from functions import (DTPOFF32, GOTPC32_TLSDESC, GOTPCREL, GOTPCRELX, GOTTPOFF, PLT32, RUN_TIME, TLSDESC_CALL, TLSGD,
+    TLSLD, TPOFF32, Function, Reach)
 from plans import CasePlan, ObjectPlan, Variable
 
 GOTPC32, DTPOFF64, PLTOFF64 = 26, 17, 31
@@ -45,34 +46,39 @@ IE, DESC, AT = (GOTTPOFF, NAME), (GOTPC32_TLSDESC, NAME), (TLSDESC_CALL, NAME, 0
 OFFSET = ["488d80", (DTPOFF32, NAME, 0)]        # lea x@dtpoff(%rax), %rax
 POINTER = ["6448030425 00000000"]               # add %fs:0, %rax
 KEEP = ["4889c0"]                               # mov %rax, %rax
-# Each: a name, why it is odd, the form that it is nearest to, the sequence, what stands behind it, and the kinds of image.
+# Each: a name, why it is odd, the form that it is nearest to, the sequence, what stands behind it, and the kinds of
+# image.
 FORMS = [
     ("gd-unpadded", "gd without padding: its 12 bytes are too few for what is put in place of 16",
         "gd", ["488d3d", GD, "e8", CALL], KEEP),
     ("gd-half-padded", "gd with padding before lea alone", "gd", ["66488d3d", GD, "e8", CALL], KEEP),
     ("gd-call-padded", "gd with padding before call alone", "gd", ["488d3d", GD, "666648e8", CALL], KEEP),
-    ("gd-padded-otherwise", "gd with its prefixes in another order", "gd", ["66488d3d", GD, "486666e8", CALL], KEEP),
+    ("gd-padded-otherwise", "gd with other prefixes before its call", "gd", ["66488d3d", GD, "2e2e48e8", CALL], KEEP),
     ("gd-nop-inside", "gd with an instruction between its two", "gd", ["66488d3d", GD, "90", "666648e8", CALL], KEEP),
     ("gd-moves-inside", "gd with a move between its two", "gd", ["66488d3d", GD, "4889c0", "666648e8", CALL], KEEP),
     ("gd-in-rsi", "gd that names %rsi, which is moved to %rdi", "gd", ["66488d35", GD, "4889f7", "e8", CALL], KEEP),
     ("gd-through-register", "gd whose call goes through a register",
         "gd", ["66488d3d", GD, "488b05", (GOTPCREL, RUN_TIME), "ffd0"], KEEP),
-    ("gd-ind-unpadded", "gd-ind with padding before lea alone", "gd-ind", ["66488d3d", GD, "ff15", (GOTPCREL + 32, RUN_TIME)], KEEP),
-    ("gd-ind-no-rex", "gd-ind with two prefixes that are not 66 48", "gd-ind", ["66488d3d", GD, "6666ff15", (GOTPCREL + 32, RUN_TIME)],
-        KEEP),
+    ("gd-ind-unpadded", "gd-ind with padding before lea alone",
+        "gd-ind", ["66488d3d", GD, "ff15", (GOTPCRELX, RUN_TIME)], KEEP),
+    ("gd-ind-padded-otherwise", "gd-ind with another prefix before its call",
+        "gd-ind", ["66488d3d", GD, "2e48ff15", (GOTPCRELX, RUN_TIME)], KEEP),
     ("gd-large", "gd of the large code model", "gd",
         ["488d3d", GD, "48b8", (PLTOFF64, RUN_TIME, 0, 8), "4801d8", "ffd0"], KEEP),
     ("ld-padded", "ld padded as gd", "ld", ["66488d3d", LD, "666648e8", CALL], OFFSET),
     ("ld-nop-inside", "ld with an instruction between its two", "ld", ["488d3d", LD, "90", "e8", CALL], OFFSET),
-    ("ld-prefix", "ld with a prefix before its call", "ld", ["488d3d", LD, "66e8", CALL], OFFSET),
+    ("ld-prefix", "ld with a prefix before its call", "ld", ["488d3d", LD, "2ee8", CALL], OFFSET),
     ("ld-in-rsi", "ld that names %rsi, which is moved to %rdi", "ld", ["488d35", LD, "4889f7", "e8", CALL], OFFSET),
-    ("ld-through-register", "ld whose call goes through a register", "ld", ["488d3d", LD, "488b05", (GOTPCREL, RUN_TIME), "ffd0"], OFFSET),
-    ("ld-large", "ld of the large code model", "ld", ["488d3d", LD, "48b8", (PLTOFF64, RUN_TIME, 0, 8), "4801d8", "ffd0"], OFFSET),
+    ("ld-through-register", "ld whose call goes through a register",
+        "ld", ["488d3d", LD, "488b05", (GOTPCREL, RUN_TIME), "ffd0"], OFFSET),
+    ("ld-large", "ld of the large code model",
+        "ld", ["488d3d", LD, "48b8", (PLTOFF64, RUN_TIME, 0, 8), "4801d8", "ffd0"], OFFSET),
     ("ld-wide-offset", "ld with an offset of eight bytes", "ld", ["488d3d", LD, "e8", CALL],
         ["48b9", (DTPOFF64, NAME, 0, 8), "4801c8"]),
     ("ie-narrow", "ie of 32 bits, whose number is extended behind it", "ie-mov", ["8b05", IE], ["4898", *POINTER]),
     ("ie-movslq", "ie that extends 32 bits as it loads", "ie-mov", ["486305", IE], POINTER),
-    ("ie-subtracts", "ie that subtracts, and is negated behind it", "ie-add", ["31c0", "482b05", IE], ["48f7d8", *POINTER]),
+    ("ie-subtracts", "ie that subtracts, and is negated behind it",
+        "ie-add", ["31c0", "482b05", IE], ["48f7d8", *POINTER]),
     ("ie-pushes", "ie that pushes, and is popped behind it", "ie-mov", ["ff35", IE], ["58", *POINTER]),
     ("ie-or", "ie that is or-ed to zero", "ie-add", ["31c0", "480b05", IE], POINTER),
     ("ie-xor", "ie that is xor-ed to zero", "ie-add", ["31c0", "483305", IE], POINTER),
@@ -80,22 +86,26 @@ FORMS = [
     ("ie-compares", "ie that is compared with itself, by which its number is taken or not", "ie-add",
         ["488b0d", IE, "31c0", "483b0d", IE], ["480f44c1", *POINTER]),
     ("ie-cmov", "ie that moves where equal", "ie-mov", ["31c0", "480f4405", IE], POINTER),
-    ("ie-imul", "ie that is multiplied by one: its field is not at its end", "ie-mov", ["486905", (GOTTPOFF, NAME, -8), "01000000"],
-        POINTER),
-    ("ie-exchanges-nothing", "ie that is tested, and then loaded", "ie-mov", ["4831c0", "488505", IE, "488b05", IE], POINTER),
+    ("ie-imul", "ie that is multiplied by one: its field is not at its end",
+        "ie-mov", ["486905", (GOTTPOFF, NAME, -8), "01000000"], POINTER),
+    ("ie-tests", "ie that is tested, and then loaded", "ie-mov", ["4831c0", "488505", IE, "488b05", IE], POINTER),
     ("ie-vector", "ie that is loaded into a vector's register", "ie-mov", ["f30f7e05", IE], ["66480f7ec0", *POINTER]),
     ("desc-rcx", "a descriptor in %rcx", "desc", ["488d0d", DESC, "4889c8", AT, "ff10"], POINTER),
     ("desc-r9", "a descriptor in %r9", "desc", ["4c8d0d", DESC, "4c89c8", AT, "ff10"], POINTER),
-    ("desc-call-rcx", "a descriptor that is called through %rcx", "desc", ["488d05", DESC, "4889c1", AT, "ff11"], POINTER),
-    ("desc-call-displaced", "a descriptor's call with a displacement of a byte", "desc", ["488d05", DESC, AT, "ff5000"], POINTER),
-    ("desc-call-loads", "a descriptor's function that is loaded before the call", "desc", ["488d05", DESC, "488b08", AT, "ffd1"], POINTER),
+    ("desc-call-rcx", "a descriptor that is called through %rcx",
+        "desc", ["488d05", DESC, "4889c1", AT, "ff11"], POINTER),
+    ("desc-call-displaced", "a descriptor's call with a displacement of a byte",
+        "desc", ["488d05", DESC, AT, "ff5000"], POINTER),
+    ("desc-call-loads", "a descriptor's function that is loaded before the call",
+        "desc", ["488d05", DESC, "488b08", AT, "ffd1"], POINTER),
     ("desc-call-rex", "a descriptor's call with a prefix", "desc", ["488d05", DESC, AT, "48ff10"], POINTER),
 ]
 LARGE = ("gd-large", "ld-large")
 
 
 def opened(code, name):
-    """Where the large model wants it, %rbx is the address of the offset table; it is not looked at behind the sequence."""
+    """Where the large model wants it, %rbx is the address of the offset table; it is not looked at behind the sequence.
+    """
     if name in LARGE:
         code.raw("488d1d")
         code.field(GOTPC32, "_GLOBAL_OFFSET_TABLE_")
@@ -141,7 +151,9 @@ def bare(sequence):
 
 
 def no_variables():
-    """Local dynamic code by a shared object's variable, where no object has one: nothing is reached, and the call has to return."""
+    """Local dynamic code by a shared object's variable, where no object has one: nothing is reached, and the call has
+    to return.
+    """
     why = "ld in an image that has no variable"
     objects = bare(["488d3d", (TLSLD, "lib_first"), "e8", CALL])
     return CasePlan("odd-ld-nothing", why, objects, ("plain", "pie", "shared"), (True,), True, why, bare([]))

@@ -1,4 +1,5 @@
-"""Objects and cases in the making: what stands in them, before `make.py` writes them and asks `tlsld` what is expected."""
+"""Objects and cases in the making: what stands in them, before `make.py` writes them and asks `tlsld` what is expected.
+"""
 import os
 import struct
 import sys
@@ -12,10 +13,13 @@ from assembler import Code  # noqa: E402
 ELEMENTS = 4
 RUN_TIME, TABLE = "__tls_get_addr", "_GLOBAL_OFFSET_TABLE_"
 HIDDEN, PROTECTED = 2, 3
+KINDS = ("static", "plain", "pie", "shared")
 
 
 class Variable:
-    """A thread-local variable of four numbers: its name, how it is bound, whether it begins as zeros, and zeros before it."""
+    """A thread-local variable of four numbers: its name, how it is bound, whether it begins as zeros, and zeros before
+    it.
+    """
 
     def __init__(self, name, binding="own", zero=False, before=0, alignment=4, first=0x5000):
         self.name, self.binding, self.zero, self.before = name, binding, zero, before
@@ -68,7 +72,8 @@ class ObjectPlan:
             for name, (it, section, at) in where.items():
                 if (it.binding == "local") == local:
                     visibility = {"hidden": HIDDEN, "protected": PROTECTED}.get(it.binding, 0)
-                    numbers[name] = made.symbol(name, VARIABLE, section, at, 4 * ELEMENTS, local, it.binding == "weak", visibility)
+                    weak = it.binding == "weak"
+                    numbers[name] = made.symbol(name, VARIABLE, section, at, 4 * ELEMENTS, local, weak, visibility)
         for section, (_, _, code) in zip(sections, self.codes):
             for name, at, size in code.functions:
                 numbers[name] = made.symbol(name, FUNCTION, section, at, size)
@@ -103,12 +108,12 @@ class ObjectPlan:
 
 
 class CasePlan:
-    """A case: objects by the names of their files, the kinds and settings in which it is linked, and for an odd form why it is one.
+    """A case: objects by the names of their files, the kinds and settings in which it is linked, and for an odd form
+    why it is one.
 
     The twin of an odd case is a plan that does the same by a form of the table: it says which values are right.
     """
 
-    def __init__(self, name, about, objects, kinds=("static", "plain", "pie", "shared"), settings=(True, False), library=False,
-                 why="", twin=None):
+    def __init__(self, name, about, objects, kinds=KINDS, settings=(True, False), library=False, why="", twin=None):
         self.name, self.about, self.objects, self.kinds, self.settings = name, about, objects, kinds, settings
         self.library, self.why, self.twin = library, why, twin

@@ -1,11 +1,11 @@
-"""Random lawful cases: variables, functions, kinds and settings drawn from a seed. The same seed makes the same cases."""
+"""Random lawful cases: variables, functions, kinds and settings drawn from a seed. The same seed makes the same cases.
+"""
 import random
 
 from assembler import REGISTERS
 from functions import FORMS, Function, Reach
-from plans import ELEMENTS, CasePlan, ObjectPlan, Variable
+from plans import ELEMENTS, KINDS, CasePlan, ObjectPlan, Variable
 
-KINDS = ["static", "plain", "pie", "shared"]
 LIBRARY = ["lib_first", "lib_second", "lib_zero"]
 
 
@@ -21,7 +21,9 @@ def variables(draw, count, prefix):
 
 
 def reach(draw, own, foreign, kind):
-    """A way to one of the variables: of an object's own by any form, of others by those that need no place in the block."""
+    """A way to one of the variables: of an object's own by any form, of others by those that need no place in the
+    block.
+    """
     forms = FORMS + (["le"] if kind != "shared" else [])
     form = draw.choice(forms)
     near = form in ("ld", "ld-ind", "le")
@@ -43,7 +45,8 @@ def case(draw, name):
     code = plan.code()
     sections = [code, plan.code(".text.more")] if draw.random() < 0.3 else [code]
     for at in range(draw.randint(1, 5)):
-        Function(draw.choice(sections) if at else code, f"f{at}", reach(draw, own, foreign, kind), draw.randrange(3)).write()
+        way = reach(draw, own, foreign, kind)
+        Function(draw.choice(sections) if at else code, f"f{at}", way, draw.randrange(3)).write()
     plan.codes = [it for it in plan.codes if it[2].bytes]
     objects = {"first.o": plan} | ({"second.o": ObjectPlan(second)} if second else {})
     return CasePlan(name, "random", objects, (kind,), (draw.random() < 0.75,), library)

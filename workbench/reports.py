@@ -75,7 +75,7 @@ def spelled(row):
 
 def as_json(bench, found):
     """All rows, linker by linker."""
-    linkers = [{"command": it.command, "version": it.version() if it.is_there else "", "rows": [spelled(row) for row in rows]}
+    linkers = [{"command": it.command, "version": it.version(), "rows": [spelled(row) for row in rows]}
         for it, rows in zip(bench.linkers, found)]
     return json.dumps({"linkers": linkers}, indent=1)
 
@@ -87,7 +87,8 @@ def as_tap(bench, found):
         for row in rows:
             number += 1
             good = row.verdict not in (verdicts.WRONG, verdicts.NO_ANSWER)
-            note = {verdicts.UNDECIDED: f" # SKIP {row.why}", verdicts.NO_ANSWER: f" # TODO {row.why}"}.get(row.verdict, "")
+            word = {verdicts.UNDECIDED: "SKIP", verdicts.NO_ANSWER: "TODO"}.get(row.verdict)
+            note = f" # {word} {row.why}" if word else ""
             about = f"{name}: {row.name()}: {row.verdict}".replace("#", "")
             lines.append(f"{'ok' if good else 'not ok'} {number} - {about}{note}" + (
                 f"\n# {row.why}" if row.verdict == verdicts.WRONG else ""))
@@ -141,8 +142,8 @@ def listed(code, start, end, room):
 def leave(linker, case, link, made, rows, room):
     """Writes a report into the folder in which a case was linked."""
     words = linker.filled(link.kind, link.relax, ["..."])
-    lines = [case.about, case.why, f"by {linker.version()}: {' '.join(words)}", made.why if made.outcome == "made" else ""]
-    lines = [it for it in lines if it]
+    said = made.why if made.outcome == "made" else ""
+    lines = [it for it in (case.why or case.about, f"by {linker.version()}: {' '.join(words)}", said) if it]
     for row in rows:
         lines += ["", *site_report(row, room)]
     with open(f"{room}/report", "w", encoding="utf-8") as file:

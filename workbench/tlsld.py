@@ -71,8 +71,8 @@ class Linker:
             re.findall(r"^t(\d+) l(\d+) g[0-9,]* = ([0-9a-f]{16})$", told, re.M)}
         answers = {}
         for at, name in enumerate(functions):
-            first = 2 * at + 1
-            answers[name] = [found.get(it, told.splitlines()[0]) for it in ((1, first), (2, first), (1, first + 1), (2, first + 1))]
+            lines = [(1, 2 * at + 1), (2, 2 * at + 1), (1, 2 * at + 2), (2, 2 * at + 2)]
+            answers[name] = [found.get(it, told.splitlines()[0]) for it in lines]
         return answers
 
     def verdict(self):

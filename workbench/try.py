@@ -1,9 +1,10 @@
 #!/usr/bin/env python3
 """try.py COMMAND..: tries linkers on every sequence of the corpus, and says of each what the linker made of it.
 
-A COMMAND is a linker's, in one word, as 'ld.lld {kind} {relax} -o {out} {objects}': {kind} becomes -static, -pie, -shared or nothing,
-{relax} --no-relax or nothing. A command without one of them gets only the cases that need none. README.md has the verdicts.
-The status is 1 where anything is wrong, 2 for words that can't be used and for a linker that is not there, else 0.
+A COMMAND is a linker's, in one word, as 'ld.lld {kind} {relax} -o {out} {objects}': {kind} becomes -static, -pie,
+-shared or nothing, {relax} --no-relax or nothing. A command without one of them gets only the cases that need none.
+README.md has the verdicts. The status is 1 where anything is wrong, 2 for words that can't be used and for a linker
+that is not there, else 0.
 """
 import argparse
 import os
@@ -22,9 +23,9 @@ def arguments():
     asked = argparse.ArgumentParser(description=__doc__, formatter_class=argparse.RawDescriptionHelpFormatter)
     asked.add_argument("commands", nargs="+", metavar="COMMAND")
     asked.add_argument("--cases", default=f"{HERE}/cases", metavar="FOLDER", help="another corpus")
-    asked.add_argument("--case", action="append", default=[], metavar="NAME", help="this case alone; may be given again")
-    asked.add_argument("--keep", action="store_true", help="leaves the files of a case in the folder NAME, with a report")
-    asked.add_argument("--all", action="store_true", help="prints a row for every sequence, not only where linkers do otherwise")
+    asked.add_argument("--case", action="append", default=[], metavar="NAME", help="one case; may be given again")
+    asked.add_argument("--keep", action="store_true", help="leaves the files of a case in a folder of its name")
+    asked.add_argument("--all", action="store_true", help="a row for every case, not only where linkers do otherwise")
     asked.add_argument("--json", action="store_true", help="prints the rows as JSON")
     asked.add_argument("--tap", action="store_true", help="prints the rows as TAP, for a CI")
     asked.add_argument("--seconds", type=float, default=10, help="the limit of time of each link and each run")

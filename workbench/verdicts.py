@@ -57,8 +57,8 @@ class Reading:
 
     def changed(self, file, number):
         """The places in a section that are other than in the object, and are no field and no sequence's."""
-        sites = {at for it in self.case.sites if (it.file, it.section) == (file, number) for at in range(it.at, it.at + it.length)}
-        free = sites | self.case.fields(file, number)
+        sites = [it for it in self.case.sites if (it.file, it.section) == (file, number)]
+        free = self.case.fields(file, number) | {at for it in sites for at in range(it.at, it.at + it.length)}
         pairs = zip(self.case.code(file, number), self.bytes(file, number))
         return [at for at, (old, new) in enumerate(pairs) if old != new and at not in free]
 
@@ -89,7 +89,9 @@ def misread(wanted, values, broken):
 
 
 def faults(case, link, image, room, system, seconds):
-    """What is wrong with each function's calls, by a run of all, and of those that it did not reach by a run of their own."""
+    """What is wrong with each function's calls, by a run of all, and of those that it did not reach by a run of their
+    own.
+    """
     names = case.functions()
     told = {}
     ran = natives.run(image, link.kind, names, room, system, seconds)

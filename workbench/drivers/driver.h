@@ -1,7 +1,8 @@
 /* What both drivers share: calls of a case's functions by two threads, by turns.
 
-   The words of a driver are triples: a thread, 1 or 2, a function's distance from workbench_base, and an argument; both numbers in
-   hexadecimal digits. Each call prints what it returned, as 16 digits and a line's end, before the next call begins. */
+   The words of a driver are triples: a thread, 1 or 2, a function's distance from workbench_base, and an argument; both
+   numbers in hexadecimal digits. Each call prints what it returned, as 16 digits and a line's end, before the next call
+   begins. */
 typedef unsigned long number;
 typedef number (*function)(number, number, number);
 
@@ -15,7 +16,8 @@ static long kernel(long call, long a, long b, long c, long d)
 {
     long result;
     register long fourth __asm__("r10") = d;
-    __asm__ volatile("syscall" : "=a"(result) : "a"(call), "D"(a), "S"(b), "d"(c), "r"(fourth) : "rcx", "r11", "memory");
+    __asm__ volatile("syscall" : "=a"(result) : "a"(call), "D"(a), "S"(b), "d"(c), "r"(fourth)
+        : "rcx", "r11", "memory");
     return result;
 }
 

@@ -1,9 +1,10 @@
-/* The driver of programs that a loader starts: it is linked to the machine's C library, and uses its threads. The beginning is its own,
-   so that no file of a compiler is needed. */
+/* The driver of programs that a loader starts: it is linked to the machine's C library, and uses its threads. The
+   beginning is its own, so that no file of a compiler is needed. */
 #include "driver.h"
 
 int pthread_create(number *, const void *, void *(*)(void *), void *);
-int __libc_start_main(int (*)(int, char **, char **), int, char **, void (*)(void), void (*)(void), void (*)(void), void *);
+typedef void (*action)(void);
+int __libc_start_main(int (*)(int, char **, char **), int, char **, action, action, action, void *);
 
 static void *second(void *unused)
 {
@@ -22,7 +23,7 @@ static int run(int count, char **words, char **surroundings)
     return 0;
 }
 
-__attribute__((used)) static void begin(number *stack, void (*at_end)(void))
+__attribute__((used)) static void begin(number *stack, action at_end)
 {
     __libc_start_main(run, (int)stack[0], (char **)stack + 1, 0, 0, at_end, stack);
 }

@@ -1,5 +1,5 @@
-/* The driver of programs that stand alone: their beginning, a block for each thread, a second thread, and the run time's
-   function for sequences that a linker keeps. There is no C library here. */
+/* The driver of programs that stand alone: their beginning, a block for each thread, a second thread, and the run
+   time's function for sequences that a linker keeps. There is no C library here. */
 #include "driver.h"
 
 struct header { unsigned type, flags; number offset, address, physical, in_file, in_memory, alignment; };
