@@ -2,6 +2,7 @@
 import struct
 
 X86_64, LOAD, TLS_SEGMENT, CODE_FLAGS, CODE = 62, 1, 7, 6, 4
+DYNAMIC, HASH, STRINGS, SYMBOL_TABLE = 2, 4, 5, 6
 PROGBITS, SYMBOLS, RELOCATIONS, DYNAMIC_SYMBOLS = 1, 2, 4, 11
 FIELD_SIZES = {0: 0, 1: 8, 17: 8, 18: 8, 24: 8, 25: 8, 29: 8, 31: 8, 35: 0}
 
@@ -53,7 +54,7 @@ class File:
         count, names = struct.unpack_from("<HH", self.bytes, 60)
         self.segments = self.rows("<IIQQQQQQ", programs, count_programs)
         headers = self.rows("<IIQQQQIIQQ", sections, count)
-        self.sections = [Section(self.string(headers[names][4] + it[0]), it) for it in headers]
+        self.sections = [Section(self.string(headers[names][4] + it[0]), it) for it in headers] if count else []
 
     def rows(self, layout, at, count):
         """The rows of a table."""
@@ -70,6 +71,18 @@ class File:
                 if table.kind == kind:
                     names = self.sections[table.link].offset
                     rows = self.rows("<IBBHQQ", table.offset, table.size // 24)
+                    return [Symbol(self.string(names + it[0]), it) for it in rows]
+        return self.loaded_symbols()
+
+    def loaded_symbols(self):
+        """The symbols for a loader, of a file without sections: its older hash table says how many there are."""
+        for kind, _, offset, _, _, size, _, _ in self.segments:
+            if kind == DYNAMIC:
+                told = dict(self.rows("<QQ", offset, size // 16))
+                if {HASH, STRINGS, SYMBOL_TABLE} <= told.keys():
+                    count, = struct.unpack("<I", self.at(told[HASH] + 4, 4))
+                    names = self.place(told[STRINGS])
+                    rows = self.rows("<IBBHQQ", self.place(told[SYMBOL_TABLE]), count)
                     return [Symbol(self.string(names + it[0]), it) for it in rows]
         return []
 

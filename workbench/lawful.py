@@ -3,7 +3,7 @@ wrong.
 """
 from assembler import REGISTERS
 from functions import FORMS, GOTPCREL, PC32, REX_GOTPCRELX, Function, Reach
-from plans import CasePlan, ObjectPlan, Variable
+from plans import KINDS, TOP, CasePlan, GivenObject, ObjectPlan, Variable
 
 BINDINGS = {
     "own": "a variable of its own", "local": "a variable that no other file sees", "hidden": "a hidden variable",
@@ -123,6 +123,15 @@ def ends():
         yield cut(Reach(form, "shown"), False)
 
 
+def compiled():
+    """What gcc makes of C: the objects of examples/c, whose functions tests/c_runs.sh runs at other levels too."""
+    for end, about, kinds in (("", "-fPIC", KINDS), ("-descriptors", "-fPIC -mtls-dialect=gnu2", KINDS),
+            ("-local", "-fPIE", KINDS[:3])):
+        objects = {f"{at}.o": GivenObject(f"{TOP}/examples/c/objects/{name}{end}.o")
+            for at, name in (("first", "counters"), ("second", "sums"))}
+        yield CasePlan(f"c{end or '-pic'}", f"C as gcc {about} compiles it", objects, kinds, names=["next", "before", "add"])
+
+
 def cases():
     """All of them."""
     yield from bindings()
@@ -130,3 +139,4 @@ def cases():
     yield from offsets()
     yield from orders()
     yield from ends()
+    yield from compiled()

@@ -29,7 +29,7 @@ SEED, COUNT, MOST = 1, 200, 4 * 2 ** 20
 
 
 def called(objects):
-    """The names of the functions that are called: f0, f1 and so on."""
+    """The names of the functions f0, f1 and so on."""
     names = [name for plan in objects.values() for name in plan.functions() if name.startswith("f")]
     return sorted(names, key=lambda name: int(name[1:]))
 
@@ -37,8 +37,7 @@ def called(objects):
 def places(case, image, starts, sites):
     """The bytes in the place of each sequence, and where they stand in the image's file."""
     for file, section, at, length, _, _ in sites:
-        code = case.objects[file].codes[section - 1][2]
-        name, begins, _ = code.functions[0]
+        name, begins = case.objects[file].anchor(section)
         found = starts[name] - begins + at
         yield image[found:found + length].hex(), found
 
@@ -83,6 +82,8 @@ def unclean(case, linker, kind, values):
     if told != "clean":
         sys.exit(f"{case.name}, {kind}: {told}")
     for name, (a, b, c, d) in values.items():
+        if case.names:
+            continue
         if a != b or int(c, 16) != int(a, 16) + 5 or int(d, 16) != int(b, 16) + 7:
             sys.exit(f"{case.name}, {kind}: {name} returns {a} {b} {c} {d}")
 
@@ -91,7 +92,7 @@ def expected(case, room):
     """Writes a case's objects into a folder, and answers what is expected of it."""
     for file, plan in case.objects.items():
         plan.write(f"{room}/{file}")
-    names = called(case.objects)
+    names = case.names or called(case.objects)
     sites = [] if case.why else sites_of(case)
     values, links = twin_values(case) if case.twin else None, []
     with tempfile.TemporaryDirectory() as at:

@@ -29,12 +29,13 @@ def places(image):
 
 
 def calls(image, kind, functions):
-    """The words for the calls of these functions."""
+    """The words for the calls of these functions: their distances from a module's beginning, or from the driver's base.
+    """
     words, where = [], places(image)
+    base = 0 if kind == "shared" else where["workbench_base"]
     for name in functions:
         for thread, added in CALLS:
-            place = name if kind == "shared" else f"{where[name] - where['workbench_base'] & MASK:x}"
-            words += [str(thread), place, f"{added & MASK:x}"]
+            words += [str(thread), f"{where[name] - base & MASK:x}", f"{added & MASK:x}"]
     return words
 
 

@@ -1,6 +1,7 @@
 """Objects and cases in the making: what stands in them, before `make.py` writes them and asks `tlsld` what is expected.
 """
 import os
+import shutil
 import struct
 import sys
 
@@ -9,6 +10,8 @@ sys.path.insert(0, f"{TOP}/tests")
 
 from object_writer import CODE, FUNCTION, NOTYPE, THREAD_LOCAL, VARIABLE, Object  # noqa: E402
 from assembler import Code  # noqa: E402
+from elf import File  # noqa: E402
+from functions import GOTPC32_TLSDESC, GOTTPOFF, TLSDESC_CALL, TLSGD, TLSLD  # noqa: E402
 
 ELEMENTS = 4
 RUN_TIME, TABLE = "__tls_get_addr", "_GLOBAL_OFFSET_TABLE_"
@@ -106,14 +109,65 @@ class ObjectPlan:
         """The names of its functions."""
         return [name for _, _, code in self.codes for name, _, _ in code.functions]
 
+    def anchor(self, number):
+        """A function of a section, and where it stands there."""
+        name, at, _ = self.codes[number - 1][2].functions[0]
+        return name, at
+
+
+class GivenObject:
+    """An object that a compiler made. Its sequences are found by the relocations that each form begins with."""
+
+    def __init__(self, path):
+        self.path, self.file = path, File(path)
+
+    def write(self, path):
+        shutil.copyfile(self.path, path)
+
+    def functions(self):
+        return [it.name for it in self.file.symbols() if it.kind == FUNCTION]
+
+    def anchor(self, number):
+        return next((it.name, it.value) for it in self.file.symbols() if it.kind == FUNCTION and it.section == number)
+
+    def sites(self):
+        """The sequences, as ObjectPlan has them."""
+        for number, part in self.file.code_sections():
+            code = self.file.content(part)
+            for it in self.file.relocations(number):
+                if it.kind in STARTS:
+                    at = it.place - STARTS[it.kind]
+                    form, length = form_at(it.kind, code[at:])
+                    within = [name.name for name in self.file.symbols() if name.kind == FUNCTION
+                        and name.section == number and name.value <= at < name.value + name.size]
+                    yield number, at, length, form, within[0]
+
+
+# How far into a sequence the relocation stands that it begins with.
+STARTS = {TLSGD: 4, TLSLD: 3, GOTTPOFF: 3, GOTPC32_TLSDESC: 3, TLSDESC_CALL: 0}
+
+
+def form_at(kind, code):
+    """The form and the length of a sequence, by its first relocation's type and its bytes."""
+    if kind == TLSGD:
+        return ("gd-ind" if code[10] == 0xff else "gd"), 16
+    if kind == TLSLD:
+        return ("ld-ind", 13) if code[7] == 0xff else ("ld", 12)
+    if kind == GOTTPOFF:
+        return ("ie-mov" if code[1] == 0x8b else "ie-add"), 7
+    return ("desc-lea", 7) if kind == GOTPC32_TLSDESC else ("desc-call", 2)
+
 
 class CasePlan:
     """A case: objects by the names of their files, the kinds and settings in which it is linked, and for an odd form
     why it is one.
 
-    The twin of an odd case is a plan that does the same by a form of the table: it says which values are right.
+    The twin of an odd case is a plan that does the same by a form of the table: it says which values are right. Names
+    are those of the functions that are called, where these are not f0, f1 and so on.
     """
 
-    def __init__(self, name, about, objects, kinds=KINDS, settings=(True, False), library=False, why="", twin=None):
+    def __init__(self, name, about, objects, kinds=KINDS, settings=(True, False), library=False, why="", twin=None,
+                 names=()):
+        self.names = list(names)
         self.name, self.about, self.objects, self.kinds, self.settings = name, about, objects, kinds, settings
         self.library, self.why, self.twin = library, why, twin
