@@ -45,7 +45,7 @@ def command(program):
 
 
 def headings():
-"""The names of the linkers; where one is not there, or another version, nothing can be told."""
+    """The names of the linkers; where one is not there, or another version, nothing can be told."""
     for program, version in LINKERS.values():
         if version not in Linker(command(program), 10).version():
             print(f"{program} {version} is not here", file=sys.stderr)
