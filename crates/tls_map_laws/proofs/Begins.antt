@@ -19,11 +19,12 @@ use Rattle.thread_blocks.specs.TurnsAlike.{IsFront}
 use Rattle.tls_map_laws.specs.Map.{Act}
 use Rattle.tls_map_laws.specs.Told.{begin_acts, with_asked, with_look, with_own}
 use Rattle.tls_map_laws.proofs.Places.{Member}
-use Rattle.tls_map_laws.proofs.Keeping.{Fits, NeverAgain, load_fits, look_fits, reach_fits}
+use Rattle.tls_map_laws.proofs.Known.{Known}
+use Rattle.tls_map_laws.proofs.Keeping.{Fits, load_fits, look_fits, reach_fits}
 
-module _ {W F B : Type 0} (l : Loads B) (thread : ℕ) (history : List Event) (again : NeverAgain l history) where
+module _ {W F B : Type 0} (l : Loads B) (thread : ℕ) (history : List Event) (known : Known l thread history) where
   abbrev pub FitsBy : List (Act B) → Held W F B → Type 0
-  FitsBy acts h = Fits l thread history again acts h.after.memory.seen h.owners h.after.memory.own
+  FitsBy acts h = Fits l thread history known acts h.after.memory.seen h.owners h.after.memory.own
 
   abbrev pub BegunFits : List (Act B) → Begun (Held W F B) → Type 0
   BegunFits acts (Says ending h) = FitsBy acts h
@@ -32,26 +33,24 @@ module _ {W F B : Type 0} (l : Loads B) (thread : ℕ) (history : List Event) (a
   pub looked_fits : (acts : List (Act B)) (seen : List Event) (h : Held W F B) → FitsBy acts h
       → IsFront h.after.memory.seen seen → IsFront seen history → FitsBy (with_look l seen acts) (looked l thread seen h)
   looked_fits acts seen h fits f g =
-      look_fits l thread history again acts h.after.memory.seen seen h.owners h.after.memory.own fits f g
+      look_fits l thread history known acts h.after.memory.seen seen h.owners h.after.memory.own fits f g
 
   pub reached_fits : (acts : List (Act B)) (x : Instance) (h : Held W F B) → FitsBy acts h
       → Member x (instances l h.after.memory.seen) → FitsBy (with_asked l (Some x) acts) (reached l thread x h)
   reached_fits acts x h fits m =
-      reach_fits l thread history again acts h.after.memory.seen h.owners h.after.memory.own x fits m
+      reach_fits l thread history known acts h.after.memory.seen h.owners h.after.memory.own x fits m
 
   loaded_fits : (acts : List (Act B)) (x : Instance) (h : Held W F B) → FitsBy acts h → FitsBy acts (loaded l thread x h)
-  loaded_fits acts x h fits = load_fits l thread history again acts h.after.memory.seen h.owners h.after.memory.own x fits
+  loaded_fits acts x h fits = load_fits l thread history known acts h.after.memory.seen h.owners h.after.memory.own x fits
 
 -- at: the live instance of an image is one of the live instances
 module _ {W F B : Type 0} (ops : Operations W F B) (l : Loads B) (show : List B → Ending) (thread : ℕ)
-    (history : List Event) (again : NeverAgain l history)
-    (at : (seen : List Event) (image : ℕ) (x : Instance) → instance_at l seen image ≡ Some x
-    → Member x (instances l seen)) where
+    (history : List Event) (known : Known l thread history) where
   abbrev Fit : List (Act B) → Held W F B → Type 0
-  Fit acts h = FitsBy l thread history again acts h
+  Fit acts h = FitsBy l thread history known acts h
 
   abbrev Begin : List (Act B) → Begun (Held W F B) → Type 0
-  Begin acts begun = BegunFits l thread history again acts begun
+  Begin acts begun = BegunFits l thread history known acts begun
 
   at_fits : (acts : List (Act B)) (symbol : List ℕ) (a b c : ℕ) (h : Held W F B) (place : Option ℕ) → Fit acts h
       → Begin acts (begun_at ops l show thread symbol a b c h place)
@@ -75,7 +74,7 @@ module _ {W F B : Type 0} (ops : Operations W F B) (l : Loads B) (show : List B 
       → Fit acts (with_load ops l show thread was x h)
   with_load_fits acts true x h fits = fits
   with_load_fits acts false None h fits = fits
-  with_load_fits acts false (Some x) h fits = loaded_fits l thread history again acts x h fits
+  with_load_fits acts false (Some x) h fits = loaded_fits l thread history known acts x h fits
 
   one_more : (seen : List Event) (e : Event) → IsFront seen (with_last seen e)
   one_more seen e = (e ∷ [], refl)
@@ -93,7 +92,7 @@ module _ {W F B : Type 0} (ops : Operations W F B) (l : Loads B) (show : List B 
       let all = with_last seen e in
       with_load_fits (with_look l all acts) (is_loaded (module_of (left_by l seen) line.told.image))
       (instance_at l all line.told.image) (looked l thread all h)
-      (looked_fits l thread history again acts all h fits (one_more seen e) front)
+      (looked_fits l thread history known acts all h fits (one_more seen e) front)
 
   close_fits : (acts : List (Act B)) (line : Line) (h : Held W F B) (refusal : Option CloseRefusal) → Fit acts h
       → let seen = h.after.memory.seen in
@@ -104,7 +103,7 @@ module _ {W F B : Type 0} (ops : Operations W F B) (l : Loads B) (show : List B 
   close_fits acts line h None fits front =
       let seen = h.after.memory.seen in
       let e = event_at thread line.number false line.told.image in
-      looked_fits l thread history again acts (with_last seen e) h fits (one_more seen e) front
+      looked_fits l thread history known acts (with_last seen e) h fits (one_more seen e) front
 
   either_says : (acts : List (Act B)) (b : Bool) (x y : Begun (Held W F B)) → Begin acts x → Begin acts y
       → Begin acts (if b then x else y)
@@ -129,11 +128,11 @@ module _ {W F B : Type 0} (ops : Operations W F B) (l : Loads B) (show : List B 
   peek_fits acts line symbol size h None fits m = fits
   peek_fits acts line symbol size h (Some x) fits m =
       shown_fits (with_asked l (Some x) acts) (reached l thread x h) size x (l.variable line.told.image symbol)
-      (reached_fits l thread history again acts x h fits (m x refl))
+      (reached_fits l thread history known acts x h fits (m x refl))
 
   by_fits : (acts : List (Act B)) (number image : ℕ) (action : Action) (seen : List Event) (h : Held W F B)
       → let line : Line = record { number = number; told = record { image = image; action = action } } in
-      FitsBy l thread history again (with_look l seen acts) (looked l thread seen h)
+      FitsBy l thread history known (with_look l seen acts) (looked l thread seen h)
       → IsFront (with_event seen (event_by l thread line seen)) history
       → Begin (begin_acts l thread line seen acts) (begun_by ops l show thread line seen (looked l thread seen h) action)
   by_fits acts number image (Call symbol a b c) seen h fits front =
@@ -149,7 +148,7 @@ module _ {W F B : Type 0} (ops : Operations W F B) (l : Loads B) (show : List B 
   by_fits acts number image (Peek symbol size) seen h fits front =
       peek_fits (with_look l seen acts)
       (record { number = number; told = record { image = image; action = Peek symbol size } }) symbol size
-      (looked l thread seen h) (instance_at l seen image) fits (λ y e. at seen image y e)
+      (looked l thread seen h) (instance_at l seen image) fits (λ y e. known.at seen image y e)
 
   front_of : (seen : List Event) (e : Option Event) → IsFront (with_event seen e) history → IsFront seen history
   front_of seen None f = f
@@ -166,4 +165,4 @@ module _ {W F B : Type 0} (ops : Operations W F B) (l : Loads B) (show : List B 
   unfolding begin_line
   begin_fits acts line seen h fits f g =
       by_fits acts line.number line.told.image line.told.action seen h
-      (looked_fits l thread history again acts seen h fits f (front_of seen (event_by l thread line seen) g)) g
+      (looked_fits l thread history known acts seen h fits f (front_of seen (event_by l thread line seen) g)) g

@@ -1,5 +1,5 @@
 -- The blocks that the map gives a thread, in the order of live instances, and what a store does with them.
-use Rattle.std.proofs.Common.{◌≡◌, ◌∙◌, ◌-◌, ◌++◌, ◌&&◌, ℕ, Bool, true, false, List, [], ◌∷◌, refl, sym, ap, inl, inr}
+use Rattle.std.proofs.Common.{◌≡◌, ◌∙◌, ◌-◌, ◌++◌, ◌&&◌, ◌<◌, ◌^◌, ℕ, Bool, true, false, List, [], ◌∷◌, length, refl, sym, ap, subst, inl, inr}
 use Rattle.std.specs.Prelude.{slice_set, if◌then◌else◌, nat_le, nat_lt}
 use Rattle.std.proofs.lemmas.Bool.{cases_Bool, eq-eqb, ne_eqb}
 use Rattle.guest_operands.specs.declared.space.Access.TheVariants.{Write}
@@ -9,7 +9,7 @@ use Rattle.thread_blocks.specs.Held.{Block, Owned, is_block, owners_of, ranges_i
 use Rattle.thread_blocks.specs.Instances.{Loads, block_range, block_start}
 use Rattle.tls_map_laws.specs.Map.{Act, Wrote, has_storage}
 use Rattle.tls_map_laws.specs.Acts.{is_in, stored_in}
-use Rattle.tls_map_laws.proofs.Bytes.{bytes_after, bytes_long}
+use Rattle.tls_map_laws.proofs.Bytes.{bytes_after, bytes_long, set_long}
 
 abbrev pub Each : {X : Type 0} → (X → Type 0) → List X → Type 0
 Each P [] = Unit {0}
@@ -20,8 +20,14 @@ abbrev pub Distinct : List Instance → Type 0
 Distinct [] = Unit {0}
 Distinct (y ∷ ys) = Each (λ (z : Instance). z.number ≡ y.number → ⊥) ys × Distinct ys
 
+-- data of an instance: they lie low, where no thread has its addresses
+pub record IsLowData {B : Type 0} (x : Owned B) : Type 0 where
+  pub kind : is_block x.owner.kind ≡ false
+  pub start : x.range.start < 2 ^ 39
+  pub size : length x.range.bytes < 2 ^ 39
+
 abbrev pub AreData : {B : Type 0} → List (Owned B) → Type 0
-AreData xs = Each (λ x. is_block x.owner.kind ≡ false) xs
+AreData xs = Each IsLowData xs
 
 module _ {B : Type 0} where
   -- ** a store among ranges with owners
@@ -51,7 +57,10 @@ module _ {B : Type 0} where
   pub put_data : (xs : List (Owned B)) (place : ℕ) (byte : B) → AreData xs → AreData (put_owned xs place byte)
   put_data [] place byte are = tt
   put_data (x ∷ xs) place byte are = elim (cases_Bool (grants Write x.range place)) [
-    | inl t ↦ rw t (are.0, are.1)
+    | inl t ↦
+        let at = place - x.range.start in
+        let size = subst (λ (n : ℕ). n < 2 ^ 39) (sym (set_long x.range.bytes at byte)) are.0.size in
+        rw t (record { kind = are.0.kind; start = are.0.start; size = size }, are.1)
     | inr f ↦ rw f (are.0, put_data xs place byte are.1)
   ]
 

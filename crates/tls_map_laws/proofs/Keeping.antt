@@ -1,6 +1,6 @@
 -- What a thread holds is what the map says: stores, looks and reaches keep it so, at rising fronts of a history.
 use Rattle.std.proofs.Common.{◌≡◌, ◌∙◌, ◌⊎◌, ◌++◌, ◌==◌, ◌&&◌, ℕ, Bool, true, false, List, [], ◌∷◌, refl, sym, ap, subst, inl, inr}
-use Rattle.std.specs.Prelude.{◌||◌, is_some}
+use Rattle.std.specs.Prelude.{◌||◌, IfSome, is_some}
 use Rattle.std.specs.List.{filter, flat_map}
 use Rattle.std.proofs.lemmas.Bool.{cases_Bool, eq-eqb, eqb-true, ne_eqb, and_parts}
 use Rattle.guest_machine.specs.Ranges.{Range, with_byte}
@@ -12,8 +12,9 @@ use Rattle.thread_blocks.specs.TurnsAlike.{IsFront}
 use Rattle.tls_map_laws.specs.Map.{Act, Asked, has_storage, is_among}
 use Rattle.tls_map_laws.specs.Acts.{is_in, look_of, numbers, stored_in}
 use Rattle.tls_map_laws.proofs.Bytes.{bytes_after}
-use Rattle.tls_map_laws.proofs.Entries.{AreData, Distinct, Each, blocks, put_owners, put_ranges, rest_data, rest_of, stored_put}
+use Rattle.tls_map_laws.proofs.Entries.{AreData, Each, blocks, put_owners, put_ranges, rest_data, rest_of, stored_put}
 use Rattle.tls_map_laws.proofs.Places.{Member}
+use Rattle.tls_map_laws.proofs.Known.{IsLow, Known, front_then}
 use Rattle.tls_map_laws.proofs.Looks.{IsGood, held_blocks, made_data}
 
 -- ** lists
@@ -86,24 +87,7 @@ at_once_is x ys m one = elim (cases_Bool (is_some x.offset)) [
               rw (s, no) rest
         ]
 
-front_then : {E : Type 0} (a b c : List E) → IsFront a b → IsFront b c → IsFront a c
-front_then a b c f g = (f.0 ++ g.0, g.1 ∙ (ap (λ xs. xs ++ g.0) f.1 ∙ joined a f.0 g.0))
-  where
-    joined : {E : Type 0} (xs ys zs : List E) → (xs ++ ys) ++ zs ≡ xs ++ (ys ++ zs)
-    joined [] ys zs = refl
-    joined (x ∷ xs) ys zs = ap (λ more. x ∷ more) (joined xs ys zs)
-
--- ** what a history gives
-
--- instances have numbers of their own, and one that was closed is never live again
-pub record NeverAgain {B : Type 0} (l : Loads B) (history : List Event) : Type 0 where
-  pub own : (seen : List Event) → IsFront seen history → Distinct (instances l seen)
-  pub one : (a b : List Event) → IsFront a history → IsFront b history → (x y : Instance) → Member x (instances l a)
-      → Member y (instances l b) → y.number ≡ x.number → y ≡ x
-  pub stays : (a b c : List Event) → IsFront a b → IsFront b c → IsFront c history → (x : Instance)
-      → Member x (instances l a) → Member x (instances l c) → Member x (instances l b)
-
-module _ {B : Type 0} (l : Loads B) (thread : ℕ) (history : List Event) (again : NeverAgain l history) where
+module _ {B : Type 0} (l : Loads B) (thread : ℕ) (history : List Event) (known : Known l thread history) where
   -- a thread that did this, and saw these events, has these ranges
   pub record Fits (acts : List (Act B)) (seen : List Event) (os : List Owner) (rs : List (Range B)) : Type 0 where
     pub rest : List (Owned B)
@@ -148,7 +132,7 @@ module _ {B : Type 0} (l : Loads B) (thread : ℕ) (history : List Event) (again
   stored_fits acts seen os rs place byte fits =
       let live = instances l seen in
       let after = stored_in l thread live place byte acts in
-      let put = stored_put l thread live acts fits.rest place byte (again.own seen fits.front) in
+      let put = stored_put l thread live acts fits.rest place byte (known.again.own seen fits.front) in
       record {
         rest = rest_of l thread live acts fits.rest place byte;
         data_behind = rest_data l thread live acts fits.rest place byte fits.data_behind;
@@ -173,12 +157,15 @@ module _ {B : Type 0} (l : Loads B) (thread : ℕ) (history : List Event) (again
       ∙ (ap (λ rs. owned (owners_of (blocks l thread acts (instances l seen) ++ fits.rest)) rs) fits.ranges
       ∙ owned_again (blocks l thread acts (instances l seen) ++ fits.rest))
 
+  lows : (seen : List Event) → IsFront seen history → Each (λ (y : Instance). IfSome (l.shared y) IsLow) (instances l seen)
+  lows seen g = each_of (λ y. IfSome (l.shared y) IsLow) (instances l seen) (λ y m. known.low seen g y m)
+
   one_of : (acts : List (Act B)) (old seen : List Event) (os : List Owner) (rs : List (Range B)) → Fits acts old os rs
       → IsFront old seen → IsFront seen history → (y : Instance) → Member y (instances l seen)
       → has_storage y.number acts ≡ true → Member y (instances l old)
   one_of acts old seen os rs fits f g y m t =
       let held = fits.live y.number t in
-      let same = again.one seen old g fits.front y held.x m held.member held.number in
+      let same = known.again.one seen old g fits.front y held.x m held.member held.number in
       subst (λ (z : Instance). Member z (instances l old)) same held.member
 
   -- the law: a look
@@ -193,12 +180,12 @@ module _ {B : Type 0} (l : Loads B) (thread : ℕ) (history : List Event) (again
       let after = look_of now ∷ acts in
       let held = held_is acts old os rs fits in
       let good = each_of (IsGood l thread was acts after (λ y. is_some y.offset)) now (λ y m. record {
-        one = each_of (λ z. z.number ≡ y.number → z ≡ y) was (λ z n e. again.one seen old g fits.front y z m n e);
+        one = each_of (λ z. z.number ≡ y.number → z ≡ y) was (λ z n e. known.again.one seen old g fits.front y z m n e);
         member = λ t. one_of acts old seen os rs fits f g y m t;
         untouched = λ none. fits.untouched seen f g y m none;
         has =
             let live = among y now m in
-            let once = at_once_is y now m (λ z n e. again.one seen seen g g y z m n e) in
+            let once = at_once_is y now m (λ z n e. known.again.one seen seen g g y z m n e) in
             rw (live, once) refl;
         bytes = refl;
       }) in
@@ -206,7 +193,7 @@ module _ {B : Type 0} (l : Loads B) (thread : ℕ) (history : List Event) (again
       ∙ held_blocks l thread (λ x. is_some x.offset) (λ x. false) now was acts after fits.rest fits.data_behind good in
       record {
         rest = flat_map _ now;
-        data_behind = made_data l thread (λ x. false) (blocks l thread acts was ++ fits.rest) now;
+        data_behind = made_data l thread (λ x. false) acts was fits.rest now fits.data_behind (lows seen g);
         owners = ap (λ xs. owners_of xs) made;
         ranges = ap (λ xs. ranges_in xs) made;
         front = g;
@@ -215,7 +202,7 @@ module _ {B : Type 0} (l : Loads B) (thread : ℕ) (history : List Event) (again
           | inr off ↦ fits.untouched later (front_then old seen later f ff) gg y m off
           | inl t ↦
               let before = one_of acts old later os rs fits (front_then old seen later f ff) gg y m t in
-              let still = again.stays old seen later f ff gg y before m in
+              let still = known.again.stays old seen later f ff gg y before m in
               let live = among y now still in
               absurd (let both : true ≡ false = rw (live, t) at none in cc)
         ];
@@ -231,7 +218,7 @@ module _ {B : Type 0} (l : Loads B) (thread : ℕ) (history : List Event) (again
       let now = instances l seen in
       let g = fits.front in
       each_of (IsGood l thread now acts acts' wanted) now (λ y m. record {
-        one = each_of (λ z. z.number ≡ y.number → z ≡ y) now (λ z n e. again.one seen seen g g y z m n e);
+        one = each_of (λ z. z.number ≡ y.number → z ≡ y) now (λ z n e. known.again.one seen seen g g y z m n e);
         member = λ t. m;
         untouched = λ none. fits.untouched seen ([], sym (append_none seen)) g y m none;
         has = has y;
@@ -269,7 +256,7 @@ module _ {B : Type 0} (l : Loads B) (thread : ℕ) (history : List Event) (again
       ∙ held_blocks l thread (λ y. y.number == x.number) (λ y. false) now now acts after fits.rest fits.data_behind good in
       record {
         rest = flat_map _ now;
-        data_behind = made_data l thread (λ y. false) (blocks l thread acts now ++ fits.rest) now;
+        data_behind = made_data l thread (λ y. false) acts now fits.rest now fits.data_behind (lows seen fits.front);
         owners = ap (λ xs. owners_of xs) made;
         ranges = ap (λ xs. ranges_in xs) made;
         front = fits.front;
@@ -294,7 +281,8 @@ module _ {B : Type 0} (l : Loads B) (thread : ℕ) (history : List Event) (again
       ∙ held_blocks l thread (λ y. false) (λ y. y.number == x.number) now now acts acts fits.rest fits.data_behind good in
       record {
         rest = flat_map _ now;
-        data_behind = made_data l thread (λ y. y.number == x.number) (blocks l thread acts now ++ fits.rest) now;
+        data_behind = made_data l thread (λ y. y.number == x.number) acts now fits.rest now fits.data_behind
+            (lows seen fits.front);
         owners = ap (λ xs. owners_of xs) made;
         ranges = ap (λ xs. ranges_in xs) made;
         front = fits.front;

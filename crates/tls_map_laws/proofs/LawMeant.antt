@@ -21,7 +21,7 @@ use Rattle.tls_map_laws.specs.Map.{Act}
 use Rattle.tls_map_laws.specs.Acts.{IsMap, is_in}
 use Rattle.tls_map_laws.specs.Told.{Rising, run_acts, turns_acts, with_look}
 use Rattle.tls_map_laws.proofs.Places.{Member}
-use Rattle.tls_map_laws.proofs.Keeping.{NeverAgain}
+use Rattle.tls_map_laws.proofs.Known.{Known}
 use Rattle.tls_map_laws.proofs.Begins.{FitsBy, looked_fits}
 use Rattle.tls_map_laws.proofs.Turns.{run_fits, turns_fit}
 use Rattle.tls_map_laws.proofs.Moment.{is_map}
@@ -34,14 +34,7 @@ use Rattle.tls_map_laws.specs.Meaning.{meant_acts, meant_asks}
 use Rattle.tls_map_laws.proofs.Law.{nothing_fits}
 use Rattle.tls_map_laws.proofs.Meaning.{meant_keeps}
 
-module _ (m : Meaning) (thread : ℕ) (history : List Event) (again : NeverAgain m.loads history)
-    (below : (seen : List Event) → IsFront seen history → (x : Instance) → Member x (instances m.loads seen) → (place : ℕ)
-    → is_in m.loads thread x place ≡ true → place < stack_start thread)
-    (at : (seen : List Event) (image : ℕ) (x : Instance) → instance_at m.loads seen image ≡ Some x
-    → Member x (instances m.loads seen))
-    (apart : (seen : List Event) → IsFront seen history → (x z : Instance) → Member x (instances m.loads seen)
-    → Member z (instances m.loads seen) → (place : ℕ) → is_in m.loads thread x place ≡ true
-    → (z ≡ x) ⊎ (is_in m.loads thread z place ≡ false))
+module _ (m : Meaning) (thread : ℕ) (history : List Event) (known : Known m.loads thread history)
     (initial : ℕ → List Byte)
     (fresh : (seen : List Event) → IsFront seen history → (x : Instance) → Member x (instances m.loads seen) → (k : ℕ)
     → k < length (m.loads.block x)
@@ -53,44 +46,44 @@ module _ (m : Meaning) (thread : ℕ) (history : List Event) (again : NeverAgain
   abbrev first_acts : List (Act Byte)
   first_acts = with_look m.loads [] []
 
-  first_fits : FitsBy m.loads thread history again first_acts (meant_ready m thread)
+  first_fits : FitsBy m.loads thread history known first_acts (meant_ready m thread)
   first_fits =
-      looked_fits m.loads thread history again [] []
+      looked_fits m.loads thread history known [] []
       (record {
         after = left (start_of ops 0 0 (Number 0) (Number 0) (Number 0)) (record { seen = []; stack = []; own = [] });
         owners = [];
         asked = None;
       })
-      (nothing_fits m.loads thread history again) ([], refl) (history, refl)
+      (nothing_fits m.loads thread history known) ([], refl) (history, refl)
 
   -- between turns
   pub turns_keep : (fuel : ℕ) (own : List ThreadLine) (points : List (List Event))
       → let t : Thread Meant Line Event = ready (meant_ready m thread) (numbered_lines 1 own) in
       let x = meant_turns m thread fuel in
       Rising m.loads thread x (meant_acts m thread) (meant_asks m thread) history t points
-      → FitsBy m.loads thread history again
+      → FitsBy m.loads thread history known
       (turns_acts m.loads thread x (meant_acts m thread) (meant_asks m thread) t points first_acts)
       (held_in (turns x t points).phase)
   turns_keep fuel own points rising =
-      turns_fit m.loads thread history again (meant_turns m thread fuel) (meant_acts m thread) (meant_asks m thread)
-      (meant_keeps m thread history again below at fuel) points (ready (meant_ready m thread) (numbered_lines 1 own))
+      turns_fit m.loads thread history known (meant_turns m thread fuel) (meant_acts m thread) (meant_asks m thread)
+      (meant_keeps m thread history known fuel) points (ready (meant_ready m thread) (numbered_lines 1 own))
       first_acts rising first_fits
 
   -- and after any steps from there on
-  pub steps_keep : (fuel n : ℕ) (h : Meant) (acts : List (Act Byte)) → FitsBy m.loads thread history again acts h
+  pub steps_keep : (fuel n : ℕ) (h : Meant) (acts : List (Act Byte)) → FitsBy m.loads thread history known acts h
       → let x = meant_turns m thread fuel in
-      FitsBy m.loads thread history again (run_acts m.loads thread x (meant_acts m thread) (meant_asks m thread) n h acts)
+      FitsBy m.loads thread history known (run_acts m.loads thread x (meant_acts m thread) (meant_asks m thread) n h acts)
       (state_after (run x.steps n h))
   steps_keep fuel n h acts fits =
-      run_fits m.loads thread history again (meant_turns m thread fuel) (meant_acts m thread) (meant_asks m thread)
-      (meant_keeps m thread history again below at fuel) n h acts fits
+      run_fits m.loads thread history known (meant_turns m thread fuel) (meant_acts m thread) (meant_asks m thread)
+      (meant_keeps m thread history known fuel) n h acts fits
 
   -- then each byte of each live instance's block is the map's
-  pub moments : (acts : List (Act Byte)) (h : Meant) (fits : FitsBy m.loads thread history again acts h) (x : Instance)
+  pub moments : (acts : List (Act Byte)) (h : Meant) (fits : FitsBy m.loads thread history known acts h) (x : Instance)
       → Member x (instances m.loads h.after.memory.seen)
       → ((how : Access) (k : ℕ) → k < length (m.loads.block x)
       → byte_in how (ranges_in fits.rest ++ fixed h.after.memory.seen) (block_start thread x + k) ≡ None)
       → IsMap m.loads thread (meant_accesses m thread) (Value 0) initial acts h x
   unfolding meant_accesses
   moments acts h fits x member beside =
-      is_map ops m.loads thread fixed (Value 0) initial history again below apart fresh acts h fits x member beside
+      is_map ops m.loads thread fixed (Value 0) initial history known around acts h fits x member beside

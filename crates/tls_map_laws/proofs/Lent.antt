@@ -9,7 +9,8 @@ use Rattle.thread_blocks.specs.JobWorlds.{blocks_in}
 use Rattle.tls_map_laws.specs.Map.{Act, has_storage}
 use Rattle.tls_map_laws.proofs.Entries.{AreData, block_of, blocks}
 use Rattle.tls_map_laws.proofs.Bytes.{bytes_after}
-use Rattle.tls_map_laws.proofs.Keeping.{NeverAgain, held_is}
+use Rattle.tls_map_laws.proofs.Known.{Known}
+use Rattle.tls_map_laws.proofs.Keeping.{held_is}
 use Rattle.tls_map_laws.proofs.Begins.{FitsBy}
 
 module _ {B : Type 0} where
@@ -36,13 +37,13 @@ module _ {B : Type 0} (l : Loads B) (thread : ℕ) where
         | inr f ↦ rw f more
       ]
 
-module _ {W F B : Type 0} (l : Loads B) (thread : ℕ) (history : List Event) (again : NeverAgain l history) where
+module _ {W F B : Type 0} (l : Loads B) (thread : ℕ) (history : List Event) (known : Known l thread history) where
   -- the law: with data behind what it holds
   pub lent_fits : (acts : List (Act B)) (h : Held W F B) (xs : List (Owned B)) → AreData xs
-      → FitsBy l thread history again acts h → FitsBy l thread history again acts (with_owned h (owned_by h ++ xs))
+      → FitsBy l thread history known acts h → FitsBy l thread history known acts (with_owned h (owned_by h ++ xs))
   lent_fits acts h xs are fits =
       let live = instances l h.after.memory.seen in
-      let held = held_is l thread history again acts h.after.memory.seen h.owners h.after.memory.own fits in
+      let held = held_is l thread history known acts h.after.memory.seen h.owners h.after.memory.own fits in
       let all = ap (λ (os : List (Owned B)). os ++ xs) held ∙ joined (blocks l thread acts live) fits.rest xs in
       record {
         rest = fits.rest ++ xs;
@@ -55,11 +56,11 @@ module _ {W F B : Type 0} (l : Loads B) (thread : ℕ) (history : List Event) (a
       }
 
   -- the law: and without
-  pub taken_fits : (acts : List (Act B)) (h : Held W F B) → FitsBy l thread history again acts h
-      → FitsBy l thread history again acts (with_owned h (blocks_in (owned_by h)))
+  pub taken_fits : (acts : List (Act B)) (h : Held W F B) → FitsBy l thread history known acts h
+      → FitsBy l thread history known acts (with_owned h (blocks_in (owned_by h)))
   taken_fits acts h fits =
       let live = instances l h.after.memory.seen in
-      let held = held_is l thread history again acts h.after.memory.seen h.owners h.after.memory.own fits in
+      let held = held_is l thread history known acts h.after.memory.seen h.owners h.after.memory.own fits in
       let all = ap (λ (os : List (Owned B)). blocks_in os) held ∙ all_blocks l thread acts live fits.rest fits.data_behind in
       record {
         rest = [];

@@ -1,17 +1,18 @@
 -- What a look, a reach and a load do with the blocks.
-use Rattle.std.proofs.Common.{◌≡◌, ◌∙◌, ◌⊎◌, ◌++◌, ℕ, Bool, true, false, List, [], ◌∷◌, Option, Some, None, refl, sym, ap, inl, inr}
-use Rattle.std.specs.Prelude.{◌||◌}
+use Rattle.std.proofs.Common.{◌≡◌, ◌∙◌, ◌⊎◌, ◌++◌, ◌<◌, ◌^◌, ◌==◌, ℕ, Bool, true, false, List, [], ◌∷◌, Option, Some, None, refl, sym, ap, inl, inr}
+use Rattle.std.specs.Prelude.{◌||◌, IfSome, length, not}
 use Rattle.std.specs.List.{flat_map}
 use Rattle.std.specs.Option.{option_or}
-use Rattle.std.proofs.lemmas.Bool.{cases_Bool, cases_eq, eq-eqb, ne_eqb}
+use Rattle.std.proofs.lemmas.Bool.{and_parts, cases_Bool, cases_eq, eq-eqb, ne_eqb}
 use Rattle.guest_machine.specs.Ranges.{Range}
 use Rattle.loaded_modules.specs.declared.instance.Instance.{Instance}
-use Rattle.thread_blocks.specs.Held.{Owned, block_after, block_bytes, block_with, data_after, data_with, fresh_if, held_of, is_block_of}
+use Rattle.thread_blocks.specs.Held.{Owned, block_after, block_bytes, block_with, data_after, data_bytes, data_with, fresh_data, fresh_if, held_of, is_block, is_block_of, is_data_of}
 use Rattle.thread_blocks.specs.Instances.{Loads}
 use Rattle.tls_map_laws.specs.Map.{Act, has_storage}
 use Rattle.tls_map_laws.proofs.Bytes.{bytes_after}
 use Rattle.tls_map_laws.proofs.Entries.{AreData, Each, block_of, blocks, entry, entry_if}
 use Rattle.tls_map_laws.proofs.Places.{Member}
+use Rattle.tls_map_laws.proofs.Known.{IsLow}
 
 module _ {B : Type 0} (l : Loads B) (thread : ℕ) where
   -- ** the block of a number among what is held
@@ -27,7 +28,7 @@ module _ {B : Type 0} (l : Loads B) (thread : ℕ) where
   no_data : (n : ℕ) (rest : List (Owned B)) → AreData rest → block_bytes n rest ≡ None
   no_data n [] are = refl
   no_data n (x ∷ xs) are =
-      let f = are.0 in
+      let f = are.0.kind in
       later_is n x xs (rw f refl) ∙ no_data n xs are.1
 
   appended : (xs ys zs : List (Owned B)) → (xs ++ ys) ++ zs ≡ xs ++ (ys ++ zs)
@@ -124,16 +125,70 @@ module _ {B : Type 0} (l : Loads B) (thread : ℕ) where
       ap (λ (e : List (Owned B)). e ++ flat_map f live) each.0
       ∙ ap (λ (more : List (Owned B)). entry l thread acts' y ++ more) (made_blocks live acts' f each.1)
 
-  data_entry : (y : Instance) (range : Option (Range B)) (bytes : Option (List B)) (more : List (Owned B)) → AreData more
-      → AreData (data_with y range bytes ++ more)
-  data_entry y None bytes more are = are
-  data_entry y (Some range) None more are = are
-  data_entry y (Some range) (Some bytes) more are = (refl, are)
+  -- ** data
 
-  pub made_data : (loads : Instance → Bool) (xs : List (Owned B)) (live : List Instance)
+  abbrev IsSmall : List B → Type 0
+  IsSmall bytes = length bytes < 2 ^ 39
+
+  data_entry : (y : Instance) (range : Option (Range B)) (bytes : Option (List B)) (more : List (Owned B))
+      → IfSome range IsLow → IfSome bytes IsSmall → AreData more → AreData (data_with y range bytes ++ more)
+  data_entry y None bytes more low small are = are
+  data_entry y (Some range) None more low small are = are
+  data_entry y (Some range) (Some bytes) more low small are =
+      (record { kind = refl; start = low.0; size = small }, are)
+
+  -- data among what is held are small
+  abbrev AreSmall : List (Owned B) → Type 0
+  AreSmall xs = Each (λ (o : Owned B). is_block o.owner.kind ≡ false → IsSmall o.range.bytes) xs
+
+  small_found : (n : ℕ) (xs : List (Owned B)) → AreSmall xs → IfSome (data_bytes n xs) IsSmall
+  small_found n [] small = tt
+  small_found n (x ∷ xs) small = elim (cases_Bool (is_data_of n x.owner)) [
+    | inr f ↦ rw f (small_found n xs small.1)
+    | inl t ↦
+        let kind = (and_parts (not (is_block x.owner.kind)) (x.owner.instance == n) t).0 in
+        rw t (small.0 (not_true (is_block x.owner.kind) kind))
+  ]
+    where
+      not_true : (b : Bool) → not b ≡ true → b ≡ false
+      not_true true e = cc
+      not_true false e = refl
+
+  small_or : (range : Option (Range B)) (loads : Bool) (old : Option (List B)) → IfSome range IsLow → IfSome old IsSmall
+      → IfSome (option_or (fresh_data range loads) old) IsSmall
+  small_or None loads old low small = small
+  small_or (Some range) true old low small = low.1
+  small_or (Some range) false old low small = small
+
+  made_each : (loads : Instance → Bool) (xs : List (Owned B)) (live : List Instance)
+      → Each (λ (y : Instance). IfSome (l.shared y) IsLow) live → AreSmall xs
       → AreData (flat_map (data_after l loads xs) live)
-  made_data loads xs [] = tt
-  made_data loads xs (y ∷ live) = data_entry y (l.shared y) _ _ (made_data loads xs live)
+  made_each loads xs [] low small = tt
+  made_each loads xs (y ∷ live) low small =
+      data_entry y (l.shared y) _ _ low.0
+      (small_or (l.shared y) (loads y) (data_bytes y.number xs) low.0 (small_found y.number xs small))
+      (made_each loads xs live low.1 small)
+
+  small_rest : (rest : List (Owned B)) → AreData rest → AreSmall rest
+  small_rest [] are = tt
+  small_rest (x ∷ xs) are = (λ kind. are.0.size, small_rest xs are.1)
+
+  small_all : (acts : List (Act B)) (ys : List Instance) (rest : List (Owned B)) → AreData rest
+      → AreSmall (blocks l thread acts ys ++ rest)
+  small_all acts [] rest are = small_rest rest are
+  small_all acts (y ∷ ys) rest are = elim (cases_Bool (has_storage y.number acts)) [
+    | inl t ↦ rw t (λ kind. absurd (let k = kind in cc), small_all acts ys rest are)
+    | inr f ↦ rw f (small_all acts ys rest are)
+  ]
+
+  -- a look leaves low data behind the blocks
+  pub made_data : (loads : Instance → Bool) (acts : List (Act B)) (ys : List Instance) (rest : List (Owned B))
+      (live : List Instance) → AreData rest → Each (λ (y : Instance). IfSome (l.shared y) IsLow) live
+      → AreData (flat_map (data_after l loads (blocks l thread acts ys ++ rest)) live)
+  made_data loads acts ys rest live are low =
+      made_each loads (blocks l thread acts ys ++ rest) live low (small_all acts ys rest are)
+
+  -- ** all that is held
 
   -- what is known of an instance that is live now
   pub record IsGood (ys : List Instance) (acts acts' : List (Act B)) (wanted : Instance → Bool) (y : Instance) : Type 0 where

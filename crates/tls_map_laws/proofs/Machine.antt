@@ -29,8 +29,8 @@ use Rattle.tls_map_laws.specs.Acts.{Noted, is_in}
 use Rattle.tls_map_laws.specs.Machine.{asks_in, machine_acts, machine_asks, noted_acts, noted_start, noted_step}
 use Rattle.tls_map_laws.specs.Told.{with_asked, with_look}
 use Rattle.tls_map_laws.proofs.Places.{Member}
-use Rattle.tls_map_laws.proofs.Keeping.{NeverAgain}
 use Rattle.tls_map_laws.proofs.Steps.{FitsIn, NotedFits, acc, follows, puts, step_fits}
+use Rattle.tls_map_laws.proofs.Known.{Known}
 use Rattle.tls_map_laws.proofs.Begins.{BegunFits, FitsBy, begin_fits, looked_fits, reached_fits}
 use Rattle.tls_map_laws.proofs.Turns.{KeepsMap, NextFits}
 
@@ -41,24 +41,20 @@ found_member p (y ∷ ys) x e = elim (cases_Bool (p y)) [
   | inr f ↦ inr (found_member p ys x (rw f at e))
 ]
 
-module _ (l : Loads ℕ) (thread : ℕ) (history : List Event) (again : NeverAgain l history)
-    (below : (seen : List Event) → IsFront seen history → (x : Instance) → Member x (instances l seen) → (place : ℕ)
-    → is_in l thread x place ≡ true → place < stack_start thread)
-    (at : (seen : List Event) (image : ℕ) (x : Instance) → instance_at l seen image ≡ Some x
-    → Member x (instances l seen)) where
+module _ (l : Loads ℕ) (thread : ℕ) (history : List Event) (known : Known l thread history) where
   abbrev Fit : List (Act ℕ) → Runs → Type 0
-  Fit acts h = FitsBy l thread history again acts h
+  Fit acts h = FitsBy l thread history known acts h
 
   abbrev Next_fits : List (Act ℕ) → Next Runs → Type 0
-  Next_fits acts next = NextFits l thread history again acts next
+  Next_fits acts next = NextFits l thread history known acts next
 
   abbrev Begin : List (Act ℕ) → Begun Runs → Type 0
-  Begin acts begun = BegunFits l thread history again acts begun
+  Begin acts begun = BegunFits l thread history known acts begun
 
   -- ** answers: a return changes no memory
 
   abbrev InFits : List (Act ℕ) → List Owner → Space Event ℕ → Type 0
-  InFits acts os space = FitsIn l thread history again below acts os space
+  InFits acts os space = FitsIn l thread history known acts os space
 
   abbrev ResultFits : List (Act ℕ) → List Owner → Result (After ℕ Bool (Space Event ℕ)) Stop → Type 0
   ResultFits acts os (Ok at) = InFits acts os at.memory
@@ -118,8 +114,8 @@ module _ (l : Loads ℕ) (thread : ℕ) (history : List Event) (again : NeverAga
       (at_once_fits acts asked h (instance_with_id l h.after.memory.seen asked.id) fits) fits
 
   next_fits : (acts : List (Act ℕ)) (h : Runs) (noted : Next (After ℕ Bool (Noted l thread))) → Fit acts h
-      → NotedFits l thread history again below h.owners (acc l thread history again below)
-      (puts l thread history again below) noted
+      → NotedFits l thread history known h.owners (acc l thread history known)
+      (puts l thread history known) noted
       → ((at : After ℕ Bool (Noted l thread)) → noted ≡ Looks at → noted_start l thread acts h ≡ at)
       → Next_fits (noted_acts l thread acts noted) (thread_next l thread h (next_image (after_of (λ n. n.space)) noted))
   next_fits acts h (Goes at) fits after same = after
@@ -152,8 +148,8 @@ module _ (l : Loads ℕ) (thread : ℕ) (history : List Event) (again : NeverAga
       let noted = noted_step l thread acts h in
       subst (λ (next : Next (After ℕ Bool (Space Event ℕ))).
       Next_fits (noted_acts l thread acts noted) (thread_next l thread h next))
-      (sym (follows l thread history again below (noted_start l thread acts h)))
-      (next_fits acts h noted fits (step_fits l thread history again below acts h.owners h.after fits)
+      (sym (follows l thread history known (noted_start l thread acts h)))
+      (next_fits acts h noted fits (step_fits l thread history known acts h.owners h.after fits)
       (λ at e. looks_same acts h at e))
 
   -- ** a look in the middle of a line
@@ -168,7 +164,7 @@ module _ (l : Loads ℕ) (thread : ℕ) (history : List Event) (again : NeverAga
       → Begin (with_asked l x acts) (resumed_in l thread asked h x)
   in_fits acts asked h None fits member = fits
   in_fits acts asked h (Some x) fits member =
-      let now = reached_fits l thread history again acts x h fits (member x refl) in
+      let now = reached_fits l thread history known acts x h fits (member x refl) in
       let g = reached l thread x h in
       resumed_fits (with_asked l (Some x) acts) g (answered l thread asked x g) now
       (answer_fits (with_asked l (Some x) acts) asked x g now)
@@ -197,15 +193,15 @@ module _ (l : Loads ℕ) (thread : ℕ) (history : List Event) (again : NeverAga
   resume_fits acts seen h fits f g =
       let quiet = record h { asked = None } in
       by_fits (with_look l seen acts) seen (looked l thread seen quiet) h.asked
-      (looked_fits l thread history again acts seen quiet fits f g) refl
+      (looked_fits l thread history known acts seen quiet fits f g) refl
 
   -- the law of a thread
   pub machine_keeps : (fuel : ℕ)
-      → KeepsMap l thread history again (thread_turns l thread fuel) (machine_acts l thread) (machine_asks l thread)
+      → KeepsMap l thread history known (thread_turns l thread fuel) (machine_acts l thread) (machine_asks l thread)
   unfolding thread_turns
   machine_keeps fuel = record {
     step = λ acts h fits. thread_fits acts h fits;
     begin = λ acts line seen h fits f g.
-        begin_fits plain_operations l (shows l thread) thread history again at acts line seen h fits f g;
+        begin_fits plain_operations l (shows l thread) thread history known acts line seen h fits f g;
     resume = λ acts seen h fits f g. resume_fits acts seen h fits f g;
   }

@@ -40,8 +40,8 @@ use Rattle.tls_map_laws.specs.Acts.{Noted, is_in, noting}
 use Rattle.tls_map_laws.specs.Meaning.{acts_at, asks_for, asks_from, meant_acts, meant_asks, noted_plain, result_acts}
 use Rattle.tls_map_laws.specs.Told.{with_asked, with_look}
 use Rattle.tls_map_laws.proofs.Places.{Member}
-use Rattle.tls_map_laws.proofs.Keeping.{NeverAgain}
 use Rattle.tls_map_laws.proofs.Steps.{FitsIn, Proved, plain, proved_accesses}
+use Rattle.tls_map_laws.proofs.Known.{Known}
 use Rattle.tls_map_laws.proofs.Begins.{BegunFits, FitsBy, begin_fits, looked_fits, reached_fits}
 use Rattle.tls_map_laws.proofs.Turns.{KeepsMap, NextFits}
 use Rattle.tls_map_laws.proofs.Machine.{found_member}
@@ -49,11 +49,7 @@ use Rattle.tls_map_laws.proofs.Machine.{found_member}
 abbrev At : Type 0
 At = After Word Flag Memory
 
-module _ (m : Meaning) (thread : ℕ) (history : List Event) (again : NeverAgain m.loads history)
-    (below : (seen : List Event) → IsFront seen history → (x : Instance) → Member x (instances m.loads seen)
-    → (place : ℕ) → is_in m.loads thread x place ≡ true → place < stack_start thread)
-    (at_image : (seen : List Event) (image : ℕ) (x : Instance) → instance_at m.loads seen image ≡ Some x
-    → Member x (instances m.loads seen)) where
+module _ (m : Meaning) (thread : ℕ) (history : List Event) (known : Known m.loads thread history) where
   abbrev NotedAt : Type 0
   NotedAt = After Word Flag (Noted m.loads thread)
 
@@ -103,17 +99,17 @@ module _ (m : Meaning) (thread : ℕ) (history : List Event) (again : NeverAgain
   plain_space mark state noted = rw (fetch_noted noted state.place) (done_space mark _ _ state noted)
 
   abbrev InFits : List (Act Byte) → List Owner → Memory → Type 0
-  InFits acts os space = FitsIn m.loads thread history again below acts os space
+  InFits acts os space = FitsIn m.loads thread history known acts os space
 
   module _ (os : List Owner) where
     abbrev Fine : Type 0
-    Fine = Proved m.loads thread history again below os acc puts
+    Fine = Proved m.loads thread history known os acc puts
 
     abbrev bare : Fine → Noted m.loads thread
-    bare p = plain m.loads thread history again below os acc puts p
+    bare p = plain m.loads thread history known os acc puts p
 
     abbrev lender : Accesses Fine Byte
-    lender = proved_accesses m.loads thread history again below os acc puts
+    lender = proved_accesses m.loads thread history known os acc puts
 
     lent_proved : (number : Option ℕ) → IsImage (lent ops lender number) (lent ops noter number) bare
     lent_proved None =
@@ -254,10 +250,10 @@ module _ (m : Meaning) (thread : ℕ) (history : List Event) (again : NeverAgain
   -- ** a step
 
   abbrev Fit : List (Act Byte) → Meant → Type 0
-  Fit acts h = FitsBy m.loads thread history again acts h
+  Fit acts h = FitsBy m.loads thread history known acts h
 
   abbrev Begin : List (Act Byte) → Begun Meant → Type 0
-  Begin acts begun = BegunFits m.loads thread history again acts begun
+  Begin acts begun = BegunFits m.loads thread history known acts begun
 
   either_fits : (acts : List (Act Byte)) (h : Meant) (s : Option Sequence) → Fit acts h
       → NextIn (acts_at m thread s acts h) h.owners (sequence_or (option_map (sequence_next m thread h.after) s)
@@ -269,13 +265,13 @@ module _ (m : Meaning) (thread : ℕ) (history : List Event) (again : NeverAgain
       looks_fits acts h.owners _ h.after (sequence_does m thread s h.after) fits (does_fits acts h.owners s h.after fits)
 
   held_fits : (acts : List (Act Byte)) (h : Meant) (next : Next At) → NextIn acts h.owners next
-      → NextFits m.loads thread history again acts (held_next m thread h next)
+      → NextFits m.loads thread history known acts (held_next m thread h next)
   held_fits acts h (Goes at) fits = fits
   held_fits acts h (Ends stop) fits = tt
   held_fits acts h (Looks at) fits = fits
 
   step_fits : (acts : List (Act Byte)) (h : Meant) → Fit acts h
-      → NextFits m.loads thread history again (meant_acts m thread acts h) ((meant_steps m thread).step h)
+      → NextFits m.loads thread history known (meant_acts m thread acts h) ((meant_steps m thread).step h)
   unfolding meant_steps meaning
   step_fits acts h fits =
       held_fits (meant_acts m thread acts h) h _
@@ -293,7 +289,7 @@ module _ (m : Meaning) (thread : ℕ) (history : List Event) (again : NeverAgain
       → Begin (with_asked m.loads x acts) (resumed_by m thread h s x)
   by_fits acts h s None fits member = fits
   by_fits acts h s (Some x) fits member =
-      let now = reached_fits m.loads thread history again acts x h fits (member x refl) in
+      let now = reached_fits m.loads thread history known acts x h fits (member x refl) in
       let g = reached m.loads thread x h in
       resumed_fits (with_asked m.loads (Some x) acts) g (sequence_does m thread s g.after) now
       (does_fits (with_asked m.loads (Some x) acts) g.owners s g.after now)
@@ -317,15 +313,15 @@ module _ (m : Meaning) (thread : ℕ) (history : List Event) (again : NeverAgain
   unfolding resume_meant
   resume_fits acts seen h fits f g =
       for_fits (with_look m.loads seen acts) (looked m.loads thread seen h) _
-      (looked_fits m.loads thread history again acts seen h fits f g)
+      (looked_fits m.loads thread history known acts seen h fits f g)
 
   -- the law of a thread
   pub meant_keeps : (fuel : ℕ)
-      → KeepsMap m.loads thread history again (meant_turns m thread fuel) (meant_acts m thread) (meant_asks m thread)
+      → KeepsMap m.loads thread history known (meant_turns m thread fuel) (meant_acts m thread) (meant_asks m thread)
   unfolding meant_turns begin_meant
   meant_keeps fuel = record {
     step = λ acts h fits. step_fits acts h fits;
     begin = λ acts line seen h fits f g.
-        begin_fits ops m.loads (meant_show m thread line seen) thread history again at_image acts line seen h fits f g;
+        begin_fits ops m.loads (meant_show m thread line seen) thread history known acts line seen h fits f g;
     resume = λ acts seen h fits f g. resume_fits acts seen h fits f g;
   }

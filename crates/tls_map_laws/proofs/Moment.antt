@@ -1,38 +1,32 @@
 -- What a thread reads at a place of a block that it holds is the map's byte.
-use Rattle.std.proofs.Common.{◌≡◌, ◌∙◌, ◌⊎◌, ◌+◌, ◌-◌, ◌++◌, ◌<◌, ℕ, true, false, List, length, Option, Some, None, refl, ap, inl, inr, arith}
+use Rattle.std.proofs.Common.{◌≡◌, ◌∙◌, ◌⊎◌, ◌+◌, ◌-◌, ◌++◌, ◌<◌, ◌≤◌, ◌^◌, ◌&&◌, ℕ, Bool, true, false, List, [], ◌∷◌, length, Option, Some, None, refl, ap, subst, inl, inr, arith}
 use Rattle.std.specs.Prelude.{nat_le, nat_lt, slice_get, unwrap_or, ok_or}
 use Rattle.std.specs.Option.{option_or}
-use Rattle.std.proofs.lemmas.Bool.{and_parts, false_from_ne_true, leb-true, le-leb, lt-ltb}
+use Rattle.std.proofs.lemmas.Bool.{and_parts, false_from_ne_true, leb-true, le-leb, lt-ltb, ltb-true}
 use Rattle.address_map.specs.Map.{stack_start}
 use Rattle.guest_arithmetic.specs.Values.{Operations}
 use Rattle.guest_operands.specs.declared.space.Access.{Access}
 use Rattle.guest_operands.specs.declared.space.Access.TheVariants.{Read, Write}
 use Rattle.guest_machine.specs.Access.{Accesses, Refused, reached}
-use Rattle.guest_machine.specs.Ranges.{Range, allows, byte_in, holds}
+use Rattle.guest_machine.specs.Ranges.{Range, allows, byte_in, grants, holds}
 use Rattle.loaded_modules.specs.declared.instance.Instance.{Instance}
 use Rattle.module_table.specs.declared.events.Event.{Event}
-use Rattle.thread_blocks.specs.Held.{Held, ranges_in}
+use Rattle.thread_blocks.specs.Held.{Held, Owned, ranges_in}
 use Rattle.thread_blocks.specs.Instances.{Loads, block_range, block_start, instances}
 use Rattle.thread_blocks.specs.Spaces.{Space, open_everywhere, space_accesses, stack_range}
 use Rattle.thread_blocks.specs.TurnsAlike.{IsFront}
 use Rattle.tls_map_laws.specs.Map.{Act, byte_of, has_storage, last_written}
-use Rattle.tls_map_laws.specs.Acts.{IsMap, is_in}
+use Rattle.tls_map_laws.specs.Acts.{is_in}
+use Rattle.tls_map_laws.specs.Moments.{IsMap}
 use Rattle.tls_map_laws.proofs.Bytes.{bytes_after, bytes_are}
+use Rattle.tls_map_laws.proofs.Entries.{AreData}
 use Rattle.tls_map_laws.proofs.Places.{Member, block_there, none_there}
-use Rattle.tls_map_laws.proofs.Keeping.{Fits, NeverAgain, each_of}
+use Rattle.tls_map_laws.proofs.Known.{Around, Known}
+use Rattle.tls_map_laws.proofs.Keeping.{Fits, each_of}
 
 module _ {W F B : Type 0} (ops : Operations W F B) (l : Loads B) (thread : ℕ) (fixed : List Event → List (Range B))
-    (zero_byte : B) (initial : ℕ → List B) (history : List Event) (again : NeverAgain l history)
-    (below : (seen : List Event) → IsFront seen history → (x : Instance) → Member x (instances l seen) → (place : ℕ)
-    → is_in l thread x place ≡ true → place < stack_start thread)
-    -- no two blocks of live instances share a place
-    (apart : (seen : List Event) → IsFront seen history → (x z : Instance) → Member x (instances l seen)
-    → Member z (instances l seen) → (place : ℕ) → is_in l thread x place ≡ true
-    → (z ≡ x) ⊎ (is_in l thread z place ≡ false))
-    -- a fresh block is the initial image and zeros
-    (fresh : (seen : List Event) → IsFront seen history → (x : Instance) → Member x (instances l seen) → (k : ℕ)
-    → k < length (l.block x)
-    → slice_get (l.block x) k ≡ Some (unwrap_or (slice_get (initial x.number) k) zero_byte)) where
+    (initial : Instance → List B) (zero_byte : B) (history : List Event) (known : Known l thread history)
+    (around : Around l thread fixed initial zero_byte history) where
   abbrev acc : Accesses (Space Event B) B
   acc = space_accesses ops (stack_start thread) fixed open_everywhere
 
@@ -67,60 +61,86 @@ module _ {W F B : Type 0} (ops : Operations W F B) (l : Loads B) (thread : ℕ) 
   last_or None s z = refl
   last_or (Some b) s z = refl
 
+  -- data lie lower
+  data_passed : (how : Access) (rest : List (Owned B)) (more : List (Range B)) (place : ℕ) → AreData rest → 2 ^ 40 ≤ place
+      → byte_in how (ranges_in rest ++ more) place ≡ byte_in how more place
+  data_passed how [] more place are high = refl
+  data_passed how (x ∷ xs) more place are high =
+      let past : holds x.range place ≡ false = false_from_ne_true _ (λ t.
+      let both = and_parts (nat_le x.range.start place) (nat_lt (place - x.range.start) (length x.range.bytes)) t in
+      let start = are.0.start in
+      let size = are.0.size in
+      let less = ltb-true (place - x.range.start) (length x.range.bytes) both.1 in
+      absurd (omega (arith, start, size, less, high))) in
+      let no : grants how x.range place ≡ false = and_false (allows how x.range) (holds x.range place) past in
+      rw no (data_passed how xs more place are.1 high)
+    where
+      and_false : (a b : Bool) → b ≡ false → (a && b) ≡ false
+      and_false true b e = e
+      and_false false b e = refl
+
   module _ (acts : List (Act B)) (h : Held W F B)
-      (fits : Fits l thread history again acts h.after.memory.seen h.owners h.after.memory.own)
-      (x : Instance) (member : Member x (instances l h.after.memory.seen)) where
+      (fits : Fits l thread history known acts h.after.memory.seen h.owners h.after.memory.own)
+      (x : Instance) (then_seen : List Event) (lived : IsFront then_seen history)
+      (was : Member x (instances l then_seen)) where
     abbrev live : List Instance
     live = instances l h.after.memory.seen
+
+    -- it is live now, if its block is held
+    member : has_storage x.number acts ≡ true → Member x live
+    member has =
+        let held = fits.live x.number has in
+        let same = known.again.one then_seen h.after.memory.seen lived fits.front x held.x was held.member held.number in
+        subst (λ (z : Instance). Member z live) same held.member
 
     there : (how : Access) → ((y : Instance) (bytes : List B) → allows how (block_range thread y bytes) ≡ true)
         → has_storage x.number acts ≡ true → (k : ℕ) → k < length (l.block x)
         → byte_in how (h.after.memory.own ++ fixed h.after.memory.seen) (block_start thread x + k)
-        ≡ Some (byte_of initial zero_byte x.number k acts)
+        ≡ Some (byte_of (initial x) zero_byte x.number k acts)
     there how allowed has k less =
         let place = block_start thread x + k in
         let is = is_place x k less in
         ap (λ (rs : List (Range B)). byte_in how (rs ++ fixed h.after.memory.seen) place) fits.ranges
-        ∙ (block_there l thread how allowed live acts fits.rest (fixed h.after.memory.seen) place x member has is
+        ∙ (block_there l thread how allowed live acts fits.rest (fixed h.after.memory.seen) place x (member has) has is
         (each_of (λ z. (z ≡ x) ⊎ (is_in l thread z place ≡ false)) live
-        (λ z m. apart h.after.memory.seen fits.front x z member m place is))
+        (λ z m. known.apart then_seen h.after.memory.seen lived fits.front x z was m place is))
         ∙ (ap (slice_get (bytes_after x.number (l.block x) acts)) (back (block_start thread x) k)
         ∙ (bytes_are x.number k (l.block x) acts less
         ∙ (ap (λ (o : Option B). option_or (last_written x.number k acts) o)
-        (fresh h.after.memory.seen fits.front x member k less)
-        ∙ last_or (last_written x.number k acts) (slice_get (initial x.number) k) zero_byte))))
+        (around.fresh then_seen lived x was k less)
+        ∙ last_or (last_written x.number k acts) (slice_get (initial x) k) zero_byte))))
 
     nowhere : (how : Access) → ((y : Instance) (bytes : List B) → allows how (block_range thread y bytes) ≡ true)
         → has_storage x.number acts ≡ false → (k : ℕ) → k < length (l.block x)
-        → byte_in how (ranges_in fits.rest ++ fixed h.after.memory.seen) (block_start thread x + k) ≡ None
         → byte_in how (h.after.memory.own ++ fixed h.after.memory.seen) (block_start thread x + k) ≡ None
-    nowhere how allowed none k less beside =
+    nowhere how allowed none k less =
         let place = block_start thread x + k in
         let is = is_place x k less in
+        let high = around.high then_seen lived x was in
         ap (λ (rs : List (Range B)). byte_in how (rs ++ fixed h.after.memory.seen) place) fits.ranges
         ∙ (none_there l thread how allowed live acts fits.rest (fixed h.after.memory.seen) place
         (each_of (λ z. (has_storage z.number acts ≡ false) ⊎ (is_in l thread z place ≡ false)) live
-        (λ z m. not_held z (apart h.after.memory.seen fits.front x z member m place is)))
-        ∙ beside)
+        (λ z m. not_held z (known.apart then_seen h.after.memory.seen lived fits.front x z was m place is)))
+        ∙ (data_passed how fits.rest (fixed h.after.memory.seen) place fits.data_behind (omega (arith, high))
+        ∙ around.alone then_seen h.after.memory.seen lived fits.front x was how k less))
       where
         not_held : (z : Instance) → (z ≡ x) ⊎ (is_in l thread z (block_start thread x + k) ≡ false)
             → (has_storage z.number acts ≡ false) ⊎ (is_in l thread z (block_start thread x + k) ≡ false)
         not_held z (inl same) = inl (ap (λ (y : Instance). has_storage y.number acts) same ∙ none)
         not_held z (inr f) = inr f
 
-    -- the law of a moment. beside: neither data nor what nobody writes lies where the block would
-    pub is_map : ((how : Access) (k : ℕ) → k < length (l.block x)
-        → byte_in how (ranges_in fits.rest ++ fixed h.after.memory.seen) (block_start thread x + k) ≡ None)
-        → IsMap l thread acc zero_byte initial acts h x
-    is_map beside = record {
-      reads = λ has k less. read_past h.after.memory (block_start thread x + k) _
-          (below h.after.memory.seen fits.front x member _ (is_place x k less)) (there Read (λ y bytes. refl) has k less);
-      writes = λ has k less. write_past h.after.memory (block_start thread x + k) _
-          (below h.after.memory.seen fits.front x member _ (is_place x k less)) (there Write (λ y bytes. refl) has k less);
-      no_reads = λ none k less. read_past h.after.memory (block_start thread x + k) _
-          (below h.after.memory.seen fits.front x member _ (is_place x k less))
-          (nowhere Read (λ y bytes. refl) none k less (beside Read k less));
-      no_writes = λ none k less. write_past h.after.memory (block_start thread x + k) _
-          (below h.after.memory.seen fits.front x member _ (is_place x k less))
-          (nowhere Write (λ y bytes. refl) none k less (beside Write k less));
-    }
+    -- the law of a moment
+    pub is_map : IsMap l thread acc initial zero_byte acts h x
+    is_map =
+        let low : (k : ℕ) → k < length (l.block x) → block_start thread x + k < stack_start thread = λ k less.
+        known.below then_seen lived x was (block_start thread x + k) (is_place x k less) in
+        record {
+          reads = λ has k less. read_past h.after.memory (block_start thread x + k) _ (low k less)
+              (there Read (λ y bytes. refl) has k less);
+          writes = λ has k less. write_past h.after.memory (block_start thread x + k) _ (low k less)
+              (there Write (λ y bytes. refl) has k less);
+          no_reads = λ none k less. read_past h.after.memory (block_start thread x + k) _ (low k less)
+              (nowhere Read (λ y bytes. refl) none k less);
+          no_writes = λ none k less. write_past h.after.memory (block_start thread x + k) _ (low k less)
+              (nowhere Write (λ y bytes. refl) none k less);
+        }

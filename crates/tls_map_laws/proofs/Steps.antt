@@ -21,13 +21,12 @@ use Rattle.tls_map_laws.specs.Map.{Act, has_storage}
 use Rattle.tls_map_laws.specs.Acts.{Noted, is_in, noting, stored_in}
 use Rattle.tls_map_laws.proofs.Entries.{Each}
 use Rattle.tls_map_laws.proofs.Places.{Member}
-use Rattle.tls_map_laws.proofs.Keeping.{Fits, NeverAgain, each_of, stored_fits}
+use Rattle.tls_map_laws.proofs.Known.{Known}
+use Rattle.tls_map_laws.proofs.Keeping.{Fits, each_of, stored_fits}
 
-module _ {B : Type 0} (l : Loads B) (thread : ℕ) (history : List Event) (again : NeverAgain l history)
-    (below : (seen : List Event) → IsFront seen history → (x : Instance) → Member x (instances l seen) → (place : ℕ)
-    → is_in l thread x place ≡ true → place < stack_start thread) where
+module _ {B : Type 0} (l : Loads B) (thread : ℕ) (history : List Event) (known : Known l thread history) where
   abbrev pub FitsIn : List (Act B) → List Owner → Space Event B → Type 0
-  FitsIn acts os space = Fits l thread history again acts space.seen os space.own
+  FitsIn acts os space = Fits l thread history known acts space.seen os space.own
 
   -- ** a store
 
@@ -60,11 +59,11 @@ module _ {B : Type 0} (l : Loads B) (thread : ℕ) (history : List Event) (again
       (stored_in l thread live place byte acts) os space _ (with_byte space.own place byte)
       (λ t. stored_none live place byte acts (each_of (λ y. is_in l thread y place ≡ false) live
       (λ y m. false_from_ne_true _ (λ is.
-      let low = below space.seen fits.front y m place is in
+      let low = known.below space.seen fits.front y m place is in
       let high = leb-true (stack_start thread) place
       (and_parts (nat_le (stack_start thread) place) (nat_lt (place - stack_start thread) (length space.stack)) t).0 in
       absurd (omega (arith, low, high))))))
-      fits (stored_fits l thread history again acts space.seen os space.own place byte fits)
+      fits (stored_fits l thread history known acts space.seen os space.own place byte fits)
 
   -- ** any step that changes memory by its accesses alone
 
@@ -111,9 +110,7 @@ module _ {B : Type 0} (l : Loads B) (thread : ℕ) (history : List Event) (again
 
 -- ** the machine
 
-module _ (l : Loads ℕ) (thread : ℕ) (history : List Event) (again : NeverAgain l history)
-    (below : (seen : List Event) → IsFront seen history → (x : Instance) → Member x (instances l seen) → (place : ℕ)
-    → is_in l thread x place ≡ true → place < stack_start thread) where
+module _ (l : Loads ℕ) (thread : ℕ) (history : List Event) (known : Known l thread history) where
   abbrev pub acc : Accesses (Space Event ℕ) ℕ
   acc = thread_accesses l thread
 
@@ -140,16 +137,16 @@ module _ (l : Loads ℕ) (thread : ℕ) (history : List Event) (again : NeverAga
 
   -- the law: whatever a step does, the blocks it leaves are those of the map with its stores
   pub step_fits : (acts : List (Act ℕ)) (os : List Owner) (at : After ℕ Bool (Space Event ℕ))
-      → FitsIn l thread history again below acts os at.memory
-      → NotedFits l thread history again below os acc puts
+      → FitsIn l thread history known acts os at.memory
+      → NotedFits l thread history known os acc puts
       ((machine plain_operations (noting l thread acc) no_field).step
       (left at.state (record { space = at.memory; acts = acts })))
   step_fits acts os at fits =
-      let lender = proved_accesses l thread history again below os acc puts in
-      let fine : After ℕ Bool (Proved l thread history again below os acc puts) = left at.state
+      let lender = proved_accesses l thread history known os acc puts in
+      let fine : After ℕ Bool (Proved l thread history known os acc puts) = left at.state
       (record { space = at.memory; acts = acts }, fits) in
       let image = machine_image plain_operations lender (noting l thread acc)
-      (plain l thread history again below os acc puts) (proved_image l thread history again below os acc puts)
+      (plain l thread history known os acc puts) (proved_image l thread history known os acc puts)
       no_field no_field (λ m. refl) in
-      subst (NotedFits l thread history again below os acc puts) (sym (image.step fine))
-      (noted_fits l thread history again below os acc puts ((machine plain_operations lender no_field).step fine))
+      subst (NotedFits l thread history known os acc puts) (sym (image.step fine))
+      (noted_fits l thread history known os acc puts ((machine plain_operations lender no_field).step fine))

@@ -12,31 +12,31 @@ use Rattle.thread_blocks.specs.Turns.{Begun, Says, Calls, Phase, Idle, Mid, Said
 use Rattle.thread_blocks.specs.TurnsAlike.{IsFront}
 use Rattle.tls_map_laws.specs.Map.{Act}
 use Rattle.tls_map_laws.specs.Told.{Rising, after_next, begin_acts, called_acts, resume_acts, run_acts, turn_acts, turns_acts, unless_over}
-use Rattle.tls_map_laws.proofs.Keeping.{NeverAgain}
+use Rattle.tls_map_laws.proofs.Known.{Known}
 use Rattle.tls_map_laws.proofs.Begins.{BegunFits, FitsBy}
 
-module _ {W F B : Type 0} (l : Loads B) (thread : ℕ) (history : List Event) (again : NeverAgain l history) where
+module _ {W F B : Type 0} (l : Loads B) (thread : ℕ) (history : List Event) (known : Known l thread history) where
   abbrev pub NextFits : List (Act B) → Next (Held W F B) → Type 0
-  NextFits acts (Goes h) = FitsBy l thread history again acts h
+  NextFits acts (Goes h) = FitsBy l thread history known acts h
   NextFits acts (Ends stop) = Unit {0}
-  NextFits acts (Looks h) = FitsBy l thread history again acts h
+  NextFits acts (Looks h) = FitsBy l thread history known acts h
 
   module _ (x : Turns (Held W F B) Line Event) (step_acts : List (Act B) → Held W F B → List (Act B))
       (asks : List Event → Held W F B → Option Instance) where
     abbrev Fit : List (Act B) → Held W F B → Type 0
-    Fit acts h = FitsBy l thread history again acts h
+    Fit acts h = FitsBy l thread history known acts h
 
     -- what machine and meaning each have to show
     pub record KeepsMap : Type 0 where
-      pub step : (acts : List (Act B)) (h : Held W F B) → FitsBy l thread history again acts h
+      pub step : (acts : List (Act B)) (h : Held W F B) → FitsBy l thread history known acts h
           → NextFits (step_acts acts h) (x.steps.step h)
       pub begin : (acts : List (Act B)) (line : Line) (seen : List Event) (h : Held W F B)
-          → FitsBy l thread history again acts h
+          → FitsBy l thread history known acts h
           → IsFront h.after.memory.seen seen → IsFront (with_event seen (event_by l thread line seen)) history
-          → BegunFits l thread history again (begin_acts l thread line seen acts) (x.begin line seen h)
-      pub resume : (acts : List (Act B)) (seen : List Event) (h : Held W F B) → FitsBy l thread history again acts h
+          → BegunFits l thread history known (begin_acts l thread line seen acts) (x.begin line seen h)
+      pub resume : (acts : List (Act B)) (seen : List Event) (h : Held W F B) → FitsBy l thread history known acts h
           → IsFront h.after.memory.seen seen → IsFront seen history
-          → BegunFits l thread history again (resume_acts l thread x step_acts asks seen h acts) (x.resume seen h)
+          → BegunFits l thread history known (resume_acts l thread x step_acts asks seen h acts) (x.resume seen h)
 
     module _ (keeps : KeepsMap) where
       abbrev ran : ℕ → Held W F B → List (Act B) → List (Act B)
@@ -82,7 +82,7 @@ module _ {W F B : Type 0} (l : Loads B) (thread : ℕ) (history : List Event) (a
       run_in acts todo said seen points (Waits n h) fits = fits
 
       look_in : (acts : List (Act B)) (steps : ℕ) (todo : List Line) (said : List Said) (seen : List Event)
-          (points : List ℕ) (begun : Begun (Held W F B)) → BegunFits l thread history again acts begun
+          (points : List ℕ) (begun : Begun (Held W F B)) → BegunFits l thread history known acts begun
           → Fit (called_acts l thread x step_acts asks steps begun acts)
           (held_in (after_look x steps todo said seen points begun).phase)
       look_in acts steps todo said seen points (Says ending h) fits = fits

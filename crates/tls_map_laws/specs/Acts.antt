@@ -1,13 +1,12 @@
 -- What a thread does, read off from its looks and stores: the one place where addresses of blocks are told.
-use Rattle.std.specs.Prelude.{◌≡◌, ◌<◌, ◌+◌, ◌-◌, ◌&&◌, ℕ, Bool, true, false, List, [], ◌∷◌, length, map, nat_le, nat_lt, is_some, Ok, Err, if◌then◌else◌}
+use Rattle.std.specs.Prelude.{◌-◌, ◌&&◌, ℕ, Bool, List, [], ◌∷◌, length, map, nat_le, nat_lt, is_some, if◌then◌else◌}
 use Rattle.std.specs.List.{filter}
-use Rattle.guest_machine.specs.Access.{Accesses, Refused}
+use Rattle.guest_machine.specs.Access.{Accesses}
 use Rattle.loaded_modules.specs.declared.instance.Instance.{Instance}
 use Rattle.module_table.specs.declared.events.Event.{Event}
-use Rattle.thread_blocks.specs.Held.{Held}
 use Rattle.thread_blocks.specs.Instances.{Loads, block_start, instances}
 use Rattle.thread_blocks.specs.Spaces.{Space}
-use Rattle.tls_map_laws.specs.Map.{Act, Looked, Wrote, has_storage, byte_of}
+use Rattle.tls_map_laws.specs.Map.{Act, Looked, Wrote, has_storage}
 
 abbrev pub numbers : List Instance → List ℕ
 numbers xs = map (λ (x : Instance). x.number) xs
@@ -46,19 +45,3 @@ module _ {B : Type 0} (l : Loads B) (thread : ℕ) where
     };
     code = λ noted place. acc.code noted.space place;
   }
-
--- ** the law of one moment
-
--- a thread that did this has of each live instance exactly the storage of the map
-module _ {W F B : Type 0} (l : Loads B) (thread : ℕ) (acc : Accesses (Space Event B) B) (zero_byte : B) where
-  pub record IsMap (initial : ℕ → List B) (acts : List (Act B)) (h : Held W F B) (x : Instance) : Type 0 where
-    -- while it holds the block, each byte that it reads there is the map's, and each write is allowed
-    pub reads : has_storage x.number acts ≡ true → (k : ℕ) → k < length (l.block x)
-        → acc.byte h.after.memory (block_start thread x + k) ≡ Ok (byte_of initial zero_byte x.number k acts)
-    pub writes : has_storage x.number acts ≡ true → (k : ℕ) → k < length (l.block x)
-        → acc.writes h.after.memory (block_start thread x + k) ≡ Ok tt
-    -- while it does not, no access is
-    pub no_reads : has_storage x.number acts ≡ false → (k : ℕ) → k < length (l.block x)
-        → acc.byte h.after.memory (block_start thread x + k) ≡ Err Refused
-    pub no_writes : has_storage x.number acts ≡ false → (k : ℕ) → k < length (l.block x)
-        → acc.writes h.after.memory (block_start thread x + k) ≡ Err Refused
