@@ -22,6 +22,15 @@ use Rattle.tls_map_laws.proofs.Places.{Member}
 use Rattle.tls_map_laws.proofs.Known.{Known}
 use Rattle.tls_map_laws.proofs.Keeping.{Fits, load_fits, look_fits, reach_fits}
 
+pub front_of : (seen : List Event) (e : Option Event) (history : List Event) → IsFront (with_event seen e) history
+    → IsFront seen history
+front_of seen None history f = f
+front_of seen (Some e) history f = (e ∷ f.0, f.1 ∙ joined seen e f.0)
+  where
+    joined : (xs : List Event) (y : Event) (ys : List Event) → (xs ++ y ∷ []) ++ ys ≡ xs ++ y ∷ ys
+    joined [] y ys = refl
+    joined (x ∷ xs) y ys = ap (λ (more : List Event). x ∷ more) (joined xs y ys)
+
 module _ {W F B : Type 0} (l : Loads B) (thread : ℕ) (history : List Event) (known : Known l thread history) where
   abbrev pub FitsBy : List (Act B) → Held W F B → Type 0
   FitsBy acts h = Fits l thread history known acts h.after.memory.seen h.owners h.after.memory.own
@@ -150,14 +159,6 @@ module _ {W F B : Type 0} (ops : Operations W F B) (l : Loads B) (show : List B 
       (record { number = number; told = record { image = image; action = Peek symbol size } }) symbol size
       (looked l thread seen h) (instance_at l seen image) fits (λ y e. known.at seen image y e)
 
-  front_of : (seen : List Event) (e : Option Event) → IsFront (with_event seen e) history → IsFront seen history
-  front_of seen None f = f
-  front_of seen (Some e) f = (e ∷ f.0, f.1 ∙ joined seen e f.0)
-    where
-      joined : (xs : List Event) (y : Event) (ys : List Event) → (xs ++ y ∷ []) ++ ys ≡ xs ++ y ∷ ys
-      joined [] y ys = refl
-      joined (x ∷ xs) y ys = ap (λ (more : List Event). x ∷ more) (joined xs y ys)
-
   -- the law
   pub begin_fits : (acts : List (Act B)) (line : Line) (seen : List Event) (h : Held W F B) → Fit acts h
       → IsFront h.after.memory.seen seen → IsFront (with_event seen (event_by l thread line seen)) history
@@ -165,4 +166,4 @@ module _ {W F B : Type 0} (ops : Operations W F B) (l : Loads B) (show : List B 
   unfolding begin_line
   begin_fits acts line seen h fits f g =
       by_fits acts line.number line.told.image line.told.action seen h
-      (looked_fits l thread history known acts seen h fits f (front_of seen (event_by l thread line seen) g)) g
+      (looked_fits l thread history known acts seen h fits f (front_of seen (event_by l thread line seen) history g)) g

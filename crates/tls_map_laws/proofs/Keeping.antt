@@ -14,7 +14,7 @@ use Rattle.tls_map_laws.specs.Acts.{is_in, look_of, numbers, stored_in}
 use Rattle.tls_map_laws.proofs.Bytes.{bytes_after}
 use Rattle.tls_map_laws.proofs.Entries.{AreData, Each, blocks, put_owners, put_ranges, rest_data, rest_of, stored_put}
 use Rattle.tls_map_laws.proofs.Places.{Member}
-use Rattle.tls_map_laws.proofs.Known.{IsLow, Known, front_then}
+use Rattle.tls_map_laws.proofs.Known.{IsLow, Known, front_then, known_front}
 use Rattle.tls_map_laws.proofs.Looks.{IsGood, held_blocks, made_data}
 
 -- ** lists
@@ -289,3 +289,18 @@ module _ {B : Type 0} (l : Loads B) (thread : ℕ) (history : List Event) (known
         live = fits.live;
         untouched = fits.untouched;
       }
+
+-- what fits a history fits each of its fronts that the thread has not passed
+pub fits_front : {B : Type 0} (l : Loads B) (thread : ℕ) (history : List Event) (known : Known l thread history)
+    (acts : List (Act B)) (seen : List Event) (os : List Owner) (rs : List (Range B)) (shorter : List Event)
+    (to : IsFront shorter history) → IsFront seen shorter → Fits l thread history known acts seen os rs
+    → Fits l thread shorter (known_front l thread shorter history to known) acts seen os rs
+fits_front l thread history known acts seen os rs shorter to front fits = record {
+  rest = fits.rest;
+  data_behind = fits.data_behind;
+  owners = fits.owners;
+  ranges = fits.ranges;
+  front = front;
+  live = fits.live;
+  untouched = λ later f g y m none. fits.untouched later f (front_then later shorter history g to) y m none;
+}

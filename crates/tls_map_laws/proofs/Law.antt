@@ -1,43 +1,37 @@
--- The law of the machine, at all rising points: what a thread reads in a block that it holds is the map's byte.
-use Rattle.std.proofs.Common.{◌≡◌, ◌⊎◌, ◌+◌, ◌++◌, ◌<◌, ℕ, true, false, List, [], ◌∷◌, length, Some, None, refl}
-use Rattle.std.specs.Prelude.{slice_get, unwrap_or}
-use Rattle.address_map.specs.Map.{stack_start}
+-- A thread by itself: from its first look on it has what the map says, at all rising points.
+use Rattle.std.proofs.Common.{◌≡◌, ◌++◌, ℕ, List, [], ◌∷◌, Option, Some, None, refl}
 use Rattle.guest_arithmetic.specs.Plain.{plain_operations}
-use Rattle.guest_machine.specs.Ranges.{Range, byte_in}
 use Rattle.guest_machine.specs.Run.{run, state_after}
 use Rattle.guest_machine.specs.State.{start_of}
 use Rattle.guest_machine.specs.Use.{left}
-use Rattle.guest_operands.specs.declared.space.Access.{Access}
-use Rattle.job_text.specs.declared.thread_lines.ThreadLine.{ThreadLine}
+use Rattle.job_meaning.specs.declared.values.Word.TheVariants.{Number}
 use Rattle.loaded_modules.specs.declared.instance.Instance.{Instance}
 use Rattle.module_table.specs.declared.events.Event.{Event}
-use Rattle.thread_blocks.specs.Held.{ranges_in}
-use Rattle.thread_blocks.specs.Instances.{Loads, block_start, fixed_at, instance_at, instances}
-use Rattle.thread_blocks.specs.JobWorlds.{held_in, numbered_lines, thread_ready}
-use Rattle.thread_blocks.specs.Lines.{Line}
-use Rattle.thread_blocks.specs.MachineTurns.{pointer_word}
-use Rattle.thread_blocks.specs.RunTime.{Runs, thread_accesses, thread_turns}
-use Rattle.thread_blocks.specs.Turns.{Thread, ready, turns}
+use Rattle.shared_data.specs.Told.{steps_of}
+use Rattle.thread_blocks.specs.Held.{Held}
+use Rattle.thread_blocks.specs.Instances.{Loads, instances}
+use Rattle.thread_blocks.specs.JobWorlds.{held_in, thread_ready}
+use Rattle.thread_blocks.specs.Lines.{Line, event_by}
+use Rattle.thread_blocks.specs.Turns.{Turns, ready, turns, with_last}
 use Rattle.thread_blocks.specs.TurnsAlike.{IsFront}
+use Rattle.whole_meaning.specs.Meanings.{Meaning}
+use Rattle.whole_meaning.specs.Threads.{meant_ready, ops}
 use Rattle.tls_map_laws.specs.Map.{Act}
-use Rattle.tls_map_laws.specs.Acts.{IsMap, is_in}
-use Rattle.tls_map_laws.specs.Machine.{machine_acts, machine_asks}
-use Rattle.tls_map_laws.specs.Told.{Rising, run_acts, turns_acts, with_look}
+use Rattle.tls_map_laws.specs.Told.{AtRising, first_acts, look_acts, run_acts, turns_acts}
 use Rattle.tls_map_laws.proofs.Entries.{blocks}
-use Rattle.tls_map_laws.proofs.Places.{Member}
 use Rattle.tls_map_laws.proofs.Known.{Known}
 use Rattle.tls_map_laws.proofs.Keeping.{Fits}
 use Rattle.tls_map_laws.proofs.Begins.{FitsBy, looked_fits}
-use Rattle.tls_map_laws.proofs.Turns.{run_fits, turns_fit}
-use Rattle.tls_map_laws.proofs.Machine.{machine_keeps}
-use Rattle.tls_map_laws.proofs.Moment.{is_map}
+use Rattle.tls_map_laws.proofs.Turns.{KeepsMap, rising_fits, rising_stands, within_fits}
+
+-- ** before its first line
 
 module _ {B : Type 0} (l : Loads B) (thread : ℕ) (history : List Event) (known : Known l thread history) where
   no_blocks : (ys : List Instance) → blocks l thread [] ys ≡ []
   no_blocks [] = refl
   no_blocks (y ∷ ys) = no_blocks ys
 
-  pub nothing_fits : Fits l thread history known [] [] [] []
+  nothing_fits : Fits l thread history known [] [] [] []
   nothing_fits = record {
     rest = [];
     data_behind = tt;
@@ -48,56 +42,57 @@ module _ {B : Type 0} (l : Loads B) (thread : ℕ) (history : List Event) (known
     untouched = λ later f g y m none. refl;
   }
 
-module _ (l : Loads ℕ) (thread : ℕ) (history : List Event) (known : Known l thread history)
-    (initial : ℕ → List ℕ)
-    (fresh : (seen : List Event) → IsFront seen history → (x : Instance) → Member x (instances l seen) → (k : ℕ)
-    → k < length (l.block x)
-    → slice_get (l.block x) k ≡ Some (unwrap_or (slice_get (initial x.number) k) 0)) where
-  abbrev fixed : List Event → List (Range ℕ)
-  fixed seen = pointer_word plain_operations thread ∷ fixed_at l seen
+pub machine_first : (l : Loads ℕ) (thread : ℕ) (history : List Event) (known : Known l thread history)
+    → FitsBy l thread history known (first_acts l) (thread_ready l thread)
+machine_first l thread history known =
+    looked_fits l thread history known [] []
+    (record {
+      after = left (start_of plain_operations 0 0 0 0 0) (record { seen = []; stack = []; own = [] });
+      owners = [];
+      asked = None;
+    })
+    (nothing_fits l thread history known) ([], refl) (history, refl)
 
-  -- a thread before its first line
-  abbrev first_acts : List (Act ℕ)
-  first_acts = with_look l [] []
+pub meant_first : (m : Meaning) (thread : ℕ) (history : List Event) (known : Known m.loads thread history)
+    → FitsBy m.loads thread history known (first_acts m.loads) (meant_ready m thread)
+meant_first m thread history known =
+    looked_fits m.loads thread history known [] []
+    (record {
+      after = left (start_of ops 0 0 (Number 0) (Number 0) (Number 0)) (record { seen = []; stack = []; own = [] });
+      owners = [];
+      asked = None;
+    })
+    (nothing_fits m.loads thread history known) ([], refl) (history, refl)
 
-  first_fits : FitsBy l thread history known first_acts (thread_ready l thread)
-  first_fits =
-      looked_fits l thread history known [] []
-      (record {
-        after = left (start_of plain_operations 0 0 0 0 0) (record { seen = []; stack = []; own = [] });
-        owners = [];
-        asked = None;
-      })
-      (nothing_fits l thread history known) ([], refl) (history, refl)
+-- ** its turns. h: what it holds before the first
 
-  -- between turns
-  pub turns_keep : (fuel : ℕ) (own : List ThreadLine) (points : List (List Event))
-      → let t : Thread Runs Line Event = ready (thread_ready l thread) (numbered_lines 1 own) in
-      let x = thread_turns l thread fuel in
-      Rising l thread x (machine_acts l thread) (machine_asks l thread) history t points
-      → FitsBy l thread history known
-      (turns_acts l thread x (machine_acts l thread) (machine_asks l thread) t points first_acts)
-      (held_in (turns x t points).phase)
-  turns_keep fuel own points rising =
-      turns_fit l thread history known (thread_turns l thread fuel) (machine_acts l thread) (machine_asks l thread)
-      (machine_keeps l thread history known fuel) points (ready (thread_ready l thread) (numbered_lines 1 own))
-      first_acts rising first_fits
+module _ {W F B : Type 0} (l : Loads B) (thread : ℕ) (x : Turns (Held W F B) Line Event)
+    (step_acts : List (Act B) → Held W F B → List (Act B)) (asks : List Event → Held W F B → Option Instance)
+    (keeps : (history : List Event) (known : Known l thread history)
+    → KeepsMap l thread history known x step_acts asks)
+    (history : List Event) (known : Known l thread history) (h : Held W F B) (lines : List Line)
+    (first : FitsBy l thread history known (first_acts l) h) (none : IsFront h.after.memory.seen []) where
+  -- the law between turns
+  pub alone_fits : (points : List (List Event)) → AtRising x (event_by l thread) history (ready h lines) points
+      → FitsBy l thread history known (turns_acts l thread x step_acts asks (ready h lines) points (first_acts l))
+      (held_in (turns x (ready h lines) points).phase)
+  alone_fits points rising =
+      rising_fits l thread x step_acts asks keeps history known points (ready h lines) (first_acts l) [] first none
+      rising.follows rising.fronts
 
-  -- and after any steps from there on
-  pub steps_keep : (fuel n : ℕ) (h : Runs) (acts : List (Act ℕ)) → FitsBy l thread history known acts h
-      → let x = thread_turns l thread fuel in
-      FitsBy l thread history known (run_acts l thread x (machine_acts l thread) (machine_asks l thread) n h acts)
-      (state_after (run x.steps n h))
-  steps_keep fuel n h acts fits =
-      run_fits l thread history known (thread_turns l thread fuel) (machine_acts l thread) (machine_asks l thread)
-      (machine_keeps l thread history known fuel) n h acts fits
-
-  -- then each byte of each live instance's block is the map's
-  pub moments : (acts : List (Act ℕ)) (h : Runs) (fits : FitsBy l thread history known acts h) (x : Instance)
-      → Member x (instances l h.after.memory.seen)
-      → ((how : Access) (k : ℕ) → k < length (l.block x)
-      → byte_in how (ranges_in fits.rest ++ fixed h.after.memory.seen) (block_start thread x + k) ≡ None)
-      → IsMap l thread (thread_accesses l thread) 0 initial acts h x
-  unfolding thread_accesses
-  moments acts h fits x member beside =
-      is_map plain_operations l thread fixed 0 initial history known around acts h fits x member beside
+  -- and after any steps of one
+  pub alone_within : (points : List (List Event)) (seen : List Event) (from : ℕ × Held W F B) (n : ℕ)
+      → AtRising x (event_by l thread) history (ready h lines) (with_last points seen)
+      → let t = turns x (ready h lines) points in
+      steps_of x t.todo t.phase seen ≡ Some from
+      → FitsBy l thread history known (run_acts l thread x step_acts asks n from.1
+      (look_acts l thread x step_acts asks t.todo t.phase seen
+      (turns_acts l thread x step_acts asks (ready h lines) points (first_acts l))))
+      (state_after (run x.steps n from.1))
+  alone_within points seen from n rising begun =
+      let t = turns x (ready h lines) points in
+      let did = turns_acts l thread x step_acts asks (ready h lines) points (first_acts l) in
+      let stands = rising_stands l thread x step_acts asks keeps history known points seen (ready h lines) (first_acts l)
+      [] first none rising.follows rising.fronts in
+      within_fits l thread history known x step_acts asks (keeps history known) did t seen from n stands.fits stands.front
+      stands.mine begun

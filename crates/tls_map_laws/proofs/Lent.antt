@@ -24,7 +24,7 @@ module _ {B : Type 0} where
 
   no_data : (xs : List (Owned B)) → AreData xs → blocks_in xs ≡ []
   no_data [] are = refl
-  no_data (x ∷ xs) are = let f = are.0 in let rest = no_data xs are.1 in rw f rest
+  no_data (x ∷ xs) are = let f = are.0.kind in let rest = no_data xs are.1 in rw f rest
 
 module _ {B : Type 0} (l : Loads B) (thread : ℕ) where
   all_blocks : (acts : List (Act B)) (ys : List Instance) (rest : List (Owned B)) → AreData rest
