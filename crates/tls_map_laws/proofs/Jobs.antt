@@ -46,9 +46,9 @@ use Rattle.tls_map_laws.proofs.Looks.{made_each}
 use Rattle.tls_map_laws.proofs.Keeping.{lows}
 use Rattle.tls_map_laws.proofs.Begins.{FitsBy, front_of}
 use Rattle.tls_map_laws.proofs.Turns.{KeepsMap}
-use Rattle.tls_map_laws.proofs.Machine.{found_member, machine_keeps}
+use Rattle.tls_map_laws.proofs.Machine.{machine_keeps}
 use Rattle.tls_map_laws.proofs.Meaning.{meant_keeps}
-use Rattle.tls_map_laws.proofs.Moment.{is_map}
+use Rattle.tls_map_laws.proofs.Moment.{anew, found_member, is_map}
 use Rattle.tls_map_laws.proofs.Orders.{AllFit, order_fit, thread_fit, thread_within}
 use Rattle.tls_map_laws.proofs.Law.{alone_fits, alone_within, machine_first, meant_first}
 
@@ -62,9 +62,11 @@ module _ {W F B : Type 0} (ops : Operations W F B) (l : Loads B) (thread : ℕ) 
 
   pub are_map : (acts : List (Act B)) (h : Held W F B) → FitsBy l thread history known acts h
       → AreMap l thread (space_accesses ops (stack_start thread) fixed open_everywhere) initial zero_byte history acts h
-  are_map acts h fits x lived =
-      is_map ops l thread fixed initial zero_byte history known around acts h fits x lived.seen lived.front
-      (found_member (λ (y : Instance). y.number == x.number) (instances l lived.seen) x lived.live)
+  are_map acts h fits = record {
+    each = λ x lived. is_map ops l thread fixed initial zero_byte history known around acts h fits x lived.seen lived.front
+        (found_member (λ (y : Instance). y.number == x.number) (instances l lived.seen) x lived.live);
+    anew = anew ops l thread fixed initial zero_byte history known around acts h fits;
+  }
 
 -- ** fewer points
 
