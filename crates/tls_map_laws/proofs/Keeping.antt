@@ -157,7 +157,7 @@ module _ {B : Type 0} (l : Loads B) (thread : ℕ) (history : List Event) (known
       ∙ (ap (λ rs. owned (owners_of (blocks l thread acts (instances l seen) ++ fits.rest)) rs) fits.ranges
       ∙ owned_again (blocks l thread acts (instances l seen) ++ fits.rest))
 
-  lows : (seen : List Event) → IsFront seen history → Each (λ (y : Instance). IfSome (l.shared y) IsLow) (instances l seen)
+  pub lows : (seen : List Event) → IsFront seen history → Each (λ (y : Instance). IfSome (l.shared y) IsLow) (instances l seen)
   lows seen g = each_of (λ y. IfSome (l.shared y) IsLow) (instances l seen) (λ y m. known.low seen g y m)
 
   one_of : (acts : List (Act B)) (old seen : List Event) (os : List Owner) (rs : List (Range B)) → Fits acts old os rs

@@ -160,7 +160,7 @@ module _ {B : Type 0} (l : Loads B) (thread : ℕ) where
   small_or (Some range) true old low small = low.1
   small_or (Some range) false old low small = small
 
-  made_each : (loads : Instance → Bool) (xs : List (Owned B)) (live : List Instance)
+  pub made_each : (loads : Instance → Bool) (xs : List (Owned B)) (live : List Instance)
       → Each (λ (y : Instance). IfSome (l.shared y) IsLow) live → AreSmall xs
       → AreData (flat_map (data_after l loads xs) live)
   made_each loads xs [] low small = tt

@@ -31,15 +31,9 @@ use Rattle.tls_map_laws.specs.Told.{with_asked, with_look}
 use Rattle.tls_map_laws.proofs.Places.{Member}
 use Rattle.tls_map_laws.proofs.Steps.{FitsIn, NotedFits, acc, follows, puts, step_fits}
 use Rattle.tls_map_laws.proofs.Known.{Known}
+use Rattle.tls_map_laws.proofs.Moment.{found_member}
 use Rattle.tls_map_laws.proofs.Begins.{BegunFits, FitsBy, begin_fits, looked_fits, reached_fits}
 use Rattle.tls_map_laws.proofs.Turns.{KeepsMap, NextFits}
-
-pub found_member : (p : Instance → Bool) (xs : List Instance) (x : Instance) → find p xs ≡ Some x → Member x xs
-found_member p [] x e = cc
-found_member p (y ∷ ys) x e = elim (cases_Bool (p y)) [
-  | inl t ↦ inl (let same : Some y ≡ Some x = rw t at e in let s = same in cc)
-  | inr f ↦ inr (found_member p ys x (rw f at e))
-]
 
 module _ (l : Loads ℕ) (thread : ℕ) (history : List Event) (known : Known l thread history) where
   abbrev Fit : List (Act ℕ) → Runs → Type 0

@@ -44,7 +44,7 @@ use Rattle.tls_map_laws.proofs.Steps.{FitsIn, Proved, plain, proved_accesses}
 use Rattle.tls_map_laws.proofs.Known.{Known}
 use Rattle.tls_map_laws.proofs.Begins.{BegunFits, FitsBy, begin_fits, looked_fits, reached_fits}
 use Rattle.tls_map_laws.proofs.Turns.{KeepsMap, NextFits}
-use Rattle.tls_map_laws.proofs.Machine.{found_member}
+use Rattle.tls_map_laws.proofs.Moment.{found_member}
 
 abbrev At : Type 0
 At = After Word Flag Memory

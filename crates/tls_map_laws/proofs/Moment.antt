@@ -1,8 +1,9 @@
 -- What a thread reads at a place of a block that it holds is the map's byte.
-use Rattle.std.proofs.Common.{◌≡◌, ◌∙◌, ◌⊎◌, ◌+◌, ◌-◌, ◌++◌, ◌<◌, ◌≤◌, ◌^◌, ◌&&◌, ℕ, Bool, true, false, List, [], ◌∷◌, length, Option, Some, None, refl, ap, subst, inl, inr, arith}
+use Rattle.std.proofs.Common.{◌≡◌, ◌∙◌, ◌⊎◌, ◌+◌, ◌-◌, ◌++◌, ◌<◌, ◌≤◌, ◌^◌, ◌&&◌, ℕ, Bool, true, false, List, [], ◌∷◌, length, Option, Some, None, refl, sym, ap, subst, inl, inr, arith, ◌==◌}
 use Rattle.std.specs.Prelude.{nat_le, nat_lt, slice_get, unwrap_or, ok_or}
+use Rattle.std.specs.List.{find}
 use Rattle.std.specs.Option.{option_or}
-use Rattle.std.proofs.lemmas.Bool.{and_parts, false_from_ne_true, leb-true, le-leb, lt-ltb, ltb-true}
+use Rattle.std.proofs.lemmas.Bool.{and_parts, cases_Bool, eq-eqb, eqb-true, false_from_ne_true, leb-true, le-leb, lt-ltb, ltb-true}
 use Rattle.address_map.specs.Map.{stack_start}
 use Rattle.guest_arithmetic.specs.Values.{Operations}
 use Rattle.guest_operands.specs.declared.space.Access.{Access}
@@ -17,12 +18,35 @@ use Rattle.thread_blocks.specs.Spaces.{Space, open_everywhere, space_accesses, s
 use Rattle.thread_blocks.specs.TurnsAlike.{IsFront}
 use Rattle.tls_map_laws.specs.Map.{Act, byte_of, has_storage, last_written}
 use Rattle.tls_map_laws.specs.Acts.{is_in}
-use Rattle.tls_map_laws.specs.Moments.{IsMap}
+use Rattle.tls_map_laws.specs.Moments.{BeginsAnew, IsMap}
 use Rattle.tls_map_laws.proofs.Bytes.{bytes_after, bytes_are}
 use Rattle.tls_map_laws.proofs.Entries.{AreData}
 use Rattle.tls_map_laws.proofs.Places.{Member, block_there, none_there}
 use Rattle.tls_map_laws.proofs.Known.{Around, Known}
 use Rattle.tls_map_laws.proofs.Keeping.{Fits, each_of}
+
+pub found_member : (p : Instance → Bool) (xs : List Instance) (x : Instance) → find p xs ≡ Some x → Member x xs
+found_member p [] x e = cc
+found_member p (y ∷ ys) x e = elim (cases_Bool (p y)) [
+  | inl t ↦ inl (let same : Some y ≡ Some x = rw t at e in let s = same in cc)
+  | inr f ↦ inr (found_member p ys x (rw f at e))
+]
+
+-- of instances with numbers of their own
+found_one : (xs : List Instance) (x : Instance) → Member x xs
+    → ((z : Instance) → Member z xs → z.number ≡ x.number → z ≡ x)
+    → find (λ (y : Instance). y.number == x.number) xs ≡ Some x
+found_one [] x m one = absurd m
+found_one (y ∷ ys) x m one = elim (cases_Bool (y.number == x.number)) [
+  | inl t ↦ rw t (ap (λ (z : Instance). Some z) (one y (inl refl) (eqb-true y.number x.number t)))
+  | inr f ↦ rw f (found_one ys x (later m f) (λ z n e. one z (inr n) e))
+]
+  where
+    later : (y ≡ x) ⊎ Member x ys → (y.number == x.number) ≡ false → Member x ys
+    later (inl same) f =
+        let yes = eq-eqb y.number x.number (ap (λ (z : Instance). z.number) same) in
+        absurd (let both : true ≡ false = sym yes ∙ f in cc)
+    later (inr m) f = m
 
 module _ {W F B : Type 0} (ops : Operations W F B) (l : Loads B) (thread : ℕ) (fixed : List Event → List (Range B))
     (initial : Instance → List B) (zero_byte : B) (history : List Event) (known : Known l thread history)
@@ -143,4 +167,22 @@ module _ {W F B : Type 0} (ops : Operations W F B) (l : Loads B) (thread : ℕ) 
               (nowhere Read (λ y bytes. refl) none k less);
           no_writes = λ none k less. write_past h.after.memory (block_start thread x + k) _ (low k less)
               (nowhere Write (λ y bytes. refl) none k less);
+          live = λ has. found_one live x (member has)
+              (λ z m e. known.again.one h.after.memory.seen h.after.memory.seen fits.front fits.front x z (member has) m e);
         }
+
+  -- the law of an instance that is not held yet
+  pub anew : (acts : List (Act B)) (h : Held W F B)
+      → Fits l thread history known acts h.after.memory.seen h.owners h.after.memory.own
+      → (x : Instance) → BeginsAnew l thread acc initial zero_byte history acts h x
+  anew acts h fits x later to front live none k less =
+      let was = found_member (λ (y : Instance). y.number == x.number) (instances l later) x live in
+      let fresh = around.fresh later front x was k less in
+      let last = last_written x.number k acts in
+      let same = sym (bytes_are x.number k (l.block x) acts less)
+      ∙ ap (λ (bytes : List B). slice_get bytes k) (fits.untouched later to front x was none) in
+      same_some _ _ (sym (last_or last (slice_get (initial x) k) zero_byte)
+      ∙ (sym (ap (λ (o : Option B). option_or last o) fresh) ∙ (same ∙ fresh)))
+    where
+      same_some : (a b : B) → Some a ≡ Some b → a ≡ b
+      same_some a b e = let s = e in cc
