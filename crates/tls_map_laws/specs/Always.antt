@@ -1,26 +1,27 @@
 -- A thread has what the map says at all times: between its turns, and after any steps of one.
-use Rattle.std.specs.Prelude.{◌≡◌, ℕ, List, Option, Some}
+use Rattle.std.specs.Prelude.{◌≡◌, ◌+◌, ◌≤◌, ℕ, List, [], ◌∷◌, length, Option, Some}
 use Rattle.guest_machine.specs.Access.{Accesses}
 use Rattle.guest_machine.specs.Run.{run, state_after}
+use Rattle.job_text.specs.declared.thread_lines.Action.TheVariants.{Peek}
 use Rattle.loaded_modules.specs.declared.instance.Instance.{Instance}
 use Rattle.module_table.specs.declared.events.Event.{Event}
 use Rattle.shared_data.specs.Told.{steps_of}
 use Rattle.thread_blocks.specs.Held.{Held}
-use Rattle.thread_blocks.specs.Instances.{Loads}
+use Rattle.thread_blocks.specs.Instances.{Loads, instance_at}
 use Rattle.thread_blocks.specs.JobWorlds.{Shared, held_in, shared_order, with_data}
 use Rattle.thread_blocks.specs.Lines.{Line, event_by}
 use Rattle.thread_blocks.specs.Spaces.{Space}
-use Rattle.thread_blocks.specs.Turns.{Thread, Turns, event_of, turns, with_event, with_last}
-use Rattle.tls_map_laws.specs.Map.{Act}
+use Rattle.thread_blocks.specs.Turns.{Ending, Idle, Said, Thread, Turns, event_of, turn, turns, with_event, with_last}
+use Rattle.tls_map_laws.specs.Map.{Act, bytes_of}
 use Rattle.tls_map_laws.specs.Moments.{AreMap}
-use Rattle.tls_map_laws.specs.Told.{AtRising, first_acts, look_acts, order_acts, run_acts, turns_acts}
+use Rattle.tls_map_laws.specs.Told.{AtRising, begin_acts, first_acts, look_acts, order_acts, run_acts, turns_acts}
 
--- ** one thread by itself, with what its turns see
+-- ** one thread by itself, with what its turns see. show: how a line ends that shows these bytes
 
 module _ {W F B : Type 0} (l : Loads B) (thread : ℕ) (x : Turns (Held W F B) Line Event)
     (step_acts : List (Act B) → Held W F B → List (Act B)) (asks : List Event → Held W F B → Option Instance)
-    (acc : Accesses (Space Event B) B) (initial : Instance → List B) (zero_byte : B) (history : List Event)
-    (first : Thread (Held W F B) Line Event) where
+    (acc : Accesses (Space Event B) B) (initial : Instance → List B) (zero_byte : B)
+    (show : Line → List Event → List B → Ending) (history : List Event) (first : Thread (Held W F B) Line Event) where
   -- what it did in these turns
   abbrev pub did : List (List Event) → List (Act B)
   did points = turns_acts l thread x step_acts asks first points (first_acts l)
@@ -38,12 +39,28 @@ module _ {W F B : Type 0} (l : Loads B) (thread : ℕ) (x : Turns (Held W F B) L
       (look_acts l thread x step_acts asks t.todo t.phase seen (did points)))
       (state_after (run x.steps n from.1))
 
+  -- a peek at bytes of a live image's variable, in the turn that follows, shows those of the map
+  abbrev pub ShowsMap : List (List Event) → List Event → Type 0
+  ShowsMap points seen = (number image : ℕ) (symbol : List ℕ) (size : ℕ) (todo : List Line) (h : Held W F B)
+      (said : List Said) (old : List Event) (y : Instance) (offset : ℕ)
+      → let line : Line = record { number = number; told = record { image = image; action = Peek symbol size } } in
+      turns x first points ≡ record { todo = line ∷ todo; phase = Idle h; said = said; seen = old }
+      → instance_at l seen image ≡ Some y → l.variable image symbol ≡ Some offset
+      → offset + size ≤ length (l.block y)
+      → (turn x (turns x first points) seen).said ≡ with_last said (record {
+        points = length seen ∷ [];
+        ending = show line seen
+            (bytes_of (initial y) zero_byte y.number offset size (begin_acts l thread line seen (did points)));
+      })
+
   -- at any rising points
   pub record HasMap : Type 0 where
     pub between : (points : List (List Event)) → AtRising x (event_by l thread) history first points
         → HasMapAfter points
     pub within : (points : List (List Event)) (seen : List Event)
         → AtRising x (event_by l thread) history first (with_last points seen) → HasMapWithin points seen
+    pub peeks : (points : List (List Event)) (seen : List Event)
+        → AtRising x (event_by l thread) history first (with_last points seen) → ShowsMap points seen
 
 -- ** all threads of a job, in any order of turns, each of which begins with the data that the turn before left
 
