@@ -28,13 +28,13 @@ use Rattle.thread_blocks.specs.Lines.{Line, event_by}
 use Rattle.thread_blocks.specs.MachineTurns.{pointer_word}
 use Rattle.thread_blocks.specs.RunTime.{Runs, thread_accesses, thread_turns}
 use Rattle.thread_blocks.specs.Spaces.{Space, open_everywhere, space_accesses}
-use Rattle.thread_blocks.specs.Turns.{Thread, Turns, at_number, event_of, ready, turn, with_event, with_last}
+use Rattle.thread_blocks.specs.Turns.{Ending, Thread, Turns, at_number, event_of, ready, turn, with_event, with_last}
 use Rattle.thread_blocks.specs.TurnsAlike.{IsFront}
 use Rattle.thread_blocks.proofs.Orders.{order-front}
 use Rattle.whole_meaning.specs.Jobs.{job_start as meant_start, ready_from as meant_from}
 use Rattle.whole_meaning.specs.Meanings.{Meaning}
 use Rattle.whole_meaning.specs.Threads.{Meant, meant_accesses, meant_ready, meant_turns, ops}
-use Rattle.tls_map_laws.specs.Always.{OrdersHaveMap}
+use Rattle.tls_map_laws.specs.Always.{OrdersHaveMap, PeeksShow}
 use Rattle.tls_map_laws.specs.Machine.{machine_acts, machine_asks}
 use Rattle.tls_map_laws.specs.Map.{Act}
 use Rattle.tls_map_laws.specs.Meaning.{meant_acts, meant_asks}
@@ -49,7 +49,7 @@ use Rattle.tls_map_laws.proofs.Turns.{KeepsMap}
 use Rattle.tls_map_laws.proofs.Machine.{machine_keeps}
 use Rattle.tls_map_laws.proofs.Meaning.{meant_keeps}
 use Rattle.tls_map_laws.proofs.Moment.{anew, found_member, is_map}
-use Rattle.tls_map_laws.proofs.Orders.{AllFit, order_fit, thread_fit, thread_within}
+use Rattle.tls_map_laws.proofs.Orders.{AllFit, order_fit, thread_fit, thread_stands, thread_within}
 use Rattle.tls_map_laws.proofs.Law.{alone_fits, alone_within, machine_first, meant_first}
 
 -- ** all instances that are ever live
@@ -102,6 +102,12 @@ module _ {W F B : Type 0} (l : Loads B) (x : ℕ → Turns (Held W F B) Line Eve
     (maps : (history : List Event) (legal : IsLegal l.infos l.last_offset history) (thread : ℕ) → 1 ≤ thread
     → (acts : List (Act B)) (h : Held W F B) → FitsBy l thread history (known history legal thread) acts h
     → AreMap l thread (acc thread) initial zero_byte history acts h)
+    (show : ℕ → Line → List Event → List B → Ending)
+    (shows : (history : List Event) (legal : IsLegal l.infos l.last_offset history) (thread : ℕ) → 1 ≤ thread
+    → (acts : List (Act B)) (t : Thread (Held W F B) Line Event) (seen : List Event)
+    → FitsBy l thread history (known history legal thread) acts (held_in t.phase)
+    → IsFront (held_in t.phase).after.memory.seen seen → IsFront seen history
+    → PeeksShow l thread (x thread) initial zero_byte (show thread) acts t seen)
     (start : Shared W F B Line)
     (first : (history : List Event) (legal : IsLegal l.infos l.last_offset history)
     → AllFit l x step_acts asks keeps history (known history legal) (λ i. first_acts l) start)
@@ -126,7 +132,7 @@ module _ {W F B : Type 0} (l : Loads B) (x : ℕ → Turns (Held W F B) Line Eve
 
   pub orders : (order : List ℕ) (thread : ℕ) (t : Thread (Held W F B) Line Event)
       → at_number (shared_order x event order start).threads thread ≡ Some t
-      → OrdersHaveMap l x step_acts asks acc initial zero_byte start order thread t
+      → OrdersHaveMap l x step_acts asks acc initial zero_byte show start order thread t
   orders order thread t at =
       let w = shared_order x event order start in
       let now = w.events in
@@ -144,6 +150,11 @@ module _ {W F B : Type 0} (l : Loads B) (x : ℕ → Turns (Held W F B) Line Eve
             (thread_within l x step_acts asks keeps later (known later legal') _ w
             (all later legal' (front_of now (event_of (event thread) t now) later (itself later)))
             thread t at (itself later) from n begun);
+        peeks =
+            let to = front_of now (event_of (event thread) t now) later (itself later) in
+            let stands = thread_stands l x step_acts asks keeps later (known later legal') _ w (all later legal' to) thread t
+            at (itself later) in
+            shows later legal' thread some _ (with_data w.shared t) now stands.0 stands.1 to;
       }
 
 -- ** before the first turn

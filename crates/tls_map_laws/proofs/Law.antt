@@ -22,7 +22,7 @@ use Rattle.tls_map_laws.proofs.Entries.{blocks}
 use Rattle.tls_map_laws.proofs.Known.{Known}
 use Rattle.tls_map_laws.proofs.Keeping.{Fits}
 use Rattle.tls_map_laws.proofs.Begins.{FitsBy, looked_fits}
-use Rattle.tls_map_laws.proofs.Turns.{KeepsMap, rising_fits, rising_stands, within_fits}
+use Rattle.tls_map_laws.proofs.Turns.{KeepsMap, Stands, rising_fits, rising_stands, within_fits}
 
 -- ** before its first line
 
@@ -80,6 +80,15 @@ module _ {W F B : Type 0} (l : Loads B) (thread : ℕ) (x : Turns (Held W F B) L
       rising_fits l thread x step_acts asks keeps history known points (ready h lines) (first_acts l) [] first none
       rising.follows rising.fronts
 
+  -- in the turn that follows
+  pub alone_stands : (points : List (List Event)) (seen : List Event)
+      → AtRising x (event_by l thread) history (ready h lines) (with_last points seen)
+      → Stands l thread x step_acts asks keeps history known
+      (turns_acts l thread x step_acts asks (ready h lines) points (first_acts l)) (turns x (ready h lines) points) seen
+  alone_stands points seen rising =
+      rising_stands l thread x step_acts asks keeps history known points seen (ready h lines) (first_acts l) [] first none
+      rising.follows rising.fronts
+
   -- and after any steps of one
   pub alone_within : (points : List (List Event)) (seen : List Event) (from : ℕ × Held W F B) (n : ℕ)
       → AtRising x (event_by l thread) history (ready h lines) (with_last points seen)
@@ -92,7 +101,6 @@ module _ {W F B : Type 0} (l : Loads B) (thread : ℕ) (x : Turns (Held W F B) L
   alone_within points seen from n rising begun =
       let t = turns x (ready h lines) points in
       let did = turns_acts l thread x step_acts asks (ready h lines) points (first_acts l) in
-      let stands = rising_stands l thread x step_acts asks keeps history known points seen (ready h lines) (first_acts l)
-      [] first none rising.follows rising.fronts in
+      let stands = alone_stands points seen rising in
       within_fits l thread history known x step_acts asks (keeps history known) did t seen from n stands.fits stands.front
       stands.mine begun

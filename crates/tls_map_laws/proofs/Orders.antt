@@ -107,14 +107,14 @@ module _ {W F B : Type 0} (l : Loads B) (x : ℕ → Turns (Held W F B) Line Eve
       (front_of events e (with_event events e) ([], sym (append-nil (with_event events e))))
 
   -- a thread in its turn, with the data in its hands
-  record Turns_in (acts : List (Act B)) (i : ℕ) (t : Ours) (seen : List Event) : Type 0 where
+  pub record InTurn (acts : List (Act B)) (i : ℕ) (t : Ours) (seen : List Event) : Type 0 where
     pub fits : Fit (suc i) acts (held_in t.phase)
     pub front : IsFront (held_in t.phase).after.memory.seen seen
     pub mine : IsFront (with_event seen (event_of (event (suc i)) t seen)) history
 
   in_turn : (acts : ℕ → List (Act B)) (w : Shared W F B Line) → AllFit acts w → (i : ℕ) (t : Ours)
       → slice_get w.threads i ≡ Some t → IsFront (with_event w.events (event_of (event (suc i)) t w.events)) history
-      → Turns_in (acts (suc i)) i (with_data w.shared t) w.events
+      → InTurn (acts (suc i)) i (with_data w.shared t) w.events
   in_turn acts w all i t at mine =
       let own = all.all i t at in
       record {
@@ -213,3 +213,13 @@ module _ {W F B : Type 0} (l : Loads B) (x : ℕ → Turns (Held W F B) Line Eve
       within_fits l (suc i) history (known (suc i)) (x (suc i)) (step_acts (suc i)) (asks (suc i))
       (keeps (suc i) history (known (suc i))) (acts (suc i)) (with_data w.shared t) w.events from n own.fits own.front
       own.mine begun
+
+  -- where it takes its next turn
+  pub thread_stands : (acts : ℕ → List (Act B)) (w : Shared W F B Line) → AllFit acts w → (thread : ℕ) (t : Ours)
+      → at_number w.threads thread ≡ Some t
+      → IsFront (with_event w.events (event_of (event thread) t w.events)) history
+      → Fit thread (acts thread) (held_in (with_data w.shared t).phase)
+      × IsFront (held_in (with_data w.shared t).phase).after.memory.seen w.events
+  thread_stands acts w all zero t at mine = cc
+  thread_stands acts w all (suc i) t at mine =
+      let own = in_turn acts w all i t at mine in (own.fits, own.front)

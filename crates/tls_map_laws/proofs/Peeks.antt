@@ -12,8 +12,10 @@ use Rattle.module_table.specs.declared.events.Event.{Event}
 use Rattle.thread_blocks.specs.Held.{Held, Owned, block_bytes, looked, owned_by, reached}
 use Rattle.thread_blocks.specs.Instances.{Loads, instance_at, instances}
 use Rattle.thread_blocks.specs.Lines.{Line, begin_line, begun_peek, shown_from, shown_in}
-use Rattle.thread_blocks.specs.Turns.{Begun, Ending, Says}
+use Rattle.thread_blocks.specs.Turns.{Begun, Ending, Says, Thread, Turns, after_look, turn}
+use Rattle.thread_blocks.specs.JobWorlds.{held_in}
 use Rattle.thread_blocks.specs.TurnsAlike.{IsFront}
+use Rattle.tls_map_laws.specs.Always.{PeeksShow}
 use Rattle.tls_map_laws.specs.Map.{Act, Asked, byte_of, bytes_of, has_storage, last_written}
 use Rattle.tls_map_laws.specs.Told.{begin_acts, with_asked, with_look}
 use Rattle.tls_map_laws.proofs.Bytes.{bytes_after, bytes_are, bytes_long}
@@ -136,3 +138,24 @@ module _ {W F B : Type 0} (ops : Operations W F B) (l : Loads B) (show : List B 
       ∙ ap (λ (o : Option Instance).
       Says (show (bytes_of (initial y) zero_byte y.number offset size (with_asked l o (with_look l seen acts)))) g)
       (sym at)))
+
+-- ** as lines
+
+module _ {W F B : Type 0} (ops : Operations W F B) (l : Loads B) (thread : ℕ) (x : Turns (Held W F B) Line Event)
+    (show : Line → List Event → List B → Ending)
+    (begins : (line : Line) (seen : List Event) (h : Held W F B)
+    → x.begin line seen h ≡ begin_line ops l (show line seen) thread line seen h)
+    (fixed : List Event → List (Range B)) (initial : Instance → List B) (zero_byte : B) (history : List Event)
+    (known : Known l thread history) (around : Around l thread fixed initial zero_byte history) where
+  pub peeks_show : (acts : List (Act B)) (t : Thread (Held W F B) Line Event) (seen : List Event)
+      → FitsBy l thread history known acts (held_in t.phase) → IsFront (held_in t.phase).after.memory.seen seen
+      → IsFront seen history → PeeksShow l thread x initial zero_byte show acts t seen
+  peeks_show acts t seen fits front to number image symbol size todo h said old y offset e at is low =
+      let line : Line = record { number = number; told = record { image = image; action = Peek symbol size } } in
+      let fits' = subst (λ (u : Thread (Held W F B) Line Event). FitsBy l thread history known acts (held_in u.phase)) e fits in
+      let front' = subst (λ (u : Thread (Held W F B) Line Event). IsFront (held_in u.phase).after.memory.seen seen) e front in
+      ap (λ (u : Thread (Held W F B) Line Event). (turn x u seen).said) e
+      ∙ ap (λ (begun : Begun (Held W F B)). (after_look x x.fuel todo said seen (length seen ∷ []) begun).said)
+      (begins line seen h
+      ∙ peek_is ops l (show line seen) thread fixed initial zero_byte history known around acts h fits' seen front' to number
+      image symbol size y offset at is low)

@@ -16,7 +16,25 @@ use Rattle.tls_map_laws.specs.Map.{Act, bytes_of}
 use Rattle.tls_map_laws.specs.Moments.{AreMap}
 use Rattle.tls_map_laws.specs.Told.{AtRising, begin_acts, first_acts, look_acts, order_acts, run_acts, turns_acts}
 
--- ** one thread by itself, with what its turns see. show: how a line ends that shows these bytes
+-- show: how a line ends that shows these bytes
+module _ {W F B : Type 0} (l : Loads B) (thread : ℕ) (x : Turns (Held W F B) Line Event) (initial : Instance → List B)
+    (zero_byte : B) (show : Line → List Event → List B → Ending) where
+  -- if a thread that did this peeks in its next turn, which sees these events, at bytes of a live image's variable, then
+  -- it shows those of the map
+  abbrev pub PeeksShow : List (Act B) → Thread (Held W F B) Line Event → List Event → Type 0
+  PeeksShow acts t seen = (number image : ℕ) (symbol : List ℕ) (size : ℕ) (todo : List Line) (h : Held W F B)
+      (said : List Said) (old : List Event) (y : Instance) (offset : ℕ)
+      → let line : Line = record { number = number; told = record { image = image; action = Peek symbol size } } in
+      t ≡ record { todo = line ∷ todo; phase = Idle h; said = said; seen = old }
+      → instance_at l seen image ≡ Some y → l.variable image symbol ≡ Some offset
+      → offset + size ≤ length (l.block y)
+      → (turn x t seen).said ≡ with_last said (record {
+        points = length seen ∷ [];
+        ending = show line seen
+            (bytes_of (initial y) zero_byte y.number offset size (begin_acts l thread line seen acts));
+      })
+
+-- ** one thread by itself, with what its turns see
 
 module _ {W F B : Type 0} (l : Loads B) (thread : ℕ) (x : Turns (Held W F B) Line Event)
     (step_acts : List (Act B) → Held W F B → List (Act B)) (asks : List Event → Held W F B → Option Instance)
@@ -39,20 +57,6 @@ module _ {W F B : Type 0} (l : Loads B) (thread : ℕ) (x : Turns (Held W F B) L
       (look_acts l thread x step_acts asks t.todo t.phase seen (did points)))
       (state_after (run x.steps n from.1))
 
-  -- a peek at bytes of a live image's variable, in the turn that follows, shows those of the map
-  abbrev pub ShowsMap : List (List Event) → List Event → Type 0
-  ShowsMap points seen = (number image : ℕ) (symbol : List ℕ) (size : ℕ) (todo : List Line) (h : Held W F B)
-      (said : List Said) (old : List Event) (y : Instance) (offset : ℕ)
-      → let line : Line = record { number = number; told = record { image = image; action = Peek symbol size } } in
-      turns x first points ≡ record { todo = line ∷ todo; phase = Idle h; said = said; seen = old }
-      → instance_at l seen image ≡ Some y → l.variable image symbol ≡ Some offset
-      → offset + size ≤ length (l.block y)
-      → (turn x (turns x first points) seen).said ≡ with_last said (record {
-        points = length seen ∷ [];
-        ending = show line seen
-            (bytes_of (initial y) zero_byte y.number offset size (begin_acts l thread line seen (did points)));
-      })
-
   -- at any rising points
   pub record HasMap : Type 0 where
     pub between : (points : List (List Event)) → AtRising x (event_by l thread) history first points
@@ -60,14 +64,15 @@ module _ {W F B : Type 0} (l : Loads B) (thread : ℕ) (x : Turns (Held W F B) L
     pub within : (points : List (List Event)) (seen : List Event)
         → AtRising x (event_by l thread) history first (with_last points seen) → HasMapWithin points seen
     pub peeks : (points : List (List Event)) (seen : List Event)
-        → AtRising x (event_by l thread) history first (with_last points seen) → ShowsMap points seen
+        → AtRising x (event_by l thread) history first (with_last points seen)
+        → PeeksShow l thread x initial zero_byte show (did points) (turns x first points) seen
 
 -- ** all threads of a job, in any order of turns, each of which begins with the data that the turn before left
 
 module _ {W F B : Type 0} (l : Loads B) (x : ℕ → Turns (Held W F B) Line Event)
     (step_acts : ℕ → List (Act B) → Held W F B → List (Act B)) (asks : ℕ → List Event → Held W F B → Option Instance)
     (acc : ℕ → Accesses (Space Event B) B) (initial : Instance → List B) (zero_byte : B)
-    (start : Shared W F B Line) where
+    (show : ℕ → Line → List Event → List B → Ending) (start : Shared W F B Line) where
   abbrev pub world : List ℕ → Shared W F B Line
   world order = shared_order x (λ (i : ℕ). event_by l i) order start
 
@@ -86,3 +91,5 @@ module _ {W F B : Type 0} (l : Loads B) (x : ℕ → Turns (Held W F B) Line Eve
         (run_acts l thread (x thread) (step_acts thread) (asks thread) n from.1
         (look_acts l thread (x thread) (step_acts thread) (asks thread) own.todo own.phase seen (did_in order thread)))
         (state_after (run (x thread).steps n from.1))
+    pub peeks : PeeksShow l thread (x thread) initial zero_byte (show thread) (did_in order thread)
+        (with_data (world order).shared t) (world order).events
