@@ -99,8 +99,7 @@ module _ (ls : List Linking) (together : AreTogether ls) (stray : All HasNoStray
   link_of : (x : Instance) (index : ℕ) → x.image ≡ suc index → index < length ls → (l : Linking) × IsInstanceOf ls l x
   link_of x index image within =
       let found = found_at ls index within in
-      let at : at_number ls x.image ≡ Some found.0 = ap (at_number ls) image ∙ found.1 in
-      (
+      let at : at_number ls x.image ≡ Some found.0 = ap (at_number ls) image ∙ found.1 in (
         found.0,
         record {
           image = at;

@@ -232,9 +232,9 @@ module _ {B : Type 0} (l : Loads B) (history : List Event) (legal : IsLegal l.in
           → position_or_len (has_instance n) (left_by l seen).modules < length (left_by l seen).modules
       within t = elim (cases_Bool
           (ltb (position_or_len (has_instance n) (left_by l seen).modules) (length (left_by l seen).modules))) [
-        | inl less ↦ ltb-true _ _ less
-        | inr more ↦ absurd (let none : false ≡ true = rw more at t in cc)
-      ]
+            | inl less ↦ ltb-true _ _ less
+            | inr more ↦ absurd (let none : false ≡ true = rw more at t in cc)
+          ]
 
   made_then : (a b : List Event) → IsFront a b → IsFront b history → (x : Instance) → Member x (instances l a)
       → x.number ≤ (left_by l b).made
