@@ -1,5 +1,5 @@
 -- Fresh blocks of any images, and initial images of linked ones.
-use Rattle.std.proofs.Common.{◌≡◌, ◌∙◌, ◌+◌, ◌-◌, ◌<◌, ◌≤◌, ◌==◌, ◌++◌, ℕ, zero, suc, Bool, true, false, List, [], ◌∷◌, length, map, replicate, take, drop, Option, Some, None, refl, subst, arith, length-append, if◌then◌else◌}
+use Rattle.std.proofs.Common.{◌≡◌, ◌+◌, ◌-◌, ◌≤◌, ◌==◌, ℕ, zero, suc, Bool, true, false, List, [], ◌∷◌, length, map, replicate, take, drop, Option, Some, None, refl, subst, arith, length-append, if◌then◌else◌}
 use Rattle.std.specs.Prelude.{All, IfSome}
 use Rattle.std.specs.List.{find}
 use Rattle.std.proofs.lemmas.List.{length-replicate}
@@ -18,7 +18,7 @@ use Rattle.thread_blocks.specs.JobLoads.{job_loads}
 use Rattle.thread_blocks.specs.Turns.{at_number}
 use Rattle.tls_layout.proofs.LawsOfTls.{front_of_segment}
 use Rattle.tls_layout.specs.Places.{initial_tls, tls_alignment, tls_image, tls_size}
-use Rattle.tls_map_laws.specs.Fits.{FreshBlocksAreFilled, FreshBlocksAreLong, InitialsFit, LinkedInitialsFit}
+use Rattle.tls_map_laws.specs.Fits.{FreshBlocksAreFilled, FreshBlocksAreLong, LinkedInitialsFit}
 
 -- the law
 pub filled_fresh : FreshBlocksAreFilled

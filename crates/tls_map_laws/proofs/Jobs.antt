@@ -1,16 +1,10 @@
 -- What a thread holds is the map's at all times, where it is known of its instances what the map needs.
-use Rattle.std.proofs.Common.{◌≡◌, ◌∙◌, ◌+◌, ◌++◌, ◌==◌, ◌≤◌, ℕ, zero, suc, Bool, true, List, [], ◌∷◌, Option, Some, None, refl, sym, ap, subst, arith, append-nil}
+use Rattle.std.proofs.Common.{◌≡◌, ◌∙◌, ◌+◌, ◌++◌, ◌==◌, ◌≤◌, ℕ, zero, suc, true, List, [], ◌∷◌, Option, Some, None, refl, sym, ap, subst, arith, append-nil}
 use Rattle.std.specs.Prelude.{slice_get}
 use Rattle.address_map.specs.Map.{stack_start}
-use Rattle.guest_arithmetic.specs.Plain.{plain_operations}
 use Rattle.guest_arithmetic.specs.Values.{Operations}
 use Rattle.guest_machine.specs.Access.{Accesses}
 use Rattle.guest_machine.specs.Ranges.{Range}
-use Rattle.guest_machine.specs.Run.{run, state_after}
-use Rattle.job_meaning.specs.declared.values.Byte.{Byte}
-use Rattle.job_meaning.specs.declared.values.Byte.TheVariants.{Value}
-use Rattle.job_meaning.specs.declared.values.Flag.{Flag}
-use Rattle.job_meaning.specs.declared.values.Word.{Word}
 use Rattle.job_text.specs.declared.thread_lines.ThreadLine.{ThreadLine}
 use Rattle.lawful_points.specs.Laws.{AtFronts}
 use Rattle.lawful_points.specs.Orders.{looks_of}
@@ -20,20 +14,18 @@ use Rattle.module_table.specs.declared.events.Event.{Event}
 use Rattle.module_table.specs.History.{IsLegal}
 use Rattle.std.specs.List.{flat_map}
 use Rattle.shared_data.proofs.Legal.{legal_turn}
-use Rattle.shared_data.specs.Told.{steps_of}
 use Rattle.thread_blocks.specs.Held.{Held, data_after}
 use Rattle.thread_blocks.specs.Instances.{Loads, fixed_at, instances}
 use Rattle.thread_blocks.specs.JobWorlds.{Shared, held_in, job_start, numbered_lines, ready_from, shared_order, shared_turn, thread_ready, with_data}
 use Rattle.thread_blocks.specs.Lines.{Line, event_by}
 use Rattle.thread_blocks.specs.MachineTurns.{pointer_word}
-use Rattle.thread_blocks.specs.RunTime.{Runs, thread_accesses, thread_turns}
+use Rattle.thread_blocks.specs.RunTime.{Runs, thread_turns}
 use Rattle.thread_blocks.specs.Spaces.{Space, open_everywhere, space_accesses}
-use Rattle.thread_blocks.specs.Turns.{Ending, Thread, Turns, at_number, event_of, ready, turn, with_event, with_last}
+use Rattle.thread_blocks.specs.Turns.{Ending, Thread, Turns, at_number, event_of, ready, turn, with_event}
 use Rattle.thread_blocks.specs.TurnsAlike.{IsFront}
-use Rattle.thread_blocks.proofs.Orders.{order-front}
 use Rattle.whole_meaning.specs.Jobs.{job_start as meant_start, ready_from as meant_from}
 use Rattle.whole_meaning.specs.Meanings.{Meaning}
-use Rattle.whole_meaning.specs.Threads.{Meant, meant_accesses, meant_ready, meant_turns, ops}
+use Rattle.whole_meaning.specs.Threads.{Meant, meant_ready, meant_turns}
 use Rattle.tls_map_laws.specs.Always.{OrdersHaveMap, PeeksShow}
 use Rattle.tls_map_laws.specs.Machine.{machine_acts, machine_asks}
 use Rattle.tls_map_laws.specs.Map.{Act}
@@ -50,7 +42,7 @@ use Rattle.tls_map_laws.proofs.Machine.{machine_keeps}
 use Rattle.tls_map_laws.proofs.Meaning.{meant_keeps}
 use Rattle.tls_map_laws.proofs.Moment.{anew, found_member, is_map}
 use Rattle.tls_map_laws.proofs.Orders.{AllFit, order_fit, thread_fit, thread_stands, thread_within}
-use Rattle.tls_map_laws.proofs.Law.{alone_fits, alone_within, machine_first, meant_first}
+use Rattle.tls_map_laws.proofs.Law.{machine_first, meant_first}
 
 -- ** all instances that are ever live
 

@@ -1,5 +1,5 @@
 -- A thread by itself: from its first look on it has what the map says, at all rising points.
-use Rattle.std.proofs.Common.{◌≡◌, ◌++◌, ℕ, List, [], ◌∷◌, Option, Some, None, refl}
+use Rattle.std.proofs.Common.{◌≡◌, ℕ, List, [], ◌∷◌, Option, Some, None, refl}
 use Rattle.guest_arithmetic.specs.Plain.{plain_operations}
 use Rattle.guest_machine.specs.Run.{run, state_after}
 use Rattle.guest_machine.specs.State.{start_of}

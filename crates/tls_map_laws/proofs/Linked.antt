@@ -14,7 +14,6 @@ use Rattle.image_file.specs.Spelled.{Spelled}
 use Rattle.image_file.specs.declared.part.TlsPart.{TlsPart}
 use Rattle.job_meaning.specs.declared.values.Byte.{Byte}
 use Rattle.job_meaning.specs.declared.values.Byte.TheVariants.{Value}
-use Rattle.known_instances.proofs.Placed.{IsPlacedIn}
 use Rattle.link_core.specs.Faults.{Links}
 use Rattle.link_core.specs.Laws.{HasNoStray}
 use Rattle.link_faults.specs.ImageKinds.{base_of}
@@ -53,7 +52,7 @@ use Rattle.tls_layout.specs.Laws.{extent_for}
 use Rattle.tls_layout.specs.Places.{tls_size}
 use Rattle.tls_relocs.specs.Elements.{slice_get-append, slice_get-append_behind, slice_get-replicate}
 use Rattle.whole_meaning.specs.Bytes.{block_bytes, byte_of, class_bytes}
-use Rattle.whole_meaning.specs.Loads.{at_bias, code_range, constant_range, data_ranges, has_data, info_of, loads_of, of_image, still_ranges}
+use Rattle.whole_meaning.specs.Loads.{at_bias, code_range, constant_range, has_data, info_of, loads_of, still_ranges}
 use Rattle.whole_meaning.specs.Spots.{bias_of, spot_in}
 use Rattle.whole_meaning.specs.Threads.{ops}
 use Rattle.tls_map_laws.specs.Initial.{initial_at, initial_image, initial_meant, initial_of}

@@ -1,8 +1,8 @@
 -- Where the blocks of live instances lie: each below its thread's stack, and no two of one history share a byte, one of
 -- them closed long before the other was loaded or not.
-use Rattle.std.proofs.Common.{◌≡◌, ◌∙◌, ◌⊎◌, ◌+◌, ◌-◌, ◌*◌, ◌<◌, ◌≤◌, ◌^◌, ◌++◌, ◌&&◌, ℕ, zero, suc, true, false, List, [], ◌∷◌, length, get_or, Option, Some, None, refl, sym, ap, subst, inl, inr, arith}
+use Rattle.std.proofs.Common.{◌≡◌, ◌∙◌, ◌⊎◌, ◌+◌, ◌-◌, ◌*◌, ◌<◌, ◌≤◌, ◌^◌, ◌++◌, ℕ, suc, true, false, List, [], ◌∷◌, length, get_or, Option, Some, None, refl, sym, ap, subst, inl, inr, arith}
 use Rattle.std.specs.Prelude.{IfSome, nat_le, nat_lt, take}
-use Rattle.std.proofs.lemmas.Bool.{and_parts, both_ways, cases_Bool, cases_eq, leb-false, leb-true, ltb-true}
+use Rattle.std.proofs.lemmas.Bool.{and_parts, cases_Bool, cases_eq, leb-false, leb-true, ltb-true}
 use Rattle.address_map.specs.Map.{pointer_of, stack_start}
 use Rattle.known_instances.proofs.Found.{instance_for}
 use Rattle.known_instances.proofs.Known.{number_low, numbered_at_image}
@@ -11,12 +11,10 @@ use Rattle.known_instances.proofs.StartupNumbers.{image_number}
 use Rattle.loaded_modules.specs.declared.instance.Instance.{Instance}
 use Rattle.module_table.proofs.LawsOfBlocks.{instances_apart}
 use Rattle.module_table.specs.History.{IsLegal}
-use Rattle.module_table.specs.Laws.{Block, Covers, startup_end}
+use Rattle.module_table.specs.Laws.{Covers, startup_end}
 use Rattle.module_table.specs.Modules.{no_module}
-use Rattle.module_table.specs.Past.{startup_count}
 use Rattle.module_table.specs.declared.events.Event.{Event}
 use Rattle.module_table.specs.declared.modules.ImageInfo.{ImageInfo}
-use Rattle.module_table.specs.declared.modules.Module.{Module}
 use Rattle.thread_blocks.specs.Instances.{Loads, block_start, instances, left_by, numbered_instance}
 use Rattle.thread_blocks.specs.TurnsAlike.{IsFront}
 use Rattle.tls_map_laws.specs.Acts.{is_in}

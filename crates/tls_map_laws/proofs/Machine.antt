@@ -1,9 +1,6 @@
 -- The machine's threads have what the map says, after any turns at rising points of a history.
-use Rattle.std.proofs.Common.{◌≡◌, ◌<◌, ◌==◌, ℕ, Bool, true, false, List, [], ◌∷◌, Option, Some, None, Result, Ok, Err, if◌then◌else◌, refl, sym, subst, inl, inr}
+use Rattle.std.proofs.Common.{◌≡◌, ◌==◌, ℕ, Bool, true, false, List, Option, Some, None, Result, Ok, Err, if◌then◌else◌, refl, sym, subst}
 use Rattle.std.specs.Prelude.{is_none}
-use Rattle.std.specs.List.{find}
-use Rattle.std.proofs.lemmas.Bool.{cases_Bool}
-use Rattle.address_map.specs.Map.{stack_start}
 use Rattle.guest_arithmetic.specs.Plain.{plain_operations}
 use Rattle.guest_operands.specs.declared.state.State.{State}
 use Rattle.guest_operands.specs.declared.stop.Stop.{Stop}
@@ -19,13 +16,13 @@ use Rattle.transcript_text.specs.declared.outcomes.LineFault.TheVariants.{Unload
 use Rattle.transcript_text.specs.declared.outcomes.Outcome.TheVariants.{Fault}
 use Rattle.thread_blocks.specs.declared.asked.Asked.{Asked}
 use Rattle.thread_blocks.specs.Held.{Owner, looked, reached}
-use Rattle.thread_blocks.specs.Instances.{Loads, instance_at, instance_with_id, instances, is_startup_id, numbered_instance}
+use Rattle.thread_blocks.specs.Instances.{Loads, instance_with_id, instances, is_startup_id, numbered_instance}
 use Rattle.thread_blocks.specs.RunTime.{Runs, answer_word, answered, asked_at, asked_next, found_at_once, goes_answered, resume_line, resumed, resumed_by, resumed_in, shows, thread_accesses, thread_next, thread_steps, thread_turns}
 use Rattle.thread_blocks.specs.Spaces.{Space, after_of, next_image}
 use Rattle.thread_blocks.specs.Turns.{Answered, Begun, Says}
 use Rattle.thread_blocks.specs.TurnsAlike.{IsFront}
 use Rattle.tls_map_laws.specs.Map.{Act}
-use Rattle.tls_map_laws.specs.Acts.{Noted, is_in}
+use Rattle.tls_map_laws.specs.Acts.{Noted}
 use Rattle.tls_map_laws.specs.Machine.{asks_in, machine_acts, machine_asks, noted_acts, noted_start, noted_step}
 use Rattle.tls_map_laws.specs.Told.{with_asked, with_look}
 use Rattle.tls_map_laws.proofs.Places.{Member}

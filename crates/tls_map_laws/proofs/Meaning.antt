@@ -1,5 +1,5 @@
 -- The meaning's threads have what the map says, after any turns at rising points of a history.
-use Rattle.std.proofs.Common.{◌≡◌, ℕ, zero, suc, Bool, true, false, List, Option, Some, None, Result, Ok, Err, refl, sym, ap, subst, ◌<◌, ◌==◌}
+use Rattle.std.proofs.Common.{◌≡◌, ℕ, zero, suc, Bool, true, false, List, Option, Some, None, Result, Ok, Err, refl, sym, ap, subst, ◌==◌}
 use Rattle.std.specs.Prelude.{option_map}
 use Rattle.address_map.specs.Map.{stack_start}
 use Rattle.amd64_subset.specs.declared.instr.Decoded.{Decoded}
@@ -32,11 +32,11 @@ use Rattle.whole_meaning.specs.Reading.{done, marked_step, plain_step}
 use Rattle.whole_meaning.specs.Running.{meaning, sequence_or}
 use Rattle.whole_meaning.specs.Sequences.{Stack, added, after_call, called_with, descriptor_called, descriptor_calls, does, looks_first, own_base, sequence_result, stack_use, variable_address, variable_distance, with_answer, with_sum, without_flags}
 use Rattle.whole_meaning.specs.Threads.{Meant, Memory, begin_meant, held_next, meant_accesses, meant_mark, meant_shut, meant_show, meant_stack, meant_steps, meant_turns, ops, resume_meant, resumed, resumed_at, resumed_by, resumed_for, sequence_at, sequence_does, sequence_next}
-use Rattle.thread_blocks.specs.Instances.{instance_at, instances, numbered_instance}
+use Rattle.thread_blocks.specs.Instances.{instances, numbered_instance}
 use Rattle.thread_blocks.specs.Turns.{Begun}
 use Rattle.thread_blocks.specs.TurnsAlike.{IsFront}
 use Rattle.tls_map_laws.specs.Map.{Act}
-use Rattle.tls_map_laws.specs.Acts.{Noted, is_in, noting}
+use Rattle.tls_map_laws.specs.Acts.{Noted, noting}
 use Rattle.tls_map_laws.specs.Meaning.{acts_at, asks_for, asks_from, meant_acts, meant_asks, noted_plain, result_acts}
 use Rattle.tls_map_laws.specs.Told.{with_asked, with_look}
 use Rattle.tls_map_laws.proofs.Places.{Member}

@@ -2,7 +2,7 @@
 use Rattle.std.proofs.Common.{◌≡◌, ◌∙◌, ◌+◌, ◌++◌, ◌≤◌, ℕ, zero, suc, Bool, true, false, List, [], ◌∷◌, cond, get_or, length, Option, Some, None, refl, sym, ap, subst, inl, inr, arith, ltb, ◌<◌}
 use Rattle.std.specs.Prelude.{is_some, option_to_list, position}
 use Rattle.std.specs.List.{position_or_len}
-use Rattle.std.proofs.lemmas.Bool.{and_from, and_parts, cases_Bool, cases_eq, eq-eqb, eqb-true, lt-ltb, ltb-true}
+use Rattle.std.proofs.lemmas.Bool.{and_from, and_parts, cases_Bool, cases_eq, eq-eqb, eqb-true, ltb-true}
 use Rattle.std.proofs.lemmas.List.Sums.{passes_at_first}
 use Rattle.known_instances.proofs.Found.{instance_for, loaded_as, loaded_is}
 use Rattle.known_instances.proofs.Known.{known_is, legal_front, numbered_at_image}
@@ -20,7 +20,7 @@ use Rattle.module_table.specs.declared.modules.ImageInfo.{ImageInfo}
 use Rattle.module_table.specs.declared.modules.Module.{Module}
 use Rattle.thread_blocks.specs.Instances.{Loads, instance_at, instances, instances_from, instances_in, left_by, loaded_instance}
 use Rattle.thread_blocks.specs.TurnsAlike.{IsFront}
-use Rattle.tls_map_laws.proofs.Entries.{Distinct, Each}
+use Rattle.tls_map_laws.proofs.Entries.{Distinct}
 use Rattle.tls_map_laws.proofs.Keeping.{each_of}
 use Rattle.tls_map_laws.proofs.Known.{NeverAgain, front_then}
 use Rattle.tls_map_laws.proofs.Places.{Member}

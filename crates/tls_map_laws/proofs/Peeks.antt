@@ -1,6 +1,6 @@
 -- A peek shows the map's bytes.
-use Rattle.std.proofs.Common.{◌≡◌, ◌∙◌, ◌+◌, ◌-◌, ◌<◌, ◌≤◌, ◌==◌, ℕ, zero, suc, Bool, true, false, List, [], ◌∷◌, length, map, take, drop, Option, Some, None, refl, sym, ap, subst, arith}
-use Rattle.std.specs.Prelude.{◌||◌, nat_le, slice_get, slice_range, unwrap_or}
+use Rattle.std.proofs.Common.{◌≡◌, ◌∙◌, ◌+◌, ◌-◌, ◌<◌, ◌≤◌, ℕ, zero, suc, Bool, true, false, List, [], ◌∷◌, length, map, take, drop, Option, Some, None, refl, sym, ap, subst, arith}
+use Rattle.std.specs.Prelude.{◌||◌, slice_get, slice_range, unwrap_or}
 use Rattle.std.specs.List.{range_with_len}
 use Rattle.std.specs.Option.{option_or}
 use Rattle.std.proofs.lemmas.Bool.{eq-eqb, le-leb}
@@ -16,7 +16,7 @@ use Rattle.thread_blocks.specs.Turns.{Begun, Ending, Says, Thread, Turns, after_
 use Rattle.thread_blocks.specs.JobWorlds.{held_in}
 use Rattle.thread_blocks.specs.TurnsAlike.{IsFront}
 use Rattle.tls_map_laws.specs.Always.{PeeksShow}
-use Rattle.tls_map_laws.specs.Map.{Act, Asked, byte_of, bytes_of, has_storage, last_written}
+use Rattle.tls_map_laws.specs.Map.{Act, byte_of, bytes_of, has_storage, last_written}
 use Rattle.tls_map_laws.specs.Told.{begin_acts, with_asked, with_look}
 use Rattle.tls_map_laws.proofs.Bytes.{bytes_after, bytes_are, bytes_long}
 use Rattle.tls_map_laws.proofs.Places.{Member}

@@ -1,5 +1,5 @@
 -- A step of the machine does with a thread's blocks what the stores that it notes do with the map.
-use Rattle.std.proofs.Common.{◌≡◌, ◌-◌, ◌<◌, ℕ, Bool, true, false, List, [], ◌∷◌, length, refl, sym, subst, inl, inr, arith}
+use Rattle.std.proofs.Common.{◌≡◌, ◌-◌, ℕ, Bool, true, false, List, [], ◌∷◌, length, refl, sym, subst, inl, inr, arith}
 use Rattle.std.specs.Prelude.{if◌then◌else◌, nat_le, nat_lt}
 use Rattle.std.proofs.lemmas.Bool.{cases_Bool, and_parts, false_from_ne_true, leb-true}
 use Rattle.address_map.specs.Map.{stack_start}
@@ -15,12 +15,10 @@ use Rattle.thread_blocks.specs.Held.{Owner}
 use Rattle.thread_blocks.specs.Instances.{Loads, instances}
 use Rattle.thread_blocks.specs.RunTime.{thread_accesses}
 use Rattle.thread_blocks.specs.Spaces.{IsImage, Space, after_of, next_image, no_field, put_byte, space_accesses, stack_range}
-use Rattle.thread_blocks.specs.TurnsAlike.{IsFront}
 use Rattle.thread_blocks.proofs.Image.{machine_image}
 use Rattle.tls_map_laws.specs.Map.{Act, has_storage}
 use Rattle.tls_map_laws.specs.Acts.{Noted, is_in, noting, stored_in}
 use Rattle.tls_map_laws.proofs.Entries.{Each}
-use Rattle.tls_map_laws.proofs.Places.{Member}
 use Rattle.tls_map_laws.proofs.Known.{Known}
 use Rattle.tls_map_laws.proofs.Keeping.{Fits, each_of, stored_fits}
 
