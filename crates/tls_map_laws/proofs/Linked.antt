@@ -55,7 +55,7 @@ use Rattle.whole_meaning.specs.Bytes.{block_bytes, byte_of, class_bytes}
 use Rattle.whole_meaning.specs.Loads.{at_bias, code_range, constant_range, has_data, info_of, loads_of, still_ranges}
 use Rattle.whole_meaning.specs.Spots.{bias_of, spot_in}
 use Rattle.whole_meaning.specs.Threads.{ops}
-use Rattle.tls_map_laws.specs.Initial.{initial_at, initial_image, initial_meant, initial_of}
+use Rattle.tls_map_laws.specs.Initial.{initial_image, initial_meant}
 use Rattle.tls_map_laws.proofs.Beside.{blocks_alone, blocks_high, not_here, outside}
 use Rattle.tls_map_laws.proofs.Known.{Around, IsLow, Known}
 use Rattle.tls_map_laws.proofs.Live.{BlocksAreLong, is_live, known_all}
@@ -253,57 +253,41 @@ module _ (ls : List Linking) (together : AreTogether ls) (stray : All HasNoStray
         ∙ ap (λ (o : Option B). Some (unwrap_or o z)) (sym (slice_get_past xs k past)))
   ]
 
-  block_fresh : (x : Instance) (image : Spelled) (tls : Option TlsPart) (k : ℕ)
-      → k < length (block_of (images_of ls) image x tls)
-      → slice_get (block_of (images_of ls) image x tls) k
-      ≡ Some (unwrap_or (slice_get (initial_of (images_of ls) x image tls) k) 0)
-  block_fresh x image None k less = absurd (omega (arith, less))
-  block_fresh x image (Some tls) k less =
-      let initial = initial_bytes (images_of ls) image x tls (find (holds_image tls) image.parts) in
-      filled_at initial (tls.size - length initial) 0 k less
-
-  image_fresh : (x : Instance) (image : Option Spelled) (k : ℕ) → k < length (block_of_image (images_of ls) x image)
-      → slice_get (block_of_image (images_of ls) x image) k
-      ≡ Some (unwrap_or (slice_get (initial_at (images_of ls) x image) k) 0)
-  image_fresh x None k less = absurd (omega (arith, less))
-  image_fresh x (Some image) k less = block_fresh x image image.tls k less
-
-  -- the law, of the machine
-  fresh : (x : Instance) (k : ℕ) → k < length (q.block x)
-      → slice_get (q.block x) k ≡ Some (unwrap_or (slice_get (initial_image (images_of ls) x) k) 0)
-  unfolding job_loads fresh_block
-  fresh x k less = image_fresh x (image_at (images_of ls) x.image) k less
-
-  -- and of the meaning
-  values_filled : (xs : List ℕ) (n : ℕ) → map Value (xs ++ replicate n 0) ≡ map Value xs ++ replicate n (Value 0)
-  values_filled xs n = map-append Value xs (replicate n 0) ∙ ap (λ (ys : List Byte). map Value xs ++ ys) (zeros n)
-    where
-      zeros : (n : ℕ) → map Value (replicate n 0) ≡ replicate n (Value 0)
-      zeros zero = refl
-      zeros (suc n) = ap (λ (ys : List Byte). Value 0 ∷ ys) (zeros n)
-
-  link_fresh : (l : Linking) (bias k : ℕ) → k < length (map Value (block_bytes l bias))
-      → slice_get (map Value (block_bytes l bias)) k
-      ≡ Some (unwrap_or (slice_get (map Value (class_bytes l bias (Tls true))) k) (Value 0))
+  link_fresh : (l : Linking) (bias k : ℕ) → k < length (block_bytes l bias)
+      → slice_get (block_bytes l bias) k ≡ Some (unwrap_or (slice_get (class_bytes l bias (Tls true)) k) 0)
   link_fresh l bias k less =
       let initial = class_bytes l bias (Tls true) in
-      let n = tls_size (layout l).sections - length initial in
-      let is = values_filled initial n in
-      ap (λ (bs : List Byte). slice_get bs k) is
-      ∙ filled_at (map Value initial) n (Value 0) k (subst (λ (bs : List Byte). k < length bs) is less)
+      filled_at initial (tls_size (layout l).sections - length initial) 0 k less
 
-  meant_fresh_of : (x : Instance) (o : Option Linking) (k : ℕ)
-      → let block = at_bias [] (λ l bias. map Value (block_bytes l bias)) x.number o in
-      k < length block
-      → slice_get block k
-      ≡ Some (unwrap_or (slice_get (at_bias [] (λ l bias. map Value (class_bytes l bias (Tls true))) x.number o) k) (Value 0))
-  meant_fresh_of x None k less = absurd (omega (arith, less))
-  meant_fresh_of x (Some l) k less = link_fresh l (bias_of l.kind x.number) k less
+  initial_is : (l : Linking) (x : Instance) → IsInstanceOf ls l x
+      → initial_image ls x ≡ class_bytes l (bias_of l.kind x.number) (Tls true)
+  initial_is l x is =
+      ap (at_bias [] (λ (m : Linking) (bias : ℕ). class_bytes m bias (Tls true)) x.number) is.image
 
-  meant_fresh : (x : Instance) (k : ℕ) → k < length (m.block x)
+  -- the law, of the machine
+  fresh : (l : Linking) (x : Instance) → IsInstanceOf ls l x → (k : ℕ) → k < length (q.block x)
+      → slice_get (q.block x) k ≡ Some (unwrap_or (slice_get (initial_image ls x) k) 0)
+  fresh l x is k less =
+      let same = blocks_meant ls l x is in
+      ap (λ (bytes : List ℕ). slice_get bytes k) same
+      ∙ (link_fresh l (bias_of l.kind x.number) k (subst (λ (bytes : List ℕ). k < length bytes) same less)
+      ∙ ap (λ (bytes : List ℕ). Some (unwrap_or (slice_get bytes k) 0)) (sym (initial_is l x is)))
+
+  -- and of the meaning
+  value_or : (o : Option ℕ) → option_map Value (Some (unwrap_or o 0)) ≡ Some (unwrap_or (option_map Value o) (Value 0))
+  value_or None = refl
+  value_or (Some n) = refl
+
+  meant_fresh : (l : Linking) (x : Instance) → IsInstanceOf ls l x → (k : ℕ) → k < length (m.block x)
       → slice_get (m.block x) k ≡ Some (unwrap_or (slice_get (initial_meant ls x) k) (Value 0))
-  unfolding loads_of
-  meant_fresh x k less = meant_fresh_of x (at_number ls x.image) k less
+  meant_fresh l x is k less =
+      let same = meant_block l x is in
+      let long = ap (λ (bytes : List Byte). length bytes) same ∙ length-map (q.block x) Value in
+      ap (λ (bytes : List Byte). slice_get bytes k) same
+      ∙ (slice_get-map Value (q.block x) k
+      ∙ (ap (option_map Value) (fresh l x is k (omega (arith, less, long)))
+      ∙ (value_or (slice_get (initial_image ls x) k)
+      ∙ ap (λ (o : Option Byte). Some (unwrap_or o (Value 0))) (sym (slice_get-map Value (initial_image ls x) k)))))
 
   -- ** a history
 
@@ -352,10 +336,10 @@ module _ (ls : List Linking) (together : AreTogether ls) (stray : All HasNoStray
         (λ seen front x member. let link = of_live seen front x member in data_low link.l x link.is link.number)
 
     pub machine_around : (thread : ℕ) → 1 ≤ thread
-        → Around q thread (λ seen. pointer_word plain_operations thread ∷ fixed_at q seen) (initial_image (images_of ls)) 0
+        → Around q thread (λ seen. pointer_word plain_operations thread ∷ fixed_at q seen) (initial_image ls) 0
         history
     machine_around thread some = record {
-      fresh = λ seen front x member k less. fresh x k less;
+      fresh = λ seen front x member k less. let link = of_live seen front x member in fresh link.l x link.is k less;
       high = blocks_high plain_operations q history legal last blocks_long thread some;
       alone = blocks_alone plain_operations q history legal last blocks_long thread some
           (λ seen front x member how place high.
@@ -370,7 +354,8 @@ module _ (ls : List Linking) (together : AreTogether ls) (stray : All HasNoStray
     pub meant_around : (thread : ℕ) → 1 ≤ thread
         → Around m thread (λ seen. pointer_word ops thread ∷ fixed_at m seen) (initial_meant ls) (Value 0) history
     meant_around thread some = record {
-      fresh = λ seen front x member k less. meant_fresh x k less;
+      fresh = λ seen front x member k less.
+          let link = of_meant seen front x member in meant_fresh link.l x link.is k less;
       high = blocks_high ops m history meant_legal meant_last meant_long thread some;
       alone = blocks_alone ops m history meant_legal meant_last meant_long thread some
           (λ seen front x member how place high.

@@ -64,10 +64,10 @@ module _ (ls : List Linking) (history : List Event) (ready_links : AreReady ls)
 
   machine_map : (thread : ℕ) → 1 ≤ thread → (acts : List (Act ℕ)) (h : Runs)
       → FitsBy l thread history (known thread) acts h
-      → AreMap l thread (thread_accesses l thread) (initial_image (images_of ls)) 0 history acts h
+      → AreMap l thread (thread_accesses l thread) (initial_image ls) 0 history acts h
   unfolding thread_accesses
   machine_map thread some acts h fits =
-      are_map plain_operations l thread (initial_image (images_of ls)) 0 history (known thread)
+      are_map plain_operations l thread (initial_image ls) 0 history (known thread)
       (machine_around ls ready_links.together ready_links.stray history legal thread some) acts h fits
 
   meant_map : (thread : ℕ) → 1 ≤ thread → (acts : List (Act Byte)) (h : Meant)
@@ -81,11 +81,11 @@ module _ (ls : List Linking) (history : List Event) (ready_links : AreReady ls)
   machine_peeks : (fuel thread : ℕ) → 1 ≤ thread → (acts : List (Act ℕ)) (t : Thread Runs Line Event)
       (seen : List Event) → FitsBy l thread history (known thread) acts (held_in t.phase)
       → IsFront (held_in t.phase).after.memory.seen seen → IsFront seen history
-      → PeeksShow l thread (thread_turns l thread fuel) (initial_image (images_of ls)) 0 (machine_show l thread) acts t seen
+      → PeeksShow l thread (thread_turns l thread fuel) (initial_image ls) 0 (machine_show l thread) acts t seen
   unfolding thread_turns
   machine_peeks fuel thread some acts t seen fits front to =
       peeks_show plain_operations l thread (thread_turns l thread fuel) (machine_show l thread) (λ line s h. refl)
-      (λ s. pointer_word plain_operations thread ∷ fixed_at l s) (initial_image (images_of ls)) 0 history (known thread)
+      (λ s. pointer_word plain_operations thread ∷ fixed_at l s) (initial_image ls) 0 history (known thread)
       (machine_around ls ready_links.together ready_links.stray history legal thread some) acts t seen fits front to
 
   meant_peeks : (fuel thread : ℕ) → 1 ≤ thread → (acts : List (Act Byte)) (t : Thread Meant Line Event)
@@ -183,7 +183,7 @@ pub jobs_have_map : JobsHaveMap
 jobs_have_map ls fuel lines order job thread t at =
     let q = job_loads (images_of ls) in
     orders q (λ i. thread_turns q i fuel) (λ i. machine_acts q i) (λ i. machine_asks q i) (λ i. thread_accesses q i)
-    (initial_image (images_of ls)) 0 (λ i h k. machine_keeps q i h k fuel)
+    (initial_image ls) 0 (λ i h k. machine_keeps q i h k fuel)
     (λ h legal i. known ls h job.ready legal i)
     (λ h legal i some acts s fits. machine_map ls h job.ready legal i some acts s fits) (λ i. machine_show q i)
     (λ h legal i some acts u seen fits front to. machine_peeks ls h job.ready legal fuel i some acts u seen fits front to)

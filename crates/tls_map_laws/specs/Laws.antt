@@ -40,18 +40,18 @@ module _ (ls : List Linking) where
   module _ (fuel thread : ℕ) (own : List ThreadLine) (history : List Event) where
     abbrev pub MachineHasMap : Type 0
     MachineHasMap = HasMap loads thread (thread_turns loads thread fuel) (machine_acts loads thread)
-        (machine_asks loads thread) (thread_accesses loads thread) (initial_image (images_of ls)) 0 (machine_show loads thread) history
+        (machine_asks loads thread) (thread_accesses loads thread) (initial_image ls) 0 (machine_show loads thread) history
         (first_of loads thread own)
 
     abbrev pub MachineHasMapAfter : List (List Event) → Type 0
     MachineHasMapAfter points = HasMapAfter loads thread (thread_turns loads thread fuel) (machine_acts loads thread)
-        (machine_asks loads thread) (thread_accesses loads thread) (initial_image (images_of ls)) 0 (machine_show loads thread) history
+        (machine_asks loads thread) (thread_accesses loads thread) (initial_image ls) 0 (machine_show loads thread) history
         (first_of loads thread own) points
 
     abbrev pub MachineHasMapWithin : List (List Event) → List Event → Type 0
     MachineHasMapWithin points seen = HasMapWithin loads thread (thread_turns loads thread fuel)
         (machine_acts loads thread) (machine_asks loads thread) (thread_accesses loads thread)
-        (initial_image (images_of ls)) 0 (machine_show loads thread) history (first_of loads thread own) points seen
+        (initial_image ls) 0 (machine_show loads thread) history (first_of loads thread own) points seen
 
 -- a thread of a job that is linked, at any rising points of a history in which each open and close was accepted
 abbrev pub ThreadsHaveMap : Type 0
@@ -77,7 +77,7 @@ JobsHaveMap = (ls : List Linking) (fuel : ℕ) (lines : List (List ThreadLine)) 
     (thread : ℕ) (t : Thread (Held ℕ Bool ℕ) Line Event)
     → at_number (shared_order x (λ (i : ℕ). event_by l i) order start).threads thread ≡ Some t
     → OrdersHaveMap l x (λ (i : ℕ). machine_acts l i) (λ (i : ℕ). machine_asks l i) (λ (i : ℕ). thread_accesses l i)
-    (initial_image (images_of ls)) 0 (λ (i : ℕ). machine_show l i) start order thread t
+    (initial_image ls) 0 (λ (i : ℕ). machine_show l i) start order thread t
 
 -- ** the meaning: the same
 
