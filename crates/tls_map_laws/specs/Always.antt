@@ -1,4 +1,4 @@
--- A thread has what the map says at all times: between its turns, and after any steps of one.
+-- A thread has what the map says at all times: between its turns, and after any steps of one. And so it prints.
 use Rattle.std.specs.Prelude.{◌≡◌, ◌+◌, ◌≤◌, ℕ, List, [], ◌∷◌, length, Option, Some}
 use Rattle.guest_machine.specs.Access.{Accesses}
 use Rattle.guest_machine.specs.Run.{run, state_after}
@@ -19,7 +19,7 @@ use Rattle.tls_map_laws.specs.Told.{AtRising, begin_acts, first_acts, look_acts,
 -- show: how a line ends that shows these bytes
 module _ {W F B : Type 0} (l : Loads B) (thread : ℕ) (x : Turns (Held W F B) Line Event) (initial : Instance → List B)
     (zero_byte : B) (show : Line → List Event → List B → Ending) where
-  -- if a thread that did this peeks in its next turn, which sees these events, at bytes of a live image's variable, then
+  -- if a thread that did this peeks at bytes of a live image's variable in its next turn, which sees these events, then
   -- it shows those of the map
   abbrev pub PeeksShow : List (Act B) → Thread (Held W F B) Line Event → List Event → Type 0
   PeeksShow acts t seen = (number image : ℕ) (symbol : List ℕ) (size : ℕ) (todo : List Line) (h : Held W F B)

@@ -40,13 +40,13 @@ module _ (ls : List Linking) where
   module _ (fuel thread : ℕ) (own : List ThreadLine) (history : List Event) where
     abbrev pub MachineHasMap : Type 0
     MachineHasMap = HasMap loads thread (thread_turns loads thread fuel) (machine_acts loads thread)
-        (machine_asks loads thread) (thread_accesses loads thread) (initial_image ls) 0 (machine_show loads thread) history
-        (first_of loads thread own)
+        (machine_asks loads thread) (thread_accesses loads thread) (initial_image ls) 0
+        (machine_show loads thread) history (first_of loads thread own)
 
     abbrev pub MachineHasMapAfter : List (List Event) → Type 0
     MachineHasMapAfter points = HasMapAfter loads thread (thread_turns loads thread fuel) (machine_acts loads thread)
-        (machine_asks loads thread) (thread_accesses loads thread) (initial_image ls) 0 (machine_show loads thread) history
-        (first_of loads thread own) points
+        (machine_asks loads thread) (thread_accesses loads thread) (initial_image ls) 0
+        (machine_show loads thread) history (first_of loads thread own) points
 
     abbrev pub MachineHasMapWithin : List (List Event) → List Event → Type 0
     MachineHasMapWithin points seen = HasMapWithin loads thread (thread_turns loads thread fuel)
@@ -86,7 +86,8 @@ MeaningsHaveMap = (ls : List Linking) (history : List Event) → AreReady ls →
     → let m = meaning_of ls in
     (fuel thread : ℕ) (own : List ThreadLine) → 1 ≤ thread
     → HasMap m.loads thread (meant_turns m thread fuel) (meant_acts m thread) (meant_asks m thread)
-    (meant_accesses m thread) (initial_meant ls) (Value 0) (meant_show m thread) history (ready (meant_ready m thread) (numbered_lines 1 own))
+    (meant_accesses m thread) (initial_meant ls) (Value 0) (meant_show m thread) history
+    (ready (meant_ready m thread) (numbered_lines 1 own))
 
 abbrev pub MeantJobsHaveMap : Type 0
 MeantJobsHaveMap = (ls : List Linking) (fuel : ℕ) (lines : List (List ThreadLine)) (order : List ℕ) → AreJob ls

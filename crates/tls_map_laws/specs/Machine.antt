@@ -13,6 +13,9 @@ use Rattle.tls_map_laws.specs.Map.{Act}
 use Rattle.tls_map_laws.specs.Acts.{Noted, noting}
 
 module _ (l : Loads ℕ) (thread : ℕ) where
+  -- ** a step: the machine's own, over a memory that notes its stores
+
+  -- a step that is refused does nothing
   abbrev pub noted_acts : List (Act ℕ) → Next (After ℕ Bool (Noted l thread)) → List (Act ℕ)
   noted_acts acts (Goes at) = at.memory.acts
   noted_acts acts (Ends stop) = acts
@@ -28,6 +31,9 @@ module _ (l : Loads ℕ) (thread : ℕ) where
   abbrev pub machine_acts : List (Act ℕ) → Runs → List (Act ℕ)
   machine_acts acts h = noted_acts acts (noted_step acts h)
 
+  -- ** a look in the middle of a line
+
+  -- the live instance with the module id that is asked for, if the instance that asks is still live
   abbrev pub asks_in : List Event → Option Asked → Option Instance
   asks_in seen None = None
   asks_in seen (Some asked) = if is_none (numbered_instance l seen asked.asking)

@@ -16,6 +16,9 @@ use Rattle.tls_map_laws.specs.Map.{Act}
 use Rattle.tls_map_laws.specs.Acts.{Noted, noting}
 
 module _ (m : Meaning) (thread : ℕ) where
+  -- ** a step: the meaning's own, over a memory that notes its stores
+
+  -- a step that is refused or unclean does nothing
   abbrev pub result_acts : List (Act Byte) → Result (After Word Flag (Noted m.loads thread)) Stop → List (Act Byte)
   result_acts acts (Ok at) = at.memory.acts
   result_acts acts (Err stop) = acts
@@ -31,6 +34,9 @@ module _ (m : Meaning) (thread : ℕ) where
   abbrev pub meant_acts : List (Act Byte) → Meant → List (Act Byte)
   meant_acts acts h = acts_at (sequence_at m thread h.after.memory.seen h.after.state.place) acts h
 
+  -- ** a look in the middle of a line
+
+  -- the live instance whose variable the sequence asks for, if the instance in whose code it stands is still live
   abbrev pub asks_for : List Event → Option Sequence → Option Instance
   asks_for seen None = None
   asks_for seen (Some s) = numbered_instance m.loads seen s.target
