@@ -1,5 +1,5 @@
 mod Answers
-mod Infos
+pub mod Infos
 mod Orders
 pub mod Printing
 mod Runs
