@@ -1,17 +1,15 @@
 -- What is known of the instances of images that are linked together, in the machine and in the meaning.
 use Rattle.std.proofs.Common.{◌≡◌, ◌∙◌, ◌+◌, ◌-◌, ◌<◌, ◌≤◌, ◌^◌, ◌++◌, ℕ, zero, suc, Bool, true, false, List, [], ◌∷◌, length, map, get_or, replicate, Option, Some, None, refl, sym, ap, subst, inl, inr, arith, length-append}
 use Rattle.std.specs.Prelude.{IfSome, option_map, slice_get, unwrap_or}
-use Rattle.std.specs.List.{All, find}
+use Rattle.std.specs.List.{All}
 use Rattle.std.proofs.lemmas.Bool.{cases_lt, le-leb, lt-ltb, ltb-true}
-use Rattle.std.proofs.lemmas.List.{length-map, length-replicate, map-append}
+use Rattle.std.proofs.lemmas.List.{length-map, length-replicate}
 use Rattle.std.proofs.lemmas.List.FromFn.{length-map-range_with_len}
 use Rattle.std.proofs.lemmas.Option.{get_or_from_slice_get, slice_get-get_or, slice_get-map, slice_get_past, slice_get_within}
 use Rattle.guest_arithmetic.specs.Plain.{plain_operations}
 use Rattle.guest_machine.specs.Ranges.{Range, byte_in, grants, holds}
 use Rattle.guest_operands.specs.declared.space.Access.{Access}
 use Rattle.guest_operands.specs.declared.space.Access.TheVariants.{Read, Run}
-use Rattle.image_file.specs.Spelled.{Spelled}
-use Rattle.image_file.specs.declared.part.TlsPart.{TlsPart}
 use Rattle.job_meaning.specs.declared.values.Byte.{Byte}
 use Rattle.job_meaning.specs.declared.values.Byte.TheVariants.{Value}
 use Rattle.link_core.specs.Faults.{Links}
@@ -31,9 +29,7 @@ use Rattle.loaded_bytes.specs.Laws.{IsData, IsIn, IsInstanceOf, images_of}
 use Rattle.loaded_bytes.specs.Meant.{valued}
 use Rattle.loaded_bytes.specs.Places.{IsApart, IsOwn}
 use Rattle.loaded_modules.specs.declared.instance.Instance.{Instance}
-use Rattle.loaded_modules.specs.Images.{image_at, last_offset}
-use Rattle.loaded_modules.specs.Loader.{block_of, block_of_image, fresh_block, initial_bytes}
-use Rattle.loaded_modules.specs.Loader.{holds as holds_image}
+use Rattle.loaded_modules.specs.Images.{last_offset}
 use Rattle.loaded_names.proofs.Infos.{infos_loaded}
 use Rattle.loaded_names.proofs.Meant.{infos_meant}
 use Rattle.module_table.specs.History.{IsLegal}
