@@ -1,5 +1,7 @@
 mod Answers
+mod Data
 mod Infos
+pub mod Low
 mod Orders
 pub mod Printing
 mod Runs

@@ -127,8 +127,8 @@ MachineReadsLast = (l : Loads ℕ) (fuel : ℕ) (lines : List (List ThreadLine))
     → ReadsLast l (λ thread. thread_turns l thread fuel) (λ thread. machine_changes l thread)
     (λ thread. thread_accesses l thread) (job_start l lines)
 
--- data are there, and are held, if what is loaded lies below the threads' own addresses (`linked_data_are_there` of
--- `linked_jobs` says it of each job that links)
+-- data are there, where what is loaded lies below all that threads have for themselves (`LinkedThreadsShareData` of
+-- `linked_jobs` has this of each job whose images link)
 abbrev pub MachineDataThere : Type 0
 MachineDataThere = (l : Loads ℕ) (fuel : ℕ) (lines : List (List ThreadLine)) → IsInOrder l → LiesLow l
     → DataThere l (λ thread. thread_turns l thread fuel) (λ thread. machine_changes l thread)
