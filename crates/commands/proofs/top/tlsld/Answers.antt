@@ -41,7 +41,7 @@ returns-in-Ok-Race-clause-shows g c =
     let is : asked (map string_bytes c.args.words.now) ≡ Some (Race c.as_str.result.now c.in-Ok-Race.rewriting) =
     rw (c.in-Ok-Race.field-0-is, sym c.as_str.ensures) at c.in-Ok-Race.ensures.ok in
     rw is (output_shows (g.S.Store.files c.args.store.now) _ (Race c.as_str.result.now c.in-Ok-Race.rewriting) c.raced-raced.result _ _ _ _ c.deliver.result
-    c.raced-raced.ensures.cause c.raced-raced.ensures.says c.deliver.ensures.delivered)
+    c.raced-raced.ensures.cause c.raced-raced.ensures.says c.raced-raced.ensures.own c.deliver.ensures.delivered)
 
 pub returns-in-Ok-Race-clause-asked : goal.returns-in-Ok-Race-clause-asked
 returns-in-Ok-Race-clause-asked g c =
@@ -55,7 +55,7 @@ returns-in-Ok-Race-clause-completes g c =
     let is : asked (map string_bytes c.args.words.now) ≡ Some (Race c.as_str.result.now c.in-Ok-Race.rewriting) =
     rw (c.in-Ok-Race.field-0-is, sym c.as_str.ensures) at c.in-Ok-Race.ensures.ok in
     rw is (output_completes (g.S.Store.files c.args.store.now) (g.S.Store.files c.args.store.now) (Race c.as_str.result.now c.in-Ok-Race.rewriting) c.raced-raced.result _ _ _ _ c.deliver.result
-    c.raced-raced.ensures.cause c.raced-raced.ensures.says c.deliver.ensures.delivered)
+    c.raced-raced.ensures.cause c.raced-raced.ensures.says c.raced-raced.ensures.own c.deliver.ensures.delivered)
 
 pub returns-in-Err-Usage-clause-shows : goal.returns-in-Err-Usage-clause-shows
 returns-in-Err-Usage-clause-shows g c =
