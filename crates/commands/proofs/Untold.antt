@@ -17,7 +17,7 @@ use Rattle.commands.specs.Listings.{ListingSays}
 use Rattle.commands.specs.Purposes.{Finds, Judges, JudgesAt, Makes}
 use Rattle.commands.specs.Untold.{HasImageStatus, HasJobStatus}
 use Rattle.commands.proofs.Completing.{verdict_done}
-use Rattle.commands.proofs.Saying.{Said, Text, comes_by, items}
+use Rattle.commands.proofs.Saying.{Text, comes_by, items}
 
 done : (Judged : Type 0) (own : ℕ) → own ≡ 0 → HasJobStatus Judged own
 done Judged own is = inl (inl is)
