@@ -7,7 +7,7 @@ ghost use Rattle.image_text.specs.Shown.{shown};
 ghost use Rattle.commands.specs.Links.{SitesSays, image_names};
 ghost use Rattle.commands.specs.Listings.{ListingSays};
 ghost use Rattle.commands.specs.Tasks.{ShowSays, TaskLeaves, TaskSays, task_names};
-ghost use Rattle.commands.specs.Untold.{HasImageStatus, HasJobStatus, TaskMaySay};
+ghost use Rattle.commands.specs.Untold.{HasImageStatus, HasJobStatus, Over, TaskMaySay};
 
 use crate::generated::generated;
 use crate::links::link;
@@ -37,7 +37,7 @@ pub fn output<R: Threads + Sync, S: Store>(
     ensures says { IfSome (S.files store.old) (λ fs. Comes (λ text. text.items)
         (TaskSays fs (S.files store.new) task.now) result) }
     ensures may { Comes (λ text. text.items) (TaskMaySay task.now) result }
-    ensures asks { IfSome (S.files store.old) (λ fs. Asks (task_names fs task.now)
+    ensures asks { Over (S.files store.old) (λ fs. Asks (task_names fs task.now)
         (S.asked store.old) (S.asked store.new) result) }
     ensures out { S.out store.new ≡ S.out store.old }
 {
@@ -81,7 +81,7 @@ fn sites<R: Threads + Sync, S: Store>(
     ensures says { IfSome (S.files store.old) (λ fs. Comes (λ text. text.items)
         (SitesSays fs job.now image.now) result) }
     ensures own { Comes (λ text. text.items) (λ own text. HasJobStatus ⊥ own) result }
-    ensures asks { IfSome (S.files store.old) (λ fs. Asks (image_names fs job.now image.now)
+    ensures asks { Over (S.files store.old) (λ fs. Asks (image_names fs job.now image.now)
         (S.asked store.old) (S.asked store.new) result) }
     ensures out { S.out store.new ≡ S.out store.old }
 {

@@ -11,7 +11,7 @@ ghost use Rattle.commands.specs.InOrder.{AreInOrder};
 ghost use Rattle.commands.specs.Jobs.{BytesSay, ImagesSay, ObjectsSay, asked_names, job_names};
 ghost use Rattle.commands.specs.Links.{FilesAfter};
 ghost use Rattle.commands.specs.Purposes.{FileTold, IsWithin, JobTold, Judges, JudgesAt, Makes, put_by, puts, wanted_by};
-ghost use Rattle.commands.specs.Untold.{HasJobStatus};
+ghost use Rattle.commands.specs.Untold.{HasJobStatus, Over};
 ghost use Rattle.job_link.specs.declared.writable.WritableSections.TheVariants.{Kept};
 ghost use Rattle.job_link.specs.Given.{AreGiven};
 ghost use Rattle.job_link.specs.Mentions.{bytes_in, object_names};
@@ -49,7 +49,7 @@ pub fn told<R: Threads + Sync, S: Store>(
     ensures says { IfSome (S.files store.old) (λ fs. Comes (λ text. text.items)
         (FileTold purpose.entry rewriting fs (S.files store.new) name.now) result) }
     ensures own { Comes (λ text. text.items) (λ own text. HasJobStatus (Judges purpose.entry) own) result }
-    ensures asks { IfSome (S.files store.old) (λ fs. Asks (asked_names fs name.now (wanted_by purpose.entry))
+    ensures asks { Over (S.files store.old) (λ fs. Asks (asked_names fs name.now (wanted_by purpose.entry))
         (S.asked store.old) (S.asked store.new) result) }
     ensures out { S.out store.new ≡ S.out store.old }
 {

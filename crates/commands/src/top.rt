@@ -6,6 +6,7 @@ ghost use Rattle.ports.specs.Files.{untold_files};
 ghost use Rattle.commands.specs.Completes.{Completes, DidNotFail};
 ghost use Rattle.commands.specs.Replies.{Asked, AskedWords, Shows, ShowsWords, WordsLeave};
 ghost use Rattle.commands.specs.Commands.{CommandLeaves};
+ghost use Rattle.commands.specs.Untold.{Over};
 
 use crate::command::output;
 use crate::races::raced;
@@ -33,7 +34,7 @@ pub fn tlsld<R: Threads + Wait + Sync, S: Store, K: Sink>(
     ensures files { WordsLeave (S.files store.old) (S.files store.new) (asked (map string_bytes words.now)) }
     ensures shows { ShowsWords (S.files store.old) (S.files store.new) (asked (map string_bytes words.now))
         (K.view out.old) (K.view out.new) result }
-    ensures asked { IfSome (S.files store.old) (λ fs. AskedWords fs (asked (map string_bytes words.now))
+    ensures asked { Over (S.files store.old) (λ fs. AskedWords fs (asked (map string_bytes words.now))
         (S.asked store.old) (S.asked store.new) result) }
     ensures completes { IfSome (asked (map string_bytes words.now)) (λ command.
         DidNotFail (S.faults store.old) (S.faults store.new)
@@ -69,7 +70,7 @@ pub fn tlsld_plain<R: Threads + Sync, S: Store, K: Sink>(
     ensures files { CommandLeaves (S.files store.old) (S.files store.new) (Command.Plain task.now) }
     ensures shows { Shows (S.files store.old) (S.files store.new) (Command.Plain task.now)
         (K.view out.old) (K.view out.new) result }
-    ensures asked { IfSome (S.files store.old)
+    ensures asked { Over (S.files store.old)
         (λ fs. Asked fs (Command.Plain task.now) (S.asked store.old) (S.asked store.new) result) }
     ensures completes { DidNotFail (S.faults store.old) (S.faults store.new)
         → DidNotFail (K.view out.old).faults (K.view out.new).faults

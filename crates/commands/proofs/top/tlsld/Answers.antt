@@ -4,7 +4,7 @@ use Rattle.command_line.specs.Words.{asked, takes_words}
 use Rattle.commands.proofs.Asked.{asked_by}
 use Rattle.commands.proofs.Completing.{output_completes, usage_completes}
 use Rattle.commands.proofs.Shown.{output_shows}
-use Rattle.commands.proofs.Words.{shows_usage}
+use Rattle.commands.proofs.Words.{asked_late, asked_usage, shows_usage}
 use Rattle.commands.proofs.top.tlsld.Goals as goal
 
 pub returns-in-Ok-Plain-clause-files : goal.returns-in-Ok-Plain-clause-files
@@ -66,3 +66,12 @@ pub returns-in-Err-Usage-clause-completes : goal.returns-in-Err-Usage-clause-com
 returns-in-Err-Usage-clause-completes g c =
     let other : takes_words (map string_bytes c.args.words.now) ≡ false = search rules in
     usage_completes (g.S.Store.files c.args.store.now) (map string_bytes c.args.words.now) _ _ _ _ c.say_usage.result other
+
+pub returns-in-Err-Usage-clause-asked : goal.returns-in-Err-Usage-clause-asked
+returns-in-Err-Usage-clause-asked g c =
+    let other : takes_words (map string_bytes c.args.words.now) ≡ false = search rules in
+    asked_usage (g.S.Store.files c.args.store.now) (map string_bytes c.args.words.now) (g.S.Store.asked c.args.store.now) c.say_usage.result other
+
+pub returns-in-Err-OutOfMemory-clause-asked : goal.returns-in-Err-OutOfMemory-clause-asked
+returns-in-Err-OutOfMemory-clause-asked g c =
+    asked_late (g.S.Store.files c.args.store.now) (asked (map string_bytes c.args.words.now)) (g.S.Store.asked c.args.store.now) c.say_no_memory.result c.say_no_memory.ensures.late
