@@ -12,3 +12,4 @@ pub mod Replies
 pub mod RunJobs
 pub mod Runs
 pub mod Tasks
+pub mod Untold

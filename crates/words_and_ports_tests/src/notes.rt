@@ -2,7 +2,7 @@
 use elf_records::relocation::R_X86_64_TPOFF32;
 use elf_records::symbol::{STT_FUNC, STT_TLS};
 use object_builder::{Section, Symbol, object_of, rela};
-use ports::{HostStore, MemorySink, Sink, Store};
+use ports::{HostStore, MemorySink, Sink, fetch_each};
 use std::alloc::{AllocError, Global};
 use std::test::Fail;
 use terminal_notes::{COMMANDS, KeptSink, append_printable, note_of, object_note, object_refusal};
@@ -104,8 +104,7 @@ fn a_refused_object_is_shown_by_its_names(rt: HostRuntime) -> Result<(), Fail> {
 fn told(rt: &HostRuntime, status: u8, line: &str, name: &str) -> Result<String, Fail> {
     let alloc = rt.alloc();
     let mut store = HostStore::new(rt, alloc);
-    let read = store.read(alloc, name);
-    let _ = store.count(name, read);
+    let _ = fetch_each(rt, alloc, &mut store, &[name]);
     match note_of(alloc, status, line.as_bytes(), &store) {
         Some(note) => Ok(String::from_utf8(note)?),
         None => Ok(String::from_str(alloc, "no note")?),
