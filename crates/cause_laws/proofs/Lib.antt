@@ -1,0 +1,4 @@
+mod Addresses
+mod Causes
+mod Clean
+mod Picks

@@ -1,0 +1,4 @@
+//! Laws of unclean steps.
+#![tactic(auto)]
+
+pub mod laws;
