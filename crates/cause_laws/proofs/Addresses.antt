@@ -100,7 +100,7 @@ SaysField (Ok a) o = o ≡ Some a
 SaysField (Err why) o = (o ≡ None) × (why ≡ cause.Field)
 
 -- a base that an offset field is added to
-abbrev AddsField : ℕ → Result ℕ Cause → Option ℕ → Type 0
+abbrev pub AddsField : ℕ → Result ℕ Cause → Option ℕ → Type 0
 AddsField more (Ok a) o = (n : ℕ) × ((o ≡ Some n) × (a % 2 ^ 64 ≡ (n + more) % 2 ^ 64))
 AddsField more (Err why) o = o ≡ None
 

@@ -1,4 +1,6 @@
 mod Addresses
 mod Causes
 mod Clean
+mod Fields
 mod Picks
+mod Reading

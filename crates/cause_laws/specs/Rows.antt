@@ -66,23 +66,22 @@ module _ {M : Type 0} (acc : Accesses M Byte) (state : State Word Flag) (memory 
   abbrev pub instruction : Option Decoded
   instruction = decoded fetched
 
--- the bytes read: a list from the thread's place on
-module _ (mark : ℕ → Mark) (state : State Word Flag) (bytes : List ℕ) where
-  abbrev pub mark_at : ℕ → Mark
-  mark_at k = mark (place_at state.place k)
+module _ (mark : ℕ → Mark) (state : State Word Flag) where
+  -- an instruction may cover byte k, where it has this mark
+  abbrev pub is_covered : Option Decoded → ℕ → Mark → Bool
+  is_covered it k Usual = true
+  is_covered None k met = false
+  is_covered (Some it) k met = allows mark state it k met
 
+-- bytes: those of code from the thread's place on
+module _ (mark : ℕ → Mark) (state : State Word Flag) (bytes : List ℕ) where
   -- the bytes before byte k alone neither spell an instruction nor rule one out
   abbrev pub is_read_to : ℕ → Bool
   is_read_to k = begins_of (take k bytes)
 
   -- the instruction that the bytes spell, whatever stands in place of missing ones, may cover byte k
-  abbrev pub is_covered : Option Decoded → ℕ → Mark → Bool
-  is_covered it k Usual = true
-  is_covered None k mark = false
-  is_covered (Some it) k met = allows mark state it k met
-
   abbrev pub may_cover : ℕ → Bool
-  may_cover k = is_covered (completed bytes) k (mark_at k)
+  may_cover k = is_covered mark state (completed bytes) k (mark (place_at state.place k))
 
   -- reading stops before byte k: it is the first one asked for that may not be covered
   pub record StopsReading (k : ℕ) : Type 0 where
