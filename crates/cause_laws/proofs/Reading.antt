@@ -38,7 +38,7 @@ module _ (mark : ℕ → Mark) (state : State Word Flag) (bytes : List ℕ) wher
   abbrev pub met : ℕ → Option Cause
   met k = if is_read_to mark state bytes k then blocked (may_cover mark state bytes k) (mark (place_at state.place k)) else None
 
-  met-is : (k : ℕ) → asked k ≡ met k
+  pub met-is : (k : ℕ) → asked k ≡ met k
   met-is k = ap (λ (o : Option Cause). if begins_of (take k bytes) then o else None)
       (blocked-is mark state (completed bytes) k (mark (place_at state.place k)))
 
