@@ -6,3 +6,4 @@ mod Covered
 mod Fields
 mod Picks
 mod Reading
+mod Touches

@@ -149,20 +149,40 @@ module _ (mark : ℕ → Mark) (state : State Word Flag) (it : Decoded) where
   operand_words true (Some memory) = []
   operand_words false (Some memory) = address_words mark state it memory
 
-module _ {M : Type 0} (acc : Accesses M Byte) (mark : ℕ → Mark) (state : State Word Flag) (memory : M) where
-  abbrev pub word_in : {A : Type 0} → Result Word A → List Word
-  word_in (Ok word) = word ∷ []
-  word_in (Err why) = []
+-- ** accesses in a memory
 
+-- so many addresses from one on
+abbrev pub places_from : ℕ → ℕ → List ℕ
+places_from address zero = []
+places_from address (suc more) = address ∷ places_from (next_place address) more
+
+abbrev pub word_in : {A : Type 0} → Result Word A → List Word
+word_in (Ok word) = word ∷ []
+word_in (Err why) = []
+
+module _ {M : Type 0} (acc : Accesses M Byte) (memory : M) where
   -- the word that the first access loads, if each of its bytes may be read
   abbrev pub first_loaded : List Access → List Word
   first_loaded [] = []
   first_loaded (Load address size ∷ more) = word_in (load_of ops acc memory address size)
   first_loaded (Store address size ∷ more) = []
 
+  -- all bytes of each access in their order; after a refused one there is no other
+  abbrev pub touched_by : List Access → List ℕ
+  touched_by [] = []
+  touched_by (Load address size ∷ more) =
+      places_from address size ++ (if is_refused (bytes_at acc memory address size) then [] else touched_by more)
+  touched_by (Store address size ∷ more) =
+      places_from address size ++ (if is_refused (all_write acc memory address size) then [] else touched_by more)
+
+-- ** what an instruction computes with, and what it touches
+
+module _ {M : Type 0} (acc : Accesses M Byte) (mark : ℕ → Mark) (state : State Word Flag) (memory : M) where
+  -- the word from memory, if it computes with that
   abbrev pub loaded_words : Decoded → List Word
-  loaded_words it =
-      if uses_loaded it.instr.operation then first_loaded (accesses_of mark state it it.instr.operation) else []
+  loaded_words it = if uses_loaded it.instr.operation
+      then first_loaded acc memory (accesses_of mark state it it.instr.operation)
+      else []
 
   -- the words that it computes with: of registers, unless their one is the base that an offset field is added to; of
   -- its operand's address; and from memory
@@ -176,21 +196,7 @@ module _ {M : Type 0} (acc : Accesses M Byte) (mark : ℕ → Mark) (state : Sta
   used_flags None = []
   used_flags (Some it) = flags_used it.instr.operation state.flags
 
-  -- ** the bytes that it touches
-
-  -- so many addresses from one on
-  abbrev pub places_from : ℕ → ℕ → List ℕ
-  places_from address zero = []
-  places_from address (suc more) = address ∷ places_from (next_place address) more
-
-  -- all bytes of each access in their order; after a refused one there is no other
-  abbrev pub touched_by : List Access → List ℕ
-  touched_by [] = []
-  touched_by (Load address size ∷ more) =
-      places_from address size ++ (if is_refused (bytes_at acc memory address size) then [] else touched_by more)
-  touched_by (Store address size ∷ more) =
-      places_from address size ++ (if is_refused (all_write acc memory address size) then [] else touched_by more)
-
+  -- the data bytes that it touches
   abbrev pub places_of : Option Decoded → List ℕ
   places_of None = []
-  places_of (Some it) = touched_by (accesses_of mark state it it.instr.operation)
+  places_of (Some it) = touched_by acc memory (accesses_of mark state it it.instr.operation)
