@@ -4,6 +4,7 @@ mod Causes
 mod Clean
 mod Covered
 mod Fields
+mod Moved
 mod Picks
 mod Reading
 mod Touches

@@ -108,7 +108,7 @@ module _ {M : Type 0} (acc : Accesses M Byte) where
   -- a memory where eight bytes from an address on are those of a number, when they are read
   abbrev pub byte_there : ℕ → ℕ → ℕ → Result Byte Refusal → Result Byte Refusal
   byte_there number start place other = let k = plus place (2 ^ 64 - start) in
-      if nat_lt k 8 then Ok (ops.byte_of (Number number) k) else other
+      if nat_lt k 8 then Ok (ops.byte_of (ops.word number) k) else other
 
   abbrev pub with_number_at : ℕ → ℕ → Accesses M Byte
   with_number_at number start = record acc {
