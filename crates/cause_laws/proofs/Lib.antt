@@ -7,4 +7,5 @@ mod Fields
 mod Moved
 mod Picks
 mod Reading
+mod Supplied
 mod Touches

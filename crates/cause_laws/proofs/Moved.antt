@@ -32,14 +32,23 @@ use Rattle.guest_machine.specs.Step.{compute_in, compute_out, compute_plain, com
 use Rattle.cause_laws.specs.Instructions.{memory_if, memory_of, operand_of, read_operand}
 use Rattle.cause_laws.specs.Laws.{absolute, moved, with_absolute}
 
-is_memory : (operand : Operand) (memory : Memory) → memory_of operand ≡ Some memory → operand ≡ InMemory memory
+pub is_memory : (operand : Operand) (memory : Memory) → memory_of operand ≡ Some memory → operand ≡ InMemory memory
 is_memory (InRegister name) memory e = absurd cc
 is_memory (InMemory other) memory e = cc
 
 -- what follows alike follows alike
-bind-all : {A C : Type 0} (x : Result A Stop) (k k' : A → Result C Stop) → ((a : A) → k a ≡ k' a) → (x >>= k) ≡ (x >>= k')
+pub bind-all : {A C : Type 0} (x : Result A Stop) (k k' : A → Result C Stop) → ((a : A) → k a ≡ k' a) → (x >>= k) ≡ (x >>= k')
 bind-all (Ok a) k k' h = h a
 bind-all (Err stop) k k' h = refl
+
+pub not-cleared : (arithmetic : Arithmetic) (to : Register) (x : Memory) → is_cleared arithmetic to (InMemory x) ≡ false
+unfolding is_cleared
+not-cleared Add to x = refl
+not-cleared Or to x = refl
+not-cleared And to x = refl
+not-cleared Sub to x = refl
+not-cleared Xor to x = refl
+not-cleared Compare to x = refl
 
 -- f, g: two frames with equal numbers besides the displacement, none of which is a field
 module _ {W F B M : Type 0} (ops : Operations W F B) (acc : Accesses M B) (f g : Frame) (s : State W F) (m : M) (memory : Memory)
@@ -105,15 +114,6 @@ module _ {W F B M : Type 0} (ops : Operations W F B) (acc : Accesses M B) (f g :
   loaded-address : (width : Width) (to : Register) → Moves (LoadAddress width to memory)
   unfolding act load_address
   loaded-address width to = rw (at, at', next) refl
-
-  not-cleared : (arithmetic : Arithmetic) (to : Register) (x : Memory) → is_cleared arithmetic to (InMemory x) ≡ false
-  unfolding is_cleared
-  not-cleared Add to x = refl
-  not-cleared Or to x = refl
-  not-cleared And to x = refl
-  not-cleared Sub to x = refl
-  not-cleared Xor to x = refl
-  not-cleared Compare to x = refl
 
   computed-in : (arithmetic : Arithmetic) (width : Width) (to : Register)
       → Moves (Compute arithmetic width (IntoRegister to (InMemory memory)))
