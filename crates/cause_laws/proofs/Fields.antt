@@ -184,7 +184,7 @@ minus-is : (addend : ℤ) (size : ℕ) → fields.is_minus addend size ≡ opera
 minus-is (pos n) size = refl
 minus-is (negsuc n) size = let one : suc n ≡ n + 1 = omega arith in ap (λ (k : ℕ). k == size) one
 
-base-next : (b : Base) → fields.is_from_next b ≡ operands.is_next b
+pub base-next : (b : Base) → fields.is_from_next b ≡ operands.is_next b
 base-next Absolute = refl
 base-next NextInstruction = refl
 base-next (OfRegister register) = refl

@@ -4,6 +4,7 @@ mod Causes
 mod Clean
 mod Covered
 mod Fields
+mod Generic
 mod Moved
 mod Picks
 mod Reading

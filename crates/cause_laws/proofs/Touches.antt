@@ -262,7 +262,7 @@ module _ {M : Type 0} (acc : Accesses M Byte) (state : State Word Flag) (m : M) 
 
     -- ** the law: where an address field stands, its operand is one that is read
 
-    address-same : (o : Option ℕ) → address_at mark state.place o ≡ operands.address_of (first_mark mark state it o)
+    pub address-same : (o : Option ℕ) → address_at mark state.place o ≡ operands.address_of (first_mark mark state it o)
     address-same None = refl
     address-same (Some k) = by_mark (mark (plus state.place k))
       where
