@@ -84,7 +84,7 @@ placed-operand mark state it (Some memory) e = there (operand_address mark state
     there None is e = absurd cc
     there (Some a) is e = (memory, (a, (refl, is)))
 
-next-operand : (o : Option Memory) → is_next_operand o ≡ true → (memory : Memory) × ((o ≡ Some memory) × (is_from_next memory ≡ true))
+pub next-operand : (o : Option Memory) → is_next_operand o ≡ true → (memory : Memory) × ((o ≡ Some memory) × (is_from_next memory ≡ true))
 next-operand None e = absurd cc
 next-operand (Some memory) e = (memory, (refl, e))
 
