@@ -10,3 +10,5 @@ mod Picks
 mod Reading
 mod Supplied
 mod Touches
+mod Uses
+mod Words
