@@ -5,6 +5,7 @@ mod Clean
 mod Covered
 mod Fields
 mod Generic
+mod Lent
 mod Moved
 mod Picks
 mod Reading

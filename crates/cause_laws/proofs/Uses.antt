@@ -319,7 +319,7 @@ module _ {M : Type 0} (acc : Accesses M Byte) (f : Frame) (state : State Word Fl
   loaded_by Return = at_address 8 (used_number state.registers.rsp)
   loaded_by operation = []
 
-  abbrev aw_if : Bool → Option Memory → List Word
+  abbrev pub aw_if : Bool → Option Memory → List Word
   aw_if nop None = []
   aw_if true (Some memory) = []
   aw_if false (Some memory) = aw memory

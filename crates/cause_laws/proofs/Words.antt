@@ -42,7 +42,7 @@ use Rattle.cause_laws.specs.Steps.{accesses_of, bytes_of, first_loaded, load_at,
 use Rattle.cause_laws.proofs.Addresses.{SaysBy, address-says}
 use Rattle.cause_laws.proofs.Picks.{pick, word_cause}
 use Rattle.cause_laws.proofs.Touches.{Same, same-by, same-word}
-use Rattle.cause_laws.proofs.Uses.{FitsAll, FitsNop, NotShut, Tells, act-tells, all_words, at_address, cause_of, loaded_by, loaded_of}
+use Rattle.cause_laws.proofs.Uses.{FitsAll, aw_if, FitsNop, NotShut, Tells, act-tells, all_words, at_address, cause_of, loaded_by, loaded_of}
 
 size-is : (width : Width) → size_of width ≡ bytes_of width
 size-is LongWidth = refl
@@ -130,3 +130,69 @@ module _ {M : Type 0} (acc : Accesses M Byte) (mark : ℕ → Mark) (state : Sta
   loads-are Return = at-is 8 _ _ (same-word state.registers.rsp)
   loads-are (Nop operand) = refl
   loads-are Undefined = refl
+
+  -- ** its words and flags
+
+  operand-is : (nop : Bool) (o : Option Memory) → aw_if acc frame state m aw no-field open_load open_store nop o ≡ operand_words mark state it nop o
+  operand-is true None = refl
+  operand-is false None = refl
+  operand-is true (Some memory) = refl
+  operand-is false (Some memory) = refl
+
+  pub words-are : offset_of (first_mark mark state it it.imm) ≡ None
+      → all_words acc frame state m aw no-field open_load open_store it.instr.operation ≡ words_of acc mark state m (Some it)
+  words-are none = rw (none, operand-is (is_nop it.instr.operation) (operand_of it.instr.operation), loads-are it.instr.operation) refl
+
+  -- without an offset field each address has the cause of its words
+  fits-none : operands.offset_field mark state it ≡ None → FitsAll acc frame state m aw no-field open_load open_store it.instr.operation
+  fits-none none memory e = rw none (by_cause (address_of ops frame state memory) (operand_address mark state it memory)
+      (subst (λ (o : Option ℕ). SaysBy o (address_of ops frame state memory) (operand_address mark state it memory) (words_by mark state it None memory)) none
+      (address-says mark state it memory)))
+    where
+      by_cause : (r : Result ℕ Cause) (o : Option ℕ) → SaysBy None r o (words_by mark state it None memory)
+          → cause_of r ≡ word_cause (words_by mark state it None memory)
+      by_cause (Ok a) o h = sym h.1
+      by_cause (Err why) o h = sym h.1
+
+  -- with an allowed one the address has none
+  fits-some : (n : ℕ) → operands.offset_field mark state it ≡ Some n → (x : Memory) (a : ℕ) → operand_of it.instr.operation ≡ Some x
+      → address_of ops frame state x ≡ Ok a → FitsAll acc frame state m aw no-field open_load open_store it.instr.operation
+  fits-some n some x a there at memory e =
+      let both : Some x ≡ Some memory = sym there ∙ e in
+      let same : x ≡ memory = cc in
+      rw (some, ← same, at) refl
+
+  nop-by : (fld : Option ℕ) (o : Option Operand) → (fld ≡ None) → cause_of (nop_use ops frame state fld o) ≡ None
+  nop-by None o e = refl
+  nop-by (Some at) o e = absurd cc
+
+  nop-at : (fld : Option ℕ) (o : Option Operand) (x : Memory) (a : ℕ) → memory_if o ≡ Some x → address_of ops frame state x ≡ Ok a
+      → cause_of (nop_use ops frame state fld o) ≡ None
+  nop-at fld None x a e at = absurd cc
+  nop-at None (Some operand) x a e at = refl
+  nop-at (Some k) (Some (InRegister r)) x a e at = absurd cc
+  nop-at (Some k) (Some (InMemory y)) x a e at = let same : x ≡ y = cc in rw (← same, at) refl
+
+  pub bare-tells : offset_of (first_mark mark state it it.imm) ≡ None
+      → FitsAll acc frame state m aw no-field open_load open_store it.instr.operation
+      → FitsNop acc frame state m aw no-field open_load open_store it.instr.operation
+      → Tells state.place (act ops acc frame it.instr.operation state m)
+      (pick (words_of acc mark state m (Some it)) (used_flags acc mark state m (Some it)))
+  bare-tells none fits nop = rw (← words-are none)
+      (act-tells acc frame state m aw no-field open_load open_store it.instr.operation fits nop)
+
+  pub none-tells : offset_of (first_mark mark state it it.imm) ≡ None → operands.offset_field mark state it ≡ None
+      → frame.displacement_field ≡ None → Tells state.place (act ops acc frame it.instr.operation state m)
+      (pick (words_of acc mark state m (Some it)) (used_flags acc mark state m (Some it)))
+  none-tells lacks none field = bare-tells lacks (fits-none none) (λ o e. nop-by frame.displacement_field o field)
+
+  memory-of-nop : (o : Option Operand) → operand_of (Nop o) ≡ memory_if o
+  unfolding operand_of
+  memory-of-nop o = refl
+
+  pub some-tells : offset_of (first_mark mark state it it.imm) ≡ None → (n : ℕ) → operands.offset_field mark state it ≡ Some n
+      → (x : Memory) (a : ℕ) → operand_of it.instr.operation ≡ Some x → address_of ops frame state x ≡ Ok a
+      → Tells state.place (act ops acc frame it.instr.operation state m)
+      (pick (words_of acc mark state m (Some it)) (used_flags acc mark state m (Some it)))
+  some-tells lacks n some x a there at = bare-tells lacks (fits-some n some x a there at)
+      (λ o e. nop-at frame.displacement_field o x a (sym (memory-of-nop o) ∙ (sym (ap operand_of e) ∙ there)) at)
