@@ -58,7 +58,7 @@ no-field here None = refl
 no-field here (Some k) = refl
 
 -- without an offset field the number is what was read
-no-number : (read : ℕ) (fld : Option ℕ) (number : ℕ) (o : Option ℕ) (whose : ℕ) → Given read fld number o whose → o ≡ None
+pub no-number : (read : ℕ) (fld : Option ℕ) (number : ℕ) (o : Option ℕ) (whose : ℕ) → Given read fld number o whose → o ≡ None
     → (fld ≡ None) × (number ≡ read)
 no-number read None number None whose h e = (refl, h)
 no-number read None number (Some n) whose h e = absurd h
@@ -66,7 +66,7 @@ no-number read (Some at) number None whose h e = absurd h
 no-number read (Some at) number (Some n) whose h e = absurd cc
 
 -- a mark is not of both kinds
-only-offset : (μ : Mark) (n : ℕ) → offset_of μ ≡ Some n → operands.address_of μ ≡ None
+pub only-offset : (μ : Mark) (n : ℕ) → offset_of μ ≡ Some n → operands.address_of μ ≡ None
 only-offset Usual n e = absurd cc
 only-offset (Offset number byte) n e = refl
 only-offset (Address number addend byte) n e = absurd cc
@@ -74,7 +74,7 @@ only-offset Inside n e = absurd cc
 
 -- ** operands that are there
 
-placed-operand : (mark : ℕ → Mark) (state : State Word Flag) (it : Decoded) (o : Option Memory) → is_placed mark state it o ≡ true
+pub placed-operand : (mark : ℕ → Mark) (state : State Word Flag) (it : Decoded) (o : Option Memory) → is_placed mark state it o ≡ true
     → (memory : Memory) × ((address : ℕ) × ((o ≡ Some memory) × (operand_address mark state it memory ≡ Some address)))
 placed-operand mark state it None e = absurd cc
 placed-operand mark state it (Some memory) e = there (operand_address mark state it memory) refl e
@@ -88,7 +88,7 @@ pub next-operand : (o : Option Memory) → is_next_operand o ≡ true → (memor
 next-operand None e = absurd cc
 next-operand (Some memory) e = (memory, (refl, e))
 
-adds-none : (mark : ℕ → Mark) (state : State Word Flag) (it : Decoded) (op : Operation) → adds_to_base mark state it op ≡ true
+pub adds-none : (mark : ℕ → Mark) (state : State Word Flag) (it : Decoded) (op : Operation) → adds_to_base mark state it op ≡ true
     → (to : Register) × ((start : ℕ) × ((op ≡ Compute Add Quad (Immediate (InRegister to)))
     × (block_of (operands.owner mark state it it.imm) (operands.value_of mark state it to) ≡ Some start)))
 adds-none mark state it (Compute Add Quad (Immediate (InRegister to))) e =
@@ -101,15 +101,15 @@ adds-none mark state it (Compute Add Quad (Immediate (InRegister to))) e =
     there (Some start) is e = (to, (start, (refl, is)))
 adds-none mark state it op e = absurd cc
 
-no-operand : (to : Register) (memory : Memory) → operand_of (Compute Add Quad (Immediate (InRegister to))) ≡ Some memory → ⊥
+pub no-operand : (to : Register) (memory : Memory) → operand_of (Compute Add Quad (Immediate (InRegister to))) ≡ Some memory → ⊥
 unfolding operand_of
 no-operand to memory e = absurd cc
 
-no-read : (to : Register) (memory : Memory) → read_operand (Compute Add Quad (Immediate (InRegister to))) ≡ Some memory → ⊥
+pub no-read : (to : Register) (memory : Memory) → read_operand (Compute Add Quad (Immediate (InRegister to))) ≡ Some memory → ⊥
 unfolding read_operand
 no-read to memory e = absurd cc
 
-is-there : (r : Result ℕ Cause) (o : Option ℕ) (a : ℕ) → Same r o → o ≡ Some a → r ≡ Ok a
+pub is-there : (r : Result ℕ Cause) (o : Option ℕ) (a : ℕ) → Same r o → o ≡ Some a → r ≡ Ok a
 is-there (Ok b) o a h e = let same : Some b ≡ Some a = sym h ∙ e in let is : b ≡ a = cc in ap (λ (n : ℕ). Ok n) is
 is-there (Err why) o a h e = let no : None ≡ Some a = sym h ∙ e in absurd cc
 
@@ -145,11 +145,11 @@ module _ {M : Type 0} (acc : Accesses M Byte) (number start : ℕ) (m : M) (low 
       let behind : next_place place ≡ (start + (k + 1)) % 2 ^ 64 = omega (arith, is) in
       rw (within, small, bytes-there size (k + 1) (next_place place) (omega (arith, fits)) behind) refl
 
-  number-load : load_of ops (with_number_at acc number start) m start 8 ≡ Ok (ops.joined (bytes_from ops (ops.word number) 0 8))
+  pub number-load : load_of ops (with_number_at acc number start) m start 8 ≡ Ok (ops.joined (bytes_from ops (ops.word number) 0 8))
   unfolding load_of
   number-load = ap (reached ops.joined) (bytes-there 8 0 start refl (omega (arith, low)))
 
-  lent-same : load_of ops (lent_at ops acc number) m 0 8 ≡ load_of ops (with_number_at acc number start) m start 8
+  pub lent-same : load_of ops (lent_at ops acc number) m 0 8 ≡ load_of ops (with_number_at acc number start) m start 8
   lent-same = lent-load ops acc (λ m place. false) m number (λ k below. refl) ∙ sym number-load
 
   stores-same : (place : ℕ) (word : Word)
@@ -184,7 +184,7 @@ module _ {M : Type 0} (acc : Accesses M Byte) (mark : ℕ → Mark) (state : Sta
   operation = it.instr.operation
 
   -- the immediate of an instruction whose operand is in memory is no field
-  no-immediate : offset_of (first_mark mark state it it.imm) ≡ None
+  pub no-immediate : offset_of (first_mark mark state it it.imm) ≡ None
       → (frame.immediate ≡ it.instr.immediate) × (frame.immediate_field ≡ field_at (λ place. false) state.place it.imm)
   unfolding marked_frame frame_of
   no-immediate none =
@@ -192,7 +192,7 @@ module _ {M : Type 0} (acc : Accesses M Byte) (mark : ℕ → Mark) (state : Sta
       (given mark state it it.instr.immediate it.imm) none in
       (h.1, h.0 ∙ sym (no-field state.place it.imm))
 
-  lacks-immediate : ((to : Register) → operation ≡ Compute Add Quad (Immediate (InRegister to)) → ⊥)
+  pub lacks-immediate : ((to : Register) → operation ≡ Compute Add Quad (Immediate (InRegister to)) → ⊥)
       → offset_of (first_mark mark state it it.imm) ≡ None
   lacks-immediate never = by_field (offset_of (first_mark mark state it it.imm)) refl
     where
@@ -230,11 +230,11 @@ module _ {M : Type 0} (acc : Accesses M Byte) (mark : ℕ → Mark) (state : Sta
 
   -- ** an address field
 
-  disp-there : (o : Option ℕ) (number : ℕ) → operands.address_of (first_mark mark state it o) ≡ Some number → (k : ℕ) × (o ≡ Some k)
+  pub disp-there : (o : Option ℕ) (number : ℕ) → operands.address_of (first_mark mark state it o) ≡ Some number → (k : ℕ) × (o ≡ Some k)
   disp-there None number e = absurd cc
   disp-there (Some k) number e = (k, refl)
 
-  next-base : (b : Base) (t : Bool) → (operands.is_next b && not t) ≡ true → (fields.is_from_next b && not t) ≡ true
+  pub next-base : (b : Base) (t : Bool) → (operands.is_next b && not t) ≡ true → (fields.is_from_next b && not t) ≡ true
   next-base b t e = ap (λ (x : Bool). x && not t) (base-next b) ∙ e
 
   supplied-step : (number : ℕ) → offset_of (first_mark mark state it it.disp) ≡ None
@@ -282,7 +282,7 @@ module _ {M : Type 0} (acc : Accesses M Byte) (mark : ℕ → Mark) (state : Sta
       (a, (refl, omega (arith, h.1.1, is)))
   moved-is (Err why) o number start h e = let no : None ≡ Some start = sym h ∙ e in absurd cc
 
-  summed-step : (number : ℕ) → offset_of (first_mark mark state it it.disp) ≡ None
+  pub summed-step : (number : ℕ) → offset_of (first_mark mark state it it.disp) ≡ None
       → operands.address_of (first_mark mark state it it.disp) ≡ None
       → offset_of (first_mark mark state it it.imm) ≡ Some number → Done
   unfolding marked_frame frame_of

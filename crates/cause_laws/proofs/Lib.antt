@@ -10,6 +10,7 @@ mod Moved
 mod Picks
 mod Reading
 mod Supplied
+mod Told
 mod Touches
 mod Uses
 mod Words
