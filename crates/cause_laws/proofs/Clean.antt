@@ -52,7 +52,7 @@ module _ {M : Type 0} (acc : Accesses M Byte) (mark : ℕ → Mark) (shut : ℕ 
     where
       by_cause : (r : Option Cause) → hindrance ops mark state bytes ≡ r → hindrance ops mark state bytes ≡ None
       by_cause None e = e
-      by_cause (Some cause.Inside) e = absurd (never cause.Inside (reading mark state bytes (Some cause.Inside) e))
+      by_cause (Some cause.Inside) e = absurd (never cause.Inside (reading mark state bytes (Some cause.Inside) e).0)
       by_cause (Some cause.Field) e = absurd (never cause.Field (reading mark state bytes (Some cause.Field) e).0)
       by_cause (Some cause.Linker) e = absurd (reading mark state bytes (Some cause.Linker) e)
       by_cause (Some cause.Undefined) e = absurd (reading mark state bytes (Some cause.Undefined) e)

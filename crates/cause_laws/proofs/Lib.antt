@@ -7,6 +7,7 @@ mod Fields
 mod Generic
 mod Lent
 mod Moved
+mod Order
 mod Picks
 mod Reading
 mod Supplied

@@ -157,7 +157,7 @@ module _ (mark : ℕ → Mark) (state : State Word Flag) (bytes : List ℕ) wher
 
   abbrev pub ReadingIs : Option Cause → Type 0
   ReadingIs None = (StopsWith is_of_sequence → ⊥) × (StopsWith is_of_field → ⊥)
-  ReadingIs (Some cause.Inside) = StopsWith is_of_sequence
+  ReadingIs (Some cause.Inside) = StopsWith is_of_sequence × (StopsWith is_of_field → ⊥)
   ReadingIs (Some cause.Field) = StopsWith is_of_field × (StopsWith is_of_sequence → ⊥)
   ReadingIs (Some why) = ⊥
 
@@ -200,4 +200,5 @@ module _ (mark : ℕ → Mark) (state : State Word Flag) (bytes : List ℕ) wher
       by_mark (Address number addend byte) here =
           field (sym (ap (blocked false) here) ∙ f.1.1) (f.0, (f.1.0, rw here refl))
       by_mark Inside here = let is : Some cause.Inside ≡ Some why = sym (ap (blocked false) here) ∙ f.1.1 in
-          subst ReadingIs is (f.0, (f.1.0, rw here refl))
+          subst ReadingIs is ((f.0, (f.1.0, rw here refl)), λ s.
+          let no : Some why ≡ Some cause.Field = stopped-by is_of_field cause.Field (Some why) e field-cause s in absurd cc)
