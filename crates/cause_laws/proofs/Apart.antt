@@ -1,11 +1,10 @@
 -- The displacement and the immediate of an instruction begin at different bytes.
-use Rattle.std.proofs.Common.{◌≡◌, ℕ, ◌+◌, ◌-◌, ◌<◌, ◌≤◌, Bool, true, false, List, length, take, Option, Some, None, refl, sym, ap, subst, ◌∙◌, arith}
+use Rattle.std.proofs.Common.{◌≡◌, ℕ, ◌-◌, ◌<◌, Bool, true, false, List, length, take, Option, Some, None, refl, sym, ap, subst, ◌∙◌, arith}
 use Rattle.std.specs.Prelude.{if◌then◌else◌}
 use Rattle.amd64_words.specs.Number.{count_of}
 use Rattle.amd64_words.specs.declared.size.Size.{Size}
 use Rattle.amd64_words.specs.declared.size.Size.TheVariants as size
 use Rattle.amd64_subset.specs.declared.instr.Decoded.{Decoded}
-use Rattle.amd64_subset.specs.declared.instr.Operation.TheVariants as operation
 use Rattle.amd64_subset.specs.declared.instr.Width.{Width}
 use Rattle.amd64_subset.specs.declared.meaning.Body.{Body}
 use Rattle.amd64_subset.specs.declared.prefix.Prefixes.{Prefixes}
@@ -19,9 +18,9 @@ use Rattle.amd64_subset.specs.declared.selectors.Selectors.{Selectors}
 use Rattle.amd64_subset.specs.Decoding.{before, decoded}
 use Rattle.amd64_subset.specs.Meaning.{from_end, numbered_body, operand_body, takes_immediate}
 use Rattle.amd64_subset.specs.Selectors.{displacement_size}
-use Rattle.amd64_subset.specs.Spelling.{HasBody, HasField, IsOperated, prefixes_of}
+use Rattle.amd64_subset.specs.Spelling.{HasBody, prefixes_of}
 use Rattle.amd64_subset.proofs.Whole.{decoded_found}
-use Rattle.job_meaning.proofs.Reading.{placed_of, length_of, field_place}
+use Rattle.job_meaning.proofs.Reading.{placed_of, field_place}
 
 abbrev AreApart : Option ℕ → Option ℕ → Type 0
 AreApart disp imm = (a : ℕ) → disp ≡ Some a → imm ≡ Some a → ⊥

@@ -1,18 +1,16 @@
 -- A cause is answered exactly where it is the first whose row holds.
-use Rattle.std.proofs.Common.{◌≡◌, ◌⊎◌, inl, inr, ℕ, ◌==◌, Bool, true, false, List, [], Option, Some, None, Result, Ok, Err, refl, sym, ap, subst, ◌∙◌}
+use Rattle.std.proofs.Common.{◌≡◌, ◌⊎◌, inl, inr, ℕ, ◌==◌, Bool, true, false, List, Option, Some, None, Err, refl, sym, ap, subst}
 use Rattle.std.specs.Prelude.{if◌then◌else◌, ◌||◌, is_none, not, ok_or}
 use Rattle.std.specs.List.{list_any}
 use Rattle.std.proofs.lemmas.Bool.{or_cases}
 use Rattle.address_map.specs.Map.{return_place}
-use Rattle.amd64_subset.specs.declared.instr.Decoded.{Decoded}
 use Rattle.amd64_subset.specs.Decoding.{decoded}
 use Rattle.guest_arithmetic.specs.declared.cause.Cause.{Cause}
 use Rattle.guest_arithmetic.specs.declared.cause.Cause.TheVariants as cause
 use Rattle.guest_arithmetic.specs.Cause.{first_cause}
 use Rattle.guest_operands.specs.declared.state.State.{State}
-use Rattle.guest_operands.specs.declared.stop.Stop.{Stop}
 use Rattle.guest_operands.specs.declared.stop.Stop.TheVariants.{Unclean}
-use Rattle.guest_operands.specs.Access.{Accesses, Refused, fetch_of, reached}
+use Rattle.guest_operands.specs.Access.{Accesses, Refused, reached}
 use Rattle.guest_machine.specs.Run.{Ends, Goes, Looks, Next, next_of, returned}
 use Rattle.guest_machine.specs.Touch.{touched}
 use Rattle.guest_machine.specs.Use.{After}
@@ -31,11 +29,11 @@ use Rattle.whole_meaning.specs.Running.{asked, meaning}
 use Rattle.whole_meaning.specs.Threads.{Meant, Memory as Space, held_next, meant_accesses, meant_mark, meant_shut, meant_steps, ops}
 use Rattle.cause_laws.specs.Laws.{CausesAreAnswered, IsAnswered, RowOf}
 use Rattle.cause_laws.specs.Operands.{number_in}
-use Rattle.cause_laws.specs.Rows.{IsFirst, RowIf, Stands, StandsOver, fetched, instruction, is_base, is_descriptor, is_of_field, is_of_sequence, is_undefined, is_undefined_flag, order}
-use Rattle.cause_laws.specs.Steps.{IsNoSequence, next_unless, next_with, places_of, used_flags, words_of}
+use Rattle.cause_laws.specs.Rows.{RowIf, Stands, StandsOver, fetched, is_base, is_descriptor, is_undefined, is_undefined_flag, order}
+use Rattle.cause_laws.specs.Steps.{IsNoSequence, next_with, places_of, used_flags, words_of}
 use Rattle.cause_laws.proofs.Clean.{touched-are}
 use Rattle.cause_laws.proofs.Order.{Decides, TellsNext, asked-tells, beside-linker, field-first, first_by, first-found, first-only, inside-first, is_field, is_inside, linker-then, next-answers, next-tells, next-told, test_of, unless_left, uses-then}
-use Rattle.cause_laws.proofs.Picks.{pick, pick4}
+use Rattle.cause_laws.proofs.Picks.{pick}
 use Rattle.cause_laws.proofs.Reading.{ReadingIs, reading}
 use Rattle.cause_laws.proofs.Told.{step-told}
 use Rattle.cause_laws.proofs.Uses.{NotShut, Tells}
@@ -133,9 +131,12 @@ module _ {M : Type 0} (acc : Accesses M Byte) (mark : ℕ → Mark) (shut : ℕ 
     unfolding marked_step plain_step
     free-told free true is =
         let t = step-told acc mark state memory open_byte open_write free (decoded bytes) refl in
-        rw (reaches-is free, is, free) (refl, ap (λ (c : Cause). Some c) (sym (beside-linker state.place
-        (done ops acc mark None (decoded bytes) state memory) (list_any is_undefined words) (list_any is_undefined_flag flags)
-        (list_any is_base words) (list_any is_descriptor words) t)))
+        rw (reaches-is free, is, free) (
+          refl,
+          ap (λ (c : Cause). Some c) (sym (beside-linker state.place
+              (done ops acc mark None (decoded bytes) state memory) (list_any is_undefined words) (list_any is_undefined_flag flags)
+              (list_any is_base words) (list_any is_descriptor words) t)),
+        )
     free-told free false is = rw (reaches-is free, is, free) (step-told acc mark state memory open_byte open_write free (decoded bytes) refl)
 
     -- something stops it
@@ -160,18 +161,41 @@ module _ {M : Type 0} (acc : Accesses M Byte) (mark : ℕ → Mark) (shut : ℕ 
     StepIs = (c : Option Cause) × (cause_is c × Steps_told c)
 
     step-is : (r : Option Cause) → hindrance ops mark state bytes ≡ r → ReadingIs mark state bytes r → StepIs
-    step-is None e h =
-        (if outside then Some cause.Linker else pick words flags,
-        ((None, (decides None (λ f. absurd cc, λ f row. h.0 row) (λ f. absurd cc, λ f row. h.1 row), by-linker outside refl)),
-        free-told e outside refl))
-    step-is (Some cause.Inside) e h =
-        (Some cause.Inside, ((Some cause.Inside, (decides (Some cause.Inside) (λ f. h.0, λ f row. absurd cc) (λ f. absurd cc, λ f row. h.1 row),
-        inside-first outside (list_any is_undefined words) (list_any is_undefined_flag flags) (list_any is_base words)
-        (list_any is_descriptor words) left)), hindered-told cause.Inside refl e))
-    step-is (Some cause.Field) e h =
-        (Some cause.Field, ((Some cause.Field, (decides (Some cause.Field) (λ f. absurd cc, λ f row. h.1 row) (λ f. h.0, λ f row. absurd cc),
-        field-first outside (list_any is_undefined words) (list_any is_undefined_flag flags) (list_any is_base words)
-        (list_any is_descriptor words) left)), hindered-told cause.Field refl e))
+    step-is None e h = (
+      if outside then Some cause.Linker else pick words flags,
+      (
+        (None, (decides None (λ f. absurd cc, λ f row. h.0 row) (λ f. absurd cc, λ f row. h.1 row), by-linker outside refl)),
+        free-told e outside refl,
+      ),
+    )
+    step-is (Some cause.Inside) e h = (
+      Some cause.Inside,
+      (
+        (
+          Some cause.Inside,
+          (
+            decides (Some cause.Inside) (λ f. h.0, λ f row. absurd cc) (λ f. absurd cc, λ f row. h.1 row),
+            inside-first outside (list_any is_undefined words) (list_any is_undefined_flag flags) (list_any is_base words)
+                (list_any is_descriptor words) left,
+          ),
+        ),
+        hindered-told cause.Inside refl e,
+      ),
+    )
+    step-is (Some cause.Field) e h = (
+      Some cause.Field,
+      (
+        (
+          Some cause.Field,
+          (
+            decides (Some cause.Field) (λ f. absurd cc, λ f row. h.1 row) (λ f. h.0, λ f row. absurd cc),
+            field-first outside (list_any is_undefined words) (list_any is_undefined_flag flags) (list_any is_base words)
+                (list_any is_descriptor words) left,
+          ),
+        ),
+        hindered-told cause.Field refl e,
+      ),
+    )
     step-is (Some cause.Linker) e h = absurd h
     step-is (Some cause.Undefined) e h = absurd h
     step-is (Some cause.Flags) e h = absurd h
@@ -274,10 +298,13 @@ module _ (m : Meaning) (thread : ℕ) (h : Meant) (none : IsNoSequence m thread 
   over-told : (left : Bool) → (here == return_place) ≡ true → IsTold m thread h left (next_with (meant_steps m thread) left h)
   unfolding meant_steps meaning marked_operations
   over-told left e =
-      let w = h.after.state.registers.rax in
-      (over_test (meant_accesses m thread) (meant_mark m thread h.after.memory) (meant_shut m thread h.after.memory) h.after.state h.after.memory left (number_in w),
-      (decided left true e _ (over-decides (meant_accesses m thread) (meant_mark m thread h.after.memory) (meant_shut m thread h.after.memory) h.after.state h.after.memory left),
-      rw e (return-told Meant here w)))
+      let w = h.after.state.registers.rax in (
+        over_test (meant_accesses m thread) (meant_mark m thread h.after.memory) (meant_shut m thread h.after.memory) h.after.state h.after.memory left (number_in w),
+        (
+          decided left true e _ (over-decides (meant_accesses m thread) (meant_mark m thread h.after.memory) (meant_shut m thread h.after.memory) h.after.state h.after.memory left),
+          rw e (return-told Meant here w),
+        ),
+      )
 
   abbrev step_here : Next (After Word Flag Space)
   step_here = next_of (marked_step ops (meant_accesses m thread) (meant_mark m thread h.after.memory)
@@ -304,10 +331,14 @@ module _ (m : Meaning) (thread : ℕ) (h : Meant) (none : IsNoSequence m thread 
       (byte-open m thread h.after.memory) (write-open m thread h.after.memory) in
       let tests = test (meant_accesses m thread) mark shut h.after.state h.after.memory left s.1.0.0 in
       let told = next-told-so left s.0 (next-tells here (marked_step ops (meant_accesses m thread) mark shut h.after.state
-      h.after.memory) s.0 s.1.1) in
-      (tests, (decided left false e tests s.1.0.1.0,
-      subst (λ (n : Next Meant). TellsNext here n (first_by tests order)) (sym (next-is left e))
-      (subst (λ (c : Option Cause). TellsNext here (next_here left) c) (sym s.1.0.1.1) told)))
+      h.after.memory) s.0 s.1.1) in (
+        tests,
+        (
+          decided left false e tests s.1.0.1.0,
+          subst (λ (n : Next Meant). TellsNext here n (first_by tests order)) (sym (next-is left e))
+              (subst (λ (c : Option Cause). TellsNext here (next_here left) c) (sym s.1.0.1.1) told),
+        ),
+      )
 
   told : (left b : Bool) → (here == return_place) ≡ b → IsTold m thread h left (next_with (meant_steps m thread) left h)
   told left true e = over-told left e

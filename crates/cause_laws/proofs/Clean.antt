@@ -1,35 +1,28 @@
 -- Where no row holds, the step of the meaning is the machine's step over marked values.
-use Rattle.std.proofs.Common.{◌≡◌, ◌⊎◌, inl, inr, ℕ, ◌==◌, Bool, true, false, List, [], Option, Some, None, Result, Ok, Err, refl, sym, ap, subst, ◌∙◌}
+use Rattle.std.proofs.Common.{◌≡◌, inl, inr, ℕ, Bool, true, false, List, Option, Some, None, refl, sym, subst}
 use Rattle.std.specs.Prelude.{if◌then◌else◌}
 use Rattle.std.specs.List.{list_any}
-use Rattle.address_map.specs.Map.{return_place}
 use Rattle.amd64_subset.specs.declared.instr.Decoded.{Decoded}
-use Rattle.amd64_subset.specs.declared.operand.Memory.{Memory}
 use Rattle.amd64_subset.specs.Decoding.{decoded}
 use Rattle.guest_arithmetic.specs.declared.cause.Cause.{Cause}
 use Rattle.guest_arithmetic.specs.declared.cause.Cause.TheVariants as cause
 use Rattle.guest_operands.specs.declared.state.State.{State}
-use Rattle.guest_operands.specs.declared.stop.Stop.{Stop}
-use Rattle.guest_operands.specs.Access.{Accesses, fetch_of}
-use Rattle.guest_machine.specs.Run.{next_of}
+use Rattle.guest_operands.specs.Access.{Accesses}
 use Rattle.guest_machine.specs.Touch.{touched}
-use Rattle.guest_machine.specs.Use.{After}
 use Rattle.job_meaning.specs.declared.values.Byte.{Byte}
 use Rattle.job_meaning.specs.declared.values.Flag.{Flag}
 use Rattle.job_meaning.specs.declared.values.Word.{Word}
-use Rattle.job_meaning.specs.Reading.{beside_linker}
 use Rattle.whole_meaning.specs.declared.marks.Mark.{Mark}
-use Rattle.whole_meaning.specs.Meanings.{Meaning}
 use Rattle.whole_meaning.specs.Reading.{done, hindrance, marked_step, own_touches, plain_step, reaches_linker}
 use Rattle.whole_meaning.specs.Running.{meaning}
-use Rattle.whole_meaning.specs.Threads.{Meant, Memory as Space, held_next, meant_accesses, meant_mark, meant_sequence, meant_shut, meant_steps, ops}
+use Rattle.whole_meaning.specs.Threads.{meant_accesses, meant_mark, meant_shut, meant_steps, ops}
 use Rattle.cause_laws.specs.Instructions.{read_operand}
-use Rattle.cause_laws.specs.Laws.{CleanStepsAreGeneric, IsGeneric, RowOf}
+use Rattle.cause_laws.specs.Laws.{CleanStepsAreGeneric, IsGeneric}
 use Rattle.cause_laws.specs.Rows.{RowIf, Stands, fetched, instruction}
-use Rattle.cause_laws.specs.Steps.{IsNoSequence, places_of}
+use Rattle.cause_laws.specs.Steps.{places_of}
 use Rattle.cause_laws.proofs.Covered.{supplied-field}
 use Rattle.cause_laws.proofs.Generic.{generic-step, next-operand}
-use Rattle.cause_laws.proofs.Reading.{ReadingIs, reading}
+use Rattle.cause_laws.proofs.Reading.{reading}
 use Rattle.cause_laws.proofs.Touches.{own-are}
 
 module _ {M : Type 0} (acc : Accesses M Byte) (mark : ℕ → Mark) (shut : ℕ → Bool) (state : State Word Flag) (memory : M)
@@ -93,6 +86,7 @@ clean_steps m thread h none on never =
     let state = h.after.state in
     let memory = h.after.memory in
     let c = clean-step acc mark shut state memory true (λ why stands.
-    never why (subst (λ (b : Bool). RowIf acc mark shut state memory true b why) (sym on) stands)) in
-    (done ops acc mark None (instruction acc state memory) state memory,
-    (rw (none, c.0) refl, c.1))
+    never why (subst (λ (b : Bool). RowIf acc mark shut state memory true b why) (sym on) stands)) in (
+      done ops acc mark None (instruction acc state memory) state memory,
+      (rw (none, c.0) refl, c.1),
+    )

@@ -1,6 +1,6 @@
 -- A step that nothing hinders is the machine's step over marked values, with the operand that a field gives.
-use Rattle.std.proofs.Common.{◌≡◌, ℕ, zero, suc, ◌+◌, ◌-◌, ◌%◌, ◌^◌, ◌<◌, ◌≤◌, ◌==◌, Bool, true, false, ◌&&◌, List, Option, Some, None, Result, Ok, Err, refl, sym, ap, subst, ◌∙◌, arith}
-use Rattle.std.specs.Prelude.{if◌then◌else◌, is_some, nat_lt, not, option_map}
+use Rattle.std.proofs.Common.{◌≡◌, ℕ, zero, suc, ◌+◌, ◌-◌, ◌%◌, ◌^◌, ◌<◌, Bool, true, false, ◌&&◌, Option, Some, None, Result, Ok, Err, refl, sym, ap, ◌∙◌, arith}
+use Rattle.std.specs.Prelude.{is_some, nat_lt, not, option_map}
 use Rattle.std.proofs.lemmas.Bool.{and_parts, lt-ltb}
 use Rattle.address_map.specs.Map.{owner_at}
 use Rattle.amd64_words.specs.declared.register.Register.{Register}
@@ -10,7 +10,6 @@ use Rattle.amd64_subset.specs.declared.instr.Operation.{Operation}
 use Rattle.amd64_subset.specs.declared.instr.Operation.TheVariants.{Compute}
 use Rattle.amd64_subset.specs.declared.instr.Width.TheVariants.{Quad}
 use Rattle.amd64_subset.specs.declared.operand.Base.{Base}
-use Rattle.amd64_subset.specs.declared.operand.Base.TheVariants.{Absolute, NextInstruction, Register as OfRegister}
 use Rattle.amd64_subset.specs.declared.operand.Memory.{Memory}
 use Rattle.amd64_subset.specs.declared.operand.Operand.TheVariants.{Register as InRegister}
 use Rattle.amd64_subset.specs.declared.operand.Operands.TheVariants.{Immediate}
@@ -18,14 +17,13 @@ use Rattle.amd64_subset.specs.Decoding.{decoded}
 use Rattle.guest_arithmetic.specs.declared.cause.Cause.{Cause}
 use Rattle.guest_arithmetic.specs.Flags.{with_changes}
 use Rattle.guest_operands.specs.declared.frame.Frame.{Frame}
-use Rattle.guest_operands.specs.declared.slot.Slot.TheVariants.{Register as OfSlot}
 use Rattle.guest_operands.specs.declared.state.State.{State}
-use Rattle.guest_operands.specs.Access.{Accesses, Refusal, both_reached, bytes_at, bytes_from, cons, fetch_of, load_of, next_place, reached, store_of}
+use Rattle.guest_operands.specs.Access.{Accesses, bytes_at, bytes_from, fetch_of, load_of, next_place, reached, store_of}
 use Rattle.guest_operands.specs.Frame.{field_at, frame_of}
-use Rattle.guest_operands.specs.Operand.{address_of, base_of, charged, index_of, put}
+use Rattle.guest_operands.specs.Operand.{address_of, base_of, index_of, put}
 use Rattle.guest_operands.specs.State.{register_of, with_word}
-use Rattle.guest_operands.specs.Use.{◌>>=◌, clean, left, plus}
-use Rattle.guest_machine.specs.Step.{act, act_if, add_field, all_unsettled, compute_number, compute_of, finished, step_of}
+use Rattle.guest_operands.specs.Use.{left, plus}
+use Rattle.guest_machine.specs.Step.{act, add_field, compute_number, compute_of, finished, step_of}
 use Rattle.job_meaning.specs.declared.values.Byte.{Byte}
 use Rattle.job_meaning.specs.declared.values.Flag.{Flag}
 use Rattle.job_meaning.specs.declared.values.Flag.TheVariants.{Unsettled}
@@ -224,9 +222,18 @@ module _ {M : Type 0} (acc : Accesses M Byte) (mark : ℕ → Mark) (state : Sta
       let at : address_of ops frame state x ≡ Ok a = is-there _ (operand_address mark state it x) a
       (same-by (operands.offset_field mark state it) _ _ _ (address-says mark state it x)) h.1.1.1 in
       let low : a < 2 ^ 64 = low-address mark state it x a h.1.1.1 in
-      rw (is, address-same acc state memory mark it it.disp, bare) (x, (a, (there, h.1.1.1,
-      act-moved ops acc frame (displaced a (bare_frame state.place it)) state memory x a at (absolute-is state it a low)
-      refl imm.0 imm.1 operation (no-field state.place it.disp) there)))
+      rw (is, address-same acc state memory mark it it.disp, bare) (
+        x,
+        (
+          a,
+          (
+            there,
+            h.1.1.1,
+            act-moved ops acc frame (displaced a (bare_frame state.place it)) state memory x a at (absolute-is state it a low)
+                refl imm.0 imm.1 operation (no-field state.place it.disp) there,
+          ),
+        ),
+      )
 
   -- ** an address field
 
@@ -298,9 +305,18 @@ module _ {M : Type 0} (acc : Accesses M Byte) (mark : ℕ → Mark) (state : Sta
       let op : operation ≡ Compute Add Quad (Immediate (InRegister to)) = h.1.1.0 in
       let fld : frame.immediate_field ≡ Some f.0 = f.1.0 in
       let num : frame.immediate ≡ number = f.1.1.0 in
-      rw (none, address-same acc state memory mark it it.disp, bare, is) (to, (start, (op, h.1.1.1,
-      ap (λ (o : Operation). act ops acc frame o state memory) op
-      ∙ add-is acc state memory frame to f.0 s.0 number (start + number) fld num there s.1.1)))
+      rw (none, address-same acc state memory mark it it.disp, bare, is) (
+        to,
+        (
+          start,
+          (
+            op,
+            h.1.1.1,
+            ap (λ (o : Operation). act ops acc frame o state memory) op
+                ∙ add-is acc state memory frame to f.0 s.0 number (start + number) fld num there s.1.1,
+          ),
+        ),
+      )
 
   -- ** no field
 
@@ -319,7 +335,11 @@ module _ {M : Type 0} (acc : Accesses M Byte) (mark : ℕ → Mark) (state : Sta
           → df ≡ field_at (λ place. false) state.place it.disp → i ≡ it.instr.immediate
           → f ≡ field_at (λ place. false) state.place it.imm
           → act ops acc (record {
-            next = plus state.place it.len; displacement = d; immediate = i; displacement_field = df; immediate_field = f;
+            next = plus state.place it.len;
+            displacement = d;
+            immediate = i;
+            displacement_field = df;
+            immediate_field = f;
           }) operation state memory ≡ act ops acc (bare_frame state.place it) operation state memory
       same_frames d df i f a b c e = rw (a, b, c, e) refl
 

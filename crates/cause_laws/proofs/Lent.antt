@@ -1,6 +1,6 @@
 -- An instruction whose operand an address field supplies has the first cause of the table's words and flags.
-use Rattle.std.proofs.Common.{◌≡◌, ℕ, ◌-◌, ◌^◌, ◌==◌, Bool, true, false, ◌&&◌, List, [], ◌∷◌, ◌++◌, map, Option, Some, None, Result, Ok, Err, refl, sym, ap, subst, ◌∙◌, append-nil}
-use Rattle.std.specs.Prelude.{if◌then◌else◌, not, option_map}
+use Rattle.std.proofs.Common.{◌≡◌, ℕ, Bool, true, false, List, [], ◌∷◌, ◌++◌, map, Option, Some, None, Ok, refl, sym, ap, subst, ◌∙◌, append-nil}
+use Rattle.std.specs.Prelude.{if◌then◌else◌}
 use Rattle.amd64_subset.specs.declared.instr.Arithmetic.TheVariants.{Add, Or, And, Sub, Xor, Compare}
 use Rattle.amd64_subset.specs.declared.instr.Decoded.{Decoded}
 use Rattle.amd64_subset.specs.declared.instr.Operation.{Operation}
@@ -20,7 +20,7 @@ use Rattle.guest_operands.specs.declared.frame.Frame.{Frame}
 use Rattle.guest_operands.specs.declared.state.State.{State}
 use Rattle.guest_operands.specs.Access.{Accesses, bytes_from, load_of, store_of}
 use Rattle.guest_operands.specs.Operand.{address_of}
-use Rattle.guest_machine.specs.Step.{act, nop_use}
+use Rattle.guest_machine.specs.Step.{act}
 use Rattle.job_meaning.specs.declared.values.Byte.{Byte}
 use Rattle.job_meaning.specs.declared.values.Flag.{Flag}
 use Rattle.job_meaning.specs.declared.values.Word.{Word}
@@ -33,7 +33,7 @@ use Rattle.cause_laws.specs.Operands.{first_mark, is_from_next, offset_of}
 use Rattle.cause_laws.specs.Steps as steps
 use Rattle.cause_laws.specs.Steps.{accesses_of, first_loaded, load_at, operand_words, store_at, used_flags, word_in, words_of}
 use Rattle.cause_laws.proofs.Picks.{earlier, earlier-none, pick, pick-append, word_cause}
-use Rattle.cause_laws.proofs.Uses.{FitsAll, FitsNop, NotShut, Tells, act-tells, all_words, aw_if, cause_of, loaded_by, loaded_of}
+use Rattle.cause_laws.proofs.Uses.{FitsAll, FitsNop, NotShut, Tells, act-tells, aw_if, loaded_by, loaded_of}
 
 -- the word that a number's eight bytes hold has no cause
 number-word : (number : ℕ) → word_cause (ops.joined (bytes_from ops (ops.word number) 0 8) ∷ []) ≡ None

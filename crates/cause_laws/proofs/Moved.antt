@@ -1,5 +1,5 @@
 -- An instruction does the same with its operand at the address that its displacement is.
-use Rattle.std.proofs.Common.{◌≡◌, ℕ, ◌-◌, ◌^◌, Bool, true, false, Option, Some, None, Result, Ok, Err, refl, sym, ap, subst, ◌∙◌}
+use Rattle.std.proofs.Common.{◌≡◌, ℕ, false, Option, Some, None, Result, Ok, Err, refl, sym, ◌∙◌}
 use Rattle.amd64_words.specs.declared.register.Register.{Register}
 use Rattle.amd64_subset.specs.declared.instr.Arithmetic.{Arithmetic}
 use Rattle.amd64_subset.specs.declared.instr.Arithmetic.TheVariants.{Add, Or, And, Sub, Xor, Compare}
@@ -15,22 +15,22 @@ use Rattle.amd64_subset.specs.declared.operand.Operand.TheVariants.{InMemory, Re
 use Rattle.amd64_subset.specs.declared.operand.Operands.TheVariants.{IntoRegister, IntoMemory, Immediate}
 use Rattle.guest_arithmetic.specs.declared.cause.Cause.{Cause}
 use Rattle.guest_arithmetic.specs.declared.effect.Effect.{Effect}
-use Rattle.guest_arithmetic.specs.Arithmetic.{low, compute_effect}
+use Rattle.guest_arithmetic.specs.Arithmetic.{compute_effect}
 use Rattle.guest_arithmetic.specs.Values.{Operations}
 use Rattle.guest_operands.specs.declared.frame.Frame.{Frame}
 use Rattle.guest_operands.specs.declared.slot.Slot.{Slot}
 use Rattle.guest_operands.specs.declared.state.State.{State}
-use Rattle.guest_operands.specs.Access.{Accesses, load_of, store_of}
-use Rattle.guest_operands.specs.Operand.{address_of, carried, kept, kept_byte, number_at, put, size_of, taken, taken_at}
+use Rattle.guest_operands.specs.Access.{Accesses}
+use Rattle.guest_operands.specs.Operand.{address_of, carried, kept, kept_byte, number_at, size_of, taken}
 use Rattle.guest_operands.specs.State.{register_of}
 use Rattle.guest_operands.specs.Use.{◌>>=◌}
 use Rattle.guest_operands.specs.declared.stop.Stop.{Stop}
 use Rattle.guest_operands.specs.declared.slot.Slot.TheVariants.{Register as OfSlot}
 use Rattle.amd64_subset.specs.declared.instr.Shift.{Shift}
 use Rattle.guest_machine.specs.Step.{immediate_of, finished, concluded, move_in, stored, store_byte, move_number, move_of, extend_byte, extend_long, load_address, is_cleared}
-use Rattle.guest_machine.specs.Step.{compute_in, compute_out, compute_plain, compute_number, compute_of, test_of, multiply_of, shift_of, pushed, call_of, jump_of, nop_of, nop_use, act}
-use Rattle.cause_laws.specs.Instructions.{memory_if, memory_of, operand_of, read_operand}
-use Rattle.cause_laws.specs.Laws.{absolute, moved, with_absolute}
+use Rattle.guest_machine.specs.Step.{compute_in, compute_out, compute_plain, compute_number, compute_of, test_of, multiply_of, shift_of, call_of, jump_of, nop_of, nop_use, act}
+use Rattle.cause_laws.specs.Instructions.{memory_if, memory_of, operand_of}
+use Rattle.cause_laws.specs.Laws.{absolute, with_absolute}
 
 pub is_memory : (operand : Operand) (memory : Memory) → memory_of operand ≡ Some memory → operand ≡ InMemory memory
 is_memory (InRegister name) memory e = absurd cc
@@ -119,8 +119,11 @@ module _ {W F B M : Type 0} (ops : Operations W F B) (acc : Accesses M B) (f g :
       → Moves (Compute arithmetic width (IntoRegister to (InMemory memory)))
   unfolding act compute_of compute_in
   computed-in arithmetic width to =
-      rw (not-cleared arithmetic to memory, not-cleared arithmetic to absolute,
-      taken-same width (number_at ops width (register_of s.registers to)))
+      rw (
+        not-cleared arithmetic to memory,
+        not-cleared arithmetic to absolute,
+        taken-same width (number_at ops width (register_of s.registers to)),
+      )
       (bind-all _ _ _ (λ it. concluded-same arithmetic width (OfSlot to) (compute_effect arithmetic width it.other it.number)))
 
   computed-out : (arithmetic : Arithmetic) (width : Width) (from : Register)

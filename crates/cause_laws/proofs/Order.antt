@@ -9,7 +9,7 @@ use Rattle.guest_operands.specs.declared.stop.Stop.{Stop}
 use Rattle.guest_operands.specs.declared.stop.Stop.TheVariants.{Returned, Look, Address, Code, Unclean, Steps}
 use Rattle.guest_machine.specs.Run.{Next, Goes, Ends, Looks, next_of}
 use Rattle.guest_machine.specs.Use.{After}
-use Rattle.job_meaning.specs.Reading.{beside_linker, linker_with}
+use Rattle.job_meaning.specs.Reading.{linker_with}
 use Rattle.whole_meaning.specs.Running.{asked, asked_stop}
 use Rattle.cause_laws.specs.Rows.{IsFirst, order}
 use Rattle.cause_laws.proofs.Picks.{pick4}

@@ -1,5 +1,5 @@
 -- Where reading stops, and with which cause: the meaning's walk finds what the table's rows say.
-use Rattle.std.proofs.Common.{◌≡◌, ℕ, zero, suc, ◌+◌, ◌-◌, ◌<◌, ◌≤◌, ◌⊎◌, inl, inr, Bool, true, false, List, length, take, Option, Some, None, refl, sym, ap, subst, ◌∙◌, arith}
+use Rattle.std.proofs.Common.{◌≡◌, ℕ, zero, suc, ◌+◌, ◌<◌, ◌≤◌, ◌⊎◌, inl, inr, Bool, true, false, List, length, take, Option, Some, None, refl, sym, ap, subst, ◌∙◌, arith}
 use Rattle.std.specs.Prelude.{if◌then◌else◌}
 use Rattle.std.specs.Option.{option_or}
 use Rattle.std.proofs.lemmas.Bool.{cases_lt}
@@ -12,7 +12,7 @@ use Rattle.job_meaning.specs.declared.values.Word.{Word}
 use Rattle.job_meaning.specs.Reading.{completed, place_at}
 use Rattle.whole_meaning.specs.declared.marks.Mark.{Mark}
 use Rattle.whole_meaning.specs.declared.marks.Mark.TheVariants.{Usual, Offset, Address, Inside}
-use Rattle.whole_meaning.specs.Reading.{first_hindrance, hindered, hindrance, hindrance_of}
+use Rattle.whole_meaning.specs.Reading.{first_hindrance, hindered, hindrance}
 use Rattle.whole_meaning.specs.Threads.{ops}
 use Rattle.cause_laws.specs.Rows.{StopsReading, is_covered, is_of_field, is_of_sequence, is_read_to, may_cover}
 use Rattle.cause_laws.proofs.Fields.{blocked, blocked-is}
@@ -138,14 +138,19 @@ module _ (mark : ℕ → Mark) (state : State Word Flag) (bytes : List ℕ) wher
       let k = h.at in
       let p = reads (is_read_to mark state bytes k) (blocked (may_cover mark state bytes k) (mark (place_at state.place k))) why
       (sym (met-is k) ∙ h.first.is) in
-      let q = is_blocked (may_cover mark state bytes k) (mark (place_at state.place k)) why p.1 in
-      (k, (record {
-        within = let high = h.high in omega arith;
-        asked = p.0;
-        not_covered = q.0;
-        before = λ j below asks. covers j asks (may_cover mark state bytes j) refl (mark (place_at state.place j)) refl
-            (sym (met-is j) ∙ h.first.before j (omega arith) below);
-      }, q.1))
+      let q = is_blocked (may_cover mark state bytes k) (mark (place_at state.place k)) why p.1 in (
+        k,
+        (
+          record {
+            within = let high = h.high in omega arith;
+            asked = p.0;
+            not_covered = q.0;
+            before = λ j below asks. covers j asks (may_cover mark state bytes j) refl (mark (place_at state.place j)) refl
+                (sym (met-is j) ∙ h.first.before j (omega arith) below);
+          },
+          q.1,
+        ),
+      )
     where
       covers : (j : ℕ) → is_read_to mark state bytes j ≡ true → (b : Bool) → may_cover mark state bytes j ≡ b
           → (μ : Mark) → mark (place_at state.place j) ≡ μ → met j ≡ None → may_cover mark state bytes j ≡ true
@@ -190,8 +195,11 @@ module _ (mark : ℕ → Mark) (state : State Word Flag) (bytes : List ℕ) wher
       f = found-stops why e
 
       field : Some cause.Field ≡ Some why → StopsWith is_of_field → ReadingIs (Some why)
-      field is stops = subst ReadingIs is (stops, λ s.
-          let no : Some why ≡ Some cause.Inside = stopped-by is_of_sequence cause.Inside (Some why) e seq-cause s in absurd cc)
+      field is stops = subst ReadingIs is (
+        stops,
+        λ s.
+            let no : Some why ≡ Some cause.Inside = stopped-by is_of_sequence cause.Inside (Some why) e seq-cause s in absurd cc,
+      )
 
       by_mark : (μ : Mark) → mark (place_at state.place f.0) ≡ μ → ReadingIs (Some why)
       by_mark Usual here = let no : None ≡ Some why = sym (ap (blocked false) here) ∙ f.1.1 in absurd cc
@@ -200,5 +208,8 @@ module _ (mark : ℕ → Mark) (state : State Word Flag) (bytes : List ℕ) wher
       by_mark (Address number addend byte) here =
           field (sym (ap (blocked false) here) ∙ f.1.1) (f.0, (f.1.0, rw here refl))
       by_mark Inside here = let is : Some cause.Inside ≡ Some why = sym (ap (blocked false) here) ∙ f.1.1 in
-          subst ReadingIs is ((f.0, (f.1.0, rw here refl)), λ s.
-          let no : Some why ≡ Some cause.Field = stopped-by is_of_field cause.Field (Some why) e field-cause s in absurd cc)
+          subst ReadingIs is (
+            (f.0, (f.1.0, rw here refl)),
+            λ s.
+                let no : Some why ≡ Some cause.Field = stopped-by is_of_field cause.Field (Some why) e field-cause s in absurd cc,
+          )

@@ -1,7 +1,5 @@
 -- An instruction that reads its operand's 64 bits and does not write them does the same with an equal word elsewhere.
-use Rattle.std.proofs.Common.{◌≡◌, ℕ, zero, suc, ◌+◌, ◌-◌, ◌^◌, ◌<◌, Bool, true, false, List, Option, Some, None, Result, Ok, Err, refl, sym, ap, subst, ◌∙◌, arith}
-use Rattle.std.specs.Prelude.{if◌then◌else◌, nat_lt}
-use Rattle.std.proofs.lemmas.Bool.{lt-ltb}
+use Rattle.std.proofs.Common.{◌≡◌, ℕ, ◌-◌, ◌^◌, Option, Some, Result, Ok, Err, refl}
 use Rattle.amd64_words.specs.declared.register.Register.{Register}
 use Rattle.amd64_subset.specs.declared.instr.Arithmetic.{Arithmetic}
 use Rattle.amd64_subset.specs.declared.instr.Arithmetic.TheVariants.{Add, Or, And, Sub, Xor, Compare}
@@ -11,8 +9,7 @@ use Rattle.amd64_subset.specs.declared.instr.Operation.TheVariants.{JumpIf, Retu
 use Rattle.amd64_subset.specs.declared.instr.Target.TheVariants.{Relative, Indirect}
 use Rattle.amd64_subset.specs.declared.instr.Width.TheVariants.{Long as LongWidth, Quad as QuadWidth}
 use Rattle.amd64_subset.specs.declared.operand.Memory.{Memory}
-use Rattle.amd64_subset.specs.declared.operand.Operand.{Operand}
-use Rattle.amd64_subset.specs.declared.operand.Operand.TheVariants.{InMemory, Register as InRegister}
+use Rattle.amd64_subset.specs.declared.operand.Operand.TheVariants.{InMemory}
 use Rattle.amd64_subset.specs.declared.operand.Operands.TheVariants.{IntoRegister, IntoMemory, Immediate}
 use Rattle.guest_arithmetic.specs.declared.cause.Cause.{Cause}
 use Rattle.guest_arithmetic.specs.declared.effect.Effect.{Effect}
@@ -27,13 +24,12 @@ use Rattle.guest_operands.specs.declared.state.State.{State}
 use Rattle.guest_operands.specs.declared.stop.Stop.{Stop}
 use Rattle.guest_operands.specs.Access.{Accesses, Refusal, load_of, store_of}
 use Rattle.guest_operands.specs.Operand.{address_of, carried, number_at, put, taken, taken_at, weighed}
-use Rattle.guest_operands.specs.State.{register_of}
 use Rattle.guest_operands.specs.Use.{◌>>=◌, clean, plus}
 use Rattle.guest_machine.specs.Step.{immediate_of, finished, concluded, move_in, move_of}
 use Rattle.guest_machine.specs.Step.{compute_in, compute_out, compute_plain, compute_number, compute_of, test_of, multiply_of, pushed, call_of, jump_of, act}
-use Rattle.cause_laws.specs.Instructions.{memory_of, read_operand}
+use Rattle.cause_laws.specs.Instructions.{read_operand}
 use Rattle.cause_laws.specs.Laws.{absolute, with_absolute}
-use Rattle.cause_laws.proofs.Moved.{bind-all, is_memory, not-cleared}
+use Rattle.cause_laws.proofs.Moved.{is_memory, not-cleared}
 
 module _ {W F B M : Type 0} (ops : Operations W F B) (acc acc' : Accesses M B) (f g : Frame) (s : State W F) (m : M)
     (memory : Memory) (a a' : ℕ) (at : address_of ops f s memory ≡ Ok a) (at' : address_of ops g s absolute ≡ Ok a')

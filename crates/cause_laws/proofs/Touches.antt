@@ -1,13 +1,11 @@
 -- The bytes that a step is said to touch are those of the table of accesses.
-use Rattle.std.proofs.Common.{◌≡◌, ℕ, zero, suc, ◌-◌, ◌^◌, Bool, true, false, List, [], ◌∷◌, ◌++◌, Option, Some, None, Result, Ok, Err, refl, sym, ap, subst, ◌∙◌}
-use Rattle.std.specs.Prelude.{if◌then◌else◌, option_map}
-use Rattle.amd64_subset.specs.declared.instr.Arithmetic.{Arithmetic}
+use Rattle.std.proofs.Common.{◌≡◌, ℕ, zero, suc, ◌-◌, ◌^◌, List, [], ◌∷◌, ◌++◌, Option, Some, None, Result, Ok, Err, refl, ap, ◌∙◌}
+use Rattle.std.specs.Prelude.{option_map}
 use Rattle.amd64_subset.specs.declared.instr.Arithmetic.TheVariants.{Add, Or, And, Sub, Xor, Compare}
 use Rattle.amd64_subset.specs.declared.instr.Decoded.{Decoded}
 use Rattle.amd64_subset.specs.declared.instr.Operation.{Operation}
 use Rattle.amd64_subset.specs.declared.instr.Operation.TheVariants.{Move, StoreByte, ExtendByte, ExtendLong, LoadAddress, Compute, Test, Multiply, Shift, Push, Pop, Leave, Call, Jump}
 use Rattle.amd64_subset.specs.declared.instr.Operation.TheVariants.{JumpIf, Return, Nop, Undefined}
-use Rattle.amd64_subset.specs.declared.instr.Target.{Target}
 use Rattle.amd64_subset.specs.declared.instr.Target.TheVariants.{Relative, Indirect}
 use Rattle.amd64_subset.specs.declared.instr.Width.{Width}
 use Rattle.amd64_subset.specs.declared.instr.Width.TheVariants.{Long as LongWidth, Quad as QuadWidth}
@@ -25,7 +23,6 @@ use Rattle.guest_operands.specs.Access.{Accesses, bytes_in, next_place}
 use Rattle.guest_operands.specs.Operand.{address_of, size_for}
 use Rattle.guest_operands.specs.Use.{plus}
 use Rattle.guest_machine.specs.declared.touch.Direction.TheVariants as direction
-use Rattle.guest_machine.specs.declared.touch.Touches.{Touches}
 use Rattle.guest_machine.specs.Touch as touch
 use Rattle.guest_machine.specs.Touch.{operand_touch, paired, pop_touch, push_touch, touch_at, touched, touched_then, touches_of}
 use Rattle.job_meaning.specs.declared.values.Byte.{Byte}
@@ -44,7 +41,7 @@ use Rattle.cause_laws.specs.Operands as operands
 use Rattle.cause_laws.specs.Operands.{first_mark, number_in, operand_address}
 use Rattle.cause_laws.specs.Steps as steps
 use Rattle.cause_laws.specs.Steps.{Access, Load, Store, accesses_of, bytes_of, load_at, places_from, store_at, touched_by}
-use Rattle.cause_laws.proofs.Addresses.{SaysBy, Says, address-says, word-says}
+use Rattle.cause_laws.proofs.Addresses.{SaysBy, address-says}
 
 -- a number that is there on both sides or on none
 abbrev pub Same : Result ℕ Cause → Option ℕ → Type 0

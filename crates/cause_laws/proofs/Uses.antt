@@ -1,5 +1,5 @@
 -- The cause of an instruction is the first one of the words and flags that it computes with.
-use Rattle.std.proofs.Common.{◌≡◌, ℕ, ◌+◌, ◌-◌, ◌%◌, ◌^◌, Bool, true, false, List, [], ◌∷◌, ◌++◌, map, Option, Some, None, Result, Ok, Err, refl, sym, ap, subst, ◌∙◌, append-nil}
+use Rattle.std.proofs.Common.{◌≡◌, ℕ, Bool, true, false, List, [], ◌∷◌, ◌++◌, map, Option, Some, None, Result, Ok, Err, refl, sym, ap, subst, ◌∙◌, append-nil}
 use Rattle.std.specs.Prelude.{if◌then◌else◌, ◌||◌}
 use Rattle.std.specs.List.{list_any}
 use Rattle.std.proofs.lemmas.List.Folds.{list_any-append}
@@ -19,7 +19,6 @@ use Rattle.amd64_subset.specs.declared.operand.Operand.{Operand}
 use Rattle.amd64_subset.specs.declared.operand.Operand.TheVariants.{InMemory, Register as InRegister}
 use Rattle.amd64_subset.specs.declared.operand.Operands.TheVariants.{IntoRegister, IntoMemory, Immediate}
 use Rattle.guest_arithmetic.specs.declared.cause.Cause.{Cause}
-use Rattle.guest_arithmetic.specs.declared.cause.Cause.TheVariants as cause
 use Rattle.guest_arithmetic.specs.declared.effect.Effect.{Effect}
 use Rattle.guest_arithmetic.specs.declared.flags.Flags.{Flags}
 use Rattle.guest_arithmetic.specs.Cause.{both, cause_with, used}
@@ -27,12 +26,11 @@ use Rattle.guest_arithmetic.specs.Flags.{condition_of, is_below_or_equal, is_les
 use Rattle.guest_operands.specs.declared.frame.Frame.{Frame}
 use Rattle.guest_operands.specs.declared.slot.Slot.{Slot}
 use Rattle.guest_operands.specs.declared.slot.Slot.TheVariants.{Place, Register as OfSlot}
-use Rattle.guest_operands.specs.declared.slot.Taken.{Taken}
 use Rattle.guest_operands.specs.declared.state.State.{State}
 use Rattle.guest_operands.specs.declared.stop.Stop.{Stop}
 use Rattle.guest_operands.specs.declared.stop.Stop.TheVariants.{Returned, Look, Address, Code, Unclean, Steps}
 use Rattle.guest_operands.specs.Access.{Accesses, Refusal, Refused, Shut, load_of, store_of}
-use Rattle.guest_operands.specs.Operand.{address_of, carried, kept, kept_byte, number_at, put, size_of, taken, taken_at, weighed}
+use Rattle.guest_operands.specs.Operand.{address_of, carried, number_at, put, size_of, taken, taken_at, weighed}
 use Rattle.guest_operands.specs.State.{at_place, register_of, with_stack}
 use Rattle.guest_operands.specs.Use.{◌>>=◌, clean, left, plus, refused_with, there}
 use Rattle.guest_machine.specs.Step.{immediate_of, finished, concluded, move_in, stored, store_byte, move_number, move_of, extend_byte, extend_long, load_address, is_cleared}
@@ -46,9 +44,9 @@ use Rattle.job_meaning.specs.declared.values.Word.TheVariants.{Number, Undefined
 use Rattle.job_meaning.specs.Marked.{marked_operations, used_number, used_truth}
 use Rattle.whole_meaning.specs.Threads.{ops}
 use Rattle.cause_laws.specs.Instructions.{flags_of, flags_used, is_nop, is_zeroing, memory_if, memory_of, operand_of, registers_in, registers_used}
-use Rattle.cause_laws.specs.Rows.{is_base, is_descriptor, is_undefined, is_undefined_flag}
+use Rattle.cause_laws.specs.Rows.{is_base, is_descriptor, is_undefined}
 use Rattle.cause_laws.specs.Steps.{word_in}
-use Rattle.cause_laws.proofs.Picks.{earlier, earlier-none, pick, pick4, pick-append, word_cause}
+use Rattle.cause_laws.proofs.Picks.{earlier, earlier-none, pick, pick-append, word_cause}
 
 -- ** causes of uses
 
@@ -83,10 +81,17 @@ or-swapped false true = refl
 or-swapped false false = refl
 
 pub swapped : (ws ws' : List Word) → word_cause (ws ++ ws') ≡ word_cause (ws' ++ ws)
-swapped ws ws' = rw (list_any-append is_undefined ws ws', list_any-append is_base ws ws', list_any-append is_descriptor ws ws',
-    list_any-append is_undefined ws' ws, list_any-append is_base ws' ws, list_any-append is_descriptor ws' ws,
-    or-swapped (list_any is_undefined ws) (list_any is_undefined ws'), or-swapped (list_any is_base ws) (list_any is_base ws'),
-    or-swapped (list_any is_descriptor ws) (list_any is_descriptor ws')) refl
+swapped ws ws' = rw (
+  list_any-append is_undefined ws ws',
+  list_any-append is_base ws ws',
+  list_any-append is_descriptor ws ws',
+  list_any-append is_undefined ws' ws,
+  list_any-append is_base ws' ws,
+  list_any-append is_descriptor ws' ws,
+  or-swapped (list_any is_undefined ws) (list_any is_undefined ws'),
+  or-swapped (list_any is_base ws) (list_any is_base ws'),
+  or-swapped (list_any is_descriptor ws) (list_any is_descriptor ws'),
+) refl
 
 -- ** conditions
 

@@ -1,8 +1,6 @@
 -- A step that nothing hinders is unclean for the first cause of the words and flags of the table.
-use Rattle.std.proofs.Common.{◌≡◌, ℕ, ◌-◌, ◌^◌, ◌==◌, Bool, true, false, ◌&&◌, List, [], ◌∷◌, ◌++◌, map, Option, Some, None, Result, Ok, Err, refl, sym, ap, subst, ◌∙◌, append-nil}
-use Rattle.std.specs.Prelude.{if◌then◌else◌, not, option_map}
-use Rattle.amd64_words.specs.declared.register.Register.{Register}
-use Rattle.amd64_subset.specs.declared.instr.Arithmetic.{Arithmetic}
+use Rattle.std.proofs.Common.{◌≡◌, ℕ, Bool, true, false, List, [], ◌++◌, Option, Some, None, Result, Ok, Err, refl, sym, ap, subst, ◌∙◌}
+use Rattle.std.specs.Prelude.{if◌then◌else◌}
 use Rattle.amd64_subset.specs.declared.instr.Arithmetic.TheVariants.{Add, Or, And, Sub, Xor, Compare}
 use Rattle.amd64_subset.specs.declared.instr.Decoded.{Decoded}
 use Rattle.amd64_subset.specs.declared.instr.Operation.{Operation}
@@ -11,30 +9,23 @@ use Rattle.amd64_subset.specs.declared.instr.Operation.TheVariants.{JumpIf, Retu
 use Rattle.amd64_subset.specs.declared.instr.Target.TheVariants.{Relative, Indirect}
 use Rattle.amd64_subset.specs.declared.instr.Width.{Width}
 use Rattle.amd64_subset.specs.declared.instr.Width.TheVariants.{Long as LongWidth, Quad as QuadWidth}
-use Rattle.amd64_subset.specs.declared.operand.Base.TheVariants.{Absolute, NextInstruction, Register as OfRegister}
-use Rattle.amd64_subset.specs.declared.operand.Index.{Index}
-use Rattle.amd64_subset.specs.declared.operand.Base.{Base}
 use Rattle.amd64_subset.specs.declared.operand.Memory.{Memory}
 use Rattle.amd64_subset.specs.declared.operand.Operand.{Operand}
 use Rattle.amd64_subset.specs.declared.operand.Operand.TheVariants.{InMemory, Register as InRegister}
 use Rattle.amd64_subset.specs.declared.operand.Operands.TheVariants.{IntoRegister, IntoMemory, Immediate}
-use Rattle.amd64_subset.specs.Decoding.{decoded}
 use Rattle.guest_arithmetic.specs.declared.cause.Cause.{Cause}
 use Rattle.guest_operands.specs.declared.frame.Frame.{Frame}
 use Rattle.guest_operands.specs.declared.state.State.{State}
-use Rattle.guest_operands.specs.Access.{Accesses, Refusal, Refused, Shut, fetch_of, load_of, store_of}
+use Rattle.guest_operands.specs.Access.{Accesses, load_of, store_of}
 use Rattle.guest_operands.specs.Operand.{address_of, size_of}
 use Rattle.guest_machine.specs.Step.{act, nop_use}
 use Rattle.job_meaning.specs.declared.values.Byte.{Byte}
 use Rattle.job_meaning.specs.declared.values.Flag.{Flag}
 use Rattle.job_meaning.specs.declared.values.Word.{Word}
-use Rattle.job_meaning.specs.declared.values.Token.TheVariants.{Base as BaseOf, Descriptor}
-use Rattle.job_meaning.specs.declared.values.Word.TheVariants.{Number, Undefined as UndefinedWord, Marked}
-use Rattle.job_meaning.specs.Marked.{used_number}
 use Rattle.whole_meaning.specs.declared.marks.Mark.{Mark}
 use Rattle.whole_meaning.specs.Fields.{marked_frame}
 use Rattle.whole_meaning.specs.Threads.{ops}
-use Rattle.cause_laws.specs.Instructions.{flags_used, is_nop, memory_if, memory_of, operand_of, registers_used, uses_loaded}
+use Rattle.cause_laws.specs.Instructions.{is_nop, memory_if, operand_of, uses_loaded}
 use Rattle.cause_laws.specs.Operands as operands
 use Rattle.cause_laws.specs.Operands.{address_words, first_mark, number_in, offset_of, operand_address, words_by}
 use Rattle.cause_laws.specs.Steps as steps

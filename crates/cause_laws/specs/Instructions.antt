@@ -5,14 +5,13 @@ use Rattle.amd64_words.specs.declared.register.Register.{Register}
 use Rattle.amd64_words.specs.declared.register.Register.TheVariants.{Rsp, Rbp}
 use Rattle.amd64_subset.specs.Register.{number_of}
 use Rattle.amd64_subset.specs.declared.instr.Arithmetic.{Arithmetic}
-use Rattle.amd64_subset.specs.declared.instr.Arithmetic.TheVariants.{Add, Or, And, Sub, Xor, Compare}
+use Rattle.amd64_subset.specs.declared.instr.Arithmetic.TheVariants.{Sub, Xor, Compare}
 use Rattle.amd64_subset.specs.declared.instr.Condition.{Condition}
 use Rattle.amd64_subset.specs.declared.instr.Condition.TheVariants.{Overflow, NotOverflow, Below, NotBelow, Equal, NotEqual, BelowOrEqual, Above, Sign, NotSign, Less, NotLess, LessOrEqual, Greater}
 use Rattle.amd64_subset.specs.declared.instr.Operation.{Operation}
 use Rattle.amd64_subset.specs.declared.instr.Operation.TheVariants.{Move, StoreByte, ExtendByte, ExtendLong, LoadAddress, Compute, Test, Multiply, Shift, Push, Pop, Leave, Call, Jump, JumpIf, Return, Nop, Undefined}
 use Rattle.amd64_subset.specs.declared.instr.Target.{Target}
 use Rattle.amd64_subset.specs.declared.instr.Target.TheVariants.{Relative, Indirect}
-use Rattle.amd64_subset.specs.declared.instr.Width.{Width}
 use Rattle.amd64_subset.specs.declared.instr.Width.TheVariants.{Quad}
 use Rattle.amd64_subset.specs.declared.operand.Memory.{Memory}
 use Rattle.amd64_subset.specs.declared.operand.Operand.{Operand}

@@ -1,5 +1,5 @@
 -- The laws of unclean and of clean steps.
-use Rattle.std.specs.Prelude.{◌≡◌, ◌<◌, ℕ, ◌+◌, ◌-◌, ◌%◌, ◌^◌, ◌==◌, Bool, true, false, zero, nat_lt, Option, Some, None, Result, Ok, Err, if◌then◌else◌}
+use Rattle.std.specs.Prelude.{◌≡◌, ◌<◌, ℕ, ◌+◌, ◌-◌, ◌%◌, ◌^◌, ◌==◌, Bool, true, false, nat_lt, Option, Some, None, Result, Ok, if◌then◌else◌}
 use Rattle.address_map.specs.Map.{return_place}
 use Rattle.amd64_words.specs.declared.register.Register.{Register}
 use Rattle.amd64_subset.specs.declared.instr.Arithmetic.TheVariants.{Add}
@@ -19,12 +19,12 @@ use Rattle.guest_arithmetic.specs.declared.cause.Cause.{Cause}
 use Rattle.guest_operands.specs.declared.frame.Frame.{Frame}
 use Rattle.guest_operands.specs.declared.state.State.{State}
 use Rattle.guest_operands.specs.declared.stop.Stop.{Stop}
-use Rattle.guest_operands.specs.declared.stop.Stop.TheVariants.{Code, Unclean}
+use Rattle.guest_operands.specs.declared.stop.Stop.TheVariants.{Unclean}
 use Rattle.guest_operands.specs.Access.{Accesses, Refusal}
 use Rattle.guest_operands.specs.Frame.{frame_of}
-use Rattle.guest_operands.specs.State.{at_place, with_word}
+use Rattle.guest_operands.specs.State.{with_word}
 use Rattle.guest_operands.specs.Use.{After, left, plus}
-use Rattle.guest_machine.specs.Run.{Next, Goes, Ends, next_of}
+use Rattle.guest_machine.specs.Run.{Ends, next_of}
 use Rattle.guest_machine.specs.Step.{act, step_of}
 use Rattle.job_meaning.specs.declared.values.Byte.{Byte}
 use Rattle.job_meaning.specs.declared.values.Flag.{Flag}
@@ -32,7 +32,6 @@ use Rattle.job_meaning.specs.declared.values.Flag.TheVariants.{Unsettled}
 use Rattle.job_meaning.specs.declared.values.Word.{Word}
 use Rattle.job_meaning.specs.declared.values.Word.TheVariants.{Number}
 use Rattle.whole_meaning.specs.declared.marks.Mark.{Mark}
-use Rattle.whole_meaning.specs.declared.marks.Mark.TheVariants.{Usual, Offset, Address, Inside}
 use Rattle.whole_meaning.specs.Meanings.{Meaning}
 use Rattle.whole_meaning.specs.Threads.{Meant, Memory as Space, held_next, meant_accesses, meant_mark, meant_shut, meant_steps, ops}
 use Rattle.cause_laws.specs.Instructions.{operand_of}
