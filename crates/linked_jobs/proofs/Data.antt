@@ -44,11 +44,13 @@ share_data ls fuel lines job = (
   record {
     last = machine_data_last (job_loads (images_of ls)) fuel lines (in_order ls job);
     reads = machine_reads_last (job_loads (images_of ls)) fuel lines (in_order ls job);
-    there = machine_there.0 (job_loads (images_of ls)) fuel lines (in_order ls job) (machine_low ls (setting_of ls) (tied ls job));
+    there =
+        machine_there.0 (job_loads (images_of ls)) fuel lines (in_order ls job) (machine_low ls (setting_of ls) (tied ls job));
   },
   record {
     last = meant_data_last (meaning_of ls) fuel lines (meant_in_order ls job);
     reads = meant_reads_last (meaning_of ls) fuel lines (meant_in_order ls job);
-    there = meant_there.0 (meaning_of ls) fuel lines (meant_in_order ls job) (meant_low ls (setting_of ls) (tied ls job));
+    there =
+        meant_there.0 (meaning_of ls) fuel lines (meant_in_order ls job) (meant_low ls (setting_of ls) (tied ls job));
   },
 )

@@ -49,8 +49,8 @@ pub fn linked_answers_agree()
     ensures { LinkedAnswersAgree }
 {}
 
-/// Whatever a job's threads do, what each reads of data that they share is what the last change there left, in the order
-/// of turns, and each byte of these data is at its own address. So it is of what they mean.
+/// Whatever a job's threads do, what each reads of data that they share is what the last change there left, in the
+/// order of turns, and each byte of these data is at its own address. So it is of what they mean.
 pub fn linked_threads_share_data()
     ensures { LinkedThreadsShareData }
 {}

@@ -60,7 +60,8 @@ module _ {W F B : Type 0} (ops : Operations W F B) (l : Loads B) (show : List B 
   quiet : (seen : List Event) (log : List (Change B)) (h : Held W F B) → Has seen log h → Has seen (log ++ []) h
   quiet seen log h = subst (λ (cs : List (Change B)). Has seen cs h) (sym (append_none log))
 
-  at_holds : (seen : List Event) (log : List (Change B)) (symbol : List ℕ) (a b c : ℕ) (h : Held W F B) (place : Option ℕ)
+  at_holds : (seen : List Event) (log : List (Change B)) (symbol : List ℕ) (a b c : ℕ) (h : Held W F B)
+      (place : Option ℕ)
       → Has seen log h → Begins seen log (begun_at ops l show thread symbol a b c h place)
   at_holds seen log symbol a b c h None holds = holds
   at_holds seen log symbol a b c h (Some place) holds = holds
@@ -121,7 +122,8 @@ module _ {W F B : Type 0} (ops : Operations W F B) (l : Loads B) (show : List B 
       with_load_holds seen e log h refl own follows holds (is_loaded (module_of (left_by l seen) line.told.image))
       (instance_at l (with_last seen e) line.told.image) refl refl
 
-  close_holds : (log : List (Change B)) (line : Line) (seen : List Event) (h : Held W F B) (refusal : Option CloseRefusal)
+  close_holds : (log : List (Change B)) (line : Line) (seen : List Event) (h : Held W F B)
+      (refusal : Option CloseRefusal)
       → let e = unless_refused refusal (event_at thread line.number false line.told.image) in
       AreOwn l (with_event seen e) → Follows l seen e → Has seen log h
       → Begins (with_event seen e) (log ++ filled_by l seen e) (begun_close ops l show thread line seen h refusal)
@@ -143,14 +145,16 @@ module _ {W F B : Type 0} (ops : Operations W F B) (l : Loads B) (show : List B 
   either_says seen log true x y f g = f
   either_says seen log false x y f g = g
 
-  shown_in_holds : (seen : List Event) (log : List (Change B)) (h : Held W F B) (size offset : ℕ) (bytes : Option (List B))
+  shown_in_holds : (seen : List Event) (log : List (Change B)) (h : Held W F B) (size offset : ℕ)
+      (bytes : Option (List B))
       → Has seen log h → Begins seen log (shown_in ops l show thread h size offset bytes)
   shown_in_holds seen log h size offset None holds = holds
   shown_in_holds seen log h size offset (Some bytes) holds =
       either_says seen log (nat_le (offset + size) (length bytes))
       (Says (show (slice_range bytes offset (offset + size))) h) (refused ops l show thread TooLong h) holds holds
 
-  shown_holds : (seen : List Event) (log : List (Change B)) (h : Held W F B) (size : ℕ) (x : Instance) (offset : Option ℕ)
+  shown_holds : (seen : List Event) (log : List (Change B)) (h : Held W F B) (size : ℕ) (x : Instance)
+      (offset : Option ℕ)
       → Has seen log h → Begins seen log (shown_from ops l show thread h size x offset)
   shown_holds seen log h size x None holds = holds
   shown_holds seen log h size x (Some offset) holds =

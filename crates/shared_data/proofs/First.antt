@@ -53,7 +53,8 @@ module _ {B : Type 0} (l : Loads B) where
       each_append (IsLeft (filled l x ++ flat_map (filled l) xs)) (data_after l (λ y. true) [] x)
       (flat_map (data_after l (λ y. true) []) xs)
       (first_left x (l.shared x) (flat_map (filled l) xs) (none_after x.number xs own.0))
-      (behind_left (filled l x) (flat_map (filled l) xs) (flat_map (data_after l (λ y. true) []) xs) (data_first xs own.1))
+      (behind_left (filled l x) (flat_map (filled l) xs) (flat_map (data_after l (λ y. true) []) xs)
+      (data_first xs own.1))
 
   -- all of them
   pub all_first : (live : List Instance) → HasAll l live (flat_map (data_after l (λ x. true) []) live)

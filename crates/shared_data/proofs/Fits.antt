@@ -97,7 +97,8 @@ module _ {B : Type 0} (n : ℕ) where
       ≡ Some (data_in z.number range bytes)
   first_is z range bytes more t = rw t refl
 
-  module _ (l : Loads B) (loads : Instance → Bool) (xs : List (Owned B)) (x : Instance) (range : Range B) (bytes : List B)
+  module _ (l : Loads B) (loads : Instance → Bool) (xs : List (Owned B)) (x : Instance) (range : Range B)
+      (bytes : List B)
       (shared : l.shared x ≡ Some range)
       (are : option_or (fresh_data (l.shared x) (loads x)) (data_bytes x.number xs) ≡ Some bytes) where
     pub of_live : (live : List Instance) → find (λ (y : Instance). y.number == n) live ≡ Some x → (x.number == n) ≡ true
@@ -176,7 +177,8 @@ module _ {B : Type 0} (l : Loads B) where
         )
         by_grant false rest = (each.0, rest)
 
-    put_bytes : (n : ℕ) (os : List Owner) (rs : List (Range B)) (bytes : List B) → data_bytes n (owned os rs) ≡ Some bytes
+    put_bytes : (n : ℕ) (os : List Owner) (rs : List (Range B)) (bytes : List B)
+        → data_bytes n (owned os rs) ≡ Some bytes
         → (more : List B) × ((data_bytes n (owned os (with_byte rs place byte)) ≡ Some more)
         × (length more ≡ length bytes))
     put_bytes n [] rs bytes e = cc
@@ -236,7 +238,8 @@ module _ {B : Type 0} (l : Loads B) where
         ∙ of_live y.number l loads xs y range bytes.0 e bytes.1.0 live is (eq-eqb y.number y.number refl) in
         (bytes.0, (rw found refl, bytes.1.1))
 
-    one_of : (y : Instance) → IsLive live y → (bytes : Option (List B)) → Each (IsOf thread live) (block_with thread y bytes)
+    one_of : (y : Instance) → IsLive live y → (bytes : Option (List B))
+        → Each (IsOf thread live) (block_with thread y bytes)
     one_of y is None = tt
     one_of y is (Some bytes) = ((y, (is, (refl, refl))), tt)
 

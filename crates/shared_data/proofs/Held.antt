@@ -37,7 +37,8 @@ owned_again [] = refl
 owned_again (x ∷ xs) = ap (λ ys. x ∷ ys) (owned_again xs)
 
 module _ {W F B : Type 0} where
-  pub with_holds : (log : List (Change B)) (h : Held W F B) (xs : List (Owned B)) → Apart (owners_of xs) → AreLeft log xs
+  pub with_holds : (log : List (Change B)) (h : Held W F B) (xs : List (Owned B)) → Apart (owners_of xs)
+      → AreLeft log xs
       → HoldsLeft log (with_owned h xs)
   with_holds log h xs apart left = (apart, subst (AreLeft log) (sym (owned_again xs)) left)
 
@@ -47,7 +48,8 @@ module _ {W F B : Type 0} where
 module _ {B : Type 0} where
   -- ** owners
 
-  pub blocks_apart : (xs ys : List (Owned B)) → Each (λ (x : Owned B). is_block x.owner.kind ≡ true) xs → Apart (owners_of ys)
+  pub blocks_apart : (xs ys : List (Owned B)) → Each (λ (x : Owned B). is_block x.owner.kind ≡ true) xs
+      → Apart (owners_of ys)
       → Apart (owners_of (xs ++ ys))
   blocks_apart [] ys blocks apart = apart
   blocks_apart (x ∷ xs) ys blocks apart = (
@@ -206,7 +208,8 @@ module _ {W F B : Type 0} (l : Loads B) (thread : ℕ) where
 
   -- where the data of each live instance are held, they are so after a look
   pub look_holds : (log : List (Change B)) (seen : List Event) (h : Held W F B) → Numbered l seen
-      → AreLeft log (owned_by h) → HasAll l (instances l seen) (owned_by h) → Holds l thread seen log (looked l thread seen h)
+      → AreLeft log (owned_by h) → HasAll l (instances l seen) (owned_by h)
+      → Holds l thread seen log (looked l thread seen h)
   unfolding looked_at
   look_holds log seen h own left all =
       let kept = look_left log seen h own left in (
@@ -272,8 +275,10 @@ module _ {W F B : Type 0} (l : Loads B) (thread : ℕ) where
           (
             same,
             fits_with h (instances l seen) (loaded_at l thread h.after.memory.seen x (owned_by h))
-                (subst (λ (s : List Event). Fits l thread (instances l seen) (loaded_at l thread s x (owned_by h))) (sym same)
-                (held_fits l thread (λ y. false) (λ y. y.number == x.number) (instances l seen) (owned_by h) own ready)),
+                (subst (λ (s : List Event). Fits l thread (instances l seen) (loaded_at l thread s x (owned_by h)))
+                (sym same)
+                (held_fits l thread (λ y. false) (λ y. y.number == x.number) (instances l seen)
+                (owned_by h) own ready)),
           ),
         ),
       )

@@ -55,7 +55,8 @@ module _ {W F B : Type 0} (l : Loads B) (x : ℕ → Turns (Held W F B) Line Eve
   abbrev pub ReadsIt : Type 0
   ReadsIt = (i : ℕ) (log : List (Change B)) (space : Space Event B) (os : List Owner) (place : ℕ) (at : ℕ × ℕ)
       → AreLeft log (owned os space.own)
-      → (if grants Read (stack_range (stack_start i) space.stack) place then None else data_found (owned os space.own) place)
+      → (if grants Read (stack_range (stack_start i) space.stack) place then None else data_found
+      (owned os space.own) place)
       ≡ Some at
       → (acc i).byte space place ≡ ok_or (last_left at.0 at.1 log) Refused
 
@@ -64,7 +65,8 @@ module _ {W F B : Type 0} (l : Loads B) (x : ℕ → Turns (Held W F B) Line Eve
       let w = at_order l x changes acc start order in
       let h = state_after (run (x i).steps steps from.1) in
       let log = told_at l x changes acc start order
-      ++ (turn_filled l x (event l x changes acc start) changes w i t ++ run_told (x i).steps (changes i) steps from.1) in
+      ++ (turn_filled l x (event l x changes acc start) changes w i t ++ run_told (x i).steps
+      (changes i) steps from.1) in
       let holds = world_within l x changes tell (told_at l x changes acc start order) w i t from steps
       (world_order l x changes tell order (first_filled l) start first) mine begun in
       reads i log h.after.memory h.owners place at holds.1.0 there
@@ -81,7 +83,8 @@ module _ {W F B : Type 0} (l : Loads B) (x : ℕ → Turns (Held W F B) Line Eve
       let w = at_order l x changes acc start order in
       let h = state_after (run (x i).steps steps from.1) in
       let log = told_at l x changes acc start order
-      ++ (turn_filled l x (event l x changes acc start) changes w i t ++ run_told (x i).steps (changes i) steps from.1) in
+      ++ (turn_filled l x (event l x changes acc start) changes w i t ++ run_told (x i).steps
+      (changes i) steps from.1) in
       let world = world_order l x changes tell order (first_filled l) start first in
       let holds = world_within l x changes tell (told_at l x changes acc start order) w i t from steps world mine begun in
       let seen = own_events l x changes tell w i t in
@@ -129,7 +132,8 @@ module _ (l : Loads ℕ) (legal : IsLegal l.infos l.last_offset []) where
 
 machine_reads : (l : Loads ℕ) (i : ℕ) (log : List (Change ℕ)) (space : Space Event ℕ) (os : List Owner) (place : ℕ)
     (at : ℕ × ℕ) → AreLeft log (owned os space.own)
-    → (if grants Read (stack_range (stack_start i) space.stack) place then None else data_found (owned os space.own) place)
+    → (if grants Read (stack_range (stack_start i) space.stack) place then None else data_found
+    (owned os space.own) place)
     ≡ Some at
     → (thread_accesses l i).byte space place ≡ ok_or (last_left at.0 at.1 log) Refused
 unfolding thread_accesses
@@ -185,7 +189,8 @@ module _ (m : Meaning) (legal : IsLegal m.loads.infos m.loads.last_offset []) wh
 
 meant_reads : (m : Meaning) (i : ℕ) (log : List (Change Byte)) (space : Space Event Byte) (os : List Owner) (place : ℕ)
     (at : ℕ × ℕ) → AreLeft log (owned os space.own)
-    → (if grants Read (stack_range (stack_start i) space.stack) place then None else data_found (owned os space.own) place)
+    → (if grants Read (stack_range (stack_start i) space.stack) place then None else data_found
+    (owned os space.own) place)
     ≡ Some at
     → (meant_accesses m i).byte space place ≡ ok_or (last_left at.0 at.1 log) Refused
 unfolding meant_accesses

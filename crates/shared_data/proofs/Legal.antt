@@ -1,4 +1,4 @@
--- The events of a job are legal, whatever its threads hold, and who is live behind one was so before or is loaded by it.
+-- The events of a job are legal, whatever its threads hold. Who is live behind one was so before, or is loaded by it.
 use Rattle.std.proofs.Common.{◌≡◌, ◌∙◌, ◌⊎◌, ◌+◌, ◌-◌, ℕ, true, false, List, [], ◌∷◌, Option, Some, None, refl, sym, ap, subst, inl, inr, append-nil}
 use Rattle.std.specs.Prelude.{option_and_then}
 use Rattle.std.proofs.lemmas.Bool.{cases_Bool, cases_eq, lt-ltb}
@@ -54,7 +54,8 @@ module _ {B : Type 0} (l : Loads B) (thread : ℕ) where
   accepted_by number image (Peek symbol size) seen found same = cc
 
   line_accepted : (line : Option Line) (seen : List Event) (found : Event)
-      → option_and_then (λ (x : Line). event_by l thread x seen) line ≡ Some found → accepts (left_by l seen) found ≡ true
+      → option_and_then (λ (x : Line). event_by l thread x seen) line ≡ Some found
+      → accepts (left_by l seen) found ≡ true
   line_accepted None seen found same = cc
   line_accepted (Some line) seen found same =
       accepted_by line.number line.told.image line.told.action seen found same

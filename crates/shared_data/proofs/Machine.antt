@@ -39,7 +39,8 @@ module _ (l : Loads ℕ) (thread : ℕ) where
   abbrev acc : Accesses (Space Event ℕ) ℕ
   acc = thread_accesses l thread
 
-  puts : (space : Space Event ℕ) (place byte : ℕ) → acc.put space place byte ≡ put_byte (stack_start thread) space place byte
+  puts : (space : Space Event ℕ) (place byte : ℕ)
+      → acc.put space place byte ≡ put_byte (stack_start thread) space place byte
   unfolding thread_accesses space_accesses
   puts space place byte = refl
 
@@ -66,16 +67,22 @@ module _ (l : Loads ℕ) (thread : ℕ) where
       noted_step at = (machine plain_operations (noting (stack_start thread) os acc) no_field).step at
 
       machine_noted : (at : After ℕ Bool (Space Event ℕ)) → Keeps Here log os at.memory
-          → NotedHolds (stack_start thread) os acc Here stores log puts (noted_step (left at.state (unchanged at.memory)))
+          → NotedHolds (stack_start thread) os acc Here stores log puts
+          (noted_step (left at.state (unchanged at.memory)))
       machine_noted at keeps =
-          let fine : After ℕ Bool (Proved (stack_start thread) os acc Here stores log puts) = left at.state
-          (unchanged at.memory, subst (λ (cs : List (Change ℕ)). Keeps Here cs os at.memory) (sym (append_none log)) keeps) in
+          let fine : After ℕ Bool (Proved (stack_start thread) os acc Here stores log puts) = left at.state (
+            unchanged at.memory,
+            subst (λ (cs : List (Change ℕ)). Keeps Here cs os at.memory)
+                (sym (append_none log)) keeps,
+          ) in
           let lender = proved_accesses (stack_start thread) os acc Here stores log puts in
           let image = machine_image plain_operations lender (noting (stack_start thread) os acc)
-          (plain (stack_start thread) os acc Here stores log puts) (proved_image (stack_start thread) os acc Here stores log puts)
+          (plain (stack_start thread) os acc Here stores log puts) (proved_image
+          (stack_start thread) os acc Here stores log puts)
           no_field no_field (λ m. refl) in
           subst (NotedHolds (stack_start thread) os acc Here stores log puts) (sym (image.step fine))
-          (noted_holds (stack_start thread) os acc Here stores log puts ((machine plain_operations lender no_field).step fine))
+          (noted_holds (stack_start thread) os acc Here stores log puts
+          ((machine plain_operations lender no_field).step fine))
 
     -- ** answers
 
@@ -110,9 +117,11 @@ module _ (l : Loads ℕ) (thread : ℕ) where
     at_once_holds : (log : List (Change ℕ)) (asked : Asked) (h : Runs) (x : Option Instance) → Holds l thread seen log h
         → NextHolds l thread seen log (found_at_once l thread asked h x)
     at_once_holds log asked h None holds = tt
-    at_once_holds log asked h (Some x) holds = goes_holds log h (answered l thread asked x h) (answer_keeps log asked x h holds)
+    at_once_holds log asked h (Some x) holds =
+        goes_holds log h (answered l thread asked x h) (answer_keeps log asked x h holds)
 
-    either_next : (log : List (Change ℕ)) (b : Bool) (x y : Next Runs) → NextHolds l thread seen log x → NextHolds l thread seen log y
+    either_next : (log : List (Change ℕ)) (b : Bool) (x y : Next Runs) → NextHolds l thread seen log x
+        → NextHolds l thread seen log y
         → NextHolds l thread seen log (if b then x else y)
     either_next log true x y f g = f
     either_next log false x y f g = g
@@ -130,7 +139,8 @@ module _ (l : Loads ℕ) (thread : ℕ) where
     next_holds : (log : List (Change ℕ)) (h : Runs) (noted : Next (After ℕ Bool (Noted Event ℕ)))
         → NotedHolds (stack_start thread) h.owners acc Here stores log puts noted
         → ((at : After ℕ Bool (Noted Event ℕ)) → noted ≡ Looks at → at.memory.space ≡ h.after.memory)
-        → NextHolds l thread seen (log ++ noted_by noted) (thread_next l thread h (next_image (after_of (λ n. n.space)) noted))
+        → NextHolds l thread seen (log ++ noted_by noted) (thread_next l thread h
+        (next_image (after_of (λ n. n.space)) noted))
     next_holds log h (Goes at) keeps same = keeps
     next_holds log h (Ends stop) keeps same = tt
     next_holds log h (Looks at) keeps same =
@@ -142,7 +152,8 @@ module _ (l : Loads ℕ) (thread : ℕ) where
     next_goes at (Ok after) e = cc
     next_goes at (Err stop) e = cc
 
-    looks_same : (os : List Owner) (at after : After ℕ Bool (Noted Event ℕ)) → noted_step [] os at ≡ Looks after → at ≡ after
+    looks_same : (os : List Owner) (at after : After ℕ Bool (Noted Event ℕ)) → noted_step [] os at ≡ Looks after
+        → at ≡ after
     unfolding machine
     looks_same os at after e = by_look (is_look at.state.place) _ e
       where
@@ -157,14 +168,16 @@ module _ (l : Loads ℕ) (thread : ℕ) where
     step_holds log h holds =
         let start : After ℕ Bool (Noted Event ℕ) = left h.after.state (unchanged h.after.memory) in
         let noted = noted_step log h.owners start in
-        subst (λ (next : Next (After ℕ Bool (Space Event ℕ))). NextHolds l thread seen (log ++ noted_by noted) (thread_next l thread h next))
+        subst (λ (next : Next (After ℕ Bool (Space Event ℕ))). NextHolds l thread seen (log ++ noted_by noted)
+        (thread_next l thread h next))
         (sym (follows h.owners start))
         (next_holds log h noted (machine_noted log h.owners h.after holds)
         (λ at e. sym (ap (λ (a : After ℕ Bool (Noted Event ℕ)). a.memory.space) (looks_same h.owners start at e))))
 
     -- ** looks
 
-    resumed_holds : (log : List (Change ℕ)) (h : Runs) (result : Result (After ℕ Bool (Space Event ℕ)) Stop) → Holds l thread seen log h
+    resumed_holds : (log : List (Change ℕ)) (h : Runs) (result : Result (After ℕ Bool (Space Event ℕ)) Stop)
+        → Holds l thread seen log h
         → ResultKeeps Here log h.owners result → BegunHolds l thread seen log (resumed l thread h result)
     resumed_holds log h (Ok after) holds keeps = keeps
     resumed_holds log h (Err stop) holds keeps = holds
@@ -177,7 +190,8 @@ module _ (l : Loads ℕ) (thread : ℕ) where
         let h = reached l thread x h in
         resumed_holds log h (answered l thread asked x h) now (answer_keeps log asked x h now)
 
-    either_begun : (log : List (Change ℕ)) (b : Bool) (x y : Begun Runs) → BegunHolds l thread seen log x → BegunHolds l thread seen log y
+    either_begun : (log : List (Change ℕ)) (b : Bool) (x y : Begun Runs) → BegunHolds l thread seen log x
+        → BegunHolds l thread seen log y
         → BegunHolds l thread seen log (if b then x else y)
     either_begun log true x y f g = f
     either_begun log false x y f g = g

@@ -170,7 +170,8 @@ module _ (m : Meaning) (thread : ℕ) where
     beside_keeps log os true here result keeps = tt
     beside_keeps log os false here result keeps = keeps
 
-    noted_keeps : (log : List (Change Byte)) (os : List Owner) (result : Result NotedAt Stop) → ResultNoted log os result
+    noted_keeps : (log : List (Change Byte)) (os : List Owner) (result : Result NotedAt Stop)
+        → ResultNoted log os result
         → ResultKeeps Here (log ++ noted_by (next_of result)) os (space_at result)
     noted_keeps log os (Ok at) keeps = keeps
     noted_keeps log os (Err stop) keeps = tt
@@ -189,12 +190,14 @@ module _ (m : Meaning) (thread : ℕ) where
         ) in
         let noted = plain_step ops (noter os) mark at.state (unchanged at.memory) in
         beside_keeps (log ++ noted_by (next_of noted)) os _ at.state.place (plain_step ops acc mark at.state at.memory)
-        (subst (ResultKeeps Here (log ++ noted_by (next_of noted)) os) (sym (plain_space os mark at.state (unchanged at.memory)))
+        (subst (ResultKeeps Here (log ++ noted_by (next_of noted)) os)
+        (sym (plain_space os mark at.state (unchanged at.memory)))
         (noted_keeps log os noted (plain_noted log os mark at.state fine)))
 
     -- ** a sequence
 
-    module _ (log : List (Change Byte)) (os : List Owner) (s : Sequence) (start : ℕ) (state : State Word Flag) (memory : Memory)
+    module _ (log : List (Change Byte)) (os : List Owner) (s : Sequence) (start : ℕ) (state : State Word Flag)
+        (memory : Memory)
         (keeps : Keeps Here log os memory) where
       abbrev stack : Stack Memory
       stack = meant_stack m thread
@@ -246,15 +249,19 @@ module _ (m : Meaning) (thread : ℕ) where
     -- ** a step
 
     either_keeps : (log : List (Change Byte)) (h : Meant) (s : Option Sequence) → Holds m.loads thread seen log h
-        → NextKeeps (log ++ changes_at m thread s h) h.owners (sequence_or (option_map (sequence_next m thread h.after) s)
+        → NextKeeps (log ++ changes_at m thread s h) h.owners (sequence_or
+        (option_map (sequence_next m thread h.after) s)
         (next_of (marked_step ops acc (meant_mark m thread h.after.memory)
         (meant_shut m thread h.after.memory) h.after.state h.after.memory)))
     either_keeps log h None holds =
         next_keeps (log ++ changes_at m thread None h) h.owners _
-        (marked_keeps log h.owners (meant_mark m thread h.after.memory) (meant_shut m thread h.after.memory) h.after holds)
+        (marked_keeps log h.owners (meant_mark m thread h.after.memory)
+        (meant_shut m thread h.after.memory) h.after holds)
     either_keeps log h (Some s) holds =
-        subst (λ (cs : List (Change Byte)). NextKeeps cs h.owners (sequence_next m thread h.after s)) (sym (append_none log))
-        (looks_keeps log h.owners _ h.after (sequence_does m thread s h.after) holds (does_keeps log h.owners s h.after holds))
+        subst (λ (cs : List (Change Byte)). NextKeeps cs h.owners (sequence_next m thread h.after s))
+        (sym (append_none log))
+        (looks_keeps log h.owners _ h.after (sequence_does m thread s h.after) holds
+        (does_keeps log h.owners s h.after holds))
 
     held_holds : (log : List (Change Byte)) (h : Meant) (next : Next At) → NextKeeps log h.owners next
         → NextHolds m.loads thread seen log (held_next m thread h next)
@@ -287,7 +294,8 @@ module _ (m : Meaning) (thread : ℕ) where
     at_holds : (log : List (Change Byte)) (h : Meant) (s : Option Sequence) → Numbered m.loads seen
         → Holds m.loads thread seen log h → BegunHolds m.loads thread seen log (resumed_at m thread h s)
     at_holds log h None own holds = holds
-    at_holds log h (Some s) own holds = by_holds log h s (numbered_instance m.loads h.after.memory.seen s.target) own holds
+    at_holds log h (Some s) own holds =
+        by_holds log h s (numbered_instance m.loads h.after.memory.seen s.target) own holds
 
     for_holds : (log : List (Change Byte)) (h : Meant) (x : Option Instance) → Numbered m.loads seen
         → Holds m.loads thread seen log h → BegunHolds m.loads thread seen log (resumed_for m thread h x)

@@ -13,7 +13,8 @@ use Rattle.shared_data.proofs.Last.{append_append, append_none}
 use Rattle.shared_data.proofs.Left.{Apart, AreLeft, written_left}
 
 -- a memory that holds data as they were left. Stands: what else holds of the events seen and the ranges
-abbrev pub Keeps : {E B : Type 0} → (List E → List (Owned B) → Type 0) → List (Change B) → List Owner → Space E B → Type 0
+abbrev pub Keeps : {E B : Type 0} → (List E → List (Owned B) → Type 0) → List (Change B) → List Owner → Space E B
+    → Type 0
 Keeps Stands log os space =
     Apart os × (AreLeft log (owned os space.own) × Stands space.seen (owned os space.own))
 
@@ -29,7 +30,8 @@ module _ {E B : Type 0} (Stands : List E → List (Owned B) → Type 0) where
   ResultKeeps log os (Err stop) = Unit {0}
 
   pub then_keeps : {W F A : Type 0} (log : List (Change B)) (os : List Owner) (r : Result A Stop)
-      (f : A → Result (After W F (Space E B)) Stop) → ((a : A) → ResultKeeps log os (f a)) → ResultKeeps log os (r >>= f)
+      (f : A → Result (After W F (Space E B)) Stop) → ((a : A) → ResultKeeps log os (f a))
+      → ResultKeeps log os (r >>= f)
   then_keeps log os (Ok a) f h = h a
   then_keeps log os (Err stop) f h = tt
 
@@ -79,7 +81,8 @@ module _ {E B : Type 0} (stack : ℕ) (os : List Owner) (acc : Accesses (Space E
     plain p = p.0
 
     pub put_proved : (p : Proved) (place : ℕ) (byte : B)
-        → Keeps Stands (log ++ (p.0.changes ++ changed_by stack os p.0.space place byte)) os (acc.put p.0.space place byte)
+        → Keeps Stands (log ++ (p.0.changes ++ changed_by stack os p.0.space place byte)) os
+        (acc.put p.0.space place byte)
     put_proved p place byte =
         subst (λ (space : Space E B). Keeps Stands (log ++ (p.0.changes ++ changed_by stack os p.0.space place byte)) os space)
         (sym (puts p.0.space place byte)) (put_keeps Stands stores stack os log p.0 place byte p.1)

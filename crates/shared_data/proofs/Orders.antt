@@ -54,14 +54,16 @@ filter_each p (x ∷ xs) = either (p x) refl (filter_each p xs)
     either false e rest = rest
 
 -- data alone are all that is there of them
-given_all : {B : Type 0} (l : Loads B) (live : List Instance) (xs : List (Owned B)) → HasAll l live xs → HasAll l live (data_in xs)
+given_all : {B : Type 0} (l : Loads B) (live : List Instance) (xs : List (Owned B)) → HasAll l live xs
+    → HasAll l live (data_in xs)
 given_all {B} l live xs all y is range e =
     let its = all y is range e in
     let found = among_data y.number xs in
     (its.0, (ap (λ (o : Option (Owned B)). option_map (λ (x : Owned B). x.range.bytes) o) found ∙ its.1.0, its.1.1))
 
 module _ {W F B : Type 0} where
-  pub held_changed : (f : Held W F B → Held W F B) (phase : Phase (Held W F B)) → held_in (changed f phase) ≡ f (held_in phase)
+  pub held_changed : (f : Held W F B → Held W F B) (phase : Phase (Held W F B))
+      → held_in (changed f phase) ≡ f (held_in phase)
   held_changed f (Idle h) = refl
   held_changed f (Mid steps points h) = refl
 
@@ -136,7 +138,8 @@ module _ {W F B : Type 0} (l : Loads B) (x : ℕ → Turns (Held W F B) Line Eve
             (λ (o : Owned B). not (is_block o.owner.kind)) (owned_by (held_in after.phase))
             (subst (λ (e : Option Event). AreLeft (log ++ (filled_by l w.events e ++ told)) (owned_by (held_in after.phase)))
             same left.0);
-        all = given_all l (instances l (with_event w.events (event_of (event i) t w.events))) (owned_by (held_in after.phase))
+        all =
+            given_all l (instances l (with_event w.events (event_of (event i) t w.events))) (owned_by (held_in after.phase))
             (subst (λ (e : Option Event). HasAll l (instances l (with_event w.events e)) (owned_by (held_in after.phase)))
             same left.1);
         blocks = each_put HoldsBlocks w.threads i (without_data after) (put_blocks after) holds.blocks;

@@ -86,7 +86,8 @@ module _ {B : Type 0} (n : ℕ) (range : Range B) (bytes : List B) (k : ℕ) (le
 
 below : {B : Type 0} (r : Range B) (place : ℕ) → place < r.start → holds r place ≡ false
 below r place low = false_from_ne_true (holds r place) (λ t.
-    let from = leb-true r.start place (and_parts (nat_le r.start place) (nat_lt (place - r.start) (length r.bytes)) t).0 in
+    let from = leb-true r.start place (and_parts (nat_le r.start place)
+    (nat_lt (place - r.start) (length r.bytes)) t).0 in
     absurd (omega (arith, low, from)))
 
 -- blocks begin above all that is loaded

@@ -40,18 +40,21 @@ module _ {W F B : Type 0} (l : Loads B) (thread : ℕ) (x : Turns (Held W F B) L
     (changes : Held W F B → List (Change B)) (tell : TellAll l thread x changes) where
   -- ** runs
 
-  over_holds : (seen : List Event) (log told : List (Change B)) (n : ℕ) (h : Held W F B) (over : Option Stop) (rest : Outcome (Held W F B))
+  over_holds : (seen : List Event) (log told : List (Change B)) (n : ℕ) (h : Held W F B) (over : Option Stop)
+      (rest : Outcome (Held W F B))
       → Holds l thread seen log h → Holds l thread seen (log ++ told) (state_after rest)
       → Holds l thread seen (log ++ unless_over over told) (state_after (over_or n h over rest))
   over_holds seen log told n h None rest holds more = more
   over_holds seen log told n h (Some stop) rest holds more =
       subst (λ (cs : List (Change B)). Holds l thread seen cs h) (sym (append_none log)) holds
 
-  go_on_holds : (seen : List Event) (log now : List (Change B)) (n m : ℕ) (h : Held W F B) (next : Next (Held W F B)) → Holds l thread seen log h
+  go_on_holds : (seen : List Event) (log now : List (Change B)) (n m : ℕ) (h : Held W F B) (next : Next (Held W F B))
+      → Holds l thread seen log h
       → NextHolds l thread seen (log ++ now) next
       → ((g : Held W F B) → Holds l thread seen (log ++ now) g
       → Holds l thread seen ((log ++ now) ++ run_told x.steps changes n g) (state_after (run x.steps n g)))
-      → Holds l thread seen (log ++ step_told now (run_told x.steps changes n) next) (state_after (go_on m h (run x.steps n) next))
+      → Holds l thread seen (log ++ step_told now (run_told x.steps changes n) next)
+      (state_after (go_on m h (run x.steps n) next))
   go_on_holds seen log now n m h (Goes g) holds after rest =
       subst (λ (cs : List (Change B)). Holds l thread seen cs (state_after (run x.steps n g)))
       (append_append log now (run_told x.steps changes n g)) (rest g after)
@@ -68,7 +71,8 @@ module _ {W F B : Type 0} (l : Loads B) (thread : ℕ) (x : Turns (Held W F B) L
       over_none None = subst (λ (cs : List (Change B)). Holds l thread seen cs h) (sym (append_none log)) holds
       over_none (Some stop) = subst (λ (cs : List (Change B)). Holds l thread seen cs h) (sym (append_none log)) holds
   run_holds seen (suc n) log h holds =
-      over_holds seen log (step_told (changes h) (run_told x.steps changes n) (x.steps.step h)) (suc n) h (x.steps.over h)
+      over_holds seen log (step_told (changes h) (run_told x.steps changes n) (x.steps.step h)) (suc n) h
+      (x.steps.over h)
       (go_on (suc n) h (run x.steps n) (x.steps.step h)) holds
       (go_on_holds seen log (changes h) n (suc n) h (x.steps.step h) holds (tell.step seen log h holds)
       (λ g now. run_holds seen n (log ++ changes h) g now))
@@ -77,7 +81,8 @@ module _ {W F B : Type 0} (l : Loads B) (thread : ℕ) (x : Turns (Held W F B) L
 
   -- between its turns a thread at these events holds all data, as they were left
   abbrev pub HoldsIn : List Event → List (Change B) → Thread (Held W F B) Line Event → Type 0
-  HoldsIn seen log t = AreLeft log (owned_by (held_in t.phase)) × HasAll l (instances l seen) (owned_by (held_in t.phase))
+  HoldsIn seen log t =
+      AreLeft log (owned_by (held_in t.phase)) × HasAll l (instances l seen) (owned_by (held_in t.phase))
 
   run_in : (now : List Event) (log : List (Change B)) (todo : List Line) (said : List Said) (seen : List Event)
       (points : List ℕ) (out : Outcome (Held W F B)) → Holds l thread now log (state_after out)
@@ -101,7 +106,8 @@ module _ {W F B : Type 0} (l : Loads B) (thread : ℕ) (x : Turns (Held W F B) L
 
   -- the event of a thread that stands so
   abbrev event_at : List Line → Phase (Held W F B) → List Event → Option Event
-  event_at todo phase seen = event_of (event_by l thread) (record { todo = todo; phase = phase; said = []; seen = [] }) seen
+  event_at todo phase seen =
+      event_of (event_by l thread) (record { todo = todo; phase = phase; said = []; seen = [] }) seen
 
   -- its next line's first look, where what was seen is legal
   line_begins : (log : List (Change B)) (line : Line) (todo : List Line) (h : Held W F B) (said : List Said)
@@ -120,7 +126,8 @@ module _ {W F B : Type 0} (l : Loads B) (thread : ℕ) (x : Turns (Held W F B) L
   line_resumes log h seen legal left all =
       none_filled l thread seen log (x.resume seen h) (tell.resume log seen h (are_own l seen legal).numbers left all)
 
-  turn_in : (log : List (Change B)) (todo : List Line) (phase : Phase (Held W F B)) (said : List Said) (old seen : List Event)
+  turn_in : (log : List (Change B)) (todo : List Line) (phase : Phase (Held W F B)) (said : List Said)
+      (old seen : List Event)
       → IsLegal l.infos l.last_offset seen → AreLeft log (owned_by (held_in phase))
       → HasAll l (instances l seen) (owned_by (held_in phase))
       → HoldsIn (with_event seen (event_at todo phase seen)) (log ++ (filled_by l seen (event_at todo phase seen)
@@ -128,7 +135,8 @@ module _ {W F B : Type 0} (l : Loads B) (thread : ℕ) (x : Turns (Held W F B) L
   turn_in log [] (Idle h) said old seen legal left all =
       (subst (λ (cs : List (Change B)). AreLeft cs (owned_by h)) (sym (append_none log)) left, all)
   turn_in log (line ∷ todo) (Idle h) said old seen legal left all =
-      look_in (with_event seen (event_by l thread line seen)) log (filled_by l seen (event_by l thread line seen)) x.fuel
+      look_in (with_event seen (event_by l thread line seen)) log (filled_by l seen
+      (event_by l thread line seen)) x.fuel
       todo said seen (length seen ∷ []) (x.begin line seen h) (line_begins log line todo h said old seen legal left all)
   turn_in log [] (Mid steps points h) said old seen legal left all =
       look_in seen log [] (steps - 1) [] said seen (with_last points (length seen)) (x.resume seen h)
@@ -147,7 +155,8 @@ module _ {W F B : Type 0} (l : Loads B) (thread : ℕ) (x : Turns (Held W F B) L
 
   -- ** where a turn's steps begin
 
-  called_holds : (now : List Event) (log : List (Change B)) (steps : ℕ) (begun : Begun (Held W F B)) (from : ℕ × Held W F B)
+  called_holds : (now : List Event) (log : List (Change B)) (steps : ℕ) (begun : Begun (Held W F B))
+      (from : ℕ × Held W F B)
       → called steps begun ≡ Some from → BegunHolds l thread now log begun → Holds l thread now log from.1
   called_holds now log steps (Says ending h) from e holds = cc
   called_holds now log steps (Calls h) from e holds =
@@ -157,10 +166,12 @@ module _ {W F B : Type 0} (l : Loads B) (thread : ℕ) (x : Turns (Held W F B) L
   begins_in : (log : List (Change B)) (todo : List Line) (phase : Phase (Held W F B)) (seen : List Event)
       (from : ℕ × Held W F B) → IsLegal l.infos l.last_offset seen → AreLeft log (owned_by (held_in phase))
       → HasAll l (instances l seen) (owned_by (held_in phase)) → steps_of x todo phase seen ≡ Some from
-      → Holds l thread (with_event seen (event_at todo phase seen)) (log ++ filled_by l seen (event_at todo phase seen)) from.1
+      → Holds l thread (with_event seen (event_at todo phase seen)) (log ++ filled_by l seen
+      (event_at todo phase seen)) from.1
   begins_in log [] (Idle h) seen from legal left all e = cc
   begins_in log (line ∷ todo) (Idle h) seen from legal left all e =
-      called_holds (with_event seen (event_by l thread line seen)) (log ++ filled_by l seen (event_by l thread line seen))
+      called_holds (with_event seen (event_by l thread line seen)) (log ++ filled_by l seen
+      (event_by l thread line seen))
       x.fuel (x.begin line seen h) from e (line_begins log line todo h [] [] seen legal left all)
   begins_in log [] (Mid steps points h) seen from legal left all e =
       called_holds seen (log ++ []) (steps - 1) (x.resume seen h) from e (line_resumes log h seen legal left all)

@@ -1,4 +1,4 @@
--- Where what is loaded lies: below all that threads have for themselves, and data at addresses that tell their instance.
+-- Where what is loaded lies: below all that threads have for themselves, data at addresses that tell their instance.
 use Rattle.std.specs.Prelude.{◌≡◌, ◌<◌, ◌≤◌, ◌^◌, ℕ, true, List, Some, None}
 use Rattle.address_map.specs.Map.{owner_at}
 use Rattle.guest_operands.specs.declared.space.Access.{Access}
