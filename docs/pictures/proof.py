@@ -41,7 +41,7 @@ WORDS = [
     (66, 184, [
         ("the image of the objects, or the first fault", "link_core::link"),
         ("each byte of a section, as it is meant", "link_core::bytes_are_meant"),
-        ("a rewritten form exactly where the table says", "standing_sequences::sequences_stand_by_the_table")]),
+        ("a rewritten form exactly where the table says", "standing_sequences::linked_images_hold_the_table")]),
     (286, 382, [("the written bytes are read as that very image", None)]),
     (286, 398, [(None, "image_writer::into_file")]),
     (286, 442, [("linked together, they can be loaded together", "linked_modules::linked_images_are_modules")]),

@@ -18,6 +18,7 @@ pub fn whole_file<S: Store>(
     ensures cause { StoreCounts (S.faults store.old) (S.faults store.new) result }
     ensures refused { IfErr result IsFetchFault }
     ensures bytes { IfSome (S.files store.old) (λ fs. IfOk result (λ bytes. file_at fs name.now ≡ Some bytes.items)) }
+    ensures out { S.out store.new ≡ S.out store.old }
 {
     let mut bytes = Vec::new(alloc);
     store.fetch(name, &mut bytes)?;

@@ -6,6 +6,7 @@ use Rattle.std.proofs.lemmas.List.{length-map}
 use Rattle.command_replies.specs.declared.fault.CommandFault.{CommandFault}
 use Rattle.command_replies.specs.Steps.{Comes}
 use Rattle.dynamic_symbols.specs.Laws.{SitesHaveSymbols}
+use Rattle.image_file.specs.Spelled.{spelled}
 use Rattle.image_writer.specs.Written.{written}
 use Rattle.job_link.specs.Given.{Given, IsGiven as IsGivenImage}
 use Rattle.job_link.specs.Linked.{link_in}
@@ -16,6 +17,7 @@ use Rattle.link_needs.specs.Linking.{Linking, choice, choices_from}
 use Rattle.ports.specs.Files.{Files, with_file}
 use Rattle.relax_sites.specs.declared.choices.Choice.{Choice}
 use Rattle.sequence_forms.specs.declared.places.Site.{Site}
+use Rattle.standing_sequences.specs.Images.{HoldsTheTable}
 use Rattle.commands.specs.InOrder.{AreLinked}
 use Rattle.commands.specs.Jobs.{objects_of}
 use Rattle.commands.specs.Links.{AreLines, HaveLines, IsPut, OfLink, Output, linked_text, lines_of}
@@ -35,9 +37,10 @@ module _ (ls : List Linking) (place : ℕ) (l : Linking) (below : place < length
 -- ** its file
 
 pub is_put : (before after : Option Files) (image out : List ℕ) (l : Linking) (file text : List ℕ) → file ≡ written (image_of l) → after ≡ with_file out file before
-    → text ≡ linked_text image (length file) → IsPut before after image out l 0 text
-is_put before after image out l file text file_is after_is text_is = record {
+    → text ≡ linked_text image (length file) → HoldsTheTable l (image_of l) → spelled (written (image_of l)) ≡ image_of l → IsPut before after image out l 0 text
+is_put before after image out l file text file_is after_is text_is holds again = record {
   files_are = after_is ∙ ap (λ b. with_file out b before) file_is;
+  holds = subst (HoldsTheTable l) (sym again) holds;
   says = (refl, text_is ∙ ap (λ (b : List ℕ). linked_text image (length b)) file_is);
 }
 

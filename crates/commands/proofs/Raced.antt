@@ -20,6 +20,7 @@ use Rattle.module_table.specs.History.{History, IsLegal}
 use Rattle.module_table.specs.declared.modules.ImageInfo.{ImageInfo}
 use Rattle.shared_modules.specs.declared.board.Images.{Images}
 use Rattle.shared_modules.specs.Views.{all_threads, images_of as registry_images}
+use Rattle.standing_sequences.specs.Laws.{LinkedImagesHoldTheTable}
 use Rattle.thread_blocks.specs.JobLoads.{job_loads}
 use Rattle.thread_blocks.specs.Lines.{Line}
 use Rattle.thread_blocks.specs.MachineTurns.{shown}
@@ -33,11 +34,11 @@ use Rattle.commands.specs.InOrder.{AreLinks}
 use Rattle.commands.specs.Races.{AreRaced, HasRace, IsRaceTold}
 use Rattle.commands.specs.Runs.{AreModulesBack, IsMeant, meant_lines}
 use Rattle.linked_jobs.proofs.Telling.{alone_clean, few_threads, second_of, some_thread}
-use Rattle.commands.proofs.Transcribed.{images_are, modules_are, modules_linked}
+use Rattle.commands.proofs.Transcribed.{images_are, images_hold, modules_are, modules_linked}
 
 -- ** a job
 
-module _ (threads : LinkedThreadsPrint) (fronts : RacersAreInHistory) (print : RacersPrintTheirPoints) (job : JobParts) (few : length job.lines ≤ 64) (ls : List Linking) (links : AreLinks job ls) where
+module _ (threads : LinkedThreadsPrint) (fronts : RacersAreInHistory) (print : RacersPrintTheirPoints) (hold : LinkedImagesHoldTheTable) (job : JobParts) (few : length job.lines ≤ 64) (ls : List Linking) (links : AreLinks job ls) where
   -- a clean thread of it has its meaning's lines
   thread_told : (transcript : Shown) → AreRaced (images_of ls) job transcript
       → (thread : ℕ) (own : List ThreadLine) (said : List ShownLine) → at_number job.lines thread ≡ Some own
@@ -71,15 +72,16 @@ module _ (threads : LinkedThreadsPrint) (fronts : RacersAreInHistory) (print : R
         thread_told transcript
         (subst (λ (n : JobImages). AreRaced n job transcript)
         (made.modules_are ∙ modules_linked job ls links all all_is made.images made.back) ran);
+    images_hold = images_hold job ls links all all_is made.images made.back hold;
   }
 
 -- what its threads answer
-pub raced : {E : Type 0} → LinkedThreadsPrint → RacersAreInHistory → RacersPrintTheirPoints → (job : JobParts) → length job.lines ≤ 64
+pub raced : {E : Type 0} → LinkedThreadsPrint → RacersAreInHistory → RacersPrintTheirPoints → LinkedImagesHoldTheTable → (job : JobParts) → length job.lines ≤ 64
     → (all : List LinkedImage) (m : JobImages) → AreModulesBack job all m → (r : Result Shown E) → IfOk r (AreRaced m job)
     → IfOk r (λ transcript. (ls : List Linking) → AreLinks job ls → all ≡ map linked_of ls → HasRace job ls transcript)
-raced threads fronts print job few all m made (Ok transcript) ran =
-    λ ls links all_is. has_race threads fronts print job few ls links all all_is m made transcript ran
-raced threads fronts print job few all m made (Err e) ran = tt
+raced threads fronts print hold job few all m made (Ok transcript) ran =
+    λ ls links all_is. has_race threads fronts print hold job few ls links all all_is m made transcript ran
+raced threads fronts print hold job few all m made (Err e) ran = tt
 
 -- and their text
 pub race_told : {E : Type 0} (job : JobParts) (ls : List Linking) (transcript : Shown) → HasRace job ls transcript → (r : Result (Vec ℕ Global) E)

@@ -19,6 +19,7 @@ use Rattle.linked_modules.specs.Dataless.{IsOfDataless}
 use Rattle.linked_modules.specs.Together.{AreTogether}
 use Rattle.elf_records.specs.Fields.{AreBytes}
 use Rattle.meant_images.specs.Images.{AreSound}
+use Rattle.standing_sequences.specs.Laws.{IsLinked}
 use Rattle.commands.specs.InOrder.{AreLinked, AreLinks, IsOfFew}
 use Rattle.commands.specs.Jobs.{links_of}
 use Rattle.commands.specs.RunJobs.{CheckedLinksAreRun}
@@ -62,12 +63,15 @@ module _ (job : JobParts) (images : List Given) (ls : List Linking) (are : AreLi
   all_given : All IsGiven ls
   all_given = each IsGiven given
 
-  pub all_link : All Links ls
+  all_link : All Links ls
   all_link = each Links are.links
 
   stray : All HasNoStray ls
   stray = each HasNoStray
       (All-weaker IsGivenImage (λ g. HasNoStray (link_in images are.relax g)) (none_stray images are.relax) images are.given.given)
+
+  pub are_linked : All IsLinked ls
+  are_linked = λ k d below. record { given = all_given k d below; links = all_link k d below; stray = stray k d below }
 
   small : All (λ (l : Linking). All AreBytes l.objects) ls
   unfolding link_in

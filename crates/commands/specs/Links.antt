@@ -7,6 +7,7 @@ use Rattle.command_line.specs.declared.tasks.Rewriting.{Rewriting}
 use Rattle.command_line.specs.Rewritings.{is_allowed}
 use Rattle.command_replies.specs.declared.fault.CommandFault.{CommandFault}
 use Rattle.command_replies.specs.Says.{Is}
+use Rattle.image_file.specs.Spelled.{spelled}
 use Rattle.image_writer.specs.Written.{written}
 use Rattle.job_link.specs.declared.writable.WritableSections.TheVariants.{Kept}
 use Rattle.job_link.specs.Given.{Given}
@@ -19,6 +20,7 @@ use Rattle.relax_sites.specs.declared.choices.Choice.{Choice}
 use Rattle.sequence_forms.specs.declared.places.Site.{Site}
 use Rattle.sequence_match.specs.Sites.{HaveSymbols}
 use Rattle.site_text.specs.Lines.{site_lines}
+use Rattle.standing_sequences.specs.Images.{HoldsTheTable}
 use Rattle.commands.specs.Jobs.{FileSays, asked_names, objects_of}
 
 -- ---- the texts
@@ -46,6 +48,9 @@ Output = Linking → ℕ → List ℕ → Type 0
 pub record IsPut (before after : Option Files) (image out : List ℕ) (l : Linking)
     (status : ℕ) (text : List ℕ) : Type 0 where
   pub files_are : after ≡ with_file out (written (image_of l)) before
+  -- the image that these bytes spell has rewritten forms of sequences exactly where the table gives them, and else the
+  -- objects' own bytes, fields aside
+  pub holds : HoldsTheTable l (spelled (written (image_of l)))
   pub says : Is 0 (linked_text image (length (written (image_of l)))) status text
 
 -- `sites`: the lines of the sites of its objects, which have these names

@@ -15,7 +15,7 @@ use Rattle.thread_blocks.specs.Turns.{at_number}
 use Rattle.transcript_text.specs.declared.outcomes.Line.{Line as ShownLine}
 use Rattle.transcript_text.specs.Texts.{Shown, transcript_text}
 use Rattle.commands.specs.Jobs.{FileSays}
-use Rattle.commands.specs.Runs.{IsMeant, meant_lines, modules_of}
+use Rattle.commands.specs.Runs.{ImagesHoldTheTable, IsMeant, meant_lines, modules_of}
 
 -- ** what ran
 
@@ -35,6 +35,8 @@ pub record HasRace (job : JobParts) (ls : List Linking) (transcript : Shown) : T
       → at_number job.lines thread ≡ Some own
       → at_number transcript.threads thread ≡ Some printed
       → IsMeant printed (meant_lines job ls transcript thread own printed)
+  -- sequences were rewritten by the table, in each image that was loaded
+  pub images_hold : ImagesHoldTheTable ls
 
 -- ** the output
 

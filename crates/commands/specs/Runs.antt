@@ -14,6 +14,7 @@ use Rattle.link_needs.specs.Linking.{Linking}
 use Rattle.linked_jobs.specs.Threads.{thread_meaning}
 use Rattle.loaded_modules.specs.Given.{of_job}
 use Rattle.loaded_modules.specs.Images.{JobImages}
+use Rattle.standing_sequences.specs.Images.{HoldsTheTable}
 use Rattle.thread_blocks.specs.JobLoads.{job_loads}
 use Rattle.thread_blocks.specs.JobWorlds.{Shared, Tells, job_world}
 use Rattle.thread_blocks.specs.Lines.{Line}
@@ -31,9 +32,18 @@ use Rattle.commands.specs.Checks.{verdict}
 abbrev pub read_back : LinkedImage → Spelled
 read_back linked = spelled (written linked.image)
 
--- the images of a job, read back
+-- the image of a link, as it is loaded
+abbrev pub loaded_image : Linking → Spelled
+loaded_image l = read_back (linked_of l)
+
+-- the images of a job, as they are loaded
 unfoldable pub modules_of : JobParts → List Linking → JobImages
-modules_of job ls = of_job job (map (λ l. read_back (linked_of l)) ls)
+modules_of job ls = of_job job (map loaded_image ls)
+
+-- each of them holds a sequence's rewritten form exactly where its bytes, its relocations, its symbol's binding, the
+-- image's kind and the setting match the table; every other byte of its code is its object's own, fields aside
+abbrev pub ImagesHoldTheTable : List Linking → Type 0
+ImagesHoldTheTable ls = All (λ (l : Linking). HoldsTheTable l (loaded_image l)) ls
 
 -- the images of a job, read back: those that are written and read are the linked ones
 pub record AreBack (job : JobParts) (all : List LinkedImage) (images : List Spelled) : Type 0 where
@@ -86,3 +96,5 @@ pub record HasRun (job : JobParts) (ls : List Linking) (transcript : Shown) : Ty
       → (thread : ℕ) (own : List ThreadLine) (printed : List ShownLine) → at_number job.lines thread ≡ Some own
       → at_number transcript.threads thread ≡ Some printed
       → IsMeant printed (meant_lines job ls transcript thread own printed)
+  -- sequences were rewritten by the table, in each image that was loaded
+  pub images_hold : ImagesHoldTheTable ls

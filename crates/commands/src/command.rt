@@ -37,6 +37,7 @@ pub fn output<R: Threads + Sync, S: Store>(
         (TaskSays fs (S.files store.new) task.now) result) }
     ensures asks { IfSome (S.files store.old) (λ fs. Asks (task_names fs task.now)
         (S.asked store.old) (S.asked store.new) result) }
+    ensures out { S.out store.new ≡ S.out store.old }
 {
     match task {
         Task::Run { job, rewriting } => {
@@ -79,6 +80,7 @@ fn sites<R: Threads + Sync, S: Store>(
         (SitesSays fs job.now image.now) result) }
     ensures asks { IfSome (S.files store.old) (λ fs. Asks (image_names fs job.now image.now)
         (S.asked store.old) (S.asked store.new) result) }
+    ensures out { S.out store.new ≡ S.out store.old }
 {
     let purpose = Purpose::Sites { image };
     told(rt, alloc, store, job, Rewriting::Allowed, purpose)
@@ -90,6 +92,7 @@ fn show<S: Store>(alloc: Global, store: &mut S, name: &str) -> Result<Vec<u8>, C
     ensures cause { StoreCounts (S.faults store.old) (S.faults store.new) result }
     ensures says { IfSome (S.files store.old) (λ fs. Comes (λ text. text.items) (ShowSays fs name.now) result) }
     ensures asks { Asks (name.now ∷ []) (S.asked store.old) (S.asked store.new) result }
+    ensures out { S.out store.new ≡ S.out store.old }
 {
     match whole_file(alloc, store, name) {
         Ok(bytes) => show_file(alloc, bytes),

@@ -9,7 +9,7 @@ ghost use Rattle.commands.specs.InOrder.{AreLinked};
 ghost use Rattle.commands.specs.Links.{FilesAfter, IsPut, linked_text};
 ghost use Rattle.commands.specs.Purposes.{IsWithin, Makes, puts};
 ghost use Rattle.commands.specs.RunJobs.{IsRun};
-ghost use Rattle.link_core.specs.Faults.{Links};
+ghost use Rattle.standing_sequences.specs.Laws.{IsLinked};
 
 use crate::checks::verdict_line;
 use crate::purpose::{Ending, Put};
@@ -21,6 +21,7 @@ use job_link::ImageObjects;
 use job_text::Job;
 use link_core::ReadyLink;
 use ports::Store;
+use standing_sequences::linked_images_hold_the_table;
 use std::alloc::{AllocError, Global};
 use std::thread::Threads;
 
@@ -48,6 +49,7 @@ pub fn ended<R: Threads + Sync, S: Store>(
         (Makes ending.entry (S.files store.old) (S.files store.new)
         linked.entry.job.now linked.entry.ready.items) result }
     ensures asked { S.asked store.new ≡ S.asked store.old }
+    ensures out { S.out store.new ≡ S.out store.old }
 {
     let LinkedJob { job, images, ready } = linked;
     match ending {
@@ -87,13 +89,15 @@ fn put_image<R: Threads + Sync, S: Store>(
     link: &ReadyLink,
     put: Put,
 ) -> Result<Vec<u8>, CommandFault>
-    requires links { Links link.now }
+    requires linked { IsLinked link.now }
     ensures files { FilesAfter (Some put.entry.out.now) (S.files store.old) (S.files store.new) result }
     ensures cause { StoreCounts (S.faults store.old) (S.faults store.new) result }
     ensures says { Comes (λ text. text.items) (IsPut (S.files store.old) (S.files store.new)
         put.entry.image.now put.entry.out.now link.now) result }
     ensures asked { S.asked store.new ≡ S.asked store.old }
+    ensures out { S.out store.new ≡ S.out store.old }
 {
+    linked_images_hold_the_table();
     let pieces = link.pieces(rt, alloc)?;
     let line = linked_line(alloc, put.image, pieces.size())?;
     store.put_pieces(put.out, &pieces)?;

@@ -42,6 +42,7 @@ pub fn generated<R: Threads + Sync, S: Store>(
     ensures cause { StoreCounts (S.faults store.old) (S.faults store.new) result }
     ensures says { Comes (λ text. text.items) (GenSays count) result }
     ensures asked { S.asked store.new ≡ S.asked store.old }
+    ensures out { S.out store.new ≡ S.out store.old }
 {
     images_are_in_order();
     generated_texts_are_jobs();
@@ -70,6 +71,7 @@ fn run_generated<R: Threads + Sync, S: Store>(
     ensures says { Comes (λ text. text.items)
         (BytesSay (IsRun (Telling.Summary count)) true Kept (bytes_in (generated_files count)) job.now) result }
     ensures asked { S.asked store.new ≡ S.asked store.old }
+    ensures out { S.out store.new ≡ S.out store.old }
 {
     let objects = generated_objects(alloc, count)?;
     let files = files_of(alloc, objects.as_slice())?;

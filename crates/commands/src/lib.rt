@@ -25,7 +25,9 @@
 //! (`race_runs`). Only `race` may wait, so its steps stand next to those of the others, which are tasks.
 //!
 //! `run` and `check` are tied: if `check` says `clean`, `run` prints what the objects mean, event by event and line by
-//! line, whether sequences were rewritten or not (`specs/Runs`, `HasRun`, by the laws of `linked_jobs`).
+//! line, whether sequences were rewritten or not (`specs/Runs`, `HasRun`, by the laws of `linked_jobs`). And each image
+//! that is put, or loaded to be run, holds a sequence's rewritten form exactly where the table gives it, and else the
+//! objects' own bytes, fields aside (`HoldsTheTable`, by the law of `standing_sequences`).
 //!
 //!     link a.job app app.elf      linked app 12417          and the store's file app.elf has the image's 12,417 bytes
 //!     sites a.job app             main.o 1 0000000000000000 gd gd-le x

@@ -29,6 +29,7 @@ pub fn link<R: Threads + Sync, S: Store>(
         (LinkSays fs (S.files store.new) job.now put.entry.image.now put.entry.out.now rewriting) result) }
     ensures asks { IfSome (S.files store.old) (λ fs. Asks (image_names fs job.now put.entry.image.now)
         (S.asked store.old) (S.asked store.new) result) }
+    ensures out { S.out store.new ≡ S.out store.old }
 {
     told(rt, alloc, store, job, rewriting, Purpose::File(put))
 }

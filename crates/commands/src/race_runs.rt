@@ -31,6 +31,7 @@ use loaded_modules::Modules;
 use module_table::Registry;
 use racing_thread::NoGate;
 use shared_modules::{Pass, Shared};
+use standing_sequences::linked_images_hold_the_table;
 use std::alloc::{AllocError, Global};
 use std::sync::Wait;
 use std::thread::Threads;
@@ -70,6 +71,7 @@ fn race_linked<R: Threads + Wait + Sync>(
     linked_threads_print();
     racers_are_in_history();
     racers_print_their_points();
+    linked_images_hold_the_table();
     job.keeps_limits();
     let modules = modules_again(alloc, job, all)?;
     race_modules(rt, alloc, job, &modules)

@@ -47,6 +47,7 @@ pub fn raced<R: Threads + Wait + Sync, S: Store>(
         (RaceSays fs name.now rewriting) result) }
     ensures asks { IfSome (S.files store.old) (λ fs. Asks (asked_names fs name.now None)
         (S.asked store.old) (S.asked store.new) result) }
+    ensures out { S.out store.new ≡ S.out store.old }
 {
     match whole_file(alloc, store, name) {
         Ok(text) => raced_of_text(rt, alloc, store, text.as_slice(), rewriting),
@@ -67,6 +68,7 @@ fn raced_of_text<R: Threads + Wait + Sync, S: Store>(
     ensures says { IfSome (S.files store.old) (λ fs. Comes (λ text. text.items)
         (JobSays None IsRace (is_allowed rewriting) Refused fs (job_of_text text.now)) result) }
     ensures asks { Asks (job_names None (job_of_text text.now)) (S.asked store.old) (S.asked store.new) result }
+    ensures out { S.out store.new ≡ S.out store.old }
 {
     images_are_in_order();
     match job_of(alloc, text) {

@@ -5,7 +5,8 @@
 //! that know nothing of this linker.
 //!
 //! The output is what the machine does, and for a clean job also what its objects mean: `HasRun` says both, and the
-//! laws of `linked_jobs` tie the two.
+//! laws of `linked_jobs` tie the two. It says too where rewritten sequences stand in each image that was loaded, by the
+//! law of `standing_sequences`.
 ghost use Rattle.std.specs.Prelude.{◌≡◌, List, All, IfOk, map, true};
 ghost use Rattle.commands.specs.RunJobs.{IsTold};
 ghost use Rattle.commands.specs.InOrder.{AreLinks, IsOfFew};
@@ -29,6 +30,7 @@ use linked_modules::laws::linked_images_are_modules;
 use loaded_modules::Modules;
 use meaning_laws::laws::verdict_knows_no_setting;
 use run_summary::SiteCounts;
+use standing_sequences::linked_images_hold_the_table;
 use std::alloc::{AllocError, Global};
 use std::thread::Threads;
 use transcript_text::Transcript;
@@ -62,6 +64,7 @@ fn run_linked(alloc: Global, job: &Job, all: Vec<Linked>) -> Result<Transcript, 
     linked_jobs_print();
     transcripts_tell_their_threads();
     verdict_knows_no_setting();
+    linked_images_hold_the_table();
     job.keeps_limits();
     let modules = modules_again(alloc, job, all)?;
     run_job(alloc, job, &modules)

@@ -49,6 +49,7 @@ pub fn told<R: Threads + Sync, S: Store>(
         (FileTold purpose.entry rewriting fs (S.files store.new) name.now) result) }
     ensures asks { IfSome (S.files store.old) (λ fs. Asks (asked_names fs name.now (wanted_by purpose.entry))
         (S.asked store.old) (S.asked store.new) result) }
+    ensures out { S.out store.new ≡ S.out store.old }
 {
     match whole_file(alloc, store, name) {
         Ok(text) => told_of_text(rt, alloc, store, text.as_slice(), rewriting, purpose),
@@ -72,6 +73,7 @@ fn told_of_text<R: Threads + Sync, S: Store>(
         (JobTold purpose.entry rewriting fs (S.files store.new) (job_of_text text.now)) result) }
     ensures asks { Asks (job_names (wanted_by purpose.entry) (job_of_text text.now))
         (S.asked store.old) (S.asked store.new) result }
+    ensures out { S.out store.new ≡ S.out store.old }
 {
     images_are_in_order();
     match job_of(alloc, text) {
@@ -100,6 +102,7 @@ fn told_of_objects<R: Threads + Sync, S: Store>(
         (ObjectsSay (Makes course.entry.ending (Some fs) (S.files store.new)) (is_allowed course.entry.rewriting)
         Kept fs job.now) result) }
     ensures asks { Asks (object_names job.now) (S.asked store.old) (S.asked store.new) result }
+    ensures out { S.out store.new ≡ S.out store.old }
 {
     job.keeps_limits();
     let files = fetch_objects(rt, alloc, store, job)?;
@@ -124,6 +127,7 @@ pub fn told_of_files<R: Threads + Sync, S: Store>(
         (BytesSay (Makes course.entry.ending (S.files store.old) (S.files store.new))
         (is_allowed course.entry.rewriting) Kept (bytes_in files.now) job.now) result }
     ensures asked { S.asked store.new ≡ S.asked store.old }
+    ensures out { S.out store.new ≡ S.out store.old }
 {
     files.are_bytes();
     match read_objects(rt, alloc, job, files, WritableSections::Kept) {
@@ -155,6 +159,7 @@ fn told_of_images<R: Threads + Sync, S: Store>(
         (ImagesSay (Makes course.entry.ending (S.files store.old) (S.files store.new))
         (is_allowed course.entry.rewriting) job.now images.now) result }
     ensures asked { S.asked store.new ≡ S.asked store.old }
+    ensures out { S.out store.new ≡ S.out store.old }
 {
     job.keeps_limits();
     let startup = startup_exports(alloc, images)?;

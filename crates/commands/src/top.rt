@@ -38,6 +38,7 @@ pub fn tlsld<R: Threads + Wait + Sync, S: Store, K: Sink>(
     ensures completes { IfSome (S.files store.old) (λ fs. IfSome (asked (map string_bytes words.now)) (λ command.
         DidNotFail (S.faults store.old) (S.faults store.new)
         → DidNotFail (K.view out.old).faults (K.view out.new).faults → Completes fs command result)) }
+    ensures out { S.out store.new ≡ S.out store.old }
 {
     match read_words(alloc, words) {
         Ok(Command::Plain(task)) => tlsld_plain(rt, alloc, &task, store, out),
@@ -72,6 +73,7 @@ pub fn tlsld_plain<R: Threads + Sync, S: Store, K: Sink>(
     ensures completes { IfSome (S.files store.old) (λ fs. DidNotFail (S.faults store.old) (S.faults store.new)
         → DidNotFail (K.view out.old).faults (K.view out.new).faults
         → Completes fs (Command.Plain task.now) result) }
+    ensures out { S.out store.new ≡ S.out store.old }
 {
     let output = output(rt, alloc, task, store);
     deliver(out, &output)

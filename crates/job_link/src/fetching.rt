@@ -130,6 +130,7 @@ pub fn fetch_objects<'j, R: Threads + Sync, S: Store>(
     ensures cause { FetchCounts (S.faults store.old) (S.faults store.new) result }
     ensures asked { Fetches (object_names job.now) (S.asked store.old) (S.asked store.new) result }
     ensures bytes { IfSome (S.files store.old) (λ fs. IfOk result (AreFilesOf fs (object_names job.now))) }
+    ensures out { S.out store.new ≡ S.out store.old }
 {
     let Ok(names) = names_once(alloc, job) else {
         return Err(FetchFault::OutOfMemory);

@@ -1,6 +1,6 @@
 -- Two rows of threads and their passes, joined.
 use Rattle.std.proofs.Common.{◌≡◌, ◌⊎◌, ◌+◌, ◌≤◌, ◌∙◌, ℕ, Bool, true, false, List, [], ◌∷◌, ◌++◌, length, refl, sym, ap, subst, inl, inr, length-append, arith}
-use Rattle.std.specs.Prelude.{MatchBool, nat_lt, if◌then◌else◌, Result, Ok, Err, IfOk}
+use Rattle.std.specs.Prelude.{All, MatchBool, nat_lt, if◌then◌else◌, Result, Ok, Err, IfOk}
 use Rattle.job_text.specs.Jobs.{JobParts}
 use Rattle.job_text.specs.declared.thread_lines.ThreadLine.{ThreadLine}
 use Rattle.loaded_modules.specs.Images.{JobImages}
@@ -10,7 +10,8 @@ use Rattle.transcript_text.specs.Texts.{Shown}
 use Rattle.shared_modules.specs.Passes.{Agree, PassView, joined, left_pass, right_pass}
 use Rattle.shared_modules.specs.Views.{Knows, longer, rising}
 use Rattle.racing_thread.specs.Tallies.{Tally}
-use Rattle.job_race.specs.Rows.{AllRaced, HasCounted, HasRow, IsTogether, present, tallies, together}
+use Rattle.job_race.specs.Rows.{AllRaced, HasCounted, HasRow, IsOfJob, IsTogether, present, tallies, together}
+use Rattle.job_race.proofs.Named.{rows_named}
 use Rattle.job_race.proofs.Stable.{row_stays}
 
 -- two parts of a row meet where the second part begins, unless it has no thread
@@ -114,6 +115,8 @@ module _ (m : JobImages) (job : JobParts) (first some more count : ℕ) (old p q
         each = all_raced m job history first xs ys raced.0
             (raced_where m job history (first + length xs) (first + some) ys meets raced.1);
         events = λ i. longer (l.events i) (r.events i);
+        named = subst (λ (n : ℕ). All (IsOfJob T first n) history) whole
+            (rows_named T first some more p.threads q.threads p.seen q.seen left_are right_are agree l.named r.named);
         counted = counted_both (tallies job.lines first xs) (tallies job.lines (first + some) ys)
             (tallies job.lines first (xs ++ ys)) old p q
             (subst (λ (t : Tally). IsSum (tallies job.lines first xs) t (tallies job.lines first (xs ++ ys)))

@@ -1,4 +1,5 @@
 pub mod Stable
 pub mod Passes
+pub mod Named
 pub mod Joined
 pub mod Whole

@@ -4,7 +4,7 @@ use Rattle.std.specs.Prelude.{All, IfOk, Result, Ok, Err, slice_get}
 use Rattle.job_text.specs.declared.thread_lines.ThreadLine.{ThreadLine}
 use Rattle.job_text.specs.Images.{IsImageNumber}
 use Rattle.job_text.specs.Jobs.{JobParts}
-use Rattle.job_text.specs.Threads.{of_thread}
+use Rattle.job_text.specs.Threads.{IsThread, of_thread}
 use Rattle.loaded_modules.specs.Images.{JobImages, infos, last_offset}
 use Rattle.module_table.specs.declared.events.Event.{Event}
 use Rattle.module_table.specs.History.{IsLegal}
@@ -17,6 +17,7 @@ use Rattle.lawful_points.specs.Raced.{IsRaced, IsRacer}
 use Rattle.shared_modules.specs.Passes.{PassView}
 use Rattle.job_turns.proofs.LastTurn.{named_images}
 use Rattle.job_race.specs.Rows.{AllRaced, HasRow}
+use Rattle.job_race.proofs.Named.{all_named}
 
 module _ (m : JobImages) (job : JobParts) (history : List Event) where
   abbrev Racer : ℕ → List ThreadLine → List ShownLine → Type 0
@@ -50,6 +51,8 @@ all_raced m job old new shown few row = record {
   each = λ thread own said at there.
       subst (λ (events : List Event). IsRacer (job_loads m) job.fuel thread own events said) (sym row.events)
       (racer_of m job new.seen thread shown.threads own said row.each at there);
+  named = subst (λ (events : List Event). All (λ (event : Event). IsThread (length job.lines) event.thread) events)
+      (sym row.events) (all_named (length job.lines) new.seen row.named);
 }
 
 -- what is known of a row is known of its transcript

@@ -1,5 +1,5 @@
 -- What a row of a job's threads starts with, and its result.
-use Rattle.std.specs.Prelude.{◌≡◌, ◌+◌, ◌-◌, ◌≤◌, ℕ, min, false, List, [], ◌∷◌, ◌++◌, length, Result, Ok, Err}
+use Rattle.std.specs.Prelude.{◌≡◌, ◌+◌, ◌-◌, ◌<◌, ◌≤◌, ℕ, min, false, List, [], ◌∷◌, ◌++◌, length, All, Result, Ok, Err}
 use Rattle.job_text.specs.declared.thread_lines.ThreadLine.{ThreadLine}
 use Rattle.job_text.specs.Jobs.{JobParts}
 use Rattle.job_text.specs.Threads.{of_thread}
@@ -13,6 +13,7 @@ use Rattle.lawful_points.specs.Raced.{IsRacer}
 use Rattle.shared_modules.specs.Passes.{PassView, SharedView}
 use Rattle.shared_modules.specs.Views.{longer, rising}
 use Rattle.job_turns.specs.Alone.{has_data}
+use Rattle.racing_thread.specs.Racing.{IsOfProgram}
 use Rattle.racing_thread.specs.Tallies.{Tally, no_tally, plus, tally_of}
 
 -- ---- passes
@@ -62,11 +63,18 @@ AllRaced m job history thread (said ∷ more) =
 abbrev pub present : ℕ → ℕ → ℕ → ℕ
 present threads first count = min count (threads + 1 - first)
 
--- the result of a row: each of its threads that the job has raced in what the pass has seen now
+-- an event of a thread that a program can have: if it is one of a row, then one that the job has
+pub record IsOfJob (threads first count : ℕ) (event : Event) : Type 0 where
+  pub program : IsOfProgram event
+  pub has : first ≤ event.thread → event.thread < first + count → event.thread ≤ threads
+
+-- the result of a row: each of its threads that the job has raced in what the pass has seen now, and those that the job
+-- lacks have no event there
 pub record HasRow (m : JobImages) (job : JobParts) (first count : ℕ) (old new : PassView) (row : Shown) : Type 0 where
   pub long : length row.threads ≡ present (length job.lines) first count
   pub each : AllRaced m job new.seen first row.threads
   pub events : row.events ≡ new.seen
+  pub named : All (IsOfJob (length job.lines) first count) new.seen
   pub counted : HasCounted (tallies job.lines first row.threads) old new
 
 -- ---- joined rows

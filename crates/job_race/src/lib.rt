@@ -34,6 +34,10 @@
 //! with the shorter one, and no thread of the shorter row added the rest (`shared_modules`, `Agree`). So all threads
 //! of both rows raced in the longer one (`proofs/Joined`), and in the end all raced in the whole history.
 //!
+//! A thread that the job lacks has a number in a pass too, and does nothing with it: no event in what its row has seen
+//! is of such a thread (`specs/Rows`, `IsOfJob`), nor is one that others added. So in the end each event names a thread
+//! of the job, and no event is one that nobody made (`lawful_points`, `EventsAreMade`).
+//!
 //! Each pass counts how often its looks loaded the history's length and took the lock, and joins add the counts up
 //! (`specs/Rows`, `CountsLooks`). So a body that takes the lock at each look, or keeps a history of its own, can't be
 //! proved. No theorem says that threads run at once; `race_tests` shows it.

@@ -5,5 +5,9 @@ pub mod Numbers
 pub mod Jobs
 pub mod Fronts
 pub mod Alone
-pub mod Racing
 pub mod Printed
+pub mod Fitting
+pub mod Naming
+pub mod Making
+pub mod Racing
+pub mod Events

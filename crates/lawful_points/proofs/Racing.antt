@@ -1,7 +1,6 @@
 -- Where no image has data that threads write, what a job's transcript says is raced.
-use Rattle.std.proofs.Common.{◌≡◌, ◌∙◌, ◌*◌, ℕ, zero, suc, Bool, List, [], ◌∷◌, map, length, Option, Some, None, refl, sym, ap, subst, length-set}
+use Rattle.std.proofs.Common.{◌≡◌, ◌∙◌, ℕ, zero, suc, Bool, List, [], Option, Some, sym, ap, subst}
 use Rattle.std.specs.Prelude.{slice_get}
-use Rattle.std.proofs.lemmas.List.{length-map}
 use Rattle.std.proofs.lemmas.Option.{same_Some}
 use Rattle.job_text.specs.declared.thread_lines.ThreadLine.{ThreadLine}
 use Rattle.module_table.specs.declared.events.Event.{Event}
@@ -9,11 +8,10 @@ use Rattle.transcript_text.specs.declared.outcomes.Line.{Line as ShownLine}
 use Rattle.transcript_text.specs.Texts.{Shown}
 use Rattle.thread_blocks.specs.Instances.{Loads}
 use Rattle.thread_blocks.specs.JobStatements.{HasNoData}
-use Rattle.thread_blocks.specs.JobWorlds.{Shared, Tells, job_start, job_world, numbered_lines, ready_from, shared_order, shared_turn, thread_ready}
+use Rattle.thread_blocks.specs.JobWorlds.{Shared, Tells, job_world, numbered_lines, thread_ready}
 use Rattle.thread_blocks.specs.Lines.{Line, event_by}
-use Rattle.thread_blocks.specs.MachineTurns.{shown}
 use Rattle.thread_blocks.specs.RunTime.{Runs, thread_turns}
-use Rattle.thread_blocks.specs.Turns.{Thread, Turns, IsFinished, at_number, turns, whole_order}
+use Rattle.thread_blocks.specs.Turns.{Thread, Turns, IsFinished, at_number, turns}
 use Rattle.thread_blocks.specs.TurnsAlike.{AllFronts}
 use Rattle.thread_blocks.proofs.Endings.{threads_ended}
 use Rattle.thread_blocks.proofs.Own.{own_turns}
@@ -25,6 +23,7 @@ use Rattle.lawful_points.specs.Told.{AreLawfulPoints, points_of}
 use Rattle.lawful_points.proofs.Alone.{acting, acting_fronts, acting_turns, alone_told, seen_alone}
 use Rattle.lawful_points.proofs.Fronts.{same_looks}
 use Rattle.lawful_points.proofs.Jobs.{looks_lawful, said_lines, shown_at, turns_tell}
+use Rattle.lawful_points.proofs.Naming.{told_count, told_named}
 use Rattle.lawful_points.proofs.Numbers.{numbers_lawful}
 use Rattle.lawful_points.proofs.Telling.{first_told, last_told, said_by, shown_said}
 
@@ -40,26 +39,6 @@ module _ (l : Loads ℕ) (fuel : ℕ) where
 
   abbrev event : ℕ → Line → List Event → Option Event
   event thread = event_by l thread
-
-  -- ** as many threads as there are lists of lines
-
-  turn_count : (w : World) (j : ℕ) (o : Option Ours) → length (shared_turn each event w j o).threads ≡ length w.threads
-  turn_count w j None = refl
-  turn_count w zero (Some t) = refl
-  turn_count w (suc j) (Some t) = length-set w.threads j _
-
-  order_count : (order : List ℕ) (w : World) → length (shared_order each event order w).threads ≡ length w.threads
-  order_count [] w = refl
-  order_count (j ∷ order) w = order_count order (shared_turn each event w j (at_number w.threads j))
-      ∙ turn_count w j (at_number w.threads j)
-
-  ready_count : (first : ℕ) (lines : List (List ThreadLine)) → length (ready_from l first lines) ≡ length lines
-  ready_count first [] = refl
-  ready_count first (own ∷ lines) = ap suc (ready_count (suc first) lines)
-
-  world_count : (lines : List (List ThreadLine)) (order : List ℕ) → length (job_world l fuel lines order).threads ≡ length lines
-  unfolding job_world
-  world_count lines order = order_count (whole_order (4 * fuel) lines order) (job_start l lines) ∙ ready_count 1 lines
 
   -- ** a thread
 
@@ -136,9 +115,9 @@ each_raced l fuel lines order transcript none tells (suc i) own said at found =
 
 pub runs_raced : RunsAreRaced
 runs_raced l fuel lines order transcript none tells = record {
-  count = sym (length-map transcript.threads (map Some)) ∙ (ap length tells.lines
-      ∙ (length-map (job_world l fuel lines order).threads (λ t. map shown t.said) ∙ world_count l fuel lines order));
+  count = told_count l fuel lines order transcript tells;
   each = λ thread own said at found. each_raced l fuel lines order transcript none tells thread own said at found;
+  named = told_named l fuel lines order transcript tells;
 }
 
 pub raced_points : RacedPointsAreLawful

@@ -4,6 +4,7 @@ use Rattle.job_text.specs.declared.thread_lines.ThreadLine.{ThreadLine}
 use Rattle.module_table.specs.declared.events.Event.{Event}
 use Rattle.transcript_text.specs.declared.outcomes.Line.{Line as ShownLine}
 use Rattle.transcript_text.specs.Texts.{Shown}
+use Rattle.lawful_points.specs.Made.{EventsAreMade}
 use Rattle.lawful_points.specs.Orders.{job_looks}
 use Rattle.lawful_points.specs.Points.{AreLawful}
 use Rattle.lawful_points.specs.Raced.{IsRaced, IsRacer, first_of}
@@ -51,6 +52,16 @@ RacedPointsAreLawful = (l : Loads ℕ) (fuel : ℕ) (lines : List (List ThreadLi
     → (thread : ℕ) (own : List ThreadLine) (said : List ShownLine) → at_number lines thread ≡ Some own
     → at_number transcript.threads thread ≡ Some said
     → AreLawfulPoints thread transcript.events (told_by thread (numbered_lines 1 own) said)
+
+-- in any order of turns the events are those that lines made, whatever is loaded
+abbrev pub RunsMakeTheirEvents : Type 0
+RunsMakeTheirEvents = (l : Loads ℕ) (fuel : ℕ) (lines : List (List ThreadLine)) (order : List ℕ) (transcript : Shown)
+    → Tells (job_world l fuel lines order) transcript → EventsAreMade lines transcript
+
+-- so are those of each raced transcript
+abbrev pub RacesMakeTheirEvents : Type 0
+RacesMakeTheirEvents = (l : Loads ℕ) (fuel : ℕ) (lines : List (List ThreadLine)) (transcript : Shown)
+    → IsRaced l fuel lines transcript → EventsAreMade lines transcript
 
 -- what each turn of a thread sees is a front of a history, also with the thread's own event added
 abbrev pub AtFronts : {S L : Type 0} → Turns S L Event → (L → List Event → Option Event) → List Event

@@ -3,4 +3,5 @@ pub mod Told
 pub mod Printed
 pub mod Orders
 pub mod Raced
+pub mod Made
 pub mod Laws

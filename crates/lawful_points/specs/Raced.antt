@@ -1,6 +1,7 @@
 -- A transcript of threads that share no data, each of which took its turns at lawful points, in whatever way.
-use Rattle.std.specs.Prelude.{◌≡◌, ℕ, List, length, map, Some}
+use Rattle.std.specs.Prelude.{◌≡◌, ℕ, List, length, map, Some, All}
 use Rattle.job_text.specs.declared.thread_lines.ThreadLine.{ThreadLine}
+use Rattle.job_text.specs.Threads.{IsThread}
 use Rattle.module_table.specs.declared.events.Event.{Event}
 use Rattle.transcript_text.specs.declared.outcomes.Line.{Line as ShownLine}
 use Rattle.transcript_text.specs.Texts.{Shown}
@@ -37,8 +38,10 @@ module _ (l : Loads ℕ) (fuel thread : ℕ) (own : List ThreadLine) where
     -- its lines tell exactly these looks
     pub told : told_by thread (numbered_lines 1 own) said ≡ points_of (raced_looks points)
 
--- each thread of a transcript raced
+-- each thread of a transcript raced, and nobody else made an event
 pub record IsRaced (l : Loads ℕ) (fuel : ℕ) (lines : List (List ThreadLine)) (shown : Shown) : Type 0 where
   pub count : length shown.threads ≡ length lines
   pub each : (thread : ℕ) (own : List ThreadLine) (said : List ShownLine) → at_number lines thread ≡ Some own
       → at_number shown.threads thread ≡ Some said → IsRacer l fuel thread own shown.events said
+  -- each event names a thread of the job
+  pub named : All (λ (event : Event). IsThread (length lines) event.thread) shown.events

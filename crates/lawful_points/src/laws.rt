@@ -2,6 +2,7 @@
 
 ghost use Rattle.lawful_points.specs.Laws.{LinesTellLooks, LooksAreLawful, PointsAreLawful};
 ghost use Rattle.lawful_points.specs.Laws.{RacedPointsAreLawful, RacersAreInHistory, RacersPrintTheirPoints, RunsAreRaced};
+ghost use Rattle.lawful_points.specs.Laws.{RacesMakeTheirEvents, RunsMakeTheirEvents};
 
 /// In any order of turns the looks of each thread are lawful, whatever is loaded.
 pub fn looks_are_lawful()
@@ -26,6 +27,17 @@ pub fn runs_are_raced()
 /// The points of a raced transcript are lawful.
 pub fn raced_points_are_lawful()
     ensures { RacedPointsAreLawful }
+{}
+
+/// In any order of turns no event is made by nobody: each is told by one line, and each line that says that it opened
+/// or closed its image has its event.
+pub fn runs_make_their_events()
+    ensures { RunsMakeTheirEvents }
+{}
+
+/// So it is in each raced transcript.
+pub fn races_make_their_events()
+    ensures { RacesMakeTheirEvents }
 {}
 
 /// What each turn of a raced thread saw is a front of the history, also with the thread's own event added.

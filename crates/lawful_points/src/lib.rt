@@ -42,6 +42,13 @@
 //! from the history and the points that its lines print ([`laws::racers_print_their_points`]): a transcript tells all
 //! turns of its threads.
 //!
+//! Lawful points speak of the job's threads alone: an event `e2 t9 l1 open plug` at the example's end, in a job of two
+//! threads, would contradict none of them. So a raced transcript also has no event of another thread (`specs/Raced`,
+//! `named`), and with that **no event is one that nobody made** (`specs/Made`, `EventsAreMade`): event p names a line
+//! that says `opened` or `closed`, of the same image, with p as its one point, and each line that says so has its
+//! event. So it is in any order of turns, whatever is loaded ([`laws::runs_make_their_events`]), and in each raced
+//! transcript ([`laws::races_make_their_events`]).
+//!
 //! A thread's events with their places are `own_events` of `shared_modules`, where their laws are too: they hold while
 //! other threads add events.
 #![tactic(auto)]

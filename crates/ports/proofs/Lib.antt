@@ -1,3 +1,4 @@
-pub mod Counting
+pub mod Claimed
 pub mod Lookups
+pub mod Settled
 pub mod Yielded

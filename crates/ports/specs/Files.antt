@@ -1,6 +1,5 @@
 -- What a store holds, which names it was asked for, and how a call changes both.
-use Rattle.std.specs.Prelude.{◌≡◌, ℕ, List, [], ◌∷◌, ◌++◌, Option, None, Some, IfSome, Result, Ok, Err, IfOk, take, Vec}
-use Rattle.std.specs.Borrow.{Bor}
+use Rattle.std.specs.Prelude.{◌≡◌, ℕ, List, [], ◌∷◌, ◌++◌, Option, None, Some, IfSome, Result, Ok, Err, take}
 use Rattle.std.specs.Option.{option_map}
 use Rattle.std.specs.Ordering.{nat_cmp}
 use Rattle.std.specs.Cmp.Lexicographic.{slice_cmp}
@@ -22,10 +21,6 @@ file_at files name = map.get files name
 -- the content of the file of that name, if a store shows its files
 abbrev pub IsFile : Option Files → List ℕ → List ℕ → Type 0
 IsFile told name bytes = IfSome told (λ files. file_at files name ≡ Some bytes)
-
--- a name, and the result of reading the file of that name
-abbrev pub IsReading : {A : Type 0} → Option Files → Bor (List ℕ) → Bor (List ℕ) × Result (Vec ℕ A) FetchFault → Type 0
-IsReading told name came = (came.0.now ≡ name.now) × IfOk came.1 (λ file. IsFile told name.now file.items)
 
 -- the files with these bytes under that name, and each other file as it was
 abbrev pub with_file : List ℕ → List ℕ → Option Files → Option Files

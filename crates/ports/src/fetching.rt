@@ -1,40 +1,55 @@
 //! Fetches several files, side by side.
-ghost use Rattle.std.specs.Prelude.{◌≡◌, IfOk, map};
+ghost use Rattle.std.specs.Prelude.{◌≡◌, ◌<◌, ℕ, IfOk, length, slice_index_or};
 ghost use Rattle.std.specs.List.{AllZip};
+ghost use Rattle.ports.specs.Claims.{IsFresh, Reads, texts};
 ghost use Rattle.ports.specs.Counts.{FetchCounts};
-ghost use Rattle.ports.specs.Files.{Fetches, IsFile, IsReading};
+ghost use Rattle.ports.specs.Files.{Fetches, IsFile};
 
-use crate::{FetchFault, Store};
-use rayon::prelude::*;
-use std::alloc::{AllocError, Global};
+use crate::{Claim, FetchFault, Store};
+use rayon::current_num_threads;
+use std::alloc::Global;
+use std::thread;
 use std::thread::Threads;
 
 /// With fewer files than this, one thread reads them all.
 const FEW: usize = 4;
 
-/// Reads each file, by as many threads as are worth starting. If a thread cannot be started, its starter reads instead.
-fn read_each<'n, S: Store, R: Threads + Sync>(
+/// In how many threads so many files are read: two for each processor, since files differ in length.
+fn threads_for<R: Threads>(rt: &R, files: usize) -> usize
+    ensures { 0 < result }
+{
+    if files < FEW {
+        1
+    } else {
+        current_num_threads(rt).saturating_mul(2).max(1)
+    }
+}
+
+/// Reads the file of each claim. If a thread cannot be started, its starter reads instead.
+fn read_each<S: Store, R: Threads + Sync>(
     rt: &R,
     alloc: Global,
     store: &S,
-    names: &[&'n str],
-) -> Result<Vec<(&'n str, Result<Vec<u8>, FetchFault>)>, AllocError>
-    ensures { IfOk result (λ readings. AllZip (IsReading (S.files store.now)) names.now readings.items) }
+    claims: &mut [Claim<'_, S::Brand>],
+)
+    requires fresh { (k : ℕ) (d : _) → k < length claims.old → IsFresh (slice_index_or claims.old k d) }
+    ensures len { length claims.new ≡ length claims.old }
+    ensures each { (k : ℕ) (d : _) → k < length claims.old
+        → Reads (S.files store.now) (slice_index_or claims.old k d) (slice_index_or claims.new k d) }
 {
-    let least = if names.len() < FEW { FEW } else { 1 };
-    names
-        .par_iter()
-        .with_min_len(least)
-        .map(
-            |name: &&str| -> (&str, Result<Vec<u8>, FetchFault>)
-                ensures { IsReading (S.files store.entry.now) name.entry.now result }
-            { (*name, store.read(alloc, *name)) },
-        )
-        .collect(rt, alloc)
+    let threads = threads_for(rt, claims.len());
+    let read = |_place: usize, claim: &mut Claim<'_, S::Brand>|
+        requires { IsFresh claim.old }
+        ensures { Reads (S.files store.entry.now) claim.old claim.new }
+    {
+        store.read(alloc, claim);
+    };
+    thread::for_each_mut(rt, claims, threads, &read);
 }
 
-/// Fetches the files of these names in their order, up to the first refusal, which it returns. Threads read the files
-/// side by side; then the caller counts each in order. A file that was read after a refusal is not counted.
+/// Fetches the files of these names in their order, up to the first refusal, which it returns. All names are asked for,
+/// threads read the files side by side, and then the store counts each in order. A file that was read after a refusal
+/// is not counted.
 pub fn fetch_each<S: Store, R: Threads + Sync>(
     rt: &R,
     alloc: Global,
@@ -43,20 +58,14 @@ pub fn fetch_each<S: Store, R: Threads + Sync>(
 ) -> Result<Vec<Vec<u8>>, FetchFault>
     ensures files { S.files store.new ≡ S.files store.old }
     ensures cause { FetchCounts (S.faults store.old) (S.faults store.new) result }
-    ensures asked { Fetches (map (λ name. name.now) names.now) (S.asked store.old) (S.asked store.new) result }
+    ensures asked { Fetches (texts names.now) (S.asked store.old) (S.asked store.new) result }
+    ensures out { S.out store.new ≡ S.out store.old }
     ensures bytes { IfOk result (λ files. AllZip (λ name file. IsFile (S.files store.old) name.now file.items)
         names.now files.items) }
 {
-    let readings = read_each(rt, alloc, store, names)?;
-    let mut files = Vec::new(alloc);
-    for (name, reading) in readings {
-        let file = match store.count(name, reading) {
-            Ok(file) => file,
-            Err(fault) => return Err(fault),
-        };
-        if let Err(_failed) = files.push(file) {
-            return Err(FetchFault::OutOfMemory);
-        }
-    }
-    Ok(files)
+    let Ok(mut claims) = store.claim(alloc, names) else {
+        return Err(FetchFault::OutOfMemory);
+    };
+    read_each(rt, alloc, store, claims.as_mut_slice());
+    store.settle(alloc, claims)
 }

@@ -5,4 +5,4 @@ mod store;
 
 pub use progress::ProgressStore;
 pub use sink::HostSink;
-pub use store::{HostFault, HostStore, LARGEST_FILE};
+pub use store::{HostBrand, HostFault, HostStore, LARGEST_FILE};

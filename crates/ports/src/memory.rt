@@ -4,4 +4,4 @@ mod sink;
 mod store;
 
 pub use sink::MemorySink;
-pub use store::MemoryStore;
+pub use store::{MemoryBrand, MemoryStore};

@@ -1,7 +1,9 @@
 -- A thread that races, before its first turn and behind its last.
 use Rattle.std.proofs.Common.{◌≡◌, ◌∙◌, ◌+◌, ℕ, false, List, [], ◌∷◌, map, Some, refl, sym, ap, subst, arith}
+use Rattle.std.specs.Prelude.{All}
+use Rattle.std.proofs.lemmas.List.Elements.{All-nil}
 use Rattle.job_text.specs.Jobs.{JobParts}
-use Rattle.job_text.specs.Threads.{of_thread}
+use Rattle.job_text.specs.Threads.{IsThread, of_thread}
 use Rattle.loaded_modules.specs.Images.{JobImages, infos, last_offset}
 use Rattle.module_table.specs.declared.events.Event.{Event}
 use Rattle.module_table.specs.History.{IsLegal}
@@ -23,7 +25,7 @@ use Rattle.job_turns.specs.declared.asking.Ask.TheVariants.{Done, Look, Opens, C
 use Rattle.job_turns.specs.Alone.{has_data}
 use Rattle.job_turns.specs.Progress.{is_done}
 use Rattle.job_turns.specs.Standing.{IsFirstRun, IsGoing, Run, ask_of}
-use Rattle.racing_thread.specs.Racing.{HasRaced, lines_in}
+use Rattle.racing_thread.specs.Racing.{HasRaced, IsOfProgram, lines_in}
 use Rattle.racing_thread.specs.Tallies.{Mark, marks_of, tally_from}
 use Rattle.job_turns.proofs.FirstTurn.{seen_none}
 use Rattle.racing_thread.proofs.FirstThread.{first_runner, is_finished}
@@ -69,12 +71,13 @@ module _ (m : JobImages) (job : JobParts) (thread : ℕ) (p : PassView) (r : Run
     stands = first_runner m job legal_none thread r first;
     behind = subst (λ (seen : List Event). Behind m job thread seen [] []) (sym fresh) behind_none;
     counts = record { loads_are = omega arith; turns_are = omega arith };
+    named = λ is. subst (All IsOfProgram) (sym fresh) (All-nil IsOfProgram);
   }
 
 -- ** behind the last
 
 module _ (m : JobImages) (job : JobParts) (thread : ℕ) (first : PassView) (r : Run) (events : List Event) (p : PassView)
-    (g : Going m job thread first r events p) (done : ask_of r ≡ Done) where
+    (g : Going m job thread first r events p) (done : ask_of r ≡ Done) (is : IsThread 64 thread) where
   abbrev last : Thread Runs Line Event
   last = raced_of (job_loads m) job.fuel thread (of_thread job.lines thread) g.points
 
@@ -105,6 +108,7 @@ module _ (m : JobImages) (job : JobParts) (thread : ℕ) (first : PassView) (r :
   ends = record {
     racer = racer;
     events_are = g.level.events_are;
+    named = g.named is;
     loads_are = g.counts.loads_are ∙ ap (λ (marks : List Mark). first.loads + (tally_from 0 marks).loads) marks_are;
     turns_are = g.counts.turns_are ∙ ap (λ (marks : List Mark). first.turns + (tally_from 0 marks).turns) marks_are;
   }

@@ -1,10 +1,10 @@
 -- How far a thread that races has come, and one turn more.
 use Rattle.std.proofs.Common.{◌≡◌, ◌∙◌, ◌+◌, ◌++◌, ℕ, Bool, false, List, [], ◌∷◌, length, drop, Option, Some, None, refl, sym, ap, subst, arith}
-use Rattle.std.specs.Prelude.{option_and_then}
+use Rattle.std.specs.Prelude.{All, option_and_then}
 use Rattle.std.proofs.Math.Seq.{drop-append_seam}
 use Rattle.job_text.specs.declared.thread_lines.ThreadLine.{ThreadLine}
 use Rattle.job_text.specs.Jobs.{JobParts}
-use Rattle.job_text.specs.Threads.{of_thread}
+use Rattle.job_text.specs.Threads.{IsThread, of_thread}
 use Rattle.loaded_modules.specs.Images.{JobImages, infos, last_offset}
 use Rattle.module_table.specs.declared.events.Event.{Event}
 use Rattle.module_table.specs.Past.{Past, after, past}
@@ -27,12 +27,13 @@ use Rattle.job_turns.specs.Standing.{IsGoing, Run, StandsFor, ask_of}
 use Rattle.job_turns.specs.Turning.{event_asked}
 use Rattle.job_turns.proofs.OneTurn.{event_is, rest_leaves}
 use Rattle.racing_thread.specs.Answers.{IsLevel, TakesRacingTurn, left_by}
-use Rattle.racing_thread.specs.Racing.{lines_in}
+use Rattle.racing_thread.specs.Racing.{IsOfProgram, lines_in}
 use Rattle.racing_thread.specs.Tallies.{Mark, Tally, is_registry, look_tally, plus, tally_from}
 use Rattle.racing_thread.proofs.Asked.{goes, registry_is}
 use Rattle.racing_thread.proofs.FirstThread.{is_going}
 use Rattle.racing_thread.proofs.Looking.{known_by, known_more, lawful_more, looks_more, turns_more}
 use Rattle.racing_thread.proofs.Marking.{HasMarked, asks_registry, mark, turn_marks}
+use Rattle.racing_thread.proofs.Named.{more_named}
 use Rattle.racing_thread.proofs.Tallying.{after_is, behind_more, seen_behind, tally_more}
 
 -- ** what is so of points, whatever runner there is
@@ -66,6 +67,7 @@ pub record Going (m : JobImages) (job : JobParts) (thread : ℕ) (first : PassVi
   pub stands : StandsFor r (raced_of (job_loads m) job.fuel thread (of_thread job.lines thread) points)
   pub behind : Behind m job thread p.seen points marks
   pub counts : Counts first p marks
+  pub named : IsThread 64 thread → All IsOfProgram p.seen
 
 -- ** a turn
 
@@ -214,6 +216,11 @@ module _ (m : JobImages) (job : JobParts) (thread : ℕ) (first : PassView) (r :
       (sym seen_then)
       (one_more m job thread p.seen history g.points g.marks g.behind knows (is_going r before g.stands going))
 
+  named_then : IsThread 64 thread → All IsOfProgram q.seen
+  named_then is = subst (All IsOfProgram) (sym seen_then)
+      (more_named history p.seen (thread ∷ []) thread adds knows is
+      (λ e same. line_named m thread (next_line before.todo before.phase) history e same) (g.named is))
+
   pub goes_on : Going m job thread first r' events' q
   goes_on = record {
     level = level_then;
@@ -226,4 +233,5 @@ module _ (m : JobImages) (job : JobParts) (thread : ℕ) (first : PassView) (r :
         (sym (then_is m job thread p.seen history g.points g.marks g.behind)) stands_then.stands;
     behind = behind_then;
     counts = counts_then;
+    named = λ is. named_then is;
   }

@@ -3,6 +3,7 @@ mod Looking
 mod Marking
 mod Asked
 mod Tallying
+mod Named
 mod Going
 mod Ends
 mod Found

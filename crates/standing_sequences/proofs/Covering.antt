@@ -1,5 +1,5 @@
 -- Which sequence, and which field, has a byte of a section.
-use Rattle.std.proofs.Common.{◌≡◌, ◌+◌, ◌<◌, ◌≤◌, ◌&&◌, ◌==◌, ◌∙◌, ℕ, suc, Bool, true, false, not, List, [], ◌∷◌}
+use Rattle.std.proofs.Common.{◌≡◌, ◌+◌, ◌<◌, ◌≤◌, ◌&&◌, ◌∙◌, ℕ, suc, Bool, true, false, not, List, [], ◌∷◌}
 use Rattle.std.proofs.Common.{Some, None, length, inl, inr, refl, sym, ap, arith, if◌then◌else◌}
 use Rattle.std.specs.Prelude.{nat_le, nat_lt, slice_get}
 use Rattle.std.specs.List.{Contains, find}
@@ -24,7 +24,8 @@ use Rattle.sequence_match.proofs.Sections.{fields_apart}
 use Rattle.sequence_match.specs.Code.{AreApart}
 use Rattle.sequence_match.specs.Faults.{IsSite}
 use Rattle.sequence_match.specs.Sites.{Covers, IsEntry}
-use Rattle.standing_sequences.specs.Bytes.{IsKept, IsLinked, IsPlain}
+use Rattle.standing_sequences.specs.Bytes.{IsKept, IsPlain}
+use Rattle.standing_sequences.specs.Laws.{IsLinked}
 use Rattle.standing_sequences.specs.Table.{IsSequence}
 use Rattle.standing_sequences.proofs.Choosing.{matches}
 
@@ -74,7 +75,7 @@ module _ (l : Linking) (given : IsGiven l) (o t : ℕ) (there : o < length l.obj
   pub own_site : (site : Site) → IsSequence l o t site → Contains (sites_at l o) site
   own_site site is = (given.are_sites o there).every site is.spelled
 
-  sequence_of : (site : Site) → Contains (sites_at l o) site → site.section ≡ t → IsSequence l o t site
+  pub sequence_of : (site : Site) → Contains (sites_at l o) site → site.section ≡ t → IsSequence l o t site
   sequence_of site has section = record {
     section_is = section;
     spelled = All-contains (IsSite (object l o)) (sites_at l o) site (given.are_sites o there).only has;

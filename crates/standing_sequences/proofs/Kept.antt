@@ -21,8 +21,8 @@ use Rattle.tls_layout.proofs.LawsOfSections.{finds_sections}
 use Rattle.tls_relocs.specs.declared.fields.Field.{Field}
 use Rattle.tls_relocs.specs.declared.fields.Field.TheVariants.{Empty}
 use Rattle.tls_relocs.specs.Fields.{field_bytes}
-use Rattle.standing_sequences.specs.Bytes.{IsKept, IsLinked, IsPlain, IsSectionAt, byte_at, own_byte}
-use Rattle.standing_sequences.specs.Laws.{FieldsStand, OwnBytesStand}
+use Rattle.standing_sequences.specs.Bytes.{IsKept, IsPlain, IsSectionAt, byte_at, own_byte}
+use Rattle.standing_sequences.specs.Laws.{FieldsStand, IsLinked, OwnBytesStand}
 use Rattle.standing_sequences.proofs.Covering.{field_found, field_stays, none_field, none_rewritten}
 use Rattle.standing_sequences.proofs.Parts.{part_byte}
 use Rattle.standing_sequences.proofs.Values.{field_long, own_value}
@@ -88,7 +88,7 @@ module _ (l : Linking) (linked : IsLinked l) (o t address : ℕ) (at : IsSection
         )
 
 pub own_bytes_stand : OwnBytesStand
-own_bytes_stand l o t address k linked at below kept plain = own_stands l linked o t address at k kept below plain
+own_bytes_stand l linked o t address k at below kept plain = own_stands l linked o t address at k kept below plain
 
 pub fields_stand : FieldsStand
-fields_stand l o t address k r linked at has covers kept = field_stands l linked o t address at k kept r has covers
+fields_stand l linked o t address k r at has covers kept = field_stands l linked o t address at k kept r has covers

@@ -1,6 +1,8 @@
+mod Agreeing
 mod Choosing
 mod Covering
 mod Example
+mod Holding
 mod Kept
 mod Parts
 mod Rewritten

@@ -1,5 +1,5 @@
 -- Where the table gives a sequence another form, that form stands in its place.
-use Rattle.std.proofs.Common.{◌≡◌, ◌≢◌, ◌+◌, ◌-◌, ◌<◌, ◌≤◌, ◌∙◌, ℕ, false, List, Option, Some, None, length, inl, inr}
+use Rattle.std.proofs.Common.{◌≡◌, ◌+◌, ◌-◌, ◌<◌, ◌≤◌, ◌∙◌, ℕ, false, List, Option, Some, None, length, inl, inr}
 use Rattle.std.proofs.Common.{refl, sym, ap, subst, arith}
 use Rattle.std.specs.Prelude.{slice_get, slice_index_or, unwrap_or}
 use Rattle.std.specs.List.{Contains, find}
@@ -24,9 +24,9 @@ use Rattle.tls_relocs.specs.declared.fields.Field.{Field}
 use Rattle.tls_relocs.specs.declared.fields.Field.TheVariants.{Empty}
 use Rattle.tls_relocs.specs.Elements.{slice_get-splice_after, slice_get-splice_before}
 use Rattle.tls_relocs.specs.Fields.{field_bytes}
-use Rattle.standing_sequences.specs.Bytes.{AreOfForm, HasForm, IsFilled, IsLinked, IsOutside, IsSectionAt, Stand}
+use Rattle.standing_sequences.specs.Bytes.{AreOfForm, HasForm, IsFilled, IsOutside, IsSectionAt, Stand}
 use Rattle.standing_sequences.specs.Bytes.{byte_at}
-use Rattle.standing_sequences.specs.Laws.{RewrittenFormsStand}
+use Rattle.standing_sequences.specs.Laws.{IsLinked, RewrittenFormsStand}
 use Rattle.standing_sequences.specs.Table.{IsSequence, Matches}
 use Rattle.standing_sequences.proofs.Choosing.{listed_changes, listed_own, matched}
 use Rattle.standing_sequences.proofs.Covering.{own_site, rewritten_found}
@@ -165,7 +165,7 @@ module _ (l : Linking) (linked : IsLinked l) (o t address : ℕ) (at : IsSection
       ∙ same_outside (new_field site.form c) refl k byte h outside
 
 pub rewritten_forms_stand : RewrittenFormsStand
-rewritten_forms_stand l o t address site choice linked at is m = (
+rewritten_forms_stand l linked o t address site choice at is m = (
   bytes l linked o t address at site is choice m,
   are_of_form l linked o t address at site is choice m,
   long l linked o t address at site is choice m,

@@ -18,8 +18,8 @@ use Rattle.sequence_forms.specs.declared.places.Site.{Site}
 use Rattle.sequence_forms.specs.Forms.{fits, row}
 use Rattle.sequence_match.specs.Faults.{code_of}
 use Rattle.sequence_match.specs.Sites.{IsLiteral}
-use Rattle.standing_sequences.specs.Bytes.{HasForm, HasOwnForm, IsLinked, IsPlain, IsSectionAt, byte_at, own_byte}
-use Rattle.standing_sequences.specs.Laws.{SequencesStandByTheTable}
+use Rattle.standing_sequences.specs.Bytes.{HasForm, HasOwnForm, IsPlain, IsSectionAt, byte_at, own_byte}
+use Rattle.standing_sequences.specs.Laws.{IsLinked, SequencesStandByTheTable}
 use Rattle.standing_sequences.specs.Table.{IsDue, IsSequence, Matches, MayReplace}
 use Rattle.standing_sequences.proofs.Choosing.{listed_changes, matched, matches}
 use Rattle.standing_sequences.proofs.Covering.{one_sequence, own_site}
@@ -66,8 +66,8 @@ module _ (l : Linking) (linked : IsLinked l) (o t address : ℕ) (at : IsSection
       )
 
   -- both cannot be there
-  never_both : (c : Choice) → MayReplace site.form c → HasForm (image_of l) begins site c → HasOwnForm l o begins site
-      → ⊥
+  never_both : (c : Choice) → MayReplace site.form c → HasForm (image_of l) begins site c
+      → HasOwnForm l (image_of l) o begins site → ⊥
   never_both c may form own =
       let d = rows_differ site.form c site.reg may in
       let fit = own_fits d.at d.cell d.cell_is d.literal in
@@ -81,7 +81,7 @@ module _ (l : Linking) (linked : IsLinked l) (o t address : ℕ) (at : IsSection
   given c m = has_form l linked o t address at site is c m
 
   -- where the table gives none
-  kept : ((c : Choice) → Matches l o site c → ⊥) → HasOwnForm l o begins site
+  kept : ((c : Choice) → Matches l o site c → ⊥) → HasOwnForm l (image_of l) o begins site
   kept none k below plain =
       let place : address + site.start + k ≡ address + (site.start + k) = omega arith in
       let Own : ℕ → Type 0 = λ s. byte_at (image_of l) (address + (site.start + k)) ≡ own_byte l o s (site.start + k) in
@@ -97,7 +97,7 @@ module _ (l : Linking) (linked : IsLinked l) (o t address : ℕ) (at : IsSection
       none d (subst (λ s. Matches l o s d) same m))
       (omega (arith, below, room)) (subst Plain is.section_is plain))
 
-  only_kept : HasOwnForm l o begins site → (c : Choice) → Matches l o site c → ⊥
+  only_kept : HasOwnForm l (image_of l) o begins site → (c : Choice) → Matches l o site c → ⊥
   only_kept own c m = never_both c (m.bound, m.listed) (given c m) own
 
   only_given : (c : Choice) → MayReplace site.form c → HasForm (image_of l) begins site c → IsDue l o site c
@@ -121,7 +121,7 @@ module _ (l : Linking) (linked : IsLinked l) (o t address : ℕ) (at : IsSection
           ]
 
 pub by_the_table : SequencesStandByTheTable
-by_the_table l o t address site linked at is = record {
+by_the_table l linked o t address site at is = record {
   given = given l linked o t address at site is;
   only_given = only_given l linked o t address at site is;
   kept = kept l linked o t address at site is;

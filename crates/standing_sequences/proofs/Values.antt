@@ -1,11 +1,9 @@
 -- The values of fields: each that there is fits, and has as many bytes as its type says.
-use Rattle.std.proofs.Common.{◌≡◌, ◌+◌, ◌<◌, ◌^◌, ◌==◌, ◌∙◌, ℕ, ℤ, pos, negsuc, Bool, true, false, List, []}
+use Rattle.std.proofs.Common.{◌≡◌, ◌<◌, ◌^◌, ◌==◌, ◌∙◌, ℕ, ℤ, pos, Bool, true, false, List, []}
 use Rattle.std.proofs.Common.{Option, Some, None, length, refl, sym, ap, arith, if◌then◌else◌}
 use Rattle.std.specs.Prelude.{◌+ℤ◌, ◌-ℤ◌, nat_lt, slice_get}
 use Rattle.std.specs.List.{Contains}
-use Rattle.std.proofs.lemmas.Bool.{lt-ltb}
 use Rattle.std.proofs.lemmas.Bool.Decides.{nat_tests}
-use Rattle.std.proofs.lemmas.Int.{ints}
 use Rattle.elf_object.specs.declared.relocation.Relocation.{Relocation}
 use Rattle.elf_object.specs.Laws.{table_of_kept}
 use Rattle.elf_object.specs.Lent.{kept_relocation_table, relocation_target, relocations, relocations_in}

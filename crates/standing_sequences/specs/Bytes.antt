@@ -5,13 +5,9 @@ use Rattle.std.specs.List.{find}
 use Rattle.elf_object.specs.Lent.{relocations}
 use Rattle.elf_records.specs.Fields.{splice}
 use Rattle.image_file.specs.Spelled.{Part, Spelled}
-use Rattle.link_core.specs.Images.{image_of}
-use Rattle.link_core.specs.Laws.{HasNoStray}
-use Rattle.link_needs.specs.Given.{IsGiven}
 use Rattle.link_needs.specs.Linking.{Linking, layout, object}
 use Rattle.link_needs.specs.Needs.{new_relocation}
 use Rattle.link_needs.specs.Values.{field}
-use Rattle.link_tables.specs.Faults.{Links}
 use Rattle.relax_sites.specs.declared.choices.Choice.{Choice}
 use Rattle.relax_sites.specs.declared.rows.NewField.{NewField}
 use Rattle.relax_sites.specs.Rows.{new_bytes, new_field}
@@ -41,13 +37,6 @@ byte_at image address = byte_of address (find (holds address) image.parts)
 -- these bytes stand in the image from the address on, one after another
 abbrev pub Stand : Spelled → ℕ → List ℕ → Type 0
 Stand image address bytes = (k : ℕ) → k < length bytes → byte_at image (address + k) ≡ slice_get bytes k
-
--- objects that link, whose thread-local accesses are all sequences: `link` makes `image_of` from
--- them, and `run` loads it
-pub record IsLinked (l : Linking) : Type 0 where
-  pub given : IsGiven l
-  pub links : Links l
-  pub stray : HasNoStray l
 
 -- section t of object o begins at this address of their image
 pub record IsSectionAt (l : Linking) (o t address : ℕ) : Type 0 where
@@ -97,7 +86,7 @@ HasForm image address site choice =
     → IsOutside (new_field site.form choice) k → byte_at image (address + k) ≡ Some byte
 
 -- the bytes there look like the sequence itself: they are the object's own, except in its fields
-abbrev pub HasOwnForm : Linking → ℕ → ℕ → Site → Type 0
-HasOwnForm l o address site =
+abbrev pub HasOwnForm : Linking → Spelled → ℕ → ℕ → Site → Type 0
+HasOwnForm l image o address site =
     (k : ℕ) → k < site.len → IsPlain l o site.section (site.start + k)
-    → byte_at (image_of l) (address + k) ≡ own_byte l o site.section (site.start + k)
+    → byte_at image (address + k) ≡ own_byte l o site.section (site.start + k)

@@ -1,8 +1,9 @@
 //! The laws. The functions do nothing: what they ensure is the law.
 
 ghost use Rattle.standing_sequences.specs.Example.{ExampleStands};
-ghost use Rattle.standing_sequences.specs.Laws.{ChoicesAreTheTables, FieldsStand, OwnBytesStand};
-ghost use Rattle.standing_sequences.specs.Laws.{RewrittenFormsStand, RowsDiffer, SequencesStandByTheTable};
+ghost use Rattle.standing_sequences.specs.Laws.{ChoicesAreTheTables, FieldsStand, ImagesWithTheTableAgree};
+ghost use Rattle.standing_sequences.specs.Laws.{LinkedImagesHoldTheTable, OwnBytesStand, RewrittenFormsStand};
+ghost use Rattle.standing_sequences.specs.Laws.{RowsDiffer, SequencesStandByTheTable};
 
 /// If the table gives a sequence another form, that form stands in its place, whole, and its field holds its value.
 pub fn rewritten_forms_stand()
@@ -27,6 +28,17 @@ pub fn rows_differ()
 /// So at the place of each sequence there is a rewritten form exactly if the table gives one, and else the sequence.
 pub fn sequences_stand_by_the_table()
     ensures { SequencesStandByTheTable }
+{}
+
+/// All of it: the image that a linker makes of objects holds the table. `commands` says this of each image that is put
+/// into a file, and of each that is loaded.
+pub fn linked_images_hold_the_table()
+    ensures { LinkedImagesHoldTheTable }
+{}
+
+/// It says what each byte of a section is: two images that hold the table have the same bytes there.
+pub fn images_with_the_table_agree()
+    ensures { ImagesWithTheTableAgree }
 {}
 
 /// The linker's choice for a sequence is that of the table.

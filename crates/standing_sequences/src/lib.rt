@@ -30,6 +30,11 @@
 //! image show what the table said, and the table says what they are ([`sequences_stand_by_the_table`]). The linker's
 //! choice, which `tlsld sites` prints, is that of the table ([`choices_are_the_tables`]).
 //!
+//! `specs/Images` says this of any image (`HoldsTheTable`), and the laws of the one that a linker makes of its objects
+//! ([`linked_images_hold_the_table`]). It leaves no byte of a section open: two images that hold the table agree there
+//! ([`images_with_the_table_agree`]). So it is a clause of the top calls: `commands` says it of the bytes that `link`
+//! puts, as they are read, and of each image that `run`, `race` and `gen` load.
+//!
 //! For example, a program has `x` at offset -4 from the thread pointer, and a module that starts with it has `y`
 //! ([`example_stands`] computes it from the bytes of the object):
 //!
@@ -43,7 +48,7 @@
 //! c3                ret                             c3                          ret
 //! ```
 //!
-//! The image is `image_of` (`link_core`); `link` writes its bytes, and `run` reads it back from them.
+//! The linker's image is `image_of` (`link_core`); `link` writes its bytes, and `run` reads it back from them.
 //! `loaded_bytes` says what a loader makes of it, and `tied_sites` that each form does what its sequence means. The
 //! laws ask of the objects only what reading them has checked: they link, and each of their thread-local accesses
 //! is a sequence (`IsLinked`).
@@ -55,6 +60,7 @@
 mod laws;
 
 pub use laws::{
-    choices_are_the_tables, example_stands, fields_stand, own_bytes_stand, rewritten_forms_stand,
-    rows_differ, sequences_stand_by_the_table,
+    choices_are_the_tables, example_stands, fields_stand, images_with_the_table_agree,
+    linked_images_hold_the_table, own_bytes_stand, rewritten_forms_stand, rows_differ,
+    sequences_stand_by_the_table,
 };

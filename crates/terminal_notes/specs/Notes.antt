@@ -29,12 +29,14 @@ commands_note =
     codes "tlsld: commands: run JOB, race JOB, link JOB IMAGE OUT, sites JOB IMAGE, show FILE, check JOB, gen N; "
     ++ codes "run, race and link take --no-relax\n"
 
--- the note of the object that a line refuses, over the bytes of a file
-pub record IsNote (line note : List ℕ) : Type 0 where
+-- the note of the object that a line refuses, over the bytes that were read for the object's name; Read: which bytes
+-- those are
+pub record IsNote (Read : List ℕ → List ℕ → Type 0) (line note : List ℕ) : Type 0 where
   pub name : List ℕ
   pub section : ℕ
   pub entry : ℕ
   pub kind : FaultKind
   pub bytes : List ℕ
+  pub read : Read name bytes
   pub line_is : line ≡ fault_text name section entry kind
   pub note_is : note ≡ object_note name bytes section entry kind

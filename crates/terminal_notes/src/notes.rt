@@ -1,13 +1,13 @@
 //! The lines for a person at a terminal.
 ghost use Rattle.std.specs.Prelude.{◌≡◌, ◌++◌, OnOk, IfOk, IfSome, string_bytes};
+ghost use Rattle.ports.specs.Files.{IsFile};
 ghost use Rattle.terminal_notes.specs.Notes.{commands_note, file_note, object_note, place_note, symbol_words, IsNote};
 
 use crate::names::{section_name, symbol_name};
 use crate::printable::append_printable;
 use crate::refusals::{ObjectRefusal, object_refusal};
-use ports::{HostFault, HostStore};
+use ports::{Aftermath, HostFault};
 use std::alloc::{AllocError, Global};
-use std::rt::Files;
 
 /// The commands, for who gave words that are none.
 pub const COMMANDS: &[u8] =
@@ -75,33 +75,30 @@ fn host_note(alloc: Global, fault: &HostFault) -> Option<Vec<u8>> {
 }
 
 /// The note of the object that a line refuses. Its file is read once more.
-fn refused_note<R: Files + Sync>(
-    alloc: Global,
-    line: &[u8],
-    files: &HostStore<'_, R>,
-) -> Option<Vec<u8>>
-    ensures { IfSome result (λ note. IsNote line.now note.items) }
+fn refused_note<S: Aftermath>(alloc: Global, line: &[u8], store: &S) -> Option<Vec<u8>>
+    ensures { IfSome result (λ note. IsNote (IsFile (S.files store.now)) line.now note.items) }
 {
     let refusal = object_refusal(alloc, line)?;
-    let object = files.read_again(alloc, refusal.name.as_str()).ok()?;
+    let object = store.read_again(alloc, refusal.name.as_str()).ok()?;
     object_note(alloc, &refusal, object.as_slice())
 }
 
 /// What a person at a terminal is told besides the line of a command that ended with this status: for 6 the names of
 /// the section and of the symbol that the line gives by number, for 3 the file that failed, for 2 the commands.
-pub fn note_of<R: Files + Sync>(
+pub fn note_of<S: Aftermath>(
     alloc: Global,
     status: u8,
     line: &[u8],
-    files: &HostStore<'_, R>,
+    store: &S,
 ) -> Option<Vec<u8>>
-    ensures object { IfSome result (λ note. status ≡ 6 → IsNote line.now note.items) }
+    ensures object { IfSome result (λ note. status ≡ 6
+        → IsNote (IsFile (S.files store.now)) line.now note.items) }
     ensures usage { IfSome result (λ note. status ≡ 2 → note.items ≡ commands_note) }
 {
     match status {
         2 => Vec::from_slice(alloc, COMMANDS).ok(),
-        3 => host_note(alloc, files.last_fault()?),
-        6 => refused_note(alloc, line, files),
+        3 => host_note(alloc, store.last_fault()?),
+        6 => refused_note(alloc, line, store),
         _ => None,
     }
 }

@@ -1,9 +1,12 @@
 //! Shows the progress of a long command to the person who waits for it.
-ghost use Rattle.std.specs.Prelude.{◌≡◌};
+ghost use Rattle.std.specs.Prelude.{◌≡◌, IfOk, length};
+ghost use Rattle.std.specs.List.{All, AllZip};
+ghost use Rattle.ports.specs.Claims.{Brings, IsFileOf, IsRead, fewer};
+ghost use Rattle.ports.specs.Counts.{FetchCounts};
 
-use crate::{FetchFault, PutFault, Store};
+use crate::{Claim, FetchFault, PutFault, Store};
 use file_bytes::Pieces;
-use std::alloc::Global;
+use std::alloc::{AllocError, Global};
 use std::marker::Model;
 use std::rt::Clock;
 use std::sync::Mutex;
@@ -105,11 +108,15 @@ impl<'a, S: Store + Drop, R: Clock + Eprint + Sync> ProgressStore<'a, S, R> {
 }
 
 impl<'a, S: Store + Drop, R: Clock + Eprint + Sync> Store for ProgressStore<'a, S, R> {
+    type Brand = S::Brand;
+
     ghost files = { S.files };
 
     ghost faults = { S.faults };
 
     ghost asked = { S.asked };
+
+    ghost out = { S.out };
 
     fn fetch(&mut self, name: &str, into: &mut Vec<u8>) -> Result<(), FetchFault> {
         self.store.fetch(name, into)?;
@@ -117,18 +124,33 @@ impl<'a, S: Store + Drop, R: Clock + Eprint + Sync> Store for ProgressStore<'a, 
         Ok(())
     }
 
-    fn read(&self, alloc: Global, name: &str) -> Result<Vec<u8>, FetchFault> {
-        let file = self.store.read(alloc, name)?;
-        self.progress.count_file();
-        Ok(file)
+    fn claim<'n>(
+        &mut self,
+        alloc: Global,
+        names: &[&'n str],
+    ) -> Result<Vec<Claim<'n, S::Brand>>, AllocError> {
+        self.store.claim(alloc, names)
     }
 
-    fn count(
+    fn read(&self, alloc: Global, claim: &mut Claim<'_, S::Brand>) {
+        self.store.read(alloc, claim);
+        self.progress.count_file();
+    }
+
+    fn settle(
         &mut self,
-        name: &str,
-        read: Result<Vec<u8>, FetchFault>,
-    ) -> Result<Vec<u8>, FetchFault> {
-        self.store.count(name, read)
+        alloc: Global,
+        claims: Vec<Claim<'_, S::Brand>>,
+    ) -> Result<Vec<Vec<u8>>, FetchFault>
+        requires read { All (IsRead (S.files self.old)) claims.items }
+        ensures files { S.files self.new ≡ S.files self.old }
+        ensures bytes { IfOk result (λ came. AllZip (IsFileOf (S.files self.old)) claims.entry.items came.items) }
+        ensures came { IfOk result (λ came. AllZip Brings claims.entry.items came.items) }
+        ensures cause { FetchCounts (S.faults self.old) (S.faults self.new) result }
+        ensures asked { S.asked self.new ≡ S.asked self.old }
+        ensures out { S.out self.new ≡ fewer (length claims.entry.items) (S.out self.old) }
+    {
+        self.store.settle(alloc, claims)
     }
 
     fn put(&mut self, name: &str, bytes: &[u8]) -> Result<(), PutFault> {

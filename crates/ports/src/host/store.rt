@@ -1,13 +1,17 @@
 //! The host's file system as a store.
-ghost use Rattle.std.specs.Prelude.{◌≡◌, ◌+◌, ◌++◌, ◌≤◌, length, take};
-ghost use Rattle.std.specs.Prelude.{IsErr, OnOk, OnErr, IfOk, IfSome, MatchOption};
+ghost use Rattle.std.specs.Prelude.{◌≡◌, ◌≢◌, ◌+◌, ◌-◌, ◌++◌, ◌≤◌, length, take};
+ghost use Rattle.std.specs.Prelude.{IsErr, IsErrOf, OnOk, OnErr, IfOk, IfSome, MatchOption};
+ghost use Rattle.std.specs.List.{All, AllZip};
+ghost use Rattle.ports.specs.Claims.{Brings, IsFileOf, IsFresh, IsRead, Settles, fewer, never, untold_count};
 ghost use Rattle.ports.specs.Counts.{counted, Counted, FetchCounts, PutCounts, faults_after_fetch, faults_after_put};
 ghost use Rattle.ports.specs.Files.{file_at, with_file, with_name, IsFile};
 ghost use Rattle.file_bytes.specs.Pieces.{whole, EachFits};
 
-use crate::{FetchFault, PutFault, Store};
+use crate::claims::claims_to;
+use crate::settling::{Counts, settle_each};
+use crate::{Aftermath, Claim, FetchFault, PutFault, Store};
 use file_bytes::{Pieces, Whole, read_all, room_for, too_large, write_pieces};
-use std::alloc::Global;
+use std::alloc::{AllocError, Global};
 use std::fs::{File, OpenFile};
 use std::io::{ErrorKind, Read};
 use std::marker::Model;
@@ -112,25 +116,16 @@ impl<'a, R: Files + Sync> HostStore<'a, R> {
     {
         self.faults.count
     }
+}
 
-    /// The last fault, unless there was no memory to remember it or the host does not say why it failed.
-    pub fn last_fault(&self) -> Option<&HostFault> {
-        self.faults.last.as_ref()
-    }
-
-    /// Reads a file once more, to show what a refusal is about. Only a plain file is opened, since a pipe may wait for
-    /// a writer that has gone.
-    pub fn read_again(&self, alloc: Global, name: &str) -> io::Result<Vec<u8>> {
-        if !fs::metadata(self.rt, name)?.is_file() {
-            return Err(io::Error::from(ErrorKind::InvalidInput));
-        }
-        let mut file = Vec::new(alloc);
-        read_file(self.rt, name, &mut file)?;
-        Ok(file)
-    }
+/// The brand of the claims of a [`HostStore`], which alone has a value of it.
+pub struct HostBrand {
+    _own: (),
 }
 
 impl<'a, R: Files + Sync> Store for HostStore<'a, R> {
+    type Brand = HostBrand;
+
     ghost use Rattle.ports.specs.Files.{untold_files, untold_names};
 
     ghost files = { λ _. untold_files };
@@ -138,6 +133,8 @@ impl<'a, R: Files + Sync> Store for HostStore<'a, R> {
     ghost faults = { λ faults. faults };
 
     ghost asked = { λ _. untold_names };
+
+    ghost out = { λ _. untold_count };
 
     fn fetch(&mut self, name: &str, into: &mut Vec<u8>) -> Result<(), FetchFault>
         ensures files { untold_files ≡ untold_files }
@@ -147,6 +144,7 @@ impl<'a, R: Files + Sync> Store for HostStore<'a, R> {
         ensures kept { OnErr result (into.new.items ≡ into.old.items) }
         ensures cause { FetchCounts self.old self.new result }
         ensures asked { untold_names ≡ with_name name.now untold_names }
+        ensures out { untold_count ≡ untold_count }
 
         ensures fits { OnOk result (length into.new.items ≤ length into.old.items + LARGEST_FILE) }
         ensures count { self.new ≡ faults_after_fetch self.old result }
@@ -164,37 +162,42 @@ impl<'a, R: Files + Sync> Store for HostStore<'a, R> {
         }
     }
 
-    fn read(&self, alloc: Global, name: &str) -> Result<Vec<u8>, FetchFault>
-        ensures file { IfOk result (λ file. IsFile untold_files name.now file.items) }
-
-        ensures fits { IfOk result (λ file. length file.items ≤ LARGEST_FILE) }
-    {
-        let mut file = Vec::new(alloc);
-        read_file(self.rt, name, &mut file)?;
-        Ok(file)
+    fn claim<'n>(
+        &mut self,
+        alloc: Global,
+        names: &[&'n str],
+    ) -> Result<Vec<Claim<'n, HostBrand>>, AllocError> {
+        claims_to(alloc, &HostBrand { _own: () }, names)
     }
 
-    fn count(
-        &mut self,
-        name: &str,
-        read: Result<Vec<u8>, FetchFault>,
-    ) -> Result<Vec<u8>, FetchFault>
-        ensures files { untold_files ≡ untold_files }
-        ensures bytes { IfOk result (λ file. IsFile untold_files name.now file.items) }
-        ensures cause { FetchCounts self.old self.new result }
-        ensures asked { untold_names ≡ with_name name.now untold_names }
-        ensures same { OnOk result (result ≡ read) }
+    fn read(&self, alloc: Global, claim: &mut Claim<'_, HostBrand>)
+        requires fresh { IsFresh claim.old }
+        ensures name { claim.new.name.now ≡ claim.old.name.now }
+        ensures read { IsRead untold_files claim.new }
 
-        ensures given { result ≡ read }
-        ensures count { self.new ≡ faults_after_fetch self.old result }
+        ensures fits { IfSome claim.new.came (λ came. IfOk came (λ file. length file.items ≤ LARGEST_FILE)) }
     {
-        if let Err(FetchFault::Failed) = read {
-            // Threads share `read`, so it remembers nothing: the host is asked again.
-            let alloc = self.alloc;
-            let error = try_read(self.rt, name).err();
-            self.faults.add(alloc, name, error);
-        }
-        read
+        let file = read_whole(self.rt, alloc, claim.name());
+        claim.fill(&HostBrand { _own: () }, file);
+    }
+
+    fn settle(
+        &mut self,
+        alloc: Global,
+        claims: Vec<Claim<'_, HostBrand>>,
+    ) -> Result<Vec<Vec<u8>>, FetchFault>
+        requires read { All (IsRead untold_files) claims.items }
+        ensures files { untold_files ≡ untold_files }
+        ensures bytes { IfOk result (λ came. AllZip (IsFileOf untold_files) claims.entry.items came.items) }
+        ensures came { IfOk result (λ came. AllZip Brings claims.entry.items came.items) }
+        ensures cause { FetchCounts self.old self.new result }
+        ensures asked { untold_names ≡ untold_names }
+        ensures out { untold_count ≡ fewer (length claims.entry.items) untold_count }
+
+        ensures count { self.new ≡ faults_after_fetch self.old result }
+        ensures settles { Settles never never claims.entry.items result }
+    {
+        settle_each(alloc, self, claims)
     }
 
     fn put(&mut self, name: &str, bytes: &[u8]) -> Result<(), PutFault>
@@ -202,6 +205,7 @@ impl<'a, R: Files + Sync> Store for HostStore<'a, R> {
         ensures err { OnErr result (untold_files ≡ untold_files) }
         ensures cause { PutCounts self.old self.new result }
         ensures asked { untold_names ≡ untold_names }
+        ensures out { untold_count ≡ untold_count }
 
         ensures count { self.new ≡ faults_after_put self.old result }
     {
@@ -214,11 +218,77 @@ impl<'a, R: Files + Sync> Store for HostStore<'a, R> {
         ensures err { OnErr result (untold_files ≡ untold_files) }
         ensures cause { PutCounts self.old self.new result }
         ensures asked { untold_names ≡ untold_names }
+        ensures out { untold_count ≡ untold_count }
 
         ensures count { self.new ≡ faults_after_put self.old result }
     {
         put_file(self.rt, self.alloc, &mut self.faults, name, pieces)
     }
+}
+
+impl<'a, R: Files + Sync> Aftermath for HostStore<'a, R> {
+    ghost use Rattle.ports.specs.Files.{untold_files};
+
+    ghost files = { λ _. untold_files };
+
+    fn read_again(&self, alloc: Global, name: &str) -> io::Result<Vec<u8>> {
+        read_plain(self.rt, alloc, name)
+    }
+
+    fn last_fault(&self) -> Option<&HostFault> {
+        self.faults.last.as_ref()
+    }
+}
+
+impl<'a, R: Files + Sync> Counts for HostStore<'a, R> {
+    ghost use Rattle.ports.specs.Files.{untold_files};
+
+    ghost files = { λ _. untold_files };
+
+    ghost faults = { λ faults. faults };
+
+    ghost due = { λ _. never };
+
+    fn count(
+        &mut self,
+        name: &str,
+        read: Result<Vec<u8>, FetchFault>,
+    ) -> Result<Vec<u8>, FetchFault>
+        ensures files { untold_files ≡ untold_files }
+        ensures bytes { IfOk result (λ file. IsFile untold_files name.now file.items) }
+        ensures cause { FetchCounts self.old self.new result }
+        ensures count { self.new ≡ faults_after_fetch self.old result }
+        ensures call { never ≡ never - 1 }
+        ensures fails { never ≡ 1 → IsErrOf result FetchFault.Failed }
+        ensures given { never ≢ 1 → result ≡ read }
+    {
+        if let Err(FetchFault::Failed) = read {
+            // Threads share `read`, so it remembers nothing: the host is asked again.
+            let alloc = self.alloc;
+            let error = try_read(self.rt, name).err();
+            self.faults.add(alloc, name, error);
+        }
+        read
+    }
+}
+
+/// The bytes of the file, or why there are none.
+fn read_whole<R: Files>(rt: &R, alloc: Global, name: &str) -> Result<Vec<u8>, FetchFault>
+    ensures { IfOk result (λ file. length file.items ≤ LARGEST_FILE) }
+{
+    let mut file = Vec::new(alloc);
+    read_file(rt, name, &mut file)?;
+    Ok(file)
+}
+
+/// The bytes of a plain file. No other is opened, since a pipe may wait for a writer that has gone.
+fn read_plain<R: Files>(rt: &R, alloc: Global, name: &str) -> io::Result<Vec<u8>> {
+    if !fs::metadata(rt, name)?.is_file() {
+        return Err(io::Error::from(ErrorKind::InvalidInput));
+    }
+    let mut file = Vec::new(alloc);
+    read_file(rt, name, &mut file)?;
+    Ok(file)
 }
 
 /// Appends the file's bytes. On a refusal `into` is as before.

@@ -1,14 +1,18 @@
 //! Files in memory.
 ghost use Rattle.std.specs.Prelude.{◌≡◌, ◌≢◌, ◌-◌, ◌⊎◌, ◌↔◌, ◌++◌, length, take};
-ghost use Rattle.std.specs.Prelude.{None, IsErr, OnOk, OnErr, IsErrOf, IfOk, IfSome, MatchOption};
+ghost use Rattle.std.specs.Prelude.{None, Some, IsErr, OnOk, OnErr, IsErrOf, IfOk, IfSome, MatchOption};
 ghost use Rattle.std.specs.Option.{option_copied};
+ghost use Rattle.std.specs.List.{All, AllZip};
+ghost use Rattle.ports.specs.Claims.{Brings, IsFileOf, IsFresh, IsRead, Settles, fewer, untold_count};
 ghost use Rattle.std.specs.FinMap as map;
 ghost use Rattle.ports.specs.Counts.{FetchCounts, PutCounts, faults_after_fetch, faults_after_put};
 ghost use Rattle.ports.specs.Files.{file_at, with_file, with_name, IsFile};
 ghost use Rattle.file_bytes.specs.Pieces.{whole};
 
 use super::plan::FaultPlan;
-use crate::{FetchFault, PutFault, Store};
+use crate::claims::claims_to;
+use crate::settling::{Counts, settle_each};
+use crate::{Claim, FetchFault, PutFault, Store};
 use file_bytes::{Pieces, Whole, join};
 use std::alloc::{AllocError, Global};
 use std::collections::BTreeMap;
@@ -81,6 +85,17 @@ impl MemoryStore {
         }
     }
 
+    /// A copy of the bytes of the file of that name.
+    fn copy_of(&self, alloc: Global, name: &str) -> Result<Vec<u8>, FetchFault>
+        ensures file { IfOk result (λ file. IsFile (Some self.now.files) name.now file.items) }
+        ensures fails { IsErrOf result FetchFault.Failed ↔ (file_at self.now.files name.now ≡ None) }
+    {
+        match self.get(name) {
+            Some(bytes) => Ok(Vec::from_slice(alloc, bytes)?),
+            None => Err(FetchFault::Failed),
+        }
+    }
+
     /// How often the store has failed.
     pub fn faults(&self) -> u64
         ensures { result ≡ self.now.faults }
@@ -97,7 +112,14 @@ impl MemoryStore {
     }
 }
 
+/// The brand of the claims of a [`MemoryStore`], which alone has a value of it.
+pub struct MemoryBrand {
+    _own: (),
+}
+
 impl Store for MemoryStore {
+    type Brand = MemoryBrand;
+
     ghost use Rattle.std.specs.Prelude.{Some};
     ghost use Rattle.ports.specs.Files.{untold_names};
 
@@ -107,6 +129,8 @@ impl Store for MemoryStore {
 
     ghost asked = { λ _. untold_names };
 
+    ghost out = { λ _. untold_count };
+
     fn fetch(&mut self, name: &str, into: &mut Vec<u8>) -> Result<(), FetchFault>
         ensures files { Some self.new.files ≡ Some self.old.files }
         ensures bytes { IfSome (Some self.old.files) (λ fs. MatchOption (file_at fs name.now)
@@ -115,6 +139,7 @@ impl Store for MemoryStore {
         ensures kept { OnErr result (into.new.items ≡ into.old.items) }
         ensures cause { FetchCounts self.old.faults self.new.faults result }
         ensures asked { untold_names ≡ with_name name.now untold_names }
+        ensures out { untold_count ≡ untold_count }
 
         ensures fails { IsErrOf result FetchFault.Failed ↔ ((self.old.fails_in ≡ 1)
             ⊎ (file_at self.old.files name.now ≡ None)) }
@@ -134,43 +159,43 @@ impl Store for MemoryStore {
         }
     }
 
-    fn read(&self, alloc: Global, name: &str) -> Result<Vec<u8>, FetchFault>
-        ensures file { IfOk result (λ file. IsFile (Some self.now.files) name.now file.items) }
-
-        ensures fails { IsErrOf result FetchFault.Failed ↔ (file_at self.now.files name.now ≡ None) }
-    {
-        match self.get(name) {
-            Some(bytes) => Ok(Vec::from_slice(alloc, bytes)?),
-            None => Err(FetchFault::Failed),
-        }
+    fn claim<'n>(
+        &mut self,
+        alloc: Global,
+        names: &[&'n str],
+    ) -> Result<Vec<Claim<'n, MemoryBrand>>, AllocError> {
+        claims_to(alloc, &MemoryBrand { _own: () }, names)
     }
 
-    fn count(
-        &mut self,
-        name: &str,
-        read: Result<Vec<u8>, FetchFault>,
-    ) -> Result<Vec<u8>, FetchFault>
-        requires file { IfOk read (λ file. IsFile (Some self.old.files) name.now file.items) }
-        ensures files { Some self.new.files ≡ Some self.old.files }
-        ensures bytes { IfOk result (λ file. IsFile (Some self.old.files) name.now file.items) }
-        ensures cause { FetchCounts self.old.faults self.new.faults result }
-        ensures asked { untold_names ≡ with_name name.now untold_names }
-        ensures same { OnOk result (result ≡ read) }
+    fn read(&self, alloc: Global, claim: &mut Claim<'_, MemoryBrand>)
+        requires fresh { IsFresh claim.old }
+        ensures name { claim.new.name.now ≡ claim.old.name.now }
+        ensures read { IsRead (Some self.now.files) claim.new }
 
-        ensures fails { IsErrOf result FetchFault.Failed ↔ ((self.old.fails_in ≡ 1)
-            ⊎ IsErrOf read FetchFault.Failed) }
-        ensures given { self.old.fails_in ≢ 1 → result ≡ read }
-        ensures count { self.new.faults ≡ faults_after_fetch self.old.faults result }
-        ensures call { self.new.fails_in ≡ self.old.fails_in - 1 }
+        ensures fails { IfSome claim.new.came (λ came. IsErrOf came FetchFault.Failed
+            ↔ (file_at self.now.files claim.old.name.now ≡ None)) }
     {
-        let fails_now = self.plan.counts_call();
-        match read {
-            Ok(_) | Err(FetchFault::OutOfMemory) if !fails_now => read,
-            _ => {
-                self.plan.counts_fault();
-                Err(FetchFault::Failed)
-            }
-        }
+        let file = self.copy_of(alloc, claim.name());
+        claim.fill(&MemoryBrand { _own: () }, file);
+    }
+
+    fn settle(
+        &mut self,
+        alloc: Global,
+        claims: Vec<Claim<'_, MemoryBrand>>,
+    ) -> Result<Vec<Vec<u8>>, FetchFault>
+        requires read { All (IsRead (Some self.old.files)) claims.items }
+        ensures files { Some self.new.files ≡ Some self.old.files }
+        ensures bytes { IfOk result (λ came. AllZip (IsFileOf (Some self.old.files)) claims.entry.items came.items) }
+        ensures came { IfOk result (λ came. AllZip Brings claims.entry.items came.items) }
+        ensures cause { FetchCounts self.old.faults self.new.faults result }
+        ensures asked { untold_names ≡ untold_names }
+        ensures out { untold_count ≡ fewer (length claims.entry.items) untold_count }
+
+        ensures count { self.new.faults ≡ faults_after_fetch self.old.faults result }
+        ensures settles { Settles self.old.fails_in self.new.fails_in claims.entry.items result }
+    {
+        settle_each(alloc, self, claims)
     }
 
     fn put(&mut self, name: &str, bytes: &[u8]) -> Result<(), PutFault>
@@ -178,6 +203,7 @@ impl Store for MemoryStore {
         ensures err { OnErr result (Some self.new.files ≡ Some self.old.files) }
         ensures cause { PutCounts self.old.faults self.new.faults result }
         ensures asked { untold_names ≡ untold_names }
+        ensures out { untold_count ≡ untold_count }
 
         ensures fails { IsErrOf result PutFault.Failed ↔ (self.old.fails_in ≡ 1) }
         ensures count { self.new.faults ≡ faults_after_put self.old.faults result }
@@ -192,6 +218,7 @@ impl Store for MemoryStore {
         ensures err { OnErr result (Some self.new.files ≡ Some self.old.files) }
         ensures cause { PutCounts self.old.faults self.new.faults result }
         ensures asked { untold_names ≡ untold_names }
+        ensures out { untold_count ≡ untold_count }
 
         ensures fails { IsErrOf result PutFault.Failed ↔ (self.old.fails_in ≡ 1) }
         ensures count { self.new.faults ≡ faults_after_put self.old.faults result }
@@ -203,5 +230,38 @@ impl Store for MemoryStore {
         }
         let bytes = join(self.alloc, pieces)?;
         Ok(self.keep(name, bytes)?)
+    }
+}
+
+impl Counts for MemoryStore {
+    ghost files = { λ s. Some s.files };
+
+    ghost faults = { λ s. s.faults };
+
+    ghost due = { λ s. s.fails_in };
+
+    fn count(
+        &mut self,
+        name: &str,
+        read: Result<Vec<u8>, FetchFault>,
+    ) -> Result<Vec<u8>, FetchFault>
+        requires file { IfOk read (λ file. IsFile (Some self.old.files) name.now file.items) }
+        ensures files { Some self.new.files ≡ Some self.old.files }
+        ensures bytes { IfOk result (λ file. IsFile (Some self.old.files) name.now file.items) }
+        ensures cause { FetchCounts self.old.faults self.new.faults result }
+        ensures count { self.new.faults ≡ faults_after_fetch self.old.faults result }
+
+        ensures call { self.new.fails_in ≡ self.old.fails_in - 1 }
+        ensures fails { self.old.fails_in ≡ 1 → IsErrOf result FetchFault.Failed }
+        ensures given { self.old.fails_in ≢ 1 → result ≡ read }
+    {
+        let fails_now = self.plan.counts_call();
+        match read {
+            Ok(_) | Err(FetchFault::OutOfMemory) if !fails_now => read,
+            _ => {
+                self.plan.counts_fault();
+                Err(FetchFault::Failed)
+            }
+        }
     }
 }

@@ -12,6 +12,7 @@ race_modules-requires-clause-alone g c κs within =
 
 pub returns-clause-ran : goal.returns-clause-ran
 returns-clause-ran g c =
-    raced c.linked_threads_print.ensures c.racers_are_in_history.ensures c.racers_print_their_points.ensures c.args.job.now
+    raced c.linked_threads_print.ensures c.racers_are_in_history.ensures c.racers_print_their_points.ensures
+    c.linked_images_hold_the_table.ensures c.args.job.now
     c.keeps_limits.ensures.few_threads c.args.all.items c.in_ok-modules.modules
     c.in_ok-modules.ensures.back c.race_modules.result c.race_modules.ensures.ran

@@ -25,7 +25,8 @@ returns-then-is_done-clause-raced g c =
     (sym c.lines-lines.ensures)
     (ends c.args.course.now.names.now c.args.course.now.job.now c.args.thread c.args.pass.now c.loop.runner c.loop.events.items c.loop.pass
     c.loop.invariant.going
-    (sym c.asks-ask.ensures ∙ is_done_done c.asks-ask.result (sym c.is_done.ensures ∙ c.if-is_done.true)))
+    (sym c.asks-ask.ensures ∙ is_done_done c.asks-ask.result (sym c.is_done.ensures ∙ c.if-is_done.true))
+    (c.requires.low, c.requires.high))
 
 pub loop-preserved : goal.loop-preserved
 loop-preserved g c = record {
