@@ -143,7 +143,7 @@ Given read (Some at) number (Some n) whose = (number ≡ n) × (owner_at at ≡ 
 module _ (mark : ℕ → Mark) (state : State Word Flag) (it : Decoded) where
   pub given : (read : ℕ) (o : Option ℕ) → Given read (field_at (λ place. starts_offset (mark place)) state.place o)
       (field_number_in mark state.place o read) (offset_of (first_mark mark state it o))
-          (operands.owner mark state it o)
+      (operands.owner mark state it o)
   given read None = refl
   given read (Some k) = by_mark (mark (plus state.place k))
     where
@@ -191,7 +191,7 @@ module _ (mark : ℕ → Mark) (state : State Word Flag) (it : Decoded) where
   by-field None number None whose is e pointer b i =
       rw (is, pick-append (operands.base_words mark state it b) (operands.index_words mark state it i))
       (sums it.instr.displacement pointer _ _ _ _ _ _ (base-adds mark state it it.instr.displacement b)
-          (index-adds mark state it i))
+      (index-adds mark state it i))
   by-field None number (Some n) whose is e pointer b i = absurd is
   by-field (Some at) number None whose is e pointer b i = absurd is
   by-field (Some at) number (Some n) whose is e pointer b i =

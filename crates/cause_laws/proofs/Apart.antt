@@ -41,7 +41,7 @@ with-immediate false s s' a e f = absurd cc
 
 operated : (action : Action) (prefixes : Prefixes) (selectors : Selectors) (s : Size) (numbers : Numbers)
     → AreApart (operand_body action prefixes selectors s numbers).disp
-        (operand_body action prefixes selectors s numbers).imm
+    (operand_body action prefixes selectors s numbers).imm
 unfolding operand_body
 operated action prefixes selectors s numbers = with-immediate (takes_immediate action) (displacement_size selectors) s
 

@@ -81,7 +81,7 @@ module _ {M : Type 0} (acc : Accesses M Byte) (mark : ℕ → Mark) (shut : ℕ 
   decides : (r : Option Cause)
       → ((is_inside r ≡ true → RowHere cause.Inside) × (is_inside r ≡ false → RowHere cause.Inside → ⊥))
       → ((is_field r ≡ true → RowHere cause.Field) × (is_field r ≡ false → RowHere cause.Field → ⊥))
-          → Decides RowHere (test r)
+      → Decides RowHere (test r)
   decides r inside field = record { yes = yes; no = no }
     where
       yes : (why : Cause) → test r why ≡ true → RowHere why
@@ -141,7 +141,7 @@ module _ {M : Type 0} (acc : Accesses M Byte) (mark : ℕ → Mark) (shut : ℕ 
           refl,
           ap (λ (c : Cause). Some c) (sym (beside-linker state.place
               (done ops acc mark None (decoded bytes) state memory) (list_any is_undefined words)
-                  (list_any is_undefined_flag flags)
+              (list_any is_undefined_flag flags)
               (list_any is_base words) (list_any is_descriptor words) t)),
         )
     free-told free false is =
@@ -155,7 +155,7 @@ module _ {M : Type 0} (acc : Accesses M Byte) (mark : ℕ → Mark) (shut : ℕ 
       where
         by_reach : (b : Bool)
             → Tells {A = After Word Flag M} state.place (beside_linker b state.place (Err (Unclean state.place why)))
-                (Some why)
+            (Some why)
         by_reach true = (refl, ap (λ (c : Cause). Some c) (sym first))
         by_reach false = (refl, refl)
 
@@ -167,10 +167,10 @@ module _ {M : Type 0} (acc : Accesses M Byte) (mark : ℕ → Mark) (shut : ℕ 
         → first_by (test None) order ≡ unless_left left (if l then Some cause.Linker else pick words flags)
     by-linker true is = rw is
         (linker-then (list_any is_undefined words) (list_any is_undefined_flag flags) (list_any is_base words)
-            (list_any is_descriptor words) left)
+        (list_any is_descriptor words) left)
     by-linker false is =
         rw is (uses-then (list_any is_undefined words) (list_any is_undefined_flag flags) (list_any is_base words)
-            (list_any is_descriptor words) left)
+        (list_any is_descriptor words) left)
 
     abbrev StepIs : Type 0
     StepIs = (c : Option Cause) × (cause_is c × Steps_told c)
@@ -179,8 +179,13 @@ module _ {M : Type 0} (acc : Accesses M Byte) (mark : ℕ → Mark) (shut : ℕ 
     step-is None e h = (
       if outside then Some cause.Linker else pick words flags,
       (
-        (None, (decides None (λ f. absurd cc, λ f row. h.0 row) (λ f. absurd cc, λ f row. h.1 row),
-            by-linker outside refl)),
+        (
+          None,
+          (
+            decides None (λ f. absurd cc, λ f row. h.0 row) (λ f. absurd cc, λ f row. h.1 row),
+            by-linker outside refl,
+          ),
+        ),
         free-told e outside refl,
       ),
     )
@@ -259,7 +264,7 @@ module _ {M : Type 0} (acc : Accesses M Byte) (mark : ℕ → Mark) (shut : ℕ 
 -- what a return tells
 return-told : (S : Type 0) (here : ℕ) (w : Word)
     → TellsNext {S = S} here (Ends (returned (used_number w) here))
-        (if is_none (number_in w) then Some cause.Answer else None)
+    (if is_none (number_in w) then Some cause.Answer else None)
 return-told S here (Number n) = refl
 return-told S here Undefined = (refl, refl)
 return-told S here (Marked (BaseOf block)) = (refl, refl)
@@ -313,7 +318,7 @@ module _ (m : Meaning) (thread : ℕ) (h : Meant) (none : IsNoSequence m thread 
 
   abbrev decided : (left b : Bool) → (here == return_place) ≡ b → (test : Cause → Bool)
       → Decides (RowIf (meant_accesses m thread) (meant_mark m thread h.after.memory)
-          (meant_shut m thread h.after.memory)
+      (meant_shut m thread h.after.memory)
       h.after.state h.after.memory left b) test → Decides (RowOf m thread h left) test
   decided left b e test d =
       subst (λ (x : Bool). Decides (RowIf (meant_accesses m thread) (meant_mark m thread h.after.memory)
@@ -329,7 +334,7 @@ module _ (m : Meaning) (thread : ℕ) (h : Meant) (none : IsNoSequence m thread 
         (
           decided left true e _
               (over-decides (meant_accesses m thread) (meant_mark m thread h.after.memory)
-                  (meant_shut m thread h.after.memory) h.after.state h.after.memory left),
+              (meant_shut m thread h.after.memory) h.after.state h.after.memory left),
           rw e (return-told Meant here w),
         ),
       )
@@ -361,7 +366,7 @@ module _ (m : Meaning) (thread : ℕ) (h : Meant) (none : IsNoSequence m thread 
       (byte-open m thread h.after.memory) (write-open m thread h.after.memory) in
       let tests = test (meant_accesses m thread) mark shut h.after.state h.after.memory left s.1.0.0 in
       let told = next-told-so left s.0
-          (next-tells here (marked_step ops (meant_accesses m thread) mark shut h.after.state
+      (next-tells here (marked_step ops (meant_accesses m thread) mark shut h.after.state
       h.after.memory) s.0 s.1.1) in (
         tests,
         (

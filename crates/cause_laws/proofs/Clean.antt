@@ -65,7 +65,7 @@ module _ {M : Type 0} (acc : Accesses M Byte) (mark : ℕ → Mark) (shut : ℕ 
       by_place : (a : Bool) → shut state.place ≡ a → (b : Bool)
           → list_any shut (places_of acc mark state memory (decoded bytes)) ≡ b
           → (if shut state.place then true else list_any shut
-              (touched acc memory (own_touches ops mark state (decoded bytes)))) ≡ false
+          (touched acc memory (own_touches ops mark state (decoded bytes)))) ≡ false
       by_place true e b f = absurd (never (inl e))
       by_place false e true f = absurd (never (inr f))
       by_place false e false f = rw (e, touched-are free (decoded bytes) refl) f

@@ -80,7 +80,7 @@ module _ (mark : ℕ → Mark) (state : State Word Flag) (bytes : List ℕ) (it 
           first true e f =
               let begin : byte ≡ 0 = eqb-true byte 0 e in
               let p = and_parts (nat_le byte k) (allows_offset mark state it (k - byte))
-                  (covered k some low (Offset n byte) here) in
+              (covered k some low (Offset n byte) here) in
               let same : k - byte ≡ k = omega arith in
               subst (λ (j : ℕ). allows_offset mark state it j ≡ true) same p.1
           first false e f = absurd cc
@@ -113,7 +113,7 @@ module _ (mark : ℕ → Mark) (state : State Word Flag) (bytes : List ℕ) (it 
                 (is_placed mark state it (operand_of it.instr.operation)) here).1
             | inr there ↦ absurd (fields-apart bytes it k read at
                 (at-same it.imm k (and_parts (begins_at it.imm k)
-                    (adds_to_base mark state it it.instr.operation) there).0))
+                (adds_to_base mark state it it.instr.operation) there).0))
           ])
 
   -- as its immediate
@@ -132,7 +132,7 @@ module _ (mark : ℕ → Mark) (state : State Word Flag) (bytes : List ℕ) (it 
           as (λ c. adds_to_base mark state it it.instr.operation ≡ true) [
             | inl here ↦ absurd (fields-apart bytes it k read
                 (at-same it.disp k (and_parts (begins_at it.disp k)
-                    (is_placed mark state it (operand_of it.instr.operation)) here).0) at)
+                (is_placed mark state it (operand_of it.instr.operation)) here).0) at)
             | inr there ↦ (and_parts (begins_at it.imm k) (adds_to_base mark state it it.instr.operation) there).1
           ])
 

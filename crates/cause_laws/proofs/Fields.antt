@@ -151,7 +151,7 @@ module _ (mark : ℕ → Mark) (state : State Word Flag) (it : Decoded) where
   placed-is (Some memory) =
       used-says (operands.offset_field mark state it) (address_of ops (marked_frame mark state.place it) state memory)
       (operand_address mark state it memory) (operands.words_by mark state it None memory)
-          (address-says mark state it memory)
+      (address-says mark state it memory)
 
   base-is : (k : ℕ) (op : Operation) → it.imm ≡ Some k
       → fields.adds_to_base ops mark state it k op ≡ operands.adds_to_base mark state it op
@@ -160,7 +160,7 @@ module _ (mark : ℕ → Mark) (state : State Word Flag) (it : Decoded) where
       let number = (marked_frame mark state.place it).immediate in
       let word = register_of state.registers to in
       adds-used number (moved_in owner_at word number (plus state.place k))
-          (block_of (owner_at (plus state.place k)) word)
+      (block_of (owner_at (plus state.place k)) word)
       (block-adds word number (plus state.place k))
       ∙ ap (λ (o : Option ℕ). is_some (block_of (operands.owner mark state it o) word)) (sym e)
   base-is k op e = refl
@@ -179,8 +179,12 @@ module _ (mark : ℕ → Mark) (state : State Word Flag) (it : Decoded) where
       ]) refl
 
   offset-is : (k : ℕ) → takes_offset ops mark state k it ≡ allows_offset mark state it k
-  offset-is k = rw (at-is it.disp k, memory-is it.instr.operation, placed-is (operand_of it.instr.operation),
-      imm-is it.imm refl k) refl
+  offset-is k = rw (
+    at-is it.disp k,
+    memory-is it.instr.operation,
+    placed-is (operand_of it.instr.operation),
+    imm-is it.imm refl k,
+  ) refl
 
 -- ** address fields
 
@@ -200,8 +204,13 @@ next-is (Some memory) = ap (λ (b : Bool). b && not memory.from_thread_pointer) 
 module _ (mark : ℕ → Mark) (state : State Word Flag) (it : Decoded) where
   address-is : (addend : ℤ) (k : ℕ) → takes_address ops mark state addend k it ≡ allows_address mark state it addend k
   address-is addend k =
-      rw (at-is it.disp k, read-is it.instr.operation, next-is (read_operand it.instr.operation), minus-is addend
-          (it.len - k)) refl
+      rw (
+        at-is it.disp k,
+        read-is it.instr.operation,
+        next-is (read_operand it.instr.operation),
+        minus-is addend
+            (it.len - k),
+      ) refl
 
 -- ** a byte that may not be covered
 

@@ -99,8 +99,8 @@ adds-none mark state it (Compute Add Quad (Immediate (InRegister to))) e =
     there : (o : Option ℕ) → block_of (operands.owner mark state it it.imm) (operands.value_of mark state it to) ≡ o
         → is_some o ≡ true
         → (r : Register) × ((start : ℕ)
-            × ((◌≡◌ {A = Operation} (Compute Add Quad (Immediate (InRegister to)))
-                (Compute Add Quad (Immediate (InRegister r))))
+        × ((◌≡◌ {A = Operation} (Compute Add Quad (Immediate (InRegister to)))
+        (Compute Add Quad (Immediate (InRegister r))))
         × (block_of (operands.owner mark state it it.imm) (operands.value_of mark state it r) ≡ Some start)))
     there None is e = absurd cc
     there (Some start) is e = (to, (start, (refl, is)))
@@ -125,7 +125,7 @@ low-address : (mark : ℕ → Mark) (state : State Word Flag) (it : Decoded) (me
 unfolding operand_address
 low-address mark state it memory a e =
     small (operands.sum_of (operands.base_of mark state it (operands.offset_field mark state it) memory.base)
-        (operands.index_of mark state it memory.index)) e
+    (operands.index_of mark state it memory.index)) e
   where
     small : (o : Option ℕ)
         → option_map (λ number. (number + operands.displacement mark state it (operands.offset_field mark state it)
@@ -164,7 +164,7 @@ module _ {M : Type 0} (acc : Accesses M Byte) (number start : ℕ) (m : M) (low 
 
   stores-same : (place : ℕ) (word : Word)
       → store_of ops (lent_at ops acc number) m place 8 word
-          ≡ store_of ops (with_number_at acc number start) m place 8 word
+      ≡ store_of ops (with_number_at acc number start) m place 8 word
   unfolding store_of
   stores-same place word = refl
 
@@ -180,7 +180,7 @@ module _ {M : Type 0} (acc : Accesses M Byte) (state : State Word Flag) (memory 
   add-is : (f : Frame) (to : Register) (at a number sum : ℕ) → f.immediate_field ≡ Some at → f.immediate ≡ number
       → moved_in owner_at (register_of state.registers to) number at ≡ Ok a → a % 2 ^ 64 ≡ sum % 2 ^ 64
       → act ops acc f (Compute Add Quad (Immediate (InRegister to))) state memory
-          ≡ Ok (left (with_sum to sum f.next) memory)
+      ≡ Ok (left (with_sum to sum f.next) memory)
   unfolding act compute_of compute_number add_field marked_operations finished put with_changes
   add-is f to at a number sum fld num there same = rw (fld, num, there, same) refl
 
@@ -213,7 +213,7 @@ module _ {M : Type 0} (acc : Accesses M Byte) (mark : ℕ → Mark) (state : Sta
       by_field None is = is
       by_field (Some n) is =
           let h = adds-none mark state it operation
-              (added-field mark state (fetch_of acc memory state.place) it free read n is) in
+          (added-field mark state (fetch_of acc memory state.place) it free read n is) in
           absurd (never h.0 h.1.1.0)
 
   abbrev Done : Type 0
@@ -314,16 +314,16 @@ module _ {M : Type 0} (acc : Accesses M Byte) (mark : ℕ → Mark) (state : Sta
   unfolding marked_frame frame_of
   summed-step number none bare is =
       let h = adds-none mark state it operation
-          (added-field mark state (fetch_of acc memory state.place) it free read number is) in
+      (added-field mark state (fetch_of acc memory state.place) it free read number is) in
       let to = h.0 in let start = h.1.0 in
       let f = summed-of frame.immediate_field frame.immediate _ _
-          (given mark state it it.instr.immediate it.imm) number is in
+      (given mark state it it.instr.immediate it.imm) number is in
       let mine : AddsField number (moved_in owner_at (register_of state.registers to) number f.0)
-          (block_of (owner_at f.0) (register_of state.registers to)) =
+      (block_of (owner_at f.0) (register_of state.registers to)) =
       block-adds (register_of state.registers to) number f.0 in
       let whose : owner_at f.0 ≡ operands.owner mark state it it.imm = f.1.1.1 in
       let s = moved-is _ _ number start mine (ap (λ (n : ℕ). block_of n (register_of state.registers to)) whose
-          ∙ h.1.1.1) in
+      ∙ h.1.1.1) in
       let there : moved_in owner_at (register_of state.registers to) number f.0 ≡ Ok s.0 = s.1.0 in
       let op : operation ≡ Compute Add Quad (Immediate (InRegister to)) = h.1.1.0 in
       let fld : frame.immediate_field ≡ Some f.0 = f.1.0 in

@@ -130,7 +130,7 @@ module _ {W F B M : Type 0} (ops : Operations W F B) (acc : Accesses M B) (f g :
         taken-same width (number_at ops width (register_of s.registers to)),
       )
       (bind-all _ _ _ (λ it. concluded-same arithmetic width (OfSlot to)
-          (compute_effect arithmetic width it.other it.number)))
+      (compute_effect arithmetic width it.other it.number)))
 
   computed-out : (arithmetic : Arithmetic) (width : Width) (from : Register)
       → Moves (Compute arithmetic width (IntoMemory memory from))
@@ -138,11 +138,11 @@ module _ {W F B M : Type 0} (ops : Operations W F B) (acc : Accesses M B) (f g :
   computed-out arithmetic width from =
       rw (taken-same width (number_at ops width (register_of s.registers from)))
       (bind-all _ _ _ (λ it. concluded-same arithmetic width it.slot
-          (compute_effect arithmetic width it.number it.other)))
+      (compute_effect arithmetic width it.number it.other)))
 
   plain-number : (h : Frame) (arithmetic : Arithmetic) (width : Width) (o : Option ℕ) (x : Memory)
       → compute_number ops acc arithmetic width o h s m (InMemory x)
-          ≡ compute_plain ops acc arithmetic width o h s m (InMemory x)
+      ≡ compute_plain ops acc arithmetic width o h s m (InMemory x)
   unfolding compute_number
   plain-number h Add LongWidth o x = refl
   plain-number h Add QuadWidth None x = refl
@@ -160,7 +160,7 @@ module _ {W F B M : Type 0} (ops : Operations W F B) (acc : Accesses M B) (f g :
   plain-same arithmetic width =
       rw (number-same width, taken-same width (immediate_of ops width g.immediate_field g.immediate))
       (bind-all _ _ _ (λ it. concluded-same arithmetic width it.slot
-          (compute_effect arithmetic width it.number it.other)))
+      (compute_effect arithmetic width it.number it.other)))
 
   computed-number : (arithmetic : Arithmetic) (width : Width)
       → Moves (Compute arithmetic width (Immediate (InMemory memory)))

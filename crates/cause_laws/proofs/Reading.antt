@@ -66,8 +66,12 @@ module _ (mark : ℕ → Mark) (state : State Word Flag) (bytes : List ℕ) wher
   found : (count k : ℕ) (why : Cause) → first_hindrance ops mark state bytes k count ≡ Some why
       → IsFound asked k count why
   found zero k why e =
-      record { at = k; high = omega arith; first =
-          record { low = omega arith; is = e; before = λ j a b. absurd (omega arith) } }
+      record {
+        at = k;
+        high = omega arith;
+        first =
+            record { low = omega arith; is = e; before = λ j a b. absurd (omega arith) };
+      }
   found (suc more) k why e = by_first (asked k) refl (found more (k + 1) why)
     where
       by_first : (o : Option Cause) → asked k ≡ o
@@ -75,12 +79,16 @@ module _ (mark : ℕ → Mark) (state : State Word Flag) (bytes : List ℕ) wher
           → IsFound asked k (suc more) why
       by_first None none rest = next-at k more why none
           (rest (sym (ap (λ (o : Option Cause). option_or o (first_hindrance ops mark state bytes (k + 1) more)) none)
-              ∙ e))
+          ∙ e))
       by_first (Some other) some rest =
           let same : Some other ≡ Some why =
           sym (ap (λ (o : Option Cause). option_or o (first_hindrance ops mark state bytes (k + 1) more)) some) ∙ e in
-          record { at = k; high = omega arith; first =
-              record { low = omega arith; is = some ∙ same; before = λ j a b. absurd (omega arith) } }
+          record {
+            at = k;
+            high = omega arith;
+            first =
+                record { low = omega arith; is = some ∙ same; before = λ j a b. absurd (omega arith) };
+          }
 
   first-is : (count from k : ℕ) (why : Cause) → k ≤ from + count → IsFirstAt asked from k why
       → first_hindrance ops mark state bytes from count ≡ Some why
@@ -145,7 +153,7 @@ module _ (mark : ℕ → Mark) (state : State Word Flag) (bytes : List ℕ) wher
       let h = found (length bytes) 0 why e in
       let k = h.at in
       let p = reads (is_read_to mark state bytes k)
-          (blocked (may_cover mark state bytes k) (mark (place_at state.place k))) why
+      (blocked (may_cover mark state bytes k) (mark (place_at state.place k))) why
       (sym (met-is k) ∙ h.first.is) in
       let q = is_blocked (may_cover mark state bytes k) (mark (place_at state.place k)) why p.1 in (
         k,
@@ -212,7 +220,7 @@ module _ (mark : ℕ → Mark) (state : State Word Flag) (bytes : List ℕ) wher
         stops,
         λ s.
             let no : Some why ≡ Some cause.Inside =
-                stopped-by is_of_sequence cause.Inside (Some why) e seq-cause s in absurd cc,
+            stopped-by is_of_sequence cause.Inside (Some why) e seq-cause s in absurd cc,
       )
 
       by_mark : (μ : Mark) → mark (place_at state.place f.0) ≡ μ → ReadingIs (Some why)
@@ -226,5 +234,5 @@ module _ (mark : ℕ → Mark) (state : State Word Flag) (bytes : List ℕ) wher
             (f.0, (f.1.0, rw here refl)),
             λ s.
                 let no : Some why ≡ Some cause.Field =
-                    stopped-by is_of_field cause.Field (Some why) e field-cause s in absurd cc,
+                stopped-by is_of_field cause.Field (Some why) e field-cause s in absurd cc,
           )

@@ -36,7 +36,7 @@ module _ {W F B M : Type 0} (ops : Operations W F B) (acc acc' : Accesses M B) (
     (loads : load_of ops acc m a 8 ≡ load_of ops acc' m a' 8)
     (stores : (place : ℕ) (word : W) → store_of ops acc m place 8 word ≡ store_of ops acc' m place 8 word)
     (next : f.next ≡ g.next) (immediate : f.immediate ≡ g.immediate) (field : f.immediate_field
-        ≡ g.immediate_field) where
+    ≡ g.immediate_field) where
   finished-same : (to : Register) (effect : Effect)
       → finished ops acc QuadWidth (OfSlot to) effect f s m ≡ finished ops acc' QuadWidth (OfSlot to) effect g s m
   unfolding finished put
@@ -67,9 +67,9 @@ module _ {W F B M : Type 0} (ops : Operations W F B) (acc acc' : Accesses M B) (
   taken-then : {C : Type 0} (other : Result ℕ Cause) (k k' : Taken → Result C Stop)
       → ((slot slot' : Slot) (number other : ℕ)
       → k (record { slot = slot; number = number; other = other })
-          ≡ k' (record { slot = slot'; number = number; other = other }))
+      ≡ k' (record { slot = slot'; number = number; other = other }))
       → (taken ops acc QuadWidth f s m (InMemory memory) other >>= k)
-          ≡ (taken ops acc' QuadWidth g s m (InMemory absolute) other >>= k')
+      ≡ (taken ops acc' QuadWidth g s m (InMemory absolute) other >>= k')
   unfolding taken taken_at
   taken-then other k k' h = rw (at, at', loads) (by_load (load_of ops acc' m a' 8))
     where
@@ -81,9 +81,9 @@ module _ {W F B M : Type 0} (ops : Operations W F B) (acc acc' : Accesses M B) (
 
       by_load : (r : Result W Refusal)
           → ((weighed ops acc QuadWidth s.place r other >>=
-              (λ parts. Ok (record { slot = Place a; number = parts.0; other = parts.1 }))) >>= k)
+          (λ parts. Ok (record { slot = Place a; number = parts.0; other = parts.1 }))) >>= k)
           ≡ ((weighed ops acc' QuadWidth s.place r other >>=
-              (λ parts. Ok (record { slot = Place a'; number = parts.0; other = parts.1 }))) >>= k')
+          (λ parts. Ok (record { slot = Place a'; number = parts.0; other = parts.1 }))) >>= k')
       by_load (Ok word) = by_parts (clean s.place (both (number_at ops QuadWidth word) other))
       by_load (Err why) = refl
 
@@ -100,7 +100,7 @@ module _ {W F B M : Type 0} (ops : Operations W F B) (acc acc' : Accesses M B) (
   computed-in arithmetic to =
       rw (not-cleared arithmetic to memory, not-cleared arithmetic to absolute)
       (taken-then _ _ _ (λ slot slot' number other. concluded-same arithmetic to
-          (compute_effect arithmetic QuadWidth other number)))
+      (compute_effect arithmetic QuadWidth other number)))
 
   compared-out : (from : Register) → Moves (Compute Compare QuadWidth (IntoMemory memory from))
   unfolding act compute_of compute_out
@@ -119,7 +119,7 @@ module _ {W F B M : Type 0} (ops : Operations W F B) (acc acc' : Accesses M B) (
   unfolding act compute_of compute_number compute_plain
   compared-number = rw (number-same)
       (taken-then _ _ _ (λ slot slot' number other. compared slot slot'
-          (compute_effect Compare QuadWidth number other)))
+      (compute_effect Compare QuadWidth number other)))
 
   tested : (right : Register) → Moves (Test QuadWidth (InMemory memory) right)
   unfolding act test_of

@@ -84,10 +84,10 @@ module _ {M : Type 0} (acc : Accesses M Byte) (m : M) (open_byte : (place : ℕ)
   lent-open : (number place : ℕ) → NotShut ((lent_at ops acc number).byte m place)
   lent-open number place =
       (elim (nat_lt place 8) as
-          (λ b. NotShut (if b then Ok (ops.byte_of (ops.word number) place) else acc.byte m place)) [
-    | true ↦ tt
-    | false ↦ open_byte place
-  ])
+      (λ b. NotShut (if b then Ok (ops.byte_of (ops.word number) place) else acc.byte m place)) [
+        | true ↦ tt
+        | false ↦ open_byte place
+      ])
 
 -- what reads its operand uses no flag
 no-flags : (op : Operation) (x : Memory) (flags : _) → read_operand op ≡ Some x → flags_used {F = Flag} op flags ≡ []
@@ -135,12 +135,12 @@ module _ {M : Type 0} (acc : Accesses M Byte) (mark : ℕ → Mark) (state : Sta
   placed-told : (number : ℕ) → offset_of (first_mark mark state it it.disp) ≡ Some number → Told
   placed-told number is =
       let h = placed-operand mark state it (operand_of operation)
-          (placed-field mark state bytes it free read number is) in
+      (placed-field mark state bytes it free read number is) in
       let x = h.0 in let a = h.1.0 in
       let there : operand_of operation ≡ Some x = h.1.1.0 in
       let bare = only-offset (first_mark mark state it it.disp) number is in
       let none = lacks-immediate acc mark state memory it free read
-          (λ to e. no-operand to x (sym (ap operand_of e) ∙ there)) in
+      (λ to e. no-operand to x (sym (ap operand_of e) ∙ there)) in
       let at : address_of ops frame state x ≡ Ok a = is-there _ (operand_address mark state it x) a
       (same-by (operands.offset_field mark state it) _ _ _ (address-says mark state it x)) h.1.1.1 in
       rw (address-same acc state memory mark it it.disp, bare)
@@ -166,7 +166,7 @@ module _ {M : Type 0} (acc : Accesses M Byte) (mark : ℕ → Mark) (state : Sta
       let at : address_of ops (lent_frame (Some number) frame) state x ≡ Ok 0 =
       lent-address ops frame state x number bare (omega arith) from index in
       let lacks = lacks-immediate acc mark state memory it free read
-          (λ to e. no-read to x (sym (ap read_operand e) ∙ there)) in
+      (λ to e. no-read to x (sym (ap read_operand e) ∙ there)) in
       rw (address-same acc state memory mark it it.disp, is)
       (lent-tells acc (lent_at ops acc number) mark (lent_frame (Some number) frame) state memory it number
       (no-immediate-field lacks) is
@@ -191,7 +191,7 @@ module _ {M : Type 0} (acc : Accesses M Byte) (mark : ℕ → Mark) (state : Sta
   abbrev cause_by : Operation → Option Cause
   cause_by op = pick (operand_words mark state it (is_nop op) (operand_of op)
       ++ (if uses_loaded op then first_loaded acc memory (accesses_of mark state it op) else []))
-          (flags_used op state.flags)
+      (flags_used op state.flags)
 
   add-cause : (to : Register) → cause_by (Compute Add Quad (Immediate (InRegister to))) ≡ None
   unfolding operand_of uses_loaded accesses_of flags_used
@@ -209,7 +209,7 @@ module _ {M : Type 0} (acc : Accesses M Byte) (mark : ℕ → Mark) (state : Sta
       → offset_of (first_mark mark state it it.imm) ≡ Some number → Told
   summed-told number none bare is =
       let d = summed-is _ _ _ _ number none bare is
-          (summed-step acc mark state memory it free read number none bare is) in
+      (summed-step acc mark state memory it free read number none bare is) in
       let h = adds-none mark state it operation (added-field mark state bytes it free read number is) in
       let cause : cause_by operation ≡ None = ap cause_by h.1.1.0 ∙ add-cause h.0 in
       let done_is : done ops acc mark None (Some it) state memory ≡ Ok d.0 = d.1 in
@@ -235,6 +235,6 @@ module _ {M : Type 0} (acc : Accesses M Byte) (mark : ℕ → Mark) (state : Sta
   pub step-told : hindrance ops mark state (fetch_of acc memory state.place) ≡ None → (o : Option Decoded)
       → decoded (fetch_of acc memory state.place) ≡ o
       → Tells state.place (done ops acc mark None o state memory)
-          (pick (words_of acc mark state memory o) (used_flags acc mark state memory o))
+      (pick (words_of acc mark state memory o) (used_flags acc mark state memory o))
   step-told free None read = refl
   step-told free (Some it) read = instruction-told acc mark state memory it free read open_byte open_write

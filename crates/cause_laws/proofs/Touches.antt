@@ -170,7 +170,7 @@ module _ {M : Type 0} (acc : Accesses M Byte) (state : State Word Flag) (m : M) 
           ≡ mine (steps.changes mark state it (bytes_of width) o)
       changes-is width o = then-load (size_for width) o _ _ (wide-stores width o)
           ∙ ap (λ (n : ℕ). mine (steps.loads mark state it n o ++ steps.stores mark state it (bytes_of width) o))
-              (bytes-is width)
+          (bytes-is width)
 
       pub touches-are : (op : Operation)
           → touched acc m (touches_of ops frame state op) ≡ mine (accesses_of mark state it op)

@@ -266,11 +266,13 @@ module _ {M : Type 0} (acc : Accesses M Byte) (f : Frame) (state : State Word Fl
   unfolding taken_at
   at-tells width (Ok place) other ws A fits e =
       then-tells state.place _ _ _
-          (weighed-tells width place _ other ws A (open_load place (size_of width)) (sym fits) e)
+      (weighed-tells width place _ other ws A (open_load place (size_of width)) (sym fits) e)
       (λ parts. refl)
-  at-tells width (Err why) other ws A fits e =
-      (refl, sym (with-cause why other A ws fits e
-          ∙ (swapped A ws ∙ ap (λ (l : List Word). word_cause (ws ++ l)) (sym (append-nil A)))))
+  at-tells width (Err why) other ws A fits e = (
+    refl,
+    sym (with-cause why other A ws fits e
+        ∙ (swapped A ws ∙ ap (λ (l : List Word). word_cause (ws ++ l)) (sym (append-nil A)))),
+  )
 
   taken-tells : (width : Width) (operand : Operand) (other : Result ℕ Cause) (ws : List Word) → FitsOperand operand
       → cause_of other ≡ word_cause ws
@@ -357,7 +359,7 @@ module _ {M : Type 0} (acc : Accesses M Byte) (f : Frame) (state : State Word Fl
 
   all-is : (size : ℕ) (operand : Operand)
       → all_of size operand
-          ≡ map value (registers_in operand) ++ (aw_if false (memory_of operand) ++ loaded_of size operand)
+      ≡ map value (registers_in operand) ++ (aw_if false (memory_of operand) ++ loaded_of size operand)
   all-is size (InRegister register) = refl
   all-is size (InMemory memory) = refl
 
@@ -373,17 +375,17 @@ module _ {M : Type 0} (acc : Accesses M Byte) (f : Frame) (state : State Word Fl
   unfolding move_number
   move-number-tells width (InRegister to) fits =
       then-tells state.place _ _ _ (clean-tells state.place _ _ (immediate-cause width f.immediate_field no-field))
-          (λ number. refl)
+      (λ number. refl)
   move-number-tells width (InMemory to) fits =
       first-clean (immediate_of ops width f.immediate_field f.immediate)
-          (immediate-cause width f.immediate_field no-field)
+      (immediate-cause width f.immediate_field no-field)
     where
       first-clean : (r : Result ℕ Cause) → cause_of r ≡ None
           → Stepped (clean state.place r >>= (λ number. stored ops acc (size_of width) f state m to (ops.word number)))
           (word_cause (aw to ++ []))
       first-clean (Ok number) e =
           told _ _ _ (ap word_cause (sym (append-nil (aw to))))
-              (stored-tells (size_of width) to (ops.word number) (fits to refl))
+          (stored-tells (size_of width) to (ops.word number) (fits to refl))
       first-clean (Err why) e = absurd cc
 
   zeroing-is : (arithmetic : Arithmetic) (to : Register) (from : Operand)
@@ -403,7 +405,7 @@ module _ {M : Type 0} (acc : Accesses M Byte) (f : Frame) (state : State Word Fl
       → is_zeroing arithmetic to from ≡ b
       → Stepped (compute_in ops acc arithmetic width f state m to from)
       (word_cause (map value (if b then [] else to ∷ registers_in from) ++
-          (aw_if false (memory_of from) ++ loaded_of (size_of width) from)))
+      (aw_if false (memory_of from) ++ loaded_of (size_of width) from)))
   unfolding compute_in
   into-register arithmetic width to (InRegister from) fits true e =
       rw (zeroing-is arithmetic to (InRegister from), e) (finished-tells width (OfSlot to) _)
@@ -419,7 +421,7 @@ module _ {M : Type 0} (acc : Accesses M Byte) (f : Frame) (state : State Word Fl
   into-register arithmetic width to from fits false e =
       rw (zeroing-is arithmetic to from, e)
       (then-tells state.place _ _ _
-          (told _ _ _ (ap (λ (l : List Word). word_cause (value to ∷ l)) (all-is (size_of width) from))
+      (told _ _ _ (ap (λ (l : List Word). word_cause (value to ∷ l)) (all-is (size_of width) from))
       (taken-tells width from _ (value to ∷ []) fits (register-cause width (value to))))
       (λ it. concluded-tells arithmetic width (OfSlot to) _))
 
@@ -441,7 +443,7 @@ module _ {M : Type 0} (acc : Accesses M Byte) (f : Frame) (state : State Word Fl
 
   number-plain : (arithmetic : Arithmetic) (width : Width) (o : Option ℕ) (to : Operand) → o ≡ None
       → compute_number ops acc arithmetic width o f state m to
-          ≡ compute_plain ops acc arithmetic width None f state m to
+      ≡ compute_plain ops acc arithmetic width None f state m to
   unfolding compute_number
   number-plain Add LongWidth None to e = refl
   number-plain Add QuadWidth None to e = refl
@@ -490,23 +492,23 @@ module _ {M : Type 0} (acc : Accesses M Byte) (f : Frame) (state : State Word Fl
   test-tells : (width : Width) (left : Operand) (right : Register) → FitsOperand left
       → Stepped (test_of ops acc width f state m left right)
       (word_cause (value right ∷
-          (map value (registers_in left) ++ (aw_if false (memory_of left) ++ loaded_of (size_of width) left))))
+      (map value (registers_in left) ++ (aw_if false (memory_of left) ++ loaded_of (size_of width) left))))
   unfolding test_of
   test-tells width left right fits =
       then-tells state.place _ _ _
-          (told _ _ _ (ap (λ (l : List Word). word_cause (value right ∷ l)) (all-is (size_of width) left))
+      (told _ _ _ (ap (λ (l : List Word). word_cause (value right ∷ l)) (all-is (size_of width) left))
       (taken-tells width left _ (value right ∷ []) fits (register-cause width (value right)))) (λ it. refl)
 
   multiply-tells : (width : Width) (to : Register) (from : Operand) → FitsOperand from
       → Stepped (multiply_of ops acc width f state m to from)
       (word_cause (value to ∷
-          (map value (registers_in from) ++ (aw_if false (memory_of from) ++ loaded_of (size_of width) from))))
+      (map value (registers_in from) ++ (aw_if false (memory_of from) ++ loaded_of (size_of width) from))))
   unfolding multiply_of
   multiply-tells width to from fits =
       then-tells state.place _ _ _
-          (told _ _ _ (ap (λ (l : List Word). word_cause (value to ∷ l)) (all-is (size_of width) from))
+      (told _ _ _ (ap (λ (l : List Word). word_cause (value to ∷ l)) (all-is (size_of width) from))
       (taken-tells width from _ (value to ∷ []) fits (register-cause width (value to))))
-          (λ it. finished-tells width (OfSlot to) _)
+      (λ it. finished-tells width (OfSlot to) _)
 
   shift-tells : (shift : _) (width : Width) (to : Operand) (count : ℕ) → FitsOperand to
       → Stepped (shift_of ops acc shift width f state m to count)
@@ -543,17 +545,17 @@ module _ {M : Type 0} (acc : Accesses M Byte) (f : Frame) (state : State Word Fl
       by_stack : (r : Result ℕ Cause) → cause_of r ≡ word_cause (state.registers.rsp ∷ [])
           → Stepped (clean state.place r >>= (λ stack. there state.place (load_of ops acc m stack 8) >>= (λ word.
           clean state.place (used_number word) >>=
-              (λ place. Ok (left (at_place (with_stack state (ops.word (plus stack 8))) place) m)))))
+          (λ place. Ok (left (at_place (with_stack state (ops.word (plus stack 8))) place) m)))))
           (word_cause (state.registers.rsp ∷ at_address 8 r))
       by_stack (Ok stack) e =
           told (there state.place (load_of ops acc m stack 8) >>=
-              (λ word. clean state.place (used_number word) >>= (λ place.
+          (λ word. clean state.place (used_number word) >>= (λ place.
           Ok (left (at_place (with_stack state (ops.word (plus stack 8))) place) m))))
-              (word_cause (at_address 8 (Ok stack)))
+          (word_cause (at_address 8 (Ok stack)))
           (word_cause (state.registers.rsp ∷ at_address 8 (Ok stack)))
-              (sym (without [] (state.registers.rsp ∷ []) (at_address 8 (Ok stack)) (sym e)))
+          (sym (without [] (state.registers.rsp ∷ []) (at_address 8 (Ok stack)) (sym e)))
           (loaded-tells state.place (load_of ops acc m stack 8)
-              (λ word. clean state.place (used_number word) >>= (λ place.
+          (λ word. clean state.place (used_number word) >>= (λ place.
           Ok (left (at_place (with_stack state (ops.word (plus stack 8))) place) m))) (open_load stack 8) (λ w.
           then-tells state.place (clean state.place (used_number w)) (word_cause (w ∷ []))
           (λ place. Ok (left (at_place (with_stack state (ops.word (plus stack 8))) place) m))
@@ -568,11 +570,11 @@ module _ {M : Type 0} (acc : Accesses M Byte) (f : Frame) (state : State Word Fl
 
   call-at-tells : (operand : Operand) → FitsOperand operand → Stepped (call_of ops acc f state m (Indirect operand))
       (word_cause (state.registers.rsp ∷
-          (map value (registers_in operand) ++ (aw_if false (memory_of operand) ++ loaded_of 8 operand))))
+      (map value (registers_in operand) ++ (aw_if false (memory_of operand) ++ loaded_of 8 operand))))
   unfolding call_of
   call-at-tells operand fits =
       then-tells state.place _ _ _
-          (told _ _ _ (ap (λ (l : List Word). word_cause (state.registers.rsp ∷ l)) (all-is 8 operand))
+      (told _ _ _ (ap (λ (l : List Word). word_cause (state.registers.rsp ∷ l)) (all-is 8 operand))
       (taken-tells QuadWidth operand _ (state.registers.rsp ∷ []) fits stack-cause))
       (λ it. then-tells state.place _ _ _ (pushed-tells it.other _) (λ after. refl))
 
@@ -581,7 +583,7 @@ module _ {M : Type 0} (acc : Accesses M Byte) (f : Frame) (state : State Word Fl
   unfolding jump_of
   jump-at-tells operand fits =
       then-tells state.place _ _ _
-          (told _ _ _ (ap word_cause (all-is 8 operand)) (taken-tells QuadWidth operand (Ok 0) [] fits refl))
+      (told _ _ _ (ap word_cause (all-is 8 operand)) (taken-tells QuadWidth operand (Ok 0) [] fits refl))
       (λ it. refl)
 
   jump-if-tells : (c : Condition) (distance : ℕ)

@@ -80,7 +80,7 @@ module _ {M : Type 0} (acc : Accesses M Byte) (mark : ℕ → Mark) (state : Sta
 
   wide-is : (width : Width) (operand : Operand)
       → loaded_of acc frame state m aw no-field open_load open_store (size_of width) operand
-          ≡ of_operand (bytes_of width) operand
+      ≡ of_operand (bytes_of width) operand
   wide-is width operand = loaded-is (size_of width) operand ∙ ap (λ (n : ℕ). of_operand n operand) (size-is width)
 
   changed-is : (width : Width) (operand : Operand)
@@ -135,16 +135,19 @@ module _ {M : Type 0} (acc : Accesses M Byte) (mark : ℕ → Mark) (state : Sta
 
   pub words-are : offset_of (first_mark mark state it it.imm) ≡ None
       → all_words acc frame state m aw no-field open_load open_store it.instr.operation
-          ≡ words_of acc mark state m (Some it)
-  words-are none = rw (none, operand-is (is_nop it.instr.operation) (operand_of it.instr.operation),
-      loads-are it.instr.operation) refl
+      ≡ words_of acc mark state m (Some it)
+  words-are none = rw (
+    none,
+    operand-is (is_nop it.instr.operation) (operand_of it.instr.operation),
+    loads-are it.instr.operation,
+  ) refl
 
   -- without an offset field each address has the cause of its words
   fits-none : operands.offset_field mark state it ≡ None
       → FitsAll acc frame state m aw no-field open_load open_store it.instr.operation
   fits-none none memory e = rw none (by_cause (address_of ops frame state memory) (operand_address mark state it memory)
       (subst (λ (o : Option ℕ). SaysBy o (address_of ops frame state memory) (operand_address mark state it memory)
-          (words_by mark state it None memory)) none
+      (words_by mark state it None memory)) none
       (address-says mark state it memory)))
     where
       by_cause : (r : Result ℕ Cause) (o : Option ℕ) → SaysBy None r o (words_by mark state it None memory)
@@ -156,7 +159,7 @@ module _ {M : Type 0} (acc : Accesses M Byte) (mark : ℕ → Mark) (state : Sta
   fits-some : (n : ℕ) → operands.offset_field mark state it ≡ Some n → (x : Memory) (a : ℕ)
       → operand_of it.instr.operation ≡ Some x
       → address_of ops frame state x ≡ Ok a
-          → FitsAll acc frame state m aw no-field open_load open_store it.instr.operation
+      → FitsAll acc frame state m aw no-field open_load open_store it.instr.operation
   fits-some n some x a there at memory e =
       let both : Some x ≡ Some memory = sym there ∙ e in
       let same : x ≡ memory = cc in

@@ -127,7 +127,7 @@ module _ {M : Type 0} (acc : Accesses M Byte) (mark : ℕ → Mark) (state : Sta
     IsPlaced = (operand : Memory) × ((address : ℕ) × ((operand_of it.instr.operation ≡ Some operand)
         × (operand_address mark state it operand ≡ Some address)
         × (result ≡ act ops acc (displaced address (bare_frame state.place it))
-            (with_absolute it.instr.operation) state memory)))
+        (with_absolute it.instr.operation) state memory)))
 
     -- with an address field: wherever the word may lie, the instruction does the same as with that operand
     abbrev pub IsSupplied : ℕ → Type 0
