@@ -27,6 +27,10 @@ def job(case, kind, functions):
     return "".join(f"{line}\n" for line in lines)
 
 
+class NoValue(Exception):
+    """A function ends by a fault in place of a value."""
+
+
 class Linker:
     """`tlsld` over the objects of a case, in a folder."""
 
@@ -72,7 +76,9 @@ class Linker:
         answers = {}
         for at, name in enumerate(functions):
             lines = [(1, 2 * at + 1), (2, 2 * at + 1), (1, 2 * at + 2), (2, 2 * at + 2)]
-            answers[name] = [found.get(it, told.splitlines()[0]) for it in lines]
+            if not found.keys() >= set(lines):
+                raise NoValue(f"{name} does not return: {told}")
+            answers[name] = [found[it] for it in lines]
         return answers
 
     def verdict(self):

@@ -133,6 +133,17 @@ def all_rows(case, link, verdict, why):
     return [Row(case, link, site, verdict, why) for site in case.sites or [None]]
 
 
+def hindrance(link, reading, system):
+    """Why an image can't be run, if it can't."""
+    if not natives.can_run():
+        return "not run: this is no x86-64 Linux"
+    if not reading.flows():
+        return "not run: the two sections are not one behind the other in the image"
+    if link.kind in ("plain", "pie") and len(system) < 2:
+        return "not run: no C library is here to link to"
+    return ""
+
+
 def judged(case, link, image, room, system, seconds):
     """The verdicts on an image."""
     try:
@@ -141,19 +152,16 @@ def judged(case, link, image, room, system, seconds):
         found = [reading.site(it) for it in case.sites]
     except Lost as fault:
         return all_rows(case, link, UNDECIDED, str(fault))
-    why_not = "" if natives.can_run() else "not run: this is no x86-64 Linux"
-    if not why_not and not reading.flows():
-        why_not = "not run: the two sections are not one behind the other in the image"
-    if not why_not and link.kind in ("plain", "pie") and len(system) < 2:
-        why_not = "not run: no C library is here to link to"
+    why_not = hindrance(link, reading, system)
     wrong = {} if why_not else faults(case, link, image, room, system, seconds)
     rows = []
     for at, (site, code) in enumerate(zip(case.sites, found)):
         form = shape(case, site, link.made[at] if link.made else None, code)
         fault = told.get(site) or wrong.get(site.function)
         both = "; ".join(it for it in (told.get(site), wrong.get(site.function)) if it)
-        verdict = WRONG if fault else UNDECIDED if why_not else form
-        rows.append(Row(case, link, site, verdict, both or why_not, code))
+        unseen = why_not or ("" if site.function in case.values else "not run: its function is not called")
+        verdict = WRONG if fault else UNDECIDED if unseen else form
+        rows.append(Row(case, link, site, verdict, both or unseen, code))
     with_sites = {it.function for it in case.sites}
     for name in case.functions():
         if name not in with_sites:
