@@ -159,9 +159,10 @@ def judged(case, link, image, room, system, seconds):
         form = shape(case, site, link.made[at] if link.made else None, code)
         fault = told.get(site) or wrong.get(site.function)
         both = "; ".join(it for it in (told.get(site), wrong.get(site.function)) if it)
-        unseen = why_not or ("" if site.function in case.values else "not run: its function is not called")
-        verdict = WRONG if fault else UNDECIDED if unseen else form
-        rows.append(Row(case, link, site, verdict, both or unseen, code))
+        verdict = WRONG if fault else UNDECIDED if why_not else form
+        # of a function that is not called, since it returns an address, nothing is said
+        if fault or site.function in case.values:
+            rows.append(Row(case, link, site, verdict, both or why_not, code))
     with_sites = {it.function for it in case.sites}
     for name in case.functions():
         if name not in with_sites:
