@@ -18,8 +18,8 @@ def heads(bench):
 def place(row):
     """By what rows of several linkers are about the same sequence."""
     site = row.site
-    where = (site.file, site.section, site.at, site.form) if site else ("", 0, 0, "field")
-    return row.case.name, row.link.kind, row.link.relax, *where
+    where = (site.file, site.section, site.at, site.form) if site else ("", 0, 0, "le")
+    return row.case.name, row.link.kind, row.link.relax, *where, row.function
 
 
 def side_by_side(found):
@@ -66,7 +66,7 @@ def as_table(bench, found, with_all):
 def spelled(row):
     site = row.site
     told = {"case": row.case.name, "about": row.case.about, "kind": row.link.kind, "rewriting": row.link.relax,
-        "verdict": row.verdict, "why": row.why}
+        "function": row.function, "verdict": row.verdict, "why": row.why}
     if site:
         told |= {"object": site.file, "section": site.section, "offset": site.at, "form": site.form,
             "written": row.case.written(site).hex(), "found": row.found.hex()}

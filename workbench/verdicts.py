@@ -8,15 +8,17 @@ VERDICTS = [TABLE, RIGHT, KEPT, REFUSED, WRONG, UNDECIDED, NO_ANSWER]
 
 
 class Row:
-    """The verdict on one sequence of one image, why, and the bytes that stand there."""
+    """The verdict on one sequence of one image, why, and the bytes that stand there. A function that reaches its
+    variable by a field alone (local exec) has a row without a site."""
 
-    def __init__(self, case, link, site, verdict, why="", found=b""):
+    def __init__(self, case, link, site, verdict, why="", found=b"", function=""):
         self.case, self.link, self.site, self.verdict, self.why, self.found = case, link, site, verdict, why, found
+        self.function = site.function if site else function
 
     def name(self):
         setting = "" if self.link.relax else ", not rewritten"
-        place = f" {self.site.form} at {self.site.at:#x} of {self.site.file}" if self.site else ""
-        return f"{self.case.name} ({self.link.kind}{setting}){place}"
+        place = f"{self.site.form} at {self.site.at:#x} of {self.site.file}" if self.site else f"le in {self.function}"
+        return f"{self.case.name} ({self.link.kind}{setting}) {place}"
 
 
 class Lost(Exception):
@@ -130,7 +132,9 @@ def outside(case, reading):
 
 
 def all_rows(case, link, verdict, why):
-    return [Row(case, link, site, verdict, why) for site in case.sites or [None]]
+    with_sites = {it.function for it in case.sites}
+    others = [Row(case, link, None, verdict, why, function=name) for name in case.functions() if name not in with_sites]
+    return [Row(case, link, site, verdict, why) for site in case.sites] + others
 
 
 def hindrance(link, reading, system):
@@ -167,7 +171,7 @@ def judged(case, link, image, room, system, seconds):
     for name in case.functions():
         if name not in with_sites:
             verdict = WRONG if wrong.get(name) else UNDECIDED if why_not else TABLE
-            rows.append(Row(case, link, None, verdict, wrong.get(name, why_not)))
+            rows.append(Row(case, link, None, verdict, wrong.get(name, why_not), function=name))
     return rows
 
 
