@@ -164,7 +164,7 @@ def told_by(words):
     """The lines that are asked for."""
     if words.names:
         items = reached(top_calls())
-        files = [file_named(words.file)] if words.file else unreached(items)
+        files = [file_named(words.file)] if words.file else sorted(unreached(items), key=str)
         return (line for file in files for line in left_out(items, file))
     begun = file_named(words.file).items if words.file else top_calls()
     if words.files or words.crates:
