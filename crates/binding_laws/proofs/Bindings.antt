@@ -1,5 +1,5 @@
 -- What a symbol is bound to is an answer, and there is one answer.
-use Rattle.std.proofs.Common.{◌≡◌, ◌∙◌, ◌⊎◌, ◌↔◌, ℕ, Bool, true, false, List, [], Option, Some, None, inl, inr, refl, sym, ap, subst, arith}
+use Rattle.std.proofs.Common.{◌≡◌, ◌∙◌, ℕ, Bool, true, false, Option, Some, None, inl, inr, refl, sym, ap, subst}
 use Rattle.std.specs.Prelude.{map, if◌then◌else◌}
 use Rattle.std.specs.Str.{bytes_eq}
 use Rattle.std.proofs.lemmas.Slice.Eq.{bytes_eq-Decides}
@@ -15,7 +15,7 @@ use Rattle.link_faults.specs.declared.binding.Binding.TheVariants.{Here, Startup
 use Rattle.link_faults.specs.declared.symbol_ref.SymbolRef.{SymbolRef}
 use Rattle.tls_symbols.specs.Bindings.{bound_to, exported_names, first_export, here_or, name_bound, of_startup}
 use Rattle.tls_symbols.specs.Definitions.{definition_of, same_binding}
-use Rattle.binding_laws.specs.Bound.{Asked, IsAnswer, IsBound, IsDefinition, IsEmpty, IsImport, IsLocal, IsOrdinary, IsRunTimes, MayBeElsewhere, bytes_of, name_of}
+use Rattle.binding_laws.specs.Bound.{Asked, IsAnswer, IsBound, IsDefinition, IsEmpty, IsImport, IsLocal, IsOrdinary, MayBeElsewhere, bytes_of, name_of}
 use Rattle.binding_laws.specs.Laws.{BindingsAreOnly}
 use Rattle.binding_laws.proofs.Definition.{definition_is, definition_none, definition_only}
 use Rattle.binding_laws.proofs.Imports.{import_is, import_none, import_only}
@@ -120,6 +120,7 @@ module _ (q : Asked) where
   only None None x y = refl
 
 pub bindings_only : BindingsAreOnly
-bindings_only q answer =
-    (λ is. subst (IsAnswer q) is (answers q),
-    λ holds. only q (bound_to q.objects (map exported_names q.images) q.o q.e (may_import q.kind)) answer (answers q) holds)
+bindings_only q answer = (
+  λ is. subst (IsAnswer q) is (answers q),
+  λ holds. only q (bound_to q.objects (map exported_names q.images) q.o q.e (may_import q.kind)) answer (answers q) holds,
+)

@@ -1,6 +1,5 @@
 -- The definition of a name, and which images export it.
-use Rattle.std.proofs.Common.{◌≡◌, ◌≢◌, ◌+◌, ◌-◌, ◌<◌, ◌≤◌, ◌∙◌, ◌&&◌, ◌⊎◌, ℕ, Bool, true, false, List, [], ◌∷◌, Option, Some, None, length, drop, inl, inr, refl, sym, ap, subst, arith}
-use Rattle.std.specs.Prelude.{slice_index_or}
+use Rattle.std.proofs.Common.{◌≡◌, ◌≢◌, ◌+◌, ◌-◌, ◌<◌, ◌≤◌, ◌∙◌, ◌&&◌, ◌⊎◌, ℕ, Bool, true, List, [], ◌∷◌, Option, Some, None, length, drop, inl, inr, refl, sym, ap, subst, arith}
 use Rattle.std.specs.List.{find, range_with_len}
 use Rattle.std.specs.Str.{bytes_eq}
 use Rattle.std.proofs.lemmas.Bool.{cases_lt}
@@ -10,7 +9,7 @@ use Rattle.elf_records.specs.declared.symbol.SymbolBinding.{SymbolBinding}
 use Rattle.elf_records.specs.declared.symbol.SymbolBinding.TheVariants.{Local, Global, Weak}
 use Rattle.elf_object.specs.declared.symbol.SymbolPlace.{SymbolPlace}
 use Rattle.elf_object.specs.declared.symbol.SymbolPlace.TheVariants.{Undefined, Absolute, InSection}
-use Rattle.elf_object.specs.Lent.{symbol_binding, symbol_name, symbol_place, symbol_visibility}
+use Rattle.elf_object.specs.Lent.{symbol_binding, symbol_name, symbol_place}
 use Rattle.elf_object.specs.Parts.{symbol_count}
 use Rattle.link_faults.specs.declared.symbol_ref.SymbolRef.{SymbolRef}
 use Rattle.tls_symbols.specs.Definitions.{defines, definition_of, first_from, first_in, found_or, is_defined, or_weak, same_binding}
@@ -121,7 +120,7 @@ module _ (objects : List (List ℕ)) (binding : SymbolBinding) (name : List ℕ)
         from = omega arith;
         inside = at.within;
         found = find_found (defines (bytes_of objects o) binding name) 1 (symbol_count (bytes_of objects o) - 1) s
-          (subst (λ b. find (defines b binding name) (range_with_len 1 (symbol_count b - 1)) ≡ Some s) (sym at.here) here);
+            (subst (λ b. find (defines b binding name) (range_with_len 1 (symbol_count b - 1)) ≡ Some s) (sym at.here) here);
         earlier = λ j low high. absurd (omega (arith, low, high));
       }
 
@@ -162,18 +161,18 @@ module _ (objects : List (List ℕ)) (binding : SymbolBinding) (name : List ℕ)
   in_one x y f d same = elim (cases_lt y.symbol x.symbol) [
     | inl less ↦ absurd (f.found.first y.symbol (omega (arith, d.reserved)) less (passes_at x y same d))
     | inr past ↦ elim (cases_lt x.symbol y.symbol) [
-        | inl more ↦ inr (inr (sym same, more))
-        | inr equal ↦ inl (same_symbol y x same (omega (arith, past, equal)))
-      ]
+      | inl more ↦ inr (inr (sym same, more))
+      | inr equal ↦ inl (same_symbol y x same (omega (arith, past, equal)))
+    ]
   ]
 
   comes_later : (x y : SymbolRef) → FoundFrom 0 x → Defines objects binding name y → (y ≡ x) ⊎ IsBefore x y
   comes_later x y f d = elim (cases_lt y.object x.object) [
     | inl before ↦ absurd (not_there y d (f.earlier y.object (omega arith) before))
     | inr past ↦ elim (cases_lt x.object y.object) [
-        | inl after ↦ inr (inl after)
-        | inr equal ↦ in_one x y f d (omega (arith, past, equal))
-      ]
+      | inl after ↦ inr (inl after)
+      | inr equal ↦ in_one x y f d (omega (arith, past, equal))
+    ]
   ]
 
   first_is : (x : SymbolRef) → first_from binding name 0 objects ≡ Some x → IsFirst (Defines objects binding name) x
@@ -222,9 +221,9 @@ first_only : (P : SymbolRef → Type 0) (x y : SymbolRef) → IsFirst P x → Is
 first_only P x y a b = elim (b.others x a.holds) [
   | inl same ↦ same
   | inr after ↦ elim (a.others y b.holds) [
-      | inl same ↦ sym same
-      | inr before ↦ absurd (not_both x y before after)
-    ]
+    | inl same ↦ sym same
+    | inr before ↦ absurd (not_both x y before after)
+  ]
 ]
 
 pub definition_only : (objects : List (List ℕ)) (name : List ℕ) (x y : SymbolRef) → IsDefinition objects name x

@@ -1,12 +1,12 @@
 -- Which images export a name, and the first that does.
-use Rattle.std.proofs.Common.{◌≡◌, ◌+◌, ◌-◌, ◌<◌, ◌≤◌, ◌∙◌, ◌&&◌, ◌⊎◌, ℕ, Bool, true, false, List, [], ◌∷◌, Option, Some, None, length, drop, inl, inr, refl, sym, ap, subst, arith}
+use Rattle.std.proofs.Common.{◌≡◌, ◌+◌, ◌<◌, ◌≤◌, ◌∙◌, ◌⊎◌, ℕ, Bool, true, false, List, [], ◌∷◌, Option, Some, None, length, drop, inl, inr, refl, sym, ap, subst, arith}
 use Rattle.std.specs.Prelude.{slice_index_or, map, if◌then◌else◌}
 use Rattle.std.specs.List.{list_any}
 use Rattle.std.specs.Str.{bytes_eq}
 use Rattle.std.proofs.lemmas.Bool.{cases_lt}
 use Rattle.std.proofs.lemmas.List.{length-drop}
 use Rattle.elf_records.specs.declared.symbol.Visibility.{Visibility}
-use Rattle.elf_records.specs.declared.symbol.Visibility.TheVariants.{Default, Internal, Hidden, Protected}
+use Rattle.elf_records.specs.declared.symbol.Visibility.TheVariants.{Default, Protected}
 use Rattle.elf_records.specs.Symbols.{is_visible}
 use Rattle.elf_object.specs.Lent.{symbol_visibility}
 use Rattle.link_faults.specs.declared.symbol_ref.SymbolRef.{SymbolRef}
@@ -156,7 +156,7 @@ module _ (images : List (List (List ℕ))) (name : List ℕ) where
   import_only k j a b = elim (cases_lt k j) [
     | inl less ↦ absurd (b.first k a.counted less a.exports)
     | inr past ↦ elim (cases_lt j k) [
-        | inl more ↦ absurd (a.first j b.counted more b.exports)
-        | inr equal ↦ omega (arith, past, equal)
-      ]
+      | inl more ↦ absurd (a.first j b.counted more b.exports)
+      | inr equal ↦ omega (arith, past, equal)
+    ]
   ]

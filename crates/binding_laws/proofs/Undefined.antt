@@ -1,22 +1,21 @@
 -- Undefined stands at the relocations that are bound to nothing.
-use Rattle.std.proofs.Common.{◌≡◌, ◌≢◌, ◌<◌, ◌∙◌, ◌&&◌, ◌⊎◌, ◌↔◌, ◌==◌, ℕ, Bool, true, false, List, [], Option, Some, None, length, inl, inr, refl, sym, ap, subst, arith, nat_eq}
+use Rattle.std.proofs.Common.{◌≡◌, ◌≢◌, ◌<◌, ◌==◌, ℕ, true, false, List, [], Option, Some, None, inl, inr, refl, sym, subst, arith}
 use Rattle.std.specs.Prelude.{map, is_none, slice_get, IsSomeAnd}
 use Rattle.std.proofs.lemmas.Option.{slice_get_past}
 use Rattle.std.proofs.lemmas.Bool.{cases_lt, ne_eqb}
 use Rattle.elf_records.specs.declared.relocation.RelocationKind.{RelocationKind}
 use Rattle.elf_records.specs.declared.relocation.RelocationKind.TheVariants.{Nothing}
-use Rattle.elf_records.specs.RelocationRows.{may_import, names_symbol}
+use Rattle.elf_records.specs.RelocationRows.{names_symbol}
 use Rattle.elf_records.specs.Relocations.{relocation_kind}
 use Rattle.elf_object.specs.declared.relocation.Relocation.{Relocation}
 use Rattle.elf_object.specs.Lent.{relocation_target, relocations}
-use Rattle.elf_object.specs.Object.{section_count}
 use Rattle.link_faults.specs.declared.binding.Binding.{Binding}
 use Rattle.link_faults.specs.declared.fault.LinkFaultKind.TheVariants.{Undefined}
 use Rattle.object_faults.specs.Firsts.{nonzero}
-use Rattle.tls_symbols.specs.Bindings.{binding_of, bound_to, exported_names}
+use Rattle.tls_symbols.specs.Bindings.{binding_of, exported_names}
 use Rattle.tls_symbols.specs.Faults.{held_in, held_for, is_faulty, Stands}
 use Rattle.tls_symbols.proofs.ExportLaw.{both}
-use Rattle.binding_laws.specs.Bound.{Asked, IsAnswer, IsBound, bytes_of}
+use Rattle.binding_laws.specs.Bound.{Asked, IsBound, bytes_of}
 use Rattle.binding_laws.specs.Laws.{IsUnbound, UnboundIsUndefined}
 use Rattle.binding_laws.proofs.Bindings.{bindings_only}
 
@@ -81,7 +80,7 @@ held_is P b t e some = elim (cases_lt 0 t) [
   | inr none ↦
       let zero : t ≡ 0 = omega (arith, none) in
       let here : IsSomeAnd (slice_get the_empty e) P =
-          subst (λ (t : ℕ). IsSomeAnd (slice_get (held_for b (nonzero t)) e) P) zero some in
+      subst (λ (t : ℕ). IsSomeAnd (slice_get (held_for b (nonzero t)) e) P) zero some in
       let past : slice_get the_empty e ≡ None = slice_get_past the_empty e (omega arith) in
       absurd (subst (λ (r : Option Relocation). IsSomeAnd r P) past here)
 ]
@@ -98,7 +97,7 @@ unbound_undefined objects images o s e = (to, from)
     to : Stands Undefined objects (map exported_names images) o s e → IsUnbound objects images o s e
     to stands =
         let held = held_is (λ r. is_faulty Undefined objects (map exported_names images) o r ≡ true) (bytes_of objects o)
-            (relocation_target (bytes_of objects o) s) e stands.3 in
+        (relocation_target (bytes_of objects o) s) e stands.3 in
         let faulty = faulty_is objects images o held.relocation held.holds in
         record {
           object = stands.0;
@@ -112,12 +111,15 @@ unbound_undefined objects images o s e = (to, from)
         }
 
     from : IsUnbound objects images o s e → Stands Undefined objects (map exported_names images) o s e
-    from there =
-        (there.object, there.reserved, there.section,
-        is_held (λ r. is_faulty Undefined objects (map exported_names images) o r ≡ true) (bytes_of objects o)
-        (relocation_target (bytes_of objects o) s) e (record {
-          kept = there.kept;
-          relocation = there.relocation;
-          listed = there.listed;
-          holds = is_faulty_there objects images o there.relocation there.named there.unbound;
-        }))
+    from there = (
+      there.object,
+      there.reserved,
+      there.section,
+      is_held (λ r. is_faulty Undefined objects (map exported_names images) o r ≡ true) (bytes_of objects o)
+          (relocation_target (bytes_of objects o) s) e (record {
+            kept = there.kept;
+            relocation = there.relocation;
+            listed = there.listed;
+            holds = is_faulty_there objects images o there.relocation there.named there.unbound;
+          }),
+    )
