@@ -4,7 +4,8 @@ use Rattle.std.specs.Prelude.{map, if◌then◌else◌}
 use Rattle.std.specs.Str.{bytes_eq}
 use Rattle.std.proofs.lemmas.Slice.Eq.{bytes_eq-Decides}
 use Rattle.elf_records.specs.declared.relocation.RelocationKind.{RelocationKind}
-use Rattle.elf_records.specs.declared.relocation.RelocationKind.TheVariants.{TlsGd, GotTpOff, GotPc32TlsDesc, TlsDescCall}
+use Rattle.elf_records.specs.declared.relocation.RelocationKind.TheVariants.{TlsGd, GotTpOff, GotPc32TlsDesc}
+use Rattle.elf_records.specs.declared.relocation.RelocationKind.TheVariants.{TlsDescCall}
 use Rattle.elf_records.specs.declared.symbol.SymbolBinding.{SymbolBinding}
 use Rattle.elf_records.specs.declared.symbol.SymbolBinding.TheVariants.{Local, Global, Weak}
 use Rattle.elf_records.specs.RelocationRows.{may_import}
@@ -15,7 +16,8 @@ use Rattle.link_faults.specs.declared.binding.Binding.TheVariants.{Here, Startup
 use Rattle.link_faults.specs.declared.symbol_ref.SymbolRef.{SymbolRef}
 use Rattle.tls_symbols.specs.Bindings.{bound_to, exported_names, first_export, here_or, name_bound, of_startup}
 use Rattle.tls_symbols.specs.Definitions.{definition_of, same_binding}
-use Rattle.binding_laws.specs.Bound.{Asked, IsAnswer, IsBound, IsDefinition, IsEmpty, IsImport, IsLocal, IsOrdinary, MayBeElsewhere, bytes_of, name_of}
+use Rattle.binding_laws.specs.Bound.{Asked, IsAnswer, IsBound, IsDefinition, IsEmpty, IsImport, IsLocal, IsOrdinary}
+use Rattle.binding_laws.specs.Bound.{MayBeElsewhere, bytes_of, name_of}
 use Rattle.binding_laws.specs.Laws.{BindingsAreOnly}
 use Rattle.binding_laws.proofs.Definition.{definition_is, definition_none, definition_only}
 use Rattle.binding_laws.proofs.Imports.{import_is, import_none, import_only}
@@ -51,7 +53,8 @@ impossible h = cc
 
 module _ (q : Asked) where
   nothing : IsOrdinary q → IsEmpty (IsDefinition q.objects (name_of q))
-      → ((k : ℕ) → MayBeElsewhere q.kind → IsImport q.images (name_of q) k → ⊥) → (bound : Binding) → IsBound q bound → ⊥
+      → ((k : ℕ) → MayBeElsewhere q.kind → IsImport q.images (name_of q) k → ⊥) → (bound : Binding)
+      → IsBound q bound → ⊥
   nothing ordinary empty none Runtime bound = ordinary.1 bound.1
   nothing ordinary empty none (Here x) (inl bound) = ordinary.0 bound.0
   nothing ordinary empty none (Here x) (inr bound) = empty x bound.1
@@ -63,7 +66,8 @@ module _ (q : Asked) where
   of_first : (k : Option ℕ) → first_export (name_of q) 1 (map exported_names q.images) ≡ k → IsOrdinary q
       → IsEmpty (IsDefinition q.objects (name_of q)) → MayBeElsewhere q.kind → IsAnswer q (of_startup k)
   of_first (Some k) is ordinary empty may = (ordinary, empty, may, import_is q.images (name_of q) k is)
-  of_first None is ordinary empty may = nothing ordinary empty (λ k may import. import_none q.images (name_of q) is k import)
+  of_first None is ordinary empty may =
+      nothing ordinary empty (λ k may import. import_none q.images (name_of q) is k import)
 
   of_may : (t : Bool) → may_import q.kind ≡ t → IsOrdinary q → IsEmpty (IsDefinition q.objects (name_of q))
       → IsAnswer q (if t then of_startup (first_export (name_of q) 1 (map exported_names q.images)) else None)
@@ -72,7 +76,8 @@ module _ (q : Asked) where
   of_may false is ordinary empty = nothing ordinary empty (λ k may import. impossible (sym (be_may q.kind may) ∙ is))
 
   of_definition : (found : Option SymbolRef) → definition_of q.objects (name_of q) ≡ found → IsOrdinary q
-      → IsAnswer q (here_or found (if may_import q.kind then of_startup (first_export (name_of q) 1 (map exported_names q.images)) else None))
+      → IsAnswer q (here_or found (if may_import q.kind then of_startup
+      (first_export (name_of q) 1 (map exported_names q.images)) else None))
   of_definition (Some x) is ordinary = inr (ordinary, definition_is q.objects (name_of q) x is)
   of_definition None is ordinary = of_may (may_import q.kind) refl ordinary (definition_none q.objects (name_of q) is)
 
@@ -87,7 +92,8 @@ module _ (q : Asked) where
       → IsAnswer q (if t then Some (Here (record { object = q.o; symbol = q.e }))
       else name_bound q.objects (map exported_names q.images) (may_import q.kind) (name_of q))
   of_local true is = inl (is_local (symbol_binding (bytes_of q.objects q.o) q.e) is, refl)
-  of_local false is = of_name (bytes_eq (name_of q) get_address) refl (not_local (symbol_binding (bytes_of q.objects q.o) q.e) is)
+  of_local false is =
+      of_name (bytes_eq (name_of q) get_address) refl (not_local (symbol_binding (bytes_of q.objects q.o) q.e) is)
 
   answers : IsAnswer q (bound_to q.objects (map exported_names q.images) q.o q.e (may_import q.kind))
   unfolding bound_to
@@ -122,5 +128,6 @@ module _ (q : Asked) where
 pub bindings_only : BindingsAreOnly
 bindings_only q answer = (
   λ is. subst (IsAnswer q) is (answers q),
-  λ holds. only q (bound_to q.objects (map exported_names q.images) q.o q.e (may_import q.kind)) answer (answers q) holds,
+  λ holds. only q (bound_to q.objects (map exported_names q.images) q.o q.e (may_import q.kind)) answer
+      (answers q) holds,
 )

@@ -1,5 +1,6 @@
 -- The definition of a name, and which images export it.
-use Rattle.std.proofs.Common.{◌≡◌, ◌≢◌, ◌+◌, ◌-◌, ◌<◌, ◌≤◌, ◌∙◌, ◌&&◌, ◌⊎◌, ℕ, Bool, true, List, [], ◌∷◌, Option, Some, None, length, drop, inl, inr, refl, sym, ap, subst, arith}
+use Rattle.std.proofs.Common.{◌≡◌, ◌≢◌, ◌+◌, ◌-◌, ◌<◌, ◌≤◌, ◌∙◌, ◌&&◌, ◌⊎◌, ℕ, Bool, true, List, [], ◌∷◌, Option}
+use Rattle.std.proofs.Common.{Some, None, length, drop, inl, inr, refl, sym, ap, subst, arith}
 use Rattle.std.specs.List.{find, range_with_len}
 use Rattle.std.specs.Str.{bytes_eq}
 use Rattle.std.proofs.lemmas.Bool.{cases_lt}
@@ -12,7 +13,8 @@ use Rattle.elf_object.specs.declared.symbol.SymbolPlace.TheVariants.{Undefined, 
 use Rattle.elf_object.specs.Lent.{symbol_binding, symbol_name, symbol_place}
 use Rattle.elf_object.specs.Parts.{symbol_count}
 use Rattle.link_faults.specs.declared.symbol_ref.SymbolRef.{SymbolRef}
-use Rattle.tls_symbols.specs.Definitions.{defines, definition_of, first_from, first_in, found_or, is_defined, or_weak, same_binding}
+use Rattle.tls_symbols.specs.Definitions.{defines, definition_of, first_from, first_in, found_or, is_defined, or_weak}
+use Rattle.tls_symbols.specs.Definitions.{same_binding}
 use Rattle.tls_symbols.proofs.ExportLaw.{both}
 use Rattle.tls_symbols.proofs.Within.{Dropped, dropped_is, FoundAt, find_found, find_nothing}
 use Rattle.binding_laws.specs.Bound.{Defines, IsBefore, IsDefinition, IsEmpty, IsFirst, bytes_of}
@@ -51,12 +53,14 @@ module _ (objects : List (List ℕ)) (binding : SymbolBinding) (name : List ℕ)
   test : ℕ → ℕ → Bool
   test o e = defines (bytes_of objects o) binding name e
 
-  defines_if : (x : SymbolRef) → x.object < length objects → 1 ≤ x.symbol → x.symbol < symbol_count (bytes_of objects x.object)
+  defines_if : (x : SymbolRef) → x.object < length objects → 1 ≤ x.symbol
+      → x.symbol < symbol_count (bytes_of objects x.object)
       → defines (bytes_of objects x.object) binding name x.symbol ≡ true → Defines objects binding name x
   defines_if x object reserved symbol passes =
       let b = bytes_of objects x.object in
       let e = x.symbol in
-      let first = both (same_binding binding (symbol_binding b e)) (is_defined (symbol_place b e) && bytes_eq name (symbol_name b e)) passes in
+      let first = both (same_binding binding (symbol_binding b e))
+      (is_defined (symbol_place b e) && bytes_eq name (symbol_name b e)) passes in
       let rest = both (is_defined (symbol_place b e)) (bytes_eq name (symbol_name b e)) first.1 in
       record {
         object = object;
@@ -67,11 +71,13 @@ module _ (objects : List (List ℕ)) (binding : SymbolBinding) (name : List ℕ)
         named = sym ((bytes_eq-Decides name (symbol_name b e)).0 rest.1);
       }
 
-  passes_if : (x : SymbolRef) → Defines objects binding name x → defines (bytes_of objects x.object) binding name x.symbol ≡ true
+  passes_if : (x : SymbolRef) → Defines objects binding name x
+      → defines (bytes_of objects x.object) binding name x.symbol ≡ true
   passes_if x d =
       let b = bytes_of objects x.object in
       let e = x.symbol in
-      let same : same_binding binding (symbol_binding b e) ≡ true = subst (λ y. same_binding binding y ≡ true) (sym d.bound) (is_same binding) in
+      let same : same_binding binding (symbol_binding b e) ≡ true = subst (λ y. same_binding binding y ≡ true)
+      (sym d.bound) (is_same binding) in
       let there = there_is_defined (symbol_place b e) d.defined in
       let named = (bytes_eq-Decides name (symbol_name b e)).1 (sym d.named) in
       rw (same, there, named) refl
@@ -81,7 +87,8 @@ module _ (objects : List (List ℕ)) (binding : SymbolBinding) (name : List ℕ)
   record FoundFrom (o : ℕ) (x : SymbolRef) : Type 0 where
     from : o ≤ x.object
     inside : x.object < length objects
-    found : FoundAt (defines (bytes_of objects x.object) binding name) 1 (symbol_count (bytes_of objects x.object) - 1) x.symbol
+    found : FoundAt (defines (bytes_of objects x.object) binding name) 1
+        (symbol_count (bytes_of objects x.object) - 1) x.symbol
     earlier : (j : ℕ) → o ≤ j → j < x.object → first_in binding name (bytes_of objects j) ≡ None
 
   from_none : (more : List (List ℕ)) (o : ℕ) → drop o objects ≡ more → first_from binding name o more ≡ None
@@ -90,7 +97,8 @@ module _ (objects : List (List ℕ)) (binding : SymbolBinding) (name : List ℕ)
       let none : length (drop o objects) ≡ 0 = ap length e in
       let size = length-drop o objects in
       absurd (omega arith)
-  from_none (b ∷ more) o e is j low high = by_symbol (λ h is above. from_none more (o + 1) h is j above high) (first_in binding name b) refl is
+  from_none (b ∷ more) o e is j low high =
+      by_symbol (λ h is above. from_none more (o + 1) h is j above high) (first_in binding name b) refl is
     where
       at : Dropped objects o [] b more
       at = dropped_is objects o [] b more e
@@ -98,7 +106,8 @@ module _ (objects : List (List ℕ)) (binding : SymbolBinding) (name : List ℕ)
       by_symbol : (drop (o + 1) objects ≡ more → first_from binding name (o + 1) more ≡ None → o + 1 ≤ j
           → first_in binding name (bytes_of objects j) ≡ None)
           → (found : Option ℕ) → first_in binding name b ≡ found
-          → found_or o found (first_from binding name (o + 1) more) ≡ None → first_in binding name (bytes_of objects j) ≡ None
+          → found_or o found (first_from binding name (o + 1) more) ≡ None
+          → first_in binding name (bytes_of objects j) ≡ None
       by_symbol rest (Some x) here is = absurd cc
       by_symbol rest None here is = elim (cases_lt o j) [
         | inl above ↦ rest at.rest is (omega (arith, above))
@@ -107,7 +116,8 @@ module _ (objects : List (List ℕ)) (binding : SymbolBinding) (name : List ℕ)
             ap (λ (j : ℕ). first_in binding name (bytes_of objects j)) same ∙ ap (first_in binding name) at.here ∙ here
       ]
 
-  from_found : (more : List (List ℕ)) (o : ℕ) (x : SymbolRef) → drop o objects ≡ more → first_from binding name o more ≡ Some x → FoundFrom o x
+  from_found : (more : List (List ℕ)) (o : ℕ) (x : SymbolRef) → drop o objects ≡ more
+      → first_from binding name o more ≡ Some x → FoundFrom o x
   unfolding first_in
   from_found [] o x e is = absurd cc
   from_found (b ∷ more) o x e is = by_symbol (λ h is. from_found more (o + 1) x h is) (first_in binding name b) refl is
@@ -120,7 +130,8 @@ module _ (objects : List (List ℕ)) (binding : SymbolBinding) (name : List ℕ)
         from = omega arith;
         inside = at.within;
         found = find_found (defines (bytes_of objects o) binding name) 1 (symbol_count (bytes_of objects o) - 1) s
-            (subst (λ b. find (defines b binding name) (range_with_len 1 (symbol_count b - 1)) ≡ Some s) (sym at.here) here);
+            (subst (λ b. find (defines b binding name) (range_with_len 1 (symbol_count b - 1)) ≡ Some s)
+            (sym at.here) here);
         earlier = λ j low high. absurd (omega (arith, low, high));
       }
 
@@ -140,13 +151,15 @@ module _ (objects : List (List ℕ)) (binding : SymbolBinding) (name : List ℕ)
               | inl above ↦ later.earlier j (omega (arith, above)) high
               | inr past ↦
                   let same : j ≡ o = omega (arith, low, past) in
-                  ap (λ (j : ℕ). first_in binding name (bytes_of objects j)) same ∙ ap (first_in binding name) at.here ∙ here
+                  ap (λ (j : ℕ). first_in binding name (bytes_of objects j)) same ∙ ap
+                  (first_in binding name) at.here ∙ here
             ];
           }
 
   -- ** each other comes later
 
-  not_there : (y : SymbolRef) → Defines objects binding name y → first_in binding name (bytes_of objects y.object) ≡ None → ⊥
+  not_there : (y : SymbolRef) → Defines objects binding name y
+      → first_in binding name (bytes_of objects y.object) ≡ None → ⊥
   unfolding first_in
   not_there y d none =
       let b = bytes_of objects y.object in
@@ -155,9 +168,11 @@ module _ (objects : List (List ℕ)) (binding : SymbolBinding) (name : List ℕ)
 
   passes_at : (x y : SymbolRef) → y.object ≡ x.object → Defines objects binding name y
       → defines (bytes_of objects x.object) binding name y.symbol ≡ true
-  passes_at x y same d = subst (λ (o : ℕ). defines (bytes_of objects o) binding name y.symbol ≡ true) same (passes_if y d)
+  passes_at x y same d =
+      subst (λ (o : ℕ). defines (bytes_of objects o) binding name y.symbol ≡ true) same (passes_if y d)
 
-  in_one : (x y : SymbolRef) → FoundFrom 0 x → Defines objects binding name y → y.object ≡ x.object → (y ≡ x) ⊎ IsBefore x y
+  in_one : (x y : SymbolRef) → FoundFrom 0 x → Defines objects binding name y → y.object ≡ x.object
+      → (y ≡ x) ⊎ IsBefore x y
   in_one x y f d same = elim (cases_lt y.symbol x.symbol) [
     | inl less ↦ absurd (f.found.first y.symbol (omega (arith, d.reserved)) less (passes_at x y same d))
     | inr past ↦ elim (cases_lt x.symbol y.symbol) [

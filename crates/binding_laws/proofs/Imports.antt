@@ -1,5 +1,6 @@
 -- Which images export a name, and the first that does.
-use Rattle.std.proofs.Common.{◌≡◌, ◌+◌, ◌<◌, ◌≤◌, ◌∙◌, ◌⊎◌, ℕ, Bool, true, false, List, [], ◌∷◌, Option, Some, None, length, drop, inl, inr, refl, sym, ap, subst, arith}
+use Rattle.std.proofs.Common.{◌≡◌, ◌+◌, ◌<◌, ◌≤◌, ◌∙◌, ◌⊎◌, ℕ, Bool, true, false, List, [], ◌∷◌, Option, Some, None}
+use Rattle.std.proofs.Common.{length, drop, inl, inr, refl, sym, ap, subst, arith}
 use Rattle.std.specs.Prelude.{slice_index_or, map, if◌then◌else◌}
 use Rattle.std.specs.List.{list_any}
 use Rattle.std.specs.Str.{bytes_eq}
@@ -36,7 +37,8 @@ module _ (objects : List (List ℕ)) (name : List ℕ) where
   exports_is : list_any (bytes_eq name) (exported_names objects) ≡ true → Exports objects name
   exports_is is = by_definition (definition_of objects name) refl (sym (exports_by_name objects name) ∙ is)
     where
-      by_definition : (found : Option SymbolRef) → definition_of objects name ≡ found → is_exported_by objects found ≡ true
+      by_definition : (found : Option SymbolRef) → definition_of objects name ≡ found
+          → is_exported_by objects found ≡ true
           → Exports objects name
       by_definition None here is = absurd cc
       by_definition (Some x) here is =
@@ -61,7 +63,8 @@ module _ (objects : List (List ℕ)) (name : List ℕ) where
           let tls = exports.tls in
           rw (tls, seen) refl
 
-      by_definition : (found : Option SymbolRef) → definition_of objects name ≡ found → is_exported_by objects found ≡ true
+      by_definition : (found : Option SymbolRef) → definition_of objects name ≡ found
+          → is_exported_by objects found ≡ true
       by_definition None here = absurd (definition_none objects name here x exports.definition)
       by_definition (Some y) here =
           let same = definition_only objects name x y exports.definition (definition_is objects name y here) in
@@ -80,10 +83,12 @@ module _ (images : List (List (List ℕ))) (name : List ℕ) where
     first : (j : ℕ) → n < j → j < k → Exports (image images j) name → ⊥
 
   -- image n + 1 exports nothing of the name
-  lacks : (n : ℕ) (b : List (List ℕ)) → slice_index_or images n [] ≡ b → list_any (bytes_eq name) (exported_names b) ≡ false
+  lacks : (n : ℕ) (b : List (List ℕ)) → slice_index_or images n [] ≡ b
+      → list_any (bytes_eq name) (exported_names b) ≡ false
       → Exports (image images (n + 1)) name → ⊥
   lacks n b here is exports =
-      impossible (sym (is_exports b name (subst (λ (b : List (List ℕ)). Exports b name) (image_is n ∙ here) exports)) ∙ is)
+      impossible (sym (is_exports b name (subst (λ (b : List (List ℕ)). Exports b name)
+      (image_is n ∙ here) exports)) ∙ is)
 
   from_none : (more : List (List (List ℕ))) (n : ℕ) → drop n images ≡ more
       → first_export name (n + 1) (map exported_names more) ≡ None
@@ -93,12 +98,14 @@ module _ (images : List (List (List ℕ))) (name : List ℕ) where
       let size = length-drop n images in
       omega arith
   from_none (b ∷ more) n e is j low high exports =
-      by_test (λ h is above. from_none more (n + 1) h is j above high exports) (list_any (bytes_eq name) (exported_names b)) refl is
+      by_test (λ h is above. from_none more (n + 1) h is j above high exports)
+      (list_any (bytes_eq name) (exported_names b)) refl is
     where
       at : Dropped images n [] b more
       at = dropped_is images n [] b more e
 
-      by_test : (drop (n + 1) images ≡ more → first_export name (n + 1 + 1) (map exported_names more) ≡ None → n + 1 < j → ⊥)
+      by_test : (drop (n + 1) images ≡ more → first_export name (n + 1 + 1)
+          (map exported_names more) ≡ None → n + 1 < j → ⊥)
           → (t : Bool) → list_any (bytes_eq name) (exported_names b) ≡ t
           → (if t then Some (n + 1) else first_export name (n + 1 + 1) (map exported_names more)) ≡ None → ⊥
       by_test rest true here is = cc
@@ -118,16 +125,19 @@ module _ (images : List (List (List ℕ))) (name : List ℕ) where
       at : Dropped images n [] b more
       at = dropped_is images n [] b more e
 
-      by_test : (drop (n + 1) images ≡ more → first_export name (n + 1 + 1) (map exported_names more) ≡ Some k → ImportFrom (n + 1) k)
+      by_test : (drop (n + 1) images ≡ more → first_export name (n + 1 + 1)
+          (map exported_names more) ≡ Some k → ImportFrom (n + 1) k)
           → (t : Bool) → list_any (bytes_eq name) (exported_names b) ≡ t
-          → (if t then Some (n + 1) else first_export name (n + 1 + 1) (map exported_names more)) ≡ Some k → ImportFrom n k
+          → (if t then Some (n + 1) else first_export name (n + 1 + 1) (map exported_names more)) ≡ Some k
+          → ImportFrom n k
       by_test rest true here is =
           let same : n + 1 ≡ k = cc in
           let within = at.within in
           subst (ImportFrom n) same (record {
             from = omega arith;
             listed = omega arith;
-            exports = subst (λ (b : List (List ℕ)). Exports b name) (sym (image_is n ∙ at.here)) (exports_is b name here);
+            exports =
+                subst (λ (b : List (List ℕ)). Exports b name) (sym (image_is n ∙ at.here)) (exports_is b name here);
             first = λ j low high. absurd (omega (arith, low, high));
           })
       by_test rest false here is =
@@ -147,7 +157,13 @@ module _ (images : List (List (List ℕ))) (name : List ℕ) where
   pub import_is : (k : ℕ) → first_export name 1 (map exported_names images) ≡ Some k → IsImport images name k
   import_is k is =
       let f = from_found images 0 k refl is in
-      record { counted = omega (arith, f.from); listed = f.listed; exports = f.exports; first = λ j low high. f.first j (omega (arith, low)) high }
+      record {
+        counted = omega (arith, f.from);
+        listed = f.listed;
+        exports = f.exports;
+        first = λ j low high. f.first
+            j (omega (arith, low)) high;
+      }
 
   pub import_none : first_export name 1 (map exported_names images) ≡ None → (k : ℕ) → IsImport images name k → ⊥
   import_none is k import = from_none images 0 refl is k (omega (arith, import.counted)) import.listed import.exports

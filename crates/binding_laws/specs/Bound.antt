@@ -108,7 +108,8 @@ IsBound q (Here x) =
     (IsLocal q × (x ≡ record { object = q.o; symbol = q.e }))
     ⊎ (IsOrdinary q × IsDefinition q.objects (name_of q) x)
 IsBound q (Startup k) =
-    IsOrdinary q × IsEmpty (IsDefinition q.objects (name_of q)) × MayBeElsewhere q.kind × IsImport q.images (name_of q) k
+    IsOrdinary q × IsEmpty (IsDefinition q.objects (name_of q)) × MayBeElsewhere q.kind
+    × IsImport q.images (name_of q) k
 
 -- it is bound to this, or to nothing
 abbrev pub IsAnswer : Asked → Option Binding → Type 0

@@ -15,9 +15,9 @@
 //! The rule of the crate: **a symbol is bound to exactly what the relation allows, and it allows one thing at most**.
 //! `__tls_get_addr` belongs to the run time; a LOCAL symbol is bound to itself; a name to the definition that comes
 //! before all others of its strength; and only where there is none, and for four types of relocation, to the first
-//! startup image whose own definition of the name is thread-local and visible. [`bindings_are_only`]: `bound_to` is the
-//! only answer, and None exactly where there is none. [`unbound_is_undefined`]: an image has the fault Undefined exactly
-//! at its kept relocations, but those of type NONE, without an answer.
+//! startup image whose own definition of the name is thread-local and visible. [`bindings_are_only`]: `bound_to` is
+//! the only answer, and None exactly where there is none. [`unbound_is_undefined`]: an image has the fault Undefined
+//! exactly at its kept relocations, but those of type NONE, without an answer.
 //!
 //! The relation is `specs/Bound` (gABI, "Symbol Table"; Drepper, "ELF Handling For Thread-Local Storage", section 4).
 //! What an object says of a symbol (its name, binding, place and visibility), and whether a place is thread-local, is
