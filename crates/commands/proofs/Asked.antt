@@ -1,9 +1,15 @@
 -- Names asked for, one after another.
-use Rattle.std.proofs.Common.{◌≡◌, ◌∙◌, ℕ, suc, List, [], ◌∷◌, length, take, Option, Some, None, IfSome, Result, Ok, Err, ◌⊎◌, inl, inr, ◌≤◌, refl, sym, ap, subst, append_assoc, arith}
+use Rattle.std.proofs.Common.{◌≡◌, ◌∙◌, ℕ, suc, List, [], ◌∷◌, length, take, Option, Some, None, IfSome, Result, Ok, Err, ◌⊎◌, inl, inr, ◌≤◌, refl, sym, ap, subst, append-nil, append_assoc, arith, cond}
 use Rattle.command_line.specs.declared.tasks.Command.{Command}
 use Rattle.command_replies.specs.Replies.{IsDelivered}
 use Rattle.command_replies.specs.Statuses.{IsLate}
 use Rattle.commands.specs.Replies.{Asked}
+use Rattle.commands.specs.Untold.{Over}
+use Rattle.command_replies.specs.Faults.{IsFetchFault}
+use Rattle.std.specs.Cmp.{eq_by_cmp_equiv}
+use Rattle.std.specs.FinMap as map
+use Rattle.std.specs.FinMap.{get-insert}
+use Rattle.std.proofs.lemmas.Cmp.{nat_list_cmp_total}
 use Rattle.commands.specs.Commands.{command_names}
 use Rattle.std.proofs.Math.Seq.{take-length}
 use Rattle.command_replies.specs.Steps.{Asks, AsksFront, with_names}
@@ -33,10 +39,39 @@ more name names old mid new (Err fault.Store) first h = more_front name names ol
 more name names old mid new (Err fault.OutOfMemory) first h = more_front name names old mid new first h
 more name names old mid new (Err (fault.Refused refusal)) first e = e ∙ ap (with_names names) first ∙ one_more name names old
 
+-- ** whatever the files
+
+-- one file and no other
+only : List ℕ → List ℕ → Files
+only name text = map.insert map.empty name text
+
+only_is_there : (name text : List ℕ) → file_at (only name text) name ≡ Some text
+unfolding only
+only_is_there name text =
+    get-insert nat_list_cmp_total map.empty name text name
+    ∙ ap (λ same. cond same (Some text) (file_at map.empty name)) ((eq_by_cmp_equiv nat_list_cmp_total).refl name)
+
+-- the same names over any files
+pub asks_any : {T : Type 0} (files : Option Files) (names : Names) (old new : Option Names) (r : Result T CommandFault) → Asks names old new r → Over files (λ fs. Asks names old new r)
+asks_any None names old new r h = (map.empty, h)
+asks_any (Some fs) names old new r h = h
+
+first_alone : (T : Type 0) (name : List ℕ) (names : Names) (old new : Option Names) (f : CommandFault) → IsFetchFault f → new ≡ with_name name old → Asks {T = T} (name ∷ names) old new (Err f)
+first_alone T name names old new fault.Store is e = (1, e)
+first_alone T name names old new fault.OutOfMemory is e = (1, e)
+first_alone T name names old new (fault.Refused reply) is e = absurd is
+
+-- the job, which could not be fetched
+pub asks_job : (T : Type 0) (files : Option Files) (name : List ℕ) (image : Option (List ℕ)) (old new : Option Names) (f : CommandFault) → IsFetchFault f → new ≡ with_name name old
+    → Over files (λ fs. Asks {T = T} (asked_names fs name image) old new (Err f))
+asks_job T None name image old new f is e = (map.empty, first_alone T name _ old new f is e)
+asks_job T (Some fs) name image old new f is e = first_alone T name _ old new f is e
+
 -- the job, and then what it asks for
 pub asks_after : {T : Type 0} (files : Option Files) (name text seen : List ℕ) (image : Option (List ℕ)) (old mid new : Option Names) (r : Result T CommandFault) → mid ≡ with_name name old
-    → IfSome files (λ fs. file_at fs name ≡ Some text) → seen ≡ text → Asks (job_names image (job_of seen)) mid new r → IfSome files (λ fs. Asks (asked_names fs name image) old new r)
-asks_after None name text seen image old mid new r first there same h = tt
+    → IfSome files (λ fs. file_at fs name ≡ Some text) → seen ≡ text → Asks (job_names image (job_of seen)) mid new r → Over files (λ fs. Asks (asked_names fs name image) old new r)
+asks_after None name text seen image old mid new r first there same h =
+    (only name text, rw (only_is_there name text) (more name (job_names image (job_of text)) old mid new r first (subst (λ (s : List ℕ). Asks (job_names image (job_of s)) mid new r) same h)))
 asks_after (Some fs) name text seen image old mid new r first there same h =
     rw there (more name (job_names image (job_of text)) old mid new r first (subst (λ (s : List ℕ). Asks (job_names image (job_of s)) mid new r) same h))
 
@@ -47,11 +82,13 @@ asks_whole names old new (Err fault.Store) e = asks_all names old new e
 asks_whole names old new (Err fault.OutOfMemory) e = asks_all names old new e
 asks_whole names old new (Err (fault.Refused refusal)) e = e
 
--- and no other behind them
-pub asks_before : {T : Type 0} (files : Option Files) (names : Files → Names) (old mid new : Option Names) (r : Result T CommandFault) → IfSome files (λ fs. mid ≡ with_names (names fs) old)
-    → new ≡ mid → IfSome files (λ fs. Asks (names fs) old new r)
-asks_before None names old mid new r before same = tt
-asks_before (Some fs) names old mid new r before same = asks_whole (names fs) old new r (same ∙ before)
+-- and none
+pub asked_none : (old : Option Names) → old ≡ with_names [] old
+asked_none None = refl
+asked_none (Some names) = ap (λ (ns : Names). Some ns) (sym (append-nil names))
+
+pub asks_none : {T : Type 0} (files : Option Files) (old new : Option Names) (r : Result T CommandFault) → new ≡ old → Over files (λ fs. Asks [] old new r)
+asks_none files old new r same = asks_any files [] old new r (asks_whole [] old new r (same ∙ asked_none old))
 
 -- ** the whole command
 
@@ -69,7 +106,7 @@ asked_of fs asked (Err fault.Store) old new code front delivered = record { fron
 asked_of fs asked (Err fault.OutOfMemory) old new code front delivered = record { front = front; all = λ own. absurd (answered code (inr delivered) own) }
 asked_of fs asked (Err (fault.Refused reply)) old new code e delivered = record { front = asks_all (command_names fs asked) old new e; all = λ own. e }
 
-pub asked_by : {T : Type 0} (files : Option Files) (asked : Command) (r : Result T CommandFault) (old new : Option Names) (code : ℕ) → IfSome files (λ fs. Asks (command_names fs asked) old new r) → IsDelivered r code
-    → IfSome files (λ fs. Asked fs asked old new code)
-asked_by None asked r old new code asks delivered = tt
+pub asked_by : {T : Type 0} (files : Option Files) (asked : Command) (r : Result T CommandFault) (old new : Option Names) (code : ℕ) → Over files (λ fs. Asks (command_names fs asked) old new r) → IsDelivered r code
+    → Over files (λ fs. Asked fs asked old new code)
+asked_by None asked r old new code (fs, asks) delivered = (fs, asked_of fs asked r old new code asks delivered)
 asked_by (Some fs) asked r old new code asks delivered = asked_of fs asked r old new code asks delivered

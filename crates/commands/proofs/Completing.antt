@@ -46,6 +46,7 @@ use Rattle.commands.specs.RunJobs.{IsRun}
 use Rattle.commands.specs.Tasks.{TaskSays}
 use Rattle.commands.specs.Commands.{CommandSays}
 use Rattle.commands.specs.Races.{IsRace}
+use Rattle.commands.specs.Untold.{UntoldSays}
 use Rattle.commands.specs.declared.telling.Telling.TheVariants.{Transcript}
 use Rattle.commands.proofs.Membership.{In, in_contains, of_all}
 use Rattle.commands.proofs.Mentioned.{in_once}
@@ -87,7 +88,7 @@ module _ (image : Option (List ℕ)) (E : Ending) (relax : Bool) (w : WritableSe
   ends : FileSays image E relax w fs name status text → DoesLink E relax (bytes_at fs) good.job status text
   ends says = let objects = of_file (file_at fs name) good.text says in never_refused E relax w (bytes_at fs) good.job status text fine allowed all_link objects.says
 
-verdict_done : (found : Option UncleanStep) (status : ℕ) (text : List ℕ) → SaysOf found status text → (status ≡ 0) ⊎ (status ≡ 9)
+pub verdict_done : (found : Option UncleanStep) (status : ℕ) (text : List ℕ) → SaysOf found status text → (status ≡ 0) ⊎ (status ≡ 9)
 verdict_done None status text says = inl says.0
 verdict_done (Some step) status text says = inr says.0
 
@@ -167,7 +168,7 @@ all_allowed fs relax name race object i =
     allowed_at (file_at fs object) (of_all (λ other. HasFile (file_at fs other) (Allows Refused)) (distinct (mentions_of race.good.job)) object race.dataless
     (in_once (mentions_of race.good.job) object i))
 
-pub command_done : (fs : Files) (after : Option Files) (command : Command) (status : ℕ) (text : List ℕ) → IsGood fs command → CommandSays fs after command status text
+pub command_done : (fs : Files) (after : Option Files) (command : Command) (status : ℕ) (text : List ℕ) → IsGood (Some fs) command → CommandSays fs after command status text
     → IsDone command status
 command_done fs after (Plain task) status text good says = task_done fs after task status text good says
 command_done fs after (Race job rewriting) status text race says =
@@ -197,39 +198,49 @@ own_done : (command : Command) (own code : ℕ) → IsDone command own → (code
 own_done command own code done (inl is) = inl (subst (IsDone command) (sym is) done)
 own_done command own code done (inr is) = inr is
 
-output_done : (fs : Files) (after : Option Files) (command : Command) (r : Result Text CommandFault) (before now own : ℕ) (text : List ℕ) → IsGood fs command → StoreCounts before now r
-    → Comes items (CommandSays fs after command) r → DidNotFail before now → IsOwn items r own text → IsDone command own
-output_done fs after command (Ok x) before now own text good counts says fine is = subst (IsDone command) (sym is.0) (command_done fs after command 0 x.items good says)
-output_done fs after command (Err fault.Store) before now own text good counts says fine is = absurd (fine counts.1)
-output_done fs after command (Err fault.OutOfMemory) before now own text good counts says fine is = absurd is
-output_done fs after command (Err (fault.Refused reply)) before now own text good counts says fine is =
+-- `gen` reads no file
+gen_done : (command : Command) (status : ℕ) (text : List ℕ) → IsGood None command → UntoldSays command status text → IsDone command status
+gen_done (Plain (Run job rewriting)) status text good may = absurd good
+gen_done (Plain (Check job)) status text good may = absurd good
+gen_done (Plain (Link job image out rewriting)) status text good may = absurd good
+gen_done (Plain (Sites job image)) status text good may = absurd good
+gen_done (Plain (Show file)) status text good may = absurd good
+gen_done (Plain (Gen count)) status text good may = may.ran.says.0
+gen_done (Race job rewriting) status text good may = absurd good
+
+output_done : (files after : Option Files) (command : Command) (r : Result Text CommandFault) (before now own : ℕ) (text : List ℕ) → IsGood files command → StoreCounts before now r
+    → IfSome files (λ fs. Comes items (CommandSays fs after command) r) → Comes items (UntoldSays command) r → DidNotFail before now → IsOwn items r own text → IsDone command own
+output_done None after command (Ok x) before now own text good counts says may fine is = subst (IsDone command) (sym is.0) (gen_done command 0 x.items good may)
+output_done (Some fs) after command (Ok x) before now own text good counts says may fine is = subst (IsDone command) (sym is.0) (command_done fs after command 0 x.items good says)
+output_done files after command (Err fault.Store) before now own text good counts says may fine is = absurd (fine counts.1)
+output_done files after command (Err fault.OutOfMemory) before now own text good counts says may fine is = absurd is
+output_done None after command (Err (fault.Refused reply)) before now own text good counts says may fine is =
+    subst (IsDone command) (sym is.0) (gen_done command (code_of reply.status) reply.text.items good may)
+output_done (Some fs) after command (Err (fault.Refused reply)) before now own text good counts says may fine is =
     subst (IsDone command) (sym is.0) (command_done fs after command (code_of reply.status) reply.text.items good says)
 
 -- an output that is delivered
 pub output_completes : (files after : Option Files) (command : Command) (r : Result Text CommandFault) (before now : ℕ) (old new : SinkView) (code : ℕ) → StoreCounts before now r
-    → IfSome files (λ fs. Comes items (CommandSays fs after command) r) → Delivered (IsOwn items r) old new code
-    → IfSome files (λ fs. DidNotFail before now → DidNotFail old.faults new.faults → Completes fs command code)
-output_completes None after command r before now old new code counts says is = tt
-output_completes (Some fs) after command r before now old new code counts says (inl line) =
+    → IfSome files (λ fs. Comes items (CommandSays fs after command) r) → Comes items (UntoldSays command) r → Delivered (IsOwn items r) old new code
+    → DidNotFail before now → DidNotFail old.faults new.faults → Completes files command code
+output_completes files after command r before now old new code counts says may (inl line) =
     λ store sink good. ⊎_elim (λ one. inr one) (λ one. inr one) (of_sink memory_line 1 old new code sink line)
-output_completes (Some fs) after command r before now old new code counts says (inr (own, (text, (may, put)))) =
-    λ store sink good. own_done command own code (output_done fs after command r before now own text good counts says store may) (delivered text own old new code sink put)
+output_completes files after command r before now old new code counts says may (inr (own, (text, (is, put)))) =
+    λ store sink good. own_done command own code (output_done files after command r before now own text good counts says may store is) (delivered text own old new code sink put)
 
 -- ** words
 
 abbrev Words : Option Files → Option Command → ℕ → ℕ → ℕ → ℕ → ℕ → Type 0
 Words files command before now old new code =
-    IfSome files (λ fs. IfSome command (λ own. DidNotFail before now → DidNotFail old new → Completes fs own code))
+    IfSome command (λ own. DidNotFail before now → DidNotFail old new → Completes files own code)
 
 pub usage_completes : (files : Option Files) (words : List (List ℕ)) (before now old new code : ℕ) → takes_words words ≡ false → Words files (asked words) before now old new code
-usage_completes None words before now old new code other = tt
-usage_completes (Some fs) words before now old new code other = rw (not_asked words other) tt
+usage_completes files words before now old new code other = rw (not_asked words other) tt
 
-late : (fs : Files) (command : Command) (old new code : ℕ) → IsLate code → SinkShown old new code → DidNotFail old new → Completes fs command code
-late fs command old new code (inl one) shown fine good = inr one
-late fs command old new code (inr four) shown fine good = absurd (fine (shown.cause four))
+late : (files : Option Files) (command : Command) (old new code : ℕ) → IsLate code → SinkShown old new code → DidNotFail old new → Completes files command code
+late files command old new code (inl one) shown fine good = inr one
+late files command old new code (inr four) shown fine good = absurd (fine (shown.cause four))
 
 pub late_completes : (files : Option Files) (command : Option Command) (before now old new code : ℕ) → IsLate code → SinkShown old new code → Words files command before now old new code
-late_completes None command before now old new code is shown = tt
-late_completes (Some fs) None before now old new code is shown = tt
-late_completes (Some fs) (Some own) before now old new code is shown = λ store sink. late fs own old new code is shown sink
+late_completes files None before now old new code is shown = tt
+late_completes files (Some own) before now old new code is shown = λ store sink. late files own old new code is shown sink

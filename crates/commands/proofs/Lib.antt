@@ -22,4 +22,5 @@ mod Shown
 mod SiteLines
 mod Together
 mod Transcribed
+mod Untold
 mod Words

@@ -1,5 +1,5 @@
 -- What is shown of words.
-use Rattle.std.proofs.Common.{◌≡◌, inl, inr, ℕ, List, [], Option, Some, None, IfSome, false, refl, sym, ap, append-nil}
+use Rattle.std.proofs.Common.{◌≡◌, inl, inr, ℕ, List, Option, Some, None, false, refl}
 use Rattle.command_line.specs.declared.tasks.Command.{Command}
 use Rattle.command_line.specs.declared.tasks.Command.TheVariants.{Plain, Race}
 use Rattle.command_line.specs.Words.{asked, takes_words}
@@ -7,22 +7,22 @@ use Rattle.ports.specs.Files.{Files, untold_files}
 use Rattle.ports.specs.Sinks.{SinkView}
 use Rattle.command_line.specs.declared.tasks.Task.TheVariants.{Run, Check, Link, Sites, Show, Gen}
 use Rattle.command_replies.specs.Statuses.{IsLate}
-use Rattle.command_replies.specs.Steps.{with_names}
 use Rattle.commands.specs.Links.{LinkSays, Leaves}
 use Rattle.commands.specs.Replies.{ShowsWords, AskedWords, WordsLeave}
-use Rattle.commands.proofs.Asked.{answered}
+use Rattle.commands.specs.Untold.{Over}
+use Rattle.std.specs.FinMap as map
+use Rattle.commands.proofs.Asked.{answered, asked_none}
 
 abbrev Names : Type 0
 Names = List (List ℕ)
 
-none_more : (old : Option Names) → old ≡ with_names [] old
-none_more None = refl
-none_more (Some names) = ap (λ (ns : Names). Some ns) (sym (append-nil names))
+late_words : (fs : Files) (command : Option Command) (old : Option Names) (code : ℕ) → IsLate code → AskedWords fs command old old code
+late_words fs None old code late = refl
+late_words fs (Some command) old code late = record { front = (0, asked_none old); all = λ own. absurd (answered code (inr late) own) }
 
-pub asked_late : (files : Option Files) (command : Option Command) (old : Option Names) (code : ℕ) → IsLate code → IfSome files (λ fs. AskedWords fs command old old code)
-asked_late None command old code late = tt
-asked_late (Some fs) None old code late = refl
-asked_late (Some fs) (Some command) old code late = record { front = (0, none_more old); all = λ own. absurd (answered code (inr late) own) }
+pub asked_late : (files : Option Files) (command : Option Command) (old : Option Names) (code : ℕ) → IsLate code → Over files (λ fs. AskedWords fs command old old code)
+asked_late None command old code late = (map.empty, late_words map.empty command old code late)
+asked_late (Some fs) command old code late = late_words fs command old code late
 
 pub not_asked : (words : List (List ℕ)) → takes_words words ≡ false → asked words ≡ None
 unfolding asked
@@ -32,8 +32,8 @@ pub shows_usage : (files after : Option Files) (words : List (List ℕ)) (old ne
     → ShowsWords files after (asked words) old new code
 shows_usage files after words old new code other shown = rw (not_asked words other) shown
 
-pub asked_usage : (files : Option Files) (words : List (List ℕ)) (old : Option Names) (code : ℕ) → takes_words words ≡ false → IfSome files (λ fs. AskedWords fs (asked words) old old code)
-asked_usage None words old code other = tt
+pub asked_usage : (files : Option Files) (words : List (List ℕ)) (old : Option Names) (code : ℕ) → takes_words words ≡ false → Over files (λ fs. AskedWords fs (asked words) old old code)
+asked_usage None words old code other = (map.empty, rw (not_asked words other) refl)
 asked_usage (Some fs) words old code other = rw (not_asked words other) refl
 
 -- the files after words

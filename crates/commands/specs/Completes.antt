@@ -1,6 +1,6 @@
 -- Which commands complete: if nothing is wrong with the input and no port fails, the status is 0, or 9 for a job that
 -- `check` finds unclean; or 1 if memory runs out. So no good job is refused.
-use Rattle.std.specs.Prelude.{◌≡◌, ◌⊎◌, ℕ, Bool, true, List, Contains, map, Ok}
+use Rattle.std.specs.Prelude.{◌≡◌, ◌⊎◌, ℕ, Bool, true, List, Contains, map, Option, None, Some, Ok}
 use Rattle.std.specs.List.{All}
 use Rattle.command_line.specs.Rewritings.{is_allowed}
 use Rattle.command_line.specs.declared.tasks.Command.{Command}
@@ -48,9 +48,12 @@ IsGoodTask fs (Sites job image) = HasGoodImage fs true job image
 IsGoodTask fs (Show file) = HasFile (file_at fs file) IsImage
 IsGoodTask fs (Gen count) = Unit {0}
 
-abbrev pub IsGood : Files → Command → Type 0
-IsGood fs (Plain task) = IsGoodTask fs task
-IsGood fs (Race job rewriting) = IsGoodRace fs (is_allowed rewriting) job
+-- over a store that does not show its files, `gen` alone is known to be given nothing wrong: it reads none
+abbrev pub IsGood : Option Files → Command → Type 0
+IsGood None (Plain (Gen count)) = Unit {0}
+IsGood None command = ⊥
+IsGood (Some fs) (Plain task) = IsGoodTask fs task
+IsGood (Some fs) (Race job rewriting) = IsGoodRace fs (is_allowed rewriting) job
 
 -- ---- completion
 
@@ -72,5 +75,5 @@ IsDone (Race job rewriting) code = code ≡ 0
 abbrev pub DidNotFail : ℕ → ℕ → Type 0
 DidNotFail before now = Rose before now → ⊥
 
-abbrev pub Completes : Files → Command → ℕ → Type 0
-Completes fs command code = IsGood fs command → IsDone command code ⊎ (code ≡ 1)
+abbrev pub Completes : Option Files → Command → ℕ → Type 0
+Completes files command code = IsGood files command → IsDone command code ⊎ (code ≡ 1)

@@ -1,6 +1,7 @@
 pub mod Checks
 pub mod Commands
 pub mod Completes
+pub mod Events
 pub mod GeneratedRuns
 pub mod InOrder
 pub mod Jobs
@@ -12,3 +13,4 @@ pub mod Replies
 pub mod RunJobs
 pub mod Runs
 pub mod Tasks
+pub mod Untold

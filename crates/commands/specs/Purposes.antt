@@ -33,6 +33,11 @@ put_by Check = None
 put_by (File put) = Some put.out.now
 put_by (Sites image) = None
 
+-- whether it judges the job
+abbrev pub Judges : Purpose → Type 0
+Judges Check = Unit {0}
+Judges purpose = ⊥
+
 -- what is said if all images link, with the files before and after
 abbrev pub Tells : Purpose → Option Files → Option Files → JobParts → List Linking → ℕ → List ℕ → Type 0
 Tells (Run telling) before after job ls status text = IsRun telling job ls status text
@@ -78,6 +83,10 @@ puts (found.Run telling) = None
 puts found.Check = None
 puts (found.File place put) = Some put.out.now
 puts (found.Sites place) = None
+
+abbrev pub JudgesAt : Placed → Type 0
+JudgesAt found.Check = Unit {0}
+JudgesAt ending = ⊥
 
 abbrev pub Makes : Placed → Option Files → Option Files → JobParts → List Linking → ℕ → List ℕ → Type 0
 Makes (found.Run telling) before after job ls status text = IsRun telling job ls status text

@@ -6,13 +6,14 @@ use Rattle.command_replies.specs.Delivery.{Delivered, store_line, usage_line}
 use Rattle.ports.specs.Files.{Files}
 use Rattle.ports.specs.Sinks.{SinkView}
 use Rattle.commands.specs.Commands.{CommandLeaves, CommandSays, command_names}
+use Rattle.commands.specs.Untold.{UntoldSays}
 
 -- ---- the whole command
 
 -- what a command may say, and with which status: that the store failed, or what it says over the store's files before
--- and after it; if the store does not show its files, any text with a status of the command's own
+-- and after it; if the store does not show its files, what the command may say over any
 abbrev pub MaySay : Option Files → Option Files → Command → ℕ → List ℕ → Type 0
-MaySay None after asked own text = ((own ≡ 3) × (text ≡ store_line)) ⊎ ((own ≡ 0) ⊎ (5 ≤ own))
+MaySay None after asked own text = ((own ≡ 3) × (text ≡ store_line)) ⊎ UntoldSays asked own text
 MaySay (Some fs) after asked own text = ((own ≡ 3) × (text ≡ store_line)) ⊎ CommandSays fs after asked own text
 
 -- what is shown: 1 means out of memory, and comes after a prefix of another text only if the sink ran out of memory for

@@ -7,6 +7,7 @@ ghost use Rattle.image_text.specs.Shown.{shown};
 ghost use Rattle.commands.specs.Links.{SitesSays, image_names};
 ghost use Rattle.commands.specs.Listings.{ListingSays};
 ghost use Rattle.commands.specs.Tasks.{ShowSays, TaskLeaves, TaskSays, task_names};
+ghost use Rattle.commands.specs.Untold.{HasImageStatus, HasJobStatus, Over, TaskMaySay};
 
 use crate::generated::generated;
 use crate::links::link;
@@ -35,7 +36,8 @@ pub fn output<R: Threads + Sync, S: Store>(
     ensures cause { StoreCounts (S.faults store.old) (S.faults store.new) result }
     ensures says { IfSome (S.files store.old) (λ fs. Comes (λ text. text.items)
         (TaskSays fs (S.files store.new) task.now) result) }
-    ensures asks { IfSome (S.files store.old) (λ fs. Asks (task_names fs task.now)
+    ensures may { Comes (λ text. text.items) (TaskMaySay task.now) result }
+    ensures asks { Over (S.files store.old) (λ fs. Asks (task_names fs task.now)
         (S.asked store.old) (S.asked store.new) result) }
     ensures out { S.out store.new ≡ S.out store.old }
 {
@@ -78,7 +80,8 @@ fn sites<R: Threads + Sync, S: Store>(
     ensures cause { StoreCounts (S.faults store.old) (S.faults store.new) result }
     ensures says { IfSome (S.files store.old) (λ fs. Comes (λ text. text.items)
         (SitesSays fs job.now image.now) result) }
-    ensures asks { IfSome (S.files store.old) (λ fs. Asks (image_names fs job.now image.now)
+    ensures own { Comes (λ text. text.items) (λ own text. HasJobStatus ⊥ own) result }
+    ensures asks { Over (S.files store.old) (λ fs. Asks (image_names fs job.now image.now)
         (S.asked store.old) (S.asked store.new) result) }
     ensures out { S.out store.new ≡ S.out store.old }
 {
@@ -91,6 +94,7 @@ fn show<S: Store>(alloc: Global, store: &mut S, name: &str) -> Result<Vec<u8>, C
     ensures files { S.files store.new ≡ S.files store.old }
     ensures cause { StoreCounts (S.faults store.old) (S.faults store.new) result }
     ensures says { IfSome (S.files store.old) (λ fs. Comes (λ text. text.items) (ShowSays fs name.now) result) }
+    ensures own { Comes (λ text. text.items) (λ own text. HasImageStatus own) result }
     ensures asks { Asks (name.now ∷ []) (S.asked store.old) (S.asked store.new) result }
     ensures out { S.out store.new ≡ S.out store.old }
 {

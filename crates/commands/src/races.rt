@@ -11,6 +11,7 @@ ghost use Rattle.command_replies.specs.Steps.{Asks, Comes};
 ghost use Rattle.commands.specs.InOrder.{AreInOrder, AreLinked};
 ghost use Rattle.commands.specs.Jobs.{BytesSay, ImagesSay, JobSays, asked_names, job_names};
 ghost use Rattle.commands.specs.Races.{IsRace, RaceSays};
+ghost use Rattle.commands.specs.Untold.{HasJobStatus, Over};
 ghost use Rattle.job_link.specs.declared.writable.WritableSections.TheVariants.{Refused};
 ghost use Rattle.job_link.specs.Given.{Allows, AreGiven};
 ghost use Rattle.job_link.specs.Mentions.{bytes_in};
@@ -45,7 +46,8 @@ pub fn raced<R: Threads + Wait + Sync, S: Store>(
     ensures cause { StoreCounts (S.faults store.old) (S.faults store.new) result }
     ensures says { IfSome (S.files store.old) (λ fs. Comes (λ text. text.items)
         (RaceSays fs name.now rewriting) result) }
-    ensures asks { IfSome (S.files store.old) (λ fs. Asks (asked_names fs name.now None)
+    ensures own { Comes (λ text. text.items) (λ own text. HasJobStatus ⊥ own) result }
+    ensures asks { Over (S.files store.old) (λ fs. Asks (asked_names fs name.now None)
         (S.asked store.old) (S.asked store.new) result) }
     ensures out { S.out store.new ≡ S.out store.old }
 {
@@ -67,6 +69,7 @@ fn raced_of_text<R: Threads + Wait + Sync, S: Store>(
     ensures cause { StoreCounts (S.faults store.old) (S.faults store.new) result }
     ensures says { IfSome (S.files store.old) (λ fs. Comes (λ text. text.items)
         (JobSays None IsRace (is_allowed rewriting) Refused fs (job_of_text text.now)) result) }
+    ensures own { Comes (λ text. text.items) (λ own text. HasJobStatus ⊥ own) result }
     ensures asks { Asks (job_names None (job_of_text text.now)) (S.asked store.old) (S.asked store.new) result }
     ensures out { S.out store.new ≡ S.out store.old }
 {

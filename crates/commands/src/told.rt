@@ -10,7 +10,8 @@ ghost use Rattle.command_replies.specs.Steps.{Asks, Comes};
 ghost use Rattle.commands.specs.InOrder.{AreInOrder};
 ghost use Rattle.commands.specs.Jobs.{BytesSay, ImagesSay, ObjectsSay, asked_names, job_names};
 ghost use Rattle.commands.specs.Links.{FilesAfter};
-ghost use Rattle.commands.specs.Purposes.{FileTold, IsWithin, JobTold, Makes, put_by, puts, wanted_by};
+ghost use Rattle.commands.specs.Purposes.{FileTold, IsWithin, JobTold, Judges, JudgesAt, Makes, put_by, puts, wanted_by};
+ghost use Rattle.commands.specs.Untold.{HasJobStatus, Over};
 ghost use Rattle.job_link.specs.declared.writable.WritableSections.TheVariants.{Kept};
 ghost use Rattle.job_link.specs.Given.{AreGiven};
 ghost use Rattle.job_link.specs.Mentions.{bytes_in, object_names};
@@ -47,7 +48,8 @@ pub fn told<R: Threads + Sync, S: Store>(
     ensures cause { StoreCounts (S.faults store.old) (S.faults store.new) result }
     ensures says { IfSome (S.files store.old) (λ fs. Comes (λ text. text.items)
         (FileTold purpose.entry rewriting fs (S.files store.new) name.now) result) }
-    ensures asks { IfSome (S.files store.old) (λ fs. Asks (asked_names fs name.now (wanted_by purpose.entry))
+    ensures own { Comes (λ text. text.items) (λ own text. HasJobStatus (Judges purpose.entry) own) result }
+    ensures asks { Over (S.files store.old) (λ fs. Asks (asked_names fs name.now (wanted_by purpose.entry))
         (S.asked store.old) (S.asked store.new) result) }
     ensures out { S.out store.new ≡ S.out store.old }
 {
@@ -71,6 +73,7 @@ fn told_of_text<R: Threads + Sync, S: Store>(
     ensures cause { StoreCounts (S.faults store.old) (S.faults store.new) result }
     ensures says { IfSome (S.files store.old) (λ fs. Comes (λ text. text.items)
         (JobTold purpose.entry rewriting fs (S.files store.new) (job_of_text text.now)) result) }
+    ensures own { Comes (λ text. text.items) (λ own text. HasJobStatus (Judges purpose.entry) own) result }
     ensures asks { Asks (job_names (wanted_by purpose.entry) (job_of_text text.now))
         (S.asked store.old) (S.asked store.new) result }
     ensures out { S.out store.new ≡ S.out store.old }
@@ -101,6 +104,7 @@ fn told_of_objects<R: Threads + Sync, S: Store>(
     ensures says { IfSome (S.files store.old) (λ fs. Comes (λ text. text.items)
         (ObjectsSay (Makes course.entry.ending (Some fs) (S.files store.new)) (is_allowed course.entry.rewriting)
         Kept fs job.now) result) }
+    ensures own { Comes (λ text. text.items) (λ own text. HasJobStatus (JudgesAt course.entry.ending) own) result }
     ensures asks { Asks (object_names job.now) (S.asked store.old) (S.asked store.new) result }
     ensures out { S.out store.new ≡ S.out store.old }
 {

@@ -1,11 +1,12 @@
 //! The top calls, which `main` makes.
-ghost use Rattle.std.specs.Prelude.{◌≢◌, IfSome, None, false, map, string_bytes};
+ghost use Rattle.std.specs.Prelude.{◌≡◌, ◌≢◌, IfSome, None, false, map, string_bytes};
 ghost use Rattle.command_line.specs.Words.{IsInLimits, asked, takes_words};
 ghost use Rattle.command_replies.specs.Statuses.{FilesShown, UsageShown, StoreShown, SinkShown};
 ghost use Rattle.ports.specs.Files.{untold_files};
 ghost use Rattle.commands.specs.Completes.{Completes, DidNotFail};
 ghost use Rattle.commands.specs.Replies.{Asked, AskedWords, Shows, ShowsWords, WordsLeave};
 ghost use Rattle.commands.specs.Commands.{CommandLeaves};
+ghost use Rattle.commands.specs.Untold.{Over};
 
 use crate::command::output;
 use crate::races::raced;
@@ -33,11 +34,12 @@ pub fn tlsld<R: Threads + Wait + Sync, S: Store, K: Sink>(
     ensures files { WordsLeave (S.files store.old) (S.files store.new) (asked (map string_bytes words.now)) }
     ensures shows { ShowsWords (S.files store.old) (S.files store.new) (asked (map string_bytes words.now))
         (K.view out.old) (K.view out.new) result }
-    ensures asked { IfSome (S.files store.old) (λ fs. AskedWords fs (asked (map string_bytes words.now))
+    ensures asked { Over (S.files store.old) (λ fs. AskedWords fs (asked (map string_bytes words.now))
         (S.asked store.old) (S.asked store.new) result) }
-    ensures completes { IfSome (S.files store.old) (λ fs. IfSome (asked (map string_bytes words.now)) (λ command.
+    ensures completes { IfSome (asked (map string_bytes words.now)) (λ command.
         DidNotFail (S.faults store.old) (S.faults store.new)
-        → DidNotFail (K.view out.old).faults (K.view out.new).faults → Completes fs command result)) }
+        → DidNotFail (K.view out.old).faults (K.view out.new).faults
+        → Completes (S.files store.old) command result) }
     ensures out { S.out store.new ≡ S.out store.old }
 {
     match read_words(alloc, words) {
@@ -68,11 +70,11 @@ pub fn tlsld_plain<R: Threads + Sync, S: Store, K: Sink>(
     ensures files { CommandLeaves (S.files store.old) (S.files store.new) (Command.Plain task.now) }
     ensures shows { Shows (S.files store.old) (S.files store.new) (Command.Plain task.now)
         (K.view out.old) (K.view out.new) result }
-    ensures asked { IfSome (S.files store.old)
+    ensures asked { Over (S.files store.old)
         (λ fs. Asked fs (Command.Plain task.now) (S.asked store.old) (S.asked store.new) result) }
-    ensures completes { IfSome (S.files store.old) (λ fs. DidNotFail (S.faults store.old) (S.faults store.new)
+    ensures completes { DidNotFail (S.faults store.old) (S.faults store.new)
         → DidNotFail (K.view out.old).faults (K.view out.new).faults
-        → Completes fs (Command.Plain task.now) result) }
+        → Completes (S.files store.old) (Command.Plain task.now) result }
     ensures out { S.out store.new ≡ S.out store.old }
 {
     let output = output(rt, alloc, task, store);

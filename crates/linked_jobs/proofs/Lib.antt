@@ -1,5 +1,7 @@
 mod Answers
+mod Data
 pub mod Infos
+pub mod Low
 mod Orders
 pub mod Printing
 mod Runs

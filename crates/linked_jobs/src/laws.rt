@@ -2,6 +2,7 @@
 
 ghost use Rattle.linked_jobs.specs.Answers.{LinkedAnswersAgree, LinkedJobsStandAlike, LinkedSequencesFind};
 ghost use Rattle.linked_jobs.specs.Answers.{LinkedThreadsStandAlike};
+ghost use Rattle.linked_jobs.specs.Data.{LinkedThreadsShareData};
 ghost use Rattle.linked_jobs.specs.Laws.{LinkedJobsPrint, LinkedThreadsPrint, LinksAreTied};
 ghost use Rattle.linked_jobs.specs.Laws.{TranscriptsTellTheirThreads};
 
@@ -46,4 +47,10 @@ pub fn linked_sequences_find()
 /// So the two agree on one variable, up to the thread pointer, whether a linker kept or rewrote either.
 pub fn linked_answers_agree()
     ensures { LinkedAnswersAgree }
+{}
+
+/// Whatever a job's threads do, what each reads of data that they share is what the last change there left, in the
+/// order of turns, and each byte of these data is at its own address. So it is of what they mean.
+pub fn linked_threads_share_data()
+    ensures { LinkedThreadsShareData }
 {}

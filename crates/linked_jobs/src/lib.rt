@@ -41,6 +41,13 @@
 //! The first is the variable's address in the thread's own block, the second its distance from the thread pointer
 //! ([`linked_sequences_find`]). So the two agree whether a linker kept or rewrote either ([`linked_answers_agree`]).
 //!
+//! **Data that threads share** need no clean meaning (`specs/Data`, [`linked_threads_share_data`]). Whatever a job's
+//! threads do, in any order of turns, each byte of the data of each instance that a thread has seen live is at its own
+//! address: what it reads there is what the last change left, a store or the load, and what it stores there is the next
+//! change of that byte. `shared_data` proves it wherever all that is loaded lies below what threads have for
+//! themselves, and data at addresses that tell their instance; what is tied lies so (`proofs/Low`). It holds of the
+//! machine's threads, and of what they mean.
+//!
 //! The conditions on the links (`specs/Ready`) are what a reader of the job and of its objects has checked: they link,
 //! together; files are bytes; no object has a loose relocation of a sequence or a stray call; the program comes first,
 //! and images that are opened late come last; there are 64 images at most, and each has fewer than 2^32 objects, so
@@ -52,6 +59,6 @@ mod laws;
 
 pub use laws::{
     linked_answers_agree, linked_jobs_print, linked_jobs_stand_alike, linked_sequences_find,
-    linked_threads_print, linked_threads_stand_alike, links_are_tied,
+    linked_threads_print, linked_threads_share_data, linked_threads_stand_alike, links_are_tied,
     transcripts_tell_their_threads,
 };

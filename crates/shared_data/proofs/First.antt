@@ -3,6 +3,7 @@ use Rattle.std.proofs.Common.{◌≡◌, ◌∙◌, ◌++◌, ℕ, true, false, 
 use Rattle.std.specs.Prelude.{is_some}
 use Rattle.std.specs.List.{flat_map}
 use Rattle.std.specs.Option.{option_or}
+use Rattle.std.proofs.lemmas.Bool.{eq-eqb}
 use Rattle.guest_machine.specs.Ranges.{Range}
 use Rattle.loaded_modules.specs.declared.instance.Instance.{Instance}
 use Rattle.module_table.specs.declared.events.Event.{Event}
@@ -10,7 +11,8 @@ use Rattle.thread_blocks.specs.Held.{Held, Owned, block_after, data_after, data_
 use Rattle.thread_blocks.specs.Instances.{Loads, instances}
 use Rattle.shared_data.specs.Changes.{Change, Filled, last_left}
 use Rattle.shared_data.specs.Told.{filled, filled_with}
-use Rattle.shared_data.proofs.Held.{HaveOwnNumbers, IsBlock, all_blocks, with_owned_by}
+use Rattle.shared_data.proofs.Fits.{HasAll, HaveOwnNumbers, IsBlock, all_blocks, of_live}
+use Rattle.shared_data.proofs.Held.{with_owned_by}
 use Rattle.shared_data.proofs.Last.{filled_other, filled_there, last_reached, last_spared}
 use Rattle.shared_data.proofs.Left.{AreLeft, Each, IsLeft, each_append}
 
@@ -51,7 +53,15 @@ module _ {B : Type 0} (l : Loads B) where
       each_append (IsLeft (filled l x ++ flat_map (filled l) xs)) (data_after l (λ y. true) [] x)
       (flat_map (data_after l (λ y. true) []) xs)
       (first_left x (l.shared x) (flat_map (filled l) xs) (none_after x.number xs own.0))
-      (behind_left (filled l x) (flat_map (filled l) xs) (flat_map (data_after l (λ y. true) []) xs) (data_first xs own.1))
+      (behind_left (filled l x) (flat_map (filled l) xs) (flat_map (data_after l (λ y. true) []) xs)
+      (data_first xs own.1))
+
+  -- all of them
+  pub all_first : (live : List Instance) → HasAll l live (flat_map (data_after l (λ x. true) []) live)
+  all_first live y is range e =
+      let found = of_live y.number l (λ x. true) [] y range range.bytes e (rw e refl) live is
+      (eq-eqb y.number y.number refl) in
+      (range.bytes, (rw found refl, refl))
 
   -- ** blocks
 

@@ -1,5 +1,5 @@
 -- What a thread holds after a look, a reach or a load, of data that hold what was left there last.
-use Rattle.std.proofs.Common.{◌≡◌, ◌∙◌, ◌==◌, ℕ, Bool, true, false, List, [], ◌∷◌, ◌++◌, Option, Some, None, refl, sym, ap, subst, inl, inr}
+use Rattle.std.proofs.Common.{◌≡◌, ◌∙◌, ◌⊎◌, ◌==◌, ℕ, Bool, true, false, List, [], ◌∷◌, ◌++◌, Option, Some, None, refl, sym, ap, subst, inl, inr}
 use Rattle.std.specs.Prelude.{is_some, slice_get}
 use Rattle.std.specs.List.{flat_map}
 use Rattle.std.specs.Option.{option_or}
@@ -7,33 +7,39 @@ use Rattle.std.proofs.lemmas.Bool.{cases_eq, eq-eqb, ne_eqb}
 use Rattle.guest_machine.specs.Ranges.{Range}
 use Rattle.loaded_modules.specs.declared.instance.Instance.{Instance}
 use Rattle.module_table.specs.declared.events.Event.{Event}
-use Rattle.thread_blocks.specs.Held.{Data, Held, Owned, block_after, block_with, data_after, data_bytes, data_with, fresh_data, held_of, is_block, loaded, loaded_at, looked, looked_at, owned, owned_by, owners_of, ranges_in, reached, reached_at, with_owned}
+use Rattle.thread_blocks.specs.Held.{Data, Held, Owned, block_after, data_after, data_bytes, data_with, fresh_data, held_of, is_block, loaded, loaded_at, looked, looked_at, owned, owned_by, owners_of, ranges_in, reached, reached_at, with_owned}
 use Rattle.thread_blocks.specs.Instances.{Loads, instances}
 use Rattle.shared_data.specs.Changes.{Change, Filled, last_left}
 use Rattle.shared_data.specs.Told.{filled, filled_with}
 use Rattle.shared_data.proofs.Last.{append_none, filled_other, filled_there, last_reached, last_spared}
+use Rattle.shared_data.proofs.Fits.{Fits, HasAll, HasIts, HaveOwnNumbers, IsBlock, IsLive, all_blocks, held_fits, keeps_its}
 use Rattle.shared_data.proofs.Left.{Apart, AreLeft, Each, IsLeft, Other, each_any, each_append, found_left}
-
--- no two of these instances have one number
-abbrev pub HaveOwnNumbers : List Instance → Type 0
-HaveOwnNumbers [] = Unit {0}
-HaveOwnNumbers (x ∷ xs) = Each (λ (y : Instance). x.number ≡ y.number → ⊥) xs × HaveOwnNumbers xs
 
 -- what has the number of x is x
 abbrev pub AreOne : Instance → List Instance → Type 0
 AreOne x ys = Each (λ (y : Instance). y.number ≡ x.number → y ≡ x) ys
 
 -- a thread holds data as they were left
-abbrev pub Holds : {W F B : Type 0} → List (Change B) → Held W F B → Type 0
-Holds log h = Apart h.owners × AreLeft log (owned h.owners h.after.memory.own)
+abbrev pub HoldsLeft : {W F B : Type 0} → List (Change B) → Held W F B → Type 0
+HoldsLeft log h = Apart h.owners × AreLeft log (owned h.owners h.after.memory.own)
+
+-- a memory where these events were seen, and each range lies where a live instance has it
+abbrev pub Stands : {B : Type 0} → Loads B → ℕ → List Event → List Event → List (Owned B) → Type 0
+Stands l thread seen now xs = (now ≡ seen) × Fits l thread (instances l seen) xs
+
+-- a thread that has seen these events holds data as they were left, and all of them, where they lie
+abbrev pub Holds : {W F B : Type 0} → Loads B → ℕ → List Event → List (Change B) → Held W F B → Type 0
+Holds l thread seen log h = Apart h.owners × (AreLeft log (owned h.owners h.after.memory.own)
+    × Stands l thread seen h.after.memory.seen (owned h.owners h.after.memory.own))
 
 owned_again : {B : Type 0} (xs : List (Owned B)) → owned (owners_of xs) (ranges_in xs) ≡ xs
 owned_again [] = refl
 owned_again (x ∷ xs) = ap (λ ys. x ∷ ys) (owned_again xs)
 
 module _ {W F B : Type 0} where
-  pub with_holds : (log : List (Change B)) (h : Held W F B) (xs : List (Owned B)) → Apart (owners_of xs) → AreLeft log xs
-      → Holds log (with_owned h xs)
+  pub with_holds : (log : List (Change B)) (h : Held W F B) (xs : List (Owned B)) → Apart (owners_of xs)
+      → AreLeft log xs
+      → HoldsLeft log (with_owned h xs)
   with_holds log h xs apart left = (apart, subst (AreLeft log) (sym (owned_again xs)) left)
 
   pub with_owned_by : (h : Held W F B) (xs : List (Owned B)) → owned_by (with_owned h xs) ≡ xs
@@ -42,7 +48,8 @@ module _ {W F B : Type 0} where
 module _ {B : Type 0} where
   -- ** owners
 
-  pub blocks_apart : (xs ys : List (Owned B)) → Each (λ (x : Owned B). is_block x.owner.kind ≡ true) xs → Apart (owners_of ys)
+  pub blocks_apart : (xs ys : List (Owned B)) → Each (λ (x : Owned B). is_block x.owner.kind ≡ true) xs
+      → Apart (owners_of ys)
       → Apart (owners_of (xs ++ ys))
   blocks_apart [] ys blocks apart = apart
   blocks_apart (x ∷ xs) ys blocks apart = (
@@ -148,34 +155,20 @@ module _ {B : Type 0} (l : Loads B) (xs : List (Owned B)) (log : List (Change B)
 
 -- ** what is held of live instances
 
-abbrev pub IsBlock : {B : Type 0} → Owned B → Type 0
-IsBlock x = is_block x.owner.kind ≡ true
-
 pub blocks_left : {B : Type 0} (log : List (Change B)) (xs : List (Owned B)) → Each IsBlock xs → AreLeft log xs
 blocks_left log [] blocks = tt
 blocks_left log (x ∷ xs) blocks =
     ((λ d. absurd (let e : true ≡ false = sym blocks.0 ∙ d in cc)), blocks_left log xs blocks.1)
 
-module _ {B : Type 0} (l : Loads B) (thread : ℕ) where
-  one_block : (x : Instance) (bytes : Option (List B)) → Each IsBlock (block_with thread x bytes)
-  one_block x None = tt
-  one_block x (Some bytes) = (refl, tt)
-
-  pub all_blocks : (reaches : Instance → Bool) (xs : List (Owned B)) (ys : List Instance)
-      → Each IsBlock (flat_map (block_after l thread reaches xs) ys)
-  all_blocks reaches xs [] = tt
-  all_blocks reaches xs (y ∷ ys) =
-      each_append IsBlock (block_after l thread reaches xs y) _ (one_block y _) (all_blocks reaches xs ys)
-
 abbrev pub Numbered : {B : Type 0} → Loads B → List Event → Type 0
 Numbered l seen = HaveOwnNumbers (instances l seen)
 
 module _ {W F B : Type 0} (l : Loads B) (thread : ℕ) where
-  held_holds : (log : List (Change B)) (h : Held W F B) (reaches loads : Instance → Bool) (live : List Instance)
+  held_left : (log : List (Change B)) (h : Held W F B) (reaches loads : Instance → Bool) (live : List Instance)
       (xs : List (Owned B)) → HaveOwnNumbers live
       → Each (λ (y : Instance). AreLeft log (data_after l loads xs y)) live
-      → Holds log (with_owned h (held_of l thread reaches loads live xs))
-  held_holds log h reaches loads live xs own each =
+      → HoldsLeft log (with_owned h (held_of l thread reaches loads live xs))
+  held_left log h reaches loads live xs own each =
       let blocks = all_blocks l thread reaches xs live in
       with_holds log h (held_of l thread reaches loads live xs)
       (blocks_apart (flat_map (block_after l thread reaches xs) live) _ blocks (all_apart l loads xs live own))
@@ -184,25 +177,108 @@ module _ {W F B : Type 0} (l : Loads B) (thread : ℕ) where
 
   -- ** looks
 
-  pub look_holds : (log : List (Change B)) (seen : List Event) (h : Held W F B) → Numbered l seen
-      → AreLeft log (owned_by h) → Holds log (looked l thread seen h)
+  pub look_left : (log : List (Change B)) (seen : List Event) (h : Held W F B) → Numbered l seen
+      → AreLeft log (owned_by h) → HoldsLeft log (looked l thread seen h)
   unfolding looked_at
-  look_holds log seen h own left =
-      held_holds log h (λ x. is_some x.offset) (λ x. false) (instances l seen) (owned_by h) own
+  look_left log seen h own left =
+      held_left log h (λ x. is_some x.offset) (λ x. false) (instances l seen) (owned_by h) own
       (keep_each l (owned_by h) log left (instances l seen))
 
-  pub reach_holds : (log : List (Change B)) (x : Instance) (h : Held W F B) → Numbered l h.after.memory.seen
-      → AreLeft log (owned_by h) → Holds log (reached l thread x h)
+  pub reach_left : (log : List (Change B)) (x : Instance) (h : Held W F B) → Numbered l h.after.memory.seen
+      → AreLeft log (owned_by h) → HoldsLeft log (reached l thread x h)
   unfolding reached_at
-  reach_holds log x h own left =
-      held_holds log h (λ y. y.number == x.number) (λ y. false) (instances l h.after.memory.seen) (owned_by h) own
+  reach_left log x h own left =
+      held_left log h (λ y. y.number == x.number) (λ y. false) (instances l h.after.memory.seen) (owned_by h) own
       (keep_each l (owned_by h) log left (instances l h.after.memory.seen))
 
-  pub load_holds : (log : List (Change B)) (x : Instance) (h : Held W F B) → Numbered l h.after.memory.seen
+  pub load_left : (log : List (Change B)) (x : Instance) (h : Held W F B) → Numbered l h.after.memory.seen
       → AreOne x (instances l h.after.memory.seen) → AreLeft log (owned_by h)
-      → Holds (log ++ filled l x) (loaded l thread x h)
+      → HoldsLeft (log ++ filled l x) (loaded l thread x h)
   unfolding loaded_at
-  load_holds log x h own one left =
-      held_holds (log ++ filled l x) h (λ y. false) (λ y. y.number == x.number) (instances l h.after.memory.seen)
+  load_left log x h own one left =
+      held_left (log ++ filled l x) h (λ y. false) (λ y. y.number == x.number) (instances l h.after.memory.seen)
       (owned_by h) own
       (load_each l (owned_by h) log left x (instances l h.after.memory.seen) one)
+
+  -- ** where it lies
+
+  fits_with : (h : Held W F B) (live : List Instance) (xs : List (Owned B)) → Fits l thread live xs
+      → Fits l thread live (owned_by (with_owned h xs))
+  fits_with h live xs fits = subst (Fits l thread live) (sym (with_owned_by h xs)) fits
+
+  -- where the data of each live instance are held, they are so after a look
+  pub look_holds : (log : List (Change B)) (seen : List Event) (h : Held W F B) → Numbered l seen
+      → AreLeft log (owned_by h) → HasAll l (instances l seen) (owned_by h)
+      → Holds l thread seen log (looked l thread seen h)
+  unfolding looked_at
+  look_holds log seen h own left all =
+      let kept = look_left log seen h own left in (
+        kept.0,
+        (
+          kept.1,
+          (
+            refl,
+            fits_with h (instances l seen) (looked_at l thread seen (owned_by h))
+                (held_fits l thread (λ x. is_some x.offset) (λ x. false) (instances l seen) (owned_by h) own
+                (λ y is. inr (all y is))),
+          ),
+        ),
+      )
+
+  -- after a look those that were held still are, though others are not
+  pub look_keeps : (seen : List Event) (h : Held W F B) (y : Instance) → IsLive (instances l seen) y
+      → HasIts l (owned_by h) y → HasIts l (owned_by (looked l thread seen h)) y
+  unfolding looked_at
+  look_keeps seen h y is its =
+      subst (λ (xs : List (Owned B)). HasIts l xs y) (sym (with_owned_by h (looked_at l thread seen (owned_by h))))
+      (keeps_its l thread (λ x. is_some x.offset) (λ x. false) (instances l seen) (owned_by h) y is (inr its))
+
+  reach_fits : (x : Instance) (h : Held W F B) → Numbered l h.after.memory.seen
+      → HasAll l (instances l h.after.memory.seen) (owned_by h)
+      → Fits l thread (instances l h.after.memory.seen) (owned_by (reached l thread x h))
+  unfolding reached_at
+  reach_fits x h own all =
+      let live = instances l h.after.memory.seen in
+      fits_with h live (reached_at l thread h.after.memory.seen x (owned_by h))
+      (held_fits l thread (λ y. y.number == x.number) (λ y. false) live (owned_by h) own (λ y is. inr (all y is)))
+
+  pub reach_holds : (seen : List Event) (log : List (Change B)) (x : Instance) (h : Held W F B) → Numbered l seen
+      → Holds l thread seen log h → Holds l thread seen log (reached l thread x h)
+  reach_holds seen log x h own holds =
+      let same = holds.1.1.0 in
+      let here : Numbered l h.after.memory.seen = subst (Numbered l) (sym same) own in
+      let kept = reach_left log x h here holds.1.0 in
+      let all = subst (λ (s : List Event). HasAll l (instances l s) (owned_by h)) (sym same) holds.1.1.1.all in (
+        kept.0,
+        (
+          kept.1,
+          (
+            same,
+            subst (λ (s : List Event). Fits l thread (instances l s) (owned_by (reached l thread x h))) same
+                (reach_fits x h here all),
+          ),
+        ),
+      )
+
+  -- a load fills the data of its instance, where those of all others are held
+  pub load_holds : (seen : List Event) (log : List (Change B)) (x : Instance) (h : Held W F B) → Numbered l seen
+      → AreOne x (instances l seen) → h.after.memory.seen ≡ seen → AreLeft log (owned_by h)
+      → ((y : Instance) → IsLive (instances l seen) y → ((y.number == x.number) ≡ true) ⊎ HasIts l (owned_by h) y)
+      → Holds l thread seen (log ++ filled l x) (loaded l thread x h)
+  unfolding loaded_at
+  load_holds seen log x h own one same left ready =
+      let kept = load_left log x h (subst (Numbered l) (sym same) own)
+      (subst (λ (s : List Event). AreOne x (instances l s)) (sym same) one) left in (
+        kept.0,
+        (
+          kept.1,
+          (
+            same,
+            fits_with h (instances l seen) (loaded_at l thread h.after.memory.seen x (owned_by h))
+                (subst (λ (s : List Event). Fits l thread (instances l seen) (loaded_at l thread s x (owned_by h)))
+                (sym same)
+                (held_fits l thread (λ y. false) (λ y. y.number == x.number) (instances l seen)
+                (owned_by h) own ready)),
+          ),
+        ),
+      )

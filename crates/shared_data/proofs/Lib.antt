@@ -1,5 +1,6 @@
 pub mod Last
 pub mod Left
+pub mod Fits
 pub mod Held
 pub mod Numbers
 pub mod Begins

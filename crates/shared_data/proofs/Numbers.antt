@@ -12,7 +12,8 @@ use Rattle.module_table.specs.Past.{past}
 use Rattle.module_table.proofs.LawsOfNumbers.{own_numbers}
 use Rattle.thread_blocks.specs.Instances.{Loads, instance_at, instances, instances_from, instances_in, loaded_instance}
 use Rattle.known_instances.proofs.Found.{loaded_as}
-use Rattle.shared_data.proofs.Held.{AreOne, HaveOwnNumbers}
+use Rattle.shared_data.proofs.Fits.{HaveOwnNumbers}
+use Rattle.shared_data.proofs.Held.{AreOne}
 use Rattle.shared_data.proofs.Left.{Each}
 
 module _ (infos : List ImageInfo) where

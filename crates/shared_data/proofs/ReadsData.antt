@@ -11,7 +11,7 @@ use Rattle.thread_blocks.specs.Spaces.{Space, open_everywhere, space_accesses, s
 use Rattle.shared_data.specs.Changes.{Change, data_found, data_place, last_left}
 use Rattle.shared_data.proofs.Left.{AreLeft, IsLeft}
 
-some_at : {B : Type 0} (xs : List B) (k : ℕ) → k < length xs → (b : B) × (slice_get xs k ≡ Some b)
+pub some_at : {B : Type 0} (xs : List B) (k : ℕ) → k < length xs → (b : B) × (slice_get xs k ≡ Some b)
 some_at [] k less = absurd (omega (arith, less))
 some_at (x ∷ xs) zero less = (x, refl)
 some_at (x ∷ xs) (suc k) less = some_at xs k (omega (arith, less))

@@ -1,4 +1,5 @@
 pub mod Changes
+pub mod Places
 pub mod Told
 pub mod Steps
 pub mod Laws

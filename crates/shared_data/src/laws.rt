@@ -26,9 +26,10 @@ pub fn reads_are_last_left()
     ensures { MachineReadsLast }
 {}
 
-/// A thread that holds the data of a live instance reads byte k of them at offset k of their range. It holds them from
-/// their load on, from look to look.
-#[tactic(auto, using(crate::proofs::There::machine_there))]
+/// Where what is loaded lies below all that threads have for themselves, a thread finds each byte of the data of each
+/// instance that it has seen live at its place: it reads what the last change there left, and what it stores there is
+/// told as the next. It holds the data from their load on, from look to look.
+#[tactic(auto, using(crate::proofs::Jobs::machine_there))]
 pub fn data_are_there()
     ensures { MachineDataAreThere }
 {}
@@ -56,7 +57,7 @@ pub fn meant_reads_are_last_left()
 {}
 
 /// The same as `data_are_there`, for a thread of the meaning.
-#[tactic(auto, using(crate::proofs::There::meant_there))]
+#[tactic(auto, using(crate::proofs::Jobs::meant_there))]
 pub fn meant_data_are_there()
     ensures { MeantDataAreThere }
 {}

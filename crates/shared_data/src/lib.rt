@@ -26,22 +26,25 @@
 //! such turns ([`laws::jobs_are_orders`], [`laws::meanings_are_orders`]).
 //!
 //! These laws are about addresses of data. Another law says which these are ([`laws::data_are_there`],
-//! [`laws::meant_data_are_there`]): byte k of the data of an instance is at offset k of the range in which a thread
-//! holds them, if nothing else that it holds lies there. It holds those of a live instance in the range that the load
-//! fills; after a load as the loader fills them, and after a look as they were before.
+//! [`laws::meant_data_are_there`]): byte k of the data of each instance that a thread has seen live is at offset k of
+//! the range that the load fills. There the thread reads what the last change of that byte left, and what it stores
+//! there is told as the next. The reason is that nothing else that it holds lies there, where all that is loaded lies below what
+//! threads have for themselves, and data at addresses that have their instance's number in them (`specs/Places`,
+//! `LiesLow`). `linked_jobs` proves that of all images that are linked together.
 //!
 //! No definition of a step says which bytes it writes: a step is a function of registers and memory. So the same step
 //! is made over a memory that notes each store (`noting`). Noting changes nothing ([`laws::notes_follow_the_machine`],
 //! [`laws::notes_follow_the_meaning`]). A store goes to the first range that may be written at its address: the
 //! thread's stack, one of its blocks, or data, whose owner and start give the instance and the offset.
 //!
-//! The premise is what every job has: its image infos are in order. Then no two live instances have the same number,
-//! by which a change names its instance.
+//! The other premise is what every job has: its image infos are in order. Then no two live instances have the same
+//! number, by which a change names its instance.
 //!
 //! There is one proof for any values and any threads that satisfy three conditions (`proofs/Turns`, `TellAll`): what a
 //! step, a line's first look and a look in its middle do with data is what is told of them. `proofs/Left` and
-//! `proofs/Held` prove that the list of what a thread holds keeps each byte as told, under stores and looks. All turns
-//! follow in `proofs/Orders`.
+//! `proofs/Held` prove that the list of what a thread holds keeps each byte as told, under stores and looks, and
+//! `proofs/Fits` that all data of live instances stay in it, each where it was loaded: who is live behind an event was
+//! so before, or is loaded by it (`proofs/Legal`). All turns follow in `proofs/Orders`, and places in `proofs/There`.
 #![tactic(auto)]
 
 pub mod laws;

@@ -26,7 +26,8 @@ use Rattle.tls_map_laws.specs.Acts.{Noted}
 use Rattle.tls_map_laws.specs.Machine.{asks_in, machine_acts, machine_asks, noted_acts, noted_start, noted_step}
 use Rattle.tls_map_laws.specs.Told.{with_asked, with_look}
 use Rattle.tls_map_laws.proofs.Places.{Member}
-use Rattle.tls_map_laws.proofs.Steps.{FitsIn, NotedFits, acc, follows, puts, step_fits}
+use Rattle.tls_map_laws.proofs.Noting.{follows}
+use Rattle.tls_map_laws.proofs.Steps.{FitsIn, NotedFits, acc, puts, step_fits}
 use Rattle.tls_map_laws.proofs.Known.{Known}
 use Rattle.tls_map_laws.proofs.Moment.{found_member}
 use Rattle.tls_map_laws.proofs.Begins.{BegunFits, FitsBy, begin_fits, looked_fits, reached_fits}
@@ -139,7 +140,7 @@ module _ (l : Loads ℕ) (thread : ℕ) (history : List Event) (known : Known l 
       let noted = noted_step l thread acts h in
       subst (λ (next : Next (After ℕ Bool (Space Event ℕ))).
       Next_fits (noted_acts l thread acts noted) (thread_next l thread h next))
-      (sym (follows l thread history known (noted_start l thread acts h)))
+      (sym (follows l thread (noted_start l thread acts h)))
       (next_fits acts h noted fits (step_fits l thread history known acts h.owners h.after fits)
       (λ at e. looks_same acts h at e))
 

@@ -1,12 +1,12 @@
 -- The meaning's threads have what the map says, after any turns at rising points of a history.
-use Rattle.std.proofs.Common.{◌≡◌, ℕ, zero, suc, Bool, true, false, List, Option, Some, None, Result, Ok, Err, refl, sym, ap, subst, ◌==◌}
+use Rattle.std.proofs.Common.{◌≡◌, ℕ, Bool, true, false, List, Option, Some, None, Result, Ok, Err, refl, sym, subst, ◌==◌}
 use Rattle.std.specs.Prelude.{option_map}
 use Rattle.address_map.specs.Map.{stack_start}
 use Rattle.amd64_subset.specs.declared.instr.Decoded.{Decoded}
 use Rattle.guest_arithmetic.specs.declared.cause.Cause.{Cause}
 use Rattle.guest_operands.specs.declared.state.State.{State}
 use Rattle.guest_operands.specs.declared.stop.Stop.{Stop}
-use Rattle.guest_machine.specs.Access.{Accesses, code_at, code_then, fetch_of, next_place}
+use Rattle.guest_machine.specs.Access.{Accesses}
 use Rattle.guest_machine.specs.Run.{Next, Goes, Ends, Looks, next_of}
 use Rattle.guest_machine.specs.Step.{act}
 use Rattle.guest_machine.specs.State.{at_place, register_of}
@@ -40,6 +40,7 @@ use Rattle.tls_map_laws.specs.Acts.{Noted, noting}
 use Rattle.tls_map_laws.specs.Meaning.{acts_at, asks_for, asks_from, meant_acts, meant_asks, noted_plain, result_acts}
 use Rattle.tls_map_laws.specs.Told.{with_asked, with_look}
 use Rattle.tls_map_laws.proofs.Places.{Member}
+use Rattle.tls_map_laws.proofs.Noting.{plain_space}
 use Rattle.tls_map_laws.proofs.Steps.{FitsIn, Proved, plain, proved_accesses}
 use Rattle.tls_map_laws.proofs.Known.{Known}
 use Rattle.tls_map_laws.proofs.Begins.{BegunFits, FitsBy, begin_fits, looked_fits, reached_fits}
@@ -64,39 +65,8 @@ module _ (m : Meaning) (thread : ℕ) (history : List Event) (known : Known m.lo
   abbrev noter : Accesses (Noted m.loads thread) Byte
   noter = noting m.loads thread acc
 
-  code_noted : (size : ℕ) (noted : Noted m.loads thread) (place : ℕ)
-      → code_at noter noted place size ≡ code_at acc noted.space place size
-  code_noted zero noted place = refl
-  code_noted (suc size) noted place =
-      ap (code_then (acc.code noted.space place)) (code_noted size noted (next_place place))
-
-  fetch_noted : (noted : Noted m.loads thread) (place : ℕ) → fetch_of noter noted place ≡ fetch_of acc noted.space place
-  unfolding fetch_of
-  fetch_noted noted place = code_noted 15 noted place
-
-  lent_space : (number : Option ℕ) → IsImage (lent ops noter number) (lent ops acc number) (λ noted. noted.space)
-  lent_space None =
-      record { byte = λ p place. refl; writes = λ p place. refl; put = λ p place byte. refl; code = λ p place. refl }
-  lent_space (Some number) =
-      record { byte = λ p place. refl; writes = λ p place. refl; put = λ p place byte. refl; code = λ p place. refl }
-
   abbrev space_at : Result NotedAt Stop → Result At Stop
   space_at result = mapped (λ noted. noted.space) result
-
-  done_space : (mark : ℕ → Mark) (why : Option Cause) (it : Option Decoded) (state : State Word Flag)
-      (noted : Noted m.loads thread)
-      → done ops acc mark why it state noted.space ≡ space_at (done ops noter mark why it state noted)
-  done_space mark (Some why) it state noted = refl
-  done_space mark None None state noted = refl
-  done_space mark None (Some it) state noted =
-      let number = address_at mark state.place it.disp in
-      act_image ops (lent ops noter number) (lent ops acc number) (λ n. n.space) (lent_space number)
-      (lent_frame number (marked_frame mark state.place it)) it.instr.operation state noted
-
-  plain_space : (mark : ℕ → Mark) (state : State Word Flag) (noted : Noted m.loads thread)
-      → plain_step ops acc mark state noted.space ≡ space_at (plain_step ops noter mark state noted)
-  unfolding plain_step
-  plain_space mark state noted = rw (fetch_noted noted state.place) (done_space mark _ _ state noted)
 
   abbrev InFits : List (Act Byte) → List Owner → Memory → Type 0
   InFits acts os space = FitsIn m.loads thread history known acts os space
@@ -182,7 +152,7 @@ module _ (m : Meaning) (thread : ℕ) (history : List Event) (known : Known m.lo
       let noted = noted_plain m thread acts h in
       beside_fits (result_acts m thread acts noted) h.owners _ h.after.state.place
       (plain_step ops acc mark h.after.state h.after.memory)
-      (subst (ResultFits (result_acts m thread acts noted) h.owners) (sym (plain_space mark h.after.state start))
+      (subst (ResultFits (result_acts m thread acts noted) h.owners) (sym (plain_space m thread mark h.after.state start))
       (noted_fits acts h.owners noted (plain_noted h.owners mark h.after.state (start, fits))))
 
   -- ** a sequence

@@ -116,23 +116,6 @@ module _ (l : Loads ℕ) (thread : ℕ) (history : List Event) (known : Known l 
   unfolding thread_accesses space_accesses
   puts space place byte = refl
 
-  -- a step that notes its stores is the machine's step
-  noting_image : IsImage (noting l thread acc) acc (λ noted. noted.space)
-  noting_image = record {
-    byte = λ noted place. refl;
-    writes = λ noted place. refl;
-    put = λ noted place byte. refl;
-    code = λ noted place. refl;
-  }
-
-  pub follows : (at : After ℕ Bool (Noted l thread))
-      → (machine plain_operations acc no_field).step (after_of (λ noted. noted.space) at)
-      ≡ next_image (after_of (λ noted. noted.space))
-      ((machine plain_operations (noting l thread acc) no_field).step at)
-  follows at =
-      (machine_image plain_operations (noting l thread acc) acc (λ noted. noted.space) noting_image
-      no_field no_field (λ m. refl)).step at
-
   -- the law: whatever a step does, the blocks it leaves are those of the map with its stores
   pub step_fits : (acts : List (Act ℕ)) (os : List Owner) (at : After ℕ Bool (Space Event ℕ))
       → FitsIn l thread history known acts os at.memory

@@ -20,7 +20,8 @@
 //! instance, else zero (`byte_of`). It has an instance's storage from its first look that finds the instance live, or
 //! from the first that is for one of its variables, to the first that finds it closed (`has_storage`). Nothing there
 //! knows an address, a range, an id or a vector. Where blocks lie is told in one place, which reads off what a thread
-//! does from its looks and stores (`specs/Acts`, `Told`; `Machine` and `Meaning` for their steps).
+//! does from its looks and stores (`specs/Acts`, `Told`; `Machine` and `Meaning` for their steps). Noting these changes
+//! nothing ([`laws::notes_follow`], [`laws::notes_follow_meaning`]).
 //!
 //! The rule of the crate: **at all times each thread has of each instance exactly the storage of the map**
 //! (`specs/Moments`, `AreMap`). While it has the storage, each byte that it reads at an address of the block is the

@@ -2,9 +2,10 @@
 use elf_records::relocation::R_X86_64_TPOFF32;
 use elf_records::symbol::{STT_FUNC, STT_TLS};
 use object_builder::{Section, Symbol, object_of, rela};
-use ports::{HostStore, MemorySink, Sink, Store};
+use ports::{HostStore, MemorySink, Sink, fetch_each};
 use std::alloc::{AllocError, Global};
 use std::test::Fail;
+use std::thread::Threads;
 use terminal_notes::{COMMANDS, KeptSink, append_printable, note_of, object_note, object_refusal};
 
 fn printed(alloc: Global, name: &[u8]) -> Result<String, Fail> {
@@ -101,11 +102,16 @@ fn a_refused_object_is_shown_by_its_names(rt: HostRuntime) -> Result<(), Fail> {
 }
 
 /// What is told of a command that ended with this status, after this file was read.
-fn told(rt: &HostRuntime, status: u8, line: &str, name: &str) -> Result<String, Fail> {
+fn told<R: Threads + Sync>(
+    rt: &HostRuntime,
+    threads: &R,
+    status: u8,
+    line: &str,
+    name: &str,
+) -> Result<String, Fail> {
     let alloc = rt.alloc();
     let mut store = HostStore::new(rt, alloc);
-    let read = store.read(alloc, name);
-    let _ = store.count(name, read);
+    let _ = fetch_each(threads, alloc, &mut store, &[name]);
     match note_of(alloc, status, line.as_bytes(), &store) {
         Some(note) => Ok(String::from_utf8(note)?),
         None => Ok(String::from_str(alloc, "no note")?),
@@ -114,16 +120,16 @@ fn told(rt: &HostRuntime, status: u8, line: &str, name: &str) -> Result<String, 
 
 #[test]
 fn a_status_has_its_note(rt: HostRuntime) -> Result<(), Fail> {
-    assert!(rt; told(&rt, 2, "usage\n", "none")?.as_bytes() == COMMANDS);
+    assert!(rt; told(&rt, &rt, 2, "usage\n", "none")?.as_bytes() == COMMANDS);
     assert!(rt;
-        told(&rt, 3, "store fault\n", "none")?.as_str()
+        told(&rt, &rt, 3, "store fault\n", "none")?.as_str()
             == "tlsld: none: No such file or directory (os error 2)\n"
     );
-    assert!(rt; told(&rt, 3, "store fault\n", "/")?.as_str() == "tlsld: /: is a directory\n");
-    assert!(rt; told(&rt, 3, "store fault\n", "/dev/null")?.as_str() == "no note");
+    assert!(rt; told(&rt, &rt, 3, "store fault\n", "/")?.as_str() == "tlsld: /: is a directory\n");
+    assert!(rt; told(&rt, &rt, 3, "store fault\n", "/dev/null")?.as_str() == "no note");
     let line = "object none section 2 entry 0 RelocRange\n";
     for status in [0, 1, 4, 5, 6, 7, 8, 9] {
-        assert!(rt; told(&rt, status, line, "none")?.as_str() == "no note");
+        assert!(rt; told(&rt, &rt, status, line, "none")?.as_str() == "no note");
     }
     Ok(())
 }

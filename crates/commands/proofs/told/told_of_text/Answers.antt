@@ -6,6 +6,7 @@ use Rattle.commands.specs.Links.{FilesAfter}
 use Rattle.commands.specs.Purposes.{JobTold, Makes, Tells, wanted_by}
 use Rattle.commands.proofs.Found.{has_found, puts_found, tells_found}
 use Rattle.commands.proofs.Saying.{objects_named, says_by}
+use Rattle.commands.proofs.Untold.{comes_of_purpose}
 use Rattle.commands.proofs.told.told_of_text.Goals as goal
 
 pub returns-in-Ok-ending-clause-files : goal.returns-in-Ok-ending-clause-files
@@ -25,3 +26,7 @@ returns-in-Ok-ending-clause-says g c =
     (λ fs e. objects_named (Makes ending (Some fs) after) (Tells purpose (Some fs) after) relax Kept fs job (has job (wanted_by purpose)) (has_found purpose job ending c.in-Ok-ending.ensures.ending)
     (tells_found (Some fs) after purpose job ending c.in-Ok-ending.ensures.ending))
     c.told_of_objects.ensures.says)
+
+pub returns-in-Ok-ending-clause-own : goal.returns-in-Ok-ending-clause-own
+returns-in-Ok-ending-clause-own g c =
+    comes_of_purpose c.args.purpose c.in-Ok.job c.in-Ok-ending.ending c.in-Ok-ending.ensures.ending c.told_of_objects.result c.told_of_objects.ensures.own

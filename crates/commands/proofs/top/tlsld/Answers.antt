@@ -4,7 +4,7 @@ use Rattle.command_line.specs.Words.{asked, takes_words}
 use Rattle.commands.proofs.Asked.{asked_by}
 use Rattle.commands.proofs.Completing.{output_completes, usage_completes}
 use Rattle.commands.proofs.Shown.{output_shows}
-use Rattle.commands.proofs.Words.{shows_usage}
+use Rattle.commands.proofs.Words.{asked_late, asked_usage, shows_usage}
 use Rattle.commands.proofs.top.tlsld.Goals as goal
 
 pub returns-in-Ok-Plain-clause-files : goal.returns-in-Ok-Plain-clause-files
@@ -41,7 +41,7 @@ returns-in-Ok-Race-clause-shows g c =
     let is : asked (map string_bytes c.args.words.now) ≡ Some (Race c.as_str.result.now c.in-Ok-Race.rewriting) =
     rw (c.in-Ok-Race.field-0-is, sym c.as_str.ensures) at c.in-Ok-Race.ensures.ok in
     rw is (output_shows (g.S.Store.files c.args.store.now) _ (Race c.as_str.result.now c.in-Ok-Race.rewriting) c.raced-raced.result _ _ _ _ c.deliver.result
-    c.raced-raced.ensures.cause c.raced-raced.ensures.says c.deliver.ensures.delivered)
+    c.raced-raced.ensures.cause c.raced-raced.ensures.says c.raced-raced.ensures.own c.deliver.ensures.delivered)
 
 pub returns-in-Ok-Race-clause-asked : goal.returns-in-Ok-Race-clause-asked
 returns-in-Ok-Race-clause-asked g c =
@@ -55,7 +55,7 @@ returns-in-Ok-Race-clause-completes g c =
     let is : asked (map string_bytes c.args.words.now) ≡ Some (Race c.as_str.result.now c.in-Ok-Race.rewriting) =
     rw (c.in-Ok-Race.field-0-is, sym c.as_str.ensures) at c.in-Ok-Race.ensures.ok in
     rw is (output_completes (g.S.Store.files c.args.store.now) (g.S.Store.files c.args.store.now) (Race c.as_str.result.now c.in-Ok-Race.rewriting) c.raced-raced.result _ _ _ _ c.deliver.result
-    c.raced-raced.ensures.cause c.raced-raced.ensures.says c.deliver.ensures.delivered)
+    c.raced-raced.ensures.cause c.raced-raced.ensures.says c.raced-raced.ensures.own c.deliver.ensures.delivered)
 
 pub returns-in-Err-Usage-clause-shows : goal.returns-in-Err-Usage-clause-shows
 returns-in-Err-Usage-clause-shows g c =
@@ -66,3 +66,12 @@ pub returns-in-Err-Usage-clause-completes : goal.returns-in-Err-Usage-clause-com
 returns-in-Err-Usage-clause-completes g c =
     let other : takes_words (map string_bytes c.args.words.now) ≡ false = search rules in
     usage_completes (g.S.Store.files c.args.store.now) (map string_bytes c.args.words.now) _ _ _ _ c.say_usage.result other
+
+pub returns-in-Err-Usage-clause-asked : goal.returns-in-Err-Usage-clause-asked
+returns-in-Err-Usage-clause-asked g c =
+    let other : takes_words (map string_bytes c.args.words.now) ≡ false = search rules in
+    asked_usage (g.S.Store.files c.args.store.now) (map string_bytes c.args.words.now) (g.S.Store.asked c.args.store.now) c.say_usage.result other
+
+pub returns-in-Err-OutOfMemory-clause-asked : goal.returns-in-Err-OutOfMemory-clause-asked
+returns-in-Err-OutOfMemory-clause-asked g c =
+    asked_late (g.S.Store.files c.args.store.now) (asked (map string_bytes c.args.words.now)) (g.S.Store.asked c.args.store.now) c.say_no_memory.result c.say_no_memory.ensures.late

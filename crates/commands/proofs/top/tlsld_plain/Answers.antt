@@ -11,9 +11,9 @@ returns-clause-asked g c =
 pub returns-clause-shows : goal.returns-clause-shows
 returns-clause-shows g c =
     output_shows (g.S.Store.files c.args.store.now) _ (Plain c.args.task.now) c.output-output.result _ _ _ _ c.deliver.result
-    c.output-output.ensures.cause c.output-output.ensures.says c.deliver.ensures.delivered
+    c.output-output.ensures.cause c.output-output.ensures.says c.output-output.ensures.may c.deliver.ensures.delivered
 
 pub returns-clause-completes : goal.returns-clause-completes
 returns-clause-completes g c =
     output_completes (g.S.Store.files c.args.store.now) _ (Plain c.args.task.now) c.output-output.result _ _ _ _ c.deliver.result
-    c.output-output.ensures.cause c.output-output.ensures.says c.deliver.ensures.delivered
+    c.output-output.ensures.cause c.output-output.ensures.says c.output-output.ensures.may c.deliver.ensures.delivered

@@ -1,0 +1,17 @@
+mod Addresses
+mod Apart
+mod Causes
+mod Clean
+mod Covered
+mod Fields
+mod Generic
+mod Lent
+mod Moved
+mod Order
+mod Picks
+mod Reading
+mod Supplied
+mod Told
+mod Touches
+mod Uses
+mod Words

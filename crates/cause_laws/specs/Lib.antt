@@ -1,0 +1,5 @@
+pub mod Instructions
+pub mod Laws
+pub mod Operands
+pub mod Rows
+pub mod Steps

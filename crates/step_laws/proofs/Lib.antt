@@ -1,0 +1,11 @@
+pub mod Examples
+pub mod Hindrances
+pub mod After
+pub mod Machine
+pub mod MeantSteps
+pub mod Needed
+pub mod NeededSteps
+pub mod Numbers
+pub mod Places
+pub mod PlainSteps
+pub mod Reach

@@ -1,0 +1,5 @@
+pub mod Example
+pub mod Laws
+pub mod Plain
+pub mod Reads
+pub mod Steps
