@@ -1,5 +1,6 @@
 -- A link's letters give the numbers that its field is made of.
-use Rattle.std.proofs.Common.{◌≡◌, ◌⊎◌, ◌↔◌, inl, inr, ℕ, ℤ, Bool, true, false, List, Option, Some, None, refl, sym, ap, subst, ◌∙◌}
+use Rattle.std.proofs.Common.{◌≡◌, ◌⊎◌, ◌↔◌, inl, inr, ℕ, ℤ, Bool, true, false, List, Option, Some, None, refl, sym}
+use Rattle.std.proofs.Common.{ap, subst, ◌∙◌}
 use Rattle.std.specs.Prelude.{◌&&◌, if◌then◌else◌}
 use Rattle.std.specs.List.{Any, list_any}
 use Rattle.std.proofs.lemmas.List.Folds.{Any-from_list_any, list_any-from_Any}
@@ -60,7 +61,8 @@ where_not false b is = (refl, is)
 where_not true b is = absurd cc
 
 are_local : (own : List Site) → list_any (λ (site : Site). is_local site.form) own ≡ true → Any IsLocalDynamic own
-are_local own is = any_more (λ (site : Site). is_local site.form ≡ true) IsLocalDynamic (λ site. local_form site.form) own
+are_local own is =
+    any_more (λ (site : Site). is_local site.form ≡ true) IsLocalDynamic (λ site. local_form site.form) own
     (Any-from_list_any (λ (site : Site). is_local site.form) own is)
 
 local_are : (own : List Site) → Any IsLocalDynamic own → list_any (λ (site : Site). is_local site.form) own ≡ true
@@ -70,13 +72,15 @@ local_are own some = list_any-from_Any (λ (site : Site). is_local site.form) ow
 loses : (l : Linking) → counts_from_thread_pointer l ≡ true → LosesLocalDynamic l
 unfolding counts_from_thread_pointer
 loses l is =
-    let parts = both (is_rewriting l) (list_any (λ own. list_any (λ (site : Site). is_local site.form) own) l.sites) is in
+    let parts = both (is_rewriting l) (list_any (λ own. list_any
+    (λ (site : Site). is_local site.form) own) l.sites) is in
     let rewrites = where_not (is_module l.kind) l.relax parts.0 in
     record {
       program = is_program l.kind rewrites.0;
       relax = rewrites.1;
       some = any_more (λ own. list_any (λ (site : Site). is_local site.form) own ≡ true) (λ own. Any IsLocalDynamic own)
-          are_local l.sites (Any-from_list_any (λ own. list_any (λ (site : Site). is_local site.form) own) l.sites parts.1);
+          are_local l.sites (Any-from_list_any (λ own. list_any
+          (λ (site : Site). is_local site.form) own) l.sites parts.1);
     }
 
 counts : (l : Linking) → LosesLocalDynamic l → counts_from_thread_pointer l ≡ true
@@ -118,17 +122,30 @@ module _ (l : Linking) (o t : ℕ) (r : Relocation) (letters : Letters) (are : A
       → row_numbered (number_of kind) (given l o t r kind) x ≡ row_numbered (number_of kind) letters x
   same Nothing has x = refl
   same Absolute64 has x = rw (sym (address_is 1 Absolute64 (inl refl) refl (binding l o r) refl has), are.addend) refl
-  same Pc32 has x = rw (sym (address_is 2 Pc32 (inr (inl refl)) refl (binding l o r) refl has), are.addend, are.field) refl
-  same Plt32 has x = rw (sym (address_is 4 Plt32 (inr (inr (inl refl))) refl (binding l o r) refl has), are.addend, are.field) refl
+  same Pc32 has x =
+      rw (sym (address_is 2 Pc32 (inr (inl refl)) refl (binding l o r) refl has), are.addend, are.field) refl
+  same Plt32 has x =
+      rw (sym (address_is 4 Plt32 (inr (inr (inl refl))) refl (binding l o r) refl has), are.addend, are.field) refl
   same GotPcRel has x = rw (are.entry, are.addend, are.field) refl
-  same Absolute32 has x = rw (sym (address_is 10 Absolute32 (inr (inr (inr (inl refl)))) refl (binding l o r) refl has), are.addend) refl
-  same Absolute32Signed has x = rw (sym (address_is 11 Absolute32Signed (inr (inr (inr (inr refl)))) refl (binding l o r) refl has), are.addend) refl
+  same Absolute32 has x =
+      rw (sym (address_is 10 Absolute32 (inr (inr (inr (inl refl)))) refl (binding l o r) refl has), are.addend) refl
+  same Absolute32Signed has x = rw (
+    sym (address_is 11 Absolute32Signed (inr (inr (inr (inr refl)))) refl
+        (binding l o r) refl has),
+    are.addend,
+  ) refl
   same TlsGd has x = rw (are.entry, are.addend, are.field) refl
   same TlsLd has x = rw (are.entry, are.addend, are.field) refl
   same DtpOff32 has x =
-      rw (sym (offset_is 21 DtpOff32 (inl refl) refl (binding l o r) refl has), sym (moved_by (counts_from_thread_pointer l) refl), are.addend) refl
+      rw (
+        sym (offset_is 21 DtpOff32 (inl refl) refl (binding l o r) refl has),
+        sym
+            (moved_by (counts_from_thread_pointer l) refl),
+        are.addend,
+      ) refl
   same GotTpOff has x = rw (are.entry, are.addend, are.field) refl
-  same TpOff32 has x = rw (sym (offset_is 23 TpOff32 (inr refl) refl (binding l o r) refl has), are.block, are.addend) refl
+  same TpOff32 has x =
+      rw (sym (offset_is 23 TpOff32 (inr refl) refl (binding l o r) refl has), are.block, are.addend) refl
   same GotPc32TlsDesc has x = rw (are.entry, are.addend, are.field) refl
   same TlsDescCall has x = refl
   same GotPcRelX has x = rw (are.entry, are.addend, are.field) refl

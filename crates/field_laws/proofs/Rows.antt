@@ -13,7 +13,8 @@ use Rattle.tls_relocs.specs.declared.fields.Field.{Field}
 use Rattle.tls_relocs.specs.declared.fields.Field.TheVariants.{Empty}
 use Rattle.tls_relocs.specs.Values.{stored_field}
 use Rattle.field_laws.specs.Laws.{letters_of}
-use Rattle.field_laws.specs.Table.{Each, Signed, Unsigned, Letters, Range, Row, Has, IsAnswer, IsIn, Solves, row_numbered}
+use Rattle.field_laws.specs.Table.{Each, Signed, Unsigned, Letters, Range, Row, Has, IsAnswer, IsIn, Solves}
+use Rattle.field_laws.specs.Table.{row_numbered}
 use Rattle.field_laws.proofs.Values.{Holds, signed_is, unsigned_is, wrapped_is, empty_is}
 
 -- the row of a number has these
