@@ -22,6 +22,7 @@ sys.path.insert(0, f"{TOP}/docs")
 
 import reports  # noqa: E402
 import verdicts  # noqa: E402
+from bench import Bench  # noqa: E402
 from linkers import Linker  # noqa: E402
 from sequences import FORMS, bindings, code, head, row, tidy  # noqa: E402
 
@@ -53,18 +54,17 @@ def headings():
     return [f"{name} {version}" for name, (_, version) in LINKERS.items()]
 
 
-def bench(room, names=()):
+def all_four(room, names=()):
     """All four over some cases."""
-    from_words = __import__("try")
     words = argparse.Namespace(commands=[command(it) for it, _ in LINKERS.values()], cases=f"{HERE}/cases",
         case=list(names), keep=False, seconds=10, jobs=os.cpu_count())
-    return from_words.Bench(words, room)
+    return Bench(words, room)
 
 
 def tried(names=()):
     """The rows of each linker over some cases."""
     with tempfile.TemporaryDirectory() as room:
-        return bench(room, names).rows()
+        return all_four(room, names).rows()
 
 
 def instructions(raw, room):
@@ -195,7 +195,7 @@ def wrong(name):
     names = headings()
     print("\n```text")
     with tempfile.TemporaryDirectory() as room:
-        tests = bench(room, [name])
+        tests = all_four(room, [name])
         tests.words.keep = True
         for case in tests.cases:
             case.links = case.links[:1]

@@ -8,15 +8,13 @@ that is not there, else 0.
 """
 import argparse
 import os
-import shutil
 import sys
 import tempfile
-from concurrent.futures import ThreadPoolExecutor
 
 import reports
 import verdicts
-from cases import read_cases
-from linkers import HERE, BadCommand, Linker, link, system_files
+from bench import Bench
+from linkers import HERE, BadCommand
 
 
 def arguments():
@@ -31,47 +29,6 @@ def arguments():
     asked.add_argument("--seconds", type=float, default=10, help="the limit of time of each link and each run")
     asked.add_argument("--jobs", type=int, default=os.cpu_count(), help="how many run side by side")
     return asked.parse_args()
-
-
-class Bench:
-    """What is tried: cases by linkers, in folders below one."""
-
-    def __init__(self, words, room):
-        self.words, self.room, self.system = words, room, system_files()
-        self.linkers = [Linker(it, words.seconds) for it in words.commands]
-        self.cases = read_cases(words.cases, words.case)
-
-    def trials(self):
-        """Each image to be linked: the linker's number, a case, and what is expected of the image."""
-        for number, linker in enumerate(self.linkers):
-            for case in self.cases:
-                for it in case.links:
-                    if linker.takes(it.kind, it.relax):
-                        yield number, case, it
-
-    def folder(self, number, case, it):
-        relax = "rewritten" if it.relax else "kept"
-        return f"{self.room}/{case.name}/{number + 1}-{self.linkers[number].name}/{it.kind}-{relax}"
-
-    def tried(self, trial):
-        """Links one image, and says what it is worth."""
-        number, case, it = trial
-        room = self.folder(number, case, it)
-        made = link(self.linkers[number], case, it.kind, it.relax, room, self.system)
-        rows = verdicts.rows_of(case, it, made, room, self.system, self.words.seconds)
-        if self.words.keep:
-            reports.leave(self.linkers[number], case, it, made, rows, room)
-        else:
-            shutil.rmtree(room, ignore_errors=True)
-        return number, rows
-
-    def rows(self):
-        """The verdicts of each linker, in the corpus's order."""
-        found = [[] for _ in self.linkers]
-        with ThreadPoolExecutor(max(1, self.words.jobs)) as pool:
-            for number, rows in pool.map(self.tried, self.trials()):
-                found[number] += rows
-        return found
 
 
 def kept_room(words):
