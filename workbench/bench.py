@@ -5,7 +5,7 @@ from concurrent.futures import ThreadPoolExecutor
 import reports
 import verdicts
 from cases import read_cases
-from linkers import Linker, link, system_files
+from linkers import Linker, link, objects_of, system_files
 
 
 class Bench:
@@ -35,7 +35,9 @@ class Bench:
         made = link(self.linkers[number], case, it.kind, it.relax, room, self.system)
         rows = verdicts.rows_of(case, it, made, room, self.system, self.words.seconds)
         if self.words.keep:
-            reports.leave(self.linkers[number], case, it, made, rows, room)
+            linker = self.linkers[number]
+            words = linker.filled(it.kind, it.relax, objects_of(case, it.kind, self.system))
+            reports.leave(words, linker.version(), case, made, rows, room)
         else:
             shutil.rmtree(room, ignore_errors=True)
         return number, rows

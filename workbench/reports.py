@@ -139,11 +139,10 @@ def listed(code, start, end, room):
     return around(rows, start, end, 1)
 
 
-def leave(linker, case, link, made, rows, room):
-    """Writes a report into the folder in which a case was linked."""
-    words = linker.filled(link.kind, link.relax, ["..."])
+def leave(words, version, case, made, rows, room):
+    """Writes a report into the folder in which a case was linked by these words."""
     said = made.why if made.outcome == "made" else ""
-    lines = [it for it in (case.why or case.about, f"by {linker.version()}: {' '.join(words)}", said) if it]
+    lines = [it for it in (case.why or case.about, f"by {version}: {' '.join(words)}", said) if it]
     for row in rows:
         lines += ["", *site_report(row, room)]
     with open(f"{room}/report", "w", encoding="utf-8") as file:
