@@ -2,7 +2,6 @@
 """by_tlsld.py WORD..: the built `tlsld` as a linker for try.py. It makes modules alone: a program would be linked to a
 driver, which defines the run time's function, and `tlsld` takes no object that does so.
 """
-import os
 import shutil
 import subprocess
 import sys

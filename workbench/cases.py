@@ -4,12 +4,9 @@ import os
 
 from elf import File
 
-CALLING = ("gd", "gd-ind", "ld", "ld-ind")
-
 
 class Site:
-    """A sequence of a case: the object, the section's number there, the offset, the length, the form, and its function.
-    """
+    """A sequence of a case: the object, the section's number, the offset there, the length, the form and the function."""
 
     def __init__(self, file, section, at, length, form, function):
         self.file, self.section, self.at, self.length = file, section, at, length

@@ -1,7 +1,7 @@
 """Reads of ELF64 files what the workbench asks: sections, symbols and relocations, and the bytes at an address."""
 import struct
 
-X86_64, LOAD, TLS_SEGMENT, CODE_FLAGS, CODE = 62, 1, 7, 6, 4
+X86_64, LOAD, TLS_SEGMENT, CODE = 62, 1, 7, 4
 DYNAMIC, HASH, STRINGS, SYMBOL_TABLE = 2, 4, 5, 6
 PROGBITS, SYMBOLS, RELOCATIONS, DYNAMIC_SYMBOLS = 1, 2, 4, 11
 FIELD_SIZES = {0: 0, 1: 8, 17: 8, 18: 8, 24: 8, 25: 8, 29: 8, 31: 8, 35: 0}

@@ -6,7 +6,7 @@ there. Its twin reaches it by a form of the table, and says what is right.
 """
 from functions import (DTPOFF32, GOTPC32_TLSDESC, GOTPCREL, GOTPCRELX, GOTTPOFF, PLT32, RUN_TIME, TLSDESC_CALL, TLSGD,
     TLSLD, TPOFF32, Function, Reach)
-from plans import CasePlan, ObjectPlan, Variable
+from plans import TABLE, CasePlan, ObjectPlan, Variable
 
 GOTPC32, DTPOFF64, PLTOFF64 = 26, 17, 31
 NAME, OWN = "shown", [Variable("before", "local"), Variable("shown", first=0x5100)]
@@ -103,20 +103,13 @@ FORMS = [
 LARGE = ("gd-large", "ld-large")
 
 
-def opened(code, name):
-    """Where the large model wants it, %rbx is the address of the offset table; it is not looked at behind the sequence.
-    """
-    if name in LARGE:
-        code.raw("488d1d")
-        code.field(GOTPC32, "_GLOBAL_OFFSET_TABLE_")
-
-
 class LargeFunction(OddFunction):
-    """A function of the large code model."""
+    """A function of the large code model, which wants the address of the offset table in %rbx."""
 
     def open(self):
         super().open()
-        opened(self.code, "gd-large")
+        self.code.raw("488d1d")
+        self.code.field(GOTPC32, TABLE)
 
     def ask_registers(self):
         """%rbx is the offset table's."""
