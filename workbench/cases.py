@@ -6,7 +6,7 @@ from elf import File
 
 
 class Site:
-    """A sequence of a case: the object, the section's number, the offset there, the length, the form and the function."""
+    """A sequence of a case: the object, the section, the offset there, the length, the form and the function."""
 
     def __init__(self, file, section, at, length, form, function):
         self.file, self.section, self.at, self.length = file, section, at, length
