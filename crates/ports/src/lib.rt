@@ -40,9 +40,6 @@
 //! [`HostStore`] and [`HostSink`] are the host's files and one of its writers. No clause can say what a disk or a
 //! pipe holds, so trust begins at these two. It is proved how they count and how they treat a buffer and a writer;
 //! that a path names a file, that the host keeps it, and that a writer was flushed, is only tested.
-//!
-//! [`ProgressStore`] wraps any store, and shows on standard error how far a long command is. A contract sees only the
-//! store within, so its clauses are those of that store; the lines and their times are only tested.
 #![tactic(auto)]
 
 mod aftermath;
@@ -59,7 +56,7 @@ pub use aftermath::Aftermath;
 pub use claims::Claim;
 pub use faults::{FetchFault, PutFault};
 pub use fetching::fetch_each;
-pub use host::{HostBrand, HostFault, HostSink, HostStore, LARGEST_FILE, ProgressStore};
+pub use host::{HostBrand, HostFault, HostSink, HostStore, LARGEST_FILE};
 pub use memory::{MemoryBrand, MemorySink, MemoryStore};
 pub use sinks::Sink;
 pub use stores::Store;

@@ -1,11 +1,11 @@
-//! Shows the progress of a long command to the person who waits for it.
+//! A store that counts its files while it works, and the lines that tell of them.
 ghost use Rattle.std.specs.Prelude.{◌≡◌, IfOk, length};
 ghost use Rattle.std.specs.List.{All, AllZip};
 ghost use Rattle.ports.specs.Claims.{Brings, IsFileOf, IsRead, fewer};
 ghost use Rattle.ports.specs.Counts.{FetchCounts};
 
-use crate::{Claim, FetchFault, PutFault, Store};
 use file_bytes::Pieces;
+use ports::{Claim, FetchFault, PutFault, Store};
 use std::alloc::{AllocError, Global};
 use std::marker::Model;
 use std::rt::Clock;
