@@ -1,0 +1,4 @@
+mod Computing
+mod Multiplying
+mod Shifting
+mod Words

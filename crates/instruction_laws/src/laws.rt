@@ -1,0 +1,23 @@
+//! The laws. The functions do nothing: what they ensure is the law.
+
+ghost use Rattle.instruction_laws.specs.Laws.{ComputationsAreTheManuals, ProductsAreTheManuals, ShiftsAreTheManuals, WordsAreSigned};
+
+/// Each word is a signed integer, and only one.
+pub fn words_are_signed()
+    ensures { WordsAreSigned }
+{}
+
+/// The results and flags of add, or, and, sub, xor and cmp.
+pub fn computations_are_the_manuals()
+    ensures { ComputationsAreTheManuals }
+{}
+
+/// Those of imul.
+pub fn products_are_the_manuals()
+    ensures { ProductsAreTheManuals }
+{}
+
+/// Those of shl, shr and sar, by a masked count.
+pub fn shifts_are_the_manuals()
+    ensures { ShiftsAreTheManuals }
+{}
