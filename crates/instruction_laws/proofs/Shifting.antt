@@ -2,7 +2,7 @@
 use Rattle.std.proofs.Common.{◌≡◌, ◌↔◌, ◌⊎◌, inl, inr, ℕ, zero, suc, ◌+◌, ◌-◌, ◌*◌, ◌/◌, ◌%◌, ◌^◌, ◌<◌, ◌≤◌, ltb, leb, eqb, ℤ, pos, negsuc, neg_ℤ, ◌*ℤ◌, Bool, true, false, cond, refl, ap, sym, subst, subst₂, ⊎_elim, arith, ◌∙◌, mul_comm, suc-mul, add-mul, pow-suc, pow_pos, pow-add, pow_mono}
 use Rattle.std.specs.Prelude.{◌+ℤ◌, ◌≤ℤ◌, ◌<ℤ◌, ◌==◌, if◌then◌else◌}
 use Rattle.std.specs.Bool.{Decides}
-use Rattle.std.proofs.lemmas.Bool.{cases_lt, eq-eqb, ne_eqb, lt-leb, le-leb}
+use Rattle.std.proofs.lemmas.Bool.{false≢true, cases_lt, eq-eqb, ne_eqb, lt-leb, le-leb}
 use Rattle.std.proofs.lemmas.Bool.Decides.{Decides-eqb, Decides-like}
 use Rattle.std.proofs.lemmas.Int.{ints}
 use Rattle.std.proofs.lemmas.Nat.{shl-shr, shr-shr, shr_split, shr_le, shr_below, mod_below, mod-pow-add, same_from_place}
@@ -13,9 +13,9 @@ use Rattle.amd64_subset.specs.declared.instr.Shift.TheVariants.{Left, Right, Rig
 use Rattle.amd64_subset.specs.declared.instr.Width.{Width}
 use Rattle.amd64_subset.specs.declared.instr.Width.TheVariants.{Long, Quad}
 use Rattle.guest_arithmetic.specs.declared.effect.Change.{Change}
-use Rattle.guest_arithmetic.specs.declared.effect.Change.TheVariants.{Unsettled}
+use Rattle.guest_arithmetic.specs.declared.effect.Change.TheVariants.{Set, Unsettled, Kept}
 use Rattle.guest_arithmetic.specs.declared.effect.Effect.{Effect}
-use Rattle.guest_arithmetic.specs.Arithmetic.{bits_of, span_of, half_of, is_negative, differ, greatest, shifted, bit_out, shift_overflows, shift_effect}
+use Rattle.guest_arithmetic.specs.Arithmetic.{bits_of, span_of, half_of, is_negative, by_result, differ, greatest, shifted, bit_out, shift_overflows, shift_effect}
 use Rattle.instruction_laws.specs.Words.{words, half, IsOutside, IsSigned, IsCut, Shows, IsUndefined}
 use Rattle.instruction_laws.specs.Results.{TellsOfResult, IsUntouched, IsShiftedLeft, IsShiftedRight, IsShiftedSigned, Shifts}
 use Rattle.instruction_laws.specs.Laws.{counts}
@@ -40,6 +40,22 @@ same_by_count P count c d some p p' q q' = ⊎_elim
     (λ high. same_undefined c d (p' high) (q' high))
     (cases_lt count 2)
 
+-- what a shift by more than 0 does
+abbrev moved : Shift → Width → ℕ → ℕ → Effect
+moved shift width a count = record {
+  number = shifted shift width a count;
+  changes = by_result width (shifted shift width a count) (Set (bit_out shift width a count))
+      (if count == 1 then Set (shift_overflows shift width a) else Unsettled);
+}
+
+moved_is : (shift : Shift) (width : Width) (a less : ℕ)
+    → shift_effect shift width a (suc less) ≡ moved shift width a (suc less)
+unfolding shift_effect
+moved_is shift width a less = ap (λ (t : Bool). if t then record {
+  number = a;
+  changes = record { zero = Kept; sign = Kept; carry = Kept; overflow = Kept };
+} else moved shift width a (suc less)) (ne_eqb (suc less) 0 (λ is. omega (arith, is)))
+
 -- ** to the left
 
 -- the bit next to the result, of the whole product
@@ -60,8 +76,8 @@ left_carry Quad a count within = subst (λ (n : ℕ). Decides (n % 2 == 1) (a * 
 decides_differ : (s t : Bool) (P Q : Type 0) → Decides s P → Decides t Q
     → Decides (differ s t) ((P × (Q → ⊥)) ⊎ ((P → ⊥) × Q))
 decides_differ true true P Q p q = (λ is. cc, λ either. ⊎_elim (λ here. absurd (here.1 (q.0 refl))) (λ here. absurd (here.0 (p.0 refl))) either)
-decides_differ true false P Q p q = (λ is. inl (p.0 refl, λ it. absurd (cc)), λ either. refl)
-decides_differ false true P Q p q = (λ is. inr (λ it. absurd (cc), q.0 refl), λ either. refl)
+decides_differ true false P Q p q = (λ is. inl (p.0 refl, λ it. false≢true (q.1 it)), λ either. refl)
+decides_differ false true P Q p q = (λ is. inr (λ it. false≢true (p.1 it), q.0 refl), λ either. refl)
 decides_differ false false P Q p q = (λ is. absurd (cc), λ either. ⊎_elim (λ here. p.1 here.0) (λ here. q.1 here.1) either)
 
 left_overflow : (width : Width) (a : ℕ) (x : ℤ) → IsSigned width a x
@@ -81,11 +97,11 @@ left_overflow Quad a x is = Decides-like _
     (decides_differ _ _ _ _ (decides_le (half_of Quad) (a * 2 ^ 1 % span_of Quad)) (Decides-eqb (a / 2 ^ 63 % 2) 1))
 
 is_left : (width : Width) (a : ℕ) (x : ℤ) (less : ℕ) → IsSigned width a x → suc less < counts width
-    → IsShiftedLeft width a x (suc less) (shift_effect Left width a (suc less))
-unfolding shift_effect shifted
+    → IsShiftedLeft width a x (suc less) (moved Left width a (suc less))
+unfolding shifted
 is_left width a x less is within = let cut = pos_cut width (a * 2 ^ suc less) (a * 2 ^ suc less) 0 0 refl in record {
   number = cut;
-  tells = tells width (shift_effect Left width a (suc less)) cut.below (Decides-eqb _ 0) (decides_negative width _);
+  tells = tells width (moved Left width a (suc less)) cut.below (Decides-eqb _ 0) (decides_negative width _);
   carry = left_carry width a (suc less) within;
   once = λ one. once_shows _ (suc less) _ _ one (left_overflow width a x is);
   more = λ more. more_undefined (suc less) _ more;
@@ -142,13 +158,13 @@ unfolding shift_overflows
 right_overflow width a x is = decides_negative width a x is
 
 is_right : (width : Width) (a : ℕ) (x : ℤ) (less : ℕ) → IsSigned width a x
-    → IsShiftedRight width a x (suc less) (shift_effect Right width a (suc less))
-unfolding shift_effect shifted
+    → IsShiftedRight width a x (suc less) (moved Right width a (suc less))
+unfolding shifted
 is_right width a x less is = record {
   rest = a % 2 ^ suc less;
   small = mod_below a (2 ^ suc less) (pow_pos (suc less));
   number = shr_split a (suc less);
-  tells = tells width (shift_effect Right width a (suc less)) (omega (arith, shr_le a (suc less), is.below))
+  tells = tells width (moved Right width a (suc less)) (omega (arith, shr_le a (suc less), is.below))
       (Decides-eqb _ 0) (decides_negative width _);
   carry = right_carry width a less;
   once = λ one. once_shows _ (suc less) _ _ one (right_overflow width a x is);
@@ -218,7 +234,7 @@ upward_floor : (width : Width) (a count : ℕ) → a < half width → IsFloor wi
 upward_floor width a count low = record {
   result = pos (a / 2 ^ count);
   signed = low_half width (a / 2 ^ count) (omega (arith, shr_le a count));
-  number = rw (pos-*ℤ-pos (a / 2 ^ count) (2 ^ count)) (ap pos (shr_split a count));
+  number = ap (λ (z : ℤ). z +ℤ pos (a % 2 ^ count)) (pos-*ℤ-pos (a / 2 ^ count) (2 ^ count)) ∙ ap pos (shr_split a count);
 }
 
 downward_signed : (width : Width) (word n : ℕ) → word + suc n ≡ words width → suc n ≤ half width
@@ -267,22 +283,21 @@ floor_at Long a less (Upward low) within = subst (λ (t : Bool). IsFloor Long a 
 floor_at Long a less (Downward n is size) within = subst (λ (t : Bool). IsFloor Long a (negsuc n) (suc less)
     (if t then a / 2 ^ suc less + (greatest Long - greatest Long / 2 ^ suc less) else a / 2 ^ suc less))
     (sym (le-leb (half_of Long) a (omega (arith, is, size))))
-    (downward_floor Long 32 a less n refl within (pow_mono (32 - suc less) 31 (omega arith)) is size)
+    (downward_floor Long 32 a less n refl within (pow_mono {j = 31} (omega arith)) is size)
 floor_at Quad a less (Upward low) within = subst (λ (t : Bool). IsFloor Quad a (pos a) (suc less)
     (if t then a / 2 ^ suc less + (greatest Quad - greatest Quad / 2 ^ suc less) else a / 2 ^ suc less))
     (sym (lt-leb (half_of Quad) a low)) (upward_floor Quad a (suc less) low)
 floor_at Quad a less (Downward n is size) within = subst (λ (t : Bool). IsFloor Quad a (negsuc n) (suc less)
     (if t then a / 2 ^ suc less + (greatest Quad - greatest Quad / 2 ^ suc less) else a / 2 ^ suc less))
     (sym (le-leb (half_of Quad) a (omega (arith, is, size))))
-    (downward_floor Quad 64 a less n refl within (pow_mono (64 - suc less) 63 (omega arith)) is size)
+    (downward_floor Quad 64 a less n refl within (pow_mono {j = 63} (omega arith)) is size)
 
 signed_overflow : (width : Width) (a : ℕ) → Decides (shift_overflows RightSigned width a) ⊥
 unfolding shift_overflows
 signed_overflow width a = (λ is. cc, λ never. absurd never)
 
 is_right_signed : (width : Width) (a : ℕ) (x : ℤ) (less : ℕ) → IsFloor width a x (suc less) (shifted RightSigned width a (suc less))
-    → IsShiftedSigned width a x (suc less) (shift_effect RightSigned width a (suc less))
-unfolding shift_effect
+    → IsShiftedSigned width a x (suc less) (moved RightSigned width a (suc less))
 is_right_signed width a x less floor = record {
   rest = a % 2 ^ suc less;
   small = mod_below a (2 ^ suc less) (pow_pos (suc less));
@@ -313,10 +328,13 @@ only_untouched a e f p q = same_effect e f (p.number ∙ sym q.number) (same_kep
 is_shifted : (shift : Shift) (width : Width) (a : ℕ) (x : ℤ) (count : ℕ) → IsSigned width a x → count < counts width
     → Shifts shift width a x count (shift_effect shift width a count)
 is_shifted shift width a x zero is within = is_untouched shift width a
-is_shifted Left width a x (suc less) is within = is_left width a x less is within
-is_shifted Right width a x (suc less) is within = is_right width a x less is
+is_shifted Left width a x (suc less) is within =
+    subst (IsShiftedLeft width a x (suc less)) (sym (moved_is Left width a less)) (is_left width a x less is within)
+is_shifted Right width a x (suc less) is within =
+    subst (IsShiftedRight width a x (suc less)) (sym (moved_is Right width a less)) (is_right width a x less is)
 is_shifted RightSigned width a x (suc less) is within =
-    is_right_signed width a x less (floor_at width a less (by_sign width a x is) within)
+    subst (IsShiftedSigned width a x (suc less)) (sym (moved_is RightSigned width a less))
+    (is_right_signed width a x less (floor_at width a less (by_sign width a x is) within))
 
 only_shifted : (shift : Shift) (width : Width) (a : ℕ) (x : ℤ) (count : ℕ) (e f : Effect) → Shifts shift width a x count e
     → Shifts shift width a x count f → e ≡ f
