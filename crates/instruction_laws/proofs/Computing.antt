@@ -85,7 +85,7 @@ only_sum width a b x y e f p q =
 
 -- ** differences
 
-difference_outside : (width : Width) (a b : ℕ) (x y : ℤ) → IsSigned width a x → IsSigned width b y
+pub difference_outside : (width : Width) (a b : ℕ) (x y : ℤ) → IsSigned width a x → IsSigned width b y
     → Decides (difference_overflows width a b) (IsOutside width (x -ℤ y))
 unfolding difference_overflows
 difference_outside Long a b x y p q = Decides-or _ _
@@ -103,14 +103,14 @@ difference_outside Quad a b x y p q = Decides-or _ _
     (λ large. omega (arith, ints, large, p.same, p.least, p.greatest, q.same, q.least, q.greatest))
     (decides_le (biased Quad b + half_of Quad) (biased Quad a)))
 
-difference_cut : (width : Width) (a b : ℕ) → a < words width → b < words width
+pub difference_cut : (width : Width) (a b : ℕ) → a < words width → b < words width
     → IsCut width ((a + (span_of width - b)) % span_of width) (pos a -ℤ pos b)
 difference_cut Long a b p q =
     record { below = omega arith; more = 1; less = (a + (4294967296 - b)) / 4294967296; same = omega (arith, ints) }
 difference_cut Quad a b p q =
     record { below = omega arith; more = 1; less = (a + (18446744073709551616 - b)) / 18446744073709551616; same = omega (arith, ints) }
 
-borrows : (a b : ℕ) → Decides (nat_lt a b) ((pos a -ℤ pos b) <ℤ pos 0)
+pub borrows : (a b : ℕ) → Decides (nat_lt a b) ((pos a -ℤ pos b) <ℤ pos 0)
 borrows a b = Decides-like _ (λ below. omega (arith, ints)) (λ below. omega (arith, ints)) (Decides-ltb a b)
 
 is_difference : (width : Width) (a b : ℕ) (x y : ℤ) → IsSigned width a x → IsSigned width b y

@@ -1,3 +1,4 @@
+mod Comparing
 mod Computing
 mod Multiplying
 mod Shifting

@@ -73,7 +73,7 @@ left_carry Long a count within = subst (λ (n : ℕ). Decides (n % 2 == 1) (a * 
 left_carry Quad a count within = subst (λ (n : ℕ). Decides (n % 2 == 1) (a * 2 ^ count / 2 ^ 64 % 2 ≡ 1))
     (left_out a count 64 (omega arith)) (Decides-eqb (a * 2 ^ count / 2 ^ 64 % 2) 1)
 
-decides_differ : (s t : Bool) (P Q : Type 0) → Decides s P → Decides t Q
+pub decides_differ : (s t : Bool) (P Q : Type 0) → Decides s P → Decides t Q
     → Decides (differ s t) ((P × (Q → ⊥)) ⊎ ((P → ⊥) × Q))
 decides_differ true true P Q p q = (λ is. cc, λ either. ⊎_elim (λ here. absurd (here.1 (q.0 refl))) (λ here. absurd (here.0 (p.0 refl))) either)
 decides_differ true false P Q p q = (λ is. inl (p.0 refl, λ it. false≢true (q.1 it)), λ either. refl)

@@ -1,11 +1,18 @@
 -- The laws: what is computed is the only answer with the manual's properties.
-use Rattle.std.specs.Prelude.{◌≡◌, ◌↔◌, ℕ, ◌<◌, ℤ}
+use Rattle.std.specs.Prelude.{◌≡◌, ◌↔◌, ℕ, ◌<◌, ℤ, Bool}
 use Rattle.amd64_subset.specs.declared.instr.Arithmetic.{Arithmetic}
+use Rattle.amd64_subset.specs.declared.instr.Arithmetic.TheVariants.{Compare}
+use Rattle.amd64_subset.specs.declared.instr.Condition.{Condition}
 use Rattle.amd64_subset.specs.declared.instr.Shift.{Shift}
 use Rattle.amd64_subset.specs.declared.instr.Width.{Width}
 use Rattle.amd64_subset.specs.declared.instr.Width.TheVariants.{Long, Quad}
+use Rattle.guest_arithmetic.specs.declared.effect.Changes.{Changes}
 use Rattle.guest_arithmetic.specs.declared.effect.Effect.{Effect}
+use Rattle.guest_arithmetic.specs.declared.flags.Flags.{Flags}
 use Rattle.guest_arithmetic.specs.Arithmetic.{compute_effect, product_effect, shift_effect}
+use Rattle.guest_arithmetic.specs.Flags.{with_changes}
+use Rattle.guest_arithmetic.specs.Plain.{plain_operations}
+use Rattle.instruction_laws.specs.Conditions.{Become, Compares, Holds, IsTaken}
 use Rattle.instruction_laws.specs.Words.{words, IsSigned}
 use Rattle.instruction_laws.specs.Results.{Computes, IsProduct, Shifts}
 
@@ -33,3 +40,19 @@ counts Quad = 64
 abbrev pub ShiftsAreTheManuals : Type 0
 ShiftsAreTheManuals = (shift : Shift) (width : Width) (a : ℕ) (x : ℤ) (count : ℕ) → IsSigned width a x → count < counts width
     → (effect : Effect) → (shift_effect shift width a count ≡ effect) ↔ Shifts shift width a x count effect
+
+-- the flags of the machine after changes
+abbrev pub FlagsChange : Type 0
+FlagsChange = (changes : Changes) (before after : Flags Bool)
+    → (with_changes plain_operations changes before ≡ after) ↔ Become changes before after
+
+-- the conditions by the flags
+abbrev pub ConditionsAreTheManuals : Type 0
+ConditionsAreTheManuals = (condition : Condition) (flags : Flags Bool) → IsTaken condition flags (Holds condition flags)
+
+-- a condition after cmp, whatever the flags were before
+abbrev pub ComparisonsDecide : Type 0
+ComparisonsDecide = (condition : Condition) (width : Width) (a b : ℕ) (x y : ℤ) (before : Flags Bool)
+    → IsSigned width a x → IsSigned width b y
+    → IsTaken condition (with_changes plain_operations (compute_effect Compare width a b).changes before)
+    (Compares condition width a b x y)

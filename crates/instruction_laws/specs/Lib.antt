@@ -1,3 +1,4 @@
+pub mod Conditions
 pub mod Laws
 pub mod Results
 pub mod Words

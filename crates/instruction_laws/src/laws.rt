@@ -1,6 +1,6 @@
 //! The laws. The functions do nothing: what they ensure is the law.
 
-ghost use Rattle.instruction_laws.specs.Laws.{ComputationsAreTheManuals, ProductsAreTheManuals, ShiftsAreTheManuals, WordsAreSigned};
+ghost use Rattle.instruction_laws.specs.Laws.{ComparisonsDecide, ComputationsAreTheManuals, ConditionsAreTheManuals, FlagsChange, ProductsAreTheManuals, ShiftsAreTheManuals, WordsAreSigned};
 
 /// Each word is a signed integer, and only one.
 pub fn words_are_signed()
@@ -20,4 +20,19 @@ pub fn products_are_the_manuals()
 /// Those of shl, shr and sar, by a masked count.
 pub fn shifts_are_the_manuals()
     ensures { ShiftsAreTheManuals }
+{}
+
+/// What becomes of the flags.
+pub fn flags_change()
+    ensures { FlagsChange }
+{}
+
+/// The conditions by the flags.
+pub fn conditions_are_the_manuals()
+    ensures { ConditionsAreTheManuals }
+{}
+
+/// The conditions after cmp, by the numbers that were compared.
+pub fn comparisons_decide()
+    ensures { ComparisonsDecide }
 {}
