@@ -1,6 +1,6 @@
 -- Flags and conditions.
-use Rattle.std.proofs.Common.{◌≡◌, ◌↔◌, ◌⊎◌, inl, inr, ℕ, ◌+◌, ◌-◌, ◌*◌, ◌%◌, ◌<◌, ◌≤◌, ◌||◌, not, ℤ, pos, Bool, true, false, Ok, refl, ap, sym, subst, ⊎_elim, arith, ◌∙◌}
-use Rattle.std.specs.Prelude.{◌≢◌, ◌+ℤ◌, ◌-ℤ◌, ◌≤ℤ◌, ◌<ℤ◌, ◌==◌}
+use Rattle.std.proofs.Common.{◌≡◌, ◌↔◌, ◌⊎◌, inl, inr, ℕ, ◌+◌, ◌-◌, ◌%◌, ◌<◌, ◌≤◌, ◌||◌, not, ℤ, pos, Bool, true, false, Ok, refl, ap, sym, subst, ⊎_elim, arith, ◌∙◌}
+use Rattle.std.specs.Prelude.{◌≢◌, ◌+ℤ◌, ◌-ℤ◌, ◌≤ℤ◌, ◌<ℤ◌}
 use Rattle.std.specs.Bool.{Decides}
 use Rattle.std.proofs.lemmas.Bool.{false≢true, cases_lt}
 use Rattle.std.proofs.lemmas.Bool.Decides.{Decides-eqb, Decides-ltb, Decides-like, Decides-not, Decides-or, same_from_decides}
@@ -14,14 +14,14 @@ use Rattle.guest_arithmetic.specs.declared.effect.Change.{Change}
 use Rattle.guest_arithmetic.specs.declared.effect.Change.TheVariants.{Set, Unsettled, Kept}
 use Rattle.guest_arithmetic.specs.declared.effect.Changes.{Changes}
 use Rattle.guest_arithmetic.specs.declared.flags.Flags.{Flags}
-use Rattle.guest_arithmetic.specs.Arithmetic.{differ, span_of, is_negative, difference_overflows, difference_effect, compute_effect}
+use Rattle.guest_arithmetic.specs.Arithmetic.{differ, span_of, difference_effect, compute_effect}
 use Rattle.guest_arithmetic.specs.Flags.{changed, with_changes, condition_of, is_less, is_less_or_equal, is_below_or_equal}
 use Rattle.guest_arithmetic.specs.Plain.{plain_operations}
-use Rattle.instruction_laws.specs.Words.{words, half, IsTooSmall, IsTooLarge, IsOutside, IsSigned, IsCut}
+use Rattle.instruction_laws.specs.Words.{half, IsTooSmall, IsTooLarge, IsOutside, IsSigned, IsCut}
 use Rattle.instruction_laws.specs.Results.{One}
 use Rattle.instruction_laws.specs.Conditions.{Becomes, Become, Compares, Holds, IsTaken}
 use Rattle.instruction_laws.proofs.Words.{signed_of}
-use Rattle.instruction_laws.proofs.Computing.{borrows, decides_negative, difference_cut, difference_outside}
+use Rattle.instruction_laws.proofs.Computing.{decides_negative, difference_cut, difference_outside}
 use Rattle.instruction_laws.proofs.Shifting.{decides_differ}
 
 -- ** flags
@@ -66,9 +66,10 @@ change changes before after = let here = become changes before in
 -- a condition is this test of the flags, and the test decides P
 taken_by : (condition : Condition) (flags : Flags Bool) (test : Bool) (P : Type 0)
     → condition_of plain_operations condition flags ≡ Ok test → Decides test P → IsTaken condition flags P
-taken_by condition flags test P is decides truth =
-    (λ same. let e : test ≡ truth = cc in subst (λ (t : Bool). Decides t P) e decides,
-    λ other. is ∙ ap Ok (same_from_decides {P = P} test truth decides other))
+taken_by condition flags test P is decides truth = (
+  λ same. let e : test ≡ truth = cc in subst (λ (t : Bool). Decides t P) e decides,
+  λ other. is ∙ ap Ok (same_from_decides {P = P} test truth decides other),
+)
 
 abbrev test_of : Condition → Flags Bool → Bool
 test_of Overflow flags = flags.overflow
@@ -166,12 +167,14 @@ record HasCompared (width : Width) (a b : ℕ) (x y : ℤ) (flags : Flags Bool) 
   sign : Decides flags.sign (One (x <ℤ y) (IsOutside width (x -ℤ y)))
 
 same_words : (width : Width) (a b : ℕ) (x y : ℤ) → IsSigned width a x → IsSigned width b y → (a ≡ b) ↔ (x ≡ y)
-same_words Long a b x y p q =
-    (λ is. omega (arith, ints, is, p.same, p.least, p.greatest, q.same, q.least, q.greatest),
-    λ is. omega (arith, ints, is, p.same, p.below, q.same, q.below))
-same_words Quad a b x y p q =
-    (λ is. omega (arith, ints, is, p.same, p.least, p.greatest, q.same, q.least, q.greatest),
-    λ is. omega (arith, ints, is, p.same, p.below, q.same, q.below))
+same_words Long a b x y p q = (
+  λ is. omega (arith, ints, is, p.same, p.least, p.greatest, q.same, q.least, q.greatest),
+  λ is. omega (arith, ints, is, p.same, p.below, q.same, q.below),
+)
+same_words Quad a b x y p q = (
+  λ is. omega (arith, ints, is, p.same, p.least, p.greatest, q.same, q.least, q.greatest),
+  λ is. omega (arith, ints, is, p.same, p.below, q.same, q.below),
+)
 
 is_at_most : (width : Width) (a b : ℕ) (x y : ℤ) (flags : Flags Bool) → HasCompared width a b x y flags
     → Decides (flags.carry || flags.zero) (a ≤ b)
@@ -212,10 +215,14 @@ compares Greater width a b x y flags it = Decides-like _ (λ no. not_at_most x y
 decides_sign : (s o : Bool) (P Q : Type 0) → Decides (differ s o) P → Decides o Q → Decides s (One P Q)
 decides_sign true true P Q p q = (λ is. inr (λ it. false≢true (p.1 it), q.0 refl), λ one. refl)
 decides_sign true false P Q p q = (λ is. inl (p.0 refl, λ it. false≢true (q.1 it)), λ one. refl)
-decides_sign false true P Q p q = (λ is. absurd (false≢true is),
-    λ one. absurd (⊎_elim (λ here. here.1 (q.0 refl)) (λ here. here.0 (p.0 refl)) one))
-decides_sign false false P Q p q = (λ is. absurd (false≢true is),
-    λ one. ⊎_elim (λ here. p.1 here.0) (λ here. q.1 here.1) one)
+decides_sign false true P Q p q = (
+  λ is. absurd (false≢true is),
+  λ one. absurd (⊎_elim (λ here. here.1 (q.0 refl)) (λ here. here.0 (p.0 refl)) one),
+)
+decides_sign false false P Q p q = (
+  λ is. absurd (false≢true is),
+  λ one. ⊎_elim (λ here. p.1 here.0) (λ here. q.1 here.1) one,
+)
 
 -- a word that is a difference, cut, and is z as a signed integer
 record IsResult (width : Width) (a b : ℕ) (x y z : ℤ) (word : ℕ) : Type 0 where
@@ -225,12 +232,14 @@ record IsResult (width : Width) (a b : ℕ) (x y z : ℤ) (word : ℕ) : Type 0 
   signed : IsSigned width word z
 
 zero_same : (width : Width) (a b word : ℕ) (x y z : ℤ) → IsResult width a b x y z word → (word ≡ 0) ↔ (a ≡ b)
-zero_same Long a b word x y z it =
-    (λ is. omega (arith, ints, is, it.cut.same, it.left.below, it.right.below),
-    λ is. omega (arith, ints, is, it.cut.same, it.cut.below))
-zero_same Quad a b word x y z it =
-    (λ is. omega (arith, ints, is, it.cut.same, it.left.below, it.right.below),
-    λ is. omega (arith, ints, is, it.cut.same, it.cut.below))
+zero_same Long a b word x y z it = (
+  λ is. omega (arith, ints, is, it.cut.same, it.left.below, it.right.below),
+  λ is. omega (arith, ints, is, it.cut.same, it.cut.below),
+)
+zero_same Quad a b word x y z it = (
+  λ is. omega (arith, ints, is, it.cut.same, it.left.below, it.right.below),
+  λ is. omega (arith, ints, is, it.cut.same, it.cut.below),
+)
 
 -- where the difference is outside, the sign is the other one
 inside : (width : Width) (a b word : ℕ) (x y z : ℤ) → IsResult width a b x y z word → pos 0 ≤ℤ ((x -ℤ y) +ℤ pos (half width))
@@ -267,8 +276,11 @@ less_by : (width : Width) (a b word : ℕ) (x y z : ℤ) → IsResult width a b 
     → Decides o (IsOutside width (x -ℤ y)) → x <ℤ y
     → ((z <ℤ pos 0) × (IsOutside width (x -ℤ y) → ⊥)) ⊎ ((z <ℤ pos 0 → ⊥) × IsOutside width (x -ℤ y))
 less_by width a b word x y z it true outside less = let out = outside.0 refl in
-    inr (⊎_elim (λ small. small_is_not width a b word x y z it small)
-    (λ large. absurd (large_is_not_less width a b word x y z it large less)) out, out)
+    inr (
+      ⊎_elim (λ small. small_is_not width a b word x y z it small)
+          (λ large. absurd (large_is_not_less width a b word x y z it large less)) out,
+      out,
+    )
 less_by width a b word x y z it false outside less = let not_out = λ (out : IsOutside width (x -ℤ y)). false≢true (outside.1 out) in
     let same = same_inside width a b word x y z it not_out in
     inl (omega (arith, ints, same, less), not_out)
@@ -278,9 +290,9 @@ decides_less : (width : Width) (a b word : ℕ) (x y z : ℤ) → IsResult width
 decides_less width a b word x y z it s o sign outside = Decides-like _
     (λ either. ⊎_elim
     (λ here. let same = same_inside width a b word x y z it here.1 in
-        let negative = here.0 in omega (arith, ints, same, negative))
+    let negative = here.0 in omega (arith, ints, same, negative))
     (λ here. ⊎_elim (λ small. small_is_less width a b word x y z it small)
-        (λ large. absurd (here.0 (large_is_negative width a b word x y z it large))) here.1) either)
+    (λ large. absurd (here.0 (large_is_negative width a b word x y z it large))) here.1) either)
     (less_by width a b word x y z it o outside)
     (decides_differ s o _ _ sign outside)
 

@@ -1,8 +1,8 @@
 -- Sums, differences and bitwise results have the manual's properties, and nothing else has them.
-use Rattle.std.proofs.Common.{◌≡◌, ◌↔◌, ◌⊎◌, inl, inr, ℕ, ◌+◌, ◌-◌, ◌*◌, ◌/◌, ◌%◌, ◌^◌, ◌<◌, ◌≤◌, min, max, ltb, leb, ◌||◌, ℤ, pos, negsuc, Bool, true, false, bit_and, bit_or, bit_xor, refl, ap, sym, subst, ⊎_elim, arith, ◌∙◌}
-use Rattle.std.specs.Prelude.{◌+ℤ◌, ◌-ℤ◌, ◌≤ℤ◌, ◌<ℤ◌, nat_le, nat_lt, ◌==◌}
+use Rattle.std.proofs.Common.{◌≡◌, ◌↔◌, ◌⊎◌, inl, inr, ℕ, ◌+◌, ◌-◌, ◌*◌, ◌/◌, ◌%◌, ◌^◌, ◌<◌, ◌≤◌, leb, ℤ, pos, bit_and, bit_or, bit_xor, subst, ⊎_elim, arith}
+use Rattle.std.specs.Prelude.{◌+ℤ◌, ◌-ℤ◌, ◌<ℤ◌, nat_le, nat_lt}
 use Rattle.std.specs.Bool.{Decides}
-use Rattle.std.proofs.lemmas.Bool.{cases_lt, ltb-true, leb-true, lt-ltb, le-leb, lt-leb}
+use Rattle.std.proofs.lemmas.Bool.{cases_lt, leb-true, le-leb}
 use Rattle.std.proofs.lemmas.Bool.Decides.{Decides-eqb, Decides-ltb, Decides-like, Decides-or}
 use Rattle.std.proofs.lemmas.Int.{ints}
 use Rattle.std.proofs.lemmas.Nat.{and_le_l, or_lt, xor_lt}
@@ -13,7 +13,7 @@ use Rattle.amd64_subset.specs.declared.instr.Width.{Width}
 use Rattle.amd64_subset.specs.declared.instr.Width.TheVariants.{Long, Quad}
 use Rattle.guest_arithmetic.specs.declared.effect.Effect.{Effect}
 use Rattle.guest_arithmetic.specs.Arithmetic.{span_of, half_of, biased, is_negative, sum_overflows, difference_overflows, sum_effect, difference_effect, logic_effect, compute_effect}
-use Rattle.instruction_laws.specs.Words.{words, half, IsTooSmall, IsTooLarge, IsOutside, IsSigned, IsCut, IsSet, Shows}
+use Rattle.instruction_laws.specs.Words.{words, IsOutside, IsSigned, IsCut, IsSet, Shows}
 use Rattle.instruction_laws.specs.Results.{TellsOfResult, IsSum, IsDifference, IsBitwise, Both, Either, One, Computes}
 use Rattle.instruction_laws.proofs.Words.{only_cut, same_shown, same_effect, same_told, signed_of}
 
@@ -153,7 +153,7 @@ only_bitwise : (bit : Type 0 → Type 0 → Type 0) (width : Width) (a b : ℕ) 
     → IsBitwise bit width a b f → e ≡ f
 only_bitwise bit width a b e f p q =
     let number = same_from_bits e.number f.number (λ k. same_bit e.number f.number k
-        (λ is. (q.bits k).1 ((p.bits k).0 is)) (λ is. (p.bits k).1 ((q.bits k).0 is))) in
+    (λ is. (q.bits k).1 ((p.bits k).0 is)) (λ is. (p.bits k).1 ((q.bits k).0 is))) in
     let told = same_told width e f number p.tells q.tells in
     same_effect e f number told.0 told.1 (same_shown _ _ _ _ (λ is. is) (λ is. is) p.carry q.carry)
     (same_shown _ _ _ _ (λ is. is) (λ is. is) p.overflow q.overflow)
@@ -163,25 +163,27 @@ one_of_two : (n : ℕ) → n < 2 → (n ≡ 1) ⊎ (n ≡ 1 → ⊥)
 one_of_two n below = ⊎_elim (λ low. inr (λ is. omega (arith, low, is))) (λ high. inl (omega arith)) (cases_lt n 1)
 
 and_bits : (a b k : ℕ) → IsSet k (bit_and a b) ↔ Both (IsSet k a) (IsSet k b)
-and_bits a b k =
-    (λ is. (omega (arith, is, bit_at_and a b k, bit_at-lt a k, bit_at-lt b k), omega (arith, is, bit_at_and a b k, bit_at-lt a k, bit_at-lt b k)),
-    λ both. omega (arith, both.0, both.1, bit_at_and a b k))
+and_bits a b k = (
+  λ is. (omega (arith, is, bit_at_and a b k, bit_at-lt a k, bit_at-lt b k), omega (arith, is, bit_at_and a b k, bit_at-lt a k, bit_at-lt b k)),
+  λ both. omega (arith, both.0, both.1, bit_at_and a b k),
+)
 
 or_bits : (a b k : ℕ) → IsSet k (bit_or a b) ↔ Either (IsSet k a) (IsSet k b)
-or_bits a b k =
-    (λ is. ⊎_elim inl (λ no. inr (omega (arith, is, no, bit_at_or a b k, bit_at-lt a k, bit_at-lt b k)))
-    (one_of_two (a / 2 ^ k % 2) (bit_at-lt a k)),
-    λ either. ⊎_elim (λ here. omega (arith, here, bit_at_or a b k, bit_at-lt b k))
-    (λ here. omega (arith, here, bit_at_or a b k, bit_at-lt a k)) either)
+or_bits a b k = (
+  λ is. ⊎_elim inl (λ no. inr (omega (arith, is, no, bit_at_or a b k, bit_at-lt a k, bit_at-lt b k)))
+      (one_of_two (a / 2 ^ k % 2) (bit_at-lt a k)),
+  λ either. ⊎_elim (λ here. omega (arith, here, bit_at_or a b k, bit_at-lt b k))
+      (λ here. omega (arith, here, bit_at_or a b k, bit_at-lt a k)) either,
+)
 
 xor_bits : (a b k : ℕ) → IsSet k (bit_xor a b) ↔ One (IsSet k a) (IsSet k b)
-xor_bits a b k =
-    (λ is. ⊎_elim (λ here. inl (here, λ other. omega (arith, is, here, other, bit_at_xor a b k)))
-    (λ no. inr (no, omega (arith, is, no, bit_at_xor a b k, bit_at-lt a k, bit_at-lt b k)))
-    (one_of_two (a / 2 ^ k % 2) (bit_at-lt a k)),
-    λ one. ⊎_elim (λ here. omega (arith, here.0, here.1, bit_at_xor a b k, bit_at-lt b k))
-    (λ here. omega (arith, here.0, here.1, bit_at_xor a b k, bit_at-lt a k)) one)
-
+xor_bits a b k = (
+  λ is. ⊎_elim (λ here. inl (here, λ other. omega (arith, is, here, other, bit_at_xor a b k)))
+      (λ no. inr (no, omega (arith, is, no, bit_at_xor a b k, bit_at-lt a k, bit_at-lt b k)))
+      (one_of_two (a / 2 ^ k % 2) (bit_at-lt a k)),
+  λ one. ⊎_elim (λ here. omega (arith, here.0, here.1, bit_at_xor a b k, bit_at-lt b k))
+      (λ here. omega (arith, here.0, here.1, bit_at_xor a b k, bit_at-lt a k)) one,
+)
 
 and_below : (width : Width) (a b : ℕ) → a < words width → bit_and a b < words width
 and_below Long a b below = omega (arith, and_le_l a b)

@@ -1,8 +1,8 @@
 -- Products have the manual's properties, and nothing else has them.
-use Rattle.std.proofs.Common.{◌≡◌, ◌↔◌, ◌⊎◌, inl, inr, ℕ, zero, suc, ◌+◌, ◌-◌, ◌*◌, ◌/◌, ◌%◌, ◌<◌, ◌≤◌, ltb, leb, not, ℤ, pos, negsuc, neg_ℤ, ◌*ℤ◌, Bool, true, false, cond, refl, ap, sym, subst, subst₂, ⊎_elim, arith, ◌∙◌, mul_comm, mul-add}
-use Rattle.std.specs.Prelude.{◌+ℤ◌, ◌≤ℤ◌, ◌<ℤ◌, nat_le, nat_lt, if◌then◌else◌}
+use Rattle.std.proofs.Common.{◌≡◌, ◌↔◌, inl, inr, ℕ, zero, suc, ◌+◌, ◌-◌, ◌*◌, ◌/◌, ◌%◌, ◌<◌, ◌≤◌, not, ℤ, pos, negsuc, neg_ℤ, ◌*ℤ◌, Bool, true, false, cond, refl, ap, sym, subst, subst₂, arith, ◌∙◌, mul_comm, mul-add}
+use Rattle.std.specs.Prelude.{◌+ℤ◌, nat_le, nat_lt, if◌then◌else◌}
 use Rattle.std.specs.Bool.{Decides}
-use Rattle.std.proofs.lemmas.Bool.{cases_lt, lt-ltb, le-leb, lt-leb, le-ltb}
+use Rattle.std.proofs.lemmas.Bool.{le-leb, lt-leb}
 use Rattle.std.proofs.lemmas.Bool.Decides.{Decides-ltb, Decides-like, Decides-not}
 use Rattle.std.proofs.lemmas.Int.{ints}
 use lib.IntN.{pos-*ℤ-pos, pos-*ℤ-negsuc, negsuc-*ℤ-pos, negsuc-*ℤ-negsuc}
@@ -12,7 +12,7 @@ use Rattle.guest_arithmetic.specs.declared.effect.Effect.{Effect}
 use Rattle.guest_arithmetic.specs.Arithmetic.{span_of, half_of, is_negative, differ, magnitude, product_fits, product_effect}
 use Rattle.instruction_laws.specs.Words.{words, half, IsOutside, IsSigned, IsCut}
 use Rattle.instruction_laws.specs.Results.{IsProduct}
-use Rattle.instruction_laws.proofs.Words.{only_cut, only_signed, same_shown, same_undefined, same_effect}
+use Rattle.instruction_laws.proofs.Words.{only_cut, same_shown, same_undefined, same_effect}
 use Rattle.instruction_laws.proofs.Computing.{decides_le}
 
 -- ** a word by its sign

@@ -1,6 +1,6 @@
 -- Shifts have the manual's properties, and nothing else has them.
-use Rattle.std.proofs.Common.{◌≡◌, ◌↔◌, ◌⊎◌, inl, inr, ℕ, zero, suc, ◌+◌, ◌-◌, ◌*◌, ◌/◌, ◌%◌, ◌^◌, ◌<◌, ◌≤◌, ltb, leb, eqb, ℤ, pos, negsuc, neg_ℤ, ◌*ℤ◌, Bool, true, false, cond, refl, ap, sym, subst, subst₂, ⊎_elim, arith, ◌∙◌, mul_comm, suc-mul, add-mul, pow-suc, pow_pos, pow-add, pow_mono}
-use Rattle.std.specs.Prelude.{◌+ℤ◌, ◌≤ℤ◌, ◌<ℤ◌, ◌==◌, if◌then◌else◌}
+use Rattle.std.proofs.Common.{◌≡◌, ◌↔◌, ◌⊎◌, inl, inr, ℕ, zero, suc, ◌+◌, ◌-◌, ◌*◌, ◌/◌, ◌%◌, ◌^◌, ◌<◌, ◌≤◌, ℤ, pos, negsuc, neg_ℤ, ◌*ℤ◌, Bool, true, false, refl, ap, sym, subst, subst₂, ⊎_elim, arith, ◌∙◌, suc-mul, add-mul, pow-suc, pow_pos, pow-add, pow_mono}
+use Rattle.std.specs.Prelude.{◌+ℤ◌, ◌<ℤ◌, ◌==◌, if◌then◌else◌}
 use Rattle.std.specs.Bool.{Decides}
 use Rattle.std.proofs.lemmas.Bool.{false≢true, cases_lt, eq-eqb, ne_eqb, lt-leb, le-leb}
 use Rattle.std.proofs.lemmas.Bool.Decides.{Decides-eqb, Decides-like}
@@ -15,10 +15,9 @@ use Rattle.amd64_subset.specs.declared.instr.Width.TheVariants.{Long, Quad}
 use Rattle.guest_arithmetic.specs.declared.effect.Change.{Change}
 use Rattle.guest_arithmetic.specs.declared.effect.Change.TheVariants.{Set, Unsettled, Kept}
 use Rattle.guest_arithmetic.specs.declared.effect.Effect.{Effect}
-use Rattle.guest_arithmetic.specs.Arithmetic.{bits_of, span_of, half_of, is_negative, by_result, differ, greatest, shifted, bit_out, shift_overflows, shift_effect}
-use Rattle.instruction_laws.specs.Words.{words, half, IsOutside, IsSigned, IsCut, Shows, IsUndefined}
-use Rattle.instruction_laws.specs.Results.{TellsOfResult, IsUntouched, IsShiftedLeft, IsShiftedRight, IsShiftedSigned, Shifts}
-use Rattle.instruction_laws.specs.Laws.{counts}
+use Rattle.guest_arithmetic.specs.Arithmetic.{span_of, half_of, by_result, differ, greatest, shifted, bit_out, shift_overflows, shift_effect}
+use Rattle.instruction_laws.specs.Words.{words, half, counts, IsOutside, IsSigned, Shows, IsUndefined}
+use Rattle.instruction_laws.specs.Results.{IsUntouched, IsShiftedLeft, IsShiftedRight, IsShiftedSigned, Shifts}
 use Rattle.instruction_laws.proofs.Words.{low_half, only_cut, same_shown, same_undefined, same_kept, same_effect, same_told}
 use Rattle.instruction_laws.proofs.Computing.{decides_le, decides_negative, tells}
 use Rattle.instruction_laws.proofs.Multiplying.{Signed, Upward, Downward, by_sign, pos_cut}
@@ -196,7 +195,7 @@ one_floor : (power : ℕ) (p q : ℤ) (r s : ℕ) → r < power → s < power �
     → (p ≡ q) × (r ≡ s)
 one_floor power (pos a) (pos b) r s small small' same =
     let parts = same_from_place a r b s power small small'
-        (omega (arith, ints, same, pos-*ℤ-pos a power, pos-*ℤ-pos b power)) in
+    (omega (arith, ints, same, pos-*ℤ-pos a power, pos-*ℤ-pos b power)) in
     (ap pos parts.0, parts.1)
 one_floor power (pos a) (negsuc b) r s small small' same =
     absurd (omega (arith, ints, same, pos-*ℤ-pos a power, negative_product b power, small'))
@@ -204,7 +203,7 @@ one_floor power (negsuc a) (pos b) r s small small' same =
     absurd (omega (arith, ints, same, pos-*ℤ-pos b power, negative_product a power, small))
 one_floor power (negsuc a) (negsuc b) r s small small' same =
     let parts = same_from_place a (power - 1 - r) b (power - 1 - s) power (omega arith) (omega arith)
-        (omega (arith, ints, same, negative_product a power, negative_product b power, small, small')) in
+    (omega (arith, ints, same, negative_product a power, negative_product b power, small, small')) in
     (ap negsuc parts.0, omega (arith, parts.1, small, small'))
 
 -- the word of an integer
@@ -217,7 +216,7 @@ only_right_signed : (width : Width) (a : ℕ) (x : ℤ) (less : ℕ) (e f : Effe
 only_right_signed width a x less e f p q =
     let parts = one_floor (2 ^ suc less) p.tells.result q.tells.result p.rest q.rest p.small q.small (p.number ∙ sym q.number) in
     let number = one_word width e.number f.number q.tells.result
-        (subst (λ (z : ℤ). IsSigned width e.number z) parts.0 p.tells.signed) q.tells.signed in
+    (subst (λ (z : ℤ). IsSigned width e.number z) parts.0 p.tells.signed) q.tells.signed in
     let told = same_told width e f number p.tells q.tells in
     same_effect e f number told.0 told.1
     (same_shown _ _ _ _ (subst (λ (r : ℕ). 2 ^ suc less ≤ r + r) parts.1)
@@ -262,12 +261,12 @@ downward_floor width bits a less n all within small negative size =
     let parts : bits - count + count ≡ bits = omega arith in
     let power : whole * 2 ^ count ≡ words width = sym (pow-add 2 (bits - count) count) ∙ ap (λ k. 2 ^ k) parts ∙ sym all in
     let below : a / 2 ^ count < whole = shr_below a (bits - count) count (subst (λ (k : ℕ). a < 2 ^ k) (sym parts)
-        (subst (λ (k : ℕ). a < k) all (omega (arith, negative)))) in
+    (subst (λ (k : ℕ). a < k) all (omega (arith, negative)))) in
     let ones : (words width - 1) / 2 ^ count ≡ whole - 1 = ap (λ k. (k - 1) / 2 ^ count) all ∙ ones_shr bits count (omega arith) in
     let m = whole - a / 2 ^ count - 1 in
     let split = shr_split a count in
     let number : (a / 2 ^ count + (words width - 1 - (words width - 1) / 2 ^ count)) + suc m ≡ words width =
-        omega (arith, ones, below, small, negative, size) in
+    omega (arith, ones, below, small, negative, size) in
     record {
       result = negsuc m;
       signed = downward_signed width _ m number (omega (arith, below, small));

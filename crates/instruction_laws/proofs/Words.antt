@@ -1,6 +1,6 @@
 -- Words, cut integers and flags: each exists, and only once.
-use Rattle.std.proofs.Common.{◌≡◌, ◌↔◌, ◌⊎◌, inl, inr, ℕ, ◌+◌, ◌-◌, ◌*◌, ◌/◌, ◌%◌, ◌^◌, ◌<◌, ◌≤◌, ℤ, pos, negsuc, Bool, true, false, refl, ap, sym, subst, ⊎_elim, arith}
-use Rattle.std.specs.Prelude.{◌+ℤ◌, ◌≤ℤ◌, ◌<ℤ◌}
+use Rattle.std.proofs.Common.{◌≡◌, inl, inr, ℕ, ◌-◌, ◌<◌, ◌≤◌, ℤ, pos, negsuc, refl, ap, sym, subst, ⊎_elim, arith}
+use Rattle.std.specs.Prelude.{◌<ℤ◌}
 use Rattle.std.proofs.lemmas.Bool.{cases_lt}
 use Rattle.std.proofs.lemmas.Bool.Decides.{same_from_decides, Decides-like}
 use Rattle.std.proofs.lemmas.Int.{ints}
@@ -9,7 +9,6 @@ use Rattle.amd64_subset.specs.declared.instr.Width.TheVariants.{Long, Quad}
 use Rattle.guest_arithmetic.specs.declared.effect.Change.{Change}
 use Rattle.guest_arithmetic.specs.declared.effect.Change.TheVariants.{Set, Unsettled, Kept}
 use Rattle.guest_arithmetic.specs.declared.effect.Effect.{Effect}
-use Rattle.guest_arithmetic.specs.Arithmetic.{by_result, is_negative}
 use Rattle.instruction_laws.specs.Words.{words, half, IsSigned, IsCut, Shows, IsUndefined, IsKept}
 use Rattle.instruction_laws.specs.Results.{TellsOfResult}
 
@@ -79,7 +78,8 @@ pub same_told : (width : Width) (e f : Effect) → e.number ≡ f.number → Tel
     → (e.changes.zero ≡ f.changes.zero) × (e.changes.sign ≡ f.changes.sign)
 same_told width e f same p q =
     let at = subst (λ (n : ℕ). IsSigned width n p.result) same p.signed in
-    let result : q.result ≡ p.result = only_signed width f.number p.result q.result at q.signed in
-    (same_shown (e.number ≡ 0) (f.number ≡ 0) e.changes.zero f.changes.zero (λ is. cc) (λ is. cc) p.zero q.zero,
-    (same_shown (p.result <ℤ pos 0) (q.result <ℤ pos 0) e.changes.sign f.changes.sign
-    (subst (λ (z : ℤ). z <ℤ pos 0) (sym result)) (subst (λ (z : ℤ). z <ℤ pos 0) result) p.sign q.sign))
+    let result : q.result ≡ p.result = only_signed width f.number p.result q.result at q.signed in (
+      same_shown (e.number ≡ 0) (f.number ≡ 0) e.changes.zero f.changes.zero (λ is. cc) (λ is. cc) p.zero q.zero,
+      (same_shown (p.result <ℤ pos 0) (q.result <ℤ pos 0) e.changes.sign f.changes.sign
+          (subst (λ (z : ℤ). z <ℤ pos 0) (sym result)) (subst (λ (z : ℤ). z <ℤ pos 0) result) p.sign q.sign),
+    )

@@ -5,7 +5,6 @@ use Rattle.amd64_subset.specs.declared.instr.Arithmetic.TheVariants.{Compare}
 use Rattle.amd64_subset.specs.declared.instr.Condition.{Condition}
 use Rattle.amd64_subset.specs.declared.instr.Shift.{Shift}
 use Rattle.amd64_subset.specs.declared.instr.Width.{Width}
-use Rattle.amd64_subset.specs.declared.instr.Width.TheVariants.{Long, Quad}
 use Rattle.guest_arithmetic.specs.declared.effect.Changes.{Changes}
 use Rattle.guest_arithmetic.specs.declared.effect.Effect.{Effect}
 use Rattle.guest_arithmetic.specs.declared.flags.Flags.{Flags}
@@ -13,7 +12,7 @@ use Rattle.guest_arithmetic.specs.Arithmetic.{compute_effect, product_effect, sh
 use Rattle.guest_arithmetic.specs.Flags.{with_changes}
 use Rattle.guest_arithmetic.specs.Plain.{plain_operations}
 use Rattle.instruction_laws.specs.Conditions.{Become, Compares, Holds, IsTaken}
-use Rattle.instruction_laws.specs.Words.{words, IsSigned}
+use Rattle.instruction_laws.specs.Words.{words, counts, IsSigned}
 use Rattle.instruction_laws.specs.Results.{Computes, IsProduct, Shifts}
 
 -- each word is a signed integer, and only one
@@ -30,11 +29,6 @@ ComputationsAreTheManuals = (kind : Arithmetic) (width : Width) (a b : ℕ) (x y
 abbrev pub ProductsAreTheManuals : Type 0
 ProductsAreTheManuals = (width : Width) (a b : ℕ) (x y : ℤ) → IsSigned width a x → IsSigned width b y
     → (effect : Effect) → (product_effect width a b ≡ effect) ↔ IsProduct width x y effect
-
--- how many bits a count has that is masked
-abbrev pub counts : Width → ℕ
-counts Long = 32
-counts Quad = 64
 
 -- shl, shr, sar
 abbrev pub ShiftsAreTheManuals : Type 0

@@ -1,5 +1,5 @@
 -- Words of 32 and 64 bits as whole numbers (Intel's manual, volume 1, sections 4.2.1 and 3.4.3.1).
-use Rattle.std.specs.Prelude.{◌≡◌, ◌⊎◌, ◌↔◌, ℕ, ◌+◌, ◌*◌, ◌/◌, ◌%◌, ◌^◌, ◌<◌, ℤ, pos, ◌+ℤ◌, ◌≤ℤ◌, ◌<ℤ◌, Bool, true}
+use Rattle.std.specs.Prelude.{◌≡◌, ◌⊎◌, ◌↔◌, ℕ, ◌+◌, ◌*◌, ◌/◌, ◌%◌, ◌^◌, ◌<◌, ℤ, pos, ◌+ℤ◌, ◌≤ℤ◌, ◌<ℤ◌, true}
 use Rattle.amd64_subset.specs.declared.instr.Width.{Width}
 use Rattle.amd64_subset.specs.declared.instr.Width.TheVariants.{Long, Quad}
 use Rattle.guest_arithmetic.specs.declared.effect.Change.{Change}
@@ -16,6 +16,11 @@ words Quad = 18446744073709551616
 abbrev pub half : Width → ℕ
 half Long = 2147483648
 half Quad = 9223372036854775808
+
+-- how many bits they have: as many counts a shift of them knows
+abbrev pub counts : Width → ℕ
+counts Long = 32
+counts Quad = 64
 
 -- a signed integer of the width can't be it: it is below the least one, or above the greatest
 abbrev pub IsTooSmall : Width → ℤ → Type 0
