@@ -2,4 +2,5 @@ mod Comparing
 mod Computing
 mod Multiplying
 mod Shifting
+mod Stepping
 mod Words

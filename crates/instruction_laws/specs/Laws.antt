@@ -1,8 +1,10 @@
 -- The laws: what is computed is the only answer with the manual's properties.
-use Rattle.std.specs.Prelude.{◌≡◌, ◌↔◌, ℕ, ◌<◌, ℤ, Bool}
+use Rattle.std.specs.Prelude.{◌≡◌, ◌↔◌, ℕ, ◌<◌, ◌^◌, ℤ, Bool, false, Ok}
+use Rattle.amd64_words.specs.declared.register.Register.{Register}
 use Rattle.amd64_subset.specs.declared.instr.Arithmetic.{Arithmetic}
 use Rattle.amd64_subset.specs.declared.instr.Arithmetic.TheVariants.{Compare}
 use Rattle.amd64_subset.specs.declared.instr.Condition.{Condition}
+use Rattle.amd64_subset.specs.declared.instr.Decoded.{Decoded}
 use Rattle.amd64_subset.specs.declared.instr.Shift.{Shift}
 use Rattle.amd64_subset.specs.declared.instr.Width.{Width}
 use Rattle.guest_arithmetic.specs.declared.effect.Changes.{Changes}
@@ -11,7 +13,14 @@ use Rattle.guest_arithmetic.specs.declared.flags.Flags.{Flags}
 use Rattle.guest_arithmetic.specs.Arithmetic.{compute_effect, product_effect, shift_effect}
 use Rattle.guest_arithmetic.specs.Flags.{with_changes}
 use Rattle.guest_arithmetic.specs.Plain.{plain_operations}
+use Rattle.guest_machine.specs.Step.{act}
+use Rattle.guest_operands.specs.declared.state.State.{State}
+use Rattle.guest_operands.specs.Frame.{frame_of}
+use Rattle.guest_operands.specs.Ranges.{range_accesses}
+use Rattle.guest_operands.specs.State.{register_of}
+use Rattle.guest_operands.specs.Use.{left}
 use Rattle.instruction_laws.specs.Conditions.{Become, Compares, Holds, IsTaken}
+use Rattle.instruction_laws.specs.Steps.{Does, Numbers}
 use Rattle.instruction_laws.specs.Words.{words, counts, IsSigned}
 use Rattle.instruction_laws.specs.Results.{Computes, IsProduct, Shifts}
 
@@ -50,3 +59,11 @@ ComparisonsDecide = (condition : Condition) (width : Width) (a b : ℕ) (x y : �
     → IsSigned width a x → IsSigned width b y
     → IsTaken condition (with_changes plain_operations (compute_effect Compare width a b).changes before)
     (Compares condition width a b x y)
+
+-- where the registers hold words and no offset field stands in the instruction: what the manual says that is done is done
+abbrev pub StepsAreTheManuals : Type 0
+StepsAreTheManuals = (d : Decoded) (before after : State ℕ Bool) (memory memory' : Numbers)
+    → ((register : Register) → register_of before.registers register < 2 ^ 64)
+    → Does d before memory d.instr.operation after memory'
+    → act plain_operations (range_accesses plain_operations) (frame_of (λ place. false) before.place d) d.instr.operation before memory
+    ≡ Ok (left after memory')

@@ -1,4 +1,5 @@
 pub mod Conditions
 pub mod Laws
 pub mod Results
+pub mod Steps
 pub mod Words

@@ -1,6 +1,6 @@
 //! The laws. The functions do nothing: what they ensure is the law.
 
-ghost use Rattle.instruction_laws.specs.Laws.{ComparisonsDecide, ComputationsAreTheManuals, ConditionsAreTheManuals, FlagsChange, ProductsAreTheManuals, ShiftsAreTheManuals, WordsAreSigned};
+ghost use Rattle.instruction_laws.specs.Laws.{ComparisonsDecide, ComputationsAreTheManuals, ConditionsAreTheManuals, FlagsChange, ProductsAreTheManuals, ShiftsAreTheManuals, StepsAreTheManuals, WordsAreSigned};
 
 /// Each word is a signed integer, and only one.
 pub fn words_are_signed()
@@ -35,4 +35,9 @@ pub fn conditions_are_the_manuals()
 /// The conditions after cmp, by the numbers that were compared.
 pub fn comparisons_decide()
     ensures { ComparisonsDecide }
+{}
+
+/// What the manual says that an instruction does, the machine does, where accesses are allowed.
+pub fn steps_are_the_manuals()
+    ensures { StepsAreTheManuals }
 {}
