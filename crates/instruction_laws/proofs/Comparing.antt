@@ -71,7 +71,7 @@ taken_by condition flags test P is decides truth = (
   λ other. is ∙ ap Ok (same_from_decides {P = P} test truth decides other),
 )
 
-abbrev test_of : Condition → Flags Bool → Bool
+abbrev pub test_of : Condition → Flags Bool → Bool
 test_of Overflow flags = flags.overflow
 test_of NotOverflow flags = not flags.overflow
 test_of Below flags = flags.carry
@@ -87,7 +87,7 @@ test_of NotLess flags = not (differ flags.sign flags.overflow)
 test_of LessOrEqual flags = flags.zero || differ flags.sign flags.overflow
 test_of Greater flags = not (flags.zero || differ flags.sign flags.overflow)
 
-tested : (condition : Condition) (flags : Flags Bool) → condition_of plain_operations condition flags ≡ Ok (test_of condition flags)
+pub tested : (condition : Condition) (flags : Flags Bool) → condition_of plain_operations condition flags ≡ Ok (test_of condition flags)
 unfolding condition_of is_less is_less_or_equal is_below_or_equal plain_operations
 tested Overflow flags = refl
 tested NotOverflow flags = refl
@@ -129,7 +129,7 @@ decides_neither : (s t : Bool) (P Q : Type 0) → Decides (not s) P → Decides 
 decides_neither true t P Q p q = (λ is. absurd (false≢true is), λ both. absurd (false≢true (p.1 both.0)))
 decides_neither false t P Q p q = (λ is. (p.0 refl, q.0 is), λ both. q.1 both.1)
 
-holds : (condition : Condition) (flags : Flags Bool) → Decides (test_of condition flags) (Holds condition flags)
+pub holds : (condition : Condition) (flags : Flags Bool) → Decides (test_of condition flags) (Holds condition flags)
 holds Overflow flags = decides_true flags.overflow
 holds NotOverflow flags = decides_false flags.overflow
 holds Below flags = decides_true flags.carry

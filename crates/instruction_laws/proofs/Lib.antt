@@ -1,6 +1,8 @@
 mod Comparing
 mod Computing
+mod Going
 mod Multiplying
+mod Operating
 mod Shifting
 mod Stepping
 mod Words

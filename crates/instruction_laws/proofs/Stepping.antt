@@ -28,12 +28,12 @@ use Rattle.guest_operands.specs.declared.slot.Taken.{Taken}
 use Rattle.guest_operands.specs.declared.state.Registers.{Registers}
 use Rattle.guest_operands.specs.declared.state.State.{State}
 use Rattle.guest_operands.specs.declared.stop.Stop.{Stop}
-use Rattle.guest_operands.specs.Access.{load_of, store_of}
+use Rattle.guest_operands.specs.Access.{Accesses, Refusal, load_of, store_of}
 use Rattle.guest_operands.specs.Operand.{weighed, size_of, factor_of, base_of, index_of, address_of, number_at, kept, carried, taken_at, taken, put}
 use Rattle.guest_operands.specs.Ranges.{range_accesses}
 use Rattle.guest_operands.specs.State.{register_of, with_register}
-use Rattle.guest_operands.specs.Use.{◌>>=◌, plus, After, left}
-use Rattle.guest_machine.specs.Step.{finished}
+use Rattle.guest_operands.specs.Use.{◌>>=◌, plus, there, After, left}
+use Rattle.guest_machine.specs.Step.{finished, settled}
 use Rattle.instruction_laws.specs.Conditions.{Become}
 use Rattle.instruction_laws.specs.Words.{words, IsCut}
 use Rattle.instruction_laws.specs.Steps.{Numbers, bytes, times, base, index, segment, IsAddress, IsLoaded, IsStored, Has, IsLeftAt, IsLeft, Puts}
@@ -64,17 +64,24 @@ low_whole : (width : Width) (n : ℕ) → n < words width → n % span_of width 
 low_whole Long n below = omega arith
 low_whole Quad n below = omega arith
 
-sizes : (width : Width) → size_of width ≡ bytes width
+pub sizes : (width : Width) → size_of width ≡ bytes width
 sizes Long = refl
 sizes Quad = refl
 
 -- ** addresses
 
-module _ (d : Decoded) (before : State ℕ Bool) (memory : Numbers) where
-  abbrev frame : Frame
-  frame = frame_at d before.place
+abbrev pub Outcome : Type 0
+Outcome = Result (After ℕ Bool Numbers) Stop
 
-  abbrev acc = range_accesses plain_operations
+abbrev pub done : State ℕ Bool → Numbers → Outcome
+done state memory = Ok (left state memory)
+
+abbrev pub acc : Accesses Numbers ℕ
+acc = range_accesses plain_operations
+
+module _ (d : Decoded) (before : State ℕ Bool) (memory : Numbers) where
+  abbrev pub frame : Frame
+  frame = frame_at d before.place
 
   factors : (scale : Scale) → factor_of scale ≡ times scale
   factors One = refl
@@ -102,7 +109,7 @@ module _ (d : Decoded) (before : State ℕ Bool) (memory : Numbers) where
       → ((b + i) % 2 ^ 64 + c) % 2 ^ 64 ≡ p
   sums p b i c B I D same also is = omega (arith, ints, same, also, is.below, is.same)
 
-  address_is : (operand : Memory) (place : ℕ) → IsAddress d before memory operand place
+  pub address_is : (operand : Memory) (place : ℕ) → IsAddress d before memory operand place
       → address_of plain_operations frame before operand ≡ Ok place
   unfolding address_of
   address_is operand place is =
@@ -115,29 +122,29 @@ module _ (d : Decoded) (before : State ℕ Bool) (memory : Numbers) where
       ∙ ap Ok (sums place b.0 i.0 c (base d before memory operand.base) (index d before memory operand.index)
       d.instr.displacement b.2 i.2 is)
 
-  one_address : (operand : Memory) (p q : ℕ) → IsAddress d before memory operand p → IsAddress d before memory operand q
+  pub one_address : (operand : Memory) (p q : ℕ) → IsAddress d before memory operand p → IsAddress d before memory operand q
       → p ≡ q
   one_address operand p q = only_cut Quad _ p q
 
   -- ** operands
 
-  register_number : (width : Width) (register : Register) (n : ℕ) → Has d before memory width (InRegister register) n
+  pub register_number : (width : Width) (register : Register) (n : ℕ) → Has d before memory width (InRegister register) n
       → number_at plain_operations width (register_of before.registers register) ≡ Ok n
   unfolding number_at plain_operations
   register_number width register n is = ap Ok (low_is width n _ is)
 
   -- where an operand is
-  abbrev IsSlot : Operand → Slot → Type 0
+  abbrev pub IsSlot : Operand → Slot → Type 0
   IsSlot (InRegister register) slot = slot ≡ OfSlot register
   IsSlot (InMemory operand) slot = (place : ℕ) × (IsAddress d before memory operand place) × (slot ≡ Place place)
 
-  record IsTaken (width : Width) (operand : Operand) (n b : ℕ) : Type 0 where
-    slot : Slot
-    is : taken plain_operations acc width frame before memory operand (Ok b)
+  pub record IsTaken (width : Width) (operand : Operand) (n b : ℕ) : Type 0 where
+    pub slot : Slot
+    pub is : taken plain_operations acc width frame before memory operand (Ok b)
         ≡ Ok (record { slot = slot; number = n; other = b })
-    is_slot : IsSlot operand slot
+    pub is_slot : IsSlot operand slot
 
-  take : (width : Width) (operand : Operand) (n b : ℕ) → Has d before memory width operand n → IsTaken width operand n b
+  pub take : (width : Width) (operand : Operand) (n b : ℕ) → Has d before memory width operand n → IsTaken width operand n b
   unfolding taken taken_at number_at plain_operations
   take width (InRegister register) n b has = record {
     slot = OfSlot register;
@@ -157,7 +164,7 @@ module _ (d : Decoded) (before : State ℕ Bool) (memory : Numbers) where
 
   -- ** what is left
 
-  same_state : (registers : Registers ℕ) (flags : Flags Bool) (place : ℕ) (after : State ℕ Bool)
+  pub same_state : (registers : Registers ℕ) (flags : Flags Bool) (place : ℕ) (after : State ℕ Bool)
       → after.registers ≡ registers → after.flags ≡ flags → after.place ≡ place
       → after.thread_pointer ≡ before.thread_pointer
       → record { registers = registers; flags = flags; place = place; thread_pointer = before.thread_pointer } ≡ after
@@ -168,18 +175,80 @@ module _ (d : Decoded) (before : State ℕ Bool) (memory : Numbers) where
     thread_pointer = sym s i;
   }
 
-  left_as : (place : ℕ) (registers : Registers ℕ) (flags : Flags Bool) (after : State ℕ Bool)
+  pub left_as : (place : ℕ) (registers : Registers ℕ) (flags : Flags Bool) (after : State ℕ Bool)
       → IsLeftAt d before memory (pos place) registers flags after
       → record { registers = registers; flags = flags; place = place % 2 ^ 64; thread_pointer = before.thread_pointer } ≡ after
   left_as place registers flags after is =
       same_state registers flags (place % 2 ^ 64) after is.registers_are is.flags_are
       (sym (low_is Quad after.place place is.place_is)) is.thread
 
+  -- with nothing written
+  pub goes : (registers : Registers ℕ) (flags : Flags Bool) (after : State ℕ Bool) (memory' : Numbers)
+      → IsLeft d before memory registers flags after → memory' ≡ memory
+      → done (record { registers = registers; flags = flags; place = plus before.place d.len; thread_pointer = before.thread_pointer }) memory
+      ≡ done after memory'
+  goes registers flags after memory' is same = λ i. Ok (left (left_as (before.place + d.len) registers flags after is i) (sym same i))
+
   -- a result in its slot
-  finish : (width : Width) (operand : Operand) (slot : Slot) (effect : Effect) (after : State ℕ Bool) (memory' : Numbers)
+  pub flags_are : (effect : Effect) (after : State ℕ Bool) → Become effect.changes before.flags after.flags
+      → with_changes plain_operations effect.changes before.flags ≡ after.flags
+  flags_are effect after become = (change effect.changes before.flags after.flags).1 become
+
+  finish_register : (width : Width) (register : Register) (effect : Effect) (after : State ℕ Bool) (memory' : Numbers)
+      → effect.number < words width → Become effect.changes before.flags after.flags
+      → Puts d before memory width (InRegister register) effect.number after.flags after memory'
+      → finished plain_operations acc width (OfSlot register) effect frame before memory ≡ Ok (left after memory')
+  unfolding finished put plain_operations
+  finish_register width register effect after memory' below become puts =
+      (λ i. Ok (left (record {
+        registers = with_register before.registers register (whole width effect.number below i);
+        flags = flags_are effect after become i;
+        place = plus before.place d.len;
+        thread_pointer = before.thread_pointer;
+      }) memory))
+      ∙ goes (with_register before.registers register effect.number) after.flags after memory' puts.0 puts.1
+
+  -- the memory of a store, and then the rest
+  abbrev write_then : Effect → Result Numbers Refusal → Result (After ℕ Bool Numbers) Stop
+  write_then effect stored = (there before.place stored >>= λ m. Ok (left before m))
+      >>= λ it. Ok (left (settled plain_operations effect.changes frame it.state) it.memory)
+
+  finish_memory : (width : Width) (operand : Memory) (place : ℕ) (effect : Effect) (after : State ℕ Bool) (memory' : Numbers)
+      → IsAddress d before memory operand place → effect.number < words width → Become effect.changes before.flags after.flags
+      → Puts d before memory width (InMemory operand) effect.number after.flags after memory'
+      → finished plain_operations acc width (Place place) effect frame before memory ≡ Ok (left after memory')
+  unfolding finished put plain_operations
+  finish_memory width operand place effect after memory' address below become puts =
+      let here = one_address operand place puts.1.place address puts.1.address in
+      (λ i. write_then effect (store_of plain_operations acc memory (here i) (sizes width i) (whole width effect.number below i)))
+      ∙ ap (write_then effect) puts.1.stored
+      ∙ (λ i. Ok (left (record {
+        registers = before.registers;
+        flags = flags_are effect after become i;
+        place = plus before.place d.len;
+        thread_pointer = before.thread_pointer;
+      }) memory'))
+      ∙ (λ i. Ok (left (left_as (before.place + d.len) before.registers after.flags after puts.0 i) memory'))
+
+  pub finish : (width : Width) (operand : Operand) (slot : Slot) (effect : Effect) (after : State ℕ Bool) (memory' : Numbers)
       → IsSlot operand slot → effect.number < words width → Become effect.changes before.flags after.flags
       → Puts d before memory width operand effect.number after.flags after memory'
       → finished plain_operations acc width slot effect frame before memory ≡ Ok (left after memory')
-  unfolding finished put
-  finish width (InRegister register) slot effect after memory' is below flags puts = ?
-  finish width (InMemory operand) slot effect after memory' is below flags puts = ?
+  finish width (InRegister register) slot effect after memory' is below become puts =
+      ap (λ s. finished plain_operations acc width s effect frame before memory) is
+      ∙ finish_register width register effect after memory' below become puts
+  finish width (InMemory operand) slot effect after memory' is below become puts =
+      ap (λ s. finished plain_operations acc width s effect frame before memory) is.2
+      ∙ finish_memory width operand is.0 effect after memory' is.1 below become puts
+
+  -- cmp and test
+  pub settle : (effect : Effect) (after : State ℕ Bool) (memory' : Numbers) → Become effect.changes before.flags after.flags
+      → IsLeft d before memory before.registers after.flags after → memory' ≡ memory
+      → done (settled plain_operations effect.changes frame before) memory ≡ done after memory'
+  settle effect after memory' become is same = (λ i. Ok (left (record {
+        registers = before.registers;
+        flags = flags_are effect after become i;
+        place = plus before.place d.len;
+        thread_pointer = before.thread_pointer;
+      }) memory))
+      ∙ goes before.registers after.flags after memory' is same

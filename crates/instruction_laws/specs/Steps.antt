@@ -63,6 +63,11 @@ pub record IsMasked (width : Width) (masked count : ℕ) : Type 0 where
   pub above : ℕ
   pub same : masked + above * counts width ≡ count
 
+-- cmp writes no result
+abbrev pub writes : Arithmetic → Bool
+writes Compare = false
+writes kind = true
+
 module _ (d : Decoded) (before : State ℕ Bool) (memory : Numbers) where
   -- ** operands
 
@@ -178,10 +183,6 @@ module _ (d : Decoded) (before : State ℕ Bool) (memory : Numbers) where
   Answers true width to effect after memory' = Puts width to effect.number after.flags after memory'
   Answers false width to effect after memory' = IsLeft before.registers after.flags after × (memory' ≡ memory)
 
-  abbrev pub writes : Arithmetic → Bool
-  writes Compare = false
-  writes kind = true
-
   -- of two operands: where they are, and whether the result is written to the first
   pub record ComputesOf (kind : Arithmetic) (writes : Bool) (width : Width) (to : Operand) (second : ℕ → Type 0)
       (after : State ℕ Bool) (memory' : Numbers) : Type 0 where
@@ -238,6 +239,7 @@ module _ (d : Decoded) (before : State ℕ Bool) (memory : Numbers) where
   -- eight bytes at an address, and the address after them
   pub record IsPopped (from : Register) (word stack : ℕ) : Type 0 where
     pub loaded : load_of plain_operations (range_accesses plain_operations) memory (has from) 8 ≡ Ok word
+    pub below : word < words Quad
     pub higher : IsCut Quad stack (pos (has from + 8))
 
   pub record Pops (to : Register) (after : State ℕ Bool) (memory' : Numbers) : Type 0 where
