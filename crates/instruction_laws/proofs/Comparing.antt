@@ -47,7 +47,8 @@ become changes flags = record {
   overflow = becomes changes.overflow flags.overflow;
 }
 
-only_become : (changes : Changes) (before one other : Flags Bool) → Become changes before one → Become changes before other
+only_become : (changes : Changes) (before one other : Flags Bool) → Become changes before one → Become changes before
+    other
     → one ≡ other
 only_become changes before one other p q = λ i. record {
   zero = only_becomes changes.zero before.zero one.zero other.zero p.zero q.zero i;
@@ -87,7 +88,8 @@ test_of NotLess flags = not (differ flags.sign flags.overflow)
 test_of LessOrEqual flags = flags.zero || differ flags.sign flags.overflow
 test_of Greater flags = not (flags.zero || differ flags.sign flags.overflow)
 
-pub tested : (condition : Condition) (flags : Flags Bool) → condition_of plain_operations condition flags ≡ Ok (test_of condition flags)
+pub tested : (condition : Condition) (flags : Flags Bool) → condition_of plain_operations condition flags ≡ Ok
+    (test_of condition flags)
 unfolding condition_of is_less is_less_or_equal is_below_or_equal plain_operations
 tested Overflow flags = refl
 tested NotOverflow flags = refl
@@ -147,7 +149,8 @@ holds Greater flags = decides_neither _ _ _ _ (decides_false flags.zero) (decide
 
 pub conditions : (condition : Condition) (flags : Flags Bool) → IsTaken condition flags (Holds condition flags)
 conditions condition flags =
-    taken_by condition flags (test_of condition flags) (Holds condition flags) (tested condition flags) (holds condition flags)
+    taken_by condition flags (test_of condition flags) (Holds condition flags) (tested condition flags)
+    (holds condition flags)
 
 -- ** after a comparison
 
@@ -190,7 +193,8 @@ is_signed_at_most width a b x y flags it = let same = same_words width a b x y i
     (λ is. by_lt_z x y (λ low. inr low) (λ high. inl (same.1 (omega (arith, ints, is, high)))))
     (Decides-or _ _ it.zero it.less)
 
-compares : (condition : Condition) (width : Width) (a b : ℕ) (x y : ℤ) (flags : Flags Bool) → HasCompared width a b x y flags
+compares : (condition : Condition) (width : Width) (a b : ℕ) (x y : ℤ) (flags : Flags Bool) → HasCompared width a b x
+    y flags
     → Decides (test_of condition flags) (Compares condition width a b x y)
 compares Overflow width a b x y flags it = it.overflow
 compares NotOverflow width a b x y flags it = Decides-not _ it.overflow
@@ -242,30 +246,209 @@ zero_same Quad a b word x y z it = (
 )
 
 -- where the difference is outside, the sign is the other one
-inside : (width : Width) (a b word : ℕ) (x y z : ℤ) → IsResult width a b x y z word → pos 0 ≤ℤ ((x -ℤ y) +ℤ pos (half width))
+inside : (width : Width) (a b word : ℕ) (x y z : ℤ) → IsResult width a b x y z word → pos 0 ≤ℤ
+    ((x -ℤ y) +ℤ pos (half width))
     → (x -ℤ y) <ℤ pos (half width) → z ≡ x -ℤ y
-inside Long a b word x y z it small large = omega (arith, ints, small, large, it.cut.same, it.left.same, it.left.below, it.left.least, it.left.greatest, it.right.same, it.right.below, it.right.least, it.right.greatest, it.signed.same, it.signed.below, it.signed.least, it.signed.greatest)
-inside Quad a b word x y z it small large = omega (arith, ints, small, large, it.cut.same, it.left.same, it.left.below, it.left.least, it.left.greatest, it.right.same, it.right.below, it.right.least, it.right.greatest, it.signed.same, it.signed.below, it.signed.least, it.signed.greatest)
+inside Long a b word x y z it small large = omega (
+  arith,
+  ints,
+  small,
+  large,
+  it.cut.same,
+  it.left.same,
+  it.left.below,
+  it.left.least,
+  it.left.greatest,
+  it.right.same,
+  it.right.below,
+  it.right.least,
+  it.right.greatest,
+  it.signed.same,
+  it.signed.below,
+  it.signed.least,
+  it.signed.greatest,
+)
+inside Quad a b word x y z it small large = omega (
+  arith,
+  ints,
+  small,
+  large,
+  it.cut.same,
+  it.left.same,
+  it.left.below,
+  it.left.least,
+  it.left.greatest,
+  it.right.same,
+  it.right.below,
+  it.right.least,
+  it.right.greatest,
+  it.signed.same,
+  it.signed.below,
+  it.signed.least,
+  it.signed.greatest,
+)
 
-large_is_negative : (width : Width) (a b word : ℕ) (x y z : ℤ) → IsResult width a b x y z word → IsTooLarge width (x -ℤ y)
+large_is_negative : (width : Width) (a b word : ℕ) (x y z : ℤ) → IsResult width a b x y z word → IsTooLarge width
+    (x -ℤ y)
     → z <ℤ pos 0
-large_is_negative Long a b word x y z it large = omega (arith, ints, large, it.cut.same, it.left.same, it.left.below, it.left.least, it.left.greatest, it.right.same, it.right.below, it.right.least, it.right.greatest, it.signed.same, it.signed.below, it.signed.least, it.signed.greatest)
-large_is_negative Quad a b word x y z it large = omega (arith, ints, large, it.cut.same, it.left.same, it.left.below, it.left.least, it.left.greatest, it.right.same, it.right.below, it.right.least, it.right.greatest, it.signed.same, it.signed.below, it.signed.least, it.signed.greatest)
+large_is_negative Long a b word x y z it large = omega (
+  arith,
+  ints,
+  large,
+  it.cut.same,
+  it.left.same,
+  it.left.below,
+  it.left.least,
+  it.left.greatest,
+  it.right.same,
+  it.right.below,
+  it.right.least,
+  it.right.greatest,
+  it.signed.same,
+  it.signed.below,
+  it.signed.least,
+  it.signed.greatest,
+)
+large_is_negative Quad a b word x y z it large = omega (
+  arith,
+  ints,
+  large,
+  it.cut.same,
+  it.left.same,
+  it.left.below,
+  it.left.least,
+  it.left.greatest,
+  it.right.same,
+  it.right.below,
+  it.right.least,
+  it.right.greatest,
+  it.signed.same,
+  it.signed.below,
+  it.signed.least,
+  it.signed.greatest,
+)
 
 small_is_not : (width : Width) (a b word : ℕ) (x y z : ℤ) → IsResult width a b x y z word → IsTooSmall width (x -ℤ y)
     → z <ℤ pos 0 → ⊥
-small_is_not Long a b word x y z it small negative = omega (arith, ints, small, negative, it.cut.same, it.left.same, it.left.below, it.left.least, it.left.greatest, it.right.same, it.right.below, it.right.least, it.right.greatest, it.signed.same, it.signed.below, it.signed.least, it.signed.greatest)
-small_is_not Quad a b word x y z it small negative = omega (arith, ints, small, negative, it.cut.same, it.left.same, it.left.below, it.left.least, it.left.greatest, it.right.same, it.right.below, it.right.least, it.right.greatest, it.signed.same, it.signed.below, it.signed.least, it.signed.greatest)
+small_is_not Long a b word x y z it small negative = omega (
+  arith,
+  ints,
+  small,
+  negative,
+  it.cut.same,
+  it.left.same,
+  it.left.below,
+  it.left.least,
+  it.left.greatest,
+  it.right.same,
+  it.right.below,
+  it.right.least,
+  it.right.greatest,
+  it.signed.same,
+  it.signed.below,
+  it.signed.least,
+  it.signed.greatest,
+)
+small_is_not Quad a b word x y z it small negative = omega (
+  arith,
+  ints,
+  small,
+  negative,
+  it.cut.same,
+  it.left.same,
+  it.left.below,
+  it.left.least,
+  it.left.greatest,
+  it.right.same,
+  it.right.below,
+  it.right.least,
+  it.right.greatest,
+  it.signed.same,
+  it.signed.below,
+  it.signed.least,
+  it.signed.greatest,
+)
 
 small_is_less : (width : Width) (a b word : ℕ) (x y z : ℤ) → IsResult width a b x y z word → IsTooSmall width (x -ℤ y)
     → x <ℤ y
-small_is_less Long a b word x y z it small = omega (arith, ints, small, it.cut.same, it.left.same, it.left.below, it.left.least, it.left.greatest, it.right.same, it.right.below, it.right.least, it.right.greatest, it.signed.same, it.signed.below, it.signed.least, it.signed.greatest)
-small_is_less Quad a b word x y z it small = omega (arith, ints, small, it.cut.same, it.left.same, it.left.below, it.left.least, it.left.greatest, it.right.same, it.right.below, it.right.least, it.right.greatest, it.signed.same, it.signed.below, it.signed.least, it.signed.greatest)
+small_is_less Long a b word x y z it small = omega (
+  arith,
+  ints,
+  small,
+  it.cut.same,
+  it.left.same,
+  it.left.below,
+  it.left.least,
+  it.left.greatest,
+  it.right.same,
+  it.right.below,
+  it.right.least,
+  it.right.greatest,
+  it.signed.same,
+  it.signed.below,
+  it.signed.least,
+  it.signed.greatest,
+)
+small_is_less Quad a b word x y z it small = omega (
+  arith,
+  ints,
+  small,
+  it.cut.same,
+  it.left.same,
+  it.left.below,
+  it.left.least,
+  it.left.greatest,
+  it.right.same,
+  it.right.below,
+  it.right.least,
+  it.right.greatest,
+  it.signed.same,
+  it.signed.below,
+  it.signed.least,
+  it.signed.greatest,
+)
 
-large_is_not_less : (width : Width) (a b word : ℕ) (x y z : ℤ) → IsResult width a b x y z word → IsTooLarge width (x -ℤ y)
+large_is_not_less : (width : Width) (a b word : ℕ) (x y z : ℤ) → IsResult width a b x y z word → IsTooLarge width
+    (x -ℤ y)
     → x <ℤ y → ⊥
-large_is_not_less Long a b word x y z it large less = omega (arith, ints, large, less, it.cut.same, it.left.same, it.left.below, it.left.least, it.left.greatest, it.right.same, it.right.below, it.right.least, it.right.greatest, it.signed.same, it.signed.below, it.signed.least, it.signed.greatest)
-large_is_not_less Quad a b word x y z it large less = omega (arith, ints, large, less, it.cut.same, it.left.same, it.left.below, it.left.least, it.left.greatest, it.right.same, it.right.below, it.right.least, it.right.greatest, it.signed.same, it.signed.below, it.signed.least, it.signed.greatest)
+large_is_not_less Long a b word x y z it large less = omega (
+  arith,
+  ints,
+  large,
+  less,
+  it.cut.same,
+  it.left.same,
+  it.left.below,
+  it.left.least,
+  it.left.greatest,
+  it.right.same,
+  it.right.below,
+  it.right.least,
+  it.right.greatest,
+  it.signed.same,
+  it.signed.below,
+  it.signed.least,
+  it.signed.greatest,
+)
+large_is_not_less Quad a b word x y z it large less = omega (
+  arith,
+  ints,
+  large,
+  less,
+  it.cut.same,
+  it.left.same,
+  it.left.below,
+  it.left.least,
+  it.left.greatest,
+  it.right.same,
+  it.right.below,
+  it.right.least,
+  it.right.greatest,
+  it.signed.same,
+  it.signed.below,
+  it.signed.least,
+  it.signed.greatest,
+)
 
 same_inside : (width : Width) (a b word : ℕ) (x y z : ℤ) → IsResult width a b x y z word
     → (IsOutside width (x -ℤ y) → ⊥) → z ≡ x -ℤ y
@@ -281,7 +464,8 @@ less_by width a b word x y z it true outside less = let out = outside.0 refl in
           (λ large. absurd (large_is_not_less width a b word x y z it large less)) out,
       out,
     )
-less_by width a b word x y z it false outside less = let not_out = λ (out : IsOutside width (x -ℤ y)). false≢true (outside.1 out) in
+less_by width a b word x y z it false outside less = let not_out = λ (out : IsOutside width (x -ℤ y)). false≢true
+    (outside.1 out) in
     let same = same_inside width a b word x y z it not_out in
     inl (omega (arith, ints, same, less), not_out)
 
@@ -306,7 +490,8 @@ compared width a b x y before p q =
     let it : IsResult width a b x y signed.0 word = record { left = p; right = q; cut = cut; signed = signed.1 } in
     let same = zero_same width a b word x y signed.0 it in
     let outside = difference_outside width a b x y p q in
-    let less = decides_less width a b word x y signed.0 it _ _ (decides_negative width word signed.0 signed.1) outside in
+    let less = decides_less width a b word x y signed.0 it _ _ (decides_negative width word signed.0 signed.1) outside
+    in
     record {
       left = p;
       right = q;

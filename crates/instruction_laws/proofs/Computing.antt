@@ -60,7 +60,13 @@ sum_outside Quad a b x y p q = Decides-or _ _
 
 sum_cut : (width : Width) (a b : ℕ) → IsCut width ((a + b) % span_of width) (pos a +ℤ pos b)
 sum_cut Long a b = record { below = omega arith; more = 0; less = (a + b) / 4294967296; same = omega (arith, ints) }
-sum_cut Quad a b = record { below = omega arith; more = 0; less = (a + b) / 18446744073709551616; same = omega (arith, ints) }
+sum_cut Quad a b = record {
+  below = omega arith;
+  more = 0;
+  less = (a + b) / 18446744073709551616;
+  same = omega
+      (arith, ints);
+}
 
 carries : (width : Width) (a b : ℕ) → Decides (nat_le (span_of width) (a + b)) (words width ≤ a + b)
 carries Long a b = decides_le 4294967296 (a + b)
@@ -108,7 +114,13 @@ pub difference_cut : (width : Width) (a b : ℕ) → a < words width → b < wor
 difference_cut Long a b p q =
     record { below = omega arith; more = 1; less = (a + (4294967296 - b)) / 4294967296; same = omega (arith, ints) }
 difference_cut Quad a b p q =
-    record { below = omega arith; more = 1; less = (a + (18446744073709551616 - b)) / 18446744073709551616; same = omega (arith, ints) }
+    record {
+      below = omega arith;
+      more = 1;
+      less = (a + (18446744073709551616 - b)) / 18446744073709551616;
+      same =
+          omega (arith, ints);
+    }
 
 pub borrows : (a b : ℕ) → Decides (nat_lt a b) ((pos a -ℤ pos b) <ℤ pos 0)
 borrows a b = Decides-like _ (λ below. omega (arith, ints)) (λ below. omega (arith, ints)) (Decides-ltb a b)
@@ -145,7 +157,8 @@ is_bitwise bit width a b word below bits = record {
 
 same_bit : (v w k : ℕ) → (IsSet k v → IsSet k w) → (IsSet k w → IsSet k v) → v / 2 ^ k % 2 ≡ w / 2 ^ k % 2
 same_bit v w k to from = ⊎_elim
-    (λ low. ⊎_elim (λ low'. omega arith) (λ high'. omega (arith, from (omega (arith, bit_at-lt w k)))) (cases_lt (w / 2 ^ k % 2) 1))
+    (λ low. ⊎_elim (λ low'. omega arith) (λ high'. omega (arith, from (omega (arith, bit_at-lt w k))))
+    (cases_lt (w / 2 ^ k % 2) 1))
     (λ high. omega (arith, to (omega (arith, bit_at-lt v k)), bit_at-lt v k))
     (cases_lt (v / 2 ^ k % 2) 1)
 
@@ -164,7 +177,11 @@ one_of_two n below = ⊎_elim (λ low. inr (λ is. omega (arith, low, is))) (λ 
 
 and_bits : (a b k : ℕ) → IsSet k (bit_and a b) ↔ Both (IsSet k a) (IsSet k b)
 and_bits a b k = (
-  λ is. (omega (arith, is, bit_at_and a b k, bit_at-lt a k, bit_at-lt b k), omega (arith, is, bit_at_and a b k, bit_at-lt a k, bit_at-lt b k)),
+  λ is. (
+    omega (arith, is, bit_at_and a b k, bit_at-lt a k, bit_at-lt b k),
+    omega
+        (arith, is, bit_at_and a b k, bit_at-lt a k, bit_at-lt b k),
+  ),
   λ both. omega (arith, both.0, both.1, bit_at_and a b k),
 )
 
@@ -203,10 +220,12 @@ computed : (kind : Arithmetic) (width : Width) (a b : ℕ) (x y : ℤ) → IsSig
     → Computes kind width a b x y (compute_effect kind width a b)
 unfolding compute_effect
 computed Add width a b x y p q = is_sum width a b x y p q
-computed Or width a b x y p q = is_bitwise Either width a b (bit_or a b) (or_below width a b p.below q.below) (or_bits a b)
+computed Or width a b x y p q = is_bitwise Either width a b (bit_or a b) (or_below width a b p.below q.below)
+    (or_bits a b)
 computed And width a b x y p q = is_bitwise Both width a b (bit_and a b) (and_below width a b p.below) (and_bits a b)
 computed Sub width a b x y p q = is_difference width a b x y p q
-computed Xor width a b x y p q = is_bitwise One width a b (bit_xor a b) (xor_below width a b p.below q.below) (xor_bits a b)
+computed Xor width a b x y p q = is_bitwise One width a b (bit_xor a b) (xor_below width a b p.below q.below)
+    (xor_bits a b)
 computed Compare width a b x y p q = is_difference width a b x y p q
 
 only_computed : (kind : Arithmetic) (width : Width) (a b : ℕ) (x y : ℤ) (e f : Effect) → Computes kind width a b x y e

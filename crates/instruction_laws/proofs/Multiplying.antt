@@ -37,7 +37,13 @@ cut_of : (width : Width) (n : ℕ) (x : ℤ) (more less : ℕ) → x +ℤ pos (m
 cut_of Long n x more less same =
     record { below = omega arith; more = more; less = less + n / 4294967296; same = omega (arith, ints, same) }
 cut_of Quad n x more less same =
-    record { below = omega arith; more = more; less = less + n / 18446744073709551616; same = omega (arith, ints, same) }
+    record {
+      below = omega arith;
+      more = more;
+      less = less + n / 18446744073709551616;
+      same = omega
+          (arith, ints, same);
+    }
 
 -- the parts of a product
 rest_of : (a b c whole : ℕ) → b + c ≡ whole → a * b + a * c ≡ a * whole
@@ -69,7 +75,13 @@ product_cut width a b (Downward m p r) (Upward q) =
 product_cut width a b (Downward m p r) (Downward n q s) =
     subst (IsCut width (a * b % span_of width)) (sym (negsuc-*ℤ-negsuc m n))
     (pos_cut width (a * b) (suc m * suc n) a (suc n)
-    (omega (arith, rest_of a b (suc n) (words width) q, rest_of (suc n) a (suc m) (words width) p, mul_comm a (suc n), mul_comm (suc m) (suc n))))
+    (omega (
+      arith,
+      rest_of a b (suc n) (words width) q,
+      rest_of (suc n) a (suc m) (words width) p,
+      mul_comm a (suc n),
+      mul_comm (suc m) (suc n),
+    )))
 
 -- ** whether it was cut
 
@@ -140,7 +152,8 @@ product_outside width a b (Downward m p r) (Upward q) =
     moved width _ _ _ _ (fits_is width a b true false (suc m) b (downward_size width a m p r) (upward_size width b q))
     (negsuc-*ℤ-pos m b) (below_half width (suc m * b))
 product_outside width a b (Downward m p r) (Downward n q s) =
-    moved width _ _ _ _ (fits_is width a b true true (suc m) (suc n) (downward_size width a m p r) (downward_size width b n q s))
+    moved width _ _ _ _ (fits_is width a b true true (suc m) (suc n) (downward_size width a m p r)
+    (downward_size width b n q s))
     (negsuc-*ℤ-negsuc m n) (above_half width (suc m * suc n))
 
 -- ** the law

@@ -29,10 +29,12 @@ once_shows P count c d is shows = subst (λ (t : Bool). Shows (if t then c else 
 
 more_undefined : (count : ℕ) (c : Change) → 1 < count → IsUndefined (if count == 1 then c else Unsettled)
 more_undefined count c more =
-    subst (λ (t : Bool). IsUndefined (if t then c else Unsettled)) (sym (ne_eqb count 1 (λ is. omega (arith, more, is)))) tt
+    subst (λ (t : Bool). IsUndefined (if t then c else Unsettled))
+    (sym (ne_eqb count 1 (λ is. omega (arith, more, is)))) tt
 
 -- a flag that is shown for a count of 1, and undefined for more
-same_by_count : (P : Type 0) (count : ℕ) (c d : Change) → 0 < count → (count ≡ 1 → Shows c P) → (1 < count → IsUndefined c)
+same_by_count : (P : Type 0) (count : ℕ) (c d : Change) → 0 < count → (count ≡ 1 → Shows c P) →
+    (1 < count → IsUndefined c)
     → (count ≡ 1 → Shows d P) → (1 < count → IsUndefined d) → c ≡ d
 same_by_count P count c d some p p' q q' = ⊎_elim
     (λ low. let one : count ≡ 1 = omega arith in same_shown P P c d (λ is. is) (λ is. is) (p one) (q one))
@@ -74,10 +76,18 @@ left_carry Quad a count within = subst (λ (n : ℕ). Decides (n % 2 == 1) (a * 
 
 pub decides_differ : (s t : Bool) (P Q : Type 0) → Decides s P → Decides t Q
     → Decides (differ s t) ((P × (Q → ⊥)) ⊎ ((P → ⊥) × Q))
-decides_differ true true P Q p q = (λ is. cc, λ either. ⊎_elim (λ here. absurd (here.1 (q.0 refl))) (λ here. absurd (here.0 (p.0 refl))) either)
+decides_differ true true P Q p q = (
+  λ is. cc,
+  λ either. ⊎_elim (λ here. absurd (here.1 (q.0 refl)))
+      (λ here. absurd (here.0 (p.0 refl))) either,
+)
 decides_differ true false P Q p q = (λ is. inl (p.0 refl, λ it. false≢true (q.1 it)), λ either. refl)
 decides_differ false true P Q p q = (λ is. inr (λ it. false≢true (p.1 it), q.0 refl), λ either. refl)
-decides_differ false false P Q p q = (λ is. absurd (cc), λ either. ⊎_elim (λ here. p.1 here.0) (λ here. q.1 here.1) either)
+decides_differ false false P Q p q = (
+  λ is. absurd (cc),
+  λ either. ⊎_elim (λ here. p.1 here.0) (λ here. q.1 here.1)
+      either,
+)
 
 left_overflow : (width : Width) (a : ℕ) (x : ℤ) → IsSigned width a x
     → Decides (shift_overflows Left width a) (IsOutside width (x +ℤ x))
@@ -85,14 +95,28 @@ unfolding shift_overflows shifted bit_out
 left_overflow Long a x is = Decides-like _
     (λ either. ⊎_elim (λ here. inr (omega (arith, ints, here.0, here.1, is.same, is.least, is.greatest, is.below)))
     (λ here. inl (omega (arith, ints, here.0, here.1, is.same, is.least, is.greatest, is.below))) either)
-    (λ outside. ⊎_elim (λ small. inr (λ up. omega (arith, ints, up, small, is.same, is.least, is.greatest, is.below), omega (arith, ints, small, is.same, is.least, is.greatest, is.below)))
-    (λ large. inl (omega (arith, ints, large, is.same, is.least, is.greatest, is.below), λ up. omega (arith, ints, up, large, is.same, is.least, is.greatest, is.below))) outside)
+    (λ outside. ⊎_elim (λ small. inr (
+      λ up. omega (arith, ints, up, small, is.same, is.least, is.greatest, is.below),
+      omega (arith, ints, small, is.same, is.least, is.greatest, is.below),
+    ))
+    (λ large. inl (
+      omega (arith, ints, large, is.same, is.least, is.greatest, is.below),
+      λ up. omega
+          (arith, ints, up, large, is.same, is.least, is.greatest, is.below),
+    )) outside)
     (decides_differ _ _ _ _ (decides_le (half_of Long) (a * 2 ^ 1 % span_of Long)) (Decides-eqb (a / 2 ^ 31 % 2) 1))
 left_overflow Quad a x is = Decides-like _
     (λ either. ⊎_elim (λ here. inr (omega (arith, ints, here.0, here.1, is.same, is.least, is.greatest, is.below)))
     (λ here. inl (omega (arith, ints, here.0, here.1, is.same, is.least, is.greatest, is.below))) either)
-    (λ outside. ⊎_elim (λ small. inr (λ up. omega (arith, ints, up, small, is.same, is.least, is.greatest, is.below), omega (arith, ints, small, is.same, is.least, is.greatest, is.below)))
-    (λ large. inl (omega (arith, ints, large, is.same, is.least, is.greatest, is.below), λ up. omega (arith, ints, up, large, is.same, is.least, is.greatest, is.below))) outside)
+    (λ outside. ⊎_elim (λ small. inr (
+      λ up. omega (arith, ints, up, small, is.same, is.least, is.greatest, is.below),
+      omega (arith, ints, small, is.same, is.least, is.greatest, is.below),
+    ))
+    (λ large. inl (
+      omega (arith, ints, large, is.same, is.least, is.greatest, is.below),
+      λ up. omega
+          (arith, ints, up, large, is.same, is.least, is.greatest, is.below),
+    )) outside)
     (decides_differ _ _ _ _ (decides_le (half_of Quad) (a * 2 ^ 1 % span_of Quad)) (Decides-eqb (a / 2 ^ 63 % 2) 1))
 
 is_left : (width : Width) (a : ℕ) (x : ℤ) (less : ℕ) → IsSigned width a x → suc less < counts width
@@ -137,7 +161,8 @@ right_out a less = subst₂ (λ (whole rest : ℕ). (a / 2 ^ less % 2 ≡ 1) ↔
 before : (less : ℕ) → suc less - 1 ≡ less
 before less = omega arith
 
-right_test : (a less : ℕ) → Decides (a / 2 ^ (suc less - 1) % 2 == 1) (2 ^ suc less ≤ a % 2 ^ suc less + a % 2 ^ suc less)
+right_test : (a less : ℕ) → Decides (a / 2 ^ (suc less - 1) % 2 == 1)
+    (2 ^ suc less ≤ a % 2 ^ suc less + a % 2 ^ suc less)
 right_test a less = subst (λ (k : ℕ). Decides (a / 2 ^ k % 2 == 1) (2 ^ suc less ≤ a % 2 ^ suc less + a % 2 ^ suc less))
     (sym (before less))
     (Decides-like _ (right_out a less).0 (right_out a less).1 (Decides-eqb (a / 2 ^ less % 2) 1))
@@ -152,7 +177,8 @@ signed_carry : (width : Width) (a less : ℕ)
 unfolding bit_out
 signed_carry width a less = right_test a less
 
-right_overflow : (width : Width) (a : ℕ) (x : ℤ) → IsSigned width a x → Decides (shift_overflows Right width a) (x <ℤ pos 0)
+right_overflow : (width : Width) (a : ℕ) (x : ℤ) → IsSigned width a x → Decides (shift_overflows Right width a)
+    (x <ℤ pos 0)
 unfolding shift_overflows
 right_overflow width a x is = decides_negative width a x is
 
@@ -173,11 +199,13 @@ is_right width a x less is = record {
 only_right : (width : Width) (a : ℕ) (x : ℤ) (less : ℕ) (e f : Effect) → IsShiftedRight width a x (suc less) e
     → IsShiftedRight width a x (suc less) f → e ≡ f
 only_right width a x less e f p q =
-    let parts = same_from_place e.number p.rest f.number q.rest (2 ^ suc less) p.small q.small (p.number ∙ sym q.number) in
+    let parts = same_from_place e.number p.rest f.number q.rest (2 ^ suc less) p.small q.small
+    (p.number ∙ sym q.number) in
     let told = same_told width e f parts.0 p.tells q.tells in
     let rest = parts.1 in
     same_effect e f parts.0 told.0 told.1
-    (same_shown _ _ _ _ (subst (λ (r : ℕ). 2 ^ suc less ≤ r + r) rest) (subst (λ (r : ℕ). 2 ^ suc less ≤ r + r) (sym rest)) p.carry q.carry)
+    (same_shown _ _ _ _ (subst (λ (r : ℕ). 2 ^ suc less ≤ r + r) rest)
+    (subst (λ (r : ℕ). 2 ^ suc less ≤ r + r) (sym rest)) p.carry q.carry)
     (same_by_count _ (suc less) _ _ (omega arith) p.once p.more q.once q.more)
 
 -- ** to the right, signed
@@ -214,7 +242,8 @@ one_word Quad v w x p q = omega (arith, ints, p.same, p.below, q.same, q.below, 
 only_right_signed : (width : Width) (a : ℕ) (x : ℤ) (less : ℕ) (e f : Effect) → IsShiftedSigned width a x (suc less) e
     → IsShiftedSigned width a x (suc less) f → e ≡ f
 only_right_signed width a x less e f p q =
-    let parts = one_floor (2 ^ suc less) p.tells.result q.tells.result p.rest q.rest p.small q.small (p.number ∙ sym q.number) in
+    let parts = one_floor (2 ^ suc less) p.tells.result q.tells.result p.rest q.rest p.small q.small
+    (p.number ∙ sym q.number) in
     let number = one_word width e.number f.number q.tells.result
     (subst (λ (z : ℤ). IsSigned width e.number z) parts.0 p.tells.signed) q.tells.signed in
     let told = same_told width e f number p.tells q.tells in
@@ -233,15 +262,28 @@ upward_floor : (width : Width) (a count : ℕ) → a < half width → IsFloor wi
 upward_floor width a count low = record {
   result = pos (a / 2 ^ count);
   signed = low_half width (a / 2 ^ count) (omega (arith, shr_le a count));
-  number = ap (λ (z : ℤ). z +ℤ pos (a % 2 ^ count)) (pos-*ℤ-pos (a / 2 ^ count) (2 ^ count)) ∙ ap pos (shr_split a count);
+  number = ap (λ (z : ℤ). z +ℤ pos (a % 2 ^ count)) (pos-*ℤ-pos (a / 2 ^ count) (2 ^ count)) ∙ ap pos
+      (shr_split a count);
 }
 
 downward_signed : (width : Width) (word n : ℕ) → word + suc n ≡ words width → suc n ≤ half width
     → IsSigned width word (negsuc n)
 downward_signed Long word n is small =
-    record { below = omega arith; same = inr (omega (arith, ints)); least = omega (arith, ints); greatest = omega (arith, ints) }
+    record {
+      below = omega arith;
+      same = inr (omega (arith, ints));
+      least = omega (arith, ints);
+      greatest = omega
+          (arith, ints);
+    }
 downward_signed Quad word n is small =
-    record { below = omega arith; same = inr (omega (arith, ints)); least = omega (arith, ints); greatest = omega (arith, ints) }
+    record {
+      below = omega arith;
+      same = inr (omega (arith, ints));
+      least = omega (arith, ints);
+      greatest = omega
+          (arith, ints);
+    }
 
 -- q is the quotient of a by the power, and there are `whole` powers in all
 downward_number : (q m power whole rest a n all : ℕ) → suc m + q ≡ whole → whole * power ≡ all → q * power + rest ≡ a
@@ -259,10 +301,12 @@ downward_floor width bits a less n all within small negative size =
     let count = suc less in
     let whole = 2 ^ (bits - count) in
     let parts : bits - count + count ≡ bits = omega arith in
-    let power : whole * 2 ^ count ≡ words width = sym (pow-add 2 (bits - count) count) ∙ ap (λ k. 2 ^ k) parts ∙ sym all in
+    let power : whole * 2 ^ count ≡ words width = sym (pow-add 2 (bits - count) count) ∙ ap (λ k. 2 ^ k) parts ∙ sym
+    all in
     let below : a / 2 ^ count < whole = shr_below a (bits - count) count (subst (λ (k : ℕ). a < 2 ^ k) (sym parts)
     (subst (λ (k : ℕ). a < k) all (omega (arith, negative)))) in
-    let ones : (words width - 1) / 2 ^ count ≡ whole - 1 = ap (λ k. (k - 1) / 2 ^ count) all ∙ ones_shr bits count (omega arith) in
+    let ones : (words width - 1) / 2 ^ count ≡ whole - 1 = ap (λ k. (k - 1) / 2 ^ count) all ∙ ones_shr bits count
+    (omega arith) in
     let m = whole - a / 2 ^ count - 1 in
     let split = shr_split a count in
     let number : (a / 2 ^ count + (words width - 1 - (words width - 1) / 2 ^ count)) + suc m ≡ words width =
@@ -270,7 +314,8 @@ downward_floor width bits a less n all within small negative size =
     record {
       result = negsuc m;
       signed = downward_signed width _ m number (omega (arith, below, small));
-      number = downward_number (a / 2 ^ count) m (2 ^ count) whole (a % 2 ^ count) a n (words width) (omega (arith, below)) power split negative;
+      number = downward_number (a / 2 ^ count) m (2 ^ count) whole (a % 2 ^ count) a n (words width)
+          (omega (arith, below)) power split negative;
     }
 
 floor_at : (width : Width) (a less : ℕ) {x : ℤ} → Signed width a x → suc less < counts width
@@ -295,7 +340,8 @@ signed_overflow : (width : Width) (a : ℕ) → Decides (shift_overflows RightSi
 unfolding shift_overflows
 signed_overflow width a = (λ is. cc, λ never. absurd never)
 
-is_right_signed : (width : Width) (a : ℕ) (x : ℤ) (less : ℕ) → IsFloor width a x (suc less) (shifted RightSigned width a (suc less))
+is_right_signed : (width : Width) (a : ℕ) (x : ℤ) (less : ℕ) → IsFloor width a x (suc less)
+    (shifted RightSigned width a (suc less))
     → IsShiftedSigned width a x (suc less) (moved RightSigned width a (suc less))
 is_right_signed width a x less floor = record {
   rest = a % 2 ^ suc less;
@@ -335,7 +381,8 @@ is_shifted RightSigned width a x (suc less) is within =
     subst (IsShiftedSigned width a x (suc less)) (sym (moved_is RightSigned width a less))
     (is_right_signed width a x less (floor_at width a less (by_sign width a x is) within))
 
-only_shifted : (shift : Shift) (width : Width) (a : ℕ) (x : ℤ) (count : ℕ) (e f : Effect) → Shifts shift width a x count e
+only_shifted : (shift : Shift) (width : Width) (a : ℕ) (x : ℤ) (count : ℕ) (e f : Effect) → Shifts shift width a x
+    count e
     → Shifts shift width a x count f → e ≡ f
 only_shifted shift width a x zero e f p q = only_untouched a e f p q
 only_shifted Left width a x (suc less) e f p q = only_left width a x less e f p q

@@ -1,6 +1,6 @@
 -- What the manual says that an instruction does, the machine does: operands, addresses and results.
-use Rattle.std.proofs.Common.{◌≡◌, ℕ, ◌+◌, ◌-◌, ◌*◌, ◌%◌, ◌^◌, ◌<◌, ℤ, pos, Bool, true, false, Option, Some, None, Result, Ok, Err, refl, ap, sym, subst, ap₂, arith, ◌∙◌}
-use Rattle.std.specs.Prelude.{◌+ℤ◌, ◌-ℤ◌, if◌then◌else◌}
+use Rattle.std.proofs.Common.{◌≡◌, ℕ, ◌+◌, ◌*◌, ◌%◌, ◌^◌, ◌<◌, pos, Bool, true, false, Option, Some, None, Result, Ok, refl, ap, sym, ap₂, arith, ◌∙◌}
+use Rattle.std.specs.Prelude.{if◌then◌else◌}
 use Rattle.std.proofs.lemmas.Int.{ints}
 use Rattle.amd64_words.specs.declared.register.Register.{Register}
 use Rattle.amd64_subset.specs.declared.instr.Decoded.{Decoded}
@@ -24,19 +24,18 @@ use Rattle.guest_arithmetic.specs.Plain.{plain_operations}
 use Rattle.guest_operands.specs.declared.frame.Frame.{Frame}
 use Rattle.guest_operands.specs.declared.slot.Slot.{Slot}
 use Rattle.guest_operands.specs.declared.slot.Slot.TheVariants.{Place, Register as OfSlot}
-use Rattle.guest_operands.specs.declared.slot.Taken.{Taken}
 use Rattle.guest_operands.specs.declared.state.Registers.{Registers}
 use Rattle.guest_operands.specs.declared.state.State.{State}
 use Rattle.guest_operands.specs.declared.stop.Stop.{Stop}
 use Rattle.guest_operands.specs.Access.{Accesses, Refusal, load_of, store_of}
-use Rattle.guest_operands.specs.Operand.{weighed, size_of, factor_of, base_of, index_of, address_of, number_at, kept, carried, taken_at, taken, put}
+use Rattle.guest_operands.specs.Operand.{weighed, size_of, factor_of, base_of, index_of, address_of, number_at, taken_at, taken, put}
 use Rattle.guest_operands.specs.Ranges.{range_accesses}
 use Rattle.guest_operands.specs.State.{register_of, with_register}
 use Rattle.guest_operands.specs.Use.{◌>>=◌, plus, there, After, left}
 use Rattle.guest_machine.specs.Step.{finished, settled}
 use Rattle.instruction_laws.specs.Conditions.{Become}
 use Rattle.instruction_laws.specs.Words.{words, IsCut}
-use Rattle.instruction_laws.specs.Steps.{Numbers, bytes, times, base, index, segment, IsAddress, IsLoaded, IsStored, Has, IsLeftAt, IsLeft, Puts}
+use Rattle.instruction_laws.specs.Steps.{Numbers, bytes, times, base, index, segment, IsAddress, Has, IsLeftAt, IsLeft, Puts}
 use Rattle.instruction_laws.proofs.Comparing.{change}
 use Rattle.instruction_laws.proofs.Multiplying.{pos_cut}
 use Rattle.instruction_laws.proofs.Words.{only_cut}
@@ -89,12 +88,14 @@ module _ (d : Decoded) (before : State ℕ Bool) (memory : Numbers) where
   factors Four = refl
   factors Eight = refl
 
-  index_is : (it : Option Index) → (w : ℕ) × (index_of plain_operations before.registers it ≡ Ok w) × (w ≡ index d before memory it % 2 ^ 64)
+  index_is : (it : Option Index) → (w : ℕ) × (index_of plain_operations before.registers it ≡ Ok w) ×
+      (w ≡ index d before memory it % 2 ^ 64)
   unfolding index_of plain_operations
   index_is None = (0, refl, refl)
   index_is (Some it) = (_, refl, ap (λ f. register_of before.registers it.register * f % 2 ^ 64) (factors it.scale))
 
-  base_is : (it : Base) → (w : ℕ) × (base_of plain_operations None d.instr.displacement (plus before.place d.len) before.registers it ≡ Ok w)
+  base_is : (it : Base) → (w : ℕ) × (base_of plain_operations None d.instr.displacement (plus before.place d.len)
+      before.registers it ≡ Ok w)
       × (w % 2 ^ 64 ≡ (base d before memory it + d.instr.displacement) % 2 ^ 64)
   unfolding base_of plain_operations
   base_is Absolute = (_, refl, omega arith)
@@ -122,13 +123,15 @@ module _ (d : Decoded) (before : State ℕ Bool) (memory : Numbers) where
       ∙ ap Ok (sums place b.0 i.0 c (base d before memory operand.base) (index d before memory operand.index)
       d.instr.displacement b.2 i.2 is)
 
-  pub one_address : (operand : Memory) (p q : ℕ) → IsAddress d before memory operand p → IsAddress d before memory operand q
+  pub one_address : (operand : Memory) (p q : ℕ) → IsAddress d before memory operand p → IsAddress d before memory
+      operand q
       → p ≡ q
   one_address operand p q = only_cut Quad _ p q
 
   -- ** operands
 
-  pub register_number : (width : Width) (register : Register) (n : ℕ) → Has d before memory width (InRegister register) n
+  pub register_number : (width : Width) (register : Register) (n : ℕ) → Has d before memory width
+      (InRegister register) n
       → number_at plain_operations width (register_of before.registers register) ≡ Ok n
   unfolding number_at plain_operations
   register_number width register n is = ap Ok (low_is width n _ is)
@@ -144,7 +147,8 @@ module _ (d : Decoded) (before : State ℕ Bool) (memory : Numbers) where
         ≡ Ok (record { slot = slot; number = n; other = b })
     pub is_slot : IsSlot operand slot
 
-  pub take : (width : Width) (operand : Operand) (n b : ℕ) → Has d before memory width operand n → IsTaken width operand n b
+  pub take : (width : Width) (operand : Operand) (n b : ℕ) → Has d before memory width operand n → IsTaken width
+      operand n b
   unfolding taken taken_at number_at plain_operations
   take width (InRegister register) n b has = record {
     slot = OfSlot register;
@@ -153,8 +157,10 @@ module _ (d : Decoded) (before : State ℕ Bool) (memory : Numbers) where
   }
   take width (InMemory operand) n b has = record {
     slot = Place has.place;
-    is = ap (λ r. taken_at plain_operations acc width before.place memory r (Ok b)) (address_is operand has.place has.address)
-        ∙ ap (λ size. weighed plain_operations acc width before.place (load_of plain_operations acc memory has.place size) (Ok b)
+    is = ap (λ r. taken_at plain_operations acc width before.place memory r (Ok b))
+        (address_is operand has.place has.address)
+        ∙ ap (λ size. weighed plain_operations acc width before.place
+        (load_of plain_operations acc memory has.place size) (Ok b)
         >>= λ parts. Ok (record { slot = Place has.place; number = parts.0; other = parts.1 })) (sizes width)
         ∙ ap (λ r. weighed plain_operations acc width before.place r (Ok b)
         >>= λ parts. Ok (record { slot = Place has.place; number = parts.0; other = parts.1 })) has.loaded
@@ -177,7 +183,12 @@ module _ (d : Decoded) (before : State ℕ Bool) (memory : Numbers) where
 
   pub left_as : (place : ℕ) (registers : Registers ℕ) (flags : Flags Bool) (after : State ℕ Bool)
       → IsLeftAt d before memory (pos place) registers flags after
-      → record { registers = registers; flags = flags; place = place % 2 ^ 64; thread_pointer = before.thread_pointer } ≡ after
+      → record {
+        registers = registers;
+        flags = flags;
+        place = place % 2 ^ 64;
+        thread_pointer = before.thread_pointer;
+      } ≡ after
   left_as place registers flags after is =
       same_state registers flags (place % 2 ^ 64) after is.registers_are is.flags_are
       (sym (low_is Quad after.place place is.place_is)) is.thread
@@ -185,9 +196,16 @@ module _ (d : Decoded) (before : State ℕ Bool) (memory : Numbers) where
   -- with nothing written
   pub goes : (registers : Registers ℕ) (flags : Flags Bool) (after : State ℕ Bool) (memory' : Numbers)
       → IsLeft d before memory registers flags after → memory' ≡ memory
-      → done (record { registers = registers; flags = flags; place = plus before.place d.len; thread_pointer = before.thread_pointer }) memory
+      → done (record {
+        registers = registers;
+        flags = flags;
+        place = plus before.place d.len;
+        thread_pointer =
+            before.thread_pointer;
+      }) memory
       ≡ done after memory'
-  goes registers flags after memory' is same = λ i. Ok (left (left_as (before.place + d.len) registers flags after is i) (sym same i))
+  goes registers flags after memory' is same = λ i. Ok
+      (left (left_as (before.place + d.len) registers flags after is i) (sym same i))
 
   -- a result in its slot
   pub flags_are : (effect : Effect) (after : State ℕ Bool) → Become effect.changes before.flags after.flags
@@ -213,14 +231,17 @@ module _ (d : Decoded) (before : State ℕ Bool) (memory : Numbers) where
   write_then effect stored = (there before.place stored >>= λ m. Ok (left before m))
       >>= λ it. Ok (left (settled plain_operations effect.changes frame it.state) it.memory)
 
-  finish_memory : (width : Width) (operand : Memory) (place : ℕ) (effect : Effect) (after : State ℕ Bool) (memory' : Numbers)
-      → IsAddress d before memory operand place → effect.number < words width → Become effect.changes before.flags after.flags
+  finish_memory : (width : Width) (operand : Memory) (place : ℕ) (effect : Effect) (after : State ℕ Bool)
+      (memory' : Numbers)
+      → IsAddress d before memory operand place → effect.number < words width → Become effect.changes before.flags
+      after.flags
       → Puts d before memory width (InMemory operand) effect.number after.flags after memory'
       → finished plain_operations acc width (Place place) effect frame before memory ≡ Ok (left after memory')
   unfolding finished put plain_operations
   finish_memory width operand place effect after memory' address below become puts =
       let here = one_address operand place puts.1.place address puts.1.address in
-      (λ i. write_then effect (store_of plain_operations acc memory (here i) (sizes width i) (whole width effect.number below i)))
+      (λ i. write_then effect (store_of plain_operations acc memory (here i) (sizes width i)
+      (whole width effect.number below i)))
       ∙ ap (write_then effect) puts.1.stored
       ∙ (λ i. Ok (left (record {
         registers = before.registers;
@@ -230,7 +251,8 @@ module _ (d : Decoded) (before : State ℕ Bool) (memory : Numbers) where
       }) memory'))
       ∙ (λ i. Ok (left (left_as (before.place + d.len) before.registers after.flags after puts.0 i) memory'))
 
-  pub finish : (width : Width) (operand : Operand) (slot : Slot) (effect : Effect) (after : State ℕ Bool) (memory' : Numbers)
+  pub finish : (width : Width) (operand : Operand) (slot : Slot) (effect : Effect) (after : State ℕ Bool)
+      (memory' : Numbers)
       → IsSlot operand slot → effect.number < words width → Become effect.changes before.flags after.flags
       → Puts d before memory width operand effect.number after.flags after memory'
       → finished plain_operations acc width slot effect frame before memory ≡ Ok (left after memory')
@@ -242,13 +264,14 @@ module _ (d : Decoded) (before : State ℕ Bool) (memory : Numbers) where
       ∙ finish_memory width operand is.0 effect after memory' is.1 below become puts
 
   -- cmp and test
-  pub settle : (effect : Effect) (after : State ℕ Bool) (memory' : Numbers) → Become effect.changes before.flags after.flags
+  pub settle : (effect : Effect) (after : State ℕ Bool) (memory' : Numbers) → Become effect.changes before.flags
+      after.flags
       → IsLeft d before memory before.registers after.flags after → memory' ≡ memory
       → done (settled plain_operations effect.changes frame before) memory ≡ done after memory'
   settle effect after memory' become is same = (λ i. Ok (left (record {
-        registers = before.registers;
-        flags = flags_are effect after become i;
-        place = plus before.place d.len;
-        thread_pointer = before.thread_pointer;
-      }) memory))
+    registers = before.registers;
+    flags = flags_are effect after become i;
+    place = plus before.place d.len;
+    thread_pointer = before.thread_pointer;
+  }) memory))
       ∙ goes before.registers after.flags after memory' is same

@@ -15,13 +15,37 @@ use Rattle.instruction_laws.specs.Results.{TellsOfResult}
 -- ** words
 
 pub low_half : (width : Width) (word : ℕ) → word < half width → IsSigned width word (pos word)
-low_half Long word low = record { below = omega arith; same = inl refl; least = omega (arith, ints); greatest = omega (arith, ints) }
-low_half Quad word low = record { below = omega arith; same = inl refl; least = omega (arith, ints); greatest = omega (arith, ints) }
+low_half Long word low = record {
+  below = omega arith;
+  same = inl refl;
+  least = omega (arith, ints);
+  greatest = omega
+      (arith, ints);
+}
+low_half Quad word low = record {
+  below = omega arith;
+  same = inl refl;
+  least = omega (arith, ints);
+  greatest = omega
+      (arith, ints);
+}
 
 high_half : (width : Width) (word : ℕ) → word < words width → half width ≤ word
     → IsSigned width word (negsuc (words width - 1 - word))
-high_half Long word below high = record { below = below; same = inr (omega (arith, ints)); least = omega (arith, ints); greatest = omega (arith, ints) }
-high_half Quad word below high = record { below = below; same = inr (omega (arith, ints)); least = omega (arith, ints); greatest = omega (arith, ints) }
+high_half Long word below high = record {
+  below = below;
+  same = inr (omega (arith, ints));
+  least = omega
+      (arith, ints);
+  greatest = omega (arith, ints);
+}
+high_half Quad word below high = record {
+  below = below;
+  same = inr (omega (arith, ints));
+  least = omega
+      (arith, ints);
+  greatest = omega (arith, ints);
+}
 
 pub signed_of : (width : Width) (word : ℕ) → word < words width → (x : ℤ) × IsSigned width word x
 signed_of width word below = ⊎_elim
@@ -45,7 +69,8 @@ only_cut Quad x v w p q = omega (arith, ints, p.below, p.same, q.below, q.same)
 -- ** flags
 
 pub same_shown : (P Q : Type 0) (c d : Change) → (P → Q) → (Q → P) → Shows c P → Shows d Q → c ≡ d
-same_shown P Q (Set s) (Set t) to from p q = ap Set (same_from_decides {P = Q} s t (Decides-like {P = P} {Q = Q} s to from p) q)
+same_shown P Q (Set s) (Set t) to from p q = ap Set
+    (same_from_decides {P = Q} s t (Decides-like {P = P} {Q = Q} s to from p) q)
 same_shown P Q (Set s) Unsettled to from p q = absurd q
 same_shown P Q (Set s) Kept to from p q = absurd q
 same_shown P Q Unsettled d to from p q = absurd p
@@ -67,7 +92,8 @@ same_kept Unsettled d p q = absurd p
 
 -- ** effects
 
-pub same_effect : (e f : Effect) → e.number ≡ f.number → e.changes.zero ≡ f.changes.zero → e.changes.sign ≡ f.changes.sign
+pub same_effect : (e f : Effect) → e.number ≡ f.number → e.changes.zero ≡ f.changes.zero → e.changes.sign ≡
+    f.changes.sign
     → e.changes.carry ≡ f.changes.carry → e.changes.overflow ≡ f.changes.overflow → e ≡ f
 same_effect e f number zero sign carry overflow = λ i. record {
   number = number i;

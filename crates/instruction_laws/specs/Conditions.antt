@@ -33,7 +33,8 @@ Holds Greater flags = (flags.zero ≡ false) × (flags.sign ≡ flags.overflow)
 
 -- over plain flags a condition holds or not, exactly where this is so
 abbrev pub IsTaken : Condition → Flags Bool → Type 0 → Type 0
-IsTaken condition flags P = (truth : Bool) → (condition_of plain_operations condition flags ≡ Ok truth) ↔ ((truth ≡ true) ↔ P)
+IsTaken condition flags P = (truth : Bool) → (condition_of plain_operations condition flags ≡ Ok truth) ↔
+    ((truth ≡ true) ↔ P)
 
 -- ** after a comparison of the words a and b, which are x and y as signed integers
 

@@ -31,7 +31,8 @@ WordsAreSigned = (width : Width) (word : ℕ) → word < words width
 
 -- add, or, and, sub, xor, cmp, of words that are x and y as signed integers
 abbrev pub ComputationsAreTheManuals : Type 0
-ComputationsAreTheManuals = (kind : Arithmetic) (width : Width) (a b : ℕ) (x y : ℤ) → IsSigned width a x → IsSigned width b y
+ComputationsAreTheManuals = (kind : Arithmetic) (width : Width) (a b : ℕ) (x y : ℤ) → IsSigned width a x → IsSigned
+    width b y
     → (effect : Effect) → (compute_effect kind width a b ≡ effect) ↔ Computes kind width a b x y effect
 
 -- imul
@@ -41,7 +42,8 @@ ProductsAreTheManuals = (width : Width) (a b : ℕ) (x y : ℤ) → IsSigned wid
 
 -- shl, shr, sar
 abbrev pub ShiftsAreTheManuals : Type 0
-ShiftsAreTheManuals = (shift : Shift) (width : Width) (a : ℕ) (x : ℤ) (count : ℕ) → IsSigned width a x → count < counts width
+ShiftsAreTheManuals = (shift : Shift) (width : Width) (a : ℕ) (x : ℤ) (count : ℕ) → IsSigned width a x → count <
+    counts width
     → (effect : Effect) → (shift_effect shift width a count ≡ effect) ↔ Shifts shift width a x count effect
 
 -- the flags of the machine after changes
@@ -65,5 +67,6 @@ abbrev pub StepsAreTheManuals : Type 0
 StepsAreTheManuals = (d : Decoded) (before after : State ℕ Bool) (memory memory' : Numbers)
     → ((register : Register) → register_of before.registers register < 2 ^ 64)
     → Does d before memory d.instr.operation after memory'
-    → act plain_operations (range_accesses plain_operations) (frame_of (λ place. false) before.place d) d.instr.operation before memory
+    → act plain_operations (range_accesses plain_operations) (frame_of (λ place. false) before.place d)
+    d.instr.operation before memory
     ≡ Ok (left after memory')

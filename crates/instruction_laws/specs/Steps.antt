@@ -1,7 +1,7 @@
 -- What one instruction does to registers, flags and memory, over numbers, as Intel's manual tells it (volume 2: MOV, MOVZX,
 -- MOVSXD, LEA, .. RET; addresses by volume 1, section 3.7.5). It watches `act` (guest_machine) and what that is made of
 -- (guest_operands: `address_of`, `taken`, `carried`, `put`).
-use Rattle.std.specs.Prelude.{◌≡◌, ◌⊎◌, ℕ, ◌+◌, ◌*◌, ◌<◌, ℤ, pos, ◌-ℤ◌, Bool, true, false, Option, Some, None, Ok}
+use Rattle.std.specs.Prelude.{◌≡◌, ℕ, ◌+◌, ◌*◌, ◌<◌, ℤ, pos, ◌-ℤ◌, Bool, true, false, Option, Some, None, Ok}
 use Rattle.amd64_words.specs.declared.register.Register.{Register}
 use Rattle.amd64_words.specs.declared.register.Register.TheVariants.{Rsp, Rbp}
 use Rattle.amd64_subset.specs.declared.instr.Arithmetic.{Arithmetic}
@@ -21,7 +21,6 @@ use Rattle.amd64_subset.specs.declared.operand.Index.{Index}
 use Rattle.amd64_subset.specs.declared.operand.Memory.{Memory}
 use Rattle.amd64_subset.specs.declared.operand.Operand.{Operand}
 use Rattle.amd64_subset.specs.declared.operand.Operand.TheVariants.{InMemory, Register as InRegister}
-use Rattle.amd64_subset.specs.declared.operand.Operands.{Operands}
 use Rattle.amd64_subset.specs.declared.operand.Operands.TheVariants.{IntoRegister, IntoMemory, Immediate}
 use Rattle.amd64_subset.specs.declared.operand.Scale.{Scale}
 use Rattle.amd64_subset.specs.declared.operand.Scale.TheVariants.{One, Two, Four, Eight}
@@ -214,7 +213,8 @@ module _ (d : Decoded) (before : State ℕ Bool) (memory : Numbers) where
     pub flags : Become effect.changes before.flags after.flags
     pub to_it : Puts width (InRegister to) effect.number after.flags after memory'
 
-  pub record ShiftsBy (shift : Shift) (width : Width) (to : Operand) (count : ℕ) (after : State ℕ Bool) (memory' : Numbers)
+  pub record ShiftsBy (shift : Shift) (width : Width) (to : Operand) (count : ℕ) (after : State ℕ Bool)
+      (memory' : Numbers)
       : Type 0 where
     pub a : ℕ
     pub x : ℤ
@@ -298,7 +298,8 @@ module _ (d : Decoded) (before : State ℕ Bool) (memory : Numbers) where
   Does (ExtendByte width to from) = ExtendsByte to from
   Does (ExtendLong to from) = ExtendsLong to from
   Does (LoadAddress width to from) = LoadsAddress width to from
-  Does (Compute kind width (IntoRegister to from)) = ComputesOf kind (writes kind) width (InRegister to) (Has width from)
+  Does (Compute kind width (IntoRegister to from)) = ComputesOf kind (writes kind) width (InRegister to)
+      (Has width from)
   Does (Compute kind width (IntoMemory to from)) =
       ComputesOf kind (writes kind) width (InMemory to) (Has width (InRegister from))
   Does (Compute kind width (Immediate to)) =

@@ -28,8 +28,13 @@
 //! A condition is told twice: by its flags ([`laws::conditions_are_the_manuals`]), and after `cmp` by what was compared
 //! ([`laws::comparisons_decide`]): `jb` where a < b, `jl` where x < y.
 //!
-//! Which operations read which registers, flags and bytes, and leave which flags undefined: `step_laws`. That the bytes
-//! spell these operations no law here says: `instruction_tests` has the bytes of an assembler.
+//! Then each operation of the subset ([`laws::steps_are_the_manuals`], `specs/Steps.antt`): where its operands are, what it
+//! makes of them, where the result goes, what becomes of the stack, and where the next instruction is. What the manual says
+//! that is done, the machine does; all else stays. The law asks that each register holds a word and that accesses are
+//! allowed. A load and a store of several bytes are those of `guest_operands`, and so is a register by its name.
+//!
+//! Which operations read which registers, flags and bytes, and leave which flags undefined, `step_laws` tells once more.
+//! That the bytes spell these operations no law here says: `instruction_tests` has the bytes of an assembler.
 #![tactic(auto)]
 
 pub mod laws;
