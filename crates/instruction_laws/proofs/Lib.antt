@@ -2,6 +2,7 @@ mod Comparing
 mod Computing
 mod Going
 mod Multiplying
+mod Opcodes
 mod Operating
 mod Shifting
 mod Stepping

@@ -1,6 +1,7 @@
 //! The laws. The functions do nothing: what they ensure is the law.
 
 ghost use Rattle.instruction_laws.specs.Laws.{ComparisonsDecide, ComputationsAreTheManuals, ConditionsAreTheManuals, FlagsChange, ProductsAreTheManuals, ShiftsAreTheManuals, StepsAreTheManuals, WordsAreSigned};
+ghost use Rattle.instruction_laws.specs.Opcodes.{DigitsAreTheManuals, OpcodesAreTheManuals};
 
 /// Each word is a signed integer, and only one.
 pub fn words_are_signed()
@@ -40,4 +41,14 @@ pub fn comparisons_decide()
 /// What the manual says that an instruction does, the machine does, where accesses are allowed.
 pub fn steps_are_the_manuals()
     ensures { StepsAreTheManuals }
+{}
+
+/// The opcodes by their bytes.
+pub fn opcodes_are_the_manuals()
+    ensures { OpcodesAreTheManuals }
+{}
+
+/// What the digit in ModRM's reg field makes of an opcode that it completes.
+pub fn digits_are_the_manuals()
+    ensures { DigitsAreTheManuals }
 {}

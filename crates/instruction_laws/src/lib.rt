@@ -34,7 +34,8 @@
 //! allowed. A load and a store of several bytes are those of `guest_operands`, and so is a register by its name.
 //!
 //! Which operations read which registers, flags and bytes, and leave which flags undefined, `step_laws` tells once more.
-//! That the bytes spell these operations no law here says: `instruction_tests` has the bytes of an assembler.
+//! Last the opcode maps ([`laws::opcodes_are_the_manuals`], [`laws::digits_are_the_manuals`]): a table of literals, and no
+//! other byte is an opcode. `instruction_tests` has the bytes of an assembler beside them.
 #![tactic(auto)]
 
 pub mod laws;
