@@ -1,8 +1,6 @@
 //! The store and the sink of the host: its file system, and a writer such as its standard output.
-mod progress;
 mod sink;
 mod store;
 
-pub use progress::ProgressStore;
 pub use sink::HostSink;
 pub use store::{HostBrand, HostFault, HostStore, LARGEST_FILE};

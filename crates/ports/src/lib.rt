@@ -21,7 +21,8 @@
 //! **No file is read unasked.** A file's bytes come by `fetch`, which asks, or by a claim. Only a store makes a claim,
 //! for it alone has a value of its brand; a claim is read once, and what came of it shows when it is settled. So a
 //! caller whose clauses say which names it asked for, and that no claim is out at its end, has read no other file, and
-//! has dropped no refusal.
+//! has passed over no refusal: claims are settled for all their files, or for a refusal, which is counted. Behind the
+//! end of a command a file is read once more for a note, by [`Aftermath`], which no command asks for.
 //!
 //! **`OutOfMemory`** is a result of its own, and never a fault. A sink counts these results too.
 //!
@@ -39,9 +40,6 @@
 //! [`HostStore`] and [`HostSink`] are the host's files and one of its writers. No clause can say what a disk or a
 //! pipe holds, so trust begins at these two. It is proved how they count and how they treat a buffer and a writer;
 //! that a path names a file, that the host keeps it, and that a writer was flushed, is only tested.
-//!
-//! [`ProgressStore`] wraps any store, and shows on standard error how far a long command is. A contract sees only the
-//! store within, so its clauses are those of that store; the lines and their times are only tested.
 #![tactic(auto)]
 
 mod aftermath;
@@ -58,7 +56,7 @@ pub use aftermath::Aftermath;
 pub use claims::Claim;
 pub use faults::{FetchFault, PutFault};
 pub use fetching::fetch_each;
-pub use host::{HostBrand, HostFault, HostSink, HostStore, LARGEST_FILE, ProgressStore};
+pub use host::{HostBrand, HostFault, HostSink, HostStore, LARGEST_FILE};
 pub use memory::{MemoryBrand, MemorySink, MemoryStore};
 pub use sinks::Sink;
 pub use stores::Store;

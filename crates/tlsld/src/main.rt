@@ -2,20 +2,21 @@
 //!
 //! It passes all three to [`commands::tlsld`], whose contract says what happens.
 //!
-//! If standard error is a terminal, a long fetch of files shows its progress there (`ports::ProgressStore`), and once
-//! the command has ended, a refusal is explained in one line more (`terminal_notes`). Neither changes the status or
-//! standard output.
+//! If standard error is a terminal, a long fetch of files shows its progress there (`terminal_progress`), and once the
+//! command has ended, a refusal is explained in one line more (`terminal_notes`). Neither changes the status or standard
+//! output.
 #![tactic(auto)]
 
 use command_replies::say_no_memory;
 use commands::tlsld;
-use ports::{HostSink, HostStore, ProgressStore};
+use ports::{HostSink, HostStore};
 use std::alloc::Global;
 use std::io::{ErrorKind, IsTerminal};
 use std::process::ExitCode;
 use std::rt::Env;
 use std::{env, io};
 use terminal_notes::{KeptSink, note_of};
+use terminal_progress::ProgressStore;
 
 /// The largest request for memory that freed memory may serve, in bytes.
 const LARGEST_KEPT: usize = 1 << 21;

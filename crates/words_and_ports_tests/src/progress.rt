@@ -1,6 +1,6 @@
 //! The progress that a store shows, with a clock that the test sets.
 use crate::files::fetched;
-use ports::{MemoryStore, ProgressStore, Store};
+use ports::{MemoryStore, Store};
 use std::alloc::Global;
 use std::fmt::Display;
 use std::io;
@@ -10,6 +10,7 @@ use std::sync::Mutex;
 use std::sync::atomic::{AtomicU64, Ordering};
 use std::test::Fail;
 use std::time::Duration;
+use terminal_progress::ProgressStore;
 
 /// The seconds at which the clock fails.
 const NO_TIME: u64 = u64::MAX;
