@@ -45,7 +45,9 @@ two_by_two = refl
 pub opcodes : (opcode : ℕ) → opcode < 256
     → ((rex : Rex) → OneByteIs rex.wide rex.base rex opcode) × (escaped_row_of opcode ≡ found opcode two_bytes)
 opcodes opcode small = (
-  λ rex. each (row_of rex) (λ opcode. found opcode (signed rex.wide ++ (stack rex.base ++ (immediates rex.wide rex.base ++ one_byte)))) 256 opcode small
+  λ rex. each (row_of rex)
+      (λ opcode. found opcode (signed rex.wide ++ (stack rex.base ++ (immediates rex.wide rex.base ++ one_byte))))
+      256 opcode small
       (one_by_one rex.wide rex.register rex.index rex.base),
   each escaped_row_of (λ opcode. found opcode two_bytes) 256 opcode small two_by_two,
 )

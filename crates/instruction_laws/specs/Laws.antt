@@ -62,7 +62,8 @@ ComparisonsDecide = (condition : Condition) (width : Width) (a b : ℕ) (x y : �
     → IsTaken condition (with_changes plain_operations (compute_effect Compare width a b).changes before)
     (Compares condition width a b x y)
 
--- where the registers hold words and no offset field stands in the instruction: what the manual says that is done is done
+-- where the registers hold words and no offset field stands in the instruction: what the manual says is done, and it
+-- alone
 abbrev pub StepsAreTheManuals : Type 0
 StepsAreTheManuals = (d : Decoded) (before after : State ℕ Bool) (memory memory' : Numbers)
     → ((register : Register) → register_of before.registers register < 2 ^ 64)

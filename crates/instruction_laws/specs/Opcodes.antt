@@ -204,7 +204,8 @@ digits group.Arithmetic =
 digits group.Shift =
     None ∷ None ∷ None ∷ None ∷ Some (ShiftBy Left) ∷ Some (ShiftBy Right) ∷ None ∷ Some (ShiftBy RightSigned) ∷ []
 digits group.ShiftOnce =
-    None ∷ None ∷ None ∷ None ∷ Some (ShiftOnce Left) ∷ Some (ShiftOnce Right) ∷ None ∷ Some (ShiftOnce RightSigned) ∷ []
+    None ∷ None ∷ None ∷ None ∷ Some (ShiftOnce Left) ∷ Some (ShiftOnce Right) ∷ None
+    ∷ Some (ShiftOnce RightSigned) ∷ []
 digits group.Target = None ∷ None ∷ Some CallTarget ∷ None ∷ Some JumpTarget ∷ None ∷ None ∷ None ∷ []
 digits group.Nop = Some Padding ∷ None ∷ None ∷ None ∷ None ∷ None ∷ None ∷ None ∷ []
 

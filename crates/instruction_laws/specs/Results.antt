@@ -74,8 +74,8 @@ pub record IsUntouched (a : ℕ) (effect : Effect) : Type 0 where
   pub carry : IsKept effect.changes.carry
   pub overflow : IsKept effect.changes.overflow
 
--- shl multiplies by 2^count. CF: the bit next to the result, of the product that is not cut. OF, if the count is 1: twice
--- x is no signed integer of the width.
+-- shl multiplies by 2^count. CF: the bit next to the result, of the product that is not cut. OF, if the count is 1:
+-- twice x is no signed integer of the width.
 pub record IsShiftedLeft (width : Width) (a : ℕ) (x : ℤ) (count : ℕ) (effect : Effect) : Type 0 where
   pub number : IsCut width effect.number (pos (a * 2 ^ count))
   pub tells : TellsOfResult width effect
@@ -83,8 +83,8 @@ pub record IsShiftedLeft (width : Width) (a : ℕ) (x : ℤ) (count : ℕ) (effe
   pub once : count ≡ 1 → Shows effect.changes.overflow (IsOutside width (x +ℤ x))
   pub more : 1 < count → IsUndefined effect.changes.overflow
 
--- shr divides by 2^count, as unsigned integers. CF: the rest is half of the divisor, or more. OF, if the count is 1: x is
--- negative.
+-- shr divides by 2^count, as unsigned integers. CF: the rest is half of the divisor, or more. OF, if the count is 1:
+-- x is negative.
 pub record IsShiftedRight (width : Width) (a : ℕ) (x : ℤ) (count : ℕ) (effect : Effect) : Type 0 where
   pub rest : ℕ
   pub small : rest < 2 ^ count

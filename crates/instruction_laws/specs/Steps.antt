@@ -1,6 +1,6 @@
--- What one instruction does to registers, flags and memory, over numbers, as Intel's manual tells it (volume 2: MOV, MOVZX,
--- MOVSXD, LEA, .. RET; addresses by volume 1, section 3.7.5). It watches `act` (guest_machine) and what that is made of
--- (guest_operands: `address_of`, `taken`, `carried`, `put`).
+-- What one instruction does to registers, flags and memory, over numbers, as Intel's manual tells it (volume 2: MOV,
+-- MOVZX, MOVSXD, LEA, .. RET; addresses by volume 1, section 3.7.5). It watches `act` (guest_machine) and what that is
+-- made of (guest_operands: `address_of`, `taken`, `carried`, `put`).
 use Rattle.std.specs.Prelude.{◌≡◌, ℕ, ◌+◌, ◌*◌, ◌<◌, ℤ, pos, ◌-ℤ◌, Bool, true, false, Option, Some, None, Ok}
 use Rattle.amd64_words.specs.declared.register.Register.{Register}
 use Rattle.amd64_words.specs.declared.register.Register.TheVariants.{Rsp, Rbp}

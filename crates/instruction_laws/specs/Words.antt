@@ -1,4 +1,4 @@
--- Words of 32 and 64 bits as whole numbers (Intel's manual, volume 1, sections 4.2.1 and 3.4.3.1).
+-- Words of 32 and 64 bits as whole numbers (Intel's manual, order number 325462, volume 1, sections 4.2.1 and 3.4.3.1).
 use Rattle.std.specs.Prelude.{◌≡◌, ◌⊎◌, ◌↔◌, ℕ, ◌+◌, ◌*◌, ◌/◌, ◌%◌, ◌^◌, ◌<◌, ℤ, pos, ◌+ℤ◌, ◌≤ℤ◌, ◌<ℤ◌, true}
 use Rattle.amd64_subset.specs.declared.instr.Width.{Width}
 use Rattle.amd64_subset.specs.declared.instr.Width.TheVariants.{Long, Quad}
