@@ -1,0 +1,9 @@
+mod Comparing
+mod Computing
+mod Going
+mod Multiplying
+mod Opcodes
+mod Operating
+mod Shifting
+mod Stepping
+mod Words
