@@ -1,5 +1,4 @@
 mod Found
-mod LineKinds
 mod Lines
 mod Names
 mod Numerals
