@@ -13,6 +13,9 @@
 //! So not everything that a `Job` may hold has a text: two images of one name have none, nor has an image without
 //! objects ([`laws::some_have_no_text`]).
 //!
+//! **Numbers are written in two ways** ([`laws::numbers_are_written`]): a word is read as a number exactly where it is
+//! what would be printed of it, or `0x` and hexadecimal digits of that value (`specs/Numbers`).
+//!
 //! First faults have no law here: what is reported is the first of a list of tests, line by line and kind by kind, and
 //! any second sentence would be that list again.
 //!
