@@ -1,0 +1,4 @@
+pub mod Apart
+pub mod LineKinds
+mod Numbers
+mod Spelled

@@ -1,0 +1,6 @@
+mod Found
+mod Lines
+mod Names
+mod Numerals
+mod Proved
+mod Words

@@ -1,0 +1,3 @@
+pub mod Laws
+pub mod Numerals
+pub mod Reader
