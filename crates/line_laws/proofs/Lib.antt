@@ -1,0 +1,5 @@
+mod Counting
+mod Leading
+mod NoSteps
+mod Ours
+mod Spent

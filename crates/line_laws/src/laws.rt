@@ -1,0 +1,20 @@
+//! Laws of lines. Each function does nothing; what it ensures is the law.
+
+ghost use Rattle.line_laws.specs.Counted.{MachineStepsAreCounted, MeantStepsAreCounted, PointsAreTold};
+
+/// A line has a point for its first look, and one more for each look in its middle.
+pub fn points_are_told()
+    ensures { PointsAreTold }
+{}
+
+/// A call of the machine ends with `steps` exactly where it has taken four times `fuel` steps, an answer of the run
+/// time counted as one, and is not over.
+pub fn machine_steps_are_counted()
+    ensures { MachineStepsAreCounted }
+{}
+
+/// A call of the meaning is unclean for `steps` exactly where it has taken `fuel` steps, is not over, and its next step
+/// has no other cause.
+pub fn meant_steps_are_counted()
+    ensures { MeantStepsAreCounted }
+{}
