@@ -3,3 +3,5 @@ mod Leading
 mod NoSteps
 mod Ours
 mod Spent
+mod Histories
+mod Accounts

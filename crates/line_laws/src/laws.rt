@@ -1,6 +1,7 @@
 //! Laws of lines. Each function does nothing; what it ensures is the law.
 
 ghost use Rattle.line_laws.specs.Counted.{MachineStepsAreCounted, MeantStepsAreCounted, PointsAreTold};
+ghost use Rattle.line_laws.specs.Histories.{ClosesAreRuled, HistoriesHaveAccounts, OpensAreRuled};
 
 /// A line has a point for its first look, and one more for each look in its middle.
 pub fn points_are_told()
@@ -17,4 +18,19 @@ pub fn machine_steps_are_counted()
 /// has no other cause.
 pub fn meant_steps_are_counted()
     ensures { MeantStepsAreCounted }
+{}
+
+/// Each legal history has an account: how many instances were made, and how far static blocks reach, after each event.
+pub fn histories_have_accounts()
+    ensures { HistoriesHaveAccounts }
+{}
+
+/// An open is refused exactly where the rule of histories says, for the first reason in its order.
+pub fn opens_are_ruled()
+    ensures { OpensAreRuled }
+{}
+
+/// So is a close.
+pub fn closes_are_ruled()
+    ensures { ClosesAreRuled }
 {}
