@@ -29,7 +29,7 @@ limit_along : (p : Past) (events : List Event) → (after p events).limit ≡ p.
 limit_along p [] = refl
 limit_along p (e ∷ es) = limit_along (after_one p e) es ∙ limit_stays p e
 
-limit_is : (infos : List ImageInfo) (last : ℕ) (events : List Event) → (past infos last events).limit ≡ last + 4096
+pub limit_is : (infos : List ImageInfo) (last : ℕ) (events : List Event) → (past infos last events).limit ≡ last + 4096
 unfolding past start
 limit_is infos last events = limit_along (start infos last) events
 

@@ -101,10 +101,10 @@ module _ (infos : List ImageInfo) (last : ℕ) (events : List Event) (legal : Is
           absurd cc
       of (Some info) at first = (info, (at, ap f (sym (info_is image info at)) ∙ holds))
 
-  late_of : (image : ℕ) → (state image).info.late ≡ true → ComesLate infos image
+  pub late_of : (image : ℕ) → (state image).info.late ≡ true → ComesLate infos image
   late_of image t = known image (λ info. info.late) refl t
 
-  of_late : (image : ℕ) → ComesLate infos image → (state image).info.late ≡ true
+  pub of_late : (image : ℕ) → ComesLate infos image → (state image).info.late ≡ true
   of_late image late = ap (λ (info : ImageInfo). info.late) (info_is image late.0 late.1.0) ∙ late.1.1
 
   pub static_of : (image : ℕ) → (state image).info.statics ≡ true → IsStatic infos image

@@ -5,3 +5,5 @@ mod Ours
 mod Spent
 mod Histories
 mod Accounts
+mod Blocks
+mod FirstLooks

@@ -2,6 +2,7 @@
 
 ghost use Rattle.line_laws.specs.Counted.{MachineStepsAreCounted, MeantStepsAreCounted, PointsAreTold};
 ghost use Rattle.line_laws.specs.Histories.{ClosesAreRuled, HistoriesHaveAccounts, OpensAreRuled};
+ghost use Rattle.line_laws.specs.Printed.{FirstLooksAreRuled};
 
 /// A line has a point for its first look, and one more for each look in its middle.
 pub fn points_are_told()
@@ -33,4 +34,10 @@ pub fn opens_are_ruled()
 /// So is a close.
 pub fn closes_are_ruled()
     ensures { ClosesAreRuled }
+{}
+
+/// An open prints the registry's answer, and so does a close; a call and a peek are refused for the first reason in
+/// their order.
+pub fn first_looks_are_ruled()
+    ensures { FirstLooksAreRuled }
 {}
