@@ -1,19 +1,16 @@
 -- Each legal history has one account, which the walk along its events keeps.
-use Rattle.std.proofs.Common.{◌≡◌, ◌↔◌, ◌⊎◌, ◌∙◌, ◌+◌, ◌<◌, ◌≤◌, ◌++◌, ℕ, zero, suc, Bool, true, false, List, [], ◌∷◌, get_or, length, take, Option, Some, None, refl, sym, ap, subst, inl, inr, arith}
-use Rattle.std.specs.Prelude.{◌&&◌, drop, not, slice_get, unwrap_or, if◌then◌else◌}
-use Rattle.std.proofs.lemmas.Bool.{cases_Bool, and_from, and_parts}
+use Rattle.std.proofs.Common.{◌≡◌, ◌∙◌, ◌+◌, ◌≤◌, ◌++◌, ℕ, zero, suc, Bool, true, false, List, [], ◌∷◌, get_or, length, take, Some, None, refl, sym, ap, subst, inl, inr, arith}
+use Rattle.std.specs.Prelude.{◌&&◌, not, slice_get, unwrap_or, if◌then◌else◌}
+use Rattle.std.proofs.lemmas.Bool.{cases_Bool, and_parts}
 use Rattle.std.proofs.lemmas.List.{take_all, take_more}
 use Rattle.std.proofs.lemmas.Option.{get_or_from_slice_get, slice_get-get_or, slice_get_within}
-use Rattle.module_table.specs.declared.TheConstants.{SURPLUS}
 use Rattle.module_table.specs.declared.modules.ImageInfo.{ImageInfo}
 use Rattle.module_table.specs.declared.events.Event.{Event}
-use Rattle.module_table.specs.declared.events.OpenRefusal.{OpenRefusal}
 use Rattle.module_table.specs.History.{IsLegal}
-use Rattle.module_table.specs.Laws as laws
 use Rattle.module_table.specs.Modules.{is_loaded}
-use Rattle.module_table.specs.Past.{Past, after, after_one, loaded, module_of, next_offset, open_refusal, opened, past, released, retained, start}
+use Rattle.module_table.specs.Past.{Past, after, after_one, loaded, module_of, next_offset, opened, past, released, retained, start}
 use Rattle.module_table.specs.Walks.{legal_front, past-append}
-use Rattle.line_laws.specs.Histories.{HistoriesHaveAccounts, IsAccount, IsGone, IsNextBlock, IsOpenAnswer, IsStatic, Loads, OpensAreRuled}
+use Rattle.line_laws.specs.Histories.{HistoriesHaveAccounts, IsAccount, IsNextBlock, IsStatic, Loads, OpensAreRuled}
 use Rattle.line_laws.proofs.Histories.{gone_of, next_block, of_gone, of_static, one_block, open_ruled, static_of}
 
 -- ** one event more

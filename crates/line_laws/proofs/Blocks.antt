@@ -1,6 +1,6 @@
 -- A peek reaches the block that the thread held, or a fresh one.
-use Rattle.std.proofs.Common.{◌≡◌, ◌⊎◌, ◌∙◌, ◌++◌, ◌<◌, ℕ, zero, suc, arith, Bool, true, false, List, [], ◌∷◌, Option, Some, None, refl, sym, ap, subst, inl, inr, append-nil, append_assoc}
-use Rattle.std.specs.Prelude.{◌==◌, All, is_some, option_map, unwrap_or, if◌then◌else◌}
+use Rattle.std.proofs.Common.{◌≡◌, ◌∙◌, ◌++◌, ℕ, suc, arith, Bool, true, false, List, [], ◌∷◌, Option, Some, None, refl, sym, ap, subst, inl, inr, append-nil, append_assoc}
+use Rattle.std.specs.Prelude.{◌==◌, All, is_some, unwrap_or}
 use Rattle.std.specs.List.{find, flat_map}
 use Rattle.std.specs.Option.{option_or}
 use Rattle.std.proofs.lemmas.Bool.{cases_Bool, eqb-true, eq-eqb}
@@ -8,7 +8,7 @@ use Rattle.guest_machine.specs.Ranges.{Range}
 use Rattle.loaded_modules.specs.declared.instance.Instance.{Instance}
 use Rattle.module_table.specs.declared.events.Event.{Event}
 use Rattle.module_table.specs.History.{IsLegal}
-use Rattle.thread_blocks.specs.Held.{Held, Owned, Owner, block_after, block_bytes, block_with, data_after, data_with, fresh_if, held_of, is_block_of, looked, looked_at, owned, owned_by, owners_of, ranges_in, reached, reached_at}
+use Rattle.thread_blocks.specs.Held.{Held, Owned, block_after, block_bytes, block_with, data_after, data_with, fresh_if, held_of, looked, looked_at, owned, owned_by, owners_of, ranges_in, reached, reached_at}
 use Rattle.thread_blocks.specs.Instances.{Loads, instance_at, instances, numbered_instance}
 use Rattle.thread_blocks.specs.TurnsAlike.{IsFront}
 use Rattle.known_instances.proofs.Known.{numbered_at_image}

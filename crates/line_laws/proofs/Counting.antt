@@ -1,9 +1,9 @@
 -- How a line's turns count its steps, and its looks.
-use Rattle.std.proofs.Common.{◌≡◌, ◌⊎◌, ◌+◌, ◌-◌, ◌++◌, ◌≤◌, ℕ, zero, suc, List, [], ◌∷◌, length, map, Option, Some, None, refl, sym, ap, subst, ◌∙◌, inl, inr, arith, append_assoc, append-nil}
+use Rattle.std.proofs.Common.{◌≡◌, ◌-◌, ◌++◌, ℕ, List, [], ◌∷◌, length, map, refl, sym, ap, subst, ◌∙◌, append_assoc, append-nil}
 use Rattle.guest_operands.specs.declared.stop.Stop.{Stop}
-use Rattle.guest_machine.specs.Run.{Ended, Ends, Goes, Looks, Next, Outcome, Stepping, Waits, go_on, over_or, run}
-use Rattle.thread_blocks.specs.Turns.{Begun, Calls, Ending, Answered, Idle, Mid, Phase, Said, Says, Stopped, Thread, Turns, after_look, after_run, over_with, turn, turn_at, turns, with_last}
-use Rattle.line_laws.specs.Counted.{EndsSo, HasTaken, IsSaid, Leads, PointsAreLooks, PointsAreTold, StepsTo, before}
+use Rattle.guest_machine.specs.Run.{Ended, Outcome, Waits, run}
+use Rattle.thread_blocks.specs.Turns.{Begun, Calls, Ending, Mid, Said, Says, Stopped, Thread, Turns, after_look, after_run, turn, turn_at, turns, with_last}
+use Rattle.line_laws.specs.Counted.{IsSaid, PointsAreLooks, PointsAreTold, before}
 
 no_longer : {X : Type 0} (xs : List X) (x : X) → xs ++ x ∷ [] ≡ xs → ⊥
 no_longer [] x e = cc

@@ -1,40 +1,38 @@
 -- A line's first look prints what the rule says.
-use Rattle.std.proofs.Common.{◌≡◌, ◌↔◌, ◌⊎◌, ◌∙◌, ◌+◌, ◌<◌, ◌≤◌, ◌++◌, ℕ, Bool, true, false, List, [], ◌∷◌, length, get_or, Option, Some, None, Result, Ok, Err, refl, sym, ap, subst, inl, inr, arith}
-use Rattle.std.specs.Prelude.{is_none, nat_le, nat_lt, slice_range, unwrap_or, if◌then◌else◌}
-use Rattle.std.proofs.lemmas.Bool.{cases_Bool, lt-ltb, leb-true, leb-false, le-leb}
+use Rattle.std.proofs.Common.{◌≡◌, ◌∙◌, ◌+◌, ◌<◌, ◌≤◌, ℕ, Bool, true, false, List, [], ◌∷◌, length, Option, Some, None, refl, sym, ap, subst, inl, inr, arith}
+use Rattle.std.specs.Prelude.{nat_le, slice_range, unwrap_or, if◌then◌else◌}
+use Rattle.std.proofs.lemmas.Bool.{cases_Bool, lt-ltb, leb-true, leb-false}
 use Rattle.std.proofs.lemmas.List.{get_or-set_same}
 use Rattle.guest_arithmetic.specs.Plain.{plain_operations}
 use Rattle.guest_arithmetic.specs.Values.{Operations}
 use Rattle.job_meaning.specs.declared.values.Byte.{Byte}
 use Rattle.job_meaning.specs.Marked.{values_of}
 use Rattle.job_text.specs.declared.thread_lines.Action.{Action}
-use Rattle.job_text.specs.declared.thread_lines.Action.TheVariants.{Call, Open, Close, Peek}
+use Rattle.job_text.specs.declared.thread_lines.Action.TheVariants.{Open, Close}
 use Rattle.loaded_modules.specs.declared.instance.Instance.{Instance}
 use Rattle.module_table.specs.declared.events.CloseRefusal.{CloseRefusal}
 use Rattle.module_table.specs.declared.events.CloseRefusal.TheVariants.{Permanent, NotOpen, OutOfMemory as NoRoomToClose}
 use Rattle.module_table.specs.declared.events.Event.{Event}
 use Rattle.module_table.specs.declared.events.OpenRefusal.{OpenRefusal}
 use Rattle.module_table.specs.declared.events.OpenRefusal.TheVariants.{Unknown, Full, StaticFull, OutOfMemory as NoRoomToOpen}
-use Rattle.module_table.specs.declared.modules.Module.{Module}
-use Rattle.module_table.specs.History.{History, IsLegal, close_answer, closed_of, left, open_answer, opened_of, unless}
+use Rattle.module_table.specs.History.{IsLegal, close_answer, closed_of, left, open_answer, opened_of, unless}
 use Rattle.module_table.specs.Modules.{is_loaded, no_module}
-use Rattle.module_table.specs.Past.{Past, after_one, close_refusal, loaded, module_of, new_instance, open_refusal, opened, past, released, retained}
+use Rattle.module_table.specs.Past.{Past, after_one, close_refusal, loaded, module_of, new_instance, open_refusal, opened, retained}
 use Rattle.module_table.specs.Walks.{past-append}
 use Rattle.module_table.proofs.Along.{past_legal}
 use Rattle.module_table.proofs.Steps.{late_within}
 use Rattle.transcript_text.specs.declared.outcomes.LineRefusal.{LineRefusal}
 use Rattle.transcript_text.specs.declared.outcomes.LineRefusal.TheVariants as refused
-use Rattle.transcript_text.specs.declared.outcomes.Outcome.{Outcome}
 use Rattle.transcript_text.specs.declared.outcomes.Outcome.TheVariants.{Opened, Closed, Refused, Bytes}
 use Rattle.thread_blocks.specs.Held.{Held, block_bytes, looked, owned_by, reached}
 use Rattle.thread_blocks.specs.Instances.{Loads, instance_at, left_by, loaded_instance}
-use Rattle.thread_blocks.specs.Lines.{Line, begin_line, begun_at, begun_by, begun_close, begun_in, begun_open, begun_peek, event_by, opened_as, shown_from, shown_in, unless_refused}
-use Rattle.thread_blocks.specs.RunTime.{Runs, shows, thread_turns}
-use Rattle.thread_blocks.specs.Turns.{Answered, Begun, Calls, Ending, Says, Stopped, with_last}
+use Rattle.thread_blocks.specs.Lines.{Line, begin_line, begun_at, begun_by, begun_close, begun_in, begun_open, begun_peek, event_by, opened_as, shown_from, unless_refused}
+use Rattle.thread_blocks.specs.RunTime.{shows, thread_turns}
+use Rattle.thread_blocks.specs.Turns.{Answered, Begun, Calls, Ending, Says, with_last}
 use Rattle.whole_meaning.specs.Meanings.{Meaning}
-use Rattle.whole_meaning.specs.Threads.{Meant, begin_meant, meant_show, meant_turns, ops, shown_as}
+use Rattle.whole_meaning.specs.Threads.{begin_meant, meant_show, meant_turns, ops, shown_as}
 use Rattle.line_laws.specs.Histories.{IsGone, IsLive}
-use Rattle.line_laws.specs.Printed.{FirstLooksAreRuled, IsAdded, IsBlock, IsCall, IsFirstLook, IsFound, IsOfClose, IsOfOpen, IsPeek, Prints, PrintsClose, PrintsOpen, Refuses, registry}
+use Rattle.line_laws.specs.Printed.{FirstLooksAreRuled, IsBlock, IsCall, IsFirstLook, IsFound, IsPeek, PrintsClose, PrintsOpen, Refuses, registry}
 use Rattle.line_laws.proofs.Accounts.{limit_is}
 use Rattle.line_laws.proofs.Blocks.{block_is}
 use Rattle.line_laws.proofs.Histories.{close_ruled, gone_of, live_of, of_late, open_ruled}
@@ -201,16 +199,22 @@ module _ {W F B : Type 0} (values : Operations W F B) (l : Loads B) (show : List
       → (place : Option ℕ) → l.function x symbol ≡ place
       → IsCall l line seen (begun_at values l show thread symbol a b c now place) symbol
   call_at symbol a b c x e None f = record {
-    not_open = (λ r. absurd (let same = another refused.Symbol refused.NotOpen now refl r in cc),
-        λ gone. absurd (gone (some_live l seen legal line.told.image x e)));
+    not_open = (
+      λ r. absurd (let same = another refused.Symbol refused.NotOpen now refl r in cc),
+      λ gone. absurd (gone (some_live l seen legal line.told.image x e)),
+    );
     no_symbol = (λ r. (x, (e, f)), λ s. (now, refl));
-    begins = (λ r. absurd (not_begun (Answered (Refused refused.Symbol)) now r.0 refl r.1),
-        λ s. absurd (none_some f (subst (λ (y : Instance). l.function y symbol ≡ Some s.1.0) (some_is s.1.1.0 e) s.1.1.1)));
+    begins = (
+      λ r. absurd (not_begun (Answered (Refused refused.Symbol)) now r.0 refl r.1),
+      λ s. absurd (none_some f (subst (λ (y : Instance). l.function y symbol ≡ Some s.1.0) (some_is s.1.1.0 e) s.1.1.1)),
+    );
   }
   call_at symbol a b c x e (Some place) f = record {
     not_open = (λ r. absurd (not_begun _ r.0 _ r.1 refl), λ gone. absurd (gone (some_live l seen legal line.told.image x e)));
-    no_symbol = (λ r. absurd (not_begun _ r.0 _ r.1 refl),
-        λ s. absurd (none_some (subst (λ (y : Instance). l.function y symbol ≡ None) (some_is s.1.0 e) s.1.1) f));
+    no_symbol = (
+      λ r. absurd (not_begun _ r.0 _ r.1 refl),
+      λ s. absurd (none_some (subst (λ (y : Instance). l.function y symbol ≡ None) (some_is s.1.0 e) s.1.1) f),
+    );
     begins = (λ r. (x, (place, (e, f))), λ s. (_, refl));
   }
 
@@ -263,11 +267,27 @@ module _ {W F B : Type 0} (values : Operations W F B) (l : Loads B) (show : List
           let low = leb-true (offset + size) (length bytes) fits in
           absurd (omega (arith, more, same_offset, same_length, low))
   peek_in symbol size h x e offset v bytes block false fits = record {
-    not_open = (λ r. absurd (let same = another refused.Length refused.NotOpen h refl r in cc),
-        λ gone. absurd (gone (some_live l seen legal line.told.image x e)));
+    not_open = (
+      λ r. absurd (let same = another refused.Length refused.NotOpen h refl r in cc),
+      λ gone. absurd (gone (some_live l seen legal line.told.image x e)),
+    );
     no_symbol = (λ r. absurd (let same = another refused.Length refused.Symbol h refl r in cc), λ s. absurd (none_some s.1 v));
-    too_long = (λ r. (x, (offset, (bytes, (record { current = e; found = v; block = block },
-        leb-false (offset + size) (length bytes) fits)))), λ s. (h, refl));
+    too_long = (
+      λ r. (
+        x,
+        (
+          offset,
+          (
+            bytes,
+            (
+              record { current = e; found = v; block = block },
+              leb-false (offset + size) (length bytes) fits,
+            ),
+          ),
+        ),
+      ),
+      λ s. (h, refl),
+    );
     shown = λ y o b is low. absurd (long y o b is low);
   }
     where
@@ -285,11 +305,15 @@ module _ {W F B : Type 0} (values : Operations W F B) (l : Loads B) (show : List
       → (o : Option ℕ) → l.variable line.told.image symbol ≡ o
       → IsPeek l line seen (shown_from values l show thread (reached l thread x now) size x o) show held symbol size
   peek_from symbol size x e None v = record {
-    not_open = (λ r. absurd (let same = another refused.Symbol refused.NotOpen (reached l thread x now) refl r in cc),
-        λ gone. absurd (gone (some_live l seen legal line.told.image x e)));
+    not_open = (
+      λ r. absurd (let same = another refused.Symbol refused.NotOpen (reached l thread x now) refl r in cc),
+      λ gone. absurd (gone (some_live l seen legal line.told.image x e)),
+    );
     no_symbol = (λ r. (some_live l seen legal line.told.image x e, v), λ s. (_, refl));
-    too_long = (λ r. absurd (let same = another refused.Symbol refused.Length (reached l thread x now) refl r in cc),
-        λ s. absurd (none_some v s.1.1.1.0.found));
+    too_long = (
+      λ r. absurd (let same = another refused.Symbol refused.Length (reached l thread x now) refl r in cc),
+      λ s. absurd (none_some v s.1.1.1.0.found),
+    );
     shown = λ y o b is low. absurd (none_some v is.found);
   }
   peek_from symbol size x e (Some offset) v =
@@ -302,10 +326,14 @@ module _ {W F B : Type 0} (values : Operations W F B) (l : Loads B) (show : List
       → IsPeek l line seen (begun_peek values l show thread line symbol size now o) show held symbol size
   peek_so symbol size None e = record {
     not_open = (λ r. none_gone l seen legal line.told.image e, λ gone. (now, refl));
-    no_symbol = (λ r. absurd (let same = another refused.NotOpen refused.Symbol now refl r in cc),
-        λ s. absurd (none_gone l seen legal line.told.image e s.0));
-    too_long = (λ r. absurd (let same = another refused.NotOpen refused.Length now refl r in cc),
-        λ s. absurd (none_some e s.1.1.1.0.current));
+    no_symbol = (
+      λ r. absurd (let same = another refused.NotOpen refused.Symbol now refl r in cc),
+      λ s. absurd (none_gone l seen legal line.told.image e s.0),
+    );
+    too_long = (
+      λ r. absurd (let same = another refused.NotOpen refused.Length now refl r in cc),
+      λ s. absurd (none_some e s.1.1.1.0.current),
+    );
     shown = λ y o b is low. absurd (none_some e is.current);
   }
   peek_so symbol size (Some x) e = peek_from symbol size x e (l.variable line.told.image symbol) refl

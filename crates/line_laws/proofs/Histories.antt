@@ -1,12 +1,10 @@
 -- What a walk along the events keeps of each image is what counting finds.
-use Rattle.std.proofs.Common.{◌≡◌, ◌↔◌, ◌⊎◌, ◌∙◌, ◌+◌, ◌*◌, ◌<◌, ◌≤◌, ◌++◌, ◌^◌, ℕ, zero, suc, Bool, true, false, List, [], ◌∷◌, get_or, length, take, Option, Some, None, refl, sym, ap, subst, inl, inr, arith}
-use Rattle.std.specs.Prelude.{◌&&◌, not, nat_le, nat_lt, slice_get, unwrap_or, if◌then◌else◌}
-use Rattle.std.specs.Int.{next_multiple_of}
+use Rattle.std.proofs.Common.{◌≡◌, ◌↔◌, ◌⊎◌, ◌∙◌, ◌+◌, ◌*◌, ◌<◌, ◌≤◌, ℕ, zero, suc, Bool, true, false, List, [], ◌∷◌, get_or, Option, Some, None, refl, sym, ap, subst, inl, inr, arith}
+use Rattle.std.specs.Prelude.{◌&&◌, not, nat_le, nat_lt, slice_get, if◌then◌else◌}
 use Rattle.std.proofs.lemmas.Bool.{cases_Bool, lt-ltb, ltb-true, ltb-false, leb-true, leb-false, and_parts}
-use Rattle.std.proofs.lemmas.List.{take_more}
-use Rattle.std.proofs.lemmas.Option.{get_or_from_slice_get, slice_get-get_or, slice_get_within}
+use Rattle.std.proofs.lemmas.Option.{slice_get-get_or}
 use Rattle.job_text.specs.Numbering.{at_number}
-use Rattle.module_table.specs.declared.TheConstants.{MOST_INSTANCES, SURPLUS}
+use Rattle.module_table.specs.declared.TheConstants.{MOST_INSTANCES}
 use Rattle.module_table.specs.declared.modules.ImageInfo.{ImageInfo}
 use Rattle.module_table.specs.declared.modules.Module.{Module}
 use Rattle.module_table.specs.declared.events.Event.{Event}
@@ -15,11 +13,8 @@ use Rattle.module_table.specs.declared.events.CloseRefusal.TheVariants.{Permanen
 use Rattle.module_table.specs.declared.events.OpenRefusal.{OpenRefusal}
 use Rattle.module_table.specs.declared.events.OpenRefusal.TheVariants.{Unknown, Full, StaticFull, OutOfMemory as NoRoomToOpen}
 use Rattle.module_table.specs.History.{IsLegal}
-use Rattle.module_table.specs.Laws as laws
-use Rattle.module_table.specs.Laws.{closes_of, opens_of}
-use Rattle.module_table.specs.Modules.{IsInfo, is_loaded, is_permanent, no_module}
-use Rattle.module_table.specs.Past.{Past, after, after_one, close_refusal, first_module, first_modules, is_legal, loaded, module_of, next_offset, open_refusal, opened, past, released, retained, start}
-use Rattle.module_table.specs.Walks.{legal_front, past-append}
+use Rattle.module_table.specs.Modules.{is_loaded, is_permanent, no_module}
+use Rattle.module_table.specs.Past.{Past, close_refusal, first_module, first_modules, module_of, next_offset, open_refusal, past, start}
 use Rattle.module_table.proofs.Along.{past_legal}
 use Rattle.module_table.proofs.Infos.{info_of}
 use Rattle.module_table.proofs.LawsOfNumbers.{balances}
@@ -29,7 +24,7 @@ use Rattle.known_instances.proofs.Placed.{is_image}
 use Rattle.known_instances.proofs.Startup.{startup_kept}
 use Rattle.tls_layout.specs.Rounding.{round_up}
 use Rattle.tls_layout.proofs.Rounds.{least_multiple}
-use Rattle.line_laws.specs.Histories.{ClosesAreRuled, ComesLate, HistoriesHaveAccounts, IsAccount, IsBeyond, IsCloseAnswer, IsGone, IsLive, IsNextBlock, IsOpenAnswer, IsStatic, IsWithin, Loads, OpensAreRuled, Starts}
+use Rattle.line_laws.specs.Histories.{ClosesAreRuled, ComesLate, IsBeyond, IsCloseAnswer, IsGone, IsLive, IsNextBlock, IsOpenAnswer, IsStatic, IsWithin, Starts}
 
 -- ** images before any event
 
@@ -298,10 +293,22 @@ module _ (infos : List ImageInfo) (last : ℕ) (events : List Event) (legal : Is
       static_of image s,
       (next_offset (past infos last events) (state image), (placed image (static_of image s), rw (← full_is) (ltb-true _ _ r))),
     )
-    open_given image true false false true false l h f s r = (late_of image l, inr (leb-false 4095 _ f, λ is.
-        (next_offset (past infos last events) (state image), (placed image is, rw (← full_is) (ltb-false _ _ r)))))
-    open_given image true false false false lacks l h f s r = (late_of image l, inr (leb-false 4095 _ f, λ is.
-        let t = of_static image is in absurd cc))
+    open_given image true false false true false l h f s r = (
+      late_of image l,
+      inr (
+        leb-false 4095 _ f,
+        λ is.
+            (next_offset (past infos last events) (state image), (placed image is, rw (← full_is) (ltb-false _ _ r))),
+      ),
+    )
+    open_given image true false false false lacks l h f s r = (
+      late_of image l,
+      inr (
+        leb-false 4095 _ f,
+        λ is.
+            let t = of_static image is in absurd cc,
+      ),
+    )
 
     open_found : (image : ℕ) → answers image (open_refusal (past infos last events) image)
     unfolding open_refusal open_pick

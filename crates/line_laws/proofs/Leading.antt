@@ -1,10 +1,10 @@
 -- Which steps a line has taken when its steps are spent, and what it says then.
-use Rattle.std.proofs.Common.{◌≡◌, ◌⊎◌, ◌+◌, ◌-◌, ◌++◌, ◌≤◌, ℕ, zero, suc, List, [], ◌∷◌, length, map, Option, Some, None, refl, sym, ap, subst, ◌∙◌, inl, inr, arith, append_assoc, append-nil}
+use Rattle.std.proofs.Common.{◌≡◌, ◌+◌, ◌-◌, ◌++◌, ◌≤◌, ℕ, zero, suc, List, [], ◌∷◌, length, map, Option, Some, None, refl, sym, ap, subst, ◌∙◌, inl, inr, arith, append_assoc, append-nil}
 use Rattle.guest_operands.specs.declared.stop.Stop.{Stop}
-use Rattle.guest_machine.specs.Run.{Ended, Ends, Goes, Looks, Next, Outcome, Stepping, Waits, go_on, over_or, run}
-use Rattle.thread_blocks.specs.Turns.{Begun, Calls, Ending, Answered, Idle, Mid, Phase, Said, Says, Stopped, Thread, Turns, after_look, after_run, over_with, turn, turn_at, turns, with_last}
-use Rattle.line_laws.specs.Counted.{EndsSo, HasTaken, IsSaid, Leads, StepsTo, before}
-use Rattle.line_laws.proofs.Counting.{AtLook, AtStep, IsOn, IsOver, Still, begun_still, is_on, is_over, look_points, turn_mid}
+use Rattle.guest_machine.specs.Run.{Ended, Ends, Goes, Looks, Next, Waits, go_on, over_or, run}
+use Rattle.thread_blocks.specs.Turns.{Begun, Calls, Ending, Mid, Said, Says, Stopped, Thread, Turns, after_look, turn, turn_at, turns, with_last}
+use Rattle.line_laws.specs.Counted.{EndsSo, HasTaken, Leads, before}
+use Rattle.line_laws.proofs.Counting.{AtLook, AtStep, IsOver, Still, begun_still, is_on, is_over, turn_mid}
 
 not_empty : {X : Type 0} (x : X) (xs : List X) → [] ≡ x ∷ xs → ⊥
 not_empty x xs e = cc

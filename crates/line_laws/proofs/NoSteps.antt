@@ -1,5 +1,5 @@
 -- No step stops for want of steps: of a machine with any values, none stops with `steps`, and none is unclean for it.
-use Rattle.std.proofs.Common.{ℕ, zero, suc, Bool, true, false, not, Option, Some, None, Result, Ok, Err}
+use Rattle.std.proofs.Common.{ℕ, Bool, true, false, not, Option, Some, None, Result, Ok, Err}
 use Rattle.std.specs.Prelude.{◌-◌, ◌^◌, nat_le, if◌then◌else◌}
 use Rattle.amd64_words.specs.declared.register.Register.{Register}
 use Rattle.amd64_subset.specs.declared.instr.Width.{Width}
@@ -34,20 +34,15 @@ use Rattle.guest_operands.specs.declared.state.Registers.{Registers}
 use Rattle.guest_operands.specs.declared.state.State.{State}
 use Rattle.guest_operands.specs.declared.stop.Stop.{Stop}
 use Rattle.guest_operands.specs.declared.stop.Stop.TheVariants.{Returned, Look, Address, Code, Unclean, Steps}
-use Rattle.guest_operands.specs.declared.space.Access.TheVariants.{Read, Write}
-use Rattle.guest_operands.specs.Access.{Refusal, Refused, Shut, Accesses, next_place, both_reached, reached, cons, bytes_from, bytes_at, all_write, put_all, load_of, store_of, fetch_of}
+use Rattle.guest_operands.specs.Access.{Refusal, Refused, Shut, Accesses, load_of, store_of, fetch_of}
 use Rattle.guest_arithmetic.specs.Flags.{is_less, is_less_or_equal, is_below_or_equal, condition_of}
 use Rattle.guest_arithmetic.specs.Cause.{both, cause_with, first_cause, rank_of, used}
 use Rattle.guest_operands.specs.Operand.{size_of, charged, unmoved, moved_by, base_of, index_of, address_of, number_at, carried, weighed, taken_at, taken, put}
-use Rattle.guest_arithmetic.specs.Plain.{plain_operations}
-use Rattle.guest_operands.specs.Ranges.{byte_in, range_accesses, is_field_of}
-use Rattle.guest_machine.specs.Run.{Next, Goes, Ends, Looks, Outcome, run, over_or, go_on, next_of, returned, is_look, machine, stop_of}
 use Rattle.guest_operands.specs.Frame.{frame_of}
 use Rattle.guest_machine.specs.Step.{immediate_of, is_cleared, nop_use, finished, concluded, move_in, stored, store_byte, move_number, move_of, extend_byte, extend_long, load_address, compute_in}
 use Rattle.guest_machine.specs.Step.{compute_out, add_field, compute_plain, compute_number, compute_of, test_of, multiply_of, shift_of, pushed, push_of, pop_of, leave_of, return_of, call_of, jump_of}
 use Rattle.guest_machine.specs.Step.{jump_if, nop_of, act, act_if, step_of}
-use Rattle.guest_operands.specs.State.{with_stack}
-use Rattle.guest_operands.specs.Use.{◌>>=◌, clean, there, After, left, plus}
+use Rattle.guest_operands.specs.Use.{◌>>=◌, clean, there, plus}
 use Rattle.guest_arithmetic.specs.Values.{Operations}
 
 -- a cause that a step may have by itself

@@ -1,15 +1,13 @@
 -- In the machine and in the meaning no step, no look and no return stops for want of steps.
-use Rattle.std.proofs.Common.{◌≡◌, ◌++◌, ℕ, zero, suc, ◌+◌, ◌-◌, Bool, true, false, List, Option, Some, None, Result, Ok, Err, refl, sym, ap, subst, ◌∙◌}
-use Rattle.std.specs.Prelude.{◌*◌, ◌%◌, ◌^◌, ◌&&◌, ◌==◌, take, length, nat_le, nat_lt, is_none, option_map, slice_range, unwrap_or, if◌then◌else◌}
-use Rattle.std.specs.List.{list_all, list_any}
+use Rattle.std.proofs.Common.{◌≡◌, ℕ, zero, suc, ◌+◌, ◌-◌, Bool, true, false, List, Option, Some, None, Result, Ok, Err, subst}
+use Rattle.std.specs.Prelude.{◌%◌, ◌^◌, ◌&&◌, ◌==◌, take, length, nat_le, is_none, option_map, unwrap_or, if◌then◌else◌}
+use Rattle.std.specs.List.{list_all}
 use Rattle.std.specs.Option.{option_or}
 use Rattle.address_map.specs.Map.{owner_at}
 use Rattle.amd64_subset.specs.Beginning.{begins_of}
-use Rattle.amd64_subset.specs.Decoding.{decoded}
 use Rattle.amd64_subset.specs.declared.instr.Decoded.{Decoded}
 use Rattle.guest_arithmetic.specs.declared.cause.Cause.{Cause}
 use Rattle.guest_arithmetic.specs.declared.cause.Cause.TheVariants as cause
-use Rattle.guest_arithmetic.specs.Cause.{first_cause}
 use Rattle.guest_arithmetic.specs.Plain.{plain_operations}
 use Rattle.guest_arithmetic.specs.Values.{Operations}
 use Rattle.guest_operands.specs.declared.state.State.{State}
@@ -17,13 +15,11 @@ use Rattle.guest_operands.specs.declared.stop.Stop.{Stop}
 use Rattle.guest_operands.specs.declared.stop.Stop.TheVariants.{Returned, Look, Address, Code, Unclean, Steps}
 use Rattle.guest_operands.specs.Access.{Accesses, fetch_of}
 use Rattle.guest_operands.specs.State.{register_of}
-use Rattle.guest_operands.specs.Use.{◌>>=◌, After, clean, left, plus}
+use Rattle.guest_operands.specs.Use.{◌>>=◌, After, plus}
 use Rattle.guest_machine.specs.Machine.{with_answer}
 use Rattle.guest_machine.specs.Run.{Ends, Goes, Looks, Next, is_look, machine, next_of, returned}
-use Rattle.guest_machine.specs.Step.{step_of}
 use Rattle.guest_machine.specs.Touch.{places_from}
 use Rattle.job_meaning.specs.declared.values.Byte.{Byte}
-use Rattle.job_meaning.specs.declared.values.Byte.TheVariants.{Value, Hidden, Part}
 use Rattle.job_meaning.specs.declared.values.Flag.{Flag}
 use Rattle.job_meaning.specs.declared.values.Flag.TheVariants.{Truth, Unsettled}
 use Rattle.job_meaning.specs.declared.values.Token.TheVariants.{Base, Descriptor}
@@ -53,9 +49,9 @@ use Rattle.whole_meaning.specs.declared.marks.Mark.TheVariants.{Usual, Offset, A
 use Rattle.whole_meaning.specs.declared.sequences.Sequence.{Sequence}
 use Rattle.whole_meaning.specs.Fields.{address_at, lent, lent_frame, marked_frame, takes_address, takes_offset}
 use Rattle.whole_meaning.specs.Meanings.{Meaning}
-use Rattle.whole_meaning.specs.Reading.{done, first_hindrance, hindered, hindrance, hindrance_of, marked_step, plain_step, reaches_linker, unless_taken}
+use Rattle.whole_meaning.specs.Reading.{done, first_hindrance, hindered, hindrance, hindrance_of, marked_step, plain_step, reaches_linker}
 use Rattle.whole_meaning.specs.Running.{meaning, sequence_or}
-use Rattle.whole_meaning.specs.Sequences.{Stack, descriptor_use, does, has_room, looks_first, room_below, sequence_result, stack_use}
+use Rattle.whole_meaning.specs.Sequences.{Stack, descriptor_use, does, looks_first, room_below, sequence_result, stack_use}
 use Rattle.whole_meaning.specs.Threads as threads
 use Rattle.whole_meaning.specs.Threads.{Meant, Memory, begin_meant, byte_cause, code_owner, held_next, meant_accesses, meant_mark, meant_sequence, meant_show, meant_shut, meant_stack, meant_steps, meant_turns, ops, resume_meant, resumed_at, resumed_for, sequence_at, sequence_does, sequence_next, shown_as, unclean_bytes, unclean_for}
 use Rattle.line_laws.proofs.Leading.{IsSpentAlone}

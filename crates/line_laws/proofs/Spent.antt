@@ -1,19 +1,17 @@
 -- A call ends for want of steps exactly where it has taken all of them.
-use Rattle.std.proofs.Common.{◌≡◌, ◌*◌, ℕ, List, ◌∷◌, refl, sym, ap, subst, ◌∙◌}
+use Rattle.std.proofs.Common.{◌≡◌, ◌*◌, ℕ, ◌∷◌, refl, sym, ap, subst, ◌∙◌}
 use Rattle.guest_arithmetic.specs.declared.cause.Cause.{Cause}
 use Rattle.guest_arithmetic.specs.declared.cause.Cause.TheVariants as cause
 use Rattle.guest_operands.specs.declared.stop.Stop.{Stop}
 use Rattle.guest_operands.specs.declared.stop.Stop.TheVariants.{Returned, Look, Address, Code, Unclean, Steps}
 use Rattle.guest_machine.specs.Run.{Ends, Goes, Looks, Next, machine}
-use Rattle.module_table.specs.declared.events.Event.{Event}
 use Rattle.thread_blocks.specs.Instances.{Loads}
-use Rattle.thread_blocks.specs.Lines.{Line}
 use Rattle.thread_blocks.specs.RunTime.{Runs, thread_steps, thread_turns}
-use Rattle.thread_blocks.specs.Turns.{Said, Stopped}
+use Rattle.thread_blocks.specs.Turns.{Stopped}
 use Rattle.whole_meaning.specs.Meanings.{Meaning}
-use Rattle.whole_meaning.specs.Running.{asked, asked_stop, meaning, meant_step}
+use Rattle.whole_meaning.specs.Running.{asked, meaning}
 use Rattle.whole_meaning.specs.Threads.{Meant, held_next, meant_steps, meant_turns}
-use Rattle.line_laws.specs.Counted.{AreCounted, AreMeant, EndsSo, HasNoCause, HasTaken, MachineStepsAreCounted, MeantStepsAreCounted}
+use Rattle.line_laws.specs.Counted.{EndsSo, HasNoCause, HasTaken, MachineStepsAreCounted, MeantStepsAreCounted}
 use Rattle.line_laws.proofs.Leading.{ends_so, has_taken}
 use Rattle.line_laws.proofs.Ours.{IsForSteps, machine_alone, meaning_alone}
 

@@ -1,7 +1,7 @@
 -- What a line's first look prints: an open and a close the registry's answer, a call and a peek their refusals in this
 -- order. It watches `begin_line` and `event_by` (thread_blocks, Lines), `instance_at` (Instances), and how a look and a
 -- peek reach a block (Held).
-use Rattle.std.specs.Prelude.{◌≡◌, ◌↔◌, ◌⊎◌, ◌+◌, ◌<◌, ◌≤◌, ℕ, Bool, true, false, List, length, slice_range, Option, Some, None, Result, Ok, Err}
+use Rattle.std.specs.Prelude.{◌≡◌, ◌↔◌, ◌⊎◌, ◌+◌, ◌<◌, ◌≤◌, ℕ, true, false, List, length, slice_range, Option, Some, None, Result, Ok, Err}
 use Rattle.job_text.specs.declared.thread_lines.Action.TheVariants.{Call, Open, Close, Peek}
 use Rattle.loaded_modules.specs.declared.instance.Instance.{Instance}
 use Rattle.module_table.specs.declared.events.Closed.{Closed as WasClosed}
