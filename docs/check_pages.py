@@ -1,5 +1,6 @@
 #!/usr/bin/env python3
-"""check_pages.py: says what is wrong with the documents' text: links that lead nowhere, names that are not there, long lines.
+"""check_pages.py: says what is wrong with the documents' text: links that lead nowhere, names that are not there, long lines,
+numbers of reached.py that differ from what it prints.
 
 A name is what stands between backticks and is one word, or words joined by `::`, `.` or `/`: each word must stand in the sources,
 the scripts or the examples of the repository, or be a path there. Files of definitions in tables of DEFINITIONS and TRUST are there. Lines have at most 100 columns but rows of tables, lines with a
@@ -8,6 +9,7 @@ link, and parts that are made. README names each crate in at most 180 lines; the
 import glob
 import os
 import re
+import subprocess
 import sys
 
 TOP = os.path.dirname(os.path.dirname(os.path.abspath(__file__)))
@@ -77,6 +79,13 @@ def lost_files(path, text):
                 yield f"{crate}/specs/{file}.antt is not there"
 
 
+def old_numbers(text):
+    """The calls of reached.py that are shown with other numbers than they print."""
+    for call, shown in re.findall(r"^\$ (python3 docs/reached\.py.*?)(?: +#.*)?\n((?:(?!\$ |```).*\n)*)", text, re.M):
+        if shown != subprocess.run(call, shell=True, cwd=TOP, capture_output=True, text=True).stdout:
+            yield f"{call} prints other numbers"
+
+
 def long_lines(text):
     made = False
     for number, line in enumerate(text.splitlines(), 1):
@@ -95,7 +104,8 @@ def main():
     words, wrong, count = known_words(), 0, 0
     for path in [*PAGES, *EXAMPLES]:
         text = read(path)
-        told = [*bad_links(path, text), *bad_names(path, text, words), *lost_files(path, text), *(long_lines(text) if path in PAGES else [])]
+        told = [*bad_links(path, text), *bad_names(path, text, words), *lost_files(path, text), *old_numbers(text)]
+        told += long_lines(text) if path in PAGES else []
         if path == PAGES[0]:
             told += unnamed_crates(text) + ([f"{len(text.splitlines())} lines"] if len(text.splitlines()) > 180 else [])
         count += len(text.split()) if path in PAGES[1:] else 0

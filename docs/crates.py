@@ -39,10 +39,8 @@ def sentence(text):
 
 def main():
     wide = max(map(len, names())) + 2
-    print("```text")
     for name in names():
         print(f"{name:{wide}}{sentence(essay(name))}")
-    print("```")
 
 
 main()

@@ -66,7 +66,8 @@ module _ (mark : ℕ → Mark) (state : State Word Flag) (it : Decoded) where
   index-adds None = (0, (refl, (refl, refl)))
   index-adds (Some index) = with_word (register_of state.registers index.register) index.scale
     where
-      with_word : (w : Word) (scale : Scale) → Adds 0 (used (λ number. number * factor_of scale % 2 ^ 64) (used_number w))
+      with_word : (w : Word) (scale : Scale)
+          → Adds 0 (used (λ number. number * factor_of scale % 2 ^ 64) (used_number w))
           (option_map (λ number. number * factor scale) (number_in w)) (word_cause (w ∷ []))
       with_word (Number n) scale = (n * factor scale, (refl, (scaled n scale, refl)))
       with_word Undefined scale = (refl, refl)
@@ -81,13 +82,15 @@ module _ (mark : ℕ → Mark) (state : State Word Flag) (it : Decoded) where
   base-adds displacement NextInstruction = (plus state.place it.len, (refl, (omega arith, refl)))
   base-adds displacement (OfRegister register) = word-adds (register_of state.registers register) displacement
 
-sums : (more pointer : ℕ) (r i : Result ℕ Cause) (b j : Option ℕ) (c c' : Option Cause) → Adds more r b c → Adds 0 i j c'
+sums : (more pointer : ℕ) (r i : Result ℕ Cause) (b j : Option ℕ) (c c' : Option Cause) → Adds more r b c
+    → Adds 0 i j c'
     → Says (used (λ parts. plus (plus parts.0 parts.1) pointer) (both r i))
     (option_map (λ number. (number + more + pointer) % 2 ^ 64) (sum_of b j)) (earlier c c')
 sums more pointer (Ok a) (Ok x) b j c c' h k = let there : b ≡ Some h.0 = h.1.0 in let there' : j ≡ Some k.0 = k.1.0 in
     let same : (h.0 + k.0 + more + pointer) % 2 ^ 64 ≡ plus (plus a x) pointer = omega (arith, h.1.1.0, k.1.1.0) in
     rw (there, there', h.1.1.1, k.1.1.1, same) (refl, refl)
-sums more pointer (Ok a) (Err why) b j c c' h k = let there : b ≡ Some h.0 = h.1.0 in rw (there, k.0, h.1.1.1, k.1) (refl, refl)
+sums more pointer (Ok a) (Err why) b j c c' h k = let there : b
+    ≡ Some h.0 = h.1.0 in rw (there, k.0, h.1.1.1, k.1) (refl, refl)
 sums more pointer (Err why) (Ok x) b j c c' h k = rw (h.0, h.1, k.1.1.1) (refl, refl)
 sums more pointer (Err why) (Err why') b j c c' h k = rw (h.0, h.1, k.1) (refl, refl)
 
@@ -109,14 +112,16 @@ field-sums : (more pointer at : ℕ) (r i : Result ℕ Cause) (b j : Option ℕ)
     → Adds 0 i j c'
     → SaysField (used (λ parts. plus (plus parts.0 parts.1) pointer) (charged (Some at) (both r i)))
     (option_map (λ number. (number + more + pointer) % 2 ^ 64) (sum_of b j))
-field-sums more pointer at (Ok a) (Ok x) b j c' h k = let there : b ≡ Some h.0 = h.1.0 in let there' : j ≡ Some k.0 = k.1.0 in
+field-sums more pointer at (Ok a) (Ok x) b j c' h k = let there : b ≡ Some h.0 = h.1.0 in let there' : j
+    ≡ Some k.0 = k.1.0 in
     let same : (h.0 + k.0 + more + pointer) % 2 ^ 64 ≡ plus (plus a x) pointer = omega (arith, h.1.1, k.1.1.0) in
     rw (there, there', same) refl
 field-sums more pointer at (Ok a) (Err why) b j c' h k = rw (k.0, none-behind b) (refl, refl)
 field-sums more pointer at (Err why) (Ok x) b j c' h k = rw h (refl, refl)
 field-sums more pointer at (Err why) (Err why') b j c' h k = rw h (refl, refl)
 
-pub block-adds : (w : Word) (number place : ℕ) → AddsField number (moved_in owner_at w number place) (block_of (owner_at place) w)
+pub block-adds : (w : Word) (number place : ℕ)
+    → AddsField number (moved_in owner_at w number place) (block_of (owner_at place) w)
 block-adds (Number n) number place = refl
 block-adds Undefined number place = refl
 block-adds (Marked (Descriptor instance symbol)) number place = refl
@@ -137,14 +142,17 @@ Given read (Some at) number (Some n) whose = (number ≡ n) × (owner_at at ≡ 
 
 module _ (mark : ℕ → Mark) (state : State Word Flag) (it : Decoded) where
   pub given : (read : ℕ) (o : Option ℕ) → Given read (field_at (λ place. starts_offset (mark place)) state.place o)
-      (field_number_in mark state.place o read) (offset_of (first_mark mark state it o)) (operands.owner mark state it o)
+      (field_number_in mark state.place o read) (offset_of (first_mark mark state it o))
+      (operands.owner mark state it o)
   given read None = refl
   given read (Some k) = by_mark (mark (plus state.place k))
     where
-      by_mark : (μ : Mark) → Given read (if starts_offset μ then Some (plus state.place k) else None) (field_number μ read)
+      by_mark : (μ : Mark)
+          → Given read (if starts_offset μ then Some (plus state.place k) else None) (field_number μ read)
           (offset_of μ) (owner_at (plus state.place k))
       by_mark Usual = refl
-      by_mark (Offset number byte) = (elim (byte == 0) as (λ b. Given read (if b then Some (plus state.place k) else None)
+      by_mark (Offset number byte) =
+          (elim (byte == 0) as (λ b. Given read (if b then Some (plus state.place k) else None)
           (if b then number else read) (if b then Some number else None) (owner_at (plus state.place k))) [
             | true ↦ (refl, refl)
             | false ↦ refl
@@ -182,7 +190,8 @@ module _ (mark : ℕ → Mark) (state : State Word Flag) (it : Decoded) where
       (operands.base_words mark state it b ++ operands.index_words mark state it i)
   by-field None number None whose is e pointer b i =
       rw (is, pick-append (operands.base_words mark state it b) (operands.index_words mark state it i))
-      (sums it.instr.displacement pointer _ _ _ _ _ _ (base-adds mark state it it.instr.displacement b) (index-adds mark state it i))
+      (sums it.instr.displacement pointer _ _ _ _ _ _ (base-adds mark state it it.instr.displacement b)
+      (index-adds mark state it i))
   by-field None number (Some n) whose is e pointer b i = absurd is
   by-field (Some at) number None whose is e pointer b i = absurd is
   by-field (Some at) number (Some n) whose is e pointer b i =

@@ -40,14 +40,16 @@ with-immediate true s s' a e f = from-end s s' a e f
 with-immediate false s s' a e f = absurd cc
 
 operated : (action : Action) (prefixes : Prefixes) (selectors : Selectors) (s : Size) (numbers : Numbers)
-    → AreApart (operand_body action prefixes selectors s numbers).disp (operand_body action prefixes selectors s numbers).imm
+    → AreApart (operand_body action prefixes selectors s numbers).disp
+    (operand_body action prefixes selectors s numbers).imm
 unfolding operand_body
 operated action prefixes selectors s numbers = with-immediate (takes_immediate action) (displacement_size selectors) s
 
 abbrev IsApart : Body → Type 0
 IsApart body = AreApart body.disp body.imm
 
-numbered-apart : (action : Numbered) (width : Width) (s : Size) (number : ℕ) → IsApart (numbered_body action width s number)
+numbered-apart : (action : Numbered) (width : Width) (s : Size) (number : ℕ)
+    → IsApart (numbered_body action width s number)
 unfolding numbered_body
 numbered-apart numbered.Call width s number a e f = absurd cc
 numbered-apart numbered.Jump width s number a e f = absurd cc
@@ -71,7 +73,8 @@ parted len (Some a) (Some b) k apart some e f =
     let x : len - a ≡ k = cc in let y : len - b ≡ k = cc in
     let same : b ≡ a = omega (arith, x, y, some) in apart a refl (ap (λ (n : ℕ). Some n) same)
 
-pub fields-apart : (bytes : List ℕ) (d : Decoded) (k : ℕ) → decoded bytes ≡ Some d → d.disp ≡ Some k → d.imm ≡ Some k → ⊥
+pub fields-apart : (bytes : List ℕ) (d : Decoded) (k : ℕ) → decoded bytes ≡ Some d → d.disp ≡ Some k → d.imm ≡ Some k
+    → ⊥
 fields-apart bytes d k e at at' =
     let spells = (decoded_found bytes d e).spells in
     let p = spells.parts in

@@ -78,14 +78,17 @@ module _ {M : Type 0} (acc : Accesses M Byte) (mark : ℕ → Mark) (shut : ℕ 
   false-true true e f = absurd cc
   false-true false e f = absurd cc
 
-  decides : (r : Option Cause) → ((is_inside r ≡ true → RowHere cause.Inside) × (is_inside r ≡ false → RowHere cause.Inside → ⊥))
-      → ((is_field r ≡ true → RowHere cause.Field) × (is_field r ≡ false → RowHere cause.Field → ⊥)) → Decides RowHere (test r)
+  decides : (r : Option Cause)
+      → ((is_inside r ≡ true → RowHere cause.Inside) × (is_inside r ≡ false → RowHere cause.Inside → ⊥))
+      → ((is_field r ≡ true → RowHere cause.Field) × (is_field r ≡ false → RowHere cause.Field → ⊥))
+      → Decides RowHere (test r)
   decides r inside field = record { yes = yes; no = no }
     where
       yes : (why : Cause) → test r why ≡ true → RowHere why
       yes cause.Inside e = inside.0 e
       yes cause.Field e = field.0 e
-      yes cause.Linker e = or_cases (shut state.place) (list_any shut (places_of acc mark state memory (decoded bytes))) e
+      yes cause.Linker e =
+          or_cases (shut state.place) (list_any shut (places_of acc mark state memory (decoded bytes))) e
       yes cause.Undefined e = e
       yes cause.Flags e = e
       yes cause.Base e = e
@@ -96,7 +99,8 @@ module _ {M : Type 0} (acc : Accesses M Byte) (mark : ℕ → Mark) (shut : ℕ 
       no : (why : Cause) → test r why ≡ false → RowHere why → ⊥
       no cause.Inside e h = inside.1 e h
       no cause.Field e h = field.1 e h
-      no cause.Linker e h = or-no (shut state.place) (list_any shut (places_of acc mark state memory (decoded bytes))) e h
+      no cause.Linker e h =
+          or-no (shut state.place) (list_any shut (places_of acc mark state memory (decoded bytes))) e h
       no cause.Undefined e h = false-true _ e h
       no cause.Flags e h = false-true _ e h
       no cause.Base e h = false-true _ e h
@@ -115,12 +119,14 @@ module _ {M : Type 0} (acc : Accesses M Byte) (mark : ℕ → Mark) (shut : ℕ 
   abbrev Steps_told : Option Cause → Type 0
   Steps_told c = Tells state.place (marked_step ops acc mark shut state memory) c
 
-  module _ (open_byte : (place : ℕ) → NotShut (acc.byte memory place)) (open_write : (place : ℕ) → NotShut (acc.writes memory place)) where
+  module _ (open_byte : (place : ℕ) → NotShut (acc.byte memory place)) (open_write : (place : ℕ)
+      → NotShut (acc.writes memory place)) where
     reaches-is : hindrance ops mark state bytes ≡ None → reaches_linker ops acc mark shut state memory ≡ outside
     unfolding reaches_linker
     reaches-is free = by_place (shut state.place)
       where
-        by_place : (a : Bool) → (if a then true else list_any shut (touched acc memory (own_touches ops mark state (decoded bytes))))
+        by_place : (a : Bool)
+            → (if a then true else list_any shut (touched acc memory (own_touches ops mark state (decoded bytes))))
             ≡ (a || list_any shut (places_of acc mark state memory (decoded bytes)))
         by_place true = refl
         by_place false = rw (touched-are acc mark shut state memory left free (decoded bytes) refl) refl
@@ -134,17 +140,22 @@ module _ {M : Type 0} (acc : Accesses M Byte) (mark : ℕ → Mark) (shut : ℕ 
         rw (reaches-is free, is, free) (
           refl,
           ap (λ (c : Cause). Some c) (sym (beside-linker state.place
-              (done ops acc mark None (decoded bytes) state memory) (list_any is_undefined words) (list_any is_undefined_flag flags)
+              (done ops acc mark None (decoded bytes) state memory) (list_any is_undefined words)
+              (list_any is_undefined_flag flags)
               (list_any is_base words) (list_any is_descriptor words) t)),
         )
-    free-told free false is = rw (reaches-is free, is, free) (step-told acc mark state memory open_byte open_write free (decoded bytes) refl)
+    free-told free false is =
+        rw (reaches-is free, is, free) (step-told acc mark state memory open_byte open_write free (decoded bytes) refl)
 
     -- something stops it
-    hindered-told : (why : Cause) → (first_cause why cause.Linker ≡ why) → hindrance ops mark state bytes ≡ Some why → Steps_told (Some why)
+    hindered-told : (why : Cause) → (first_cause why cause.Linker ≡ why) → hindrance ops mark state bytes ≡ Some why
+        → Steps_told (Some why)
     unfolding marked_step plain_step
     hindered-told why first e = rw e (by_reach (reaches_linker ops acc mark shut state memory))
       where
-        by_reach : (b : Bool) → Tells {A = After Word Flag M} state.place (beside_linker b state.place (Err (Unclean state.place why))) (Some why)
+        by_reach : (b : Bool)
+            → Tells {A = After Word Flag M} state.place (beside_linker b state.place (Err (Unclean state.place why)))
+            (Some why)
         by_reach true = (refl, ap (λ (c : Cause). Some c) (sym first))
         by_reach false = (refl, refl)
 
@@ -154,8 +165,12 @@ module _ {M : Type 0} (acc : Accesses M Byte) (mark : ℕ → Mark) (shut : ℕ 
 
     by-linker : (l : Bool) → outside ≡ l
         → first_by (test None) order ≡ unless_left left (if l then Some cause.Linker else pick words flags)
-    by-linker true is = rw is (linker-then (list_any is_undefined words) (list_any is_undefined_flag flags) (list_any is_base words) (list_any is_descriptor words) left)
-    by-linker false is = rw is (uses-then (list_any is_undefined words) (list_any is_undefined_flag flags) (list_any is_base words) (list_any is_descriptor words) left)
+    by-linker true is = rw is
+        (linker-then (list_any is_undefined words) (list_any is_undefined_flag flags) (list_any is_base words)
+        (list_any is_descriptor words) left)
+    by-linker false is =
+        rw is (uses-then (list_any is_undefined words) (list_any is_undefined_flag flags) (list_any is_base words)
+        (list_any is_descriptor words) left)
 
     abbrev StepIs : Type 0
     StepIs = (c : Option Cause) × (cause_is c × Steps_told c)
@@ -164,7 +179,13 @@ module _ {M : Type 0} (acc : Accesses M Byte) (mark : ℕ → Mark) (shut : ℕ 
     step-is None e h = (
       if outside then Some cause.Linker else pick words flags,
       (
-        (None, (decides None (λ f. absurd cc, λ f row. h.0 row) (λ f. absurd cc, λ f row. h.1 row), by-linker outside refl)),
+        (
+          None,
+          (
+            decides None (λ f. absurd cc, λ f row. h.0 row) (λ f. absurd cc, λ f row. h.1 row),
+            by-linker outside refl,
+          ),
+        ),
         free-told e outside refl,
       ),
     )
@@ -175,7 +196,8 @@ module _ {M : Type 0} (acc : Accesses M Byte) (mark : ℕ → Mark) (shut : ℕ 
           Some cause.Inside,
           (
             decides (Some cause.Inside) (λ f. h.0, λ f row. absurd cc) (λ f. absurd cc, λ f row. h.1 row),
-            inside-first outside (list_any is_undefined words) (list_any is_undefined_flag flags) (list_any is_base words)
+            inside-first outside (list_any is_undefined words) (list_any is_undefined_flag flags)
+                (list_any is_base words)
                 (list_any is_descriptor words) left,
           ),
         ),
@@ -189,7 +211,8 @@ module _ {M : Type 0} (acc : Accesses M Byte) (mark : ℕ → Mark) (shut : ℕ 
           Some cause.Field,
           (
             decides (Some cause.Field) (λ f. absurd cc, λ f row. h.1 row) (λ f. h.0, λ f row. absurd cc),
-            field-first outside (list_any is_undefined words) (list_any is_undefined_flag flags) (list_any is_base words)
+            field-first outside (list_any is_undefined words) (list_any is_undefined_flag flags)
+                (list_any is_base words)
                 (list_any is_descriptor words) left,
           ),
         ),
@@ -205,7 +228,8 @@ module _ {M : Type 0} (acc : Accesses M Byte) (mark : ℕ → Mark) (shut : ℕ 
     step-is (Some cause.Steps) e h = absurd h
 
     pub step-there : StepIs
-    step-there = step-is (hindrance ops mark state bytes) refl (reading mark state bytes (hindrance ops mark state bytes) refl)
+    step-there = step-is (hindrance ops mark state bytes) refl
+        (reading mark state bytes (hindrance ops mark state bytes) refl)
 
 -- ** where the call has returned
 
@@ -238,7 +262,9 @@ module _ {M : Type 0} (acc : Accesses M Byte) (mark : ℕ → Mark) (shut : ℕ 
       no why e h = h
 
 -- what a return tells
-return-told : (S : Type 0) (here : ℕ) (w : Word) → TellsNext {S = S} here (Ends (returned (used_number w) here)) (if is_none (number_in w) then Some cause.Answer else None)
+return-told : (S : Type 0) (here : ℕ) (w : Word)
+    → TellsNext {S = S} here (Ends (returned (used_number w) here))
+    (if is_none (number_in w) then Some cause.Answer else None)
 return-told S here (Number n) = refl
 return-told S here Undefined = (refl, refl)
 return-told S here (Marked (BaseOf block)) = (refl, refl)
@@ -270,7 +296,8 @@ abbrev IsTold : Meaning → ℕ → Meant → Bool → Next Meant → Type 0
 IsTold m thread h left next = (test : Cause → Bool) × (Decides (RowOf m thread h left) test
     × TellsNext h.after.state.place next (first_by test order))
 
-answers : (m : Meaning) (thread : ℕ) (h : Meant) (left : Bool) → IsTold m thread h left (next_with (meant_steps m thread) left h)
+answers : (m : Meaning) (thread : ℕ) (h : Meant) (left : Bool)
+    → IsTold m thread h left (next_with (meant_steps m thread) left h)
     → IsAnswered m thread h left
 answers m thread h left told = record {
   first = λ why at e. let t = next-told h.after.state.place _ (first_by told.0 order) at why told.1.1 e in
@@ -290,18 +317,24 @@ module _ (m : Meaning) (thread : ℕ) (h : Meant) (none : IsNoSequence m thread 
   here = h.after.state.place
 
   abbrev decided : (left b : Bool) → (here == return_place) ≡ b → (test : Cause → Bool)
-      → Decides (RowIf (meant_accesses m thread) (meant_mark m thread h.after.memory) (meant_shut m thread h.after.memory)
+      → Decides (RowIf (meant_accesses m thread) (meant_mark m thread h.after.memory)
+      (meant_shut m thread h.after.memory)
       h.after.state h.after.memory left b) test → Decides (RowOf m thread h left) test
-  decided left b e test d = subst (λ (x : Bool). Decides (RowIf (meant_accesses m thread) (meant_mark m thread h.after.memory)
+  decided left b e test d =
+      subst (λ (x : Bool). Decides (RowIf (meant_accesses m thread) (meant_mark m thread h.after.memory)
       (meant_shut m thread h.after.memory) h.after.state h.after.memory left x) test) (sym e) d
 
-  over-told : (left : Bool) → (here == return_place) ≡ true → IsTold m thread h left (next_with (meant_steps m thread) left h)
+  over-told : (left : Bool) → (here == return_place) ≡ true
+      → IsTold m thread h left (next_with (meant_steps m thread) left h)
   unfolding meant_steps meaning marked_operations
   over-told left e =
       let w = h.after.state.registers.rax in (
-        over_test (meant_accesses m thread) (meant_mark m thread h.after.memory) (meant_shut m thread h.after.memory) h.after.state h.after.memory left (number_in w),
+        over_test (meant_accesses m thread) (meant_mark m thread h.after.memory)
+            (meant_shut m thread h.after.memory) h.after.state h.after.memory left (number_in w),
         (
-          decided left true e _ (over-decides (meant_accesses m thread) (meant_mark m thread h.after.memory) (meant_shut m thread h.after.memory) h.after.state h.after.memory left),
+          decided left true e _
+              (over-decides (meant_accesses m thread) (meant_mark m thread h.after.memory)
+              (meant_shut m thread h.after.memory) h.after.state h.after.memory left),
           rw e (return-told Meant here w),
         ),
       )
@@ -319,18 +352,21 @@ module _ (m : Meaning) (thread : ℕ) (h : Meant) (none : IsNoSequence m thread 
   next-is true e = rw (e, none) refl
   next-is false e = rw (e, none) refl
 
-  next-told-so : (left : Bool) (c : Option Cause) → TellsNext here step_here c → TellsNext here (next_here left) (unless_left left c)
+  next-told-so : (left : Bool) (c : Option Cause) → TellsNext here step_here c
+      → TellsNext here (next_here left) (unless_left left c)
   next-told-so true c t = held-tells m thread h here step_here c t
   next-told-so false c t = asked-tells here step_here c t
 
-  step-told-so : (left : Bool) → (here == return_place) ≡ false → IsTold m thread h left (next_with (meant_steps m thread) left h)
+  step-told-so : (left : Bool) → (here == return_place) ≡ false
+      → IsTold m thread h left (next_with (meant_steps m thread) left h)
   step-told-so left e =
       let mark = meant_mark m thread h.after.memory in
       let shut = meant_shut m thread h.after.memory in
       let s = step-there (meant_accesses m thread) mark shut h.after.state h.after.memory left
       (byte-open m thread h.after.memory) (write-open m thread h.after.memory) in
       let tests = test (meant_accesses m thread) mark shut h.after.state h.after.memory left s.1.0.0 in
-      let told = next-told-so left s.0 (next-tells here (marked_step ops (meant_accesses m thread) mark shut h.after.state
+      let told = next-told-so left s.0
+      (next-tells here (marked_step ops (meant_accesses m thread) mark shut h.after.state
       h.after.memory) s.0 s.1.1) in (
         tests,
         (
@@ -345,4 +381,5 @@ module _ (m : Meaning) (thread : ℕ) (h : Meant) (none : IsNoSequence m thread 
   told left false e = step-told-so left e
 
 pub causes_answered : CausesAreAnswered
-causes_answered m thread h left none = answers m thread h left (told m thread h none left (h.after.state.place == return_place) refl)
+causes_answered m thread h left none =
+    answers m thread h left (told m thread h none left (h.after.state.place == return_place) refl)

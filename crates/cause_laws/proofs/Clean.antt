@@ -59,11 +59,13 @@ module _ {M : Type 0} (acc : Accesses M Byte) (mark : ℕ → Mark) (shut : ℕ 
   pub outside : hindrance ops mark state bytes ≡ None → (Stands acc mark shut state memory left cause.Linker → ⊥)
       → reaches_linker ops acc mark shut state memory ≡ false
   unfolding reaches_linker
-  outside free never = by_place (shut state.place) refl (list_any shut (places_of acc mark state memory (decoded bytes))) refl
+  outside free never =
+      by_place (shut state.place) refl (list_any shut (places_of acc mark state memory (decoded bytes))) refl
     where
       by_place : (a : Bool) → shut state.place ≡ a → (b : Bool)
           → list_any shut (places_of acc mark state memory (decoded bytes)) ≡ b
-          → (if shut state.place then true else list_any shut (touched acc memory (own_touches ops mark state (decoded bytes)))) ≡ false
+          → (if shut state.place then true else list_any shut
+          (touched acc memory (own_touches ops mark state (decoded bytes)))) ≡ false
       by_place true e b f = absurd (never (inl e))
       by_place false e true f = absurd (never (inr f))
       by_place false e false f = rw (e, touched-are free (decoded bytes) refl) f

@@ -33,7 +33,8 @@ at-same : (o : Option ℕ) (k : ℕ) → begins_at o k ≡ true → o ≡ Some k
 at-same None k e = absurd cc
 at-same (Some at) k e = ap (λ (n : ℕ). Some n) (eqb-true at k e)
 
-module _ (mark : ℕ → Mark) (state : State Word Flag) (bytes : List ℕ) (it : Decoded) (free : hindrance ops mark state bytes ≡ None)
+module _ (mark : ℕ → Mark) (state : State Word Flag) (bytes : List ℕ) (it : Decoded)
+    (free : hindrance ops mark state bytes ≡ None)
     (read : decoded bytes ≡ Some it) where
   more : completed bytes ≡ Some it
   unfolding completed
@@ -41,9 +42,11 @@ module _ (mark : ℕ → Mark) (state : State Word Flag) (bytes : List ℕ) (it 
 
   none-met : (k : ℕ) → k ≤ length bytes → met mark state bytes k ≡ None
   unfolding hindrance
-  none-met k low = sym (met-is mark state bytes k) ∙ each-none ops mark state bytes 0 (length bytes) k k free (omega arith) low
+  none-met k low = sym (met-is mark state bytes k)
+      ∙ each-none ops mark state bytes 0 (length bytes) k k free (omega arith) low
 
-  covered : (k : ℕ) → 0 < k → k < it.len → (μ : Mark) → mark (plus state.place k) ≡ μ → is_covered mark state (Some it) k μ ≡ true
+  covered : (k : ℕ) → 0 < k → k < it.len → (μ : Mark) → mark (plus state.place k) ≡ μ
+      → is_covered mark state (Some it) k μ ≡ true
   covered k some low μ here =
       let within : it.len ≤ length bytes = length_of bytes it read in
       let there : mark (place_at state.place k) ≡ μ = ap mark (place-behind k state.place some) ∙ here in
@@ -67,14 +70,17 @@ module _ (mark : ℕ → Mark) (state : State Word Flag) (bytes : List ℕ) (it 
       → allows_offset mark state it k ≡ true
   offset-at k number some low is = by_mark (mark (plus state.place k)) refl is
     where
-      by_mark : (μ : Mark) → mark (plus state.place k) ≡ μ → offset_of μ ≡ Some number → allows_offset mark state it k ≡ true
+      by_mark : (μ : Mark) → mark (plus state.place k) ≡ μ → offset_of μ ≡ Some number
+          → allows_offset mark state it k ≡ true
       by_mark Usual here is = absurd cc
       by_mark (Offset n byte) here is = first (byte == 0) refl is
         where
-          first : (b : Bool) → (byte == 0) ≡ b → (if b then Some n else None) ≡ Some number → allows_offset mark state it k ≡ true
+          first : (b : Bool) → (byte == 0) ≡ b → (if b then Some n else None) ≡ Some number
+              → allows_offset mark state it k ≡ true
           first true e f =
               let begin : byte ≡ 0 = eqb-true byte 0 e in
-              let p = and_parts (nat_le byte k) (allows_offset mark state it (k - byte)) (covered k some low (Offset n byte) here) in
+              let p = and_parts (nat_le byte k) (allows_offset mark state it (k - byte))
+              (covered k some low (Offset n byte) here) in
               let same : k - byte ≡ k = omega arith in
               subst (λ (j : ℕ). allows_offset mark state it j ≡ true) same p.1
           first false e f = absurd cc
@@ -82,10 +88,12 @@ module _ (mark : ℕ → Mark) (state : State Word Flag) (bytes : List ℕ) (it 
       by_mark Inside here is = absurd cc
 
   within-disp : (k : ℕ) → it.disp ≡ Some k → (0 < k) × (k < it.len)
-  within-disp k at = let h = field_place it.len it.disp k (placed_of bytes it read).disp at in (h.0, omega (arith, h.0, h.1))
+  within-disp k at = let h =
+      field_place it.len it.disp k (placed_of bytes it read).disp at in (h.0, omega (arith, h.0, h.1))
 
   within-imm : (k : ℕ) → it.imm ≡ Some k → (0 < k) × (k < it.len)
-  within-imm k at = let h = field_place it.len it.imm k (placed_of bytes it read).imm at in (h.0, omega (arith, h.0, h.1))
+  within-imm k at = let h =
+      field_place it.len it.imm k (placed_of bytes it read).imm at in (h.0, omega (arith, h.0, h.1))
 
   -- as its displacement
   pub placed-field : (number : ℕ) → offset_of (first_mark mark state it it.disp) ≡ Some number
@@ -101,9 +109,11 @@ module _ (mark : ℕ → Mark) (state : State Word Flag) (bytes : List ℕ) (it 
           (begins_at it.imm k && adds_to_base mark state it it.instr.operation)
           (offset-at k number w.0 w.1 is))
           as (λ c. is_placed mark state it (operand_of it.instr.operation) ≡ true) [
-            | inl here ↦ (and_parts (begins_at it.disp k) (is_placed mark state it (operand_of it.instr.operation)) here).1
+            | inl here ↦ (and_parts (begins_at it.disp k)
+                (is_placed mark state it (operand_of it.instr.operation)) here).1
             | inr there ↦ absurd (fields-apart bytes it k read at
-                (at-same it.imm k (and_parts (begins_at it.imm k) (adds_to_base mark state it it.instr.operation) there).0))
+                (at-same it.imm k (and_parts (begins_at it.imm k)
+                (adds_to_base mark state it it.instr.operation) there).0))
           ])
 
   -- as its immediate
@@ -121,7 +131,8 @@ module _ (mark : ℕ → Mark) (state : State Word Flag) (bytes : List ℕ) (it 
           (offset-at k number w.0 w.1 is))
           as (λ c. adds_to_base mark state it it.instr.operation ≡ true) [
             | inl here ↦ absurd (fields-apart bytes it k read
-                (at-same it.disp k (and_parts (begins_at it.disp k) (is_placed mark state it (operand_of it.instr.operation)) here).0) at)
+                (at-same it.disp k (and_parts (begins_at it.disp k)
+                (is_placed mark state it (operand_of it.instr.operation)) here).0) at)
             | inr there ↦ (and_parts (begins_at it.imm k) (adds_to_base mark state it it.instr.operation) there).1
           ])
 

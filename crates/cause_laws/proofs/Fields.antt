@@ -85,7 +85,8 @@ read-is (ExtendLong to from) = refl
 read-is (LoadAddress width to from) = refl
 read-is (Compute arithmetic Long operands) = by_kind arithmetic
   where
-    by_kind : (arithmetic : Arithmetic) → read_in (Compute arithmetic Long operands) ≡ read_operand (Compute arithmetic Long operands)
+    by_kind : (arithmetic : Arithmetic)
+        → read_in (Compute arithmetic Long operands) ≡ read_operand (Compute arithmetic Long operands)
     by_kind Add = refl
     by_kind Or = refl
     by_kind And = refl
@@ -133,7 +134,8 @@ at-is : (o : Option ℕ) (k : ℕ) → is_at o k ≡ begins_at o k
 at-is None k = refl
 at-is (Some at) k = refl
 
-used-says : (o : Option ℕ) (r : Result ℕ Cause) (own : Option ℕ) (ws : List Word) → SaysBy o r own ws → is_used r ≡ is_some own
+used-says : (o : Option ℕ) (r : Result ℕ Cause) (own : Option ℕ) (ws : List Word) → SaysBy o r own ws
+    → is_used r ≡ is_some own
 used-says None (Ok a) own ws h = rw (h.0) refl
 used-says None (Err why) own ws h = rw (h.0) refl
 used-says (Some number) (Ok a) own ws h = rw h refl
@@ -148,7 +150,8 @@ module _ (mark : ℕ → Mark) (state : State Word Flag) (it : Decoded) where
   placed-is None = refl
   placed-is (Some memory) =
       used-says (operands.offset_field mark state it) (address_of ops (marked_frame mark state.place it) state memory)
-      (operand_address mark state it memory) (operands.words_by mark state it None memory) (address-says mark state it memory)
+      (operand_address mark state it memory) (operands.words_by mark state it None memory)
+      (address-says mark state it memory)
 
   base-is : (k : ℕ) (op : Operation) → it.imm ≡ Some k
       → fields.adds_to_base ops mark state it k op ≡ operands.adds_to_base mark state it op
@@ -156,13 +159,15 @@ module _ (mark : ℕ → Mark) (state : State Word Flag) (it : Decoded) where
   base-is k (Compute Add Quad (Immediate (InRegister to))) e =
       let number = (marked_frame mark state.place it).immediate in
       let word = register_of state.registers to in
-      adds-used number (moved_in owner_at word number (plus state.place k)) (block_of (owner_at (plus state.place k)) word)
+      adds-used number (moved_in owner_at word number (plus state.place k))
+      (block_of (owner_at (plus state.place k)) word)
       (block-adds word number (plus state.place k))
       ∙ ap (λ (o : Option ℕ). is_some (block_of (operands.owner mark state it o) word)) (sym e)
   base-is k op e = refl
 
   -- where the number begins elsewhere, neither is asked
-  imm-is : (o : Option ℕ) → it.imm ≡ o → (k : ℕ) → (is_at o k && fields.adds_to_base ops mark state it k it.instr.operation)
+  imm-is : (o : Option ℕ) → it.imm ≡ o → (k : ℕ)
+      → (is_at o k && fields.adds_to_base ops mark state it k it.instr.operation)
       ≡ (begins_at o k && operands.adds_to_base mark state it it.instr.operation)
   imm-is None e k = refl
   imm-is (Some at) e k =
@@ -174,7 +179,12 @@ module _ (mark : ℕ → Mark) (state : State Word Flag) (it : Decoded) where
       ]) refl
 
   offset-is : (k : ℕ) → takes_offset ops mark state k it ≡ allows_offset mark state it k
-  offset-is k = rw (at-is it.disp k, memory-is it.instr.operation, placed-is (operand_of it.instr.operation), imm-is it.imm refl k) refl
+  offset-is k = rw (
+    at-is it.disp k,
+    memory-is it.instr.operation,
+    placed-is (operand_of it.instr.operation),
+    imm-is it.imm refl k,
+  ) refl
 
 -- ** address fields
 
@@ -193,7 +203,14 @@ next-is (Some memory) = ap (λ (b : Bool). b && not memory.from_thread_pointer) 
 
 module _ (mark : ℕ → Mark) (state : State Word Flag) (it : Decoded) where
   address-is : (addend : ℤ) (k : ℕ) → takes_address ops mark state addend k it ≡ allows_address mark state it addend k
-  address-is addend k = rw (at-is it.disp k, read-is it.instr.operation, next-is (read_operand it.instr.operation), minus-is addend (it.len - k)) refl
+  address-is addend k =
+      rw (
+        at-is it.disp k,
+        read-is it.instr.operation,
+        next-is (read_operand it.instr.operation),
+        minus-is addend
+            (it.len - k),
+      ) refl
 
 -- ** a byte that may not be covered
 

@@ -56,7 +56,8 @@ no-field here None = refl
 no-field here (Some k) = refl
 
 -- without an offset field the number is what was read
-pub no-number : (read : ℕ) (fld : Option ℕ) (number : ℕ) (o : Option ℕ) (whose : ℕ) → Given read fld number o whose → o ≡ None
+pub no-number : (read : ℕ) (fld : Option ℕ) (number : ℕ) (o : Option ℕ) (whose : ℕ) → Given read fld number o whose
+    → o ≡ None
     → (fld ≡ None) × (number ≡ read)
 no-number read None number None whose h e = (refl, h)
 no-number read None number (Some n) whose h e = absurd h
@@ -72,7 +73,8 @@ only-offset Inside n e = absurd cc
 
 -- ** operands that are there
 
-pub placed-operand : (mark : ℕ → Mark) (state : State Word Flag) (it : Decoded) (o : Option Memory) → is_placed mark state it o ≡ true
+pub placed-operand : (mark : ℕ → Mark) (state : State Word Flag) (it : Decoded) (o : Option Memory)
+    → is_placed mark state it o ≡ true
     → (memory : Memory) × ((address : ℕ) × ((o ≡ Some memory) × (operand_address mark state it memory ≡ Some address)))
 placed-operand mark state it None e = absurd cc
 placed-operand mark state it (Some memory) e = there (operand_address mark state it memory) refl e
@@ -82,28 +84,35 @@ placed-operand mark state it (Some memory) e = there (operand_address mark state
     there None is e = absurd cc
     there (Some a) is e = (memory, (a, (refl, is)))
 
-pub next-operand : (o : Option Memory) → is_next_operand o ≡ true → (memory : Memory) × ((o ≡ Some memory) × (is_from_next memory ≡ true))
+pub next-operand : (o : Option Memory) → is_next_operand o ≡ true
+    → (memory : Memory) × ((o ≡ Some memory) × (is_from_next memory ≡ true))
 next-operand None e = absurd cc
 next-operand (Some memory) e = (memory, (refl, e))
 
-pub adds-none : (mark : ℕ → Mark) (state : State Word Flag) (it : Decoded) (op : Operation) → adds_to_base mark state it op ≡ true
+pub adds-none : (mark : ℕ → Mark) (state : State Word Flag) (it : Decoded) (op : Operation)
+    → adds_to_base mark state it op ≡ true
     → (to : Register) × ((start : ℕ) × ((op ≡ Compute Add Quad (Immediate (InRegister to)))
     × (block_of (operands.owner mark state it it.imm) (operands.value_of mark state it to) ≡ Some start)))
 adds-none mark state it (Compute Add Quad (Immediate (InRegister to))) e =
     there (block_of (operands.owner mark state it it.imm) (operands.value_of mark state it to)) refl e
   where
-    there : (o : Option ℕ) → block_of (operands.owner mark state it it.imm) (operands.value_of mark state it to) ≡ o → is_some o ≡ true
-        → (r : Register) × ((start : ℕ) × ((◌≡◌ {A = Operation} (Compute Add Quad (Immediate (InRegister to))) (Compute Add Quad (Immediate (InRegister r))))
+    there : (o : Option ℕ) → block_of (operands.owner mark state it it.imm) (operands.value_of mark state it to) ≡ o
+        → is_some o ≡ true
+        → (r : Register) × ((start : ℕ)
+        × ((◌≡◌ {A = Operation} (Compute Add Quad (Immediate (InRegister to)))
+        (Compute Add Quad (Immediate (InRegister r))))
         × (block_of (operands.owner mark state it it.imm) (operands.value_of mark state it r) ≡ Some start)))
     there None is e = absurd cc
     there (Some start) is e = (to, (start, (refl, is)))
 adds-none mark state it op e = absurd cc
 
-pub no-operand : (to : Register) (memory : Memory) → operand_of (Compute Add Quad (Immediate (InRegister to))) ≡ Some memory → ⊥
+pub no-operand : (to : Register) (memory : Memory)
+    → operand_of (Compute Add Quad (Immediate (InRegister to))) ≡ Some memory → ⊥
 unfolding operand_of
 no-operand to memory e = absurd cc
 
-pub no-read : (to : Register) (memory : Memory) → read_operand (Compute Add Quad (Immediate (InRegister to))) ≡ Some memory → ⊥
+pub no-read : (to : Register) (memory : Memory)
+    → read_operand (Compute Add Quad (Immediate (InRegister to))) ≡ Some memory → ⊥
 unfolding read_operand
 no-read to memory e = absurd cc
 
@@ -115,9 +124,11 @@ low-address : (mark : ℕ → Mark) (state : State Word Flag) (it : Decoded) (me
     → operand_address mark state it memory ≡ Some a → a < 2 ^ 64
 unfolding operand_address
 low-address mark state it memory a e =
-    small (operands.sum_of (operands.base_of mark state it (operands.offset_field mark state it) memory.base) (operands.index_of mark state it memory.index)) e
+    small (operands.sum_of (operands.base_of mark state it (operands.offset_field mark state it) memory.base)
+    (operands.index_of mark state it memory.index)) e
   where
-    small : (o : Option ℕ) → option_map (λ number. (number + operands.displacement mark state it (operands.offset_field mark state it)
+    small : (o : Option ℕ)
+        → option_map (λ number. (number + operands.displacement mark state it (operands.offset_field mark state it)
         + operands.pointer mark state it memory) % 2 ^ 64) o ≡ Some a → a < 2 ^ 64
     small None e = absurd cc
     small (Some n) e = let is : (n + operands.displacement mark state it (operands.offset_field mark state it)
@@ -143,7 +154,8 @@ module _ {M : Type 0} (acc : Accesses M Byte) (number start : ℕ) (m : M) (low 
       let behind : next_place place ≡ (start + (k + 1)) % 2 ^ 64 = omega (arith, is) in
       rw (within, small, bytes-there size (k + 1) (next_place place) (omega (arith, fits)) behind) refl
 
-  pub number-load : load_of ops (with_number_at acc number start) m start 8 ≡ Ok (ops.joined (bytes_from ops (ops.word number) 0 8))
+  pub number-load : load_of ops (with_number_at acc number start) m start 8
+      ≡ Ok (ops.joined (bytes_from ops (ops.word number) 0 8))
   unfolding load_of
   number-load = ap (reached ops.joined) (bytes-there 8 0 start refl (omega (arith, low)))
 
@@ -151,7 +163,8 @@ module _ {M : Type 0} (acc : Accesses M Byte) (number start : ℕ) (m : M) (low 
   lent-same = lent-load ops acc (λ m place. false) m number (λ k below. refl) ∙ sym number-load
 
   stores-same : (place : ℕ) (word : Word)
-      → store_of ops (lent_at ops acc number) m place 8 word ≡ store_of ops (with_number_at acc number start) m place 8 word
+      → store_of ops (lent_at ops acc number) m place 8 word
+      ≡ store_of ops (with_number_at acc number start) m place 8 word
   unfolding store_of
   stores-same place word = refl
 
@@ -166,7 +179,8 @@ module _ {M : Type 0} (acc : Accesses M Byte) (state : State Word Flag) (memory 
 
   add-is : (f : Frame) (to : Register) (at a number sum : ℕ) → f.immediate_field ≡ Some at → f.immediate ≡ number
       → moved_in owner_at (register_of state.registers to) number at ≡ Ok a → a % 2 ^ 64 ≡ sum % 2 ^ 64
-      → act ops acc f (Compute Add Quad (Immediate (InRegister to))) state memory ≡ Ok (left (with_sum to sum f.next) memory)
+      → act ops acc f (Compute Add Quad (Immediate (InRegister to))) state memory
+      ≡ Ok (left (with_sum to sum f.next) memory)
   unfolding act compute_of compute_number add_field marked_operations finished put with_changes
   add-is f to at a number sum fld num there same = rw (fld, num, there, same) refl
 
@@ -194,10 +208,12 @@ module _ {M : Type 0} (acc : Accesses M Byte) (mark : ℕ → Mark) (state : Sta
       → offset_of (first_mark mark state it it.imm) ≡ None
   lacks-immediate never = by_field (offset_of (first_mark mark state it it.imm)) refl
     where
-      by_field : (o : Option ℕ) → offset_of (first_mark mark state it it.imm) ≡ o → offset_of (first_mark mark state it it.imm) ≡ None
+      by_field : (o : Option ℕ) → offset_of (first_mark mark state it it.imm) ≡ o
+          → offset_of (first_mark mark state it it.imm) ≡ None
       by_field None is = is
       by_field (Some n) is =
-          let h = adds-none mark state it operation (added-field mark state (fetch_of acc memory state.place) it free read n is) in
+          let h = adds-none mark state it operation
+          (added-field mark state (fetch_of acc memory state.place) it free read n is) in
           absurd (never h.0 h.1.1.0)
 
   abbrev Done : Type 0
@@ -229,7 +245,8 @@ module _ {M : Type 0} (acc : Accesses M Byte) (mark : ℕ → Mark) (state : Sta
           (
             there,
             h.1.1.1,
-            act-moved ops acc frame (displaced a (bare_frame state.place it)) state memory x a at (absolute-is state it a low)
+            act-moved ops acc frame (displaced a (bare_frame state.place it)) state memory x a at
+                (absolute-is state it a low)
                 refl imm.0 imm.1 operation (no-field state.place it.disp) there,
           ),
         ),
@@ -237,7 +254,8 @@ module _ {M : Type 0} (acc : Accesses M Byte) (mark : ℕ → Mark) (state : Sta
 
   -- ** an address field
 
-  pub disp-there : (o : Option ℕ) (number : ℕ) → operands.address_of (first_mark mark state it o) ≡ Some number → (k : ℕ) × (o ≡ Some k)
+  pub disp-there : (o : Option ℕ) (number : ℕ) → operands.address_of (first_mark mark state it o) ≡ Some number
+      → (k : ℕ) × (o ≡ Some k)
   disp-there None number e = absurd cc
   disp-there (Some k) number e = (k, refl)
 
@@ -273,7 +291,8 @@ module _ {M : Type 0} (acc : Accesses M Byte) (mark : ℕ → Mark) (state : Sta
 
   -- ** an offset field as the immediate
 
-  summed-of : (fld : Option ℕ) (n : ℕ) (o : Option ℕ) (whose : ℕ) → Given it.instr.immediate fld n o whose → (number : ℕ)
+  summed-of : (fld : Option ℕ) (n : ℕ) (o : Option ℕ) (whose : ℕ) → Given it.instr.immediate fld n o whose
+      → (number : ℕ)
       → o ≡ Some number → (at : ℕ) × ((fld ≡ Some at) × ((n ≡ number) × (owner_at at ≡ whose)))
   summed-of None n None whose h number e = absurd cc
   summed-of None n (Some x) whose h number e = absurd h
@@ -294,13 +313,17 @@ module _ {M : Type 0} (acc : Accesses M Byte) (mark : ℕ → Mark) (state : Sta
       → offset_of (first_mark mark state it it.imm) ≡ Some number → Done
   unfolding marked_frame frame_of
   summed-step number none bare is =
-      let h = adds-none mark state it operation (added-field mark state (fetch_of acc memory state.place) it free read number is) in
+      let h = adds-none mark state it operation
+      (added-field mark state (fetch_of acc memory state.place) it free read number is) in
       let to = h.0 in let start = h.1.0 in
-      let f = summed-of frame.immediate_field frame.immediate _ _ (given mark state it it.instr.immediate it.imm) number is in
-      let mine : AddsField number (moved_in owner_at (register_of state.registers to) number f.0) (block_of (owner_at f.0) (register_of state.registers to)) =
+      let f = summed-of frame.immediate_field frame.immediate _ _
+      (given mark state it it.instr.immediate it.imm) number is in
+      let mine : AddsField number (moved_in owner_at (register_of state.registers to) number f.0)
+      (block_of (owner_at f.0) (register_of state.registers to)) =
       block-adds (register_of state.registers to) number f.0 in
       let whose : owner_at f.0 ≡ operands.owner mark state it it.imm = f.1.1.1 in
-      let s = moved-is _ _ number start mine (ap (λ (n : ℕ). block_of n (register_of state.registers to)) whose ∙ h.1.1.1) in
+      let s = moved-is _ _ number start mine (ap (λ (n : ℕ). block_of n (register_of state.registers to)) whose
+      ∙ h.1.1.1) in
       let there : moved_in owner_at (register_of state.registers to) number f.0 ≡ Ok s.0 = s.1.0 in
       let op : operation ≡ Compute Add Quad (Immediate (InRegister to)) = h.1.1.0 in
       let fld : frame.immediate_field ≡ Some f.0 = f.1.0 in

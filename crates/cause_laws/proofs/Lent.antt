@@ -41,7 +41,8 @@ unfolding marked_operations
 number-word number = refl
 
 -- acc: the thread's memory; lent: the one where the word is read
-module _ {M : Type 0} (acc lent : Accesses M Byte) (mark : ℕ → Mark) (f : Frame) (state : State Word Flag) (m : M) (it : Decoded)
+module _ {M : Type 0} (acc lent : Accesses M Byte) (mark : ℕ
+    → Mark) (f : Frame) (state : State Word Flag) (m : M) (it : Decoded)
     (number : ℕ) (no-field : f.immediate_field ≡ None)
     (supplied : operands.address_of (first_mark mark state it it.disp) ≡ Some number)
     (open_load : (place size : ℕ) → NotShut (load_of ops lent m place size))
@@ -73,7 +74,8 @@ module _ {M : Type 0} (acc lent : Accesses M Byte) (mark : ℕ → Mark) (f : Fr
   no-first : (operand : Operand) → first_loaded acc m (steps.loads mark state it 8 operand) ≡ []
   no-first operand = rw (no-load 8 operand) refl
 
-  no-then : (operand : Operand) → first_loaded acc m (steps.loads mark state it 8 operand ++ steps.pushes mark state it) ≡ []
+  no-then : (operand : Operand)
+      → first_loaded acc m (steps.loads mark state it 8 operand ++ steps.pushes mark state it) ≡ []
   no-then operand = rw (no-load 8 operand) (store-first 8 _)
 
   abbrev Lent : Operation → Type 0
@@ -91,7 +93,8 @@ module _ {M : Type 0} (acc lent : Accesses M Byte) (mark : ℕ → Mark) (f : Fr
   read-lent (LoadAddress width to from) e = absurd cc
   read-lent (Compute arithmetic LongWidth operands) e = absurd cc
   read-lent (Compute arithmetic QuadWidth (IntoRegister to from)) e = (loaded-cause from e, (no-first from, e))
-  read-lent (Compute Compare QuadWidth (IntoMemory to from)) e = (loaded-cause (InMemory to) e, (no-first (InMemory to), e))
+  read-lent (Compute Compare QuadWidth (IntoMemory to from)) e =
+      (loaded-cause (InMemory to) e, (no-first (InMemory to), e))
   read-lent (Compute Add QuadWidth (IntoMemory to from)) e = absurd cc
   read-lent (Compute Or QuadWidth (IntoMemory to from)) e = absurd cc
   read-lent (Compute And QuadWidth (IntoMemory to from)) e = absurd cc

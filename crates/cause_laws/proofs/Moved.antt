@@ -37,7 +37,8 @@ is_memory (InRegister name) memory e = absurd cc
 is_memory (InMemory other) memory e = cc
 
 -- what follows alike follows alike
-pub bind-all : {A C : Type 0} (x : Result A Stop) (k k' : A → Result C Stop) → ((a : A) → k a ≡ k' a) → (x >>= k) ≡ (x >>= k')
+pub bind-all : {A C : Type 0} (x : Result A Stop) (k k' : A → Result C Stop) → ((a : A) → k a ≡ k' a)
+    → (x >>= k) ≡ (x >>= k')
 bind-all (Ok a) k k' h = h a
 bind-all (Err stop) k k' h = refl
 
@@ -51,7 +52,8 @@ not-cleared Xor to x = refl
 not-cleared Compare to x = refl
 
 -- f, g: two frames with equal numbers besides the displacement, none of which is a field
-module _ {W F B M : Type 0} (ops : Operations W F B) (acc : Accesses M B) (f g : Frame) (s : State W F) (m : M) (memory : Memory)
+module _ {W F B M : Type 0} (ops : Operations W F B) (acc : Accesses M B) (f g : Frame) (s : State W F) (m : M)
+    (memory : Memory)
     (a : ℕ) (at : address_of ops f s memory ≡ Ok a) (at' : address_of ops g s absolute ≡ Ok a) (next : f.next ≡ g.next)
     (immediate : f.immediate ≡ g.immediate) (field : f.immediate_field ≡ g.immediate_field) where
   finished-same : (width : Width) (slot : Slot) (effect : Effect)
@@ -69,7 +71,8 @@ module _ {W F B M : Type 0} (ops : Operations W F B) (acc : Accesses M B) (f g :
   concluded-same Sub width slot effect = finished-same width slot effect
   concluded-same Xor width slot effect = finished-same width slot effect
 
-  carried-same : (width : Width) → carried ops acc width f s m (InMemory memory) ≡ carried ops acc width g s m (InMemory absolute)
+  carried-same : (width : Width)
+      → carried ops acc width f s m (InMemory memory) ≡ carried ops acc width g s m (InMemory absolute)
   unfolding carried
   carried-same width = rw (at, at') refl
 
@@ -89,10 +92,12 @@ module _ {W F B M : Type 0} (ops : Operations W F B) (acc : Accesses M B) (f g :
   unfolding act move_of move_in
   move-same width to = rw (carried-same width, next) refl
 
-  numbers : (width : Width) (o o' : Option ℕ) (n n' : ℕ) → o ≡ o' → n ≡ n' → immediate_of ops width o n ≡ immediate_of ops width o' n'
+  numbers : (width : Width) (o o' : Option ℕ) (n n' : ℕ) → o ≡ o' → n ≡ n'
+      → immediate_of ops width o n ≡ immediate_of ops width o' n'
   numbers width o o' n n' e h = rw (e, h) refl
 
-  number-same : (width : Width) → immediate_of ops width f.immediate_field f.immediate ≡ immediate_of ops width g.immediate_field g.immediate
+  number-same : (width : Width)
+      → immediate_of ops width f.immediate_field f.immediate ≡ immediate_of ops width g.immediate_field g.immediate
   number-same width = numbers width f.immediate_field g.immediate_field f.immediate g.immediate field immediate
 
   move-number : (width : Width) → Moves (Move width (Immediate (InMemory memory)))
@@ -124,17 +129,20 @@ module _ {W F B M : Type 0} (ops : Operations W F B) (acc : Accesses M B) (f g :
         not-cleared arithmetic to absolute,
         taken-same width (number_at ops width (register_of s.registers to)),
       )
-      (bind-all _ _ _ (λ it. concluded-same arithmetic width (OfSlot to) (compute_effect arithmetic width it.other it.number)))
+      (bind-all _ _ _ (λ it. concluded-same arithmetic width (OfSlot to)
+      (compute_effect arithmetic width it.other it.number)))
 
   computed-out : (arithmetic : Arithmetic) (width : Width) (from : Register)
       → Moves (Compute arithmetic width (IntoMemory memory from))
   unfolding act compute_of compute_out
   computed-out arithmetic width from =
       rw (taken-same width (number_at ops width (register_of s.registers from)))
-      (bind-all _ _ _ (λ it. concluded-same arithmetic width it.slot (compute_effect arithmetic width it.number it.other)))
+      (bind-all _ _ _ (λ it. concluded-same arithmetic width it.slot
+      (compute_effect arithmetic width it.number it.other)))
 
   plain-number : (h : Frame) (arithmetic : Arithmetic) (width : Width) (o : Option ℕ) (x : Memory)
-      → compute_number ops acc arithmetic width o h s m (InMemory x) ≡ compute_plain ops acc arithmetic width o h s m (InMemory x)
+      → compute_number ops acc arithmetic width o h s m (InMemory x)
+      ≡ compute_plain ops acc arithmetic width o h s m (InMemory x)
   unfolding compute_number
   plain-number h Add LongWidth o x = refl
   plain-number h Add QuadWidth None x = refl
@@ -151,9 +159,11 @@ module _ {W F B M : Type 0} (ops : Operations W F B) (acc : Accesses M B) (f g :
   unfolding compute_plain
   plain-same arithmetic width =
       rw (number-same width, taken-same width (immediate_of ops width g.immediate_field g.immediate))
-      (bind-all _ _ _ (λ it. concluded-same arithmetic width it.slot (compute_effect arithmetic width it.number it.other)))
+      (bind-all _ _ _ (λ it. concluded-same arithmetic width it.slot
+      (compute_effect arithmetic width it.number it.other)))
 
-  computed-number : (arithmetic : Arithmetic) (width : Width) → Moves (Compute arithmetic width (Immediate (InMemory memory)))
+  computed-number : (arithmetic : Arithmetic) (width : Width)
+      → Moves (Compute arithmetic width (Immediate (InMemory memory)))
   unfolding act compute_of
   computed-number arithmetic width =
       plain-number f arithmetic width f.immediate_field memory
@@ -207,9 +217,12 @@ module _ {W F B M : Type 0} (ops : Operations W F B) (acc : Accesses M B) (f g :
   act-moved (ExtendByte width to from) none e = rw (is_memory from memory e) (byte-extended width to)
   act-moved (ExtendLong to from) none e = rw (is_memory from memory e) (long-extended to)
   act-moved (LoadAddress width to from) none e = let is : from ≡ memory = cc in rw is (loaded-address width to)
-  act-moved (Compute arithmetic width (IntoRegister to from)) none e = rw (is_memory from memory e) (computed-in arithmetic width to)
-  act-moved (Compute arithmetic width (IntoMemory to from)) none e = let is : to ≡ memory = cc in rw is (computed-out arithmetic width from)
-  act-moved (Compute arithmetic width (Immediate to)) none e = rw (is_memory to memory e) (computed-number arithmetic width)
+  act-moved (Compute arithmetic width (IntoRegister to from)) none e =
+      rw (is_memory from memory e) (computed-in arithmetic width to)
+  act-moved (Compute arithmetic width (IntoMemory to from)) none e = let is : to
+      ≡ memory = cc in rw is (computed-out arithmetic width from)
+  act-moved (Compute arithmetic width (Immediate to)) none e =
+      rw (is_memory to memory e) (computed-number arithmetic width)
   act-moved (Test width left right) none e = rw (is_memory left memory e) (tested width right)
   act-moved (Multiply width to from) none e = rw (is_memory from memory e) (multiplied width to)
   act-moved (ShiftBy shift width to count) none e = rw (is_memory to memory e) (shifted shift width count)

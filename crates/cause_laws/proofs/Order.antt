@@ -45,7 +45,8 @@ module _ (Row : Cause → Type 0) (test : Cause → Bool) (decides : Decides Row
       by_test false is = absurd (decides.no first is h.0)
   first-only (first ∷ more) why (inr h) = by_test (test first) refl (first-only more why h.1)
     where
-      by_test : (b : Bool) → test first ≡ b → first_by test more ≡ Some why → (if b then Some first else first_by test more) ≡ Some why
+      by_test : (b : Bool) → test first ≡ b → first_by test more ≡ Some why
+          → (if b then Some first else first_by test more) ≡ Some why
       by_test true is rest = absurd (h.0 (decides.yes first is))
       by_test false is rest = rest
 
@@ -56,11 +57,13 @@ TellsNext here (Goes s) c = c ≡ None
 TellsNext here (Ends stop) c = TellsStop here stop c
 TellsNext here (Looks s) c = c ≡ None
 
-pub next-tells : {W F M : Type 0} (here : ℕ) (r : Result (After W F M) Stop) (c : Option Cause) → Tells here r c → TellsNext here (next_of r) c
+pub next-tells : {W F M : Type 0} (here : ℕ) (r : Result (After W F M) Stop) (c : Option Cause) → Tells here r c
+    → TellsNext here (next_of r) c
 next-tells here (Ok x) c h = h
 next-tells here (Err stop) c h = h
 
-stop-answers : (here : ℕ) (stop : Stop) (c : Option Cause) (why : Cause) → TellsStop here stop c → c ≡ Some why → stop ≡ Unclean here why
+stop-answers : (here : ℕ) (stop : Stop) (c : Option Cause) (why : Cause) → TellsStop here stop c → c ≡ Some why
+    → stop ≡ Unclean here why
 stop-answers here (Returned n) c why h e = let no : None ≡ Some why = sym h ∙ e in absurd cc
 stop-answers here (Look n) c why h e = let no : None ≡ Some why = sym h ∙ e in absurd cc
 stop-answers here (Address n) c why h e = let no : None ≡ Some why = sym h ∙ e in absurd cc
@@ -69,13 +72,15 @@ stop-answers here (Unclean at other) c why h e =
     let both : Some other ≡ Some why = sym h.1 ∙ e in let same : other ≡ why = cc in rw (h.0, same) refl
 stop-answers here (Steps n) c why h e = let no : None ≡ Some why = sym h ∙ e in absurd cc
 
-pub next-answers : {S : Type 0} (here : ℕ) (next : Next S) (c : Option Cause) (why : Cause) → TellsNext here next c → c ≡ Some why
+pub next-answers : {S : Type 0} (here : ℕ) (next : Next S) (c : Option Cause) (why : Cause) → TellsNext here next c
+    → c ≡ Some why
     → next ≡ Ends (Unclean here why)
 next-answers here (Goes s) c why h e = let no : None ≡ Some why = sym h ∙ e in absurd cc
 next-answers here (Looks s) c why h e = let no : None ≡ Some why = sym h ∙ e in absurd cc
 next-answers here (Ends stop) c why h e = ap (λ (x : Stop). Ends x) (stop-answers here stop c why h e)
 
-pub next-told : {S : Type 0} (here : ℕ) (next : Next S) (c : Option Cause) (at : ℕ) (why : Cause) → TellsNext here next c
+pub next-told : {S : Type 0} (here : ℕ) (next : Next S) (c : Option Cause) (at : ℕ) (why : Cause)
+    → TellsNext here next c
     → next ≡ Ends (Unclean at why) → (at ≡ here) × (c ≡ Some why)
 next-told here next c at why h e = subst (λ n. TellsNext here n c) e h
 
@@ -142,19 +147,23 @@ abbrev pub unless_left : Bool → Option Cause → Option Cause
 unless_left true c = c
 unless_left false c = option_or c (Some cause.Steps)
 
-pub inside-first : (l u f b d left : Bool) → first_by (test_of (Some cause.Inside) l u f b d left) order ≡ unless_left left (Some cause.Inside)
+pub inside-first : (l u f b d left : Bool)
+    → first_by (test_of (Some cause.Inside) l u f b d left) order ≡ unless_left left (Some cause.Inside)
 inside-first l u f b d true = refl
 inside-first l u f b d false = refl
 
-pub field-first : (l u f b d left : Bool) → first_by (test_of (Some cause.Field) l u f b d left) order ≡ unless_left left (Some cause.Field)
+pub field-first : (l u f b d left : Bool)
+    → first_by (test_of (Some cause.Field) l u f b d left) order ≡ unless_left left (Some cause.Field)
 field-first l u f b d true = refl
 field-first l u f b d false = refl
 
-pub linker-then : (u f b d left : Bool) → first_by (test_of None true u f b d left) order ≡ unless_left left (Some cause.Linker)
+pub linker-then : (u f b d left : Bool)
+    → first_by (test_of None true u f b d left) order ≡ unless_left left (Some cause.Linker)
 linker-then u f b d true = refl
 linker-then u f b d false = refl
 
-pub uses-then : (u f b d left : Bool) → first_by (test_of None false u f b d left) order ≡ unless_left left (pick4 u f b d)
+pub uses-then : (u f b d left : Bool)
+    → first_by (test_of None false u f b d left) order ≡ unless_left left (pick4 u f b d)
 uses-then true f b d true = refl
 uses-then true f b d false = refl
 uses-then false true b d true = refl

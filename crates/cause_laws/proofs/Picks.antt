@@ -52,14 +52,16 @@ four false false false true false false false false = refl
 four false false false false u' f' b' d' = refl
 
 abbrev pub pick : List Word → List Flag → Option Cause
-pick ws fs = pick4 (list_any is_undefined ws) (list_any is_undefined_flag fs) (list_any is_base ws) (list_any is_descriptor ws)
+pick ws fs = pick4 (list_any is_undefined ws) (list_any is_undefined_flag fs) (list_any is_base ws)
+    (list_any is_descriptor ws)
 
 -- of words
 abbrev pub word_cause : List Word → Option Cause
 word_cause ws = pick ws []
 
 pub pick-append : (ws ws' : List Word) → word_cause (ws ++ ws') ≡ earlier (word_cause ws) (word_cause ws')
-pick-append ws ws' = rw (list_any-append is_undefined ws ws', list_any-append is_base ws ws', list_any-append is_descriptor ws ws')
+pick-append ws ws' =
+    rw (list_any-append is_undefined ws ws', list_any-append is_base ws ws', list_any-append is_descriptor ws ws')
     (four (list_any is_undefined ws) false (list_any is_base ws) (list_any is_descriptor ws)
     (list_any is_undefined ws') false (list_any is_base ws') (list_any is_descriptor ws'))
 

@@ -36,7 +36,8 @@ module _ (mark : ℕ → Mark) (state : State Word Flag) (bytes : List ℕ) wher
 
   -- what is asked of byte k, in the table's words
   abbrev pub met : ℕ → Option Cause
-  met k = if is_read_to mark state bytes k then blocked (may_cover mark state bytes k) (mark (place_at state.place k)) else None
+  met k = if is_read_to mark state bytes k then blocked (may_cover mark state bytes k)
+      (mark (place_at state.place k)) else None
 
   pub met-is : (k : ℕ) → asked k ≡ met k
   met-is k = ap (λ (o : Option Cause). if begins_of (take k bytes) then o else None)
@@ -45,7 +46,8 @@ module _ (mark : ℕ → Mark) (state : State Word Flag) (bytes : List ℕ) wher
   last-low : (j k : ℕ) → k ≤ j → j < k + 1 → j ≡ k
   last-low j k a b = omega arith
 
-  next-at : (k : ℕ) (more : ℕ) (why : Cause) → asked k ≡ None → IsFound asked (k + 1) more why → IsFound asked k (suc more) why
+  next-at : (k : ℕ) (more : ℕ) (why : Cause) → asked k ≡ None → IsFound asked (k + 1) more why
+      → IsFound asked k (suc more) why
   next-at k more why none h = record {
     at = h.at;
     high = let high = h.high in omega arith;
@@ -61,19 +63,32 @@ module _ (mark : ℕ → Mark) (state : State Word Flag) (bytes : List ℕ) wher
           subst (λ (n : ℕ). asked n ≡ None) (sym same) none
       before j low below (inr behind) = h.first.before j behind below
 
-  found : (count k : ℕ) (why : Cause) → first_hindrance ops mark state bytes k count ≡ Some why → IsFound asked k count why
-  found zero k why e = record { at = k; high = omega arith; first = record { low = omega arith; is = e; before = λ j a b. absurd (omega arith) } }
+  found : (count k : ℕ) (why : Cause) → first_hindrance ops mark state bytes k count ≡ Some why
+      → IsFound asked k count why
+  found zero k why e =
+      record {
+        at = k;
+        high = omega arith;
+        first =
+            record { low = omega arith; is = e; before = λ j a b. absurd (omega arith) };
+      }
   found (suc more) k why e = by_first (asked k) refl (found more (k + 1) why)
     where
       by_first : (o : Option Cause) → asked k ≡ o
           → (first_hindrance ops mark state bytes (k + 1) more ≡ Some why → IsFound asked (k + 1) more why)
           → IsFound asked k (suc more) why
       by_first None none rest = next-at k more why none
-          (rest (sym (ap (λ (o : Option Cause). option_or o (first_hindrance ops mark state bytes (k + 1) more)) none) ∙ e))
+          (rest (sym (ap (λ (o : Option Cause). option_or o (first_hindrance ops mark state bytes (k + 1) more)) none)
+          ∙ e))
       by_first (Some other) some rest =
           let same : Some other ≡ Some why =
           sym (ap (λ (o : Option Cause). option_or o (first_hindrance ops mark state bytes (k + 1) more)) some) ∙ e in
-          record { at = k; high = omega arith; first = record { low = omega arith; is = some ∙ same; before = λ j a b. absurd (omega arith) } }
+          record {
+            at = k;
+            high = omega arith;
+            first =
+                record { low = omega arith; is = some ∙ same; before = λ j a b. absurd (omega arith) };
+          }
 
   first-is : (count from k : ℕ) (why : Cause) → k ≤ from + count → IsFirstAt asked from k why
       → first_hindrance ops mark state bytes from count ≡ Some why
@@ -109,7 +124,8 @@ module _ (mark : ℕ → Mark) (state : State Word Flag) (bytes : List ℕ) wher
       either None = refl
       either (Some it) = refl
 
-  stop-is : (k : ℕ) (why : Cause) → StopsReading mark state bytes k → blocked false (mark (place_at state.place k)) ≡ Some why
+  stop-is : (k : ℕ) (why : Cause) → StopsReading mark state bytes k
+      → blocked false (mark (place_at state.place k)) ≡ Some why
       → first_hindrance ops mark state bytes 0 (length bytes) ≡ Some why
   stop-is k why h e = first-is (length bytes) 0 k why (let within = h.within in omega arith) (record {
     low = omega arith;
@@ -136,7 +152,8 @@ module _ (mark : ℕ → Mark) (state : State Word Flag) (bytes : List ℕ) wher
   found-stops why e =
       let h = found (length bytes) 0 why e in
       let k = h.at in
-      let p = reads (is_read_to mark state bytes k) (blocked (may_cover mark state bytes k) (mark (place_at state.place k))) why
+      let p = reads (is_read_to mark state bytes k)
+      (blocked (may_cover mark state bytes k) (mark (place_at state.place k))) why
       (sym (met-is k) ∙ h.first.is) in
       let q = is_blocked (may_cover mark state bytes k) (mark (place_at state.place k)) why p.1 in (
         k,
@@ -145,7 +162,8 @@ module _ (mark : ℕ → Mark) (state : State Word Flag) (bytes : List ℕ) wher
             within = let high = h.high in omega arith;
             asked = p.0;
             not_covered = q.0;
-            before = λ j below asks. covers j asks (may_cover mark state bytes j) refl (mark (place_at state.place j)) refl
+            before = λ j below asks. covers j asks (may_cover mark state bytes j) refl
+                (mark (place_at state.place j)) refl
                 (sym (met-is j) ∙ h.first.before j (omega arith) below);
           },
           q.1,
@@ -156,9 +174,12 @@ module _ (mark : ℕ → Mark) (state : State Word Flag) (bytes : List ℕ) wher
           → (μ : Mark) → mark (place_at state.place j) ≡ μ → met j ≡ None → may_cover mark state bytes j ≡ true
       covers j asks true is μ here none = is
       covers j asks false is Usual here none = covered-usual j here
-      covers j asks false is (Offset number byte) here none = let no : Some cause.Field ≡ None = sym (rw (asks, is, here) refl) ∙ none in absurd cc
-      covers j asks false is (Address number addend byte) here none = let no : Some cause.Field ≡ None = sym (rw (asks, is, here) refl) ∙ none in absurd cc
-      covers j asks false is Inside here none = let no : Some cause.Inside ≡ None = sym (rw (asks, is, here) refl) ∙ none in absurd cc
+      covers j asks false is (Offset number byte) here none = let no : Some cause.Field
+          ≡ None = sym (rw (asks, is, here) refl) ∙ none in absurd cc
+      covers j asks false is (Address number addend byte) here none = let no : Some cause.Field
+          ≡ None = sym (rw (asks, is, here) refl) ∙ none in absurd cc
+      covers j asks false is Inside here none = let no : Some cause.Inside ≡ None = sym (rw (asks, is, here) refl)
+          ∙ none in absurd cc
 
   abbrev pub ReadingIs : Option Cause → Type 0
   ReadingIs None = (StopsWith is_of_sequence → ⊥) × (StopsWith is_of_field → ⊥)
@@ -198,7 +219,8 @@ module _ (mark : ℕ → Mark) (state : State Word Flag) (bytes : List ℕ) wher
       field is stops = subst ReadingIs is (
         stops,
         λ s.
-            let no : Some why ≡ Some cause.Inside = stopped-by is_of_sequence cause.Inside (Some why) e seq-cause s in absurd cc,
+            let no : Some why ≡ Some cause.Inside =
+            stopped-by is_of_sequence cause.Inside (Some why) e seq-cause s in absurd cc,
       )
 
       by_mark : (μ : Mark) → mark (place_at state.place f.0) ≡ μ → ReadingIs (Some why)
@@ -211,5 +233,6 @@ module _ (mark : ℕ → Mark) (state : State Word Flag) (bytes : List ℕ) wher
           subst ReadingIs is (
             (f.0, (f.1.0, rw here refl)),
             λ s.
-                let no : Some why ≡ Some cause.Field = stopped-by is_of_field cause.Field (Some why) e field-cause s in absurd cc,
+                let no : Some why ≡ Some cause.Field =
+                stopped-by is_of_field cause.Field (Some why) e field-cause s in absurd cc,
           )

@@ -35,7 +35,8 @@ module _ {W F B M : Type 0} (ops : Operations W F B) (acc acc' : Accesses M B) (
     (memory : Memory) (a a' : ℕ) (at : address_of ops f s memory ≡ Ok a) (at' : address_of ops g s absolute ≡ Ok a')
     (loads : load_of ops acc m a 8 ≡ load_of ops acc' m a' 8)
     (stores : (place : ℕ) (word : W) → store_of ops acc m place 8 word ≡ store_of ops acc' m place 8 word)
-    (next : f.next ≡ g.next) (immediate : f.immediate ≡ g.immediate) (field : f.immediate_field ≡ g.immediate_field) where
+    (next : f.next ≡ g.next) (immediate : f.immediate ≡ g.immediate) (field : f.immediate_field
+    ≡ g.immediate_field) where
   finished-same : (to : Register) (effect : Effect)
       → finished ops acc QuadWidth (OfSlot to) effect f s m ≡ finished ops acc' QuadWidth (OfSlot to) effect g s m
   unfolding finished put
@@ -58,14 +59,17 @@ module _ {W F B M : Type 0} (ops : Operations W F B) (acc acc' : Accesses M B) (
   unfolding concluded
   compared slot slot' effect = rw next refl
 
-  carried-same : carried ops acc QuadWidth f s m (InMemory memory) ≡ carried ops acc' QuadWidth g s m (InMemory absolute)
+  carried-same : carried ops acc QuadWidth f s m (InMemory memory)
+      ≡ carried ops acc' QuadWidth g s m (InMemory absolute)
   unfolding carried
   carried-same = rw (at, at', loads) refl
 
   taken-then : {C : Type 0} (other : Result ℕ Cause) (k k' : Taken → Result C Stop)
       → ((slot slot' : Slot) (number other : ℕ)
-      → k (record { slot = slot; number = number; other = other }) ≡ k' (record { slot = slot'; number = number; other = other }))
-      → (taken ops acc QuadWidth f s m (InMemory memory) other >>= k) ≡ (taken ops acc' QuadWidth g s m (InMemory absolute) other >>= k')
+      → k (record { slot = slot; number = number; other = other })
+      ≡ k' (record { slot = slot'; number = number; other = other }))
+      → (taken ops acc QuadWidth f s m (InMemory memory) other >>= k)
+      ≡ (taken ops acc' QuadWidth g s m (InMemory absolute) other >>= k')
   unfolding taken taken_at
   taken-then other k k' h = rw (at, at', loads) (by_load (load_of ops acc' m a' 8))
     where
@@ -76,8 +80,10 @@ module _ {W F B M : Type 0} (ops : Operations W F B) (acc acc' : Accesses M B) (
       by_parts (Err stop) = refl
 
       by_load : (r : Result W Refusal)
-          → ((weighed ops acc QuadWidth s.place r other >>= (λ parts. Ok (record { slot = Place a; number = parts.0; other = parts.1 }))) >>= k)
-          ≡ ((weighed ops acc' QuadWidth s.place r other >>= (λ parts. Ok (record { slot = Place a'; number = parts.0; other = parts.1 }))) >>= k')
+          → ((weighed ops acc QuadWidth s.place r other >>=
+          (λ parts. Ok (record { slot = Place a; number = parts.0; other = parts.1 }))) >>= k)
+          ≡ ((weighed ops acc' QuadWidth s.place r other >>=
+          (λ parts. Ok (record { slot = Place a'; number = parts.0; other = parts.1 }))) >>= k')
       by_load (Ok word) = by_parts (clean s.place (both (number_at ops QuadWidth word) other))
       by_load (Err why) = refl
 
@@ -93,22 +99,27 @@ module _ {W F B M : Type 0} (ops : Operations W F B) (acc acc' : Accesses M B) (
   unfolding act compute_of compute_in
   computed-in arithmetic to =
       rw (not-cleared arithmetic to memory, not-cleared arithmetic to absolute)
-      (taken-then _ _ _ (λ slot slot' number other. concluded-same arithmetic to (compute_effect arithmetic QuadWidth other number)))
+      (taken-then _ _ _ (λ slot slot' number other. concluded-same arithmetic to
+      (compute_effect arithmetic QuadWidth other number)))
 
   compared-out : (from : Register) → Moves (Compute Compare QuadWidth (IntoMemory memory from))
   unfolding act compute_of compute_out
-  compared-out from = taken-then _ _ _ (λ slot slot' number other. compared slot slot' (compute_effect Compare QuadWidth number other))
+  compared-out from = taken-then _ _ _
+      (λ slot slot' number other. compared slot slot' (compute_effect Compare QuadWidth number other))
 
-  numbers : (o o' : Option ℕ) (n n' : ℕ) → o ≡ o' → n ≡ n' → immediate_of ops QuadWidth o n ≡ immediate_of ops QuadWidth o' n'
+  numbers : (o o' : Option ℕ) (n n' : ℕ) → o ≡ o' → n ≡ n'
+      → immediate_of ops QuadWidth o n ≡ immediate_of ops QuadWidth o' n'
   numbers o o' n n' e h = rw (e, h) refl
 
-  number-same : immediate_of ops QuadWidth f.immediate_field f.immediate ≡ immediate_of ops QuadWidth g.immediate_field g.immediate
+  number-same : immediate_of ops QuadWidth f.immediate_field f.immediate
+      ≡ immediate_of ops QuadWidth g.immediate_field g.immediate
   number-same = numbers f.immediate_field g.immediate_field f.immediate g.immediate field immediate
 
   compared-number : Moves (Compute Compare QuadWidth (Immediate (InMemory memory)))
   unfolding act compute_of compute_number compute_plain
   compared-number = rw (number-same)
-      (taken-then _ _ _ (λ slot slot' number other. compared slot slot' (compute_effect Compare QuadWidth number other)))
+      (taken-then _ _ _ (λ slot slot' number other. compared slot slot'
+      (compute_effect Compare QuadWidth number other)))
 
   tested : (right : Register) → Moves (Test QuadWidth (InMemory memory) right)
   unfolding act test_of
@@ -141,8 +152,10 @@ module _ {W F B M : Type 0} (ops : Operations W F B) (acc acc' : Accesses M B) (
   act-supplied (ExtendLong to from) e = absurd cc
   act-supplied (LoadAddress width to from) e = absurd cc
   act-supplied (Compute arithmetic LongWidth operands) e = absurd cc
-  act-supplied (Compute arithmetic QuadWidth (IntoRegister to from)) e = rw (is_memory from memory e) (computed-in arithmetic to)
-  act-supplied (Compute Compare QuadWidth (IntoMemory to from)) e = let is : to ≡ memory = cc in rw is (compared-out from)
+  act-supplied (Compute arithmetic QuadWidth (IntoRegister to from)) e =
+      rw (is_memory from memory e) (computed-in arithmetic to)
+  act-supplied (Compute Compare QuadWidth (IntoMemory to from)) e = let is : to
+      ≡ memory = cc in rw is (compared-out from)
   act-supplied (Compute Add QuadWidth (IntoMemory to from)) e = absurd cc
   act-supplied (Compute Or QuadWidth (IntoMemory to from)) e = absurd cc
   act-supplied (Compute And QuadWidth (IntoMemory to from)) e = absurd cc

@@ -48,7 +48,8 @@ use Rattle.cause_laws.proofs.Words.{none-tells, some-tells}
 
 -- ** a memory where no byte is closed
 
-both-open : {A C D : Type 0} (f : A → C → D) (a : Result A Refusal) (c : Result C Refusal) → NotShut a → NotShut c → NotShut (both_reached f a c)
+both-open : {A C D : Type 0} (f : A → C → D) (a : Result A Refusal) (c : Result C Refusal) → NotShut a → NotShut c
+    → NotShut (both_reached f a c)
 both-open f (Ok a) (Ok c) g h = tt
 both-open f (Ok a) (Err Refused) g h = tt
 both-open f (Ok a) (Err Shut) g h = h
@@ -81,10 +82,12 @@ module _ {M : Type 0} (acc : Accesses M Byte) (m : M) (open_byte : (place : ℕ)
   store-open place size word = reached-open _ _ (writes-open size place)
 
   lent-open : (number place : ℕ) → NotShut ((lent_at ops acc number).byte m place)
-  lent-open number place = (elim (nat_lt place 8) as (λ b. NotShut (if b then Ok (ops.byte_of (ops.word number) place) else acc.byte m place)) [
-    | true ↦ tt
-    | false ↦ open_byte place
-  ])
+  lent-open number place =
+      (elim (nat_lt place 8) as
+      (λ b. NotShut (if b then Ok (ops.byte_of (ops.word number) place) else acc.byte m place)) [
+        | true ↦ tt
+        | false ↦ open_byte place
+      ])
 
 -- what reads its operand uses no flag
 no-flags : (op : Operation) (x : Memory) (flags : _) → read_operand op ≡ Some x → flags_used {F = Flag} op flags ≡ []
@@ -131,11 +134,13 @@ module _ {M : Type 0} (acc : Accesses M Byte) (mark : ℕ → Mark) (state : Sta
 
   placed-told : (number : ℕ) → offset_of (first_mark mark state it it.disp) ≡ Some number → Told
   placed-told number is =
-      let h = placed-operand mark state it (operand_of operation) (placed-field mark state bytes it free read number is) in
+      let h = placed-operand mark state it (operand_of operation)
+      (placed-field mark state bytes it free read number is) in
       let x = h.0 in let a = h.1.0 in
       let there : operand_of operation ≡ Some x = h.1.1.0 in
       let bare = only-offset (first_mark mark state it it.disp) number is in
-      let none = lacks-immediate acc mark state memory it free read (λ to e. no-operand to x (sym (ap operand_of e) ∙ there)) in
+      let none = lacks-immediate acc mark state memory it free read
+      (λ to e. no-operand to x (sym (ap operand_of e) ∙ there)) in
       let at : address_of ops frame state x ≡ Ok a = is-there _ (operand_address mark state it x) a
       (same-by (operands.offset_field mark state it) _ _ _ (address-says mark state it x)) h.1.1.1 in
       rw (address-same acc state memory mark it it.disp, bare)
@@ -160,7 +165,8 @@ module _ {M : Type 0} (acc : Accesses M Byte) (mark : ℕ → Mark) (state : Sta
       (given mark state it it.instr.displacement it.disp) none).0 in
       let at : address_of ops (lent_frame (Some number) frame) state x ≡ Ok 0 =
       lent-address ops frame state x number bare (omega arith) from index in
-      let lacks = lacks-immediate acc mark state memory it free read (λ to e. no-read to x (sym (ap read_operand e) ∙ there)) in
+      let lacks = lacks-immediate acc mark state memory it free read
+      (λ to e. no-read to x (sym (ap read_operand e) ∙ there)) in
       rw (address-same acc state memory mark it it.disp, is)
       (lent-tells acc (lent_at ops acc number) mark (lent_frame (Some number) frame) state memory it number
       (no-immediate-field lacks) is
@@ -169,7 +175,8 @@ module _ {M : Type 0} (acc : Accesses M Byte) (mark : ℕ → Mark) (state : Sta
       (lent-load ops acc (λ m place. false) memory number (λ k below. refl)) there none lacks p.0 index
       (no-flags operation x state.flags there))
 
-  own-told : offset_of (first_mark mark state it it.disp) ≡ None → operands.address_of (first_mark mark state it it.disp) ≡ None
+  own-told : offset_of (first_mark mark state it it.disp) ≡ None
+      → operands.address_of (first_mark mark state it it.disp) ≡ None
       → offset_of (first_mark mark state it it.imm) ≡ None → Told
   unfolding marked_frame frame_of
   own-told none bare lacks =
@@ -183,7 +190,8 @@ module _ {M : Type 0} (acc : Accesses M Byte) (mark : ℕ → Mark) (state : Sta
   -- an offset field that is added: the step is done, and no word of it is a use
   abbrev cause_by : Operation → Option Cause
   cause_by op = pick (operand_words mark state it (is_nop op) (operand_of op)
-      ++ (if uses_loaded op then first_loaded acc memory (accesses_of mark state it op) else [])) (flags_used op state.flags)
+      ++ (if uses_loaded op then first_loaded acc memory (accesses_of mark state it op) else []))
+      (flags_used op state.flags)
 
   add-cause : (to : Register) → cause_by (Compute Add Quad (Immediate (InRegister to))) ≡ None
   unfolding operand_of uses_loaded accesses_of flags_used
@@ -200,7 +208,8 @@ module _ {M : Type 0} (acc : Accesses M Byte) (mark : ℕ → Mark) (state : Sta
       → operands.address_of (first_mark mark state it it.disp) ≡ None
       → offset_of (first_mark mark state it it.imm) ≡ Some number → Told
   summed-told number none bare is =
-      let d = summed-is _ _ _ _ number none bare is (summed-step acc mark state memory it free read number none bare is) in
+      let d = summed-is _ _ _ _ number none bare is
+      (summed-step acc mark state memory it free read number none bare is) in
       let h = adds-none mark state it operation (added-field mark state bytes it free read number is) in
       let cause : cause_by operation ≡ None = ap cause_by h.1.1.0 ∙ add-cause h.0 in
       let done_is : done ops acc mark None (Some it) state memory ≡ Ok d.0 = d.1 in
@@ -225,6 +234,7 @@ module _ {M : Type 0} (acc : Accesses M Byte) (mark : ℕ → Mark) (state : Sta
   -- the law of a step that nothing hinders, over any memory
   pub step-told : hindrance ops mark state (fetch_of acc memory state.place) ≡ None → (o : Option Decoded)
       → decoded (fetch_of acc memory state.place) ≡ o
-      → Tells state.place (done ops acc mark None o state memory) (pick (words_of acc mark state memory o) (used_flags acc mark state memory o))
+      → Tells state.place (done ops acc mark None o state memory)
+      (pick (words_of acc mark state memory o) (used_flags acc mark state memory o))
   step-told free None read = refl
   step-told free (Some it) read = instruction-told acc mark state memory it free read open_byte open_write

@@ -129,8 +129,10 @@ module _ {M : Type 0} (acc : Accesses M Byte) (state : State Word Flag) (m : M) 
     frame = marked_frame mark state.place it
 
     module _ (bare : operands.address_of (first_mark mark state it it.disp) ≡ None) where
-      same-address : (memory : Memory) → Same (address_of ops frame state memory) (steps.place_of mark state it (InMemory memory))
-      same-address memory = rw bare (same-by (operands.offset_field mark state it) _ _ _ (address-says mark state it memory))
+      same-address : (memory : Memory)
+          → Same (address_of ops frame state memory) (steps.place_of mark state it (InMemory memory))
+      same-address memory =
+          rw bare (same-by (operands.offset_field mark state it) _ _ _ (address-says mark state it memory))
 
       then-load : (size : Size) (o : Operand) (more : List ℕ) (rest : List Access) → more ≡ mine rest
           → touched_then acc m (operand_touch ops frame state direction.Load size o) more
@@ -138,32 +140,40 @@ module _ {M : Type 0} (acc : Accesses M Byte) (state : State Word Flag) (m : M) 
       then-load size (InRegister r) more rest h = h
       then-load size (InMemory memory) more rest h = one-load size _ _ (same-address memory) more rest h
 
-      loads-is : (size : Size) (o : Operand) → touched_then acc m (operand_touch ops frame state direction.Load size o) []
+      loads-is : (size : Size) (o : Operand)
+          → touched_then acc m (operand_touch ops frame state direction.Load size o) []
           ≡ mine (steps.loads mark state it (bytes_in size) o)
       loads-is size (InRegister r) = refl
       loads-is size (InMemory memory) = last-load size _ _ (same-address memory)
 
-      stores-is : (size : Size) (o : Operand) → touched_then acc m (operand_touch ops frame state direction.Store size o) []
+      stores-is : (size : Size) (o : Operand)
+          → touched_then acc m (operand_touch ops frame state direction.Store size o) []
           ≡ mine (steps.stores mark state it (bytes_in size) o)
       stores-is size (InRegister r) = refl
       stores-is size (InMemory memory) = last-store size _ _ (same-address memory)
 
-      wide-loads : (width : Width) (o : Operand) → touched_then acc m (operand_touch ops frame state direction.Load (size_for width) o) []
+      wide-loads : (width : Width) (o : Operand)
+          → touched_then acc m (operand_touch ops frame state direction.Load (size_for width) o) []
           ≡ mine (steps.loads mark state it (bytes_of width) o)
-      wide-loads width o = loads-is (size_for width) o ∙ ap (λ (n : ℕ). mine (steps.loads mark state it n o)) (bytes-is width)
+      wide-loads width o = loads-is (size_for width) o
+          ∙ ap (λ (n : ℕ). mine (steps.loads mark state it n o)) (bytes-is width)
 
-      wide-stores : (width : Width) (o : Operand) → touched_then acc m (operand_touch ops frame state direction.Store (size_for width) o) []
+      wide-stores : (width : Width) (o : Operand)
+          → touched_then acc m (operand_touch ops frame state direction.Store (size_for width) o) []
           ≡ mine (steps.stores mark state it (bytes_of width) o)
-      wide-stores width o = stores-is (size_for width) o ∙ ap (λ (n : ℕ). mine (steps.stores mark state it n o)) (bytes-is width)
+      wide-stores width o = stores-is (size_for width) o
+          ∙ ap (λ (n : ℕ). mine (steps.stores mark state it n o)) (bytes-is width)
 
       changes-is : (width : Width) (o : Operand)
           → touched_then acc m (operand_touch ops frame state direction.Load (size_for width) o)
           (touched_then acc m (operand_touch ops frame state direction.Store (size_for width) o) [])
           ≡ mine (steps.changes mark state it (bytes_of width) o)
       changes-is width o = then-load (size_for width) o _ _ (wide-stores width o)
-          ∙ ap (λ (n : ℕ). mine (steps.loads mark state it n o ++ steps.stores mark state it (bytes_of width) o)) (bytes-is width)
+          ∙ ap (λ (n : ℕ). mine (steps.loads mark state it n o ++ steps.stores mark state it (bytes_of width) o))
+          (bytes-is width)
 
-      pub touches-are : (op : Operation) → touched acc m (touches_of ops frame state op) ≡ mine (accesses_of mark state it op)
+      pub touches-are : (op : Operation)
+          → touched acc m (touches_of ops frame state op) ≡ mine (accesses_of mark state it op)
       unfolding touched touches_of accesses_of
       touches-are (Move width (IntoRegister to from)) = wide-loads width from
       touches-are (Move width (IntoMemory to from)) = wide-stores width (InMemory to)
@@ -214,7 +224,8 @@ module _ {M : Type 0} (acc : Accesses M Byte) (state : State Word Flag) (m : M) 
       then-push operand = rw (no-load 8 operand) refl
 
       abbrev Left : Operation → Type 0
-      Left op = touched acc m (without_operand (Some number) (touches_of ops frame state op)) ≡ mine (accesses_of mark state it op)
+      Left op = touched acc m (without_operand (Some number) (touches_of ops frame state op))
+          ≡ mine (accesses_of mark state it op)
 
       pub left-are : (op : Operation) (memory : Memory) → read_operand op ≡ Some memory → Left op
       unfolding touched touches_of accesses_of read_operand

@@ -54,7 +54,8 @@ abbrev pub cause_of : {A : Type 0} → Result A Cause → Option Cause
 cause_of (Ok x) = None
 cause_of (Err why) = Some why
 
-both-cause : {A C : Type 0} (a : Result A Cause) (c : Result C Cause) → cause_of (both a c) ≡ earlier (cause_of a) (cause_of c)
+both-cause : {A C : Type 0} (a : Result A Cause) (c : Result C Cause)
+    → cause_of (both a c) ≡ earlier (cause_of a) (cause_of c)
 both-cause (Ok a) (Ok c) = refl
 both-cause (Ok a) (Err why) = refl
 both-cause (Err why) (Ok c) = refl
@@ -116,7 +117,8 @@ three-flags Unsettled (Truth b) Unsettled join = refl
 three-flags Unsettled Unsettled (Truth c) join = refl
 three-flags Unsettled Unsettled Unsettled join = refl
 
-condition-cause : (c : Condition) (flags : Flags Flag) → cause_of (condition_of ops c flags) ≡ pick [] (flags_of c flags)
+condition-cause : (c : Condition) (flags : Flags Flag)
+    → cause_of (condition_of ops c flags) ≡ pick [] (flags_of c flags)
 unfolding condition_of is_less is_less_or_equal is_below_or_equal marked_operations
 condition-cause condition.Overflow flags = one-flag flags.overflow
 condition-cause condition.NotOverflow flags = used-cause _ (used_truth flags.overflow) ∙ one-flag flags.overflow
@@ -131,7 +133,8 @@ condition-cause condition.NotSign flags = used-cause _ (used_truth flags.sign) �
 condition-cause condition.Less flags = used-cause _ _ ∙ two-flags flags.sign flags.overflow
 condition-cause condition.NotLess flags = used-cause _ _ ∙ (used-cause _ _ ∙ two-flags flags.sign flags.overflow)
 condition-cause condition.LessOrEqual flags = used-cause _ _ ∙ three-flags flags.zero flags.sign flags.overflow _
-condition-cause condition.Greater flags = used-cause _ _ ∙ (used-cause _ _ ∙ three-flags flags.zero flags.sign flags.overflow _)
+condition-cause condition.Greater flags = used-cause _ _
+    ∙ (used-cause _ _ ∙ three-flags flags.zero flags.sign flags.overflow _)
 
 -- ** what a step tells
 
@@ -153,7 +156,8 @@ NotShut (Ok x) = Unit {0}
 NotShut (Err Refused) = Unit {0}
 NotShut (Err Shut) = ⊥
 
-clean-tells : {A : Type 0} (here : ℕ) (r : Result A Cause) (c : Option Cause) → cause_of r ≡ c → Tells here (clean here r) c
+clean-tells : {A : Type 0} (here : ℕ) (r : Result A Cause) (c : Option Cause) → cause_of r ≡ c
+    → Tells here (clean here r) c
 clean-tells here (Ok x) c e = sym e
 clean-tells here (Err why) c e = (refl, sym e)
 
@@ -224,7 +228,8 @@ module _ {M : Type 0} (acc : Accesses M Byte) (f : Frame) (state : State Word Fl
 
   with-cause : {A : Type 0} (why : Cause) (other : Result A Cause) (ws ws' : List Word) → Some why ≡ word_cause ws
       → cause_of other ≡ word_cause ws' → Some (cause_with why other) ≡ word_cause (ws ++ ws')
-  with-cause why (Ok x) ws ws' e g = e ∙ (sym (earlier-none (word_cause ws)) ∙ (ap (earlier (word_cause ws)) g ∙ sym (pick-append ws ws')))
+  with-cause why (Ok x) ws ws' e g = e
+      ∙ (sym (earlier-none (word_cause ws)) ∙ (ap (earlier (word_cause ws)) g ∙ sym (pick-append ws ws')))
   with-cause why (Err other) ws ws' e g =
       ap (λ (o : Option Cause). earlier o (Some other)) e ∙ (ap (earlier (word_cause ws)) g ∙ sym (pick-append ws ws'))
 
@@ -242,7 +247,8 @@ module _ {M : Type 0} (acc : Accesses M Byte) (f : Frame) (state : State Word Fl
   told : {A : Type 0} (r : Result A Stop) (c c' : Option Cause) → c ≡ c' → Stepped r c → Stepped r c'
   told r c c' e h = subst (λ (o : Option Cause). Stepped r o) e h
 
-  weighed-tells : (width : Width) (place : ℕ) (r : Result Word Refusal) (other : Result ℕ Cause) (ws A : List Word) → NotShut r
+  weighed-tells : (width : Width) (place : ℕ) (r : Result Word Refusal) (other : Result ℕ Cause) (ws A : List Word)
+      → NotShut r
       → word_cause A ≡ None → cause_of other ≡ word_cause ws
       → Stepped (weighed ops acc width state.place r other) (word_cause (ws ++ (A ++ word_in r)))
   weighed-tells width place (Ok w) other ws A h none e =
@@ -253,15 +259,20 @@ module _ {M : Type 0} (acc : Accesses M Byte) (f : Frame) (state : State Word Fl
       (sym (without ws A [] none ∙ ap word_cause (append-nil ws))) (refused-tells other ws e)
   weighed-tells width place (Err Shut) other ws A h none e = absurd h
 
-  at-tells : (width : Width) (r : Result ℕ Cause) (other : Result ℕ Cause) (ws A : List Word) → cause_of r ≡ word_cause A
+  at-tells : (width : Width) (r : Result ℕ Cause) (other : Result ℕ Cause) (ws A : List Word)
+      → cause_of r ≡ word_cause A
       → cause_of other ≡ word_cause ws
       → Stepped (taken_at ops acc width state.place m r other) (word_cause (ws ++ (A ++ at_address (size_of width) r)))
   unfolding taken_at
   at-tells width (Ok place) other ws A fits e =
-      then-tells state.place _ _ _ (weighed-tells width place _ other ws A (open_load place (size_of width)) (sym fits) e)
+      then-tells state.place _ _ _
+      (weighed-tells width place _ other ws A (open_load place (size_of width)) (sym fits) e)
       (λ parts. refl)
-  at-tells width (Err why) other ws A fits e =
-      (refl, sym (with-cause why other A ws fits e ∙ (swapped A ws ∙ ap (λ (l : List Word). word_cause (ws ++ l)) (sym (append-nil A)))))
+  at-tells width (Err why) other ws A fits e = (
+    refl,
+    sym (with-cause why other A ws fits e
+        ∙ (swapped A ws ∙ ap (λ (l : List Word). word_cause (ws ++ l)) (sym (append-nil A)))),
+  )
 
   taken-tells : (width : Width) (operand : Operand) (other : Result ℕ Cause) (ws : List Word) → FitsOperand operand
       → cause_of other ≡ word_cause ws
@@ -281,7 +292,8 @@ module _ {M : Type 0} (acc : Accesses M Byte) (f : Frame) (state : State Word Fl
   put-tells width (Place place) word =
       then-tells state.place _ _ _ (there-tells state.place _ (open_store place (size_of width) word)) (λ after. refl)
 
-  finished-tells : (width : Width) (slot : Slot) (effect : Effect) → Stepped (finished ops acc width slot effect f state m) None
+  finished-tells : (width : Width) (slot : Slot) (effect : Effect)
+      → Stepped (finished ops acc width slot effect f state m) None
   unfolding finished
   finished-tells width slot effect = then-tells state.place _ _ _ (put-tells width slot _) (λ after. refl)
 
@@ -295,7 +307,8 @@ module _ {M : Type 0} (acc : Accesses M Byte) (f : Frame) (state : State Word Fl
   concluded-tells Sub width slot effect = finished-tells width slot effect
   concluded-tells Xor width slot effect = finished-tells width slot effect
 
-  stored-tells : (size : ℕ) (to : Memory) (word : Word) → Fits to → Stepped (stored ops acc size f state m to word) (word_cause (aw to))
+  stored-tells : (size : ℕ) (to : Memory) (word : Word) → Fits to
+      → Stepped (stored ops acc size f state m to word) (word_cause (aw to))
   unfolding stored
   stored-tells size to word fits =
       then-tells state.place _ _ _ (clean-tells state.place _ _ fits)
@@ -303,7 +316,8 @@ module _ {M : Type 0} (acc : Accesses M Byte) (f : Frame) (state : State Word Fl
 
   pushed-tells : (stack : ℕ) (word : Word) → Stepped (pushed ops acc stack word state m) None
   unfolding pushed
-  pushed-tells stack word = then-tells state.place _ _ _ (there-tells state.place _ (open_store _ 8 word)) (λ after. refl)
+  pushed-tells stack word =
+      then-tells state.place _ _ _ (there-tells state.place _ (open_store _ 8 word)) (λ after. refl)
 
   immediate-cause : (width : Width) (o : Option ℕ) → o ≡ None → cause_of (immediate_of ops width o f.immediate) ≡ None
   unfolding immediate_of
@@ -344,11 +358,13 @@ module _ {M : Type 0} (acc : Accesses M Byte) (f : Frame) (state : State Word Fl
   moved-is (InMemory memory) = sym (append-nil (aw memory))
 
   all-is : (size : ℕ) (operand : Operand)
-      → all_of size operand ≡ map value (registers_in operand) ++ (aw_if false (memory_of operand) ++ loaded_of size operand)
+      → all_of size operand
+      ≡ map value (registers_in operand) ++ (aw_if false (memory_of operand) ++ loaded_of size operand)
   all-is size (InRegister register) = refl
   all-is size (InMemory memory) = refl
 
-  move-into : (width : Width) (to : Register) (from : Operand) → FitsOperand from → Stepped (move_in ops acc width f state m to from)
+  move-into : (width : Width) (to : Register) (from : Operand) → FitsOperand from
+      → Stepped (move_in ops acc width f state m to from)
       (word_cause (aw_if false (memory_of from) ++ []))
   unfolding move_in
   move-into width to from fits = told _ _ _ (ap word_cause (moved-is from))
@@ -358,17 +374,22 @@ module _ {M : Type 0} (acc : Accesses M Byte) (f : Frame) (state : State Word Fl
       → Stepped (move_number ops acc width f state m to) (word_cause (aw_if false (memory_of to) ++ []))
   unfolding move_number
   move-number-tells width (InRegister to) fits =
-      then-tells state.place _ _ _ (clean-tells state.place _ _ (immediate-cause width f.immediate_field no-field)) (λ number. refl)
+      then-tells state.place _ _ _ (clean-tells state.place _ _ (immediate-cause width f.immediate_field no-field))
+      (λ number. refl)
   move-number-tells width (InMemory to) fits =
-      first-clean (immediate_of ops width f.immediate_field f.immediate) (immediate-cause width f.immediate_field no-field)
+      first-clean (immediate_of ops width f.immediate_field f.immediate)
+      (immediate-cause width f.immediate_field no-field)
     where
       first-clean : (r : Result ℕ Cause) → cause_of r ≡ None
           → Stepped (clean state.place r >>= (λ number. stored ops acc (size_of width) f state m to (ops.word number)))
           (word_cause (aw to ++ []))
-      first-clean (Ok number) e = told _ _ _ (ap word_cause (sym (append-nil (aw to)))) (stored-tells (size_of width) to (ops.word number) (fits to refl))
+      first-clean (Ok number) e =
+          told _ _ _ (ap word_cause (sym (append-nil (aw to))))
+          (stored-tells (size_of width) to (ops.word number) (fits to refl))
       first-clean (Err why) e = absurd cc
 
-  zeroing-is : (arithmetic : Arithmetic) (to : Register) (from : Operand) → is_cleared arithmetic to from ≡ is_zeroing arithmetic to from
+  zeroing-is : (arithmetic : Arithmetic) (to : Register) (from : Operand)
+      → is_cleared arithmetic to from ≡ is_zeroing arithmetic to from
   unfolding is_cleared
   zeroing-is Sub to (InRegister from) = refl
   zeroing-is Sub to (InMemory from) = refl
@@ -379,10 +400,12 @@ module _ {M : Type 0} (acc : Accesses M Byte) (f : Frame) (state : State Word Fl
   zeroing-is And to from = refl
   zeroing-is Compare to from = refl
 
-  into-register : (arithmetic : Arithmetic) (width : Width) (to : Register) (from : Operand) → FitsOperand from → (b : Bool)
+  into-register : (arithmetic : Arithmetic) (width : Width) (to : Register) (from : Operand) → FitsOperand from
+      → (b : Bool)
       → is_zeroing arithmetic to from ≡ b
       → Stepped (compute_in ops acc arithmetic width f state m to from)
-      (word_cause (map value (if b then [] else to ∷ registers_in from) ++ (aw_if false (memory_of from) ++ loaded_of (size_of width) from)))
+      (word_cause (map value (if b then [] else to ∷ registers_in from) ++
+      (aw_if false (memory_of from) ++ loaded_of (size_of width) from)))
   unfolding compute_in
   into-register arithmetic width to (InRegister from) fits true e =
       rw (zeroing-is arithmetic to (InRegister from), e) (finished-tells width (OfSlot to) _)
@@ -397,7 +420,8 @@ module _ {M : Type 0} (acc : Accesses M Byte) (f : Frame) (state : State Word Fl
       never Compare e = absurd cc
   into-register arithmetic width to from fits false e =
       rw (zeroing-is arithmetic to from, e)
-      (then-tells state.place _ _ _ (told _ _ _ (ap (λ (l : List Word). word_cause (value to ∷ l)) (all-is (size_of width) from))
+      (then-tells state.place _ _ _
+      (told _ _ _ (ap (λ (l : List Word). word_cause (value to ∷ l)) (all-is (size_of width) from))
       (taken-tells width from _ (value to ∷ []) fits (register-cause width (value to))))
       (λ it. concluded-tells arithmetic width (OfSlot to) _))
 
@@ -418,7 +442,8 @@ module _ {M : Type 0} (acc : Accesses M Byte) (f : Frame) (state : State Word Fl
       (λ it. concluded-tells arithmetic width it.slot _)
 
   number-plain : (arithmetic : Arithmetic) (width : Width) (o : Option ℕ) (to : Operand) → o ≡ None
-      → compute_number ops acc arithmetic width o f state m to ≡ compute_plain ops acc arithmetic width None f state m to
+      → compute_number ops acc arithmetic width o f state m to
+      ≡ compute_plain ops acc arithmetic width None f state m to
   unfolding compute_number
   number-plain Add LongWidth None to e = refl
   number-plain Add QuadWidth None to e = refl
@@ -436,11 +461,13 @@ module _ {M : Type 0} (acc : Accesses M Byte) (f : Frame) (state : State Word Fl
       rw (number-plain arithmetic width f.immediate_field to no-field)
       (told _ _ _ (ap word_cause (all-is (size_of width) to)) (with-number arithmetic width to fits))
 
-  byte-tells : (to : Memory) (from : Register) → Fits to → Stepped (store_byte ops acc f state m to from) (word_cause (aw to ++ []))
+  byte-tells : (to : Memory) (from : Register) → Fits to
+      → Stepped (store_byte ops acc f state m to from) (word_cause (aw to ++ []))
   unfolding store_byte
   byte-tells to from fits = told _ _ _ (ap word_cause (sym (append-nil (aw to)))) (stored-tells 1 to _ fits)
 
-  extend-byte-tells : (to : Register) (from : Operand) → FitsOperand from → Stepped (extend_byte ops acc f state m to from)
+  extend-byte-tells : (to : Register) (from : Operand) → FitsOperand from
+      → Stepped (extend_byte ops acc f state m to from)
       (word_cause (aw_if false (memory_of from) ++ []))
   unfolding extend_byte
   extend-byte-tells to (InRegister from) fits = refl
@@ -448,13 +475,15 @@ module _ {M : Type 0} (acc : Accesses M Byte) (f : Frame) (state : State Word Fl
       (then-tells state.place _ _ _ (clean-tells state.place _ _ (fits from refl))
       (λ place. then-tells state.place _ _ _ (there-tells state.place _ (open_load place 1)) (λ word. refl)))
 
-  extend-long-tells : (to : Register) (from : Operand) → FitsOperand from → Stepped (extend_long ops acc f state m to from)
+  extend-long-tells : (to : Register) (from : Operand) → FitsOperand from
+      → Stepped (extend_long ops acc f state m to from)
       (word_cause (aw_if false (memory_of from) ++ []))
   unfolding extend_long
   extend-long-tells to from fits = told _ _ _ (ap word_cause (moved-is from))
       (then-tells state.place _ _ _ (carried-tells LongWidth from fits) (λ word. refl))
 
-  address-tells : (width : Width) (to : Register) (from : Memory) → Fits from → Stepped (load_address ops acc width f state m to from)
+  address-tells : (width : Width) (to : Register) (from : Memory) → Fits from
+      → Stepped (load_address ops acc width f state m to from)
       (word_cause (aw from ++ []))
   unfolding load_address
   address-tells width to from fits = told _ _ _ (ap word_cause (sym (append-nil (aw from))))
@@ -462,19 +491,24 @@ module _ {M : Type 0} (acc : Accesses M Byte) (f : Frame) (state : State Word Fl
 
   test-tells : (width : Width) (left : Operand) (right : Register) → FitsOperand left
       → Stepped (test_of ops acc width f state m left right)
-      (word_cause (value right ∷ (map value (registers_in left) ++ (aw_if false (memory_of left) ++ loaded_of (size_of width) left))))
+      (word_cause (value right ∷
+      (map value (registers_in left) ++ (aw_if false (memory_of left) ++ loaded_of (size_of width) left))))
   unfolding test_of
   test-tells width left right fits =
-      then-tells state.place _ _ _ (told _ _ _ (ap (λ (l : List Word). word_cause (value right ∷ l)) (all-is (size_of width) left))
+      then-tells state.place _ _ _
+      (told _ _ _ (ap (λ (l : List Word). word_cause (value right ∷ l)) (all-is (size_of width) left))
       (taken-tells width left _ (value right ∷ []) fits (register-cause width (value right)))) (λ it. refl)
 
   multiply-tells : (width : Width) (to : Register) (from : Operand) → FitsOperand from
       → Stepped (multiply_of ops acc width f state m to from)
-      (word_cause (value to ∷ (map value (registers_in from) ++ (aw_if false (memory_of from) ++ loaded_of (size_of width) from))))
+      (word_cause (value to ∷
+      (map value (registers_in from) ++ (aw_if false (memory_of from) ++ loaded_of (size_of width) from))))
   unfolding multiply_of
   multiply-tells width to from fits =
-      then-tells state.place _ _ _ (told _ _ _ (ap (λ (l : List Word). word_cause (value to ∷ l)) (all-is (size_of width) from))
-      (taken-tells width from _ (value to ∷ []) fits (register-cause width (value to)))) (λ it. finished-tells width (OfSlot to) _)
+      then-tells state.place _ _ _
+      (told _ _ _ (ap (λ (l : List Word). word_cause (value to ∷ l)) (all-is (size_of width) from))
+      (taken-tells width from _ (value to ∷ []) fits (register-cause width (value to))))
+      (λ it. finished-tells width (OfSlot to) _)
 
   shift-tells : (shift : _) (width : Width) (to : Operand) (count : ℕ) → FitsOperand to
       → Stepped (shift_of ops acc shift width f state m to count)
@@ -510,28 +544,37 @@ module _ {M : Type 0} (acc : Accesses M Byte) (f : Frame) (state : State Word Fl
     where
       by_stack : (r : Result ℕ Cause) → cause_of r ≡ word_cause (state.registers.rsp ∷ [])
           → Stepped (clean state.place r >>= (λ stack. there state.place (load_of ops acc m stack 8) >>= (λ word.
-          clean state.place (used_number word) >>= (λ place. Ok (left (at_place (with_stack state (ops.word (plus stack 8))) place) m)))))
+          clean state.place (used_number word) >>=
+          (λ place. Ok (left (at_place (with_stack state (ops.word (plus stack 8))) place) m)))))
           (word_cause (state.registers.rsp ∷ at_address 8 r))
-      by_stack (Ok stack) e = told (there state.place (load_of ops acc m stack 8) >>= (λ word. clean state.place (used_number word) >>= (λ place.
-          Ok (left (at_place (with_stack state (ops.word (plus stack 8))) place) m)))) (word_cause (at_address 8 (Ok stack)))
-          (word_cause (state.registers.rsp ∷ at_address 8 (Ok stack))) (sym (without [] (state.registers.rsp ∷ []) (at_address 8 (Ok stack)) (sym e)))
-          (loaded-tells state.place (load_of ops acc m stack 8) (λ word. clean state.place (used_number word) >>= (λ place.
+      by_stack (Ok stack) e =
+          told (there state.place (load_of ops acc m stack 8) >>=
+          (λ word. clean state.place (used_number word) >>= (λ place.
+          Ok (left (at_place (with_stack state (ops.word (plus stack 8))) place) m))))
+          (word_cause (at_address 8 (Ok stack)))
+          (word_cause (state.registers.rsp ∷ at_address 8 (Ok stack)))
+          (sym (without [] (state.registers.rsp ∷ []) (at_address 8 (Ok stack)) (sym e)))
+          (loaded-tells state.place (load_of ops acc m stack 8)
+          (λ word. clean state.place (used_number word) >>= (λ place.
           Ok (left (at_place (with_stack state (ops.word (plus stack 8))) place) m))) (open_load stack 8) (λ w.
           then-tells state.place (clean state.place (used_number w)) (word_cause (w ∷ []))
           (λ place. Ok (left (at_place (with_stack state (ops.word (plus stack 8))) place) m))
           (clean-tells state.place (used_number w) (word_cause (w ∷ [])) (number-cause w)) (λ place. refl)))
       by_stack (Err why) e = (refl, sym e)
 
-  call-tells : (distance : ℕ) → Stepped (call_of ops acc f state m (Relative distance)) (word_cause (state.registers.rsp ∷ []))
+  call-tells : (distance : ℕ)
+      → Stepped (call_of ops acc f state m (Relative distance)) (word_cause (state.registers.rsp ∷ []))
   unfolding call_of
   call-tells distance = then-tells state.place _ _ _ (clean-tells state.place _ _ stack-cause)
       (λ stack. then-tells state.place _ _ _ (pushed-tells stack _) (λ after. refl))
 
   call-at-tells : (operand : Operand) → FitsOperand operand → Stepped (call_of ops acc f state m (Indirect operand))
-      (word_cause (state.registers.rsp ∷ (map value (registers_in operand) ++ (aw_if false (memory_of operand) ++ loaded_of 8 operand))))
+      (word_cause (state.registers.rsp ∷
+      (map value (registers_in operand) ++ (aw_if false (memory_of operand) ++ loaded_of 8 operand))))
   unfolding call_of
   call-at-tells operand fits =
-      then-tells state.place _ _ _ (told _ _ _ (ap (λ (l : List Word). word_cause (state.registers.rsp ∷ l)) (all-is 8 operand))
+      then-tells state.place _ _ _
+      (told _ _ _ (ap (λ (l : List Word). word_cause (state.registers.rsp ∷ l)) (all-is 8 operand))
       (taken-tells QuadWidth operand _ (state.registers.rsp ∷ []) fits stack-cause))
       (λ it. then-tells state.place _ _ _ (pushed-tells it.other _) (λ after. refl))
 
@@ -539,15 +582,18 @@ module _ {M : Type 0} (acc : Accesses M Byte) (f : Frame) (state : State Word Fl
       (word_cause (map value (registers_in operand) ++ (aw_if false (memory_of operand) ++ loaded_of 8 operand)))
   unfolding jump_of
   jump-at-tells operand fits =
-      then-tells state.place _ _ _ (told _ _ _ (ap word_cause (all-is 8 operand)) (taken-tells QuadWidth operand (Ok 0) [] fits refl))
+      then-tells state.place _ _ _
+      (told _ _ _ (ap word_cause (all-is 8 operand)) (taken-tells QuadWidth operand (Ok 0) [] fits refl))
       (λ it. refl)
 
-  jump-if-tells : (c : Condition) (distance : ℕ) → Stepped (jump_if ops acc f state m c distance) (pick [] (flags_of c state.flags))
+  jump-if-tells : (c : Condition) (distance : ℕ)
+      → Stepped (jump_if ops acc f state m c distance) (pick [] (flags_of c state.flags))
   unfolding jump_if
   jump-if-tells c distance =
       then-tells state.place _ _ _ (clean-tells state.place _ _ (condition-cause c state.flags)) (λ holds. refl)
 
-  nop-tells : (o : Option Operand) → cause_of (nop_use ops f state f.displacement_field o) ≡ None → Stepped (nop_of ops acc f state m o) None
+  nop-tells : (o : Option Operand) → cause_of (nop_use ops f state f.displacement_field o) ≡ None
+      → Stepped (nop_of ops acc f state m o) None
   unfolding nop_of
   nop-tells o e = then-tells state.place _ _ _ (clean-tells state.place _ _ e) (λ unused. refl)
 
@@ -568,7 +614,8 @@ module _ {M : Type 0} (acc : Accesses M Byte) (f : Frame) (state : State Word Fl
   act-tells (LoadAddress width to from) fits nop = address-tells width to from (fits from refl)
   act-tells (Compute arithmetic width (IntoRegister to from)) fits nop =
       into-register arithmetic width to from fits (is_zeroing arithmetic to from) refl
-  act-tells (Compute arithmetic width (IntoMemory to from)) fits nop = into-memory arithmetic width to from (fits to refl)
+  act-tells (Compute arithmetic width (IntoMemory to from)) fits nop =
+      into-memory arithmetic width to from (fits to refl)
   act-tells (Compute arithmetic width (Immediate to)) fits nop = number-tells arithmetic width to fits
   act-tells (Test width operand right) fits nop = test-tells width operand right fits
   act-tells (Multiply width to from) fits nop = multiply-tells width to from fits

@@ -72,13 +72,15 @@ module _ {M : Type 0} (acc : Accesses M Byte) (mark : ℕ → Mark) (state : Sta
   abbrev of_operand : ℕ → Operand → List Word
   of_operand size operand = first_loaded acc m (steps.loads mark state it size operand)
 
-  loaded-is : (size : ℕ) (operand : Operand) → loaded_of acc frame state m aw no-field open_load open_store size operand ≡ of_operand size operand
+  loaded-is : (size : ℕ) (operand : Operand)
+      → loaded_of acc frame state m aw no-field open_load open_store size operand ≡ of_operand size operand
   loaded-is size (InRegister r) = refl
   loaded-is size (InMemory memory) =
       rw bare (at-is size _ _ (same-by (operands.offset_field mark state it) _ _ _ (address-says mark state it memory)))
 
   wide-is : (width : Width) (operand : Operand)
-      → loaded_of acc frame state m aw no-field open_load open_store (size_of width) operand ≡ of_operand (bytes_of width) operand
+      → loaded_of acc frame state m aw no-field open_load open_store (size_of width) operand
+      ≡ of_operand (bytes_of width) operand
   wide-is width operand = loaded-is (size_of width) operand ∙ ap (λ (n : ℕ). of_operand n operand) (size-is width)
 
   changed-is : (width : Width) (operand : Operand)
@@ -124,20 +126,28 @@ module _ {M : Type 0} (acc : Accesses M Byte) (mark : ℕ → Mark) (state : Sta
 
   -- ** its words and flags
 
-  operand-is : (nop : Bool) (o : Option Memory) → aw_if acc frame state m aw no-field open_load open_store nop o ≡ operand_words mark state it nop o
+  operand-is : (nop : Bool) (o : Option Memory)
+      → aw_if acc frame state m aw no-field open_load open_store nop o ≡ operand_words mark state it nop o
   operand-is true None = refl
   operand-is false None = refl
   operand-is true (Some memory) = refl
   operand-is false (Some memory) = refl
 
   pub words-are : offset_of (first_mark mark state it it.imm) ≡ None
-      → all_words acc frame state m aw no-field open_load open_store it.instr.operation ≡ words_of acc mark state m (Some it)
-  words-are none = rw (none, operand-is (is_nop it.instr.operation) (operand_of it.instr.operation), loads-are it.instr.operation) refl
+      → all_words acc frame state m aw no-field open_load open_store it.instr.operation
+      ≡ words_of acc mark state m (Some it)
+  words-are none = rw (
+    none,
+    operand-is (is_nop it.instr.operation) (operand_of it.instr.operation),
+    loads-are it.instr.operation,
+  ) refl
 
   -- without an offset field each address has the cause of its words
-  fits-none : operands.offset_field mark state it ≡ None → FitsAll acc frame state m aw no-field open_load open_store it.instr.operation
+  fits-none : operands.offset_field mark state it ≡ None
+      → FitsAll acc frame state m aw no-field open_load open_store it.instr.operation
   fits-none none memory e = rw none (by_cause (address_of ops frame state memory) (operand_address mark state it memory)
-      (subst (λ (o : Option ℕ). SaysBy o (address_of ops frame state memory) (operand_address mark state it memory) (words_by mark state it None memory)) none
+      (subst (λ (o : Option ℕ). SaysBy o (address_of ops frame state memory) (operand_address mark state it memory)
+      (words_by mark state it None memory)) none
       (address-says mark state it memory)))
     where
       by_cause : (r : Result ℕ Cause) (o : Option ℕ) → SaysBy None r o (words_by mark state it None memory)
@@ -146,8 +156,10 @@ module _ {M : Type 0} (acc : Accesses M Byte) (mark : ℕ → Mark) (state : Sta
       by_cause (Err why) o h = sym h.1
 
   -- with an allowed one the address has none
-  fits-some : (n : ℕ) → operands.offset_field mark state it ≡ Some n → (x : Memory) (a : ℕ) → operand_of it.instr.operation ≡ Some x
-      → address_of ops frame state x ≡ Ok a → FitsAll acc frame state m aw no-field open_load open_store it.instr.operation
+  fits-some : (n : ℕ) → operands.offset_field mark state it ≡ Some n → (x : Memory) (a : ℕ)
+      → operand_of it.instr.operation ≡ Some x
+      → address_of ops frame state x ≡ Ok a
+      → FitsAll acc frame state m aw no-field open_load open_store it.instr.operation
   fits-some n some x a there at memory e =
       let both : Some x ≡ Some memory = sym there ∙ e in
       let same : x ≡ memory = cc in
@@ -157,7 +169,8 @@ module _ {M : Type 0} (acc : Accesses M Byte) (mark : ℕ → Mark) (state : Sta
   nop-by None o e = refl
   nop-by (Some at) o e = absurd cc
 
-  nop-at : (fld : Option ℕ) (o : Option Operand) (x : Memory) (a : ℕ) → memory_if o ≡ Some x → address_of ops frame state x ≡ Ok a
+  nop-at : (fld : Option ℕ) (o : Option Operand) (x : Memory) (a : ℕ) → memory_if o ≡ Some x
+      → address_of ops frame state x ≡ Ok a
       → cause_of (nop_use ops frame state fld o) ≡ None
   nop-at fld None x a e at = absurd cc
   nop-at None (Some operand) x a e at = refl
@@ -181,7 +194,8 @@ module _ {M : Type 0} (acc : Accesses M Byte) (mark : ℕ → Mark) (state : Sta
   unfolding operand_of
   memory-of-nop o = refl
 
-  pub some-tells : offset_of (first_mark mark state it it.imm) ≡ None → (n : ℕ) → operands.offset_field mark state it ≡ Some n
+  pub some-tells : offset_of (first_mark mark state it it.imm) ≡ None → (n : ℕ)
+      → operands.offset_field mark state it ≡ Some n
       → (x : Memory) (a : ℕ) → operand_of it.instr.operation ≡ Some x → address_of ops frame state x ≡ Ok a
       → Tells state.place (act ops acc frame it.instr.operation state m)
       (pick (words_of acc mark state m (Some it)) (used_flags acc mark state m (Some it)))

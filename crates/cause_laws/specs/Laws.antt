@@ -54,7 +54,8 @@ pub record IsAnswered (m : Meaning) (thread : ℕ) (h : Meant) (left : Bool) : T
       → next_with (meant_steps m thread) left h ≡ Ends (Unclean h.after.state.place why)
 
 abbrev pub CausesAreAnswered : Type 0
-CausesAreAnswered = (m : Meaning) (thread : ℕ) (h : Meant) (left : Bool) → IsNoSequence m thread h → IsAnswered m thread h left
+CausesAreAnswered = (m : Meaning) (thread : ℕ) (h : Meant) (left : Bool) → IsNoSequence m thread h
+    → IsAnswered m thread h left
 
 -- ** clean steps
 
@@ -125,7 +126,8 @@ module _ {M : Type 0} (acc : Accesses M Byte) (mark : ℕ → Mark) (state : Sta
     abbrev pub IsPlaced : Type 0
     IsPlaced = (operand : Memory) × ((address : ℕ) × ((operand_of it.instr.operation ≡ Some operand)
         × (operand_address mark state it operand ≡ Some address)
-        × (result ≡ act ops acc (displaced address (bare_frame state.place it)) (with_absolute it.instr.operation) state memory)))
+        × (result ≡ act ops acc (displaced address (bare_frame state.place it))
+        (with_absolute it.instr.operation) state memory)))
 
     -- with an address field: wherever the word may lie, the instruction does the same as with that operand
     abbrev pub IsSupplied : ℕ → Type 0

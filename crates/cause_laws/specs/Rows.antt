@@ -96,15 +96,18 @@ module _ {M : Type 0} (acc : Accesses M Byte) (mark : ℕ → Mark) (shut : ℕ 
   abbrev pub StopsAt : ℕ → Type 0
   StopsAt k = StopsReading mark state (fetched acc state memory) k
 
+  abbrev pub read : Option Decoded
+  read = instruction acc state memory
+
   -- the rows, of a step at the thread's place
   abbrev pub Stands : Cause → Type 0
   Stands cause.Inside = (k : ℕ) × (StopsAt k × (is_of_sequence (mark (place_at state.place k)) ≡ true))
   Stands cause.Field = (k : ℕ) × (StopsAt k × (is_of_field (mark (place_at state.place k)) ≡ true))
-  Stands cause.Linker = (shut state.place ≡ true) ⊎ (list_any shut (places_of acc mark state memory (instruction acc state memory)) ≡ true)
-  Stands cause.Undefined = list_any is_undefined (words_of acc mark state memory (instruction acc state memory)) ≡ true
-  Stands cause.Flags = list_any is_undefined_flag (used_flags acc mark state memory (instruction acc state memory)) ≡ true
-  Stands cause.Base = list_any is_base (words_of acc mark state memory (instruction acc state memory)) ≡ true
-  Stands cause.Descriptor = list_any is_descriptor (words_of acc mark state memory (instruction acc state memory)) ≡ true
+  Stands cause.Linker = (shut state.place ≡ true) ⊎ (list_any shut (places_of acc mark state memory read) ≡ true)
+  Stands cause.Undefined = list_any is_undefined (words_of acc mark state memory read) ≡ true
+  Stands cause.Flags = list_any is_undefined_flag (used_flags acc mark state memory read) ≡ true
+  Stands cause.Base = list_any is_base (words_of acc mark state memory read) ≡ true
+  Stands cause.Descriptor = list_any is_descriptor (words_of acc mark state memory read) ≡ true
   Stands cause.Answer = ⊥
   Stands cause.Steps = left ≡ false
 

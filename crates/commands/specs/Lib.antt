@@ -1,6 +1,7 @@
 pub mod Checks
 pub mod Commands
 pub mod Completes
+pub mod Events
 pub mod GeneratedRuns
 pub mod InOrder
 pub mod Jobs

@@ -1,2 +1,3 @@
+mod Links
 mod Rows
 mod Values

@@ -1,5 +1,5 @@
 -- Each type's row, solved for the value.
-use Rattle.std.proofs.Common.{◌≡◌, ◌↔◌, ℕ, ℤ, pos, Option, Some, None, refl, sym, subst, arith, rules}
+use Rattle.std.proofs.Common.{◌≡◌, ◌↔◌, ℕ, ℤ, pos, Option, Some, None, refl, sym, subst, arith}
 use Rattle.std.specs.Prelude.{◌+ℤ◌, ◌-ℤ◌}
 use Rattle.std.proofs.lemmas.Int.{ints}
 use Rattle.elf_records.specs.declared.relocation.RelocationKind.{RelocationKind}
@@ -13,7 +13,8 @@ use Rattle.tls_relocs.specs.declared.fields.Field.{Field}
 use Rattle.tls_relocs.specs.declared.fields.Field.TheVariants.{Empty}
 use Rattle.tls_relocs.specs.Values.{stored_field}
 use Rattle.field_laws.specs.Laws.{letters_of}
-use Rattle.field_laws.specs.Table.{Each, Signed, Unsigned, Letters, Range, Row, Has, IsAnswer, IsIn, Solves, row_numbered}
+use Rattle.field_laws.specs.Table.{Each, Signed, Unsigned, Letters, Range, Row, Has, IsAnswer, IsIn, Solves}
+use Rattle.field_laws.specs.Table.{row_numbered}
 use Rattle.field_laws.proofs.Values.{Holds, signed_is, unsigned_is, wrapped_is, empty_is}
 
 -- the row of a number has these
@@ -49,7 +50,7 @@ module _ (number : ℕ) (l : Letters) (bytes : ℕ) (range : Range) (left : ℤ 
       let at = has x in
       let same : stored.row ≡ row_of number bytes range (left x) right = cc in
       let here : Solves (row_of number bytes range (left x) right) x =
-          subst (λ (r : Row). Solves r x) same stored.solved in
+      subst (λ (r : Row). Solves r x) same stored.solved in
       let held : Has field bytes x = subst (λ (r : Row). Has field r.bytes x) same stored.has in
       subst (λ (x : ℤ). Holds bytes range x (Some field)) (is.only x here.equal) (here.fits, held)
   of_answer None none = λ fits. none value (row_of number bytes range (left value) right) (has value)
@@ -75,7 +76,7 @@ IsRight number kind = (s : ℕ) (a : ℤ) (p g : ℕ) (answer : Option Field)
     → (stored_field kind s a p g ≡ answer) ↔ IsAnswer number (letters_of s a p g) answer
 
 -- a type's number
-abbrev number_of : RelocationKind → ℕ
+abbrev pub number_of : RelocationKind → ℕ
 number_of Nothing = 0
 number_of Absolute64 = 1
 number_of Pc32 = 2
@@ -93,7 +94,7 @@ number_of TlsDescCall = 35
 number_of GotPcRelX = 41
 number_of RexGotPcRelX = 42
 
-is_number : (number : ℕ) (kind : RelocationKind) → relocation_kind number ≡ Some kind → number ≡ number_of kind
+pub is_number : (number : ℕ) (kind : RelocationKind) → relocation_kind number ≡ Some kind → number ≡ number_of kind
 is_number number Nothing is = grind arith
 is_number number Absolute64 is = grind arith
 is_number number Pc32 is = grind arith

@@ -1,11 +1,12 @@
 -- What each form of field holds is the only answer for a number.
-use Rattle.std.proofs.Common.{◌≡◌, ◌↔◌, ◌+◌, ◌-◌, ◌*◌, ◌/◌, ◌%◌, ◌^◌, ◌<◌, ◌≤◌, ◌⊎◌, inl, inr, ℕ, ℤ, pos, negsuc, Option, Some, None, Bool, true, false, refl, ap, subst, arith}
-use Rattle.std.specs.Prelude.{◌+ℤ◌, ◌≤ℤ◌}
+use Rattle.std.proofs.Common.{◌≡◌, ◌↔◌, ◌+◌, ◌/◌, ◌^◌, inl, inr, ℕ, ℤ, pos, negsuc, Option, Some, None, Bool, true}
+use Rattle.std.proofs.Common.{false, refl, ap, subst, arith}
 use Rattle.std.proofs.lemmas.Bool.{ltb-true, ltb-false}
 use Rattle.std.proofs.lemmas.Int.{ints}
 use Rattle.tls_relocs.specs.declared.fields.Field.{Field}
 use Rattle.tls_relocs.specs.declared.fields.Field.TheVariants.{Empty, Word32, Word64}
-use Rattle.tls_relocs.specs.Values.{modulo, fits_signed, fits_unsigned, word32, signed_field, unsigned_field, wrapped_field}
+use Rattle.tls_relocs.specs.Values.{modulo, fits_signed, fits_unsigned, word32, signed_field, unsigned_field}
+use Rattle.tls_relocs.specs.Values.{wrapped_field}
 use Rattle.field_laws.specs.Table.{Range, Each, Signed, Unsigned, IsIn, IsModulo, Has}
 
 -- what may be stored of a number
@@ -23,7 +24,8 @@ only_32 (negsuc n) w is = omega (arith, ints, is.below, is.same)
 
 modulo_64 : (x : ℤ) → IsModulo 18446744073709551616 (modulo (2 ^ 64) x) x
 modulo_64 (pos n) = record { below = omega arith; times = n / 18446744073709551616; same = inl (omega (arith, ints)) }
-modulo_64 (negsuc n) = record { below = omega arith; times = n / 18446744073709551616 + 1; same = inr (omega (arith, ints)) }
+modulo_64 (negsuc n) =
+    record { below = omega arith; times = n / 18446744073709551616 + 1; same = inr (omega (arith, ints)) }
 
 only_64 : (x : ℤ) (w : ℕ) → IsModulo 18446744073709551616 w x → modulo (2 ^ 64) x ≡ w
 only_64 (pos n) w is = omega (arith, ints, is.below, is.same)
@@ -41,7 +43,8 @@ word32_only x range (Some (Word64 w)) fits holds = absurd (omega (arith, holds.1
 word32_only x range None fits holds = absurd (holds fits)
 
 -- where it does not, none is
-nothing_only : (x : ℤ) (bytes : ℕ) (range : Range) (answer : Option Field) → (IsIn range x → ⊥) → Holds bytes range x answer
+nothing_only : (x : ℤ) (bytes : ℕ) (range : Range) (answer : Option Field) → (IsIn range x → ⊥)
+    → Holds bytes range x answer
     → None ≡ answer
 nothing_only x bytes range None out holds = refl
 nothing_only x bytes range (Some field) out holds = absurd (out holds.0)
@@ -53,8 +56,11 @@ record Decides (test : Bool) (range : Range) (x : ℤ) : Type 0 where
 
 word32_is : (test : Bool) (range : Range) (x : ℤ) (answer : Option Field) → Decides test range x
     → (word32 test x ≡ answer) ↔ Holds 4 range x answer
-word32_is true range x answer decides =
-    (λ is. subst (Holds 4 range x) is (word32_in x range (decides.yes refl)), word32_only x range answer (decides.yes refl))
+word32_is true range x answer decides = (
+  λ is. subst (Holds 4 range x) is (word32_in x range (decides.yes refl)),
+  word32_only x range answer
+      (decides.yes refl),
+)
 word32_is false range x answer decides =
     (λ is. subst (Holds 4 range x) is (decides.no refl), nothing_only x 4 range answer (decides.no refl))
 

@@ -1,7 +1,7 @@
 -- The table of relocation types once more, by their numbers (psABI for x86-64, version 1.0, section 4.4.1, "Relocation
 -- Types"; Drepper, "ELF Handling For Thread-Local Storage", version 0.21, sections 4.1 to 4.4). It watches
 -- `relocation_kind` and `row` (elf_records) and `stored_field` (tls_relocs), and shares no name with them.
-use Rattle.std.specs.Prelude.{◌+◌, ◌*◌, ◌<◌, ◌^◌, ◌≡◌, ◌⊎◌, ◌==◌, ℕ, ℤ, pos, negsuc, ◌+ℤ◌, ◌≤ℤ◌, List, [], ◌∷◌, Option}
+use Rattle.std.specs.Prelude.{◌+◌, ◌*◌, ◌<◌, ◌≡◌, ◌⊎◌, ◌==◌, ℕ, ℤ, pos, ◌+ℤ◌, ◌≤ℤ◌, List, [], ◌∷◌, Option}
 use Rattle.std.specs.Prelude.{Some, None}
 use Rattle.std.specs.List.{find}
 use Rattle.tls_relocs.specs.declared.fields.Field.{Field}

@@ -1,6 +1,7 @@
 //! The laws. The functions do nothing: what they ensure is the law.
 
 ghost use Rattle.field_laws.specs.Laws.{FieldsAreStored, TypesAreListed};
+ghost use Rattle.field_laws.specs.Links.{LinksStoreFields};
 
 /// The numbers of the table are those of the types that linking takes, and no others.
 pub fn types_are_listed()
@@ -11,4 +12,9 @@ pub fn types_are_listed()
 /// fits.
 pub fn fields_are_stored()
     ensures { FieldsAreStored }
+{}
+
+/// A link stores what the row says of the letters that its symbol, its field and its table have.
+pub fn links_store_fields()
+    ensures { LinksStoreFields }
 {}

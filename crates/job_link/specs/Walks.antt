@@ -6,15 +6,12 @@ use Rattle.std.specs.Borrow.{Bor}
 use Rattle.std.specs.Str.{bytes_eq}
 use Rattle.job_text.specs.declared.images.Image.{Image}
 use Rattle.job_text.specs.Jobs.{JobParts}
+pub use Rattle.ports.specs.Claims.{texts}
 use Rattle.job_link.specs.Mentions.{Fetched}
 
 -- the names of files
 abbrev pub names_of : Fetched → List (List ℕ)
 names_of files = map (λ (file : List ℕ × List ℕ). file.0) files
-
--- the texts of borrowed names
-abbrev pub texts : List (Bor (List ℕ)) → List (List ℕ)
-texts names = map (λ name. name.now) names
 
 -- borrowed names, each with its file
 abbrev pub files_in : {A : Type 0} → List (Bor (List ℕ)) → List (Vec ℕ A) → Fetched

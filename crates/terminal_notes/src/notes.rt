@@ -85,12 +85,7 @@ fn refused_note<S: Aftermath>(alloc: Global, line: &[u8], store: &S) -> Option<V
 
 /// What a person at a terminal is told besides the line of a command that ended with this status: for 6 the names of
 /// the section and of the symbol that the line gives by number, for 3 the file that failed, for 2 the commands.
-pub fn note_of<S: Aftermath>(
-    alloc: Global,
-    status: u8,
-    line: &[u8],
-    store: &S,
-) -> Option<Vec<u8>>
+pub fn note_of<S: Aftermath>(alloc: Global, status: u8, line: &[u8], store: &S) -> Option<Vec<u8>>
     ensures object { IfSome result (λ note. status ≡ 6
         → IsNote (IsFile (S.files store.now)) line.now note.items) }
     ensures usage { IfSome result (λ note. status ≡ 2 → note.items ≡ commands_note) }

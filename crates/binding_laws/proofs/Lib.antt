@@ -1,0 +1,4 @@
+pub mod Bindings
+pub mod Definition
+pub mod Imports
+pub mod Undefined
