@@ -22,7 +22,8 @@ module _ {S L E : Type 0} (x : Turns S L E) where
   -- leads to u
   abbrev pub StepsTo : S → List (List E) → S → List (List E) → Type 0
   StepsTo s looks u more = ((x.steps.step s ≡ Goes u) × (looks ≡ more))
-      ⊎ ((v : S) × ((seen : List E) × ((x.steps.step s ≡ Looks v) × (x.resume seen v ≡ Calls u) × (looks ≡ seen ∷ more))))
+      ⊎ ((v : S) × ((seen : List E)
+      × ((x.steps.step s ≡ Looks v) × (x.resume seen v ≡ Calls u) × (looks ≡ seen ∷ more))))
 
   -- this many steps lead from s to t, none of them from where the call is over; these are all looks on the way
   abbrev pub Leads : ℕ → S → List (List E) → S → Type 0
@@ -66,7 +67,8 @@ PointsAreTold = (l : Loads ℕ) (m : Meaning) (thread fuel : ℕ)
 -- ** the last step
 
 -- a line with these looks, of a thread that held this, ends so
-abbrev pub EndsSo : {S L E : Type 0} → Turns S L E → L → List L → S → List Said → List E → List (List E) → Ending → Type 0
+abbrev pub EndsSo : {S L E : Type 0} → Turns S L E → L → List L → S → List Said → List E → List (List E) → Ending
+    → Type 0
 EndsSo x line todo held earlier seen looks ending = IsSaid x (before x line todo held earlier seen) looks
     (record { points = map length looks; ending = ending })
 

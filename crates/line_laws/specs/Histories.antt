@@ -1,6 +1,5 @@
 -- The rule of histories: which images are live, and which opens and closes are refused, by counting events. It watches
--- `open_refusal`, `close_refusal` and the walk (module_table, Past), which keeps a record of each image, and shares none
--- of their names.
+-- `open_refusal`, `close_refusal` and the walk (module_table, Past), which keeps a record of each image.
 use Rattle.std.specs.Prelude.{◌≡◌, ◌↔◌, ◌⊎◌, ◌+◌, ◌*◌, ◌<◌, ◌≤◌, ℕ, suc, true, false, not, List, length, take, count_by, slice_get, Option, Some, None}
 use Rattle.job_text.specs.Numbering.{at_number}
 use Rattle.module_table.specs.declared.modules.ImageInfo.{ImageInfo}
