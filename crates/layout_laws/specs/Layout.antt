@@ -1,0 +1,101 @@
+-- Where sections go in an image and in its TLS segment, once more: each at the least place that those before it leave.
+-- It watches `address_at`, `offset_at` and what these are made of (tls_layout, Places). (gABI, edition 4.1, "Sections":
+-- `sh_addralign`, and "Program Loading"; Drepper, "ELF Handling For Thread-Local Storage", version 0.21, section 3.)
+use Rattle.std.specs.Prelude.{◌≡◌, ◌↔◌, ◌⊎◌, ◌+◌, ◌*◌, ◌<◌, ◌≤◌, ℕ, Bool, true, false, List, Option, Some, None, if◌then◌else◌}
+use Rattle.object_faults.specs.declared.class.SectionClass.{SectionClass}
+use Rattle.object_faults.specs.declared.class.SectionClass.TheVariants.{Executable, ReadOnly, Tls, Writable}
+use Rattle.link_faults.specs.declared.image_kind.ImageKind.{ImageKind}
+use Rattle.link_faults.specs.ImageKinds.{base_of}
+use Rattle.tls_layout.specs.declared.sections.Section.{Section}
+use Rattle.tls_layout.specs.Places.{address_at, offset_at}
+use Rattle.tls_layout.specs.Sections.{section_at}
+
+-- ** the order
+
+-- code, constants, the initial image of thread-local storage, data that programs write
+abbrev pub class_number : SectionClass → ℕ
+class_number Executable = 1
+class_number ReadOnly = 2
+class_number (Tls initial) = 3
+class_number (Writable initial) = 4
+
+-- without bytes in the file
+abbrev pub is_zeros : SectionClass → Bool
+is_zeros Executable = false
+is_zeros ReadOnly = false
+is_zeros (Tls initial) = if initial then false else true
+is_zeros (Writable initial) = if initial then false else true
+
+-- sections are numbered in the order of objects and then of their sections. In a class what has bytes stands before
+-- zeros, and each of the two in the order of numbers
+abbrev pub StandsBefore : (before : SectionClass) → ℕ → (after : SectionClass) → ℕ → Type 0
+StandsBefore before i after k = (class_number before ≡ class_number after)
+    × (((is_zeros before ≡ false) × (is_zeros after ≡ true))
+    ⊎ ((is_zeros before ≡ is_zeros after) × (i < k)))
+
+-- ** the least place
+
+-- the least multiple of a unit of which this holds
+pub record IsLeast (unit : ℕ) (Holds : ℕ → Type 0) (place : ℕ) : Type 0 where
+  pub times : ℕ
+  pub multiple : place ≡ times * unit
+  pub holds : Holds place
+  pub least : (fewer : ℕ) → Holds (fewer * unit) → place ≤ fewer * unit
+
+-- takes: which classes have places; base: the least place; place: the places of sections
+module _ (takes : SectionClass → Bool) (base : ℕ) (sections : List Section) (place : ℕ → Option ℕ) where
+  -- past all sections of earlier classes
+  abbrev pub IsPastClasses : SectionClass → ℕ → Type 0
+  IsPastClasses class at = (base ≤ at) × ((i other : ℕ) (earlier : SectionClass)
+      → (section_at sections i).class ≡ Some earlier → place i ≡ Some other
+      → class_number earlier < class_number class → other + (section_at sections i).size ≤ at)
+
+  -- past the start of its class, and past all sections that stand before section k in it
+  abbrev pub IsPastSections : ℕ → SectionClass → ℕ → ℕ → Type 0
+  IsPastSections start class k at = (start ≤ at) × ((i other : ℕ) (before : SectionClass)
+      → (section_at sections i).class ≡ Some before → place i ≡ Some other
+      → StandsBefore before i class k → other + (section_at sections i).size ≤ at)
+
+  -- section k of a class lies here: the class begins on the first page that is left, and the section at the first
+  -- multiple of its alignment
+  pub record LiesAt (class : SectionClass) (k at : ℕ) : Type 0 where
+    pub start : ℕ
+    pub begins : IsLeast 4096 (IsPastClasses class) start
+    pub lies : IsLeast (section_at sections k).alignment (IsPastSections start class k) at
+
+  -- each section of these classes, an empty one too, lies so, and no other has a place
+  pub record ArePlaces : Type 0 where
+    pub placed : (k : ℕ) (class : SectionClass) → (section_at sections k).class ≡ Some class → takes class ≡ true
+        → (at : ℕ) × ((place k ≡ Some at) × LiesAt class k at)
+    pub others : (k : ℕ) (class : SectionClass) → (section_at sections k).class ≡ Some class → takes class ≡ false
+        → place k ≡ None
+    pub dropped : (k : ℕ) → (section_at sections k).class ≡ None → place k ≡ None
+
+-- ** the laws
+
+-- thread-local zeros have no address
+abbrev pub has_address : SectionClass → Bool
+has_address Executable = true
+has_address ReadOnly = true
+has_address (Tls initial) = initial
+has_address (Writable initial) = true
+
+-- only thread-local sections have an offset
+abbrev pub has_offset : SectionClass → Bool
+has_offset Executable = false
+has_offset ReadOnly = false
+has_offset (Tls initial) = true
+has_offset (Writable initial) = false
+
+-- a section that linking drops has alignment 1
+abbrev pub AreAligned : List Section → Type 0
+AreAligned sections = (k : ℕ) → 0 < (section_at sections k).alignment
+
+-- the addresses are the only places of this kind, and so are the offsets
+abbrev pub AddressesAreOnly : Type 0
+AddressesAreOnly = (kind : ImageKind) (sections : List Section) → AreAligned sections → (place : ℕ → Option ℕ)
+    → ArePlaces has_address (base_of kind) sections place ↔ ((k : ℕ) → place k ≡ address_at kind sections k)
+
+abbrev pub OffsetsAreOnly : Type 0
+OffsetsAreOnly = (sections : List Section) → AreAligned sections → (place : ℕ → Option ℕ)
+    → ArePlaces has_offset 0 sections place ↔ ((k : ℕ) → place k ≡ offset_at sections k)

@@ -1,0 +1,4 @@
+//! Laws of the layout of an image.
+#![tactic(auto)]
+
+pub mod laws;
