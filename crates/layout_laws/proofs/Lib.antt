@@ -1,3 +1,4 @@
 mod Only
 mod Found
 mod Addresses
+mod Offsets
