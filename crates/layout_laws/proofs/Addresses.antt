@@ -7,12 +7,12 @@ use Rattle.link_faults.specs.declared.image_kind.ImageKind.{ImageKind}
 use Rattle.link_faults.specs.declared.image_kind.ImageKind.TheVariants.{Exe, Pie, Start, Late}
 use Rattle.link_faults.specs.ImageKinds.{base_of}
 use Rattle.tls_layout.specs.declared.sections.Section.{Section}
-use Rattle.tls_layout.specs.Places.{address_at, address_by, end_of, executable, initial_data, place_in, read_only, tls_image, zero_data}
-use Rattle.tls_layout.specs.Rounding.{page_up}
+use Rattle.tls_layout.specs.Places.{address_at, address_by, end_of, executable, initial_data, place_in, read_only, room, tls_image, zero_data}
+use Rattle.tls_layout.specs.Rounding.{page_up, round_up}
 use Rattle.tls_layout.specs.Sections.{section_at}
 use Rattle.tls_layout.proofs.Ends.{end_of-rises}
-use Rattle.layout_laws.specs.Layout.{AddressesAreOnly, AreAligned, ArePlaces, IsLeast, IsPastClasses, IsPastSections, LiesAt, StandsBefore, class_number, has_address, is_zeros}
-use Rattle.layout_laws.proofs.Found.{Has, all_below, ends, lies_there, next_page}
+use Rattle.layout_laws.specs.Layout.{AddressesAreOnly, AreAligned, ArePlaces, IsLeast, IsPastAll, IsPastClasses, IsPastSections, RoomIsLeast, LiesAt, StandsBefore, class_number, has_address, is_zeros}
+use Rattle.layout_laws.proofs.Found.{Has, all_below, ends, lies_there, next_page, round_up-over, rounded}
 use Rattle.layout_laws.proofs.Only.{only, same_places}
 
 module _ (kind : ImageKind) (sections : List Section) (aligned : AreAligned sections) where
@@ -201,6 +201,68 @@ module _ (kind : ImageKind) (sections : List Section) (aligned : AreAligned sect
     others = λ k class here none. no_address class none k here;
     dropped = dropped_is;
   }
+
+  -- ** the room
+
+  past_all : (i other : ℕ) (c : SectionClass) → (section_at sections i).class ≡ Some c → f i ≡ Some other
+      → other + (section_at sections i).size ≤ (zero_data kind sections).end
+  unfolding zero_data from
+  past_all i other c at there = of c at
+    where
+      data_start : from (Writable true) ≤ from (Writable false)
+      data_start = subst (λ (n : ℕ). from (Writable true) ≤ n) (sym zeros_begin) (end_of-rises (Writable true) (from (Writable true)) sections)
+
+      zeros_end : from (Writable false) ≤ end_of (Writable false) (from (Writable false)) sections
+      zeros_end = end_of-rises (Writable false) (from (Writable false)) sections
+
+      earlier : (c : SectionClass) → (section_at sections i).class ≡ Some c → class_number c < 4
+          → other + (section_at sections i).size ≤ end_of (Writable false) (from (Writable false)) sections
+      earlier c at less = let low = (fourth true).holds.1 i other c at there less in omega (arith, low, data_start, zeros_end)
+
+      of : (c : SectionClass) → (section_at sections i).class ≡ Some c
+          → other + (section_at sections i).size ≤ end_of (Writable false) (from (Writable false)) sections
+      of Executable at = earlier Executable at (omega arith)
+      of ReadOnly at = earlier ReadOnly at (omega arith)
+      of (Tls x) at = earlier (Tls x) at (omega arith)
+      of (Writable true) at = let low = data_end i other at there in omega (arith, low, zeros_end)
+      of (Writable false) at =
+          ends has_address (base_of kind) sections f (Writable false) (from (Writable false)) (has_of (Writable false) refl) i other at there
+
+  past_each : (i other : ℕ) → f i ≡ Some other → other + (section_at sections i).size ≤ (zero_data kind sections).end
+  past_each i other there = of (section_at sections i).class refl
+    where
+      of : (c : Option SectionClass) → (section_at sections i).class ≡ c → other + (section_at sections i).size ≤ (zero_data kind sections).end
+      of None at = absurd (none_some (dropped_is i at) there)
+      of (Some c) at = past_all i other c at there
+
+  base_low : base_of kind ≤ (zero_data kind sections).end
+  unfolding zero_data from
+  base_low =
+      let first = (fourth true).holds.0 in
+      let data_start : from (Writable true) ≤ from (Writable false) =
+      subst (λ (n : ℕ). from (Writable true) ≤ n) (sym zeros_begin) (end_of-rises (Writable true) (from (Writable true)) sections) in
+      omega (arith, first, data_start, end_of-rises (Writable false) (from (Writable false)) sections)
+
+  room_need : (fewer : ℕ) → IsPastAll kind sections (fewer * 4096) → (zero_data kind sections).end ≤ fewer * 4096
+  unfolding zero_data from
+  room_need fewer past =
+      let start : from (Writable true) ≤ fewer * 4096 =
+      (fourth true).least fewer (past.0, λ i other c at there less. past.1 i other there) in
+      let zeros : from (Writable false) ≤ fewer * 4096 = subst (λ (n : ℕ). n ≤ fewer * 4096) (sym zeros_begin)
+          (all_below (Writable true) (from (Writable true)) sections (fewer * 4096) start
+          (λ j here. past.1 j _ (address_is (Writable true) refl j here))) in
+      all_below (Writable false) (from (Writable false)) sections (fewer * 4096) zeros
+      (λ j here. past.1 j _ (address_is (Writable false) refl j here))
+
+  pub room_least : IsLeast 4096 (IsPastAll kind sections) (room kind sections)
+  unfolding room page_up
+  room_least =
+      let over = round_up-over (zero_data kind sections).end 4096 (omega arith) in
+      rounded 4096 (zero_data kind sections).end (IsPastAll kind sections) (omega arith)
+      (omega (arith, base_low, over), λ k other there. let past = past_each k other there in omega (arith, past, over)) room_need
+
+pub room_is : RoomIsLeast
+room_is kind sections aligned = room_least kind sections aligned
 
 pub addresses_only : AddressesAreOnly
 addresses_only kind sections aligned place = (

@@ -2,3 +2,4 @@ mod Only
 mod Found
 mod Addresses
 mod Offsets
+mod Blocks

@@ -8,7 +8,7 @@ use Rattle.tls_layout.specs.declared.sections.Section.{Section}
 use Rattle.tls_layout.specs.Sections.{section_at}
 use Rattle.layout_laws.specs.Layout.{ArePlaces, IsLeast, IsPastClasses, IsPastSections, LiesAt, StandsBefore, class_number, is_zeros}
 
-one_least : (unit : ℕ) (P Q : ℕ → Type 0) (a b : ℕ) → ((m : ℕ) → P m → Q m) → ((m : ℕ) → Q m → P m)
+pub one_least : (unit : ℕ) (P Q : ℕ → Type 0) (a b : ℕ) → ((m : ℕ) → P m → Q m) → ((m : ℕ) → Q m → P m)
     → IsLeast unit P a → IsLeast unit Q b → a ≡ b
 one_least unit P Q a b to of is other =
     let low : a ≤ b = at_most unit P Q a b of is other in

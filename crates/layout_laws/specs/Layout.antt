@@ -1,14 +1,16 @@
 -- Where sections go in an image and in its TLS segment, once more: each at the least place that those before it leave.
--- It watches `address_at`, `offset_at` and what these are made of (tls_layout, Places). (gABI, edition 4.1, "Sections":
+-- It watches `address_at`, `offset_at`, `room`, `position` and `tls_offset` (tls_layout, Places, Sections and Statics). (gABI, edition 4.1, "Sections":
 -- `sh_addralign`, and "Program Loading"; Drepper, "ELF Handling For Thread-Local Storage", version 0.21, section 3.)
-use Rattle.std.specs.Prelude.{◌≡◌, ◌↔◌, ◌⊎◌, ◌+◌, ◌*◌, ◌<◌, ◌≤◌, ℕ, Bool, true, false, List, Option, Some, None, if◌then◌else◌}
+use Rattle.std.specs.Prelude.{◌≡◌, ◌↔◌, ◌⊎◌, ◌+◌, ◌*◌, ◌<◌, ◌≤◌, ℕ, suc, Bool, true, false, List, length, slice_get, Option, Some, None, if◌then◌else◌}
 use Rattle.object_faults.specs.declared.class.SectionClass.{SectionClass}
 use Rattle.object_faults.specs.declared.class.SectionClass.TheVariants.{Executable, ReadOnly, Tls, Writable}
 use Rattle.link_faults.specs.declared.image_kind.ImageKind.{ImageKind}
 use Rattle.link_faults.specs.ImageKinds.{base_of}
 use Rattle.tls_layout.specs.declared.sections.Section.{Section}
-use Rattle.tls_layout.specs.Places.{address_at, offset_at}
-use Rattle.tls_layout.specs.Sections.{section_at}
+use Rattle.tls_layout.specs.declared.statics.TlsSize.{TlsSize}
+use Rattle.tls_layout.specs.Places.{address_at, offset_at, room}
+use Rattle.tls_layout.specs.Sections.{position, section_at}
+use Rattle.tls_layout.specs.Statics.{tls_offset}
 
 -- ** the order
 
@@ -99,3 +101,36 @@ AddressesAreOnly = (kind : ImageKind) (sections : List Section) → AreAligned s
 abbrev pub OffsetsAreOnly : Type 0
 OffsetsAreOnly = (sections : List Section) → AreAligned sections → (place : ℕ → Option ℕ)
     → ArePlaces has_offset 0 sections place ↔ ((k : ℕ) → place k ≡ offset_at sections k)
+
+-- ** the order of sections
+
+-- sections are numbered by objects, and in an object by their own numbers
+abbrev pub PositionsAreInOrder : Type 0
+PositionsAreInOrder = (counts : List ℕ) (object section k object' section' k' : ℕ)
+    → position counts object section ≡ Some k → position counts object' section' ≡ Some k'
+    → (k < k') ↔ ((object < object') ⊎ ((object ≡ object') × (section < section')))
+
+-- ** the room
+
+-- what a linker adds begins on the first page past all sections
+abbrev pub IsPastAll : ImageKind → List Section → ℕ → Type 0
+IsPastAll kind sections at = (base_of kind ≤ at) × ((k other : ℕ) → address_at kind sections k ≡ Some other
+    → other + (section_at sections k).size ≤ at)
+
+abbrev pub RoomIsLeast : Type 0
+RoomIsLeast = (kind : ImageKind) (sections : List Section) → AreAligned sections
+    → IsLeast 4096 (IsPastAll kind sections) (room kind sections)
+
+-- ** blocks below a thread pointer
+
+-- offset: how far below the thread pointer the block of each module begins, from 1 on: at the least multiple of its
+-- alignment with room for it past the block before
+pub record AreBlocks (sizes : List TlsSize) (offset : ℕ → ℕ) : Type 0 where
+  pub first : offset 0 ≡ 0
+  pub next : (m : ℕ) (tls : TlsSize) → slice_get sizes m ≡ Some tls
+      → IsLeast tls.alignment (λ at. offset m + tls.size ≤ at) (offset (suc m))
+
+abbrev pub BlocksAreOnly : Type 0
+BlocksAreOnly = (sizes : List TlsSize) → ((m : ℕ) (tls : TlsSize) → slice_get sizes m ≡ Some tls → 0 < tls.alignment)
+    → (offset : ℕ → ℕ)
+    → AreBlocks sizes offset ↔ ((m : ℕ) → m ≤ length sizes → offset m ≡ tls_offset sizes m)
