@@ -1,17 +1,16 @@
 -- The addresses of a layout are the only ones of their kind.
-use Rattle.std.proofs.Common.{◌≡◌, ◌↔◌, ◌⊎◌, ◌∙◌, ◌+◌, ◌*◌, ◌<◌, ◌≤◌, ℕ, zero, suc, Bool, true, false, List, Option, Some, None, refl, sym, ap, subst, inl, inr, arith}
-use Rattle.std.specs.Prelude.{if◌then◌else◌}
+use Rattle.std.proofs.Common.{◌≡◌, ◌⊎◌, ◌∙◌, ◌+◌, ◌*◌, ◌<◌, ◌≤◌, ℕ, Bool, true, false, List, Option, Some, None, refl, sym, ap, subst, inl, inr, arith}
 use Rattle.object_faults.specs.declared.class.SectionClass.{SectionClass}
 use Rattle.object_faults.specs.declared.class.SectionClass.TheVariants.{Executable, ReadOnly, Tls, Writable}
 use Rattle.link_faults.specs.declared.image_kind.ImageKind.{ImageKind}
 use Rattle.link_faults.specs.declared.image_kind.ImageKind.TheVariants.{Exe, Pie, Start, Late}
 use Rattle.link_faults.specs.ImageKinds.{base_of}
 use Rattle.tls_layout.specs.declared.sections.Section.{Section}
-use Rattle.tls_layout.specs.Places.{address_at, address_by, end_of, executable, initial_data, place_in, read_only, room, tls_image, zero_data}
-use Rattle.tls_layout.specs.Rounding.{page_up, round_up}
+use Rattle.tls_layout.specs.Places.{address_at, end_of, executable, initial_data, place_in, read_only, room, tls_image, zero_data}
+use Rattle.tls_layout.specs.Rounding.{page_up}
 use Rattle.tls_layout.specs.Sections.{section_at}
 use Rattle.tls_layout.proofs.Ends.{end_of-rises}
-use Rattle.layout_laws.specs.Layout.{AddressesAreOnly, AreAligned, ArePlaces, IsLeast, IsPastAll, IsPastClasses, IsPastSections, RoomIsLeast, LiesAt, StandsBefore, class_number, has_address, is_zeros}
+use Rattle.layout_laws.specs.Layout.{AddressesAreOnly, AreAligned, ArePlaces, IsLeast, IsPastAll, IsPastClasses, RoomIsLeast, LiesAt, StandsBefore, class_number, has_address, is_zeros}
 use Rattle.layout_laws.proofs.Found.{Has, all_below, ends, lies_there, next_page, round_up-over, rounded}
 use Rattle.layout_laws.proofs.Only.{only, same_places}
 
@@ -249,8 +248,8 @@ module _ (kind : ImageKind) (sections : List Section) (aligned : AreAligned sect
       let start : from (Writable true) ≤ fewer * 4096 =
       (fourth true).least fewer (past.0, λ i other c at there less. past.1 i other there) in
       let zeros : from (Writable false) ≤ fewer * 4096 = subst (λ (n : ℕ). n ≤ fewer * 4096) (sym zeros_begin)
-          (all_below (Writable true) (from (Writable true)) sections (fewer * 4096) start
-          (λ j here. past.1 j _ (address_is (Writable true) refl j here))) in
+      (all_below (Writable true) (from (Writable true)) sections (fewer * 4096) start
+      (λ j here. past.1 j _ (address_is (Writable true) refl j here))) in
       all_below (Writable false) (from (Writable false)) sections (fewer * 4096) zeros
       (λ j here. past.1 j _ (address_is (Writable false) refl j here))
 

@@ -1,7 +1,7 @@
 -- Blocks below a thread pointer, and the order of sections.
-use Rattle.std.proofs.Common.{◌≡◌, ◌↔◌, ◌⊎◌, ◌∙◌, ◌+◌, ◌*◌, ◌<◌, ◌≤◌, ℕ, zero, suc, true, List, length, slice_index, take, Some, refl, sym, ap, subst, inl, inr, arith}
-use Rattle.std.specs.Prelude.{nat_lt, slice_get, sum}
-use Rattle.std.proofs.lemmas.Bool.{cases_eq, cases_lt, ltb-true}
+use Rattle.std.proofs.Common.{◌≡◌, ◌⊎◌, ◌∙◌, ◌+◌, ◌*◌, ◌<◌, ◌≤◌, ℕ, zero, suc, List, length, slice_index, take, Some, sym, ap, subst, inl, inr, arith}
+use Rattle.std.specs.Prelude.{slice_get, sum}
+use Rattle.std.proofs.lemmas.Bool.{cases_lt, ltb-true}
 use Rattle.std.proofs.lemmas.List.{get_or_past, take-take}
 use Rattle.std.proofs.lemmas.List.Sums.{sum_by_more, sum_by-take-le}
 use Rattle.std.proofs.lemmas.Option.{cond_some, get_or_from_slice_get, slice_get-get_or, slice_get_within}
@@ -80,17 +80,19 @@ earlier_object counts o s o' s' less h =
 pub in_order : PositionsAreInOrder
 in_order counts o s k o' s' k' first second =
     let a = position_some counts o s k first in
-    let b = position_some counts o' s' k' second in
-    (λ less. elim (cases_lt o o') [
-      | inl earlier ↦ inl earlier
-      | inr not_earlier ↦ elim (cases_lt o' o) [
-        | inl later ↦ absurd (omega (arith, less, earlier_object counts o' s' o s later b.0, a.1, b.1))
-        | inr not_later ↦
-            let same : o ≡ o' = omega (arith, not_earlier, not_later) in
-            let at : sum (take o counts) ≡ sum (take o' counts) = ap (λ (n : ℕ). sum (take n counts)) same in
-            inr (same, omega (arith, less, a.1, b.1, at))
-      ]
-    ], λ which. of a b which)
+    let b = position_some counts o' s' k' second in (
+      λ less. elim (cases_lt o o') [
+        | inl earlier ↦ inl earlier
+        | inr not_earlier ↦ elim (cases_lt o' o) [
+          | inl later ↦ absurd (omega (arith, less, earlier_object counts o' s' o s later b.0, a.1, b.1))
+          | inr not_later ↦
+              let same : o ≡ o' = omega (arith, not_earlier, not_later) in
+              let at : sum (take o counts) ≡ sum (take o' counts) = ap (λ (n : ℕ). sum (take n counts)) same in
+              inr (same, omega (arith, less, a.1, b.1, at))
+        ]
+      ],
+      λ which. of a b which,
+    )
   where
     of : (s < slice_index counts o) × (k ≡ sum (take o counts) + s) → (s' < slice_index counts o') × (k' ≡ sum (take o' counts) + s')
         → (o < o') ⊎ ((o ≡ o') × (s < s')) → k < k'

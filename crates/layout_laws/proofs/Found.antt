@@ -1,8 +1,6 @@
 -- The walk over sections finds the least places.
-use Rattle.std.proofs.Common.{◌≡◌, ◌↔◌, ◌⊎◌, ◌∙◌, ◌+◌, ◌*◌, ◌<◌, ◌≤◌, ℕ, zero, suc, Bool, true, false, List, length, take, Option, Some, None, refl, sym, ap, subst, inl, inr, arith}
-use Rattle.std.specs.Prelude.{if◌then◌else◌}
+use Rattle.std.proofs.Common.{◌≡◌, ◌⊎◌, ◌∙◌, ◌+◌, ◌*◌, ◌<◌, ◌≤◌, ℕ, zero, suc, Bool, true, false, List, length, take, Option, Some, None, refl, sym, ap, subst, inl, inr, arith}
 use Rattle.std.proofs.lemmas.Bool.{cases_Bool, cases_lt}
-use Rattle.std.proofs.lemmas.List.{take_all}
 use Rattle.object_faults.specs.declared.class.SectionClass.{SectionClass}
 use Rattle.object_faults.specs.declared.class.SectionClass.TheVariants.{Executable, ReadOnly, Tls, Writable}
 use Rattle.tls_layout.specs.declared.sections.Section.{Section}
@@ -10,9 +8,9 @@ use Rattle.tls_layout.specs.Places.{end_of, next_end, place_in}
 use Rattle.tls_layout.specs.Rounding.{page_up, round_up}
 use Rattle.tls_layout.specs.Sections.{dropped, is_in, is_class, same_class, section_at}
 use Rattle.tls_layout.proofs.Ends.{end_of-all, end_of-front, end_of-more, end_of-none, end_of-rises}
-use Rattle.tls_layout.proofs.LawsOfPlaces.{ends_at, from_start, in_class, one_before, within}
+use Rattle.tls_layout.proofs.LawsOfPlaces.{ends_at, from_start, one_before, within}
 use Rattle.tls_layout.proofs.Rounds.{least_multiple}
-use Rattle.layout_laws.specs.Layout.{ArePlaces, IsLeast, IsPastClasses, IsPastSections, LiesAt, StandsBefore, class_number, is_zeros}
+use Rattle.layout_laws.specs.Layout.{IsLeast, IsPastClasses, IsPastSections, StandsBefore, class_number}
 
 -- rounding gives the least multiple with a bound, if what holds is that bound
 pub rounded : (unit end : ℕ) (Holds : ℕ → Type 0) → 0 < unit → Holds (round_up end unit)

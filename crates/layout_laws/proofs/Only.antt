@@ -1,9 +1,8 @@
 -- There is one placement at most.
-use Rattle.std.proofs.Common.{◌≡◌, ◌↔◌, ◌⊎◌, ◌∙◌, ◌+◌, ◌*◌, ◌<◌, ◌≤◌, ℕ, zero, suc, Bool, true, false, List, Option, Some, None, refl, sym, ap, subst, inl, inr, arith}
+use Rattle.std.proofs.Common.{◌≡◌, ◌⊎◌, ◌∙◌, ◌+◌, ◌*◌, ◌<◌, ◌≤◌, ℕ, zero, suc, Bool, true, false, List, Option, Some, None, refl, sym, ap, subst, inl, inr, arith}
 use Rattle.std.specs.Prelude.{if◌then◌else◌}
 use Rattle.std.proofs.lemmas.Bool.{cases_Bool, cases_lt}
 use Rattle.object_faults.specs.declared.class.SectionClass.{SectionClass}
-use Rattle.object_faults.specs.declared.class.SectionClass.TheVariants.{Executable, ReadOnly, Tls, Writable}
 use Rattle.tls_layout.specs.declared.sections.Section.{Section}
 use Rattle.tls_layout.specs.Sections.{section_at}
 use Rattle.layout_laws.specs.Layout.{ArePlaces, IsLeast, IsPastClasses, IsPastSections, LiesAt, StandsBefore, class_number, is_zeros}

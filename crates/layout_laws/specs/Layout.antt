@@ -1,6 +1,7 @@
 -- Where sections go in an image and in its TLS segment, once more: each at the least place that those before it leave.
--- It watches `address_at`, `offset_at`, `room`, `position` and `tls_offset` (tls_layout, Places, Sections and Statics). (gABI, edition 4.1, "Sections":
--- `sh_addralign`, and "Program Loading"; Drepper, "ELF Handling For Thread-Local Storage", version 0.21, section 3.)
+-- It watches `address_at`, `offset_at`, `room`, `tls_size` and `tls_alignment` (tls_layout, Places), `position` (Sections)
+-- and `tls_offset` (Statics). By the gABI, edition 4.1, "Sections" (`sh_addralign`) and "Program Loading", and Drepper,
+-- "ELF Handling For Thread-Local Storage", version 0.21, section 3.
 use Rattle.std.specs.Prelude.{◌≡◌, ◌↔◌, ◌⊎◌, ◌+◌, ◌*◌, ◌<◌, ◌≤◌, ℕ, suc, Bool, true, false, List, length, slice_get, Option, Some, None, if◌then◌else◌}
 use Rattle.object_faults.specs.declared.class.SectionClass.{SectionClass}
 use Rattle.object_faults.specs.declared.class.SectionClass.TheVariants.{Executable, ReadOnly, Tls, Writable}
@@ -8,7 +9,7 @@ use Rattle.link_faults.specs.declared.image_kind.ImageKind.{ImageKind}
 use Rattle.link_faults.specs.ImageKinds.{base_of}
 use Rattle.tls_layout.specs.declared.sections.Section.{Section}
 use Rattle.tls_layout.specs.declared.statics.TlsSize.{TlsSize}
-use Rattle.tls_layout.specs.Places.{address_at, offset_at, room}
+use Rattle.tls_layout.specs.Places.{address_at, offset_at, room, tls_alignment, tls_size}
 use Rattle.tls_layout.specs.Sections.{position, section_at}
 use Rattle.tls_layout.specs.Statics.{tls_offset}
 
@@ -120,6 +121,26 @@ IsPastAll kind sections at = (base_of kind ≤ at) × ((k other : ℕ) → addre
 abbrev pub RoomIsLeast : Type 0
 RoomIsLeast = (kind : ImageKind) (sections : List Section) → AreAligned sections
     → IsLeast 4096 (IsPastAll kind sections) (room kind sections)
+
+-- ** the TLS segment
+
+-- thread-local section k has this alignment
+abbrev pub Asks : List Section → ℕ → ℕ → Type 0
+Asks sections k alignment = (initial : Bool) × (((section_at sections k).class ≡ Some (Tls initial))
+    × ((section_at sections k).alignment ≡ alignment))
+
+-- its size is the least that holds all sections; its alignment is the greatest that one of them asks for, and 1 if it
+-- has no bytes
+pub record IsSegment (sections : List Section) (size alignment : ℕ) : Type 0 where
+  pub holds : (k other : ℕ) → offset_at sections k ≡ Some other → other + (section_at sections k).size ≤ size
+  pub least : (fewer : ℕ) → ((k other : ℕ) → offset_at sections k ≡ Some other
+      → other + (section_at sections k).size ≤ fewer) → size ≤ fewer
+  pub empty : size ≡ 0 → alignment ≡ 1
+  pub greatest : 0 < size → (k asked : ℕ) → Asks sections k asked → asked ≤ alignment
+  pub asked : 0 < size → (alignment ≡ 1) ⊎ ((k : ℕ) × Asks sections k alignment)
+
+abbrev pub SegmentsAreLeast : Type 0
+SegmentsAreLeast = (sections : List Section) → IsSegment sections (tls_size sections) (tls_alignment sections)
 
 -- ** blocks below a thread pointer
 

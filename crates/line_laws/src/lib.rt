@@ -8,8 +8,8 @@
 //! **Histories** (`specs/Histories.antt`). The definition walks along the events and keeps a record of each image. Here
 //! an image is live if it starts with the program, or has more opens than closes; an open of any other one loads it.
 //! An *account* of a history has how many instances there were after each event, and how far blocks of the static
-//! surplus reached. An open is refused `unknown` exactly if the image does not come late, else `full` if 4,095 instances
-//! were made, else `static-full` if its next block would begin past the surplus.
+//! surplus reached. An open is refused `unknown` exactly if the image does not come late. Else, if it is not live, it
+//! is refused `full` if 4,095 instances were made, else `static-full` if its next block would begin past the surplus.
 //!
 //! ```text
 //! event        a is live    made    reach
