@@ -12,7 +12,7 @@ In a document three things are run, by sh, with the program TLSLD as `tlsld`:
 - What stands between the lines `<!-- made by COMMAND -->` and `<!-- end -->`: what the command prints at the top of the
   repository. With --write that is put there. A command that ends with status 77 lacks what it needs, and is left out.
 
-Blocks of other kinds are not run. Without names it takes README.md, the documents beside it, and those of the examples.
+Blocks of other kinds are not run. Without names it takes README.md, the pages of docs/, and those of the examples and of the workbench.
 """
 import glob
 import os
@@ -144,7 +144,8 @@ def tell(path, case, printed):
 
 def documents():
     return [f"{TOP}/README.md", *sorted(glob.glob(f"{TOP}/docs/*.md")),
-        *sorted(glob.glob(f"{TOP}/examples/**/README.md", recursive=True))]
+        *sorted(glob.glob(f"{TOP}/examples/**/README.md", recursive=True)),
+        f"{TOP}/workbench/README.md", *sorted(glob.glob(f"{TOP}/workbench/wrong/*.md"))]
 
 
 def main():

@@ -5,11 +5,9 @@
     places     what `tlsld link` puts in the place of each, by what its variable is bound to
     registers  the same of the two forms that name a register, for each register
     left       what is unknown behind each, by what `tlsld check` says of code that relies on it
-    linkers    what other linkers put there
-    odd        sequences that stand in no row, and what each linker does with them
 
-Objects are made by `as` as this file has them, images by `tlsld` and by the linkers that are there; code is read by objdump.
-Where a linker is missing, or another version, it ends with status 77.
+Objects are made by `as` as this file has them, images by `tlsld`; code is read by objdump. What other linkers put there is told by
+workbench/tables.py.
 """
 import os
 import re
@@ -18,8 +16,6 @@ import sys
 import tempfile
 
 TOP = os.path.dirname(os.path.dirname(os.path.abspath(__file__)))
-NOT_HERE = 77
-LINKERS = {"ld.bfd": ("ld", "2.40"), "ld.gold": ("gold", "1.16"), "ld.lld-19": ("lld", "19.1.7"), "mold": ("mold", "1.10.1")}
 REGISTERS = ["rax", "rcx", "rdx", "rbx", "rsp", "rbp", "rsi", "rdi", *[f"r{n}" for n in range(8, 16)]]
 FLAGS = {"zero": "je", "sign": "js", "carry": "jb", "overflow": "jo"}
 
@@ -36,19 +32,7 @@ FORMS = {
 }
 # What has to stand before a form.
 BEFORE = {"desc-call": FORMS["desc-lea"]}
-# Sequences that the table does not have.
-ODD = {
-    "`gd` without padding": ["leaq x@tlsgd(%rip), %rdi", "call __tls_get_addr@PLT"],
-    "`gd` with an instruction inside": [*FORMS["gd"][:2], "nop", *FORMS["gd"][2:]],
-    "`ld` padded as `gd`": [".byte 0x66", FORMS["ld"][0], ".value 0x6666", "rex64", FORMS["ld"][1]],
-    "`ie` of 32 bits": ["movl x@gottpoff(%rip), %eax"],
-    "`ie` that subtracts": ["subq x@gottpoff(%rip), %rax"],
-    "`ie` that pushes": ["pushq x@gottpoff(%rip)", "popq %rax"],
-    "a descriptor in %rcx": ["leaq x@tlsdesc(%rip), %rcx"],
-    "one called through %rcx": ["leaq x@tlsdesc(%rip), %rax", "movq %rax, %rcx", "call *x@tlscall(%rcx)"],
-}
 DATA = [".section .tdata, \"awT\", @progbits", ".globl x", ".type x, @object", ".align 4", ".size x, 4", "x: .long 42"]
-RUN_TIME = [".text", ".globl __tls_get_addr", ".type __tls_get_addr, @function", "__tls_get_addr: ret"]
 
 
 def tidy(text):
@@ -110,12 +94,10 @@ class Room:
         return self.read("main.o", *self.place("main.o"), "-j", ".text")
 
     def by_tlsld(self, own, *words):
-        """What tlsld makes of the sequence; or the kind of fault."""
+        """What tlsld makes of the sequence."""
         self.write("job", ["image app exe main.o", *([] if own else ["image lib start lib.o"])])
         self.assemble("lib", DATA)
-        status, said = self.run("tlsld", "link", "job", "app", "out", *words)
-        if status:
-            return said.split()[-1 if status == 6 else 2]
+        self.run("tlsld", "link", "job", "app", "out", *words)
         begins = next(int(it.split()[1], 16) for it in self.run("tlsld", "show", "out")[1].splitlines() if it.endswith(" here"))
         with open(f"{self.at}/out", "rb") as file:
             file.seek(4096 + begins - 0x400000)
@@ -123,26 +105,6 @@ class Room:
         with open(f"{self.at}/code", "wb") as file:
             file.write(code)
         return self.read("code", 0, len(code), "-b", "binary", "-m", "i386:x86-64")
-
-    def by_linker(self, linker, own):
-        """What another linker makes of it; or a word for what it does in place of that."""
-        self.assemble("theirs", [*DATA, *RUN_TIME])
-        self.run(linker, "-shared", "-o", "lib.so", "theirs.o")
-        status, said = self.run(linker, "-e", "f", "-o", "made", "main.o", *([] if own else ["lib.so"]))
-        if status:
-            return "crashes" if re.search("internal error|PLEASE submit", said) else "refuses"
-        return self.read("made", *self.place("made"))
-
-    def code_of(self, name):
-        """The bytes of a file's code."""
-        self.run("objcopy", "-O", "binary", "-j", ".text", name, "code")
-        with open(f"{self.at}/code", "rb") as file:
-            return file.read()
-
-    def changes_others(self):
-        """Whether a linked program's code is another one outside the sequence."""
-        ours, theirs, (start, count) = self.code_of("main.o"), self.code_of("made"), self.place("main.o")
-        return any(old != new for at, (old, new) in enumerate(zip(ours, theirs)) if not start <= at < start + count)
 
     def verdict(self, before, sequence, after):
         """The last word of what `check` says of code that runs a sequence."""
@@ -170,11 +132,6 @@ def head(*cells):
 def bindings(name):
     """Whether the variable is the program's own or a module's; local dynamic code asks for none."""
     return [(True, "any")] if name.startswith("ld") else [(True, "the program's"), (False, "a module's")]
-
-
-def made_as(made, same, words):
-    """A cell: a word for what a linker does, or what it makes."""
-    return made if isinstance(made, str) else words if made.text == same else code(made.text)
 
 
 def source_rows():
@@ -252,57 +209,13 @@ def left(room):
     print()
 
 
-def headed(room):
-    """The headings of the linkers; where one is not there, or another version, nothing can be compared."""
-    for linker, (_, version) in LINKERS.items():
-        if version not in room.run("sh", "-c", f"{linker} --version | head -1")[1]:
-            print(f"{linker} {version} is not here", file=sys.stderr)
-            sys.exit(NOT_HERE)
-    return [f"{name} {version}" for name, version in LINKERS.values()]
-
-
-def linkers(room):
-    head("form", "its variable", "tlsld", *headed(room))
-    same = []
-    for name in FORMS:
-        for own, words in bindings(name):
-            room.program(BEFORE.get(name, []), FORMS[name], [], own)
-            ours = room.by_tlsld(own).text
-            cells = [made_as(room.by_linker(it, own), ours, "the same") for it in LINKERS]
-            if all(it == "the same" for it in cells):
-                same.append(f"{code(name)} of {words} variable")
-            else:
-                row(code(name), words, code(ours), *cells)
-    print(f"\nAll write the same for {', '.join(same)}.\n")
-
-
-def odd_row(room, name, own):
-    written = room.written().text
-    made = room.by_tlsld(own)
-    cells = []
-    for linker in LINKERS:
-        theirs = room.by_linker(linker, own)
-        breaks = not isinstance(theirs, str) and room.changes_others()
-        cells.append(made_as(theirs, written, "keeps it") + (", and changes bytes outside" if breaks else ""))
-    row(name, code(written), code(made if isinstance(made, str) else made.text), *cells)
-
-
-def odd(room):
-    head("what stands there", "instructions", "tlsld", *headed(room))
-    for name, sequence in ODD.items():
-        room.program([], sequence, [], True)
-        odd_row(room, name, True)
-    room.program([], FORMS["ld"], [], False)
-    odd_row(room, "`ld` in a program without variables", False)
-    print()
-
-
 def main():
-    tables = {"forms": forms, "places": places, "registers": registers, "left": left, "linkers": linkers, "odd": odd}
+    tables = {"forms": forms, "places": places, "registers": registers, "left": left}
     if len(sys.argv) != 2 or sys.argv[1] not in tables:
         sys.exit(__doc__)
     with tempfile.TemporaryDirectory() as at:
         tables[sys.argv[1]](Room(at))
 
 
-main()
+if __name__ == "__main__":
+    main()

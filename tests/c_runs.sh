@@ -6,7 +6,8 @@
 # examples/c has two files with _Thread_local variables, and native.c calls their functions by two threads. tlsld links them as a
 # program at a fixed address, as one at any address, as a module that starts with a program, and as one that is opened, called, closed
 # and opened again, and runs the same calls, in both settings. Natively the files are linked to native.c, or opened as a shared object.
-# Code of -O0 and -Os is not run: it has instructions that the machine does not know, such as cltq.
+# Code of -O0 and -Os is not run: it has instructions that the machine does not know, such as cltq. The workbench has these files too,
+# as gcc made them once, for any linker: workbench/cases/c-pic and so on.
 set -eu
 top=$(cd "$(dirname "$0")/.." && pwd)
 tlsld=${1:-$top/crates/tlsld/out/tlsld}

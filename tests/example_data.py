@@ -1,21 +1,26 @@
 #!/usr/bin/env python3
-"""example_data.py [--check]: copies examples/ to where the gate can see it, crates/command_runs; or says whether it is in step.
+"""example_data.py [--check]: copies examples/ and workbench/cases to where the gate can see them, crates/command_runs; or says whether
+they are in step.
 
 The gate runs a program over files of its own crate alone. So data/examples of the crate command_runs are the folders of
 examples/ whose jobs have something to print: these jobs, the objects, what stands beside the jobs, and `runs`, the list of what
-is to be run. The crate's `stdout` is what the program prints where all is well: a line for this list, and one for each list of
-data/cases and data/lying, which are written by hand. tests/examples.sh says which file beside a job means which runs, and
-crates/command_runs/src/main.rt what the lines of a list are. The objects of its trials are copies of these, but for two.
+is to be run. data/workbench is the same of the workbench's cases, as tests/workbench_data.py has it. The crate's `stdout` is what
+the program prints where all is well: a line for each of these lists, and one for each list of data/cases and data/lying, which
+are written by hand. tests/examples.sh says which file beside a job means which runs, and crates/command_runs/src/main.rt what the
+lines of a list are. The objects of its trials are copies of these, but for two.
 """
 import os
 import re
 import shutil
 import sys
 
+import workbench_data
+
 TOP = os.path.dirname(os.path.dirname(os.path.abspath(__file__)))
 CRATE = f"{TOP}/crates/command_runs"
 TRIALS = f"{TOP}/crates/command_runs/data"
 TRIALS_ALONE = ("no_tls.o", "space.o")
+MADE = ("examples/runs", "workbench/runs")
 BY_HAND = ("cases/commands", "cases/turns", "cases/verdicts", "cases/failing", "lying/objects", "lying/images")
 HEAD = "# Written by tests/example_data.py from examples/.\n"
 SETTINGS = ([], ["--no-relax"])
@@ -93,7 +98,7 @@ def last_line(name, text):
 
 
 def wanted():
-    """The files of the crate that come from examples/, by name."""
+    """The files of the crate that come from examples/ and the workbench, by name."""
     listed, made = [HEAD], {}
     for folder, files, runs in folders():
         listed.append(f"folder {plain(folder)}\n")
@@ -101,7 +106,8 @@ def wanted():
         listed += [f"run {status} {expected} {' '.join(map(plain, words))}\n" for status, expected, words in runs]
         made |= {f"data/examples/{folder}/{name}": content for name, content in files.items()}
     made["data/examples/runs"] = "".join(listed).encode()
-    lists = {"examples/runs": made["data/examples/runs"]} | {it: read(f"{CRATE}/data/{it}") for it in BY_HAND}
+    made |= {f"data/workbench/{name}": content for name, content in workbench_data.wanted().items()}
+    lists = {it: made[f"data/{it}"] for it in MADE} | {it: read(f"{CRATE}/data/{it}") for it in BY_HAND}
     made["stdout"] = "".join(last_line(name, text) for name, text in lists.items()).encode() + trials()
     return made
 
@@ -114,7 +120,8 @@ def trials():
 
 def found():
     """These files as they stand."""
-    there = [f"{path}/{name}" for path, _, names in os.walk(f"{CRATE}/data/examples") for name in names] + [f"{CRATE}/stdout"]
+    roots = [f"{CRATE}/data/{os.path.dirname(it)}" for it in MADE]
+    there = [f"{path}/{name}" for root in roots for path, _, names in os.walk(root) for name in names] + [f"{CRATE}/stdout"]
     return {os.path.relpath(path, CRATE): read(path) for path in there if os.path.exists(path)}
 
 
@@ -131,18 +138,19 @@ def check(made):
     there = found()
     others = sorted(name for name in made.keys() | there.keys() if made.get(name) != there.get(name))
     for name in others:
-        print(f"crates/command_runs/{name} is not what examples/ gives")
+        print(f"crates/command_runs/{name} is not what examples/ and workbench/cases give")
     lost = strangers()
     for name in lost:
         print(f"crates/command_runs/data/{name} is no object of a list")
     if lost:
         sys.exit(1)
-    print("run tests/example_data.py" if others else "crates/command_runs is in step with examples/")
+    print("run tests/example_data.py" if others else "crates/command_runs is in step with examples/ and workbench/cases")
     sys.exit(1 if others else 0)
 
 
 def write(made):
-    shutil.rmtree(f"{CRATE}/data/examples", ignore_errors=True)
+    for it in MADE:
+        shutil.rmtree(f"{CRATE}/data/{os.path.dirname(it)}", ignore_errors=True)
     for name, content in made.items():
         os.makedirs(os.path.dirname(f"{CRATE}/{name}"), exist_ok=True)
         with open(f"{CRATE}/{name}", "wb") as file:

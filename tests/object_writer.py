@@ -64,11 +64,11 @@ class Object:
         self.sections.append(made)
         return made
 
-    def symbol(self, name, kind, section=None, value=0, size=0, is_local=False):
+    def symbol(self, name, kind, section=None, value=0, size=0, is_local=False, is_weak=False, visibility=0):
         """The number of a new symbol; without a section it is one that another object defines."""
         where = self.sections.index(section) + 1 if section else 0
-        info = (0 if is_local else 16) + kind
-        self.symbols.append(struct.pack("<IBBHQQ", self.names.place(name), info, 0, where, value, size))
+        info = (0 if is_local else 32 if is_weak else 16) + kind
+        self.symbols.append(struct.pack("<IBBHQQ", self.names.place(name), info, visibility, where, value, size))
         self.locals += is_local
         return len(self.symbols) - 1
 

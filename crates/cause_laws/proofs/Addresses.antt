@@ -35,12 +35,6 @@ abbrev pub Says : Result ℕ Cause → Option ℕ → Option Cause → Type 0
 Says (Ok a) o c = (o ≡ Some a) × (c ≡ None)
 Says (Err why) o c = (o ≡ None) × (c ≡ Some why)
 
-pub word-says : (w : Word) → Says (used_number w) (number_in w) (word_cause (w ∷ []))
-word-says (Number n) = (refl, refl)
-word-says Undefined = (refl, refl)
-word-says (Marked (BaseOf block)) = (refl, refl)
-word-says (Marked (Descriptor instance symbol)) = (refl, refl)
-
 -- the same with something added, modulo 2^64
 abbrev Adds : ℕ → Result ℕ Cause → Option ℕ → Option Cause → Type 0
 Adds more (Ok a) o c = (n : ℕ) × ((o ≡ Some n) × ((a % 2 ^ 64 ≡ (n + more) % 2 ^ 64) × (c ≡ None)))

@@ -1,5 +1,5 @@
 -- The first cause of several values that are used: of lists of words and of flags.
-use Rattle.std.proofs.Common.{◌≡◌, Bool, true, false, List, [], ◌∷◌, ◌++◌, Option, Some, None, refl}
+use Rattle.std.proofs.Common.{◌≡◌, Bool, true, false, List, [], ◌++◌, Option, Some, None, refl}
 use Rattle.std.specs.Prelude.{◌||◌}
 use Rattle.std.specs.List.{list_any}
 use Rattle.std.proofs.lemmas.List.Folds.{list_any-append}
@@ -64,10 +64,3 @@ pick-append ws ws' =
     rw (list_any-append is_undefined ws ws', list_any-append is_base ws ws', list_any-append is_descriptor ws ws')
     (four (list_any is_undefined ws) false (list_any is_base ws) (list_any is_descriptor ws)
     (list_any is_undefined ws') false (list_any is_base ws') (list_any is_descriptor ws'))
-
-pub pick-cons : (w : Word) (ws : List Word) → word_cause (w ∷ ws) ≡ earlier (word_cause (w ∷ [])) (word_cause ws)
-pick-cons w ws = pick-append (w ∷ []) ws
-
--- the two lists of flags are only those of jumps, which use no word
-abbrev pub flag_cause : List Flag → Option Cause
-flag_cause fs = pick [] fs

@@ -43,9 +43,6 @@ module _ (mark : ℕ → Mark) (state : State Word Flag) (bytes : List ℕ) wher
   met-is k = ap (λ (o : Option Cause). if begins_of (take k bytes) then o else None)
       (blocked-is mark state (completed bytes) k (mark (place_at state.place k)))
 
-  last-low : (j k : ℕ) → k ≤ j → j < k + 1 → j ≡ k
-  last-low j k a b = omega arith
-
   next-at : (k : ℕ) (more : ℕ) (why : Cause) → asked k ≡ None → IsFound asked (k + 1) more why
       → IsFound asked k (suc more) why
   next-at k more why none h = record {

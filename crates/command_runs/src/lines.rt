@@ -24,6 +24,8 @@ pub(crate) enum Test<'a> {
     Absent(&'a str),
     /// It has a file of the first name, with the bytes of its file of the second name.
     Same(&'a str, &'a str),
+    /// Its file of this name has these bytes at these places.
+    Holds(&'a str, &'a str),
 }
 
 /// A line of a list.
@@ -66,6 +68,12 @@ fn same_of(text: &str) -> Option<Test<'_>> {
     Some(Test::Same(name, other))
 }
 
+/// A file and its bytes at some places, from the rest of a line.
+fn holds_of(text: &str) -> Option<Test<'_>> {
+    let (name, places) = text.split_once(' ')?;
+    Some(Test::Holds(name, places))
+}
+
 /// What a line of this kind checks, if it checks something.
 fn test_of<'a>(kind: &str, rest: &'a str) -> Option<Test<'a>> {
     match kind {
@@ -73,6 +81,7 @@ fn test_of<'a>(kind: &str, rest: &'a str) -> Option<Test<'a>> {
         "row" => Some(Test::Row(row_of(rest)?)),
         "absent" => Some(Test::Absent(rest)),
         "same" => same_of(rest),
+        "holds" => holds_of(rest),
         _ => None,
     }
 }

@@ -1,6 +1,7 @@
 //! Checks of the files that a command left in a folder.
 
 use crate::folder::Folder;
+use crate::patches::patched;
 use anyhow::Result;
 use std::io;
 
@@ -22,4 +23,16 @@ pub(crate) fn is_unlike(rt: &impl Print, folder: &Folder, name: &str, other: &st
         println!(rt; "{title}: {name} is not {other}")?;
     }
     Ok(is_unlike)
+}
+
+/// Whether a file has other bytes than these at some places.
+pub(crate) fn is_other(rt: &impl Print, folder: &Folder, name: &str, places: &str) -> Result<bool> {
+    let bytes = folder.bytes(name)?;
+    let wanted = patched(folder.alloc, bytes, places)?;
+    let is_other = bytes != wanted.as_slice();
+    if is_other {
+        let title = folder.title.as_str();
+        println!(rt; "{title}: {name} has other bytes than {places}")?;
+    }
+    Ok(is_other)
 }

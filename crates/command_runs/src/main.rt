@@ -1,9 +1,9 @@
 //! Runs commands over files in memory, and compares the output and the status of each with the expected ones.
 //!
-//! This is the test of the whole program: of the examples, whose output stands next to them for readers, of cases
-//! that were worked out by hand, of malformed files, and of stores and sinks that fail. It is a program and not a
-//! crate of test functions, since the runs are data: so the crate, which uses all others, is proved once for any
-//! number of runs, and the runs use what each of the two compilers builds.
+//! This is the test of the whole program: of the examples, whose output stands next to them for readers, of the cases
+//! by which the workbench tries other linkers, of cases that were worked out by hand, of malformed files, and of stores
+//! and sinks that fail. It is a program and not a crate of test functions, since the runs are data: so the crate, which
+//! uses all others, is proved once for any number of runs, and the runs use what each of the two compilers builds.
 //!
 //! The runs stand in lists among the crate's data. A list is read from top to bottom, a line at a time; a line is words
 //! with single spaces between them:
@@ -20,6 +20,7 @@
 //! row WHAT | CHANGE | COMMAND | STATUS LINE
 //! absent out                       there is no file `out` now
 //! same out wanted                  there is a file `out` now, with the bytes of `wanted`
+//! holds out 4149 6448, 4389 c3     its bytes from these offsets on are these
 //! ```
 //!
 //! A command is passed to [`commands::tlsld`] as the program `tlsld` does it, with a store in memory that has the files
@@ -59,9 +60,9 @@
 //! tests/fuzz.py runs many slices with seeds of their own, adds their rows up, and measures time and memory. Without
 //! words the lists are all that is run.
 //!
-//! The list of the examples and the files next to it are copies that tests/example_data.py writes; it knows which
-//! file of an example belongs to which command. The others are written by hand: `cases/README.md` and
-//! `lying/README.md` describe their objects and images.
+//! The lists of the examples and of the workbench's cases, and the files next to them, are copies that
+//! tests/example_data.py writes; it knows which file of an example belongs to which command. The others are written by
+//! hand: `cases/README.md` and `lying/README.md` describe their objects and images.
 #![tactic(auto)]
 
 mod changed;
@@ -79,7 +80,7 @@ use changed::Commands;
 use command_trials::try_words;
 use folder::{Folder, fetched};
 use lines::{Gift, Line, Test, line_of};
-use looks::{is_there, is_unlike};
+use looks::{is_other, is_there, is_unlike};
 use ports::{HostStore, Store};
 use std::alloc::Global;
 use std::process::ExitCode;
@@ -90,8 +91,9 @@ use tally::Tally;
 use trials::run_row;
 
 /// The lists of runs: each with its folder, the files that it names, and its name there.
-const LISTS: [(&str, &str); 7] = [
+const LISTS: [(&str, &str); 8] = [
     ("examples", "runs"),
+    ("workbench", "runs"),
     ("cases", "commands"),
     ("cases", "turns"),
     ("cases", "verdicts"),
@@ -135,6 +137,7 @@ fn test<R: Threads + Wait + Sync + Print>(
         Test::Row(row) => run_row(rt, folder, row, tally)?,
         Test::Absent(name) => tally.count_look(is_there(rt, folder, name)?),
         Test::Same(name, other) => tally.count_look(is_unlike(rt, folder, name, other)?),
+        Test::Holds(name, places) => tally.count_look(is_other(rt, folder, name, places)?),
     }
     Ok(())
 }

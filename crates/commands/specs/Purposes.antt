@@ -84,6 +84,7 @@ puts found.Check = None
 puts (found.File place put) = Some put.out.now
 puts (found.Sites place) = None
 
+-- whether it judges the job
 abbrev pub JudgesAt : Placed → Type 0
 JudgesAt found.Check = Unit {0}
 JudgesAt ending = ⊥

@@ -1,5 +1,6 @@
 -- What is known of a command over a store that does not show its files: it asks for the names that it asks for over
--- some files, its own status is one that the command has, and `gen`, which reads none, says what it says over any store.
+-- some files, its own status is one that the command has, and `gen`, which reads none, says what it says over any
+-- store.
 use Rattle.std.specs.Prelude.{◌≡◌, ◌≤◌, ◌⊎◌, ℕ, List, Option, None, Some}
 use Rattle.command_line.specs.declared.tasks.Command.{Command}
 use Rattle.command_line.specs.declared.tasks.Command.TheVariants.{Plain, Race}

@@ -20,9 +20,9 @@
 //! (`endings`): `run` (`runs`) writes all images, reads them back, runs the job's threads over them and prints the
 //! transcript; `check` (`checks`) says whether what they do is decided by the objects alone, or depends on what a
 //! linker chooses; `sites` (`site_lines`) prints what stands in the place of each sequence; and `link` (`links`) puts
-//! its image into the store, which asks for the bytes piece by piece. `gen` (`generated`) is `run` of a job that it makes
-//! instead of fetching it. `race` (`races`) is `run` without an order: each thread of the job in a thread of its own
-//! (`race_runs`). Only `race` may wait, so its steps stand next to those of the others, which are tasks.
+//! its image into the store, which asks for the bytes piece by piece. `gen` (`generated`) is `run` of a job that it
+//! makes instead of fetching it. `race` (`races`) is `run` without an order: each thread of the job in a thread of its
+//! own (`race_runs`). Only `race` may wait, so its steps stand next to those of the others, which are tasks.
 //!
 //! `run` and `check` are tied: if `check` says `clean`, `run` prints what the objects mean, event by event and line by
 //! line, whether sequences were rewritten or not (`specs/Runs`, `HasRun`, by the laws of `linked_jobs`). And each image

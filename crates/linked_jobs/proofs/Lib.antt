@@ -7,5 +7,5 @@ pub mod Printing
 mod Runs
 mod Standing
 pub mod Telling
-mod Tied
+pub mod Tied
 mod WithoutData

@@ -21,7 +21,8 @@
 //! **No file is read unasked.** A file's bytes come by `fetch`, which asks, or by a claim. Only a store makes a claim,
 //! for it alone has a value of its brand; a claim is read once, and what came of it shows when it is settled. So a
 //! caller whose clauses say which names it asked for, and that no claim is out at its end, has read no other file, and
-//! has dropped no refusal.
+//! has passed over no refusal: claims are settled for all their files, or for a refusal, which is counted. Behind the
+//! end of a command a file is read once more for a note, by [`Aftermath`], which no command asks for.
 //!
 //! **`OutOfMemory`** is a result of its own, and never a fault. A sink counts these results too.
 //!

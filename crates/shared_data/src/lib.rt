@@ -28,9 +28,9 @@
 //! These laws are about addresses of data. Another law says which these are ([`laws::data_are_there`],
 //! [`laws::meant_data_are_there`]): byte k of the data of each instance that a thread has seen live is at offset k of
 //! the range that the load fills. There the thread reads what the last change of that byte left, and what it stores
-//! there is told as the next. The reason is that nothing else that it holds lies there, where all that is loaded lies below what
-//! threads have for themselves, and data at addresses that have their instance's number in them (`specs/Places`,
-//! `LiesLow`). `linked_jobs` proves that of all images that are linked together.
+//! there is told as the next. The reason is that nothing else that it holds lies there, where all that is loaded lies
+//! below what threads have for themselves, and data at addresses that have their instance's number in them
+//! (`specs/Places`, `LiesLow`). `linked_jobs` proves that of all images that are linked together.
 //!
 //! No definition of a step says which bytes it writes: a step is a function of registers and memory. So the same step
 //! is made over a memory that notes each store (`noting`). Noting changes nothing ([`laws::notes_follow_the_machine`],

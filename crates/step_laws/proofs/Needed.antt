@@ -48,10 +48,6 @@ pub stays-first : {A C : Type 0} (r : Result A Stop) (k : A → Result C Stop) �
 stays-first (Ok x) k h = tt
 stays-first (Err stop) k h = h
 
-used-ok : {A : Type 0} (here : ℕ) (r : Result A Cause) → Stays (clean here r) → (x : A) × (r ≡ Ok x)
-used-ok here (Ok x) h = (x, refl)
-used-ok here (Err cause) h = absurd h
-
 both-other : {A C : Type 0} (here : ℕ) (r : Result A Cause) (other : Result C Cause) → Stays (clean here (both r other))
     → (x : C) × (other ≡ Ok x)
 both-other here (Ok a) (Ok x) h = (x, refl)

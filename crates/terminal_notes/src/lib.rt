@@ -17,8 +17,8 @@
 //! most 80 bytes, those outside 0x20 to 0x7e in hexadecimal.
 //!
 //! [`KeptSink`] keeps the line, and [`note_of`] chooses the note by the status. The object is read once more for it,
-//! by the name in the line (`ports::Aftermath`): the names are those of that file and of no other. If memory runs out, or
-//! the file is gone, there is no note; if the file has changed, the names are those that it has now. Nothing else
+//! by the name in the line (`ports::Aftermath`): the names are those of that file and of no other. If memory runs out,
+//! or the file is gone, there is no note; if the file has changed, the names are those that it has now. Nothing else
 //! differs.
 //!
 //! Names lie in an object as the System V ABI has it (gABI, "Object Files").

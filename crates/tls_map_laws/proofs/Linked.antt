@@ -4,12 +4,9 @@ use Rattle.std.specs.Prelude.{IfSome, option_map, slice_get, unwrap_or}
 use Rattle.std.specs.List.{All}
 use Rattle.std.proofs.lemmas.Bool.{cases_lt, le-leb, lt-ltb, ltb-true}
 use Rattle.std.proofs.lemmas.List.{length-map, length-replicate}
-use Rattle.std.proofs.lemmas.List.FromFn.{length-map-range_with_len}
 use Rattle.std.proofs.lemmas.Option.{get_or_from_slice_get, slice_get-get_or, slice_get-map, slice_get_past, slice_get_within}
 use Rattle.guest_arithmetic.specs.Plain.{plain_operations}
-use Rattle.guest_machine.specs.Ranges.{Range, byte_in, grants, holds}
-use Rattle.guest_operands.specs.declared.space.Access.{Access}
-use Rattle.guest_operands.specs.declared.space.Access.TheVariants.{Read, Run}
+use Rattle.guest_machine.specs.Ranges.{Range, holds}
 use Rattle.job_meaning.specs.declared.values.Byte.{Byte}
 use Rattle.job_meaning.specs.declared.values.Byte.TheVariants.{Value}
 use Rattle.link_core.specs.Faults.{Links}
@@ -24,8 +21,7 @@ use Rattle.loaded_bytes.proofs.Blocks.{blocks_loaded}
 use Rattle.loaded_bytes.proofs.Data.{data_loaded}
 use Rattle.loaded_bytes.proofs.Meant.{blocks_meant, data_meant}
 use Rattle.loaded_bytes.proofs.Places.{places_own}
-use Rattle.loaded_bytes.proofs.Still.{code_loaded, constants_loaded}
-use Rattle.loaded_bytes.specs.Laws.{IsData, IsIn, IsInstanceOf, images_of}
+use Rattle.loaded_bytes.specs.Laws.{IsData, IsInstanceOf, images_of}
 use Rattle.loaded_bytes.specs.Meant.{valued}
 use Rattle.loaded_bytes.specs.Places.{IsApart, IsOwn}
 use Rattle.loaded_modules.specs.declared.instance.Instance.{Instance}
@@ -37,22 +33,22 @@ use Rattle.module_table.specs.Laws.{startup_end}
 use Rattle.module_table.specs.Modules.{no_module}
 use Rattle.module_table.specs.declared.events.Event.{Event}
 use Rattle.module_table.specs.declared.modules.ImageInfo.{ImageInfo}
-use Rattle.object_faults.specs.declared.class.SectionClass.{SectionClass}
-use Rattle.object_faults.specs.declared.class.SectionClass.TheVariants.{Executable, ReadOnly, Tls, Writable}
+use Rattle.object_faults.specs.declared.class.SectionClass.TheVariants.{Tls, Writable}
 use Rattle.thread_blocks.specs.Instances.{Loads, fixed_at, instances}
 use Rattle.thread_blocks.specs.JobLoads.{job_loads}
 use Rattle.thread_blocks.specs.MachineTurns.{pointer_word}
 use Rattle.thread_blocks.specs.Turns.{at_number}
 use Rattle.thread_blocks.specs.TurnsAlike.{IsFront}
+use Rattle.shared_data.specs.Places.{LiesLow}
 use Rattle.tls_layout.specs.Laws.{extent_for}
 use Rattle.tls_layout.specs.Places.{tls_size}
 use Rattle.tls_relocs.specs.Elements.{slice_get-append, slice_get-append_behind, slice_get-replicate}
-use Rattle.whole_meaning.specs.Bytes.{block_bytes, byte_of, class_bytes}
-use Rattle.whole_meaning.specs.Loads.{at_bias, code_range, constant_range, has_data, info_of, loads_of, still_ranges}
-use Rattle.whole_meaning.specs.Spots.{bias_of, spot_in}
+use Rattle.whole_meaning.specs.Bytes.{block_bytes, class_bytes}
+use Rattle.whole_meaning.specs.Loads.{at_bias, has_data, info_of, loads_of}
+use Rattle.whole_meaning.specs.Spots.{bias_of}
 use Rattle.whole_meaning.specs.Threads.{ops}
 use Rattle.tls_map_laws.specs.Initial.{initial_image, initial_meant}
-use Rattle.tls_map_laws.proofs.Beside.{blocks_alone, blocks_high, not_here, outside}
+use Rattle.tls_map_laws.proofs.Beside.{blocks_alone, blocks_high}
 use Rattle.tls_map_laws.proofs.Known.{Around, IsLow, Known}
 use Rattle.tls_map_laws.proofs.Live.{BlocksAreLong, is_live, known_all}
 use Rattle.tls_map_laws.proofs.Places.{Member}
@@ -176,62 +172,6 @@ module _ (ls : List Linking) (together : AreTogether ls) (stray : All HasNoStray
         let low = subst (λ (o : Option (Range Byte)). IfSome o IsLow) (data_meant ls l x is) (valued_low (q.shared x) data_low) in
         rw is.image low
 
-    -- ** what no thread writes
-
-    fixed_low : (how : Access) (place : ℕ) → 2 ^ 39 ≤ place → byte_in how (q.fixed x) place ≡ None
-    fixed_low how place high = of_found (byte_in how (q.fixed x) place) refl
-      where
-        of_found : (o : Option ℕ) → byte_in how (q.fixed x) place ≡ o → o ≡ None
-        of_found None e = refl
-        of_found (Some byte) e =
-            let low = own_low l x.number place number ((places_own ls l x is).fixed how place byte e) in
-            absurd (omega (arith, low, high))
-
-    -- a class of sections, of which each address is one of the instance's
-    class_long : (class : SectionClass) → length (map Value (class_bytes l (bias_of l.kind x.number) class))
-        ≡ (extent_for class (layout l)).end - (extent_for class (layout l)).start
-    unfolding class_bytes
-    class_long class =
-        length-map (class_bytes l (bias_of l.kind x.number) class) Value
-        ∙ length-map-range_with_len (λ address. byte_of l (bias_of l.kind x.number) (spot_in l class address))
-        (extent_for class (layout l)).start
-        ((extent_for class (layout l)).end - (extent_for class (layout l)).start)
-
-    class_away : (how : Access) (place : ℕ) (class : SectionClass) (r : Range Byte) → 2 ^ 39 ≤ place
-        → r.start ≡ (extent_for class (layout l)).start + bias_of l.kind x.number
-        → r.bytes ≡ map Value (class_bytes l (bias_of l.kind x.number) class)
-        → ((address : ℕ) → IsIn l class address
-        → IsOwn l (bias_of l.kind x.number) (address + bias_of l.kind x.number)) → grants how r place ≡ false
-    class_away how place class r high start bytes own = outside how place r (λ from to.
-        let size = ap (λ (bs : List Byte). length bs) bytes ∙ class_long class in
-        let bias = bias_of l.kind x.number in
-        let address = place - bias in
-        let low = own_low l x.number (address + bias) number
-        (own address (omega (arith, from, start), omega (arith, from, to, start, size))) in
-        absurd (omega (arith, low, high, from, start)))
-
-    still_low : (how : Access) (place : ℕ) → 2 ^ 39 ≤ place
-        → byte_in how (still_ranges l (bias_of l.kind x.number)) place ≡ None
-    still_low how place high =
-        let bias = bias_of l.kind x.number in
-        let code = code_range l bias in
-        let constants = constant_range l bias ReadOnly in
-        let initial = constant_range l bias (Tls true) in
-        let places = places_own ls l x is in
-        not_here how place code (constants ∷ initial ∷ [])
-        (class_away how place Executable code high refl refl
-        (λ address within. places.fixed Run (address + bias) _ (code_loaded ls l x address is within)))
-        ∙ (not_here how place constants (initial ∷ [])
-        (class_away how place ReadOnly constants high refl refl
-        (λ address within. places.fixed Read (address + bias) _ ((constants_loaded ls l x is).0 address within)))
-        ∙ not_here how place initial []
-        (class_away how place (Tls true) initial high refl refl
-        (λ address within. places.fixed Read (address + bias) _ ((constants_loaded ls l x is).1 address within))))
-
-    meant_fixed_low : (how : Access) (place : ℕ) → 2 ^ 39 ≤ place → byte_in how (m.fixed x) place ≡ None
-    unfolding loads_of
-    meant_fixed_low how place high = rw is.image (still_low how place high)
-
   -- ** fresh blocks
 
   -- a list and a byte that fills it up
@@ -331,15 +271,13 @@ module _ (ls : List Linking) (together : AreTogether ls) (stray : All HasNoStray
     machine_known thread = known_all q history legal last blocks_long thread
         (λ seen front x member. let link = of_live seen front x member in data_low link.l x link.is link.number)
 
-    pub machine_around : (thread : ℕ) → 1 ≤ thread
+    pub machine_around : LiesLow q → (thread : ℕ) → 1 ≤ thread
         → Around q thread (λ seen. pointer_word plain_operations thread ∷ fixed_at q seen) (initial_image ls) 0
         history
-    machine_around thread some = record {
+    machine_around lies thread some = record {
       fresh = λ seen front x member k less. let link = of_live seen front x member in fresh link.l x link.is k less;
       high = blocks_high plain_operations q history legal last blocks_long thread some;
-      alone = blocks_alone plain_operations q history legal last blocks_long thread some
-          (λ seen front x member how place high.
-          let link = of_live seen front x member in fixed_low link.l x link.is link.number how place high);
+      alone = blocks_alone plain_operations q history legal last blocks_long thread some lies;
     }
 
     -- and of the meaning's
@@ -347,13 +285,11 @@ module _ (ls : List Linking) (together : AreTogether ls) (stray : All HasNoStray
     meant_known thread = known_all m history meant_legal meant_last meant_long thread
         (λ seen front x member. let link = of_meant seen front x member in meant_low link.l x link.is link.number)
 
-    pub meant_around : (thread : ℕ) → 1 ≤ thread
+    pub meant_around : LiesLow m → (thread : ℕ) → 1 ≤ thread
         → Around m thread (λ seen. pointer_word ops thread ∷ fixed_at m seen) (initial_meant ls) (Value 0) history
-    meant_around thread some = record {
+    meant_around lies thread some = record {
       fresh = λ seen front x member k less.
           let link = of_meant seen front x member in meant_fresh link.l x link.is k less;
       high = blocks_high ops m history meant_legal meant_last meant_long thread some;
-      alone = blocks_alone ops m history meant_legal meant_last meant_long thread some
-          (λ seen front x member how place high.
-          let link = of_meant seen front x member in meant_fixed_low link.l x link.is link.number how place high);
+      alone = blocks_alone ops m history meant_legal meant_last meant_long thread some lies;
     }

@@ -9,12 +9,15 @@ use Rattle.lawful_points.proofs.Fronts.{in_history}
 use Rattle.lawful_points.specs.Raced.{first_of}
 use Rattle.link_needs.specs.Linking.{Linking}
 use Rattle.linked_jobs.proofs.Infos.{are_infos}
+use Rattle.linked_jobs.proofs.Low.{machine_low, meant_low}
+use Rattle.linked_jobs.proofs.Tied.{links_tied}
 use Rattle.linked_jobs.specs.Ready.{AreJob, AreReady}
 use Rattle.loaded_bytes.specs.Laws.{images_of}
 use Rattle.module_table.specs.declared.events.Event.{Event}
 use Rattle.module_table.specs.History.{IsLegal}
 use Rattle.module_table.specs.declared.modules.ImageInfo.{ImageInfo}
 use Rattle.module_table.specs.Past.{is_legal, start}
+use Rattle.shared_data.specs.Places.{LiesLow}
 use Rattle.thread_blocks.specs.Instances.{Loads, fixed_at}
 use Rattle.thread_blocks.specs.JobLoads.{job_loads}
 use Rattle.thread_blocks.specs.JobWorlds.{held_in, job_start, numbered_lines, thread_ready}
@@ -62,13 +65,20 @@ module _ (ls : List Linking) (history : List Event) (ready_links : AreReady ls)
   unfolding meaning_of
   known_meant thread = meant_known ls ready_links.together ready_links.stray history legal thread
 
+  -- all that is loaded lies low
+  machine_lies : LiesLow l
+  machine_lies = machine_low ls _ (λ seen legal_then. links_tied ls seen ready_links legal_then)
+
+  meant_lies : LiesLow m.loads
+  meant_lies = meant_low ls _ (λ seen legal_then. links_tied ls seen ready_links legal_then)
+
   machine_map : (thread : ℕ) → 1 ≤ thread → (acts : List (Act ℕ)) (h : Runs)
       → FitsBy l thread history (known thread) acts h
       → AreMap l thread (thread_accesses l thread) (initial_image ls) 0 history acts h
   unfolding thread_accesses
   machine_map thread some acts h fits =
       are_map plain_operations l thread (initial_image ls) 0 history (known thread)
-      (machine_around ls ready_links.together ready_links.stray history legal thread some) acts h fits
+      (machine_around ls ready_links.together ready_links.stray history legal machine_lies thread some) acts h fits
 
   meant_map : (thread : ℕ) → 1 ≤ thread → (acts : List (Act Byte)) (h : Meant)
       → FitsBy m.loads thread history (known_meant thread) acts h
@@ -76,7 +86,7 @@ module _ (ls : List Linking) (history : List Event) (ready_links : AreReady ls)
   unfolding meant_accesses meaning_of
   meant_map thread some acts h fits =
       are_map ops m.loads thread (initial_meant ls) (Value 0) history (known_meant thread)
-      (meant_around ls ready_links.together ready_links.stray history legal thread some) acts h fits
+      (meant_around ls ready_links.together ready_links.stray history legal meant_lies thread some) acts h fits
 
   machine_peeks : (fuel thread : ℕ) → 1 ≤ thread → (acts : List (Act ℕ)) (t : Thread Runs Line Event)
       (seen : List Event) → FitsBy l thread history (known thread) acts (held_in t.phase)
@@ -86,7 +96,7 @@ module _ (ls : List Linking) (history : List Event) (ready_links : AreReady ls)
   machine_peeks fuel thread some acts t seen fits front to =
       peeks_show plain_operations l thread (thread_turns l thread fuel) (machine_show l thread) (λ line s h. refl)
       (λ s. pointer_word plain_operations thread ∷ fixed_at l s) (initial_image ls) 0 history (known thread)
-      (machine_around ls ready_links.together ready_links.stray history legal thread some) acts t seen fits front to
+      (machine_around ls ready_links.together ready_links.stray history legal machine_lies thread some) acts t seen fits front to
 
   meant_peeks : (fuel thread : ℕ) → 1 ≤ thread → (acts : List (Act Byte)) (t : Thread Meant Line Event)
       (seen : List Event) → FitsBy m.loads thread history (known_meant thread) acts (held_in t.phase)
@@ -96,7 +106,7 @@ module _ (ls : List Linking) (history : List Event) (ready_links : AreReady ls)
   meant_peeks fuel thread some acts t seen fits front to =
       peeks_show ops m.loads thread (meant_turns m thread fuel) (meant_show m thread) (λ line s h. refl)
       (λ s. pointer_word ops thread ∷ fixed_at m.loads s) (initial_meant ls) (Value 0) history (known_meant thread)
-      (meant_around ls ready_links.together ready_links.stray history legal thread some) acts t seen fits front to
+      (meant_around ls ready_links.together ready_links.stray history legal meant_lies thread some) acts t seen fits front to
 
   threads : (fuel thread : ℕ) (own : List ThreadLine) → 1 ≤ thread → MachineHasMap ls fuel thread own history
   threads fuel thread own some =

@@ -1,5 +1,5 @@
--- The initial image of thread-local storage, as it is loaded for an instance (gABI, "Program Header": PT_TLS): the bytes
--- of its objects' sections, by the table of relocations alone. No file that a linker writes is read.
+-- The initial image of thread-local storage, as it is loaded for an instance (gABI, "Program Header": PT_TLS): the
+-- bytes of its objects' sections, by the table of relocations alone. No file that a linker writes is read.
 use Rattle.std.specs.Prelude.{ℕ, true, List, [], map}
 use Rattle.job_meaning.specs.declared.values.Byte.{Byte}
 use Rattle.job_meaning.specs.declared.values.Byte.TheVariants.{Value}

@@ -40,7 +40,7 @@ impl<'a, R: Clock + Eprint> Progress<'a, R> {
         }
     }
 
-    /// Counts a fetched file.
+    /// Counts a file that was fetched or read.
     fn count_file(&self) {
         let before = self.fetched.fetch_add(1, Ordering::SeqCst);
         if self.is_due() {

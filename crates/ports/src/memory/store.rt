@@ -3,10 +3,11 @@ ghost use Rattle.std.specs.Prelude.{◌≡◌, ◌≢◌, ◌-◌, ◌⊎◌, �
 ghost use Rattle.std.specs.Prelude.{None, Some, IsErr, OnOk, OnErr, IsErrOf, IfOk, IfSome, MatchOption};
 ghost use Rattle.std.specs.Option.{option_copied};
 ghost use Rattle.std.specs.List.{All, AllZip};
-ghost use Rattle.ports.specs.Claims.{Brings, IsFileOf, IsFresh, IsRead, Settles, fewer, untold_count};
+ghost use Rattle.ports.specs.Claims.{Brings, IsFileOf, IsFor, IsFresh, IsRead, Settles, fewer, more, texts};
+ghost use Rattle.ports.specs.Claims.{untold_count};
 ghost use Rattle.std.specs.FinMap as map;
 ghost use Rattle.ports.specs.Counts.{FetchCounts, PutCounts, faults_after_fetch, faults_after_put};
-ghost use Rattle.ports.specs.Files.{file_at, with_file, with_name, IsFile};
+ghost use Rattle.ports.specs.Files.{file_at, with_file, with_name, with_names, IsFile};
 ghost use Rattle.file_bytes.specs.Pieces.{whole};
 
 use super::plan::FaultPlan;
@@ -163,7 +164,17 @@ impl Store for MemoryStore {
         &mut self,
         alloc: Global,
         names: &[&'n str],
-    ) -> Result<Vec<Claim<'n, MemoryBrand>>, AllocError> {
+    ) -> Result<Vec<Claim<'n, MemoryBrand>>, AllocError>
+        ensures files { Some self.new.files ≡ Some self.old.files }
+        ensures faults { self.new.faults ≡ self.old.faults }
+        ensures claims { IfOk result (λ claims. AllZip IsFor names.now claims.items) }
+        ensures asked { OnOk result (untold_names ≡ with_names (texts names.now) untold_names) }
+        ensures out { OnOk result (untold_count ≡ more (length names.now) untold_count) }
+        ensures unasked { OnErr result (untold_names ≡ untold_names) }
+        ensures kept { OnErr result (untold_count ≡ untold_count) }
+
+        ensures same { self.new ≡ self.old }
+    {
         claims_to(alloc, &MemoryBrand { _own: () }, names)
     }
 
