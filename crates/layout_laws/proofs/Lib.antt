@@ -1,0 +1,5 @@
+mod Only
+mod Found
+mod Addresses
+mod Offsets
+mod Blocks

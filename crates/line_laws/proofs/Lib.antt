@@ -1,0 +1,9 @@
+mod Counting
+mod Leading
+mod NoSteps
+mod Ours
+mod Spent
+mod Histories
+mod Accounts
+mod Blocks
+mod FirstLooks
