@@ -30,7 +30,8 @@ use Rattle.whole_meaning.specs.Threads.{Meant, Memory as Space, held_next, meant
 use Rattle.cause_laws.specs.Laws.{CausesAreAnswered, IsAnswered, RowOf}
 use Rattle.cause_laws.specs.Operands.{number_in}
 use Rattle.cause_laws.specs.Rows.{RowIf, Stands, StandsOver, fetched, is_base, is_descriptor, is_undefined, is_undefined_flag, order}
-use Rattle.cause_laws.specs.Steps.{IsNoSequence, next_with, places_of, used_flags, words_of}
+use Rattle.step_laws.specs.Steps.{StartsNoSequence}
+use Rattle.cause_laws.specs.Steps.{next_with, places_of, used_flags, words_of}
 use Rattle.cause_laws.proofs.Clean.{touched-are}
 use Rattle.cause_laws.proofs.Order.{Decides, TellsNext, asked-tells, beside-linker, field-first, first_by, first-found, first-only, inside-first, is_field, is_inside, linker-then, next-answers, next-tells, next-told, test_of, unless_left, uses-then}
 use Rattle.cause_laws.proofs.Picks.{pick}
@@ -312,7 +313,7 @@ held-tells m thread h here (Goes s) c t = t
 held-tells m thread h here (Looks s) c t = t
 held-tells m thread h here (Ends stop) c t = t
 
-module _ (m : Meaning) (thread : ℕ) (h : Meant) (none : IsNoSequence m thread h) where
+module _ (m : Meaning) (thread : ℕ) (h : Meant) (none : StartsNoSequence m thread h) where
   abbrev here : ℕ
   here = h.after.state.place
 

@@ -27,7 +27,8 @@ use Rattle.job_meaning.specs.declared.values.Word.{Word}
 use Rattle.job_meaning.specs.Marked.{marked_operations}
 use Rattle.whole_meaning.specs.declared.marks.Mark.{Mark}
 use Rattle.whole_meaning.specs.Threads.{ops}
-use Rattle.cause_laws.specs.Instructions.{flags_used, is_nop, memory_of, operand_of, read_operand, registers_used, uses_loaded}
+use Rattle.step_laws.specs.Reads.{flags_read}
+use Rattle.cause_laws.specs.Instructions.{is_nop, memory_of, operand_of, read_operand, registers_used, uses_loaded}
 use Rattle.cause_laws.specs.Operands as operands
 use Rattle.cause_laws.specs.Operands.{first_mark, is_from_next, offset_of}
 use Rattle.cause_laws.specs.Steps as steps
@@ -164,7 +165,7 @@ module _ {M : Type 0} (acc lent : Accesses M Byte) (mark : ℕ
 
   pub lent-tells : read_operand it.instr.operation ≡ Some x → offset_of (first_mark mark state it it.disp) ≡ None
       → offset_of (first_mark mark state it it.imm) ≡ None → operands.is_next x.base ≡ true → x.index ≡ None
-      → flags_used it.instr.operation state.flags ≡ []
+      → flags_read it.instr.operation state.flags ≡ []
       → Tells state.place (act ops lent f it.instr.operation state m)
       (pick (words_of acc mark state m (Some it)) (used_flags acc mark state m (Some it)))
   lent-tells read none lacks from index flags =

@@ -31,7 +31,8 @@ use Rattle.whole_meaning.specs.Fields as fields
 use Rattle.whole_meaning.specs.Fields.{lent_at, lent_byte, lent_frame, marked_frame}
 use Rattle.whole_meaning.specs.Reading.{done, hindrance}
 use Rattle.whole_meaning.specs.Threads.{ops}
-use Rattle.cause_laws.specs.Instructions.{flags_used, is_nop, operand_of, read_operand, uses_loaded}
+use Rattle.step_laws.specs.Reads.{flags_read}
+use Rattle.cause_laws.specs.Instructions.{is_nop, operand_of, read_operand, uses_loaded}
 use Rattle.cause_laws.specs.Laws.{IsDone}
 use Rattle.cause_laws.specs.Operands as operands
 use Rattle.cause_laws.specs.Operands.{first_mark, offset_of, operand_address}
@@ -90,8 +91,8 @@ module _ {M : Type 0} (acc : Accesses M Byte) (m : M) (open_byte : (place : ℕ)
       ])
 
 -- what reads its operand uses no flag
-no-flags : (op : Operation) (x : Memory) (flags : _) → read_operand op ≡ Some x → flags_used {F = Flag} op flags ≡ []
-unfolding read_operand flags_used
+no-flags : (op : Operation) (x : Memory) (flags : _) → read_operand op ≡ Some x → flags_read {F = Flag} op flags ≡ []
+unfolding read_operand flags_read
 no-flags (Move width operands) x flags e = refl
 no-flags (StoreByte to from) x flags e = refl
 no-flags (ExtendByte width to from) x flags e = refl
@@ -191,10 +192,10 @@ module _ {M : Type 0} (acc : Accesses M Byte) (mark : ℕ → Mark) (state : Sta
   abbrev cause_by : Operation → Option Cause
   cause_by op = pick (operand_words mark state it (is_nop op) (operand_of op)
       ++ (if uses_loaded op then first_loaded acc memory (accesses_of mark state it op) else []))
-      (flags_used op state.flags)
+      (flags_read op state.flags)
 
   add-cause : (to : Register) → cause_by (Compute Add Quad (Immediate (InRegister to))) ≡ None
-  unfolding operand_of uses_loaded accesses_of flags_used
+  unfolding operand_of uses_loaded accesses_of flags_read
   add-cause to = refl
 
   summed-is : (result : Result (After Word Flag M) Stop) (o a i : Option ℕ) (n : ℕ) → o ≡ None → a ≡ None → i ≡ Some n

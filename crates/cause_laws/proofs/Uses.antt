@@ -43,7 +43,8 @@ use Rattle.job_meaning.specs.declared.values.Word.{Word}
 use Rattle.job_meaning.specs.declared.values.Word.TheVariants.{Number, Undefined as UndefinedWord, Marked}
 use Rattle.job_meaning.specs.Marked.{marked_operations, used_number, used_truth}
 use Rattle.whole_meaning.specs.Threads.{ops}
-use Rattle.cause_laws.specs.Instructions.{flags_of, flags_used, is_nop, is_zeroing, memory_if, memory_of, operand_of, registers_in, registers_used}
+use Rattle.step_laws.specs.Reads.{flags_read, in_condition}
+use Rattle.cause_laws.specs.Instructions.{is_nop, is_zeroing, memory_if, memory_of, operand_of, registers_in, registers_used}
 use Rattle.cause_laws.specs.Rows.{is_base, is_descriptor, is_undefined}
 use Rattle.cause_laws.specs.Steps.{word_in}
 use Rattle.cause_laws.proofs.Picks.{earlier, earlier-none, pick, pick-append, word_cause}
@@ -118,7 +119,7 @@ three-flags Unsettled Unsettled (Truth c) join = refl
 three-flags Unsettled Unsettled Unsettled join = refl
 
 condition-cause : (c : Condition) (flags : Flags Flag)
-    → cause_of (condition_of ops c flags) ≡ pick [] (flags_of c flags)
+    → cause_of (condition_of ops c flags) ≡ pick [] (in_condition c flags)
 unfolding condition_of is_less is_less_or_equal is_below_or_equal marked_operations
 condition-cause condition.Overflow flags = one-flag flags.overflow
 condition-cause condition.NotOverflow flags = used-cause _ (used_truth flags.overflow) ∙ one-flag flags.overflow
@@ -587,7 +588,7 @@ module _ {M : Type 0} (acc : Accesses M Byte) (f : Frame) (state : State Word Fl
       (λ it. refl)
 
   jump-if-tells : (c : Condition) (distance : ℕ)
-      → Stepped (jump_if ops acc f state m c distance) (pick [] (flags_of c state.flags))
+      → Stepped (jump_if ops acc f state m c distance) (pick [] (in_condition c state.flags))
   unfolding jump_if
   jump-if-tells c distance =
       then-tells state.place _ _ _ (clean-tells state.place _ _ (condition-cause c state.flags)) (λ holds. refl)
@@ -602,8 +603,8 @@ module _ {M : Type 0} (acc : Accesses M Byte) (f : Frame) (state : State Word Fl
 
   -- the law of an instruction
   pub act-tells : (op : Operation) → FitsAll op → FitsNop op
-      → Stepped (act ops acc f op state m) (pick (all_words op) (flags_used op state.flags))
-  unfolding act move_of compute_of operand_of registers_used flags_used register_of jump_of
+      → Stepped (act ops acc f op state m) (pick (all_words op) (flags_read op state.flags))
+  unfolding act move_of compute_of operand_of registers_used flags_read register_of jump_of
   act-tells (Move width (IntoRegister to from)) fits nop = move-into width to from fits
   act-tells (Move width (IntoMemory to from)) fits nop =
       told _ _ _ (ap word_cause (sym (append-nil (aw to)))) (stored-tells (size_of width) to _ (fits to refl))

@@ -6,8 +6,6 @@ use Rattle.amd64_words.specs.declared.register.Register.TheVariants.{Rsp, Rbp}
 use Rattle.amd64_subset.specs.Register.{number_of}
 use Rattle.amd64_subset.specs.declared.instr.Arithmetic.{Arithmetic}
 use Rattle.amd64_subset.specs.declared.instr.Arithmetic.TheVariants.{Sub, Xor, Compare}
-use Rattle.amd64_subset.specs.declared.instr.Condition.{Condition}
-use Rattle.amd64_subset.specs.declared.instr.Condition.TheVariants.{Overflow, NotOverflow, Below, NotBelow, Equal, NotEqual, BelowOrEqual, Above, Sign, NotSign, Less, NotLess, LessOrEqual, Greater}
 use Rattle.amd64_subset.specs.declared.instr.Operation.{Operation}
 use Rattle.amd64_subset.specs.declared.instr.Operation.TheVariants.{Move, StoreByte, ExtendByte, ExtendLong, LoadAddress, Compute, Test, Multiply, Shift, Push, Pop, Leave, Call, Jump, JumpIf, Return, Nop, Undefined}
 use Rattle.amd64_subset.specs.declared.instr.Target.{Target}
@@ -18,7 +16,6 @@ use Rattle.amd64_subset.specs.declared.operand.Operand.{Operand}
 use Rattle.amd64_subset.specs.declared.operand.Operand.TheVariants.{InMemory, Register as InRegister}
 use Rattle.amd64_subset.specs.declared.operand.Operands.{Operands}
 use Rattle.amd64_subset.specs.declared.operand.Operands.TheVariants.{IntoRegister, IntoMemory, Immediate}
-use Rattle.guest_arithmetic.specs.declared.flags.Flags.{Flags}
 
 -- ** an operand
 
@@ -145,27 +142,3 @@ uses_loaded (Call target) = true
 uses_loaded (Jump target) = true
 uses_loaded Return = true
 uses_loaded operation = false
-
--- ** flags
-
--- each flag of a condition (Intel's manual, volume 2, appendix B, table B-10)
-abbrev pub flags_of : {F : Type 0} → Condition → Flags F → List F
-flags_of Overflow flags = flags.overflow ∷ []
-flags_of NotOverflow flags = flags.overflow ∷ []
-flags_of Below flags = flags.carry ∷ []
-flags_of NotBelow flags = flags.carry ∷ []
-flags_of Equal flags = flags.zero ∷ []
-flags_of NotEqual flags = flags.zero ∷ []
-flags_of BelowOrEqual flags = flags.carry ∷ flags.zero ∷ []
-flags_of Above flags = flags.carry ∷ flags.zero ∷ []
-flags_of Sign flags = flags.sign ∷ []
-flags_of NotSign flags = flags.sign ∷ []
-flags_of Less flags = flags.sign ∷ flags.overflow ∷ []
-flags_of NotLess flags = flags.sign ∷ flags.overflow ∷ []
-flags_of LessOrEqual flags = flags.zero ∷ flags.sign ∷ flags.overflow ∷ []
-flags_of Greater flags = flags.zero ∷ flags.sign ∷ flags.overflow ∷ []
-
--- only conditional jumps use flags
-unfoldable pub flags_used : {F : Type 0} → Operation → Flags F → List F
-flags_used (JumpIf condition distance) flags = flags_of condition flags
-flags_used operation flags = []

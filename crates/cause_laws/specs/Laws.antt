@@ -37,7 +37,8 @@ use Rattle.whole_meaning.specs.Threads.{Meant, Memory as Space, held_next, meant
 use Rattle.cause_laws.specs.Instructions.{operand_of}
 use Rattle.cause_laws.specs.Operands.{address_of, block_of, first_mark, offset_of, operand_address, owner, value_of}
 use Rattle.cause_laws.specs.Rows.{IsFirst, Row, instruction, order}
-use Rattle.cause_laws.specs.Steps.{IsNoSequence, next_with}
+use Rattle.step_laws.specs.Steps.{StartsNoSequence}
+use Rattle.cause_laws.specs.Steps.{next_with}
 
 -- ** causes
 
@@ -54,7 +55,7 @@ pub record IsAnswered (m : Meaning) (thread : ℕ) (h : Meant) (left : Bool) : T
       → next_with (meant_steps m thread) left h ≡ Ends (Unclean h.after.state.place why)
 
 abbrev pub CausesAreAnswered : Type 0
-CausesAreAnswered = (m : Meaning) (thread : ℕ) (h : Meant) (left : Bool) → IsNoSequence m thread h
+CausesAreAnswered = (m : Meaning) (thread : ℕ) (h : Meant) (left : Bool) → StartsNoSequence m thread h
     → IsAnswered m thread h left
 
 -- ** clean steps
@@ -164,7 +165,7 @@ module _ {M : Type 0} (acc : Accesses M Byte) (mark : ℕ → Mark) (state : Sta
 
 -- where no row holds, the step is the machine's step over marked values, with the operand that a field gives
 abbrev pub CleanStepsAreGeneric : Type 0
-CleanStepsAreGeneric = (m : Meaning) (thread : ℕ) (h : Meant) → IsNoSequence m thread h
+CleanStepsAreGeneric = (m : Meaning) (thread : ℕ) (h : Meant) → StartsNoSequence m thread h
     → (h.after.state.place == return_place) ≡ false → ((why : Cause) → RowOf m thread h true why → ⊥)
     → (result : Result (After Word Flag Space) Stop)
     × (((meant_steps m thread).step h ≡ held_next m thread h (next_of result))

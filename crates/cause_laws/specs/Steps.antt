@@ -1,6 +1,6 @@
 -- One step of a thread's meaning where no sequence begins, and what the instruction there does: its accesses, the words
 -- and the flags that it computes with.
-use Rattle.std.specs.Prelude.{◌≡◌, ℕ, ◌-◌, ◌^◌, zero, suc, Bool, true, false, List, [], ◌∷◌, ◌++◌, map, Option, Some, None, option_map, Result, Ok, Err, if◌then◌else◌}
+use Rattle.std.specs.Prelude.{ℕ, ◌-◌, ◌^◌, zero, suc, Bool, true, false, List, [], ◌∷◌, ◌++◌, map, Option, Some, None, option_map, Result, Ok, Err, if◌then◌else◌}
 use Rattle.amd64_subset.specs.declared.instr.Arithmetic.{Arithmetic}
 use Rattle.amd64_subset.specs.declared.instr.Arithmetic.TheVariants.{Compare}
 use Rattle.amd64_subset.specs.declared.instr.Decoded.{Decoded}
@@ -25,16 +25,12 @@ use Rattle.job_meaning.specs.declared.values.Byte.{Byte}
 use Rattle.job_meaning.specs.declared.values.Flag.{Flag}
 use Rattle.job_meaning.specs.declared.values.Word.{Word}
 use Rattle.whole_meaning.specs.declared.marks.Mark.{Mark}
-use Rattle.whole_meaning.specs.Meanings.{Meaning}
-use Rattle.whole_meaning.specs.Threads.{Meant, ops, sequence_at}
-use Rattle.cause_laws.specs.Instructions.{flags_used, is_nop, operand_of, registers_used, uses_loaded}
+use Rattle.whole_meaning.specs.Threads.{ops}
+use Rattle.step_laws.specs.Reads.{flags_read}
+use Rattle.cause_laws.specs.Instructions.{is_nop, operand_of, registers_used, uses_loaded}
 use Rattle.cause_laws.specs.Operands.{address_of, address_words, first_mark, number_in, offset_of, operand_address, value_of}
 
 -- ** the step
-
--- no sequence begins where the thread is
-abbrev pub IsNoSequence : Meaning → ℕ → Meant → Type 0
-IsNoSequence m thread h = sequence_at m thread h.after.memory.seen h.after.state.place ≡ None
 
 -- what a run does next: it is over, or there is a step left, or there is none
 abbrev pub next_unless : {S : Type 0} → Option Stop → Stepping S → Bool → S → Next S
@@ -194,7 +190,7 @@ module _ {M : Type 0} (acc : Accesses M Byte) (mark : ℕ → Mark) (state : Sta
 
   abbrev pub used_flags : Option Decoded → List Flag
   used_flags None = []
-  used_flags (Some it) = flags_used it.instr.operation state.flags
+  used_flags (Some it) = flags_read it.instr.operation state.flags
 
   -- the data bytes that it touches
   abbrev pub places_of : Option Decoded → List ℕ

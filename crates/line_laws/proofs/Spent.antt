@@ -11,7 +11,8 @@ use Rattle.thread_blocks.specs.Turns.{Stopped}
 use Rattle.whole_meaning.specs.Meanings.{Meaning}
 use Rattle.whole_meaning.specs.Running.{asked, meaning}
 use Rattle.whole_meaning.specs.Threads.{Meant, held_next, meant_steps, meant_turns}
-use Rattle.line_laws.specs.Counted.{EndsSo, HasNoCause, HasTaken, MachineStepsAreCounted, MeantStepsAreCounted}
+use Rattle.step_laws.specs.Steps.{HasNoCause}
+use Rattle.line_laws.specs.Counted.{EndsSo, HasTaken, MachineStepsAreCounted, MeantStepsAreCounted}
 use Rattle.line_laws.proofs.Leading.{ends_so, has_taken}
 use Rattle.line_laws.proofs.Ours.{IsForSteps, machine_alone, meaning_alone}
 

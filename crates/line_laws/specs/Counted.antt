@@ -5,8 +5,7 @@ use Rattle.std.specs.Prelude.{◌≡◌, ◌⊎◌, ◌++◌, ◌*◌, ℕ, zero
 use Rattle.guest_arithmetic.specs.declared.cause.Cause.{Cause}
 use Rattle.guest_arithmetic.specs.declared.cause.Cause.TheVariants as cause
 use Rattle.guest_operands.specs.declared.stop.Stop.TheVariants.{Steps, Unclean}
-use Rattle.guest_machine.specs.Clean.{IsClean}
-use Rattle.guest_machine.specs.Run.{Ends, Goes, Looks, Next}
+use Rattle.guest_machine.specs.Run.{Ends, Goes, Looks}
 use Rattle.module_table.specs.declared.events.Event.{Event}
 use Rattle.thread_blocks.specs.Instances.{Loads}
 use Rattle.thread_blocks.specs.Lines.{Line}
@@ -14,6 +13,7 @@ use Rattle.thread_blocks.specs.RunTime.{Runs, thread_turns}
 use Rattle.thread_blocks.specs.Turns.{Calls, Ending, Idle, Said, Stopped, Thread, Turns, turns, with_last}
 use Rattle.whole_meaning.specs.Meanings.{Meaning}
 use Rattle.whole_meaning.specs.Threads.{Meant, meant_turns}
+use Rattle.step_laws.specs.Steps.{HasNoCause}
 
 module _ {S L E : Type 0} (x : Turns S L E) where
   -- ** steps
@@ -87,12 +87,6 @@ abbrev pub MachineStepsAreCounted : Type 0
 MachineStepsAreCounted = (l : Loads ℕ) (thread fuel : ℕ) (line : Line) (todo : List Line) (held : Runs)
     (earlier : List Said) (seen first : List Event) (more : List (List Event))
     → AreCounted l thread fuel line todo held earlier seen first more
-
--- the next step has no cause of its own
-abbrev pub HasNoCause : {S : Type 0} → Next S → Type 0
-HasNoCause (Goes next) = Unit {0}
-HasNoCause (Ends stop) = IsClean stop
-HasNoCause (Looks next) = Unit {0}
 
 -- a call of the meaning is unclean for `steps` exactly where it has taken `fuel` steps, is not over, and the next step
 -- has no other cause; if it has one, that is the call's

@@ -53,6 +53,7 @@ pub(crate) fn settle_each<C: Counts, B>(
     let mut files = Vec::new(alloc);
     for claim in claims {
         let name = claim.name();
+        // Each of these claims was read, so a result has come.
         let Some(read) = claim.came() else {
             return Err(FetchFault::OutOfMemory);
         };
