@@ -1,7 +1,17 @@
 -- Numbers that lead: one more that passes, and the first that does not.
-use Rattle.std.proofs.Common.{◌≡◌, ◌+◌, ◌<◌, ◌⊎◌, ℕ, zero, suc, Bool, true, false, refl, inl, inr, arith, add-one, nat_lt, ◌==◌, if◌then◌else◌}
+use Rattle.std.proofs.Common.{◌≡◌, ◌+◌, ◌<◌, ◌⊎◌, ℕ, zero, suc, List, Bool, true, false, refl, inl, inr, arith, add-one, nat_lt, ◌==◌, if◌then◌else◌}
 use Rattle.std.proofs.lemmas.Bool.Decides.{nat_tests}
+use Rattle.elf_records.specs.declared.program_header.TheConstants.{PT_LOAD, PT_GNU_RELRO}
 use Rattle.image_faults.specs.Counts.{leading, how_many, behind_last}
+use Rattle.image_faults.specs.Parts.{segment}
+
+-- header i is that of a part to be loaded
+abbrev pub is_load : List ℕ → ℕ → Bool
+is_load b i = (segment b i).kind == PT_LOAD
+
+-- header i names the part that only the loader writes
+abbrev pub is_relro : List ℕ → ℕ → Bool
+is_relro b i = (segment b i).kind == PT_GNU_RELRO
 
 pub lead_of : (r n : ℕ) (q : Bool) → r ≡ n → q ≡ true → (if nat_lt r n then r else (if q then suc n else n)) ≡ suc n
 lead_of r n q same passes = grind (arith, nat_tests)

@@ -12,7 +12,8 @@ use Rattle.image_faults.specs.Parts.{header}
 use Rattle.image_faults.specs.Fields.{IsRightField}
 use Rattle.image_faults.specs.Array.{IsRightEntry, entry_place}
 use Rattle.image_rules.specs.Rules.{number}
-use Rattle.image_faults.specs.Faults.{Breaks, BreaksTable, Keeps, KeepsBelow, IsImage, IsFirst, table_count}
+use Rattle.image_faults.specs.Faults.{Breaks, Keeps, KeepsBelow, IsImage, IsFirst}
+use Rattle.image_faults.specs.Tables.{table_count}
 
 -- the rules in their order
 abbrev pub rules_in_order : List Rule
@@ -125,14 +126,16 @@ unfolding Breaks
 kept_entry rule b below right = kept_more (Entry rule) b below (λ e w. w.1 right)
 
 -- the same of the first entry of a table that breaks its rule
-pub first_of_table : (rule : TableRule) (b : List ℕ) (e : ℕ) → e < table_count rule b → BreaksTable rule b e → ((f : ℕ) → f < e → BreaksTable rule b f → ⊥) → KeepsBelow (number (Table rule)) b → IsFirst b (Table rule) e
-unfolding Breaks
-first_of_table rule b e inside here none below = record {
-  here = (inside, here);
-  nowhere_earlier = λ f h w. none f h w.1;
-  earlier_rules = below;
-}
+pub first_of_table : (rule : TableRule) (b : List ℕ) (e : ℕ) → Breaks (Table rule) b e → ((f : ℕ) → f < e → Breaks (Table rule) b f → ⊥) → KeepsBelow (number (Table rule)) b → IsFirst b (Table rule) e
+first_of_table rule b e here none below = record { here = here; nowhere_earlier = none; earlier_rules = below }
 
-pub kept_table : (rule : TableRule) (b : List ℕ) (n : ℕ) → table_count rule b ≤ n → ((f : ℕ) → f < n → BreaksTable rule b f → ⊥) → KeepsBelow (number (Table rule)) b → KeepsBelow (number (Table rule) + 1) b
+-- an entry that breaks the rule is one of the table
+in_table : (rule : TableRule) (b : List ℕ) (e : ℕ) → Breaks (Table rule) b e → e < table_count rule b
 unfolding Breaks
-kept_table rule b n all none below = kept_more (Table rule) b below (λ e w. none e (omega (arith, w.0)) w.1)
+in_table Symbol b e w = w.0
+in_table Relocation b e w = w.0
+in_table TlsSymbol b e w = w.0
+in_table TlsRelocation b e w = w.0
+
+pub kept_table : (rule : TableRule) (b : List ℕ) (n : ℕ) → table_count rule b ≤ n → ((f : ℕ) → f < n → Breaks (Table rule) b f → ⊥) → KeepsBelow (number (Table rule)) b → KeepsBelow (number (Table rule) + 1) b
+kept_table rule b n all none below = kept_more (Table rule) b below (λ e w. none e (omega (arith, in_table rule b e w)) w)

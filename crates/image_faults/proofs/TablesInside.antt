@@ -3,8 +3,9 @@ use Rattle.std.proofs.Common.{◌≡◌, ◌+◌, ◌*◌, ◌/◌, ◌≤◌, �
 use Rattle.std.proofs.lemmas.Bool.Decides.{nat_tests}
 use Rattle.elf_records.specs.declared.program_header.Segment.{Segment}
 use Rattle.elf_records.specs.declared.dynamic.DynamicEntry.{DynamicEntry}
+use Rattle.elf_records.specs.declared.dynamic.TheConstants.{DT_RELA}
 use Rattle.image_faults.specs.Parts.{last}
-use Rattle.image_faults.specs.Array.{HasTag, HoldsTable, place, entry, has_relocations, relocations_size, relocation_count}
+use Rattle.image_faults.specs.Array.{HasTag, HoldsTable, place, entry, has_tag, relocations_size, relocation_count}
 use Rattle.image_faults.specs.Places.{AreRelocationsAt}
 
 table_inside : (b : List ℕ) (s : Segment) (address n : ℕ) → s ≡ last b → s.offset + s.filesz ≤ length b → HoldsTable b address n → place b address + n ≤ length b
@@ -14,7 +15,7 @@ table_inside b s address n same inside holds =
 none_of : (n m t k : ℕ) → ((n ≤ m) × (t ≡ k) → ⊥) → (nat_le n m && (t == k)) ≡ false
 none_of n m t k other = grind (arith, nat_tests)
 
-count_of_none : (b : List ℕ) → has_relocations b ≡ false → relocation_count b ≡ 0
+count_of_none : (b : List ℕ) → has_tag b 5 DT_RELA ≡ false → relocation_count b ≡ 0
 unfolding relocation_count
 count_of_none b none = rw none refl
 

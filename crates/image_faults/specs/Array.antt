@@ -13,6 +13,7 @@ use Rattle.image_rules.specs.declared.rule.EntryRule.{EntryRule}
 use Rattle.image_rules.specs.declared.rule.EntryRule.TheVariants.{Hash, Strings, Symbols, StringsSize, SymbolSize}
 use Rattle.image_rules.specs.declared.rule.EntryRule.TheVariants.{Relocations, RelocationsSize, RelocationSize, Flags}
 use Rattle.image_rules.specs.declared.rule.EntryRule.TheVariants.{End}
+use Rattle.image_rules.specs.Rules.{entry_number}
 use Rattle.image_faults.specs.Parts.{header, segment, loads, last}
 
 -- how many bytes the array has
@@ -61,15 +62,12 @@ strings_size b = if has_tag b 3 DT_STRSZ then (entry b 3).value else 0
 abbrev pub symbols_place : List ℕ → ℕ
 symbols_place b = place b (entry b 2).value
 
--- whether the array names relocations, where they stand, and how many bytes they take
-abbrev pub has_relocations : List ℕ → Bool
-has_relocations b = has_tag b 5 DT_RELA
-
+-- where the relocations stand, and how many bytes they take, if the array names them
 abbrev pub relocations_place : List ℕ → ℕ
 relocations_place b = place b (entry b 5).value
 
 abbrev pub relocations_size : List ℕ → ℕ
-relocations_size b = if has_relocations b && has_tag b 6 DT_RELASZ then (entry b 6).value else 0
+relocations_size b = if has_tag b 5 DT_RELA && has_tag b 6 DT_RELASZ then (entry b 6).value else 0
 
 -- how many relocations there are
 unfoldable pub relocation_count : List ℕ → ℕ
@@ -77,7 +75,7 @@ relocation_count b = relocations_size b / 24
 
 -- the entry after those of the tables
 abbrev pub flags_entry : List ℕ → ℕ
-flags_entry b = if has_relocations b then 8 else 5
+flags_entry b = if has_tag b 5 DT_RELA then 8 else 5
 
 -- the image uses static TLS
 abbrev pub IsFlagged : List ℕ → Type 0
@@ -90,16 +88,9 @@ IsProgram b =
 
 -- where each entry stands in the array
 abbrev pub entry_place : EntryRule → List ℕ → ℕ
-entry_place Hash b = 0
-entry_place Strings b = 1
-entry_place Symbols b = 2
-entry_place StringsSize b = 3
-entry_place SymbolSize b = 4
-entry_place Relocations b = 5
-entry_place RelocationsSize b = 6
-entry_place RelocationSize b = 7
 entry_place Flags b = flags_entry b
 entry_place End b = flags_entry b + 1
+entry_place rule b = entry_number rule
 
 -- what each entry holds; the three of relocations only if the first of them is there
 abbrev pub IsRightEntry : EntryRule → List ℕ → Type 0

@@ -5,7 +5,6 @@ use Rattle.image_rules.specs.declared.fault.ImageFault.{ImageFault}
 use Rattle.image_rules.specs.declared.fault.ImageFault.TheVariants.{OutOfMemory, At}
 use Rattle.image_rules.specs.declared.rule.Rule.{Rule}
 use Rattle.image_rules.specs.declared.rule.Rule.TheVariants.{Length, Ident, Field, Extent, Segment, Entry, Table}
-use Rattle.image_rules.specs.declared.rule.TableRule.{TableRule}
 use Rattle.image_rules.specs.declared.rule.TableRule.TheVariants.{Symbol, Relocation, TlsSymbol, TlsRelocation}
 use Rattle.image_rules.specs.Rules.{number, kind_of}
 use Rattle.image_faults.specs.Parts.{header, last}
@@ -17,27 +16,6 @@ use Rattle.image_faults.specs.Symbols.{IsRightSymbol, IsPastTls}
 use Rattle.image_faults.specs.Relocations.{IsRightRelocation, IsOwnOutside}
 pub use Rattle.elf_records.specs.Firsts.{IsFirstAt}
 
--- how many entries a table has
-abbrev pub table_count : TableRule → List ℕ → ℕ
-table_count Symbol b = symbol_count b
-table_count Relocation b = relocation_count b
-table_count TlsSymbol b = symbol_count b
-table_count TlsRelocation b = relocation_count b
-
--- where the table begins in the file
-abbrev pub table_place : TableRule → List ℕ → ℕ
-table_place Symbol b = symbols_place b
-table_place Relocation b = relocations_place b
-table_place TlsSymbol b = symbols_place b
-table_place TlsRelocation b = relocations_place b
-
--- the entry breaks the rule of its table
-unfoldable pub BreaksTable : TableRule → List ℕ → ℕ → Type 0
-BreaksTable Symbol b e = IsRightSymbol b e → ⊥
-BreaksTable Relocation b e = IsRightRelocation b e → ⊥
-BreaksTable TlsSymbol b e = IsPastTls b e
-BreaksTable TlsRelocation b e = IsOwnOutside b e
-
 -- entry e breaks the rule: a byte of the identification, a program header, an entry of the array or of a table; e is 0
 -- for a rule about the whole file
 unfoldable pub Breaks : Rule → List ℕ → ℕ → Type 0
@@ -47,7 +25,10 @@ Breaks (Field rule) b e = (e ≡ 0) × (IsRightField rule (header b) → ⊥)
 Breaks Extent b e = (e ≡ 0) × PassesEnd b
 Breaks Segment b e = IsWrongSegment b e
 Breaks (Entry rule) b e = (e ≡ entry_place rule b) × (IsRightEntry rule b → ⊥)
-Breaks (Table rule) b e = (e < table_count rule b) × BreaksTable rule b e
+Breaks (Table Symbol) b e = (e < symbol_count b) × (IsRightSymbol b e → ⊥)
+Breaks (Table Relocation) b e = (e < relocation_count b) × (IsRightRelocation b e → ⊥)
+Breaks (Table TlsSymbol) b e = (e < symbol_count b) × IsPastTls b e
+Breaks (Table TlsRelocation) b e = (e < relocation_count b) × IsOwnOutside b e
 
 -- the offset in the file of the fault of a rule at an entry
 abbrev pub offset_of : Rule → List ℕ → ℕ → ℕ
@@ -57,7 +38,10 @@ offset_of (Field rule) b e = field_offset rule
 offset_of Extent b e = length b
 offset_of Segment b e = 64 + 56 * e
 offset_of (Entry rule) b e = (last b).offset + 16 * e
-offset_of (Table rule) b e = table_place rule b + 24 * e
+offset_of (Table Symbol) b e = symbols_place b + 24 * e
+offset_of (Table Relocation) b e = relocations_place b + 24 * e
+offset_of (Table TlsSymbol) b e = symbols_place b + 24 * e
+offset_of (Table TlsRelocation) b e = relocations_place b + 24 * e
 
 -- no entry breaks the rule
 abbrev pub Keeps : Rule → List ℕ → Type 0

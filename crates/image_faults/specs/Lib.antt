@@ -8,5 +8,6 @@ pub mod Places
 pub mod Relocations
 pub mod Segments
 pub mod Symbols
+pub mod Tables
 pub use Rattle.image_rules.specs.FaultNames
 pub use Rattle.image_rules.specs.Rules

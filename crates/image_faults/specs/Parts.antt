@@ -24,13 +24,9 @@ segment b i = segment_at (64 + 56 * i) b
 abbrev pub base : List ℕ → ℕ
 base b = if (header b).e_type == ET_EXEC then 0x400000 else 0
 
--- header i is that of a part to be loaded
-abbrev pub is_load : List ℕ → ℕ → Bool
-is_load b i = (segment b i).kind == PT_LOAD
-
--- how many LOADs there are: the leading headers of that type
+-- how many LOADs there are, parts to be loaded: the leading headers of that type
 unfoldable pub loads : List ℕ → ℕ
-loads b = leading (is_load b) (count b)
+loads b = leading (λ i. (segment b i).kind == PT_LOAD) (count b)
 
 -- the last LOAD, which holds the dynamic tables
 abbrev pub last : List ℕ → Segment
@@ -44,13 +40,9 @@ is_writable b i = (segment b i).flags == PF_R + PF_W
 abbrev pub behind_last_writable : List ℕ → ℕ
 behind_last_writable b = behind_last (is_writable b) (loads b)
 
--- header i names the part that only the loader writes
-abbrev pub is_relro : List ℕ → ℕ → Bool
-is_relro b i = (segment b i).kind == PT_GNU_RELRO
-
 -- a header of the table names the part that only the loader writes
 abbrev pub has_relro : List ℕ → Bool
-has_relro b = nat_lt 0 (behind_last (is_relro b) (count b))
+has_relro b = nat_lt 0 (behind_last (λ i. (segment b i).kind == PT_GNU_RELRO) (count b))
 
 -- the header after DYNAMIC is that of a TLS segment
 abbrev pub has_tls : List ℕ → Bool

@@ -46,10 +46,8 @@ abbrev pub MayName : List ℕ → Option LoaderKind → ℕ → Type 0
 MayName b None k = ⊥
 MayName b (Some JumpSlot) k = IsRuntime b k
 MayName b (Some Relative) k = k ≡ 0
-MayName b (Some Module) k = (k ≡ 0) ⊎ IsImport b k
 MayName b (Some ModuleOffset) k = IsImport b k
-MayName b (Some ThreadOffset) k = (k ≡ 0) ⊎ IsImport b k
-MayName b (Some Descriptor) k = (k ≡ 0) ⊎ IsImport b k
+MayName b (Some kind) k = (k ≡ 0) ⊎ IsImport b k
 
 -- a type that a loader knows, and a symbol that it may name
 abbrev pub NamesRight : List ℕ → Rela → Type 0

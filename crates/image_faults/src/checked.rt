@@ -1,9 +1,10 @@
 //! All rules, checked in their order.
 
 ghost use Rattle.std.specs.Prelude.{◌≡◌, ◌+◌, ◌*◌, ◌<◌, ◌≤◌, ◌↔◌, IsTrue, IfOk, IfErr, length};
-ghost use Rattle.image_rules.specs.Rules.{table_number};
-ghost use Rattle.image_faults.specs.Faults.{BreaksTable, KeepsBelow, Answers, IsImage, IsFault, IsFirstAt};
-ghost use Rattle.image_faults.specs.Faults.{table_count as count_of_table, table_place as place_of_table};
+ghost use Rattle.image_rules.specs.declared.rule.Rule.TheVariants.{Table};
+ghost use Rattle.image_rules.specs.Rules.{number};
+ghost use Rattle.image_faults.specs.Faults.{Breaks, KeepsBelow, Answers, IsImage, IsFault, IsFirstAt, offset_of};
+ghost use Rattle.image_faults.specs.Tables.{table_count as count_of_table};
 
 use crate::found::fault_at;
 use crate::headers::headers_of;
@@ -27,7 +28,7 @@ fn table_count(rule: TableRule, tables: &Tables) -> u64
 /// Where an entry of a table stands in the file. A symbol and a relocation have the same size.
 fn entry_offset(rule: TableRule, tables: &Tables, entry: u64) -> u64
     requires { entry < count_of_table rule tables.now.bytes.now }
-    ensures { result ≡ place_of_table rule tables.now.bytes.now + 24 * entry }
+    ensures { result ≡ offset_of (Table rule) tables.now.bytes.now entry }
 {
     let place = match rule {
         TableRule::Symbol | TableRule::TlsSymbol => tables.places.symbols,
@@ -37,10 +38,10 @@ fn entry_offset(rule: TableRule, tables: &Tables, entry: u64) -> u64
 }
 
 /// Whether an entry breaks the rule of its table.
-#[tactic(auto, unfolding(crate::specs::Faults::BreaksTable))]
+#[tactic(auto, unfolding(crate::specs::Faults::Breaks))]
 fn breaks(rule: TableRule, tables: &Tables, entry: u64) -> bool
     requires { entry < count_of_table rule tables.now.bytes.now }
-    ensures { IsTrue result ↔ BreaksTable rule tables.now.bytes.now entry }
+    ensures { IsTrue result ↔ Breaks (Table rule) tables.now.bytes.now entry }
 {
     match rule {
         TableRule::Symbol => !is_right_symbol(tables, entry),
@@ -52,8 +53,8 @@ fn breaks(rule: TableRule, tables: &Tables, entry: u64) -> bool
 
 /// Checks the entries of a table.
 fn ask_table(rule: TableRule, tables: &Tables) -> Result<(), ImageFault>
-    requires { KeepsBelow (20 + table_number rule) tables.now.bytes.now }
-    ensures { Answers (20 + table_number rule) tables.now.bytes.now result }
+    requires { KeepsBelow (number (Table rule)) tables.now.bytes.now }
+    ensures { Answers (number (Table rule)) tables.now.bytes.now result }
 {
     for entry in 0..table_count(rule, tables) {
         if breaks(rule, tables, entry) {

@@ -2,7 +2,7 @@
 
 ghost use Rattle.std.specs.Prelude.{◌≡◌, ◌+◌, ◌*◌, ◌<◌, ◌≤◌, ◌↔◌, ℕ, length, IsTrue, MatchOption, IfOk};
 ghost use Rattle.image_rules.specs.declared.rule.Rule.TheVariants.{Field};
-ghost use Rattle.image_rules.specs.Rules.{field_number};
+ghost use Rattle.image_rules.specs.Rules.{number};
 ghost use Rattle.image_faults.specs.Parts.{header, base as base_of, segment as segment_header};
 ghost use Rattle.image_faults.specs.Fields.{IsWrongIdent, IsRightField, field_offset};
 ghost use Rattle.image_faults.specs.Segments.{HasSegmentPastEnd, PassesEnd};
@@ -89,8 +89,8 @@ fn field_offset(rule: FieldRule) -> u64
 /// Checks a field of the header.
 fn ask_field(rule: FieldRule, bytes: &[u8], found: &Header) -> Result<(), ImageFault>
     requires header { found.now ≡ header bytes.now }
-    requires earlier { KeepsBelow (2 + field_number rule) bytes.now }
-    ensures answers { Answers (2 + field_number rule) bytes.now result }
+    requires earlier { KeepsBelow (number (Field rule)) bytes.now }
+    ensures answers { Answers (number (Field rule)) bytes.now result }
     ensures right { IfOk result (λ _. IsRightField rule found.now) }
 {
     if is_right_field(rule, found) {

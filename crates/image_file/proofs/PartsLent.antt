@@ -4,14 +4,14 @@ use Rattle.std.specs.List.{slice_get}
 use Rattle.elf_records.specs.declared.program_header.Segment.{Segment}
 use Rattle.image_faults.specs.Parts.{segment, loads}
 use Rattle.image_file.specs.declared.part.PartClass.{PartClass}
-use Rattle.image_file.specs.Spelled.{Part, class_numbered, part, parts}
+use Rattle.image_file.specs.Spelled.{Part, class_numbered, part, spelled}
 use Rattle.image_file.specs.Tabled.{tabled_at}
 
 abbrev pub made : List ℕ → PartClass → Segment → Part
 made b class s = record { class = class; address = s.vaddr; bytes = slice_range b s.offset (s.offset + s.filesz) }
 
 pub part_lent : (b : List ℕ) (i : ℕ) (class : PartClass) (s : Segment) → class ≡ class_numbered s.flags → s ≡ segment b i → i < loads b
-    → Some (made b class s) ≡ slice_get (parts b) i
+    → Some (made b class s) ≡ slice_get (spelled b).parts i
 unfolding part
 part_lent b i class s classed same h =
     ap (λ k. Some (made b k s)) classed

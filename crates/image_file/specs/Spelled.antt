@@ -2,6 +2,7 @@
 -- "Relocation").
 use Rattle.std.specs.Prelude.{◌+◌, ◌==◌, ℕ, Bool, true, false, not, List, slice_range, Option, Some, None, unwrap_or}
 use Rattle.std.specs.Prelude.{if◌then◌else◌}
+use Rattle.std.specs.Option.{option_map}
 use denote.Bor.{Bor}
 use Rattle.elf_records.specs.declared.symbol.SymbolEntry.{SymbolEntry}
 use Rattle.elf_records.specs.declared.program_header.Segment.{Segment}
@@ -57,9 +58,8 @@ part b i = record {
 }
 
 abbrev pub is_writable : PartClass → Bool
-is_writable Executable = false
-is_writable ReadOnly = false
 is_writable Writable = true
+is_writable class = false
 
 -- a part that is borrowed, without the borrow
 abbrev pub lent_part : ImagePart → Part
@@ -72,10 +72,6 @@ part_seen (Some lent) = Some (lent_part lent)
 -- the TLS segment, by its header
 abbrev pub tls_part : Segment → TlsPart
 tls_part s = record { address = s.vaddr; initial = s.filesz; size = s.memsz; alignment = s.align }
-
-abbrev pub tls_of : Option Segment → Option TlsPart
-tls_of None = None
-tls_of (Some s) = Some (tls_part s)
 
 -- the symbol of an entry, without its name
 unfoldable pub symbol_of : SymbolEntry → ImageSymbol
@@ -109,29 +105,16 @@ relocation_of r = record {
   addend = r.addend;
 }
 
--- the lists of an image; names are a list of their own, since each is found only when asked for
-abbrev pub parts : List ℕ → List Part
-parts b = tabled (part b) (loads b)
-
-abbrev pub symbols : List ℕ → List ImageSymbol
-symbols b = tabled (λ k. symbol_of (symbol b k)) (symbol_count b)
-
-abbrev pub names : List ℕ → List (List ℕ)
-names b = tabled (name b) (symbol_count b)
-
-abbrev pub relocations : List ℕ → List ImageRelocation
-relocations b = tabled (λ k. relocation_of (rela b k)) (relocation_count b)
-
--- the image that the bytes spell
+-- the image that the bytes spell; names are a list of their own, since each is found only when asked for
 abbrev pub spelled : List ℕ → Spelled
 spelled b = record {
   kind = file_kind b;
-  parts = parts b;
+  parts = tabled (part b) (loads b);
   array_size = array_size b;
   got = got b;
-  tls = tls_of (tls b);
-  symbols = symbols b;
-  names = names b;
-  relocations = relocations b;
+  tls = option_map tls_part (tls b);
+  symbols = tabled (λ k. symbol_of (symbol b k)) (symbol_count b);
+  names = tabled (name b) (symbol_count b);
+  relocations = tabled (λ k. relocation_of (rela b k)) (relocation_count b);
   is_flagged = is_flagged b;
 }

@@ -2,9 +2,7 @@
 
 ghost use Rattle.std.specs.Prelude.{◌≡◌, ◌+◌, ◌<◌, ◌≤◌, length, slice_get, slice_range};
 ghost use Rattle.image_faults.specs.Array.{symbol_count};
-ghost use Rattle.image_faults.specs.Parts.{tls};
-ghost use Rattle.image_file.specs.Spelled.{tls_of};
-ghost use Rattle.image_file.specs.Spelled.{parts, symbols, names, relocations, name, strings, part_seen, text_seen};
+ghost use Rattle.image_file.specs.Spelled.{name, part_seen, spelled, strings, text_seen};
 
 use crate::part::{ImagePart, TlsPart, class_numbered};
 use crate::relocation::{ImageRelocation, relocation_of};
@@ -15,7 +13,7 @@ use image_faults::Tables;
 /// A part that is loaded.
 #[tactic(auto, unfolding(crate::specs::Spelled::part))]
 pub fn part_in<'a>(tables: &Tables<'a>, number: u64) -> Option<ImagePart<'a>>
-    ensures { part_seen result ≡ slice_get (parts tables.now.bytes.now) number }
+    ensures { part_seen result ≡ slice_get (spelled tables.now.bytes.now).parts number }
 {
     if tables.places.loads <= number {
         return None;
@@ -31,7 +29,7 @@ pub fn part_in<'a>(tables: &Tables<'a>, number: u64) -> Option<ImagePart<'a>>
 
 /// The TLS segment.
 pub fn tls_in(tables: &Tables) -> Option<TlsPart>
-    ensures { result ≡ tls_of (tls tables.now.bytes.now) }
+    ensures { result ≡ (spelled tables.now.bytes.now).tls }
 {
     let segment = tables.tls()?;
     Some(TlsPart {
@@ -44,7 +42,7 @@ pub fn tls_in(tables: &Tables) -> Option<TlsPart>
 
 /// A symbol, without its name.
 pub fn symbol_in(tables: &Tables, number: u64) -> Option<ImageSymbol>
-    ensures { result ≡ slice_get (symbols tables.now.bytes.now) number }
+    ensures { result ≡ slice_get (spelled tables.now.bytes.now).symbols number }
 {
     if tables.places.symbol_count <= number {
         return None;
@@ -70,7 +68,7 @@ fn text_of<'a>(tables: &Tables<'a>, number: u64) -> &'a [u8]
 
 /// The name of a symbol, if there is one of this number.
 pub fn name_in<'a>(tables: &Tables<'a>, number: u64) -> Option<&'a [u8]>
-    ensures { text_seen result ≡ slice_get (names tables.now.bytes.now) number }
+    ensures { text_seen result ≡ slice_get (spelled tables.now.bytes.now).names number }
 {
     if tables.places.symbol_count <= number {
         return None;
@@ -80,7 +78,7 @@ pub fn name_in<'a>(tables: &Tables<'a>, number: u64) -> Option<&'a [u8]>
 
 /// A relocation.
 pub fn relocation_in(tables: &Tables, number: u64) -> Option<ImageRelocation>
-    ensures { result ≡ slice_get (relocations tables.now.bytes.now) number }
+    ensures { result ≡ slice_get (spelled tables.now.bytes.now).relocations number }
 {
     if tables.places.relocation_count <= number {
         return None;

@@ -4,24 +4,13 @@ use Rattle.image_rules.specs.declared.fault.FaultKind.{FaultKind}
 use Rattle.image_rules.specs.declared.fault.FaultKind.TheVariants as kind
 use Rattle.image_rules.specs.declared.rule.Rule.{Rule}
 use Rattle.image_rules.specs.declared.rule.Rule.TheVariants.{Length, Ident, Field, Extent, Segment, Entry, Table}
-use Rattle.image_rules.specs.declared.rule.FieldRule.{FieldRule}
 use Rattle.image_rules.specs.declared.rule.FieldRule.TheVariants.{FileType, Machine, Version, TableOffset, EntrySize}
 use Rattle.image_rules.specs.declared.rule.FieldRule.TheVariants.{Count}
 use Rattle.image_rules.specs.declared.rule.EntryRule.{EntryRule}
 use Rattle.image_rules.specs.declared.rule.EntryRule.TheVariants.{Hash, Strings, Symbols, StringsSize, SymbolSize}
 use Rattle.image_rules.specs.declared.rule.EntryRule.TheVariants.{Relocations, RelocationsSize, RelocationSize, Flags}
 use Rattle.image_rules.specs.declared.rule.EntryRule.TheVariants.{End}
-use Rattle.image_rules.specs.declared.rule.TableRule.{TableRule}
 use Rattle.image_rules.specs.declared.rule.TableRule.TheVariants.{Symbol, Relocation, TlsSymbol, TlsRelocation}
-
--- the fields in the order of the file
-abbrev pub field_number : FieldRule → ℕ
-field_number FileType = 0
-field_number Machine = 1
-field_number Version = 2
-field_number TableOffset = 3
-field_number EntrySize = 4
-field_number Count = 5
 
 -- the entries in the order of the array
 abbrev pub entry_number : EntryRule → ℕ
@@ -36,22 +25,23 @@ entry_number RelocationSize = 7
 entry_number Flags = 8
 entry_number End = 9
 
--- the tables in the order of the checks
-abbrev pub table_number : TableRule → ℕ
-table_number Symbol = 0
-table_number Relocation = 1
-table_number TlsSymbol = 2
-table_number TlsRelocation = 3
-
--- the order of the rules
+-- the order of the rules: the fields in the order of the file, the tables in that of the checks
 abbrev pub number : Rule → ℕ
 number Length = 0
 number Ident = 1
-number (Field rule) = 2 + field_number rule
+number (Field FileType) = 2
+number (Field Machine) = 3
+number (Field Version) = 4
+number (Field TableOffset) = 5
+number (Field EntrySize) = 6
+number (Field Count) = 7
 number Extent = 8
 number Segment = 9
 number (Entry rule) = 10 + entry_number rule
-number (Table rule) = 20 + table_number rule
+number (Table Symbol) = 20
+number (Table Relocation) = 21
+number (Table TlsSymbol) = 22
+number (Table TlsRelocation) = 23
 
 -- the kind of fault of a broken rule
 abbrev pub kind_of : Rule → FaultKind

@@ -7,8 +7,8 @@ use Rattle.image_rules.specs.declared.rule.FieldRule.TheVariants.{FileType, Mach
 use Rattle.image_rules.specs.declared.rule.EntryRule.TheVariants.{Hash, Strings, Symbols, Relocations}
 use Rattle.image_rules.specs.declared.rule.TableRule.TheVariants.{Symbol, Relocation, TlsSymbol, TlsRelocation}
 use Rattle.image_faults.specs.Array.{symbol_count, relocation_count}
-use Rattle.image_rules.specs.Rules.{field_number}
-use Rattle.image_faults.specs.Faults.{Breaks, BreaksTable, Keeps, KeepsBelow, IsImage}
+use Rattle.image_rules.specs.Rules.{number}
+use Rattle.image_faults.specs.Faults.{Breaks, Keeps, KeepsBelow, IsImage}
 use Rattle.image_file.specs.Spelled.{spelled}
 use Rattle.image_writer.specs.Outlined.{outline_of}
 use Rattle.image_writer.specs.Loadable.{HoldsTls}
@@ -33,7 +33,7 @@ tables_right b image = record {
 }
 
 -- the rules of the header come before that of the segments
-field_below : (rule : FieldRule) → 2 + field_number rule < 10
+field_below : (rule : FieldRule) → number (Field rule) < 10
 field_below FileType = omega arith
 field_below Machine = omega arith
 field_below Version = omega arith
@@ -43,7 +43,7 @@ field_below Count = omega arith
 
 -- each rule is kept by a file of the same headers and the same tables
 rules_there : (b f : List ℕ) → IsImage b → SameHeaders f b → AreRight b → KeepsBelow 10 f → (rule : Rule) → Keeps rule f
-unfolding Breaks BreaksTable
+unfolding Breaks
 rules_there b f image same tables below Length = below Length (omega arith)
 rules_there b f image same tables below Ident = below Ident (omega arith)
 rules_there b f image same tables below (Field rule) = below (Field rule) (field_below rule)

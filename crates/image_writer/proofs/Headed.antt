@@ -1,12 +1,13 @@
 -- What a file that a page of headers leads is read as: its header, its program headers, and the rules that they keep.
 use Rattle.std.proofs.Common.{◌≡◌, ◌+◌, ◌-◌, ◌<◌, ◌≤◌, ℕ, Bool, List, Option, Some, None, length, take, is_some, refl, ap, arith, if◌then◌else◌}
+use Rattle.std.specs.Option.{option_map}
 use Rattle.elf_records.specs.declared.program_header.Segment.{Segment}
 use Rattle.image_faults.specs.Parts.{header, count, segment, base, loads, last, has_tls, tls}
 use Rattle.image_faults.specs.Parts.{tls_size as tls_size_read}
 use Rattle.image_faults.specs.Places.{got}
 use Rattle.image_faults.specs.Faults.{KeepsBelow}
 use Rattle.image_file.specs.declared.part.TlsPart.{TlsPart}
-use Rattle.image_file.specs.Spelled.{tls_of, tls_part}
+use Rattle.image_file.specs.Spelled.{tls_part}
 use Rattle.image_writer.specs.Outlined.{Outlined, part, last_part, end_of}
 use Rattle.image_writer.specs.Page.{base_of, file_header, load_header, dynamic_header, file_offset, page}
 use Rattle.image_writer.specs.Loadable.{IsLoadable, HoldsTls, one_if_some}
@@ -22,7 +23,7 @@ pub record IsHeaded (f : List ℕ) (o : Outlined) : Type 0 where
   pub load_is : (i : ℕ) → i < length o.parts → segment f i ≡ load_header o.kind (part o i)
   pub dynamic_is : segment f (length o.parts) ≡ dynamic_header o
   pub has_tls_is : has_tls f ≡ is_some o.tls
-  pub tls_is : tls_of (tls f) ≡ o.tls
+  pub tls_is : option_map tls_part (tls f) ≡ o.tls
   pub got_is : got f ≡ o.got
   pub rules : KeepsBelow 10 f
   pub count_is : count f ≡ length o.parts + 1 + one_if_some o.tls + one_if_some o.got
@@ -34,7 +35,7 @@ pub record IsHeaded (f : List ℕ) (o : Outlined) : Type 0 where
   pub inside : (i : ℕ) → i < count f → (segment f i).offset + (segment f i).filesz ≤ length f
 
 -- the size of the TLS segment goes by its header
-size_of : (s : Segment) (h : Bool) (m : Option TlsPart) → h ≡ is_some m → tls_of (if h then Some s else None) ≡ m
+size_of : (s : Segment) (h : Bool) (m : Option TlsPart) → h ≡ is_some m → option_map tls_part (if h then Some s else None) ≡ m
     → (if h then s.memsz else 0) ≡ tls_size m
 size_of s h None is told = rw is refl
 size_of s h (Some t) is told =

@@ -2,25 +2,26 @@
 -- the loader alone writes are told, and which part that is.
 use Rattle.std.proofs.Common.{◌≡◌, ◌+◌, ◌-◌, ◌<◌, ◌≤◌, ◌⊎◌, ℕ, Bool, true, false, List, Option, Some, None, is_some, length, refl, sym, ap, ◌∙◌, arith, inl, inr, ◌==◌, ◌&&◌, nat_lt, if◌then◌else◌}
 use Rattle.std.proofs.lemmas.Bool.Decides.{nat_tests}
+use Rattle.std.specs.Option.{option_map}
 use Rattle.elf_records.specs.declared.program_header.Segment.{Segment}
 use Rattle.elf_records.specs.declared.program_header.TheConstants.{PT_LOAD, PT_DYNAMIC, PT_TLS, PT_GNU_RELRO, PF_R, PF_W}
 use Rattle.elf_records.specs.declared.file_header.TheConstants.{ET_EXEC}
 use Rattle.image_rules.specs.declared.places.FileKind.{FileKind}
 use Rattle.image_rules.specs.declared.places.FileKind.TheVariants.{Exe, Pie, Module}
 use Rattle.image_faults.specs.Counts.{how_many, behind_last}
-use Rattle.image_faults.specs.Parts.{count, segment, base, loads, is_load, has_tls, tls, has_relro, is_relro, relro_place}
+use Rattle.image_faults.specs.Parts.{count, segment, base, loads, has_tls, tls, has_relro, relro_place}
 use Rattle.image_faults.specs.Parts.{is_writable as is_writable_header, behind_last_writable}
 use Rattle.image_faults.specs.Places.{got}
 use Rattle.image_file.specs.declared.part.PartClass.{PartClass}
 use Rattle.image_file.specs.declared.part.PartClass.TheVariants.{Executable, ReadOnly, Writable}
 use Rattle.image_file.specs.declared.part.TlsPart.{TlsPart}
-use Rattle.image_file.specs.Spelled.{tls_of, tls_part, is_writable}
+use Rattle.image_file.specs.Spelled.{tls_part, is_writable}
 use Rattle.image_writer.specs.declared.outline.PartPlace.{PartPlace}
 use Rattle.image_writer.specs.Outlined.{Outlined, part}
 use Rattle.image_writer.specs.Page.{base_of, flags_of, file_header, load_header, dynamic_header, tls_header, relro_header}
 use Rattle.image_writer.specs.Loadable.{IsLoadable, is_written, one_if_some}
 use Rattle.image_writer.proofs.HeaderCounts.{leading_is, many_agree, last_agree, last_none}
-use Rattle.image_faults.proofs.Counts.{last_more as last_is}
+use Rattle.image_faults.proofs.Counts.{is_load, is_relro, last_more as last_is}
 use Rattle.image_writer.proofs.HeaderReads.{AreRead}
 
 -- the address at which the image begins
@@ -153,12 +154,12 @@ tls_numbers k t = refl
 
 -- what is told of a TLS segment, where one is told
 tls_when : (s : Segment) (h : Bool) (m : Option TlsPart) → h ≡ is_some m → ((t : TlsPart) → m ≡ Some t → tls_part s ≡ t)
-    → tls_of (if h then Some s else None) ≡ m
+    → option_map tls_part (if h then Some s else None) ≡ m
 tls_when s h None is told = rw is refl
 tls_when s h (Some t) is told = rw is (ap Some (told t refl))
 
 -- the file tells the TLS segment of the image
-pub tls_read : (f : List ℕ) (o : Outlined) → AreRead f o → tls_of (tls f) ≡ o.tls
+pub tls_read : (f : List ℕ) (o : Outlined) → AreRead f o → option_map tls_part (tls f) ≡ o.tls
 tls_read f o read =
     let same = loads_read f o read in
     tls_when (segment f (loads f + 1)) (has_tls f) o.tls (has_tls_read f o read)

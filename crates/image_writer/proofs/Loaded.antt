@@ -4,18 +4,20 @@ use Rattle.std.proofs.Common.{◌==◌, ◌&&◌, nat_lt, if◌then◌else◌, i
 use Rattle.std.specs.Prelude.{IfSome}
 use Rattle.std.proofs.lemmas.Bool.Decides.{nat_tests}
 use Rattle.std.proofs.lemmas.Option.{cond_some}
+use Rattle.std.specs.Option.{option_map}
 use Rattle.elf_records.specs.declared.program_header.Segment.{Segment}
 use Rattle.elf_records.specs.declared.program_header.TheConstants.{PT_LOAD, PT_DYNAMIC, PT_TLS, PT_GNU_RELRO, PF_X, PF_R, PF_W}
 use Rattle.image_rules.specs.declared.rule.FieldRule.TheVariants.{Count}
 use Rattle.image_faults.specs.Counts.{how_many, behind_last}
-use Rattle.image_faults.specs.Parts.{count, segment, loads, tls, has_tls, has_relro, is_load, is_relro, relro_place, behind_last_writable}
+use Rattle.image_faults.specs.Parts.{count, segment, loads, tls, has_tls, has_relro, relro_place, behind_last_writable}
+use Rattle.image_faults.proofs.Counts.{is_load, is_relro}
 use Rattle.image_faults.specs.Parts.{is_writable as is_writable_header}
 use Rattle.image_faults.specs.Segments.{IsRightTls, HoldsInitialImage}
 use Rattle.image_faults.specs.Places.{got}
 use Rattle.image_faults.specs.Faults.{IsImage}
 use Rattle.image_file.specs.declared.part.PartClass.TheVariants.{ReadOnly}
 use Rattle.image_file.specs.declared.part.TlsPart.{TlsPart}
-use Rattle.image_file.specs.Spelled.{class_numbered, tls_of, tls_part, spelled, is_writable}
+use Rattle.image_file.specs.Spelled.{class_numbered, tls_part, spelled, is_writable}
 use Rattle.image_writer.specs.declared.outline.PartPlace.{PartPlace}
 use Rattle.image_writer.specs.Outlined.{Outlined, outline_of, part, last_part, end_of}
 use Rattle.image_writer.specs.Loadable.{IsLoadable, IsRightPart, IsRightTlsPart, HoldsInitial, is_written, one_if_some}
@@ -123,7 +125,7 @@ one_of None = refl
 one_of (Some x) = refl
 
 -- one header for TLS, where a test says so
-one_of_tls : (t : Bool) (s : Segment) → one_if_some (tls_of (if t then Some s else None)) ≡ (if t then 1 else 0)
+one_of_tls : (t : Bool) (s : Segment) → one_if_some (option_map tls_part (if t then Some s else None)) ≡ (if t then 1 else 0)
 one_of_tls false s = refl
 one_of_tls true s = refl
 
@@ -136,7 +138,7 @@ counted true false l c dynamic tls relro = let last = tls refl in omega arith
 counted true true l c dynamic tls relro = let last = relro refl in omega arith
 
 -- there are headers for all that there is
-headers_there : (b : List ℕ) → IsImage b → loads b + 1 + one_if_some (tls_of (tls b)) + one_if_some (got b) ≤ count b
+headers_there : (b : List ℕ) → IsImage b → loads b + 1 + one_if_some (option_map tls_part (tls b)) + one_if_some (got b) ≤ count b
 headers_there b image =
     let tls_one = one_of_tls (has_tls b) (segment b (loads b + 1)) in
     let got_one : one_if_some (got b) ≡ (if has_relro b then 1 else 0) = one_of (got b) ∙ ap (λ r. if r then 1 else 0) (got_there b image) in
@@ -246,7 +248,7 @@ tls_part_right b o is s right = record {
 }
 
 -- what holds of the TLS segment, where a test says that there is one
-some_tls : (t : Bool) (s : Segment) (P : TlsPart → Type 0) → (t ≡ true → P (tls_part s)) → IfSome (tls_of (if t then Some s else None)) P
+some_tls : (t : Bool) (s : Segment) (P : TlsPart → Type 0) → (t ≡ true → P (tls_part s)) → IfSome (option_map tls_part (if t then Some s else None)) P
 some_tls false s P h = tt
 some_tls true s P h = h refl
 

@@ -1,6 +1,7 @@
 -- A file of an image that was read: its headers say what those of the image did, and its parts hold the same bytes.
 use Rattle.std.proofs.Common.{◌≡◌, ◌+◌, ◌-◌, ◌<◌, ◌≤◌, ◌⊎◌, ◌∙◌, ℕ, Bool, true, false, List, length, Option, Some, None, is_some, refl, sym, ap, inl}
 use Rattle.std.proofs.Common.{inr, arith, ◌==◌, if◌then◌else◌, slice_range}
+use Rattle.std.specs.Option.{option_map}
 use Rattle.elf_records.specs.Fields.{part_at}
 use Rattle.elf_records.specs.declared.file_header.TheConstants.{ET_EXEC, ET_DYN}
 use Rattle.elf_records.specs.declared.dynamic.TheConstants.{DT_FLAGS_1}
@@ -15,7 +16,7 @@ use Rattle.image_faults.specs.Array.{has_tag, flags_entry}
 use Rattle.image_faults.specs.Places.{file_kind}
 use Rattle.image_faults.specs.Faults.{IsImage}
 use Rattle.image_file.specs.declared.part.TlsPart.{TlsPart}
-use Rattle.image_file.specs.Spelled.{part as part_read, class_numbered, tls_of, spelled}
+use Rattle.image_file.specs.Spelled.{part as part_read, class_numbered, tls_part, spelled}
 use Rattle.image_file.specs.Tabled.{tabled_at}
 use Rattle.image_writer.specs.Outlined.{Outlined, outline_of, part, last_part, end_of}
 use Rattle.image_writer.specs.Page.{base_of, flags_of, type_of, file_offset, file_header, load_header, dynamic_header}
@@ -101,28 +102,28 @@ size_of None = 0
 size_of (Some t) = t.size
 
 -- a test by a choice
-some_if : (c : Bool) (s : Segment) → is_some (tls_of (if c then Some s else None)) ≡ c
+some_if : (c : Bool) (s : Segment) → is_some (option_map tls_part (if c then Some s else None)) ≡ c
 some_if true s = refl
 some_if false s = refl
 
 -- the size by a choice
-size_if : (c : Bool) (s : Segment) → size_of (tls_of (if c then Some s else None)) ≡ (if c then s.memsz else 0)
+size_if : (c : Bool) (s : Segment) → size_of (option_map tls_part (if c then Some s else None)) ≡ (if c then s.memsz else 0)
 size_if true s = refl
 size_if false s = refl
 
 -- the TLS segment of the file is that of the image
-pub same_tls : (b f : List ℕ) (o : Outlined) → IsSeen b o → IsHeaded f o → tls_of (tls f) ≡ tls_of (tls b)
+pub same_tls : (b f : List ℕ) (o : Outlined) → IsSeen b o → IsHeaded f o → option_map tls_part (tls f) ≡ option_map tls_part (tls b)
 same_tls b f o saw leads = leads.tls_is ∙ saw.tls_is
 
 -- there is one in both or in neither
-same_has_tls : (b f : List ℕ) → tls_of (tls f) ≡ tls_of (tls b) → has_tls f ≡ has_tls b
+same_has_tls : (b f : List ℕ) → option_map tls_part (tls f) ≡ option_map tls_part (tls b) → has_tls f ≡ has_tls b
 same_has_tls b f same =
     sym (some_if (has_tls f) (segment f (loads f + 1)))
     ∙ ap (λ t. is_some t) same
     ∙ some_if (has_tls b) (segment b (loads b + 1))
 
 -- of the same size
-same_tls_size : (b f : List ℕ) → tls_of (tls f) ≡ tls_of (tls b) → tls_size f ≡ tls_size b
+same_tls_size : (b f : List ℕ) → option_map tls_part (tls f) ≡ option_map tls_part (tls b) → tls_size f ≡ tls_size b
 same_tls_size b f same =
     sym (size_if (has_tls f) (segment f (loads f + 1)))
     ∙ ap size_of same

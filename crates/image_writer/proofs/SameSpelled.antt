@@ -1,5 +1,6 @@
 -- Two files whose headers say the same, and whose parts hold the same bytes, spell the same image.
 use Rattle.std.proofs.Common.{◌≡◌, ◌+◌, ◌<◌, ◌∙◌, ℕ, List, Bool, Option, refl, sym, ap, ◌==◌, if◌then◌else◌, slice_range}
+use Rattle.std.specs.Option.{option_map}
 use Rattle.elf_records.specs.declared.file_header.TheConstants.{ET_DYN}
 use Rattle.elf_records.specs.declared.dynamic.TheConstants.{DT_FLAGS, DT_FLAGS_1}
 use Rattle.image_rules.specs.declared.places.FileKind.{FileKind}
@@ -13,8 +14,7 @@ use Rattle.image_file.specs.declared.part.PartClass.{PartClass}
 use Rattle.image_file.specs.declared.part.TlsPart.{TlsPart}
 use Rattle.image_file.specs.declared.symbol.ImageSymbol.{ImageSymbol}
 use Rattle.image_file.specs.declared.relocation.ImageRelocation.{ImageRelocation}
-use Rattle.image_file.specs.Spelled.{Part, Spelled, class_numbered, tls_of, symbol_of, text_at, relocation_of, part, name, strings, parts, symbols}
-use Rattle.image_file.specs.Spelled.{names, relocations, spelled}
+use Rattle.image_file.specs.Spelled.{Part, Spelled, class_numbered, tls_part, symbol_of, text_at, relocation_of, part, name, strings, spelled}
 use Rattle.image_writer.proofs.SameBytes.{HoldSame, range_is_part}
 use Rattle.image_writer.proofs.SameLists.{same_tabled}
 use Rattle.image_writer.proofs.SameArray.{SameHeaders, same_has_tag, same_flags_entry, same_relocation_count}
@@ -65,19 +65,19 @@ same_part f b same i h bytes =
     ∙ sym (part_made b i)
 
 -- and so are all
-pub same_parts : (f b : List ℕ) → SameHeaders f b → ((i : ℕ) → i < loads b → HoldSame (segment b i).filesz (segment b i).offset f b) → parts f ≡ parts b
+pub same_parts : (f b : List ℕ) → SameHeaders f b → ((i : ℕ) → i < loads b → HoldSame (segment b i).filesz (segment b i).offset f b) → (spelled f).parts ≡ (spelled b).parts
 same_parts f b same bytes =
     same_tabled (part f) (part b) (loads f) (loads b) same.loads_are (λ i h. same_part f b same i h (bytes i h))
 
 -- the symbols
-pub same_symbols : (f b : List ℕ) → SameHeaders f b → AreRight b → symbols f ≡ symbols b
+pub same_symbols : (f b : List ℕ) → SameHeaders f b → AreRight b → (spelled f).symbols ≡ (spelled b).symbols
 same_symbols f b same tables =
     same_tabled (λ k. symbol_of (symbol f k)) (λ k. symbol_of (symbol b k)) (symbol_count f) (symbol_count b)
     (same_symbol_count f b same tables.hash)
     (λ k h. ap symbol_of (same_symbol_entry f b same tables.symbols k h))
 
 -- their names
-pub same_names : (f b : List ℕ) → SameHeaders f b → AreRight b → names f ≡ names b
+pub same_names : (f b : List ℕ) → SameHeaders f b → AreRight b → (spelled f).names ≡ (spelled b).names
 same_names f b same tables =
     same_tabled (name f) (name b) (symbol_count f) (symbol_count b) (same_symbol_count f b same tables.hash)
     (λ k h.
@@ -85,7 +85,7 @@ same_names f b same tables =
     ∙ ap (λ s. text_at (strings b) s.name) (same_symbol_entry f b same tables.symbols k h))
 
 -- the relocations
-pub same_relocations : (f b : List ℕ) → SameHeaders f b → AreRight b → relocations f ≡ relocations b
+pub same_relocations : (f b : List ℕ) → SameHeaders f b → AreRight b → (spelled f).relocations ≡ (spelled b).relocations
 same_relocations f b same tables =
     same_tabled (λ k. relocation_of (rela f k)) (λ k. relocation_of (rela b k)) (relocation_count f) (relocation_count b)
     (same_relocation_count f b same)
@@ -114,13 +114,13 @@ made_same kind parts array got tls symbols names relocations flagged =
 
 -- the image that bytes spell is made so
 spelled_made : (b : List ℕ)
-    → spelled b ≡ image_of (file_kind b) (parts b) (array_size b) (got b) (tls_of (tls b)) (symbols b) (names b) (relocations b) (is_flagged b)
+    → spelled b ≡ image_of (file_kind b) (spelled b).parts (array_size b) (got b) (option_map tls_part (tls b)) (spelled b).symbols (spelled b).names (spelled b).relocations (is_flagged b)
 unfolding image_of
 spelled_made b = refl
 
 -- both files spell the same image
 pub same_spelled : (f b : List ℕ) → SameHeaders f b → AreRight b → ((i : ℕ) → i < loads b → HoldSame (segment b i).filesz (segment b i).offset f b)
-    → got f ≡ got b → tls_of (tls f) ≡ tls_of (tls b) → spelled f ≡ spelled b
+    → got f ≡ got b → option_map tls_part (tls f) ≡ option_map tls_part (tls b) → spelled f ≡ spelled b
 same_spelled f b same tables bytes got_is tls_is =
     spelled_made f
     ∙ made_same (same_kind f b same) (same_parts f b same bytes) same.array_size_is got_is tls_is

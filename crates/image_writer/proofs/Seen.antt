@@ -10,7 +10,7 @@ use Rattle.elf_records.specs.declared.dynamic.TheConstants.{DT_FLAGS_1}
 use Rattle.image_faults.specs.Array.{array_size, has_tag, flags_entry}
 use Rattle.image_faults.specs.Places.{got}
 use Rattle.image_faults.specs.Faults.{IsImage}
-use Rattle.image_file.specs.Spelled.{part as part_read, parts as parts_read, class_numbered, tls_of, spelled}
+use Rattle.image_file.specs.Spelled.{part as part_read, class_numbered, tls_part, spelled}
 use Rattle.image_file.specs.Tabled.{tabled, length-tabled, tabled_at}
 use Rattle.image_writer.specs.declared.outline.PartPlace.{PartPlace}
 use Rattle.image_writer.specs.Outlined.{Outlined, outline_of, place_of, part, no_part}
@@ -32,7 +32,7 @@ pub record IsSeen (b : List ℕ) (o : Outlined) : Type 0 where
   pub part_is : (i : ℕ) → i < loads b → part o i ≡ place b i
   pub array_is : o.array_size ≡ array_size b
   pub got_is : o.got ≡ got b
-  pub tls_is : o.tls ≡ tls_of (tls b)
+  pub tls_is : o.tls ≡ option_map tls_part (tls b)
 
 -- the base by the type of the file
 base_of_type : (n : ℕ) (c : Bool) → (n ≡ 2) ⊎ (n ≡ 3)
@@ -67,7 +67,7 @@ place_read b i h =
 pub seen : (b : List ℕ) → IsImage b → IsSeen b (outline_of (spelled b))
 seen b image = record {
   base_is = base_of_type (header b).e_type (has_tag b (flags_entry b) DT_FLAGS_1) (field_right b image FileType);
-  parts_are = length-map (parts_read b) place_of ∙ length-tabled (part_read b) (loads b);
+  parts_are = length-map (spelled b).parts place_of ∙ length-tabled (part_read b) (loads b);
   part_is = λ i h.
       seen_at (part_read b) place_of (loads b) i no_part h
       ∙ place_read b i (segment_in b image i (omega (arith, h, (dynamic_right b image).1)));

@@ -10,7 +10,7 @@ use Rattle.image_faults.specs.Faults.{IsImage}
 use Rattle.image_faults.specs.Parts.{loads, segment}
 use Rattle.image_faults.specs.Places.{file_kind}
 use Rattle.image_file.specs.Spelled.{Part, Spelled, spelled}
-use Rattle.image_file.specs.Spelled.{part as part_read, parts as parts_read}
+use Rattle.image_file.specs.Spelled.{part as part_read, spelled}
 use Rattle.image_file.specs.Tabled.{length-tabled, tabled_at}
 use Rattle.image_writer.specs.Contents.{part_in}
 use Rattle.image_writer.specs.Loadable.{IsLoadable}
@@ -47,9 +47,9 @@ stands_read b image i h =
           ∙ ap (λ k. take (from + n - from) (drop k b)) offset,
     )
 
-pub all_stand : (b : List ℕ) → IsImage b → AllStand (file_kind b) b (parts_read b)
+pub all_stand : (b : List ℕ) → IsImage b → AllStand (file_kind b) b (spelled b).parts
 all_stand b image i p is =
-    let below : i < loads b = omega (arith, slice_get_within (parts_read b) i p is, length-tabled (part_read b) (loads b)) in
+    let below : i < loads b = omega (arith, slice_get_within (spelled b).parts i p is, length-tabled (part_read b) (loads b)) in
     let there = tabled_at (part_read b) (loads b) i below in
     let same : part_read b i ≡ p = cc in
     let P : Part → Type 0 = λ q. (file_offset (file_kind b) q.address + length q.bytes ≤ length b)

@@ -68,7 +68,7 @@ part_told f kind s p same here =
     ∙ ap (λ x. part_made x p.address p.bytes) (class_back p.class)
 
 -- the parts of an image
-pub parts_are : (f : List ℕ) (s : Spelled) → IsHeaded f (outline_of s) → IsFileOf f s → spelling.parts f ≡ s.parts
+pub parts_are : (f : List ℕ) (s : Spelled) → IsHeaded f (outline_of s) → IsFileOf f s → (spelling.spelled f).parts ≡ s.parts
 unfolding spelling.part part_made
 parts_are f s headed file =
     let many = length-map s.parts place_of in
@@ -80,7 +80,7 @@ parts_are f s headed file =
     (file.parts_are i (get_or s.parts i d) (slice_get-get_or s.parts i d below)))
 
 -- the symbols
-pub symbols_are : (f : List ℕ) (c : Contents) → IsRead f c → spelling.symbols f ≡ all_symbols c
+pub symbols_are : (f : List ℕ) (c : Contents) → IsRead f c → (spelling.spelled f).symbols ≡ all_symbols c
 symbols_are f c r =
     let count : symbol_total c ≡ length (all_symbols c) = omega arith in
     tabled_is (λ k. symbol_of (found.symbol f k)) (symbol_count f) (all_symbols c) (symbol_count_is f c r.seen ∙ count)
@@ -97,7 +97,7 @@ name_whole c symbols (suc k) below = (symbols (suc k) (omega arith) (omega (arit
 
 -- the names
 pub names_are : (f : List ℕ) (c : Contents) → IsRead f c → ((k : ℕ) → 0 < k → k ≤ length c.symbols → IsRightSymbol c k)
-    → spelling.names f ≡ all_names c
+    → (spelling.spelled f).names ≡ all_names c
 unfolding symbol_entry strings
 names_are f c r symbols =
     let named = r.named in
@@ -111,7 +111,7 @@ names_are f c r symbols =
     ∙ get_or_default (all_names c) k [] d below)
 
 -- the relocations
-pub relocations_are : (f : List ℕ) (c : Contents) → IsRead f c → spelling.relocations f ≡ c.relocations
+pub relocations_are : (f : List ℕ) (c : Contents) → IsRead f c → (spelling.spelled f).relocations ≡ c.relocations
 relocations_are f c r =
     tabled_is (λ k. relocation_of (rela f k)) (relocation_count f) c.relocations (relocation_count_is f c r.seen)
     (λ k d below. ap relocation_of (r.relocations_are k d below) ∙ relocation_back (get_or c.relocations k d))

@@ -3,6 +3,7 @@ use Rattle.std.proofs.Common.{◌≡◌, ◌+◌, ◌<◌, ◌≤◌, ◌⊎◌,
 use Rattle.std.proofs.Common.{Option, Some, None, All, IsSome, IsTrue, length, get_or, if◌then◌else◌}
 use Rattle.std.proofs.Common.{refl, sym, ap, ◌∙◌, arith, inl, inr, subst}
 use Rattle.std.specs.Int.Signed.{<ℤ-≤ℤ_trans, <ℤ_irrefl}
+use Rattle.std.specs.Option.{option_map}
 use Rattle.elf_records.specs.Records.{symbol_kind}
 use Rattle.elf_records.specs.declared.program_header.Segment.{Segment}
 use Rattle.elf_records.specs.declared.symbol.SymbolEntry.{SymbolEntry}
@@ -16,11 +17,11 @@ use Rattle.image_faults.specs.Parts.{has_tls, loads, segment, tls_size}
 use Rattle.image_faults.specs.Symbols as found
 use Rattle.image_faults.specs.Symbols.{IsPastTls}
 use Rattle.image_faults.specs.Relocations.{IsOutsideTls, IsOwnOutside, LacksOwnTls, rela}
-use Rattle.image_faults.specs.Faults.{Breaks, BreaksTable, Keeps}
+use Rattle.image_faults.specs.Faults.{Breaks, Keeps}
 use Rattle.image_file.specs.declared.part.TlsPart.{TlsPart}
 use Rattle.elf_records.specs.declared.symbol.SymbolType.TheVariants.{Tls}
 use Rattle.image_file.specs.declared.relocation.ImageRelocation.{ImageRelocation}
-use Rattle.image_file.specs.Spelled.{tls_of}
+use Rattle.image_file.specs.Spelled.{tls_part}
 use Rattle.image_writer.specs.Outlined.{outline_of}
 use Rattle.image_writer.specs.Contents.{Contents, symbol}
 use Rattle.image_writer.specs.Tables.{finished, name_start, symbol_entry, symbol_total}
@@ -36,7 +37,7 @@ no_relocation : ImageRelocation
 no_relocation = record { place = 0; kind = Relative; symbol = 0; addend = pos 0 }
 
 -- how many bytes the TLS segment has, by its header
-size_by : (b : Bool) (s : Segment) (o : Option TlsPart) → tls_of (if b then Some s else None) ≡ o
+size_by : (b : Bool) (s : Segment) (o : Option TlsPart) → option_map tls_part (if b then Some s else None) ≡ o
     → (if b then s.memsz else 0) ≡ owed.tls_size o
 size_by true s o told = ap owed.tls_size told
 size_by false s o told = ap owed.tls_size told
@@ -113,7 +114,7 @@ right_or_first c symbols (suc k) below = inr (symbols (suc k) (omega arith) (ome
 pub tables_kept : (f : List ℕ) (c : Contents) → IsHeaded f (outline_of (finished c)) → IsRead f c
     → ((k : ℕ) → 0 < k → k ≤ length c.symbols → IsRightSymbol c k) → All (IsRightRelocation c) c.relocations
     → AreRising c.relocations → (rule : TableRule) → Keeps (Table rule) f
-unfolding Breaks BreaksTable
+unfolding Breaks
 tables_kept f c headed r symbols right rising Symbol e broken =
     let below : e < symbol_total c = subst (λ n. e < n) (symbol_count_is f c r.seen) broken.0 in
     broken.1 (symbol_right f c r e below (right_or_first c symbols e below))

@@ -14,7 +14,7 @@ use Rattle.image_faults.specs.Faults.{Breaks, IsImage}
 use Rattle.image_faults.specs.Parts.{base, header, loads, segment}
 use Rattle.image_faults.specs.Places.{file_kind}
 use Rattle.image_faults.specs.Segments.{IsRightLoad}
-use Rattle.image_file.specs.Spelled.{Part, Spelled, part, parts, spelled}
+use Rattle.image_file.specs.Spelled.{Part, Spelled, part, spelled}
 use Rattle.image_file.specs.Tabled.{length-tabled, tabled_at}
 use Rattle.loaded_modules.specs.Laws.{InstancesApart, LieApart}
 use Rattle.loaded_modules.specs.Loader.{bias}
@@ -47,10 +47,10 @@ module _ (b : List ℕ) (image : IsImage b) where
       fits : IsRightLoad b i → (segment b i).vaddr + (segment b i).filesz ≤ base b + 2 ^ 26
       fits right = omega (arith, right.2.0, right.3.1)
 
-  part_at : (i : ℕ) (p : Part) → slice_get (parts b) i ≡ Some p → p.address + length p.bytes ≤ base b + 2 ^ 26
+  part_at : (i : ℕ) (p : Part) → slice_get (spelled b).parts i ≡ Some p → p.address + length p.bytes ≤ base b + 2 ^ 26
   unfolding part
   part_at i p is =
-      let within : i < loads b = let lt = slice_get_within (parts b) i p is in let long = length-tabled (part b) (loads b) in omega (arith, lt, long) in
+      let within : i < loads b = let lt = slice_get_within (spelled b).parts i p is in let long = length-tabled (part b) (loads b) in omega (arith, lt, long) in
       let same = some_is (part b i) p (sym (tabled_at (part b) (loads b) i within) ∙ is) in
       subst (λ (q : Part). q.address + length q.bytes ≤ base b + 2 ^ 26) same (omega (arith, in_range i within, short))
     where

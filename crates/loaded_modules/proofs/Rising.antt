@@ -6,11 +6,11 @@ use Rattle.std.proofs.lemmas.Option.{slice_get_within}
 use Rattle.image_rules.specs.declared.rule.Rule.TheVariants.{Table}
 use Rattle.image_rules.specs.declared.rule.TableRule.TheVariants.{Relocation}
 use Rattle.image_faults.specs.Array.{relocation_count}
-use Rattle.image_faults.specs.Faults.{Breaks, BreaksTable, IsImage}
+use Rattle.image_faults.specs.Faults.{Breaks, IsImage}
 use Rattle.elf_records.specs.Records.{rela_kind}
 use Rattle.image_faults.specs.Relocations.{IsBehindLast, field_width, rela}
 use Rattle.image_file.specs.declared.relocation.ImageRelocation.{ImageRelocation}
-use Rattle.image_file.specs.Spelled.{Spelled, relocation_of, relocations, spelled}
+use Rattle.image_file.specs.Spelled.{Spelled, relocation_of, spelled}
 use Rattle.image_file.specs.Tabled.{length-tabled, tabled_at}
 use Rattle.loaded_modules.specs.Places.{AllBelow, NoneBelow}
 use Rattle.loaded_modules.proofs.TlsKept.{at_most as not_past}
@@ -20,7 +20,7 @@ back k = omega arith
 
 module _ (b : List ℕ) (image : IsImage b) where
   next : (k : ℕ) → suc k < relocation_count b → (rela b k).offset ≤ (rela b (suc k)).offset
-  unfolding Breaks BreaksTable
+  unfolding Breaks
   next k inside = not_past (rela b k).offset (rela b (suc k)).offset (λ no. image (Table Relocation) (suc k) (inside, λ right. behind no right.2))
     where
       behind : ((rela b k).offset ≤ (rela b (suc k)).offset → ⊥) → IsBehindLast b (suc k) → ⊥
@@ -41,16 +41,16 @@ module _ (b : List ℕ) (image : IsImage b) where
       one_more : (j d : ℕ) → suc (j + d) ≡ j + suc d
       one_more j d = omega arith
 
-  place_at : (k : ℕ) (r : ImageRelocation) → slice_get (relocations b) k ≡ Some r → (k < relocation_count b) × ((rela b k).offset ≡ r.place)
+  place_at : (k : ℕ) (r : ImageRelocation) → slice_get (spelled b).relocations k ≡ Some r → (k < relocation_count b) × ((rela b k).offset ≡ r.place)
   unfolding relocation_of
   place_at k r is =
-      let within : k < relocation_count b = let lt = slice_get_within (relocations b) k r is in let long = length-tabled (λ k. relocation_of (rela b k)) (relocation_count b) in omega (arith, lt, long) in
+      let within : k < relocation_count b = let lt = slice_get_within (spelled b).relocations k r is in let long = length-tabled (λ k. relocation_of (rela b k)) (relocation_count b) in omega (arith, lt, long) in
       (within, same (relocation_of (rela b k)) r (sym (tabled_at (λ k. relocation_of (rela b k)) (relocation_count b) k within) ∙ is))
     where
       same : (x y : ImageRelocation) → Some x ≡ Some y → x.place ≡ y.place
       same x y e = cc
 
-  rising : (j k : ℕ) (q r : ImageRelocation) → slice_get (relocations b) j ≡ Some q → slice_get (relocations b) k ≡ Some r → j ≤ k → q.place ≤ r.place
+  rising : (j k : ℕ) (q r : ImageRelocation) → slice_get (spelled b).relocations j ≡ Some q → slice_get (spelled b).relocations k ≡ Some r → j ≤ k → q.place ≤ r.place
   rising j k q r at_j at_k le =
       let one = place_at j q at_j in
       let two = place_at k r at_k in

@@ -1,7 +1,7 @@
 -- What an image keeps of its TLS segment.
 use Rattle.std.proofs.Common.{◌≡◌, ◌+◌, ◌^◌, ◌<◌, ◌≤◌, ℕ, Bool, true, false, List, Some, None, sym, subst, inl, inr, refl, arith}
 use Rattle.std.proofs.Common.{◌==◌, ◌&&◌, nat_lt, if◌then◌else◌}
-use Rattle.std.specs.Option.{IfSome}
+use Rattle.std.specs.Option.{IfSome, option_map}
 use Rattle.std.proofs.lemmas.Bool.{cases_lt}
 use Rattle.std.proofs.lemmas.Bool.Decides.{nat_tests}
 use Rattle.std.proofs.lemmas.Nat.{pow_pos}
@@ -12,7 +12,7 @@ use Rattle.image_rules.specs.declared.rule.Rule.TheVariants.{Segment as SegmentR
 use Rattle.image_faults.specs.Faults.{Breaks, IsImage}
 use Rattle.image_faults.specs.Parts.{count, segment, loads, has_tls}
 use Rattle.image_faults.specs.Segments.{IsAlignment, IsRightTls}
-use Rattle.image_file.specs.Spelled.{Spelled, spelled, tls_of, tls_part}
+use Rattle.image_file.specs.Spelled.{Spelled, spelled, tls_part}
 use Rattle.loaded_modules.specs.Ends.{IsTls}
 
 aligned : (n : ℕ) → IsAlignment n → (0 < n) × (n ≤ 2 ^ 12)
@@ -59,7 +59,7 @@ module _ (b : List ℕ) (image : IsImage b) (has : has_tls b ≡ true) where
     page = at_most header.align 4096 (λ no. wrong (λ is. no is.page));
   }
 
-of_test : (t : Bool) (s : Segment) → (t ≡ true → IsTls (tls_part s)) → IfSome (tls_of (if t then Some s else None)) IsTls
+of_test : (t : Bool) (s : Segment) → (t ≡ true → IsTls (tls_part s)) → IfSome (option_map tls_part (if t then Some s else None)) IsTls
 of_test true s h = h refl
 of_test false s h = tt
 

@@ -10,7 +10,7 @@ use Rattle.image_rules.specs.declared.rule.Rule.TheVariants.{Segment as SegmentR
 use Rattle.image_faults.specs.Faults.{Breaks, IsImage}
 use Rattle.image_faults.specs.Parts.{base, header, loads, segment}
 use Rattle.image_faults.specs.Segments.{IsRightLoad}
-use Rattle.image_file.specs.Spelled.{Part, Spelled, part, parts, spelled}
+use Rattle.image_file.specs.Spelled.{Part, Spelled, part, spelled}
 use Rattle.image_file.specs.Tabled.{length-tabled, tabled_at}
 use Rattle.loaded_modules.specs.declared.instance.Instance.{Instance}
 use Rattle.loaded_modules.specs.Images.{JobImages, image_at}
@@ -35,10 +35,10 @@ load_low b image i within =
 pub inside : (x y : Part) → Some x ≡ Some y → x ≡ y
 inside x y e = cc
 
-found_low : (b : List ℕ) → IsImage b → (i : ℕ) (p : Part) → slice_get (parts b) i ≡ Some p → p.address < 2 ^ 32
+found_low : (b : List ℕ) → IsImage b → (i : ℕ) (p : Part) → slice_get (spelled b).parts i ≡ Some p → p.address < 2 ^ 32
 unfolding part
 found_low b image i p is =
-    let within : i < loads b = let lt = slice_get_within (parts b) i p is in let long = length-tabled (part b) (loads b) in omega (arith, lt, long) in
+    let within : i < loads b = let lt = slice_get_within (spelled b).parts i p is in let long = length-tabled (part b) (loads b) in omega (arith, lt, long) in
     let same = inside (part b i) p (sym (tabled_at (part b) (loads b) i within) ∙ is) in
     subst (λ (q : Part). q.address < 2 ^ 32) same (load_low b image i within)
 

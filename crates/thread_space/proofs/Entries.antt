@@ -11,7 +11,7 @@ use Rattle.image_faults.specs.Faults.{Breaks, IsImage}
 use Rattle.image_faults.specs.Parts.{base, header, loads, segment}
 use Rattle.image_faults.specs.Segments.{IsRightLoad}
 use Rattle.image_file.specs.declared.symbol.ImageSymbol.{ImageSymbol}
-use Rattle.image_file.specs.Spelled.{Part, Spelled, part, parts, spelled}
+use Rattle.image_file.specs.Spelled.{Part, Spelled, part, spelled}
 use Rattle.image_file.specs.Tabled.{length-tabled, tabled_at}
 use Rattle.image_names.specs.Functions.{entry_in, function_place, is_code, runs_at}
 use Rattle.elf_records.specs.Symbols.{is_tls}
@@ -37,9 +37,9 @@ part_ends : (b : List ℕ) → IsImage b → (i : ℕ) → i < loads b → (part
 unfolding part
 part_ends b image i within = omega (arith, load_ends b image i within, short b (segment b i).offset (segment b i).filesz)
 
-found_ends : (b : List ℕ) → IsImage b → (i : ℕ) (p : Part) → slice_get (parts b) i ≡ Some p → p.address + length p.bytes ≤ 2 ^ 32
+found_ends : (b : List ℕ) → IsImage b → (i : ℕ) (p : Part) → slice_get (spelled b).parts i ≡ Some p → p.address + length p.bytes ≤ 2 ^ 32
 found_ends b image i p is =
-    let within : i < loads b = let lt = slice_get_within (parts b) i p is in let long = length-tabled (part b) (loads b) in omega (arith, lt, long) in
+    let within : i < loads b = let lt = slice_get_within (spelled b).parts i p is in let long = length-tabled (part b) (loads b) in omega (arith, lt, long) in
     let same = inside (part b i) p (sym (tabled_at (part b) (loads b) i within) ∙ is) in
     subst (λ (q : Part). q.address + length q.bytes ≤ 2 ^ 32) same (part_ends b image i within)
 
@@ -67,21 +67,21 @@ runs_within place p runs =
     let parts = and_parts (is_code p.class) _ runs in
     ltb-true place (p.address + length p.bytes) (and_parts _ _ parts.1).1
 
-run_low : (b : List ℕ) → IsImage b → (place : ℕ) → list_any (runs_at place) (parts b) ≡ true → place < 2 ^ 32
+run_low : (b : List ℕ) → IsImage b → (place : ℕ) → list_any (runs_at place) (spelled b).parts ≡ true → place < 2 ^ 32
 run_low b image place some =
-    let here = passing (runs_at place) (parts b) some in
+    let here = passing (runs_at place) (spelled b).parts some in
     omega (arith, runs_within place here.x here.passes, found_ends b image here.at here.x here.is)
 
-place_low : (b : List ℕ) → IsImage b → (symbol : ImageSymbol) (place : ℕ) → function_place (parts b) symbol ≡ Some place → place < 2 ^ 32
+place_low : (b : List ℕ) → IsImage b → (symbol : ImageSymbol) (place : ℕ) → function_place (spelled b).parts symbol ≡ Some place → place < 2 ^ 32
 place_low b image symbol place is =
-    let found = cond_some ((symbol.is_defined && not (is_tls symbol.kind)) && list_any (runs_at symbol.value) (parts b)) symbol.value place is in
+    let found = cond_some ((symbol.is_defined && not (is_tls symbol.kind)) && list_any (runs_at symbol.value) (spelled b).parts) symbol.value place is in
     subst (λ n. n < 2 ^ 32) found.1
     (run_low b image symbol.value (and_parts (symbol.is_defined && not (is_tls symbol.kind)) _ found.0).1)
 
 entry_of : (b : List ℕ) → IsImage b → (name : List ℕ) (place : ℕ) → entry_in (spelled b) name ≡ Some place → place < 2 ^ 32
 unfolding entry_in
 entry_of b image name place is =
-    option_and_then_some (function_place (parts b)) _ place is (λ symbol found says. place_low b image symbol place says)
+    option_and_then_some (function_place (spelled b).parts) _ place is (λ symbol found says. place_low b image symbol place says)
 
 -- where a function begins, before its image is moved
 pub entry_low : (image : Spelled) → (b : List ℕ) × (IsImage b × (image ≡ spelled b)) → (name : List ℕ) (place : ℕ)

@@ -11,7 +11,7 @@ use Rattle.image_faults.specs.Faults.{Breaks, IsImage}
 use Rattle.image_faults.specs.Parts.{base, header, loads, segment}
 use Rattle.image_faults.specs.Segments.{IsRightLoad}
 use Rattle.image_file.specs.declared.relocation.ImageRelocation.{ImageRelocation}
-use Rattle.image_file.specs.Spelled.{Part, Spelled, part, parts, spelled}
+use Rattle.image_file.specs.Spelled.{Part, Spelled, part, spelled}
 use Rattle.image_file.specs.Tabled.{length-tabled, tabled_at}
 use Rattle.loaded_modules.specs.declared.instance.Instance.{Instance}
 use Rattle.loaded_modules.specs.Images.{JobImages, image_at}
@@ -61,10 +61,10 @@ load_low b image i within =
 range_long : (xs : List ℕ) (from n : ℕ) → length (slice_range xs from (from + n)) ≤ n
 range_long xs from n = let e : from + n - from ≡ n = omega arith in rw e (omega (arith, length-take n (drop from xs)))
 
-found_low : (b : List ℕ) → IsImage b → (i : ℕ) (p : Part) → slice_get (parts b) i ≡ Some p → p.address + length p.bytes < 2 ^ 27
+found_low : (b : List ℕ) → IsImage b → (i : ℕ) (p : Part) → slice_get (spelled b).parts i ≡ Some p → p.address + length p.bytes < 2 ^ 27
 unfolding part
 found_low b image i p is =
-    let within : i < loads b = let lt = slice_get_within (parts b) i p is in let long = length-tabled (part b) (loads b) in omega (arith, lt, long) in
+    let within : i < loads b = let lt = slice_get_within (spelled b).parts i p is in let long = length-tabled (part b) (loads b) in omega (arith, lt, long) in
     let same = same_part (part b i) p (sym (tabled_at (part b) (loads b) i within) ∙ is) in
     let long = range_long b (segment b i).offset (segment b i).filesz in
     subst (λ (q : Part). q.address + length q.bytes < 2 ^ 27) same (omega (arith, load_low b image i within, long))

@@ -1,6 +1,5 @@
 use Rattle.std.proofs.Common.{◌∙◌, sym, ap}
-use Rattle.image_faults.specs.Parts.{is_relro}
-use Rattle.image_faults.proofs.Counts.{last_none, last_more, last_same, is_of, is_not_of}
+use Rattle.image_faults.proofs.Counts.{is_relro, last_none, last_more, last_same, is_of, is_not_of}
 use Rattle.image_faults.proofs.searches.has_relro.Goals as goal
 use Rattle.image_faults.proofs.searches.has_relro.Goals.{then-segment-eq-PT_GNU_RELRO, else-segment-eq-PT_GNU_RELRO}
 

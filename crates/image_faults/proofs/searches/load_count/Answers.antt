@@ -1,7 +1,7 @@
 use Rattle.std.proofs.Common.{◌≡◌, ◌∙◌, sym, ap, arith}
 use Rattle.image_faults.specs.Counts.{leading}
-use Rattle.image_faults.specs.Parts.{loads, is_load}
-use Rattle.image_faults.proofs.Counts.{leading_none, leading_more, leading_stops, is_of, is_not_of}
+use Rattle.image_faults.specs.Parts.{loads}
+use Rattle.image_faults.proofs.Counts.{is_load, leading_none, leading_more, leading_stops, is_of, is_not_of}
 use Rattle.image_faults.proofs.searches.load_count.Goals as goal
 
 pub loop-number-init : goal.loop-number-init

@@ -1,6 +1,6 @@
 use Rattle.std.proofs.Common.{◌≡◌}
 use Rattle.image_faults.specs.Counts.{leading}
-use Rattle.image_faults.specs.Parts.{is_load}
+use Rattle.image_faults.proofs.Counts.{is_load}
 use Rattle.image_faults.proofs.searches.load_count.Given as goal
 
 abbrev pub invariant-loop-number : goal.invariant-loop-number
