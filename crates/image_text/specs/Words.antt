@@ -1,5 +1,5 @@
 -- The words for the choices of an image.
-use Rattle.std.specs.Prelude.{ℕ, List, [], Bool, true, false, codes}
+use Rattle.std.specs.Prelude.{ℕ, List, codes}
 use Rattle.image_rules.specs.declared.places.FileKind.{FileKind}
 use Rattle.image_rules.specs.declared.places.FileKind.TheVariants.{Exe, Pie, Module}
 use Rattle.image_file.specs.declared.part.PartClass.{PartClass}
@@ -16,8 +16,3 @@ abbrev pub class_word : PartClass → List ℕ
 class_word Executable = codes "x"
 class_word ReadOnly = codes "r"
 class_word Writable = codes "rw"
-
--- before the name of a symbol that is not defined here
-abbrev pub import_word : Bool → List ℕ
-import_word true = []
-import_word false = codes "import "

@@ -1,10 +1,9 @@
 //! The lines of an image's text, one at a time.
 
-ghost use Rattle.std.specs.Prelude.{◌≡◌, ◌++◌, OnOk};
-ghost use Rattle.image_text.specs.Words.{class_word, import_word, kind_word};
-ghost use Rattle.image_text.specs.Shown.{kind_line, part_line, tls_line, relro_line, symbol_line};
+ghost use Rattle.std.specs.Prelude.{◌≡◌, ◌++◌, [], OnOk, codes, if◌then◌else◌};
+ghost use Rattle.image_text.specs.Words.{class_word, kind_word};
+ghost use Rattle.image_text.specs.Shown.{part_line, tls_line, relro_line, symbol_line, relocation_line};
 ghost use Rattle.image_file.specs.Spelled.{lent_part};
-ghost use Rattle.image_text.specs.Shown.{relocation_line, flag_line};
 
 use image_file::{FileKind, ImagePart, ImageRelocation, ImageSymbol, PartClass, TlsPart};
 use std::alloc::AllocError;
@@ -33,15 +32,14 @@ fn class_word(class: PartClass) -> &'static str
 
 /// The word before the name of a symbol.
 fn import_word(is_defined: bool) -> &'static str
-    ensures { result.now ≡ import_word is_defined }
+    ensures { result.now ≡ (if is_defined then [] else codes "import ") }
 {
     if is_defined { "" } else { "import " }
 }
 
 /// Appends the line with the kind of the image.
-#[tactic(auto, unfolding(crate::specs::Shown::kind_line))]
 pub fn push_kind(text: &mut Vec<u8>, kind: FileKind) -> Result<(), AllocError>
-    ensures { OnOk result (text.new.items ≡ text.old.items ++ kind_line kind) }
+    ensures { OnOk result (text.new.items ≡ text.old.items ++ (codes "kind " ++ kind_word kind ++ codes "\n")) }
 {
     let word = kind_word(kind);
     let line = format!(in *text.allocator(); "kind {word}\n")?;
@@ -113,7 +111,8 @@ pub fn push_relocation(text: &mut Vec<u8>, relocation: ImageRelocation) -> Resul
 
 /// Appends the line of static TLS, if the flag is set.
 pub fn push_flag(text: &mut Vec<u8>, is_flagged: bool) -> Result<(), AllocError>
-    ensures { OnOk result (text.new.items ≡ text.old.items ++ flag_line is_flagged) }
+    ensures { OnOk result
+        (text.new.items ≡ text.old.items ++ (if is_flagged then codes "static-tls\n" else [])) }
 {
     if is_flagged {
         text.extend_from_slice(b"static-tls\n")?;

@@ -1,7 +1,9 @@
 //! The text of an image.
 
-ghost use Rattle.std.specs.Prelude.{◌≡◌, ◌++◌, OnOk, OnErr, drop, flat_map, option_to_list, slice_get};
-ghost use Rattle.image_text.specs.Shown.{part_line, tls_line, relro_line, got_part, named, symbol_line};
+ghost use Rattle.std.specs.Prelude.{◌≡◌, ◌++◌, OnOk, OnErr, drop, flat_map, option_and_then, option_to_list};
+ghost use Rattle.std.specs.Prelude.{slice_get};
+ghost use Rattle.std.specs.List.{zip};
+ghost use Rattle.image_text.specs.Shown.{part_line, tls_line, relro_line, symbol_line};
 ghost use Rattle.image_text.specs.Shown.{relocation_line, shown};
 
 use crate::lines::{
@@ -46,7 +48,10 @@ fn push_segment(text: &mut Vec<u8>, image: &Image) -> Result<(), AllocError>
 /// Appends the line of the GOT, if there is one.
 fn push_got(text: &mut Vec<u8>, image: &Image) -> Result<(), AllocError>
     ensures { OnOk result
-        (text.new.items ≡ text.old.items ++ flat_map relro_line (option_to_list (got_part image.now))) }
+        (text.new.items
+        ≡ text.old.items
+        ++ flat_map relro_line
+        (option_to_list (option_and_then (slice_get image.now.parts) image.now.got))) }
 {
     let Some(number) = image.got() else {
         return Ok(());
@@ -61,7 +66,9 @@ fn push_got(text: &mut Vec<u8>, image: &Image) -> Result<(), AllocError>
 fn push_symbol_at(text: &mut Vec<u8>, image: &Image, number: u64) -> Result<(), AllocError>
     ensures { OnOk result
         (text.new.items
-        ≡ text.old.items ++ flat_map symbol_line (option_to_list (slice_get (named image.now) number))) }
+        ≡ text.old.items
+        ++ flat_map symbol_line
+        (option_to_list (slice_get (zip image.now.symbols image.now.names) number))) }
 {
     let Some(symbol) = image.symbol(number) else {
         return Ok(());
@@ -75,7 +82,8 @@ fn push_symbol_at(text: &mut Vec<u8>, image: &Image, number: u64) -> Result<(), 
 /// Appends a line for each symbol but the reserved one.
 fn push_symbols(text: &mut Vec<u8>, image: &Image) -> Result<(), AllocError>
     ensures { OnOk result
-        (text.new.items ≡ text.old.items ++ flat_map symbol_line (drop 1 (named image.now))) }
+        (text.new.items
+        ≡ text.old.items ++ flat_map symbol_line (drop 1 (zip image.now.symbols image.now.names))) }
 {
     for number in 1..image.symbol_count() {
         push_symbol_at(text, image, number)?;
