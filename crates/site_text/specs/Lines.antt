@@ -13,19 +13,13 @@ abbrev pub shown_name : List ℕ → List ℕ
 shown_name [] = codes "-"
 shown_name (c ∷ cs) = c ∷ cs
 
--- the section of a site, and its offset there
-unfoldable pub site_place : Site → List ℕ
-site_place site = codes " " ++ decimal site.section ++ codes " " ++ hex16 site.start
-
--- the form of a site, and its choice
-unfoldable pub site_choice : Site → Choice → List ℕ
-site_choice site choice = codes " " ++ form_name site.form ++ codes " " ++ choice_name choice ++ codes " "
-
--- the line of a site in an object with this name and these bytes: the name, the site's place, form
--- and choice, its symbol
+-- the line of a site in an object with this name and these bytes: the name, the site's section and its offset there,
+-- its form and its choice, its symbol
 unfoldable pub site_line : List ℕ → List ℕ → Site → Choice → List ℕ
 site_line name object site choice =
-    name ++ site_place site ++ site_choice site choice ++ shown_name (symbol_name object site.symbol) ++ codes "\n"
+    name ++ (codes " " ++ decimal site.section ++ codes " " ++ hex16 site.start)
+    ++ (codes " " ++ form_name site.form ++ codes " " ++ choice_name choice ++ codes " ")
+    ++ shown_name (symbol_name object site.symbol) ++ codes "\n"
 
 -- the lines of the sites of an object, each with its choice
 abbrev pub site_lines : List ℕ → List ℕ → List Site → List Choice → List ℕ

@@ -1,9 +1,12 @@
 //! The lines of sites.
 
-ghost use Rattle.std.specs.Prelude.{◌≡◌, ◌<◌, ◌++◌, IfOk, OnOk, OnErr, length, string_bytes};
+ghost use Rattle.std.specs.Prelude.{◌≡◌, ◌<◌, ◌++◌, IfOk, OnOk, OnErr, codes, length, string_bytes};
+ghost use Rattle.std.specs.Fmt.{decimal};
 ghost use Rattle.std.specs.List.{All};
 ghost use Rattle.elf_object.specs.Parts.{symbol_count};
-ghost use Rattle.site_text.specs.Lines.{shown_name, site_place, site_choice, site_line, site_lines};
+ghost use Rattle.transcript_text.specs.Texts.{hex16};
+ghost use Rattle.site_text.specs.Lines.{shown_name, site_line, site_lines};
+ghost use Rattle.site_text.specs.Names.{choice_name as name_of_choice, form_name as name_of_form};
 
 use crate::names::{choice_name, form_name};
 use elf_object::Object;
@@ -19,9 +22,9 @@ fn shown_name(name: &[u8]) -> &[u8]
 }
 
 /// Where a site lies in its object.
-#[tactic(auto, unfolding(crate::specs::Lines::site_place))]
 fn place_of(alloc: Global, site: &Site) -> Result<String, AllocError>
-    ensures { IfOk result (λ place. string_bytes place ≡ site_place site.now) }
+    ensures { IfOk result (λ place. string_bytes place
+        ≡ codes " " ++ decimal site.now.section ++ codes " " ++ hex16 site.now.start) }
 {
     let section = site.section;
     let start = site.start;
@@ -30,9 +33,9 @@ fn place_of(alloc: Global, site: &Site) -> Result<String, AllocError>
 }
 
 /// The form of a site, and its choice.
-#[tactic(auto, unfolding(crate::specs::Lines::site_choice))]
 fn choice_of(alloc: Global, site: &Site, choice: Choice) -> Result<String, AllocError>
-    ensures { IfOk result (λ words. string_bytes words ≡ site_choice site.now choice) }
+    ensures { IfOk result (λ words. string_bytes words
+        ≡ codes " " ++ name_of_form site.now.form ++ codes " " ++ name_of_choice choice ++ codes " ") }
 {
     let form = form_name(site.form);
     let chosen = choice_name(choice);
