@@ -1,5 +1,6 @@
 -- What callers may rely on in the parts that an object lends.
 use Rattle.std.specs.Prelude.{◌≡◌, ◌≢◌, ◌+◌, ◌<◌, ◌≤◌, ◌^◌, ℕ, Bool, true, List, length, Some, IsSome, if◌then◌else◌}
+use Rattle.elf_records.specs.Alignments.{IsAlignment}
 use Rattle.object_faults.specs.declared.class.SectionClass.{SectionClass}
 use Rattle.object_faults.specs.declared.class.SectionClass.TheVariants.{Executable, Tls, Writable}
 use Rattle.elf_records.specs.declared.symbol.SymbolType.TheVariants.{Func, File, Tls as ThreadLocal}
@@ -18,14 +19,10 @@ has_initial (Tls initial) = initial
 has_initial (Writable initial) = initial
 has_initial _ = true
 
--- a power of two up to 4,096
-abbrev pub IsPower : ℕ → Type 0
-IsPower n = (k : ℕ) × (k ≤ 12) × (n ≡ 2 ^ k)
-
 -- section s, which linking keeps in this class, is small, and its bytes are all in the file
 pub record IsKeptAs (b : List ℕ) (s : ℕ) (class : SectionClass) : Type 0 where
   pub small : section_size b s ≤ 2 ^ 20
-  pub aligned : IsPower (section_alignment b s)
+  pub aligned : IsAlignment (section_alignment b s)
   pub filled : length (section_bytes b s) ≡ (if has_initial class then section_size b s else 0)
 
 -- symbol e is defined in a section of the object and, if linking keeps that section, is inside it; thread-local storage

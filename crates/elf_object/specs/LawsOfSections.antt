@@ -11,9 +11,10 @@ use Rattle.object_faults.specs.declared.class.SectionClass.TheVariants.{Executab
 use Rattle.object_faults.specs.declared.class.TheConstants.{CLASS_FLAGS}
 use Rattle.elf_records.specs.declared.section_header.TheConstants.{SHF_ALLOC}
 use Rattle.elf_object.specs.Parts.{header, section, is_section, HasBytes, IsSection}
-use Rattle.elf_object.specs.Classes.{class_of, class_row, kept_of, kept_class, IsKeptSection, IsAlignment}
+use Rattle.elf_object.specs.Classes.{class_of, class_row, kept_of, kept_class, IsKeptSection}
 use Rattle.elf_object.specs.Lent.{section_class, section_size, section_alignment, section_bytes}
-use Rattle.elf_object.specs.Lawful.{IsKeptAs, IsPower, has_initial}
+use Rattle.elf_records.specs.Alignments.{IsAlignment}
+use Rattle.elf_object.specs.Lawful.{IsKeptAs, has_initial}
 use Rattle.elf_object.specs.Faults.{Stands, IsObject}
 use Rattle.elf_object.specs.Laws.{kept_small, class_in_table}
 use Rattle.elf_object.specs.LawsOfParts.{class_of_section, size_of_section}
@@ -126,7 +127,7 @@ class_holds h class e =
     eight n h = grind (arith, nat_tests)
 
 -- an alignment, if there is one
-alignment_or_not : (n : ℕ) → IsAlignment n ⊎ (IsAlignment n → ⊥)
+alignment_or_not : (n : ℕ) → ((n ≡ 0) ⊎ IsAlignment n) ⊎ ((n ≡ 0) ⊎ IsAlignment n → ⊥)
 alignment_or_not n = elim (zero_or_not n) [
   | inl null ↦ inl (inl null)
   | inr some ↦ elim (power_below n 13) [
@@ -159,7 +160,7 @@ alignment_or_not n = elim (zero_or_not n) [
     ]
 
 -- the alignment of a kept section
-aligned_at : (b : List ℕ) → IsObject b → (s : ℕ) → IsKeptSection b s → IsPower (section_alignment b s)
+aligned_at : (b : List ℕ) → IsObject b → (s : ℕ) → IsKeptSection b s → IsAlignment (section_alignment b s)
 unfolding Stands section_alignment
 aligned_at b object s kept =
     rw (below s (header b).e_shnum kept.0)
@@ -174,11 +175,11 @@ aligned_at b object s kept =
     zero_test : (n : ℕ) → n ≡ 0 → not (n == 0) ≡ false
     zero_test n h = grind (arith, nat_tests)
 
-    power_of : (n : ℕ) → IsAlignment n → IsPower (if not (n == 0) then n else 1)
+    power_of : (n : ℕ) → (n ≡ 0) ⊎ IsAlignment n → IsAlignment (if not (n == 0) then n else 1)
     power_of n (inl null) = rw (zero_test n null) (0, omega arith, refl)
     power_of n (inr power) = of_test (not (n == 0)) n power
       where
-        of_test : (t : Bool) (n : ℕ) → IsPower n → IsPower (if t then n else 1)
+        of_test : (t : Bool) (n : ℕ) → IsAlignment n → IsAlignment (if t then n else 1)
         of_test true n power = power
         of_test false n power = (0, omega arith, refl)
 

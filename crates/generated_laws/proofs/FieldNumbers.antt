@@ -8,7 +8,7 @@ use Rattle.std.specs.Int.Signed.{mag}
 use Rattle.std.specs.List.{All}
 use Rattle.std.specs.Option.{IfSome}
 use Rattle.std.proofs.lemmas.List.Elements.{All-head, All-tail}
-use Rattle.elf_object.specs.Lawful.{IsPower}
+use Rattle.elf_records.specs.Alignments.{IsAlignment}
 use Rattle.elf_object.specs.Lent.{symbol_place, symbol_value}
 use Rattle.elf_object.specs.declared.symbol.SymbolPlace.TheVariants.{InSection}
 use Rattle.got_pairs.specs.declared.need.Need.{Need}
@@ -94,18 +94,18 @@ module _ (l : Linking) where
       rw (placed, first) (omega (arith, section_offset found.object s lawful))
 
 -- the alignment of the segment is a power of two
-folds_power : (greatest : ℕ) (sections : List Section) → IsPower greatest → All IsOrdinary sections
-    → IsPower (fold next_alignment greatest sections)
+folds_power : (greatest : ℕ) (sections : List Section) → IsAlignment greatest → All IsOrdinary sections
+    → IsAlignment (fold next_alignment greatest sections)
 folds_power greatest [] power ordinary = power
 folds_power greatest (x ∷ xs) power ordinary =
     folds_power (next_alignment greatest x) xs
     (power_more greatest x power (All-head IsOrdinary x xs ordinary)) (All-tail IsOrdinary x xs ordinary)
 
-alignment_power : (sections : List Section) → All IsOrdinary sections → IsPower (tls_alignment sections)
+alignment_power : (sections : List Section) → All IsOrdinary sections → IsAlignment (tls_alignment sections)
 unfolding tls_alignment greatest_alignment
 alignment_power sections ordinary = of_test (tls_size sections == 0)
   where
-    of_test : (t : Bool) → IsPower (if t then 1 else fold next_alignment 1 sections)
+    of_test : (t : Bool) → IsAlignment (if t then 1 else fold next_alignment 1 sections)
     of_test true = (0, omega arith, refl)
     of_test false = folds_power 1 sections (0, omega arith, refl) ordinary
 

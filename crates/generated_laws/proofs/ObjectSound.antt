@@ -9,7 +9,8 @@ use Rattle.object_rules.specs.declared.fault.FaultKind.TheVariants.{SectionKind,
 use Rattle.object_rules.specs.declared.fault.FaultKind.TheVariants.{SymbolName, SymbolSection, SymbolRange}
 use Rattle.object_rules.specs.declared.fault.FaultKind.TheVariants.{SymbolKind}
 use Rattle.object_faults.specs.declared.class.SectionClass.TheVariants.{Executable, Tls}
-use Rattle.elf_object.specs.Classes.{class_of, kept_class, IsAlignment, IsKeptSection}
+use Rattle.elf_object.specs.Classes.{class_of, kept_class, IsKeptSection}
+use Rattle.elf_records.specs.Alignments.{IsAlignment}
 use Rattle.elf_object.specs.Faults.{Nowhere, Stands, IsElf, IsRelocatable, PassesEnd, IsRefused}
 use Rattle.elf_object.specs.Faults.{IsBadTable, IsSymbol, IsMisplaced, symbol_strings, IsDropped}
 use Rattle.elf_object.specs.Faults.{IsMisdefined, IsTlsSection, IsMistyped}
@@ -105,16 +106,17 @@ pub sections_have_kinds : (b : List ℕ) (s : Shape) → IsLaid b s → Nowhere 
 unfolding Stands
 sections_have_kinds b s laid k e stands = sections_classed b s laid k stands.1 stands.2
 
-zeros_aligned : (n : ℕ) → IsAlignment (zeros_alignment n)
+zeros_aligned : (n : ℕ) → (zeros_alignment n ≡ 0) ⊎ IsAlignment (zeros_alignment n)
 zeros_aligned n = aligned (n == 0)
   where
-    aligned : (t : Bool) → IsAlignment (if t then 1 else 4)
+    aligned : (t : Bool) → ((if t then 1 else 4) ≡ 0) ⊎ IsAlignment (if t then 1 else 4)
     aligned true = inr (0, omega arith, refl)
     aligned false = inr (2, omega arith, refl)
 
-sections_stand : (b : List ℕ) (s : Shape) → IsLaid b s → (k : ℕ) → IsSection b k → IsAlignment (section b k).addralign
+sections_stand : (b : List ℕ) (s : Shape) → IsLaid b s → (k : ℕ) → IsSection b k
+    → ((section b k).addralign ≡ 0) ⊎ IsAlignment (section b k).addralign
 unfolding sections_of
-sections_stand b s laid = each_section b s laid (λ k h. IsAlignment h.addralign)
+sections_stand b s laid = each_section b s laid (λ k h. (h.addralign ≡ 0) ⊎ IsAlignment h.addralign)
     (inr (4, omega arith, refl)) (inr (3, omega arith, refl)) (inr (2, omega arith, refl)) (zeros_aligned s.zeros)
     (inr (3, omega arith, refl)) (inr (0, omega arith, refl)) (inr (0, omega arith, refl))
 

@@ -4,7 +4,7 @@ use Rattle.std.proofs.Common.{length, map, Some, None, refl, ap, ◌∙◌, arit
 use Rattle.std.specs.Prelude.{fold, if◌then◌else◌}
 use Rattle.std.specs.List.{All, range_with_len}
 use Rattle.std.proofs.lemmas.List.Elements.{All-from_recursion}
-use Rattle.elf_object.specs.Lawful.{IsPower}
+use Rattle.elf_records.specs.Alignments.{IsAlignment}
 use Rattle.elf_object.specs.Lent.{section_class}
 use Rattle.object_faults.specs.declared.class.SectionClass.{SectionClass}
 use Rattle.object_faults.specs.declared.class.SectionClass.TheVariants.{Executable, ReadOnly, Tls, Writable}
@@ -76,17 +76,17 @@ module _ (b : List ℕ) (s : Shape) (reads : ReadsAs b s) where
 
 -- ** ordinary
 
-zeros_power : (n : ℕ) → IsPower (zeros_alignment n)
+zeros_power : (n : ℕ) → IsAlignment (zeros_alignment n)
 zeros_power n = by_test (n == 0)
   where
-    by_test : (t : Bool) → IsPower (if t then 1 else 4)
+    by_test : (t : Bool) → IsAlignment (if t then 1 else 4)
     by_test true = (0, omega arith, refl)
     by_test false = (2, omega arith, refl)
 
 pub eight_ordinary : (code initial blank : ℕ) → code ≤ 32 → initial ≤ 4 → blank ≤ 4
     → All IsOrdinary (eight code initial blank)
 eight_ordinary code initial blank few some none =
-    let one : IsPower 1 = (0, omega arith, refl) in
+    let one : IsAlignment 1 = (0, omega arith, refl) in
     let empty : IsOrdinary dropped = (omega arith, one) in
     let text : IsOrdinary (kept Executable code 16) = (omega arith, (4, omega arith, refl)) in
     let front : IsOrdinary (kept (Tls true) initial 4) = (omega arith, (2, omega arith, refl)) in

@@ -9,7 +9,7 @@ use Rattle.std.proofs.lemmas.Bool.{cases_lt, lt-ltb}
 use Rattle.std.proofs.lemmas.Bool.Decides.{nat_tests}
 use Rattle.std.proofs.lemmas.List.{get_or_append_left, get_or-append-add}
 use Rattle.std.proofs.lemmas.List.Elements.{All-head, All-tail}
-use Rattle.elf_object.specs.Lawful.{IsPower}
+use Rattle.elf_records.specs.Alignments.{IsAlignment}
 use Rattle.object_faults.specs.declared.class.SectionClass.TheVariants as class
 use Rattle.image_file.specs.declared.part.PartClass.TheVariants.{Executable, ReadOnly, Writable}
 use Rattle.image_file.specs.declared.part.TlsPart.{TlsPart}
@@ -34,27 +34,27 @@ pub use Rattle.link_core.proofs.LengthsPlaces.{same_base}
 -- ** its alignment
 
 -- the greatest alignment is a power of two
-greatest_power : (greatest : ℕ) (xs : List Section) → IsPower greatest → All IsOrdinary xs
-    → IsPower (fold next_alignment greatest xs)
+greatest_power : (greatest : ℕ) (xs : List Section) → IsAlignment greatest → All IsOrdinary xs
+    → IsAlignment (fold next_alignment greatest xs)
 greatest_power greatest [] power ordinary = power
 greatest_power greatest (x ∷ xs) power ordinary =
     greatest_power (next_alignment greatest x) xs (power_more greatest x power (All-head IsOrdinary x xs ordinary))
     (All-tail IsOrdinary x xs ordinary)
 
 -- that of the segment
-pub alignment_power : (sections : List Section) → All IsOrdinary sections → IsPower (tls_alignment sections)
+pub alignment_power : (sections : List Section) → All IsOrdinary sections → IsAlignment (tls_alignment sections)
 unfolding tls_alignment greatest_alignment
 alignment_power sections ordinary = of_test (tls_size sections == 0)
   where
-    one : IsPower 1
+    one : IsAlignment 1
     one = (0, omega arith, refl)
 
-    of_test : (t : Bool) → IsPower (if t then 1 else fold next_alignment 1 sections)
+    of_test : (t : Bool) → IsAlignment (if t then 1 else fold next_alignment 1 sections)
     of_test true = one
     of_test false = greatest_power 1 sections one ordinary
 
 -- a page is aligned as any section
-page_aligned : (n a : ℕ) → IsMultiple n 4096 → IsPower a → n % a ≡ 0
+page_aligned : (n a : ℕ) → IsMultiple n 4096 → IsAlignment a → n % a ≡ 0
 page_aligned n a page power =
     let divides = power_divides a power in
     let e : n ≡ a * (divides.0 * page.0) = page.1 ∙ (ap (λ m. m * page.0) divides.1 ∙ mul_assoc a divides.0 page.0) in

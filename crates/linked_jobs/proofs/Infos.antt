@@ -5,7 +5,7 @@ use Rattle.std.specs.List.{All}
 use Rattle.std.proofs.Math.Pow.{pow_mono}
 use Rattle.std.proofs.lemmas.List.{length-map}
 use Rattle.std.proofs.lemmas.List.Elements.{All-cons, All-head, All-nil, All-tail}
-use Rattle.elf_object.specs.Lawful.{IsPower}
+use Rattle.elf_records.specs.Alignments.{IsAlignment}
 use Rattle.job_text.specs.LateImages.{is_late}
 use Rattle.link_core.specs.Faults.{Links}
 use Rattle.link_faults.specs.declared.image_kind.ImageKind.TheVariants.{Exe}
@@ -26,18 +26,18 @@ use Rattle.linked_jobs.specs.Ready.{AreJob}
 
 -- ** alignments
 
-powers : (greatest : ℕ) (sections : List Section) → IsPower greatest → All IsOrdinary sections
-    → IsPower (fold next_alignment greatest sections)
+powers : (greatest : ℕ) (sections : List Section) → IsAlignment greatest → All IsOrdinary sections
+    → IsAlignment (fold next_alignment greatest sections)
 powers greatest [] power ordinary = power
 powers greatest (x ∷ xs) power ordinary =
     powers (next_alignment greatest x) xs (power_more greatest x power (All-head IsOrdinary x xs ordinary))
     (All-tail IsOrdinary x xs ordinary)
 
-power : (sections : List Section) → All IsOrdinary sections → IsPower (tls_alignment sections)
+power : (sections : List Section) → All IsOrdinary sections → IsAlignment (tls_alignment sections)
 unfolding tls_alignment greatest_alignment
 power sections ordinary = of_test (tls_size sections == 0)
   where
-    of_test : (t : Bool) → IsPower (if t then 1 else fold next_alignment 1 sections)
+    of_test : (t : Bool) → IsAlignment (if t then 1 else fold next_alignment 1 sections)
     of_test true = (0, omega arith, refl)
     of_test false = powers 1 sections (0, omega arith, refl) ordinary
 
@@ -45,10 +45,10 @@ positive : (k : ℕ) → 0 < 2 ^ k
 positive zero = omega arith
 positive (suc k) = omega (arith, positive k)
 
-low : (n : ℕ) → IsPower n → 0 < n
+low : (n : ℕ) → IsAlignment n → 0 < n
 low n power = subst (λ (m : ℕ). 0 < m) (sym power.2) (positive power.0)
 
-high : (n : ℕ) → IsPower n → n ≤ 4096
+high : (n : ℕ) → IsAlignment n → n ≤ 4096
 high n power =
     let most : 2 ^ power.0 ≤ 2 ^ 12 = pow_mono power.1 in
     subst (λ (m : ℕ). m ≤ 4096) (sym power.2) (omega (arith, most))

@@ -1,5 +1,5 @@
 -- The classes of sections that linking keeps, by flags and type (gABI, "Sections"; psABI, "Special Sections").
-use Rattle.std.specs.Prelude.{◌≡◌, ◌==◌, ◌||◌, ◌⊎◌, ℕ, true, false, List, Option, Some, None, IsSome}
+use Rattle.std.specs.Prelude.{◌==◌, ◌||◌, ℕ, true, false, List, Option, Some, None, IsSome}
 use Rattle.std.specs.Prelude.{bit_and, if◌then◌else◌}
 use Rattle.elf_records.specs.declared.section_header.SectionHeader.{SectionHeader}
 use Rattle.object_faults.specs.declared.class.SectionClass.{SectionClass}
@@ -8,7 +8,6 @@ use Rattle.elf_records.specs.declared.section_header.TheConstants.{SHT_PROGBITS,
 use Rattle.elf_records.specs.declared.section_header.TheConstants.{SHT_X86_64_UNWIND, SHF_WRITE, SHF_ALLOC}
 use Rattle.elf_records.specs.declared.section_header.TheConstants.{SHF_EXECINSTR, SHF_TLS}
 use Rattle.object_faults.specs.declared.class.TheConstants.{CLASS_FLAGS, SHF_TLS_WRITE}
-use Rattle.elf_records.specs.Alignments as records
 use Rattle.object_faults.specs.Parts.{section, IsSection}
 
 -- the class of flags, without those that any class may have, and of a type
@@ -37,19 +36,11 @@ kept_of class size = class
 unfoldable pub kept_class : SectionHeader → Option SectionClass
 kept_class h = kept_of (class_of h) h.size
 
--- linking keeps the section
-abbrev pub IsKept : SectionHeader → Type 0
-IsKept h = IsSome (kept_class h)
-
 -- s numbers a section that linking keeps
 abbrev pub IsKeptSection : List ℕ → ℕ → Type 0
-IsKeptSection b s = IsSection b s × IsKept (section b s)
+IsKeptSection b s = IsSection b s × IsSome (kept_class (section b s))
 
 -- s numbers a section of thread-local storage
 abbrev pub IsTls : Option SectionClass → Type 0
 IsTls (Some (Tls _)) = Unit {0}
 IsTls _ = ⊥
-
--- an alignment that a section may have; 0 means 1
-abbrev pub IsAlignment : ℕ → Type 0
-IsAlignment n = (n ≡ 0) ⊎ records.IsAlignment n

@@ -1,6 +1,7 @@
 -- When an object is at fault: what each kind means, and which fault is the first (gABI; psABI).
 use Rattle.std.specs.Prelude.{◌≡◌, ◌≢◌, ◌+◌, ◌*◌, ◌%◌, ◌^◌, ◌<◌, ◌≤◌, ◌⊎◌, ℕ, List, Option, Result, Ok, Err, Some}
-use Rattle.std.specs.Prelude.{None, IsNone, length, bit_and}
+use Rattle.std.specs.Prelude.{None, IsNone, IsSome, length, bit_and}
+use Rattle.elf_records.specs.Alignments.{IsAlignment}
 use Rattle.elf_records.specs.declared.file_header.Header.{Header}
 use Rattle.elf_records.specs.declared.section_header.SectionHeader.{SectionHeader}
 use Rattle.elf_records.specs.declared.symbol.SymbolEntry.{SymbolEntry}
@@ -23,7 +24,7 @@ use Rattle.object_faults.specs.declared.class.SectionClass.TheVariants.{Executab
 use Rattle.elf_records.specs.declared.relocation.RelocationKind.{RelocationKind}
 use Rattle.object_faults.specs.Parts.{header, section, symbol, rela, symbol_table, symbol_count, entry_count}
 use Rattle.object_faults.specs.Parts.{HasBytes, IsSection, IsStrings, IsTable, IsRela}
-use Rattle.object_faults.specs.Classes.{class_of, kept_class, IsKept, IsKeptSection, IsTls, IsAlignment}
+use Rattle.object_faults.specs.Classes.{class_of, kept_class, IsKeptSection, IsTls}
 use Rattle.object_faults.specs.Names.{byte_of, Ends}
 use Rattle.elf_records.specs.Records.{symbol_binding, symbol_kind, rela_symbol, rela_kind}
 pub use Rattle.elf_records.specs.Records.{IsElf}
@@ -102,7 +103,7 @@ IsMisnamed b symbol =
 
 -- section s is one, but linking drops it
 abbrev pub IsDropped : List ℕ → ℕ → Type 0
-IsDropped b s = IsSection b s × (IsKept (section b s) → ⊥)
+IsDropped b s = IsSection b s × (IsSome (kept_class (section b s)) → ⊥)
 
 -- the symbol's place is not one where a symbol of its binding may be defined
 abbrev pub IsMisdefined : List ℕ → SymbolEntry → Type 0
@@ -116,14 +117,10 @@ IsMisdefined b symbol =
 abbrev pub IsTlsSection : List ℕ → ℕ → Type 0
 IsTlsSection b s = IsSection b s × IsTls (kept_class (section b s))
 
--- a type of symbol that linking does not know
-abbrev pub IsUnknown : ℕ → Type 0
-IsUnknown kind = (kind ≡ 5) ⊎ (STT_TLS < kind)
-
 -- a binding or a type that linking does not know, or a type that does not fit the section
 abbrev pub IsMistyped : List ℕ → SymbolEntry → Type 0
 IsMistyped b symbol =
-    (STB_WEAK < symbol_binding symbol) ⊎ IsUnknown (symbol_kind symbol)
+    (STB_WEAK < symbol_binding symbol) ⊎ ((symbol_kind symbol ≡ 5) ⊎ (STT_TLS < symbol_kind symbol))
     ⊎ (IsTlsSection b symbol.shndx × ((symbol_kind symbol ≡ STT_FUNC) ⊎ (symbol_kind symbol ≡ STT_FILE)))
     ⊎ ((symbol_kind symbol ≡ STT_TLS) × (symbol.shndx ≢ SHN_UNDEF) × (IsTlsSection b symbol.shndx → ⊥))
 
@@ -156,7 +153,7 @@ IsMiskinded (Some kind) class = IsOfCode kind × (class ≢ Some Executable)
 abbrev pub Overlaps : List ℕ → ℕ → ℕ → Type 0
 Overlaps b r e = (f : ℕ) × (f < e) × ((k : ℕ) × Covers b r f k × Covers b r e k)
 
--- the kind of fault stands at section s, entry e: what each kind means
+-- the kind of fault stands at section s, entry e: what each kind means; an alignment of 0 means 1
 unfoldable pub Stands : FaultKind → List ℕ → ℕ → ℕ → Type 0
 Stands Truncated b s e =
     (e ≡ 0) × (((s ≡ 0) × (length b < 64)) ⊎ ((64 ≤ length b) × IsElf (header b) × IsRelocatable (header b) ×
@@ -168,7 +165,8 @@ Stands SectionName b s e =
     × (((s ≡ (header b).e_shstrndx) × ((section b s).kind ≢ SHT_STRTAB))
     ⊎ (IsStrings b (header b).e_shstrndx × (Ends b (header b).e_shstrndx (section b s).name → ⊥)))
 Stands SectionKind b s e = (e ≡ 0) × IsSection b s × IsRefused (section b s)
-Stands SectionAlign b s e = (e ≡ 0) × IsKeptSection b s × (IsAlignment (section b s).addralign → ⊥)
+Stands SectionAlign b s e =
+    (e ≡ 0) × IsKeptSection b s × (((section b s).addralign ≡ 0) ⊎ IsAlignment (section b s).addralign → ⊥)
 Stands TooLarge b s e =
     (e ≡ 0) × ((IsKeptSection b s × (2 ^ 20 < (section b s).size))
     ⊎ ((IsTable b s ⊎ (IsRela b s × IsKeptSection b (section b s).info)) × (24 * 2 ^ 20 < (section b s).size)))

@@ -16,7 +16,7 @@ use Rattle.link_faults.specs.declared.image_kind.ImageKind.{ImageKind}
 use Rattle.tls_layout.specs.declared.sections.Section.{Section}
 use Rattle.tls_layout.specs.declared.extent.Extent.{Extent}
 use Rattle.tls_layout.specs.Rounding.{round_up, IsMultiple}
-use Rattle.elf_object.specs.Lawful.{IsPower}
+use Rattle.elf_records.specs.Alignments.{IsAlignment}
 use Rattle.tls_layout.specs.Sections.{Layout, dropped, position, section_at, is_in, IsOrdinary}
 use Rattle.elf_object.specs.Lent.{is_tls_class}
 use Rattle.tls_layout.specs.Places.{next_end, end_of, place_in, read_only, tls_image, initial_tls, zero_tls, tls_size, tls_alignment, greatest_alignment, next_alignment, address_at, offset_by}
@@ -272,7 +272,7 @@ at_most_greatest sections k initial is =
     omega (arith, here, split, rest, one)
 
 -- of two powers of two the greater is a multiple of the other
-power_multiple : (a b : ℕ) → IsPower a → IsPower b → a ≤ b → IsMultiple b a
+power_multiple : (a b : ℕ) → IsAlignment a → IsAlignment b → a ≤ b → IsMultiple b a
 power_multiple a b p q le = elim (cases_lt q.0 p.0) [
   | inl less ↦ absurd (omega (arith, pow_below q.0 p.0 less, p.2, q.2))
   | inr more ↦
@@ -280,11 +280,11 @@ power_multiple a b p q le = elim (cases_lt q.0 p.0) [
       (2 ^ (q.0 - p.0), rw (p.2, q.2) (ap (λ n. 2 ^ n) (sym whole) ∙ pow-add 2 p.0 (q.0 - p.0)))
 ]
 
-greatest_is_power : (sections : List Section) → All IsOrdinary sections → IsPower (greatest_alignment sections)
+greatest_is_power : (sections : List Section) → All IsOrdinary sections → IsAlignment (greatest_alignment sections)
 unfolding greatest_alignment
 greatest_is_power sections ordinary = folds_power 1 sections (0, omega arith, refl) ordinary
   where
-    folds_power : (greatest : ℕ) (xs : List Section) → IsPower greatest → All IsOrdinary xs → IsPower (fold next_alignment greatest xs)
+    folds_power : (greatest : ℕ) (xs : List Section) → IsAlignment greatest → All IsOrdinary xs → IsAlignment (fold next_alignment greatest xs)
     folds_power greatest [] power ordinary = power
     folds_power greatest (x ∷ xs) power ordinary =
         folds_power (next_alignment greatest x) xs (power_more greatest x power (All-head IsOrdinary x xs ordinary)) (All-tail IsOrdinary x xs ordinary)

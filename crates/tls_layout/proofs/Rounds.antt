@@ -4,7 +4,7 @@ use Rattle.std.proofs.Math.Nat.{pow-le-pow_right, div-add-mod, mod_self, mod-eq_
 use Rattle.std.proofs.lemmas.Bool.{cases_lt}
 use Rattle.std.proofs.lemmas.Nat.{pow_pos, pow-add}
 use Rattle.std.proofs.lemmas.List.{get_or_default, get_or_append_left, get_or_push}
-use Rattle.elf_object.specs.Lawful.{IsPower}
+use Rattle.elf_records.specs.Alignments.{IsAlignment}
 use Rattle.tls_layout.specs.declared.statics.TlsSize.{TlsSize}
 use Rattle.tls_layout.specs.Rounding.{round_up, IsMultiple, IsLeastMultiple}
 use Rattle.tls_layout.specs.Statics.{tls_offset, tls_of, no_tls, IsTlsSize}
@@ -56,7 +56,7 @@ unfolding round_up
 round_up-add q n a = rw (mul-add-mod_self_left a q n) (omega arith)
 
 -- an alignment divides a page
-pub power_divides : (a : ℕ) → IsPower a → (m : ℕ) × (4096 ≡ a * m)
+pub power_divides : (a : ℕ) → IsAlignment a → (m : ℕ) × (4096 ≡ a * m)
 power_divides a power =
     let le = power.1 in
     let whole : power.0 + (12 - power.0) ≡ 12 = omega arith in
@@ -64,7 +64,7 @@ power_divides a power =
     (2 ^ (12 - power.0), rw power.2 e)
 
 -- a power of two is positive, and those of alignments are small
-pub power_bounds : (n : ℕ) → IsPower n → (0 < n) × (n ≤ 4096)
+pub power_bounds : (n : ℕ) → IsAlignment n → (0 < n) × (n ≤ 4096)
 power_bounds n h =
     let e = h.2 in
     let le : 2 ^ h.0 ≤ 2 ^ 12 = pow-le-pow_right (omega arith) h.1 in

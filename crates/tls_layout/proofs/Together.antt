@@ -6,7 +6,7 @@ use Rattle.std.proofs.lemmas.List.{get_or-replicate, get_or_past, length-replica
 use Rattle.std.proofs.lemmas.List.Sums.{fold_more}
 use Rattle.object_faults.specs.declared.class.SectionClass.{SectionClass}
 use Rattle.object_faults.specs.declared.class.SectionClass.TheVariants.{Executable, ReadOnly, Tls, Writable}
-use Rattle.elf_object.specs.Lawful.{IsPower}
+use Rattle.elf_records.specs.Alignments.{IsAlignment}
 use Rattle.link_faults.specs.declared.image_kind.ImageKind.{ImageKind}
 use Rattle.link_faults.specs.declared.image_kind.ImageKind.TheVariants.{Exe, Pie, Start, Late}
 use Rattle.link_faults.specs.ImageKinds.{base_of}
@@ -109,21 +109,21 @@ tls_beyond sections n x e h = let P : Extent → Type 0 = λ y. n < end_of (Tls 
 
 -- ---- the greatest alignment
 
-pub power_more : (greatest : ℕ) (section : Section) → IsPower greatest → IsOrdinary section → IsPower (next_alignment greatest section)
+pub power_more : (greatest : ℕ) (section : Section) → IsAlignment greatest → IsOrdinary section → IsAlignment (next_alignment greatest section)
 power_more greatest section power ordinary = of_test (is_tls_class section.class)
   where
-    of_max : (a b : ℕ) → IsPower a → IsPower b → IsPower (max a b)
+    of_max : (a b : ℕ) → IsAlignment a → IsAlignment b → IsAlignment (max a b)
     of_max a b p q = elim (cases_lt a b) [
       | inl below ↦ let e : max a b ≡ b = omega arith in rw e q
       | inr above ↦ let e : max a b ≡ a = omega arith in rw e p
     ]
 
-    of_test : (t : Bool) → IsPower (if t then max greatest section.alignment else greatest)
+    of_test : (t : Bool) → IsAlignment (if t then max greatest section.alignment else greatest)
     of_test true = of_max greatest section.alignment power ordinary.1
     of_test false = power
 
-pub greatest_power : (sections : List Section) (i greatest : ℕ) (d : Section) → i < length sections → All IsOrdinary sections → IsPower greatest
-    → IsPower (next_alignment greatest (get_or sections i d))
+pub greatest_power : (sections : List Section) (i greatest : ℕ) (d : Section) → i < length sections → All IsOrdinary sections → IsAlignment greatest
+    → IsAlignment (next_alignment greatest (get_or sections i d))
 greatest_power sections i greatest d l ordinary power = power_more greatest (get_or sections i d) power (ordinary i d l)
 
 pub greatest_more : (sections : List Section) (i greatest r : ℕ) (d : Section) → i < length sections → greatest ≡ fold next_alignment 1 (take i sections)

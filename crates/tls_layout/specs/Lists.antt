@@ -1,6 +1,6 @@
 -- The tables of sections and places, and what they must hold.
 use Rattle.std.specs.Prelude.{◌≡◌, ◌+◌, ◌≤◌, ◌^◌, ℕ, List, length, sum, All, Option}
-use Rattle.elf_object.specs.Lawful.{IsPower}
+use Rattle.elf_records.specs.Alignments.{IsAlignment}
 use Rattle.link_faults.specs.declared.image_kind.ImageKind.{ImageKind}
 use Rattle.link_faults.specs.ImageKinds.{base_of}
 use Rattle.tls_layout.specs.declared.sections.Section.{Section}
@@ -24,7 +24,7 @@ pub record IsTlsOf (sections : List Section) (tls : TlsPlaces) : Type 0 where
   pub offsets_are : AreOffsets sections tls.offsets.items
   pub size_is : tls.size ≡ tls_size sections
   pub alignment_is : tls.alignment ≡ tls_alignment sections
-  pub power : IsPower tls.alignment
+  pub power : IsAlignment tls.alignment
   pub small : tls.size ≤ 2 ^ 20
 
 -- these are the ends of the classes

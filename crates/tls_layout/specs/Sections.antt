@@ -5,7 +5,7 @@ use Rattle.std.specs.List.{range_with_len, flat_map}
 use Rattle.object_faults.specs.declared.class.SectionClass.{SectionClass}
 use Rattle.object_faults.specs.declared.class.SectionClass.TheVariants.{Executable, ReadOnly, Tls, Writable}
 use Rattle.elf_object.specs.Lent.{section_class, section_size, section_alignment}
-use Rattle.elf_object.specs.Lawful.{IsPower}
+use Rattle.elf_records.specs.Alignments.{IsAlignment}
 use Rattle.elf_object.specs.Object.{section_count}
 use Rattle.link_faults.specs.declared.image_kind.ImageKind.{ImageKind}
 use Rattle.tls_layout.specs.declared.sections.Section.{Section}
@@ -73,4 +73,4 @@ is_in class section = is_class class section.class
 
 -- a section that linking keeps has at most 2^20 bytes, and its alignment is a power of two up to 4,096
 abbrev pub IsOrdinary : Section → Type 0
-IsOrdinary section = (section.size ≤ 2 ^ 20) × IsPower section.alignment
+IsOrdinary section = (section.size ≤ 2 ^ 20) × IsAlignment section.alignment

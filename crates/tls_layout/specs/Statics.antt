@@ -1,6 +1,6 @@
 -- Blocks of startup modules below a thread pointer (Drepper, section 3, variant II).
 use Rattle.std.specs.Prelude.{◌+◌, ◌≤◌, ◌^◌, ℕ, zero, suc, List, slice_index_or}
-use Rattle.elf_object.specs.Lawful.{IsPower}
+use Rattle.elf_records.specs.Alignments.{IsAlignment}
 use Rattle.tls_layout.specs.declared.statics.TlsSize.{TlsSize}
 use Rattle.tls_layout.specs.Rounding.{round_up}
 
@@ -19,4 +19,4 @@ tls_offset sizes (suc m) = round_up (tls_offset sizes m + (tls_of sizes m).size)
 
 -- a segment that a module may have
 abbrev pub IsTlsSize : TlsSize → Type 0
-IsTlsSize tls = (tls.size ≤ 2 ^ 20) × IsPower tls.alignment
+IsTlsSize tls = (tls.size ≤ 2 ^ 20) × IsAlignment tls.alignment

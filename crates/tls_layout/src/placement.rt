@@ -1,7 +1,7 @@
 //! Where all sections of an image go.
 
 ghost use Rattle.std.specs.Prelude.{◌≡◌, ◌+◌, ◌<◌, ◌≤◌, ◌^◌, IfOk, IfErr, Some, None, slice_index_or};
-ghost use Rattle.elf_object.specs.Lawful.{IsPower};
+ghost use Rattle.elf_records.specs.Alignments.{IsAlignment};
 ghost use Rattle.link_faults.specs.ImageKinds.{base_of};
 ghost use Rattle.tls_layout.specs.Laws.{extent_for};
 ghost use Rattle.tls_layout.specs.Sections.{layout_of};
@@ -187,7 +187,7 @@ impl Placement {
     /// The alignment of the TLS segment: a power of two up to 4,096.
     pub fn tls_alignment(&self) -> u64
         ensures alignment { result ≡ alignment_of_tls self.now.sections }
-        ensures power { IsPower result }
+        ensures power { IsAlignment result }
         ensures lawful { IsLawful self.now }
     {
         self.tls.alignment

@@ -1,7 +1,7 @@
 //! The TLS segment: where thread-local sections lie in a module's block.
 
 ghost use Rattle.std.specs.Prelude.{◌≡◌, ◌<◌, ◌≤◌, ◌^◌, All, IfOk, IfErr, OnOk, length};
-ghost use Rattle.elf_object.specs.Lawful.{IsPower};
+ghost use Rattle.elf_records.specs.Alignments.{IsAlignment};
 ghost use Rattle.link_faults.specs.declared.fault.LinkFaultKind.TheVariants.{TlsTooLarge};
 ghost use Rattle.tls_layout.specs.Sections.{IsOrdinary};
 ghost use Rattle.tls_layout.specs.Places.{tls_size, next_alignment, greatest_alignment as greatest_of};
@@ -68,7 +68,7 @@ fn greater_alignment(section: &Section, greatest: u64) -> u64
 fn greatest_alignment(sections: &[Section]) -> u64
     requires { All IsOrdinary sections.now }
     ensures greatest { result ≡ greatest_of sections.now }
-    ensures power { IsPower result }
+    ensures power { IsAlignment result }
 {
     let mut greatest = 1;
     for section in sections {
