@@ -1,6 +1,7 @@
 -- The sequences of the generated objects: each has one, and no relocation is left over.
 use Rattle.std.proofs.Common.{◌≡◌, ◌≤◌, ℕ, true, List, [], ◌∷◌, map, pos, refl, arith}
 use Rattle.elf_object.specs.declared.relocation.Relocation.{Relocation}
+use Rattle.elf_records.specs.declared.relocation_row.SequencePart.TheVariants as part
 use Rattle.object_rules.specs.declared.fault.FaultKind.TheVariants.{Sequence, StrayCall}
 use Rattle.sequence_forms.specs.declared.forms.Form.{Form}
 use Rattle.sequence_forms.specs.declared.forms.Form.TheVariants.{Gd, IeMov, Ld}
@@ -27,6 +28,13 @@ abbrev pub site_of : Form → ℕ → ℕ → Site
 site_of form start len =
     record { section = 1; start = start; len = len; form = form; symbol = 2; reg = 0 }
 
+-- what is no first part of a sequence
+second_part : part.Second ≡ part.First → ⊥
+second_part e = cc
+
+no_part : part.NoPart ≡ part.First → ⊥
+no_part e = cc
+
 -- ** general dynamic
 
 abbrev pub gd_first : Relocation
@@ -42,7 +50,7 @@ general_site getter named = record {
   spelled = spelled_of general_code (map relocation_of general_entries) (row Gd).cells 0 (omega arith) refl;
   first = (gd_first, refl, record { kind_is = refl; offset_is = refl; addend_is = refl }, refl);
   earliest = λ f x below. absurd (omega arith);
-  second = (1, (gd_second, refl, record { kind_is = tt; offset_is = refl; addend_is = refl; names = named }));
+  second = (1, (gd_second, refl, record { kind_is = refl; offset_is = refl; addend_is = refl; names = named }));
   len_is = refl;
   reg_is = refl;
 }
@@ -51,12 +59,12 @@ general_second : (getter : ℕ → Type 0) → getter 3
     → IsSecond (row Gd).second getter (map relocation_of general_entries) 0 1
 unfolding row
 general_second getter named =
-    (gd_second, refl, record { kind_is = tt; offset_is = refl; addend_is = refl; names = named })
+    (gd_second, refl, record { kind_is = refl; offset_is = refl; addend_is = refl; names = named })
 
 general_loose : (getter : ℕ → Type 0) → getter 3 → (e : ℕ)
     → IsLoose general_code (map relocation_of general_entries) getter e → ⊥
 general_loose getter named = loose_not general_code getter (site_of Gd 0 16) gd_first (gd_second ∷ [])
-    (general_site getter named) (λ bad. bad, tt)
+    (general_site getter named) (second_part, tt)
 
 general_stray : (getter : ℕ → Type 0) → getter 3 → (getter 2 → ⊥) → (e : ℕ)
     → IsStray general_code (map relocation_of general_entries) getter e → ⊥
@@ -108,7 +116,7 @@ local_site getter named = record {
   spelled = spelled_of local_code (map relocation_of local_entries) (row Ld).cells 0 (omega arith) refl;
   first = (ld_first, refl, record { kind_is = refl; offset_is = refl; addend_is = refl }, refl);
   earliest = λ f x below. absurd (omega arith);
-  second = (1, (ld_second, refl, record { kind_is = tt; offset_is = refl; addend_is = refl; names = named }));
+  second = (1, (ld_second, refl, record { kind_is = refl; offset_is = refl; addend_is = refl; names = named }));
   len_is = refl;
   reg_is = refl;
 }
@@ -117,12 +125,12 @@ local_second : (getter : ℕ → Type 0) → getter 3
     → IsSecond (row Ld).second getter (map relocation_of local_entries) 0 1
 unfolding row
 local_second getter named =
-    (ld_second, refl, record { kind_is = tt; offset_is = refl; addend_is = refl; names = named })
+    (ld_second, refl, record { kind_is = refl; offset_is = refl; addend_is = refl; names = named })
 
 local_loose : (getter : ℕ → Type 0) → getter 3 → (e : ℕ)
     → IsLoose local_code (map relocation_of local_entries) getter e → ⊥
 local_loose getter named = loose_not local_code getter (site_of Ld 0 12) ld_first (ld_second ∷ ld_offset ∷ [])
-    (local_site getter named) (λ bad. bad, (λ bad. bad, tt))
+    (local_site getter named) (second_part, (no_part, tt))
 
 local_stray : (getter : ℕ → Type 0) → getter 3 → (getter 2 → ⊥) → (e : ℕ)
     → IsStray local_code (map relocation_of local_entries) getter e → ⊥
@@ -145,7 +153,7 @@ late_site getter named = record {
       (omega arith) refl;
   first = (late_first, refl, record { kind_is = refl; offset_is = refl; addend_is = refl }, refl);
   earliest = λ f x below. absurd (omega arith);
-  second = (1, (late_second, refl, record { kind_is = tt; offset_is = refl; addend_is = refl; names = named }));
+  second = (1, (late_second, refl, record { kind_is = refl; offset_is = refl; addend_is = refl; names = named }));
   len_is = refl;
   reg_is = refl;
 }
@@ -154,13 +162,13 @@ late_second_is : (getter : ℕ → Type 0) → getter 3
     → IsSecond (row Gd).second getter (map relocation_of module_shape.relocations) 1 1
 unfolding row module_shape
 late_second_is getter named =
-    (late_second, refl, record { kind_is = tt; offset_is = refl; addend_is = refl; names = named })
+    (late_second, refl, record { kind_is = refl; offset_is = refl; addend_is = refl; names = named })
 
 late_loose : (getter : ℕ → Type 0) → getter 3 → (e : ℕ)
     → IsLoose module_shape.code (map relocation_of module_shape.relocations) getter e → ⊥
 unfolding module_shape
 late_loose getter named = loose_not module_shape.code getter (site_of Gd 1 16) late_first (late_second ∷ [])
-    (late_site getter named) (λ bad. bad, tt)
+    (late_site getter named) (second_part, tt)
 
 late_stray : (getter : ℕ → Type 0) → getter 3 → (getter 2 → ⊥) → (e : ℕ)
     → IsStray module_shape.code (map relocation_of module_shape.relocations) getter e → ⊥

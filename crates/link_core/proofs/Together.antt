@@ -57,7 +57,7 @@ tls_of TlsLd h = (refl, refl)
 tls_of GotTpOff h = (refl, refl)
 tls_of GotPc32TlsDesc h = (refl, refl)
 tls_of TlsDescCall h = (refl, refl)
-tls_of _ h = absurd h
+tls_of _ h = absurd (cc)
 
 -- ** one relocation
 

@@ -112,10 +112,10 @@ runtime_of bound h = absurd (cc)
 -- one that goes is of a type of sequences, or names the run time's function
 pub goes_with : (bound : Option Binding) (kind : RelocationKind) → goes bound kind ≡ true
     → IsOfSequence kind ⊎ ((bound ≡ Some Runtime) × (kind ≡ Nothing → ⊥))
-goes_with bound TlsGd h = inl tt
-goes_with bound TlsLd h = inl tt
-goes_with bound GotPc32TlsDesc h = inl tt
-goes_with bound GotTpOff h = inl tt
+goes_with bound TlsGd h = inl refl
+goes_with bound TlsLd h = inl refl
+goes_with bound GotPc32TlsDesc h = inl refl
+goes_with bound GotTpOff h = inl refl
 goes_with bound Pc32 h = inr (runtime_of bound h, λ e. cc)
 goes_with bound Plt32 h = inr (runtime_of bound h, λ e. cc)
 goes_with bound GotPcRel h = inr (runtime_of bound h, λ e. cc)
@@ -130,7 +130,7 @@ runtime_goes Direct Pc32 h = refl
 runtime_goes Indirect GotPcRel h = refl
 runtime_goes Indirect GotPcRelX h = refl
 runtime_goes Indirect RexGotPcRelX h = refl
-runtime_goes call kind h = absurd h
+runtime_goes call kind h = absurd (cc)
 
 -- ** where fields lie in a row
 

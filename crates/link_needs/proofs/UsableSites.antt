@@ -1,5 +1,6 @@
 -- What is asked of one site holds of all sites of a link's objects.
-use Rattle.std.proofs.Common.{◌≡◌, ◌%◌, ◌<◌, ◌≤◌, ◌^◌, ◌&&◌, ◌==◌, ℕ, List, [], length, Option, Some, refl, arith}
+use Rattle.std.proofs.Common.{◌≡◌, ◌+◌, ◌/◌, ◌%◌, ◌<◌, ◌≤◌, ◌^◌, ◌&&◌, ◌==◌, if◌then◌else◌, ℕ, List, [], length, Option}
+use Rattle.std.proofs.Common.{Some, refl, arith}
 use Rattle.std.proofs.lemmas.Bool.Decides.{nat_tests}
 use Rattle.std.specs.List.{All}
 use Rattle.std.specs.Prelude.{IsTrue, nat_lt, slice_index_or}
@@ -13,7 +14,7 @@ use Rattle.sequence_forms.specs.declared.forms.Form.TheVariants.{IeMov, IeAdd}
 use Rattle.sequence_forms.specs.declared.forms.Cell.TheVariants.{ModRm}
 use Rattle.sequence_forms.specs.declared.places.Site.{Site}
 use Rattle.sequence_match.specs.Faults.{bytes_of_code, code_of, AreSites, IsSite}
-use Rattle.sequence_forms.specs.Forms.{register, register_of, row}
+use Rattle.sequence_forms.specs.Forms.{register, row}
 use Rattle.sequence_match.specs.Sites.{IsSpelled}
 use Rattle.sequence_match.proofs.SitesSymbols.{sites_symbols}
 use Rattle.link_needs.specs.Linking.{Linking, object, sites_at}
@@ -36,7 +37,7 @@ code_fits b object s = by_class (section_class b s) refl
     by_class c e = (omega arith, omega arith)
 
 -- a register that ModRM names is one of sixteen
-few_registers : (rex modrm : ℕ) → IsTrue ((modrm % 8 == 5) && nat_lt modrm 64) → register_of rex modrm ≤ 15
+few_registers : (rex modrm : ℕ) → IsTrue ((modrm % 8 == 5) && nat_lt modrm 64) → modrm / 8 + (if rex == 0x4c then 8 else 0) ≤ 15
 few_registers rex modrm fits = grind (arith, nat_tests)
 
 few_of_form : (form : Form) (code : List ℕ) (xs : List _) (start : ℕ)

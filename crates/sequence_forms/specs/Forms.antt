@@ -5,9 +5,7 @@ use Rattle.std.specs.Prelude.{Option, Some, None, nat_lt, slice_index, if◌then
 use Rattle.elf_records.specs.declared.relocation.RelocationKind.{RelocationKind}
 use Rattle.elf_records.specs.declared.relocation.RelocationKind.TheVariants.{TlsGd, TlsLd, GotTpOff, GotPc32TlsDesc}
 use Rattle.elf_records.specs.declared.relocation.RelocationKind.TheVariants.{TlsDescCall}
-use Rattle.elf_records.specs.declared.relocation_row.FieldValue.{FieldValue}
 use Rattle.elf_records.specs.declared.relocation_row.FieldValue.TheVariants.{Distance}
-use Rattle.elf_records.specs.declared.relocation_row.TableEntry.{TableEntry}
 use Rattle.elf_records.specs.declared.relocation_row.TableEntry.TheVariants.{AddressWord}
 use Rattle.elf_records.specs.RelocationRows.{row as kind_row}
 use Rattle.sequence_forms.specs.declared.forms.Form.{Form}
@@ -79,28 +77,22 @@ row DescLea = row_of (Is 0x48 ∷ Is 0x8d ∷ Is 0x05 ∷ r4 []) GotPc32TlsDesc 
 -- call *x@tlscall(%rax)
 row DescCall = row_of (Is 0xff ∷ Is 0x10 ∷ []) TlsDescCall 0 None None
 
--- the register that ModRM names, with REX's bit R
-abbrev pub register_of : ℕ → ℕ → ℕ
-register_of rex modrm = modrm / 8 + (if rex == 0x4c then 8 else 0)
+-- whether the form finds a variable at a fixed distance from the thread pointer
+abbrev pub is_initial : Form → Bool
+is_initial IeMov = true
+is_initial IeAdd = true
+is_initial form = false
 
--- the register of a sequence that starts there in the code; 0 for a form that names none
+-- the register of a sequence that starts there in the code: the one that ModRM names, with REX's bit R; 0 for a form
+-- that names none
 unfoldable pub register : Form → List ℕ → ℕ → ℕ
-register IeMov code start = register_of (slice_index code start) (slice_index code (start + 2))
-register IeAdd code start = register_of (slice_index code start) (slice_index code (start + 2))
-register _ code start = 0
+register form code start =
+    if is_initial form then slice_index code (start + 2) / 8 + (if slice_index code start == 0x4c then 8 else 0) else 0
 
 -- the types of the second relocation: its field holds the distance to the function, or to the word with its address
-abbrev pub IsDistance : FieldValue → Type 0
-IsDistance Distance = Unit {0}
-IsDistance _ = ⊥
-
-abbrev pub IsAddressWord : TableEntry → Type 0
-IsAddressWord AddressWord = Unit {0}
-IsAddressWord _ = ⊥
-
 abbrev pub IsCallKind : Call → RelocationKind → Type 0
-IsCallKind Direct kind = IsDistance (kind_row kind).value
-IsCallKind Indirect kind = IsAddressWord (kind_row kind).entry
+IsCallKind Direct kind = (kind_row kind).value ≡ Distance
+IsCallKind Indirect kind = (kind_row kind).entry ≡ AddressWord
 
 -- a row of the code equals the definition
 pub record IsRow (sequence : Sequence) (given : Row) : Type 0 where
@@ -109,9 +101,3 @@ pub record IsRow (sequence : Sequence) (given : Row) : Type 0 where
   pub first_at_is : given.first_at ≡ sequence.first_at
   pub addend_is : given.addend ≡ sequence.addend
   pub second_is : given.second ≡ sequence.second
-
--- whether the form finds a variable at a fixed distance from the thread pointer
-abbrev pub is_initial : Form → Bool
-is_initial IeMov = true
-is_initial IeAdd = true
-is_initial form = false

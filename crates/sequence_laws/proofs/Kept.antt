@@ -1,6 +1,6 @@
 -- What is read in a kept site, form by form.
 use Rattle.std.proofs.Common.{◌≡◌, ℕ, ◌+◌, ◌*◌, ◌<◌, ◌≤◌, List, [], ◌∷◌, ◌++◌, length, drop, Option, Some, None, refl, sym, ap, subst, ◌∙◌, arith, rules}
-use Rattle.std.specs.Prelude.{IsTrue, ◌/◌, ◌%◌, ◌⊎◌, slice_index}
+use Rattle.std.specs.Prelude.{IsTrue, ◌/◌, ◌%◌, ◌⊎◌, ◌==◌, if◌then◌else◌, slice_index}
 use Rattle.std.proofs.Common.{inl, inr, add-zero, zero-add}
 use Rattle.std.proofs.lemmas.List.{drop-drop, length-drop, get_or-drop}
 use Rattle.elf_records.specs.Fields.{part_at}
@@ -11,7 +11,7 @@ use Rattle.sequence_forms.specs.declared.forms.Form.{Form}
 use Rattle.sequence_forms.specs.declared.forms.Form.TheVariants.{Gd, Ld, IeMov, IeAdd, GdInd, LdInd, DescLea, DescCall}
 use Rattle.sequence_forms.specs.declared.forms.Cell.TheVariants.{Rex, ModRm}
 use Rattle.sequence_forms.specs.declared.forms.Second.{Second}
-use Rattle.sequence_forms.specs.Forms.{fits, register, register_of, row}
+use Rattle.sequence_forms.specs.Forms.{fits, register, row}
 use Rattle.relax_sites.specs.Rows.{form_length}
 use Rattle.sequence_laws.specs.Instructions.{kept_instructions, displaced, load, add, of_next}
 use Rattle.sequence_laws.specs.Laws.{AreRead, HasCells, number_in, second_in, length_of}
@@ -72,14 +72,14 @@ is_modrm x e = let parts = modrm_parts x e in record { low = omega arith; is = o
 -- what holds of REX and ModRM of each of the sixteen registers holds of what fits them
 by_rex : (P : ℕ → ℕ → ℕ → Type 0) → ((r : ℕ) → r < 8 → P 0x48 (5 + 8 * r) r)
     → ((r : ℕ) → r < 8 → P 0x4c (5 + 8 * r) (r + 8)) → (x y : ℕ) → IsTrue (fits Rex x) → IsTrue (fits ModRm y)
-    → P x y (register_of x y)
+    → P x y (y / 8 + (if x == 0x4c then 8 else 0))
 by_rex P low high x y rex modrm =
     let m = is_modrm y modrm in
     let none : y / 8 + 0 ≡ y / 8 = omega arith in
     elim (is_rex x rex) [
-      | inl e ↦ subst (λ (z : ℕ). P z y (register_of z y)) (sym e)
+      | inl e ↦ subst (λ (z : ℕ). P z y (y / 8 + (if z == 0x4c then 8 else 0))) (sym e)
           (subst (λ (r : ℕ). P 0x48 y r) (sym none) (subst (λ (z : ℕ). P 0x48 z (y / 8)) (sym m.is) (low (y / 8) m.low)))
-      | inr e ↦ subst (λ (z : ℕ). P z y (register_of z y)) (sym e)
+      | inr e ↦ subst (λ (z : ℕ). P z y (y / 8 + (if z == 0x4c then 8 else 0))) (sym e)
           (subst (λ (z : ℕ). P 0x4c z (y / 8 + 8)) (sym m.is) (high (y / 8) m.low))
     ]
 

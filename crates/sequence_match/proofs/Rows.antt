@@ -34,8 +34,8 @@ second_within (Some s) n start len h fits = omega arith
 -- its first relocation is of a type of sequences
 pub first_of_sequence : (form : Form) → IsOfSequence (row form).first
 unfolding row
-first_of_sequence Gd = tt
-first_of_sequence form = tt
+first_of_sequence Gd = refl
+first_of_sequence form = refl
 
 -- where there is a second one, the first has a field
 pub first_has_field : (form : Form) (second : Second) → (row form).second ≡ Some second → field_width (row form).first ≡ 4
@@ -53,7 +53,7 @@ call_width_is Direct Pc32 h = refl
 call_width_is Indirect GotPcRel h = refl
 call_width_is Indirect GotPcRelX h = refl
 call_width_is Indirect RexGotPcRelX h = refl
-call_width_is _ _ h = absurd h
+call_width_is _ _ h = absurd (cc)
 
 -- so has each type of sequences but that of a descriptor's call
 pub sequence_width : (kind : RelocationKind) → IsOfSequence kind → (kind ≡ TlsDescCall → ⊥) → field_width kind ≡ 4
@@ -62,4 +62,4 @@ sequence_width TlsLd h other = refl
 sequence_width GotTpOff h other = refl
 sequence_width GotPc32TlsDesc h other = refl
 sequence_width TlsDescCall h other = absurd (other refl)
-sequence_width _ h other = absurd h
+sequence_width _ h other = absurd (cc)

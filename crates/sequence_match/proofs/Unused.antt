@@ -21,7 +21,7 @@ sequence_is TlsLd h = refl
 sequence_is GotTpOff h = refl
 sequence_is GotPc32TlsDesc h = refl
 sequence_is TlsDescCall h = refl
-sequence_is _ h = absurd h
+sequence_is _ h = absurd (cc)
 
 left_or : (a b : Bool) → a ≡ true → (a || b) ≡ true
 left_or true b h = refl

@@ -9,7 +9,6 @@ use Rattle.object_rules.specs.declared.fault.ObjectFault.{ObjectFault}
 use Rattle.object_rules.specs.declared.fault.ObjectFault.TheVariants.{OutOfMemory, At}
 use Rattle.elf_records.specs.declared.relocation.RelocationKind.{RelocationKind}
 use Rattle.elf_records.specs.declared.relocation.RelocationKind.TheVariants.{Nothing}
-use Rattle.elf_records.specs.declared.relocation_row.SequencePart.{SequencePart}
 use Rattle.elf_records.specs.declared.relocation_row.SequencePart.TheVariants.{First}
 use Rattle.elf_records.specs.RelocationRows.{row as kind_row}
 use Rattle.elf_records.specs.Symbols.{get_address}
@@ -43,12 +42,8 @@ IsSite b site =
     (e : ℕ) × IsSiteOf (code_of b site.section) (relocations b site.section) (IsGetter b) e site
 
 -- the types that stand only in sequences, as the first relocation
-abbrev pub IsFirstPart : SequencePart → Type 0
-IsFirstPart First = Unit {0}
-IsFirstPart _ = ⊥
-
 abbrev pub IsOfSequence : RelocationKind → Type 0
-IsOfSequence kind = IsFirstPart (kind_row kind).part
+IsOfSequence kind = (kind_row kind).part ≡ First
 
 -- relocation number e is of such a type, and is not the first one of a sequence
 abbrev pub IsLoose : List ℕ → List Relocation → (ℕ → Type 0) → ℕ → Type 0

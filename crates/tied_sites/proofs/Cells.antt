@@ -1,7 +1,7 @@
 -- The bytes in the place of a site that is kept: the instructions that its compiler wrote, with a linker's numbers in
 -- their fields.
 use Rattle.std.proofs.Common.{◌≡◌, ◌∙◌, ◌+◌, ◌-◌, ◌<◌, ◌≤◌, ℕ, Bool, true, false, List, Some, drop}
-use Rattle.std.proofs.Common.{length, map}
+use Rattle.std.proofs.Common.{◌/◌, ◌==◌, if◌then◌else◌, length, map}
 use Rattle.std.proofs.Common.{slice_index, take, refl, sym, ap, subst, arith}
 use Rattle.std.specs.Prelude.{slice_get, slice_index_or, unwrap_or, IsTrue}
 use Rattle.std.specs.List.{Contains, range_with_len}
@@ -32,7 +32,7 @@ use Rattle.sequence_forms.specs.declared.forms.Cell.TheVariants.{Is, Rex, ModRm,
 use Rattle.sequence_forms.specs.declared.forms.Form.{Form}
 use Rattle.sequence_forms.specs.declared.forms.Form.TheVariants.{Gd, Ld, IeMov, IeAdd, GdInd, LdInd, DescLea, DescCall}
 use Rattle.sequence_forms.specs.declared.places.Site.{Site}
-use Rattle.sequence_forms.specs.Forms.{fits, register, register_of, row}
+use Rattle.sequence_forms.specs.Forms.{fits, register, row}
 use Rattle.sequence_match.proofs.ApartSites.{sites_apart}
 use Rattle.sequence_match.specs.Faults.{IsSite, code_of}
 use Rattle.sequence_match.specs.Sites.{IsLiteral}
@@ -82,12 +82,12 @@ same_register IeMov own code start same =
     let zero : start + 0 ≡ start = omega arith in
     let first = same 0 Rex refl tt ∙ ap (slice_index own) zero in
     let second = same 2 ModRm refl tt in
-    λ i. register_of (first i) (second i)
+    λ i. second i / 8 + (if first i == 0x4c then 8 else 0)
 same_register IeAdd own code start same =
     let zero : start + 0 ≡ start = omega arith in
     let first = same 0 Rex refl tt ∙ ap (slice_index own) zero in
     let second = same 2 ModRm refl tt in
-    λ i. register_of (first i) (second i)
+    λ i. second i / 8 + (if first i == 0x4c then 8 else 0)
 same_register GdInd own code start same = refl
 same_register LdInd own code start same = refl
 same_register DescLea own code start same = refl

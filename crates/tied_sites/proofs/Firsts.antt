@@ -112,8 +112,8 @@ call_other Direct Pc32 h = refl
 call_other Indirect GotPcRel h = refl
 call_other Indirect GotPcRelX h = refl
 call_other Indirect RexGotPcRelX h = refl
-call_other Direct _ h = absurd h
-call_other Indirect _ h = absurd h
+call_other Direct _ h = absurd (cc)
+call_other Indirect _ h = absurd (cc)
 
 call_some : (call : Call) (kind : RelocationKind) → IsCallKind call kind → kind ≢ Nothing
 call_some call kind is none = let width : field_width kind ≡ 0 = ap field_width none in
@@ -123,14 +123,14 @@ call_reaches : (kind : RelocationKind) → IsCallKind Indirect kind → reaches_
 call_reaches GotPcRel h = refl
 call_reaches GotPcRelX h = refl
 call_reaches RexGotPcRelX h = refl
-call_reaches _ h = absurd h
+call_reaches _ h = absurd (cc)
 
 call_need : (l : Linking) (o e : ℕ) (bound : Option Binding) (kind : RelocationKind) → IsCallKind Indirect kind
     → bound ≡ Some Runtime → need_by l o e bound kind ≡ Some RuntimeWord
 call_need l o e bound GotPcRel h is = rw is refl
 call_need l o e bound GotPcRelX h is = rw is refl
 call_need l o e bound RexGotPcRelX h is = rw is refl
-call_need l o e bound _ h is = absurd h
+call_need l o e bound _ h is = absurd (cc)
 
 contains_at : {X : Type 0} (xs : List X) (i : ℕ) (x : X) → slice_get xs i ≡ Some x → Contains xs x
 contains_at xs i x e = (i, slice_get_within xs i x e, get_or_from_slice_get xs i x x e)

@@ -68,7 +68,7 @@ call_field : (l : Linking) (o : ℕ) (r : Relocation) (kind : RelocationKind) (b
     ≡ signed_field ((pos (stub_start l) +ℤ r.addend) -ℤ pos p)
 call_field l o r Plt32 bound p is e = rw e refl
 call_field l o r Pc32 bound p is e = rw e refl
-call_field l o r _ bound p is e = absurd is
+call_field l o r _ bound p is e = absurd (cc)
 
 module _ (l : Linking) (given : IsGiven l) (limits : FitsTable l) where
   -- where an entry is
