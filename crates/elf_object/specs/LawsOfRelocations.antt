@@ -62,7 +62,7 @@ code_at b object r e reloc code =
   where
     of_kind : (kind : Option RelocationKind) (class : Option SectionClass) → IsOfCode (unwrap_or kind Nothing)
         → (IsMiskinded kind class → ⊥) → class ≡ Some Executable
-    of_kind None class code fine = absurd code
+    of_kind None class code fine = absurd (cc)
     of_kind (Some k) class code fine = elim (code_or_not class)
         [ inl same ↦ same | inr other ↦ absurd (fine (code, other)) ]
 

@@ -1,8 +1,7 @@
 -- Numbers at an offset of a list of bytes, as ELF64 files with little-endian data hold them (gABI, "Data
 -- Representation").
-use Rattle.std.specs.Prelude.{◌≡◌, ◌<◌, ◌+◌, ◌^◌, ℕ, ℤ, Option, Some, None, List, [], ◌∷◌, ◌++◌, length, take, drop}
+use Rattle.std.specs.Prelude.{◌≡◌, ◌<◌, ◌+◌, ◌^◌, ℕ, Option, Some, None, List, [], ◌∷◌, ◌++◌, length, take, drop}
 use Rattle.std.specs.Prelude.{nat_le, if◌then◌else◌}
-use Rattle.std.specs.Int.{w64, cast_signed}
 use Rattle.std.specs.List.{All}
 use Rattle.byteorder.specs.Endian.{little_from, little_bytes}
 
@@ -13,10 +12,6 @@ AreBytes bytes = All (λ (byte : ℕ). byte < 256) bytes
 -- the unsigned number in the n bytes from offset at, the lowest byte first; a byte past the end counts as 0
 unfoldable pub number_at : ℕ → ℕ → List ℕ → ℕ
 number_at n at bytes = little_from at n bytes
-
--- the signed number in the eight bytes from offset at, in two's complement
-abbrev pub signed_at : ℕ → List ℕ → ℤ
-signed_at at bytes = cast_signed w64 (number_at 8 at bytes)
 
 -- the n bytes from offset at, as they stand
 unfoldable pub part_at : ℕ → ℕ → List ℕ → List ℕ

@@ -1,7 +1,7 @@
 -- The six records of ELF64, each field at its offset in the record (gABI, "ELF Header", "Sections", "Symbol Table",
 -- "Relocation", "Program Header" and "Dynamic Section").
 use Rattle.std.specs.Prelude.{◌≡◌, ◌≢◌, ◌+◌, ◌/◌, ◌%◌, ◌^◌, ℕ, List, [], ◌∷◌, ◌++◌, length, take, FitsSigned}
-use Rattle.std.specs.Int.{w64, cast_unsigned}
+use Rattle.std.specs.Int.{w64, cast_signed, cast_unsigned}
 use Rattle.elf_records.specs.declared.file_header.Header.{Header}
 use Rattle.elf_records.specs.declared.section_header.SectionHeader.{SectionHeader}
 use Rattle.elf_records.specs.declared.symbol.SymbolEntry.{SymbolEntry}
@@ -10,7 +10,7 @@ use Rattle.elf_records.specs.declared.program_header.Segment.{Segment}
 use Rattle.elf_records.specs.declared.dynamic.DynamicEntry.{DynamicEntry}
 use Rattle.elf_records.specs.declared.file_header.TheConstants.{ELF_IDENT, EV_CURRENT}
 use Rattle.elf_records.specs.declared.section_header.TheConstants.{SHT_NULL, SHT_NOBITS}
-use Rattle.elf_records.specs.Fields.{FitAll, number_at, part_at, signed_at, spelled}
+use Rattle.elf_records.specs.Fields.{FitAll, number_at, part_at, spelled}
 
 -- Elf64_Ehdr
 unfoldable pub header_at : ℕ → List ℕ → Header
@@ -100,12 +100,12 @@ symbol_bytes r = spelled (symbol_fields r)
 abbrev pub FitsSymbolEntry : SymbolEntry → Type 0
 FitsSymbolEntry r = FitAll (symbol_fields r)
 
--- Elf64_Rela
+-- Elf64_Rela; the addend is in two's complement
 unfoldable pub rela_at : ℕ → List ℕ → Rela
 rela_at at bytes = record {
   offset = number_at 8 at bytes;
   info = number_at 8 (at + 8) bytes;
-  addend = signed_at (at + 16) bytes;
+  addend = cast_signed w64 (number_at 8 (at + 16) bytes);
 }
 
 -- the fields, as their widths and values in the order of the file

@@ -86,11 +86,6 @@ form_width Signed32 = 4
 form_width Unsigned32 = 4
 form_width Wrapped64 = 8
 
--- it stands only in executable sections
-abbrev pub IsInCode : FieldPlace → Type 0
-IsInCode Anywhere = ⊥
-IsInCode InCode = Unit {0}
-
 -- the types whose field holds an address of 8 bytes
 abbrev pub is_wide : FieldForm → Bool
 is_wide Wrapped64 = true

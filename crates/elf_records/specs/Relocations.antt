@@ -1,5 +1,5 @@
 -- The types of relocation that linking takes from an object (psABI, "Relocation Types").
-use Rattle.std.specs.Prelude.{◌==◌, ℕ, Option, Some, None, if◌then◌else◌}
+use Rattle.std.specs.Prelude.{◌≡◌, ◌==◌, ℕ, Option, Some, None, if◌then◌else◌}
 use Rattle.elf_records.specs.declared.relocation.TheConstants.{R_X86_64_NONE, R_X86_64_64, R_X86_64_PC32}
 use Rattle.elf_records.specs.declared.relocation.TheConstants.{R_X86_64_PLT32, R_X86_64_GOTPCREL, R_X86_64_32}
 use Rattle.elf_records.specs.declared.relocation.TheConstants.{R_X86_64_32S, R_X86_64_TLSGD, R_X86_64_TLSLD}
@@ -12,7 +12,8 @@ use Rattle.elf_records.specs.declared.relocation.RelocationKind.TheVariants.{Got
 use Rattle.elf_records.specs.declared.relocation.RelocationKind.TheVariants.{TlsGd, TlsLd, DtpOff32, GotTpOff}
 use Rattle.elf_records.specs.declared.relocation.RelocationKind.TheVariants.{TpOff32, GotPc32TlsDesc, TlsDescCall}
 use Rattle.elf_records.specs.declared.relocation.RelocationKind.TheVariants.{GotPcRelX, RexGotPcRelX}
-use Rattle.elf_records.specs.RelocationRows.{row, form_width, IsInCode}
+use Rattle.elf_records.specs.declared.relocation_row.FieldPlace.TheVariants.{InCode}
+use Rattle.elf_records.specs.RelocationRows.{row, form_width}
 
 -- the type with this number
 abbrev pub relocation_kind : ℕ → Option RelocationKind
@@ -41,7 +42,7 @@ field_width kind = form_width (row kind).form
 
 -- the type belongs to an instruction, so it stands only in executable sections
 abbrev pub IsOfCode : RelocationKind → Type 0
-IsOfCode kind = IsInCode (row kind).place
+IsOfCode kind = (row kind).place ≡ InCode
 
 -- the field's width; 0 for a number that is not a type of the list
 abbrev pub width_of : Option RelocationKind → ℕ

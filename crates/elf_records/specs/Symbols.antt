@@ -58,6 +58,5 @@ is_tls kind = false
 -- whether code of other images may name a symbol
 abbrev pub is_visible : Visibility → Bool
 is_visible Default = true
-is_visible Internal = false
-is_visible Hidden = false
 is_visible Protected = true
+is_visible visibility = false

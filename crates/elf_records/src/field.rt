@@ -1,8 +1,8 @@
 //! One field of a record: a little-endian number at an offset of a slice of bytes.
 
 ghost use Rattle.std.specs.Prelude.{◌≡◌, ◌+◌, ◌^◌, ◌<◌, ◌≤◌, length, nat_le};
-ghost use Rattle.std.specs.Int.{w64, cast_unsigned};
-ghost use Rattle.elf_records.specs.Fields.{bytes_of, number_at, signed_at, splice};
+ghost use Rattle.std.specs.Int.{w64, cast_signed, cast_unsigned};
+ghost use Rattle.elf_records.specs.Fields.{bytes_of, number_at, splice};
 
 use byteorder::{ByteOrder, LittleEndian};
 
@@ -52,7 +52,7 @@ pub fn u64_at(bytes: &[u8], at: usize) -> u64
 #[inline(always)]
 pub fn i64_at(bytes: &[u8], at: usize) -> i64
     requires { at + 8 ≤ length bytes.now }
-    ensures { result ≡ signed_at at bytes.now }
+    ensures { result ≡ cast_signed w64 (number_at 8 at bytes.now) }
 {
     u64_at(bytes, at).cast_signed()
 }

@@ -51,15 +51,15 @@ Keeps rule b = (e : ℕ) → Breaks rule b e → ⊥
 abbrev pub KeepsBelow : ℕ → List ℕ → Type 0
 KeepsBelow n b = (rule : Rule) → number rule < n → Keeps rule b
 
--- the bytes stand for an image
+-- the bytes stand for an image: no entry breaks a rule
 abbrev pub IsImage : List ℕ → Type 0
-IsImage b = (rule : Rule) → Keeps rule b
+IsImage b = (rule : Rule) (e : ℕ) → Breaks rule b e → ⊥
 
 -- the first fault: the rule is broken here, at no earlier entry, and all earlier rules are kept
 pub record IsFirst (b : List ℕ) (rule : Rule) (e : ℕ) : Type 0 where
   pub here : Breaks rule b e
   pub nowhere_earlier : (f : ℕ) → f < e → Breaks rule b f → ⊥
-  pub earlier_rules : KeepsBelow (number rule) b
+  pub earlier_rules : (earlier : Rule) → number earlier < number rule → (f : ℕ) → Breaks earlier b f → ⊥
 
 -- a fault of this kind at this offset is the first
 pub record IsFirstFault (b : List ℕ) (offset : ℕ) (kind : FaultKind) : Type 0 where

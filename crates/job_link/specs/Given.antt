@@ -5,13 +5,13 @@ use Rattle.object_rules.specs.declared.fault.FaultKind.{FaultKind}
 use Rattle.object_rules.specs.declared.fault.FaultKind.TheVariants.{Sequence, StrayCall, WritableData}
 use Rattle.object_rules.specs.declared.fault.ObjectFault.{ObjectFault}
 use Rattle.object_rules.specs.declared.fault.ObjectFault.TheVariants.{OutOfMemory, At}
-use Rattle.elf_object.specs.Faults.{IsObject, IsFault, IsFirstAt}
+use Rattle.elf_object.specs.Faults.{IsFirst, IsFirstAt, IsObject, Stands}
 use Rattle.elf_object.specs.Object.{IsWritable}
 use Rattle.job_text.specs.declared.images.Image.{Image}
 use Rattle.job_text.specs.Jobs.{JobParts}
 use Rattle.link_faults.specs.declared.image_kind.ImageKind.{ImageKind}
 use Rattle.sequence_forms.specs.declared.places.Site.{Site}
-use Rattle.sequence_match.specs.Faults.{AreSites, Nowhere, IsFault as IsSequenceFault}
+use Rattle.sequence_match.specs.Faults.{AreSites, Nowhere, Stands as SequenceStands}
 use Rattle.job_link.specs.declared.writable.WritableSections.{WritableSections}
 use Rattle.job_link.specs.declared.writable.WritableSections.TheVariants.{Kept, Refused}
 
@@ -48,9 +48,9 @@ IsDataFaultOf writable b (At section entry kind) = IsDataFault writable b sectio
 abbrev pub IsFileFault : WritableSections → List ℕ → ObjectFault → Type 0
 IsFileFault writable b OutOfMemory = Unit {0}
 IsFileFault writable b (At section entry kind) =
-    IsFault b (At section entry kind)
+    IsFirst Stands b section entry kind
     ⊎ (IsObject b × (IsDataFault writable b section entry kind
-    ⊎ (Allows writable b × IsSequenceFault b (At section entry kind))))
+    ⊎ (Allows writable b × IsFirst SequenceStands b section entry kind)))
 
 -- ** the images
 

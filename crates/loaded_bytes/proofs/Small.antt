@@ -18,7 +18,7 @@ use Rattle.link_needs.specs.Values.{field}
 use Rattle.relax_sites.specs.declared.choices.Choice.{Choice}
 use Rattle.relax_sites.specs.declared.choices.Choice.TheVariants.{GdLe, GdIe, LdLe, IeLe, DescLe, DescIe}
 use Rattle.relax_sites.specs.declared.rows.NewField.{NewField}
-use Rattle.relax_sites.specs.Rows.{add_bytes, field_of_zeros, mov_bytes, new_bytes, new_field, rex_both, rex_rm}
+use Rattle.relax_sites.specs.Rows.{add_bytes, field_of_zeros, mov_bytes, new_bytes, new_field, rex_rm}
 use Rattle.sequence_forms.specs.declared.forms.Form.{Form}
 use Rattle.sequence_forms.specs.declared.forms.Form.TheVariants.{Gd, Ld, IeMov, IeAdd, GdInd, LdInd, DescLea, DescCall}
 use Rattle.sequence_forms.specs.declared.places.Site.{Site}
@@ -99,13 +99,13 @@ add_small reg = of_test (reg % 8 == 4)
     of_test : (t : Bool)
         → AreBytes (if t
         then rex_rm reg ∷ 0x81 ∷ 0xc4 ∷ field_of_zeros
-        else rex_both reg ∷ 0x8d ∷ (0x80 + 9 * (reg % 8)) ∷ field_of_zeros)
+        else (if nat_lt reg 8 then 0x48 else 0x4d) ∷ 0x8d ∷ (0x80 + 9 * (reg % 8)) ∷ field_of_zeros)
     of_test true =
         small_more (rex_rm reg) (0x81 ∷ 0xc4 ∷ field_of_zeros) (rex_small reg 0x48 0x49 (omega arith) (omega arith))
         (small_more 0x81 (0xc4 ∷ field_of_zeros) (omega arith) (small_more 0xc4 field_of_zeros (omega arith) zeros_small))
     of_test false =
         let rest : reg % 8 < 8 = omega arith in
-        small_more (rex_both reg) (0x8d ∷ (0x80 + 9 * (reg % 8)) ∷ field_of_zeros)
+        small_more (if nat_lt reg 8 then 0x48 else 0x4d) (0x8d ∷ (0x80 + 9 * (reg % 8)) ∷ field_of_zeros)
         (rex_small reg 0x48 0x4d (omega arith) (omega arith))
         (small_more 0x8d ((0x80 + 9 * (reg % 8)) ∷ field_of_zeros) (omega arith)
         (small_more (0x80 + 9 * (reg % 8)) field_of_zeros (omega (arith, rest)) zeros_small))

@@ -61,7 +61,7 @@ data_kind Pc32 other some = (refl, refl)
 data_kind Absolute32 other some = (refl, refl)
 data_kind Absolute32Signed other some = (refl, refl)
 data_kind TpOff32 other some = (refl, refl)
-data_kind kind other some = absurd (other tt)
+data_kind kind other some = absurd (other refl)
 
 -- how a field may be bound that is no sequence's
 pub record IsBound (l : Linking) (kind : RelocationKind) (bound : Option Binding) : Type 0 where
@@ -219,7 +219,7 @@ goes_none Pc32 (Some Runtime) other runtime = absurd (runtime refl)
 goes_none Absolute32 bound other runtime = refl
 goes_none Absolute32Signed bound other runtime = refl
 goes_none TpOff32 bound other runtime = refl
-goes_none kind bound other runtime = absurd (other tt)
+goes_none kind bound other runtime = absurd (other refl)
 
 find_same : {X : Type 0} (p q : X → Bool) (xs : List X) → ((x : X) → Contains xs x → p x ≡ q x) → find p xs ≡ find q xs
 find_same p q [] agree = refl

@@ -6,7 +6,7 @@ use Rattle.object_faults.specs.Faults.{IsElf, IsRelocatable, HasPartPastEnd, Sta
 use Rattle.object_faults.proofs.Order.{none_at_first, none_more}
 
 -- a file shorter than its header
-pub truncated_short : (b : List ℕ) → length b < 64 → IsFirst b 0 0 Truncated
+pub truncated_short : (b : List ℕ) → length b < 64 → IsFirst Stands b 0 0 Truncated
 unfolding Stands
 truncated_short b short = record {
   here = (refl, inl (refl, short));
@@ -21,7 +21,7 @@ none_below_elf b long other =
     none_more Truncated b (none_at_first b) (λ s e h. elim h.1 [ inl short ↦ absurd (omega arith) | inr w ↦ other w.1 ])
 
 -- a file that is not ELF
-pub not_elf : (b : List ℕ) → 64 ≤ length b → (IsElf (header b) → ⊥) → IsFirst b 0 0 NotElf
+pub not_elf : (b : List ℕ) → 64 ≤ length b → (IsElf (header b) → ⊥) → IsFirst Stands b 0 0 NotElf
 unfolding Stands
 not_elf b long other = record {
   here = (refl, refl, long, other);
@@ -30,7 +30,7 @@ not_elf b long other = record {
 }
 
 -- a file of ELF that is no object
-pub not_relocatable : (b : List ℕ) → 64 ≤ length b → IsElf (header b) → (IsRelocatable (header b) → ⊥) → IsFirst b 0 0 NotRelocatable
+pub not_relocatable : (b : List ℕ) → 64 ≤ length b → IsElf (header b) → (IsRelocatable (header b) → ⊥) → IsFirst Stands b 0 0 NotRelocatable
 unfolding Stands
 not_relocatable b long elf other = record {
   here = (refl, refl, long, other);
@@ -42,7 +42,7 @@ not_relocatable b long elf other = record {
 
 -- an object whose table of section headers passes the end
 pub table_passes : (b : List ℕ) → 64 ≤ length b → IsElf (header b) → IsRelocatable (header b)
-    → length b < (header b).e_shoff + 64 * (header b).e_shnum → IsFirst b 0 0 Truncated
+    → length b < (header b).e_shoff + 64 * (header b).e_shnum → IsFirst Stands b 0 0 Truncated
 unfolding Stands
 table_passes b long elf object past = record {
   here = (refl, inr (long, elf, object, inl (refl, past)));
@@ -53,7 +53,7 @@ table_passes b long elf object past = record {
 -- an object with a table, in which section s is the first one whose bytes pass the end
 pub section_passes : (b : List ℕ) (s : ℕ) → 64 ≤ length b → IsElf (header b) → IsRelocatable (header b)
     → (header b).e_shoff + 64 * (header b).e_shnum ≤ length b
-    → HasPartPastEnd b s → ((t : ℕ) → t < s → HasPartPastEnd b t → ⊥) → IsFirst b s 0 Truncated
+    → HasPartPastEnd b s → ((t : ℕ) → t < s → HasPartPastEnd b t → ⊥) → IsFirst Stands b s 0 Truncated
 unfolding Stands
 section_passes b s long elf object inside past none = record {
   here = (refl, inr (long, elf, object, inr past));

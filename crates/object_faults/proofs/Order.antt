@@ -113,7 +113,7 @@ at_reloc reloc.Range b s e h = h.0
 
 -- a fault that stands in no section before this one, and at no entry of it before this one, is the first
 pub first_of : (kind : FaultKind) (b : List ℕ) (s e : ℕ) → NoneBelow (number kind) b → Stands kind b s e
-    → ((t : ℕ) → t < s → (f : ℕ) → Stands kind b t f → ⊥) → ((f : ℕ) → f < e → Stands kind b s f → ⊥) → IsFirst b s e kind
+    → ((t : ℕ) → t < s → (f : ℕ) → Stands kind b t f → ⊥) → ((f : ℕ) → f < e → Stands kind b s f → ⊥) → IsFirst Stands b s e kind
 first_of kind b s e below here sections entries = record {
   here = here;
   nowhere_earlier = λ t f h w. elim h [

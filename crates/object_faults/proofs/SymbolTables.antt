@@ -32,7 +32,7 @@ none_before : (b : List ℕ) (t u f : ℕ) → t ≡ symbol_table b → u < t �
 none_before b t u f same h w = let found = in_tables b u f w in omega (arith, found.1)
 
 -- a fault of the symbol table itself
-pub bad_table : (b : List ℕ) (t : ℕ) → t ≡ symbol_table b → NoneBelow 7 b → IsTable b t → IsBadTable b t → IsFirst b t 0 SymbolTable
+pub bad_table : (b : List ℕ) (t : ℕ) → t ≡ symbol_table b → NoneBelow 7 b → IsTable b t → IsBadTable b t → IsFirst Stands b t 0 SymbolTable
 unfolding Stands
 bad_table b t same below table bad =
     first_of SymbolTable b t 0 below (inl (refl, table, bad)) (λ u h f w. none_before b t u f same h w) (λ f h w. omega arith)
@@ -44,7 +44,7 @@ at_table b t f fine h = elim h [ inl table ↦ absurd (fine table.2) | inr symbo
 
 -- a fault of a symbol
 pub bad_symbol : (b : List ℕ) (t e : ℕ) → t ≡ symbol_table b → NoneBelow 7 b → (IsBadTable b t → ⊥) → Stands SymbolTable b t e
-    → ((f : ℕ) → f < e → (0 < f) × Stands SymbolTable b t f → ⊥) → IsFirst b t e SymbolTable
+    → ((f : ℕ) → f < e → (0 < f) × Stands SymbolTable b t f → ⊥) → IsFirst Stands b t e SymbolTable
 bad_symbol b t e same below fine here none =
     first_of SymbolTable b t e below here (λ u h f w. none_before b t u f same h w) (λ f h w. none f h (at_table b t f fine w, w))
 
@@ -64,7 +64,7 @@ only_second b t u f same fine none w =
 -- a second section of symbols
 pub second_table : (b : List ℕ) (t s : ℕ) → t ≡ symbol_table b → NoneBelow 7 b → (IsBadTable b t → ⊥)
     → ((f : ℕ) → (0 < f) × Stands SymbolTable b t f → ⊥) → (t < s) × IsTable b s
-    → ((u : ℕ) → u < s → (t < u) × IsTable b u → ⊥) → IsFirst b s 0 SymbolTable
+    → ((u : ℕ) → u < s → (t < u) × IsTable b u → ⊥) → IsFirst Stands b s 0 SymbolTable
 unfolding Stands
 second_table b t s same below fine none here first =
     let other : s ≡ symbol_table b → ⊥ = λ at. omega (arith, here.0) in

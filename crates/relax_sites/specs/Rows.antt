@@ -22,23 +22,21 @@ field_of_zeros = 0 ∷ 0 ∷ 0 ∷ 0 ∷ []
 abbrev pub thread_pointer : List ℕ → List ℕ
 thread_pointer rest = 0x64 ∷ 0x48 ∷ 0x8b ∷ 0x04 ∷ 0x25 ∷ 0 ∷ 0 ∷ 0 ∷ 0 ∷ rest
 
--- REX.W with the high bit of a register in ModRM's rm, or in both rm and reg
+-- REX.W with the high bit of a register in ModRM's rm
 abbrev pub rex_rm : ℕ → ℕ
 rex_rm reg = if nat_lt reg 8 then 0x48 else 0x49
-
-abbrev pub rex_both : ℕ → ℕ
-rex_both reg = if nat_lt reg 8 then 0x48 else 0x4d
 
 -- mov $x@tpoff, %r
 abbrev pub mov_bytes : ℕ → List ℕ
 mov_bytes reg = rex_rm reg ∷ 0xc7 ∷ (0xc0 + reg % 8) ∷ field_of_zeros
 
--- lea x@tpoff(%r), %r; with %rsp or %r12 as its base lea would need one byte more, so for these add $x@tpoff, %r
+-- lea x@tpoff(%r), %r, with the high bit in both rm and reg; with %rsp or %r12 as its base lea would need one byte
+-- more, so for these add $x@tpoff, %r
 abbrev pub add_bytes : ℕ → List ℕ
 add_bytes reg =
     if reg % 8 == 4
     then rex_rm reg ∷ 0x81 ∷ 0xc4 ∷ field_of_zeros
-    else rex_both reg ∷ 0x8d ∷ (0x80 + 9 * (reg % 8)) ∷ field_of_zeros
+    else (if nat_lt reg 8 then 0x48 else 0x4d) ∷ 0x8d ∷ (0x80 + 9 * (reg % 8)) ∷ field_of_zeros
 
 -- the table
 abbrev pub new_bytes : Form → Choice → ℕ → List ℕ

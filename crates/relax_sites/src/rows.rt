@@ -1,7 +1,7 @@
 //! The table of new bytes: which bytes replace a site, and which field they have.
 
-ghost use Rattle.std.specs.Prelude.{◌≡◌, ◌+◌, ◌≤◌};
-ghost use Rattle.relax_sites.specs.Rows.{new_field, tpoff, gottpoff, mov_bytes, add_bytes, rex_rm, rex_both};
+ghost use Rattle.std.specs.Prelude.{◌≡◌, ◌+◌, ◌≤◌, if◌then◌else◌, nat_lt};
+ghost use Rattle.relax_sites.specs.Rows.{new_field, tpoff, gottpoff, mov_bytes, add_bytes, rex_rm};
 
 use crate::choices::Choice;
 use elf_records::RelocationKind;
@@ -83,7 +83,7 @@ fn rex_rm(reg: u8) -> u8
 
 /// REX for a register in both of ModRM's fields.
 fn rex_both(reg: u8) -> u8
-    ensures { result ≡ rex_both reg }
+    ensures { result ≡ (if nat_lt reg 8 then 0x48 else 0x4d) }
 {
     if reg < 8 { 0x48 } else { 0x4d }
 }

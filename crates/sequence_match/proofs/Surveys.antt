@@ -11,7 +11,7 @@ use Rattle.sequence_match.specs.declared.finding.Findings.{Findings}
 use Rattle.sequence_match.specs.declared.finding.Spot.{Spot}
 use Rattle.sequence_match.specs.declared.matching.Code.{Code}
 use Rattle.sequence_match.specs.Code.{Names}
-use Rattle.sequence_match.specs.Faults.{code_of, IsFirst, IsGetter, Nowhere, Stands, StandsAt, StandsOf}
+use Rattle.sequence_match.specs.Faults.{code_of, IsGetter, Nowhere, Stands, StandsAt, StandsOf}
 use Rattle.sequence_match.specs.Finding.{AreFindings, AreFindingsIn, AreGetters, IsFirstBelow, IsFirstOf, StandsBelow}
 use Rattle.sequence_match.proofs.Found.{stands_with}
 use Rattle.sequence_match.proofs.Tables.{sites_sorted}
@@ -73,7 +73,7 @@ only_two Sequence b s e h = inl refl
 only_two StrayCall b s e h = inr refl
 only_two _ b s e h = absurd h
 
-pub loose_fault : (b : List ℕ) (spot : Spot) → IsFirstOf Sequence b (Some spot) → IsFirst b spot.table spot.entry Sequence
+pub loose_fault : (b : List ℕ) (spot : Spot) → IsFirstOf Sequence b (Some spot) → IsFirst Stands b spot.table spot.entry Sequence
 loose_fault b spot h = record {
   here = h.0;
   nowhere_earlier = h.1;
@@ -83,7 +83,7 @@ loose_fault b spot h = record {
   ];
 }
 
-pub stray_fault : (b : List ℕ) (spot : Spot) → Nowhere Sequence b → IsFirstOf StrayCall b (Some spot) → IsFirst b spot.table spot.entry StrayCall
+pub stray_fault : (b : List ℕ) (spot : Spot) → Nowhere Sequence b → IsFirstOf StrayCall b (Some spot) → IsFirst Stands b spot.table spot.entry StrayCall
 stray_fault b spot none h = record {
   here = h.0;
   nowhere_earlier = h.1;

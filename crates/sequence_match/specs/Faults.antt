@@ -15,7 +15,7 @@ use Rattle.elf_records.specs.Symbols.{get_address}
 use Rattle.elf_object.specs.declared.relocation.Relocation.{Relocation}
 use Rattle.elf_object.specs.declared.symbol.SymbolPlace.TheVariants.{Undefined}
 use Rattle.elf_object.specs.Parts.{symbol_count}
-use Rattle.elf_object.specs.Faults.{number, Earlier}
+use Rattle.elf_object.specs.Faults.{Earlier, IsFirst}
 use Rattle.elf_object.specs.Lent.{section_bytes, section_class, relocations, kept_relocation_table, symbol_name}
 use Rattle.elf_object.specs.Lent.{symbol_place}
 use Rattle.sequence_forms.specs.declared.places.Site.{Site}
@@ -69,22 +69,18 @@ StandsOf kind b s e = StandsAt kind (code_of b s) (relocations b s) (IsGetter b)
 
 -- the kind stands at entry e of section r, which holds the relocations of a section that linking keeps
 abbrev pub Stands : FaultKind → List ℕ → ℕ → ℕ → Type 0
-Stands kind b r e = (0 < r) × ((s : ℕ) × (kept_relocation_table b s ≡ r) × StandsOf kind b s e)
+Stands kind b r e =
+    (0 < r) × ((s : ℕ) × (kept_relocation_table b s ≡ r)
+    × StandsAt kind (code_of b s) (relocations b s) (IsGetter b) e)
 
 -- the kind stands nowhere
 abbrev pub Nowhere : FaultKind → List ℕ → Type 0
 Nowhere kind b = (r e : ℕ) → Stands kind b r e → ⊥
 
--- the first fault: it stands here, at no lower section or entry, and no earlier kind stands anywhere
-pub record IsFirst (b : List ℕ) (r e : ℕ) (kind : FaultKind) : Type 0 where
-  pub here : Stands kind b r e
-  pub nowhere_earlier : (t f : ℕ) → Earlier t f r e → Stands kind b t f → ⊥
-  pub earlier_kinds : (earlier : FaultKind) → number earlier < number kind → Nowhere earlier b
-
 -- what a refusal says of the object; nothing when memory runs out
 abbrev pub IsFault : List ℕ → ObjectFault → Type 0
 IsFault b OutOfMemory = Unit {0}
-IsFault b (At r e kind) = IsFirst b r e kind
+IsFault b (At r e kind) = IsFirst Stands b r e kind
 
 -- one site stands before another: in a lower section, or at a lower offset of the same
 abbrev pub Before : Site → Site → Type 0
@@ -94,4 +90,4 @@ Before p q = Earlier p.section p.start q.section q.start
 pub record AreSites (b : List ℕ) (sites : List Site) : Type 0 where
   pub only : All (IsSite b) sites
   pub every : (site : Site) → IsSite b site → Contains sites site
-  pub rising : AllPairs Before sites
+  pub rising : AllPairs (λ p q. Earlier p.section p.start q.section q.start) sites

@@ -1,12 +1,12 @@
 -- The rows of the table, and the sequences that they replace, differ where no field stands.
 use Rattle.std.proofs.Common.{◌≡◌, ◌≢◌, ◌⊎◌, ◌%◌, ◌==◌, ℕ, Bool, true, false, List, ◌∷◌, Some}
 use Rattle.std.proofs.Common.{inl, inr, refl, arith, if◌then◌else◌}
-use Rattle.std.specs.Prelude.{slice_get}
+use Rattle.std.specs.Prelude.{nat_lt, slice_get}
 use Rattle.link_faults.specs.declared.binding.Binding.{Binding}
 use Rattle.link_faults.specs.declared.binding.Binding.TheVariants.{Here, Startup}
 use Rattle.relax_sites.specs.declared.choices.Choice.{Choice}
 use Rattle.relax_sites.specs.declared.choices.Choice.TheVariants.{GdLe, GdIe, LdLe, IeLe, DescLe, DescIe}
-use Rattle.relax_sites.specs.Rows.{new_bytes, new_field, rex_both, rex_rm}
+use Rattle.relax_sites.specs.Rows.{new_bytes, new_field, rex_rm}
 use Rattle.sequence_forms.specs.declared.forms.Cell.TheVariants.{Is}
 use Rattle.sequence_forms.specs.declared.forms.Form.{Form}
 use Rattle.sequence_forms.specs.declared.forms.Form.TheVariants.{Gd, Ld, IeMov, IeAdd, GdInd, LdInd, DescLea, DescCall}
@@ -109,7 +109,7 @@ differs IeAdd (Here variable) IeLe reg h = record {
   cell_is = refl;
   literal = tt;
   byte = add_byte (reg % 8 == 4);
-  byte_is = add_is (reg % 8 == 4) (rex_rm reg) (rex_both reg) 0 _ _;
+  byte_is = add_is (reg % 8 == 4) (rex_rm reg) (if nat_lt reg 8 then 0x48 else 0x4d) 0 _ _;
   outside = inl (omega arith);
   other = add_other (reg % 8 == 4);
 }
