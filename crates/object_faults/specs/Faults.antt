@@ -209,10 +209,10 @@ Earlier t f s e = (t < s) ⊎ ((t ≡ s) × (f < e))
 
 -- the first fault, by what each kind means: it stands here, at no earlier place, and no earlier kind stands anywhere
 pub record IsFirst (stands : FaultKind → List ℕ → ℕ → ℕ → Type 0) (b : List ℕ) (s e : ℕ) (kind : FaultKind) : Type 0
-    where
-  pub here : stands kind b s e
-  pub nowhere_earlier : (t f : ℕ) → Earlier t f s e → stands kind b t f → ⊥
-  pub earlier_kinds : (earlier : FaultKind) → number earlier < number kind → (t f : ℕ) → stands earlier b t f → ⊥
+  where
+    pub here : stands kind b s e
+    pub nowhere_earlier : (t f : ℕ) → Earlier t f s e → stands kind b t f → ⊥
+    pub earlier_kinds : (earlier : FaultKind) → number earlier < number kind → (t f : ℕ) → stands earlier b t f → ⊥
 
 -- what a refusal says of the bytes; nothing when memory runs out
 abbrev pub IsFault : List ℕ → ObjectFault → Type 0
