@@ -2,7 +2,6 @@ pub mod Array
 pub mod Counts
 pub mod Faults
 pub mod Fields
-pub mod Names
 pub mod Parts
 pub mod Places
 pub mod Relocations

@@ -11,7 +11,7 @@ use Rattle.image_faults.specs.Array.{has_tag, flags_entry}
 use Rattle.image_faults.specs.Array.{strings_place, strings_size, symbols_place, symbol_count, relocations_place}
 use Rattle.image_faults.specs.Array.{relocation_count, IsRightEntry}
 use Rattle.image_rules.specs.declared.rule.EntryRule.TheVariants.{Hash, Strings, Symbols, Relocations}
-use Rattle.image_faults.specs.Names.{IsNamesEnd}
+use Rattle.elf_records.specs.Strings.{IsNamesEnd}
 
 -- what kind of image the file is: by its type, and by whether it has FLAGS_1
 abbrev pub file_kind : List ℕ → FileKind

@@ -7,7 +7,7 @@ use Rattle.elf_records.specs.declared.symbol.TheConstants.{SHN_UNDEF, STB_GLOBAL
 use Rattle.image_faults.specs.declared.symbol_tests.TheConstants.{GET_ADDRESS_STRING}
 use Rattle.image_faults.specs.Parts.{tls_size}
 use Rattle.image_faults.specs.Array.{strings_place, strings_size, symbols_place}
-use Rattle.image_faults.specs.Names.{Ends}
+use Rattle.elf_records.specs.Strings.{Ends}
 
 -- symbol k
 unfoldable pub symbol : List ℕ → ℕ → SymbolEntry

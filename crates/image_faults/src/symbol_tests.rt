@@ -2,7 +2,7 @@
 
 ghost use Rattle.std.specs.Prelude.{◌≡◌, ◌+◌, ◌<◌, ◌≤◌, ◌↔◌, IsTrue};
 ghost use Rattle.image_faults.specs.Array.{strings_place, strings_size};
-ghost use Rattle.image_faults.specs.Names.{Ends};
+ghost use Rattle.elf_records.specs.Strings.{Ends};
 ghost use Rattle.image_faults.specs.Symbols.{IsRightSymbol, IsImport, IsRuntime, IsPastTls};
 
 use crate::tables::Tables;

@@ -19,7 +19,7 @@ use Rattle.image_faults.specs.declared.symbol_tests.TheConstants.{GET_ADDRESS_ST
 use Rattle.image_faults.specs.Parts.{loads, has_tls, tls_size}
 use Rattle.image_faults.specs.Array.{HasTag, HoldsTable, IsRightEntry, entry, flags_entry, symbol_count, relocation_count, relocations_size}
 use Rattle.image_faults.specs.Array.{strings_size, strings_place}
-use Rattle.image_faults.specs.Names.{Ends}
+use Rattle.elf_records.specs.Strings.{Ends}
 use Rattle.image_faults.specs.Symbols.{symbol, IsRightSymbol, IsImport, IsRuntime, IsPastTls}
 use Rattle.image_faults.specs.Relocations.{rela, loader_kind, field_width, MayName, NamesRight, HoldsField, IsBehindLast, IsRightRelocation}
 use Rattle.image_faults.specs.Relocations.{IsOutsideTls, LacksOwnTls, IsOwnOutside}

@@ -9,7 +9,7 @@ use Rattle.std.proofs.lemmas.Bool.{ne_eqb}
 use Rattle.elf_records.specs.Fields.{part_at}
 use Rattle.elf_records.specs.Laws.{part_at-own}
 use Rattle.image_faults.specs.declared.symbol_tests.TheConstants.{GET_ADDRESS_STRING}
-use Rattle.image_faults.specs.Names.{Ends}
+use Rattle.elf_records.specs.Strings.{Ends}
 use Rattle.image_file.specs.Spelled.{text_at}
 use Rattle.image_writer.specs.Tables.{name_bytes}
 

@@ -12,7 +12,7 @@ use Rattle.image_faults.specs.declared.loader_kind.LoaderKind.TheVariants.{JumpS
 use Rattle.image_faults.specs.declared.loader_kind.LoaderKind.TheVariants.{ThreadOffset, Descriptor}
 use Rattle.image_faults.specs.Parts.{segment}
 use Rattle.image_faults.specs.Array.{strings_place, strings_size}
-use Rattle.image_faults.specs.Names.{Ends}
+use Rattle.elf_records.specs.Strings.{Ends}
 use Rattle.image_faults.specs.Symbols as found
 use Rattle.image_faults.specs.Relocations as found_relocations
 use Rattle.elf_records.specs.Fields.{part_at}
