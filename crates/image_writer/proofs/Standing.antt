@@ -10,7 +10,7 @@ use Rattle.image_faults.specs.Faults.{IsImage}
 use Rattle.image_faults.specs.Parts.{loads, segment}
 use Rattle.image_faults.specs.Places.{file_kind}
 use Rattle.image_file.specs.Spelled.{Part, Spelled, spelled}
-use Rattle.image_file.specs.Spelled.{part as part_read, spelled}
+use Rattle.image_file.specs.Spelled.{part as part_read}
 use Rattle.image_file.specs.Tabled.{length-tabled, tabled_at}
 use Rattle.image_writer.specs.Contents.{part_in}
 use Rattle.image_writer.specs.Loadable.{IsLoadable}
