@@ -32,20 +32,21 @@ use Rattle.guest_arithmetic.specs.declared.flags.Flags.{Flags}
 use Rattle.guest_operands.specs.declared.state.State.{State}
 use Rattle.guest_operands.specs.declared.stop.Stop.TheVariants.{Address, Code}
 use Rattle.guest_operands.specs.Access.{Refusal, Refused, Shut, Accesses, IsSize, load_of}
-use Rattle.guest_arithmetic.specs.Arithmetic.{low, differ, bits_of, sum_effect, compute_effect, product_effect, shift_effect}
+use Rattle.guest_arithmetic.specs.Arithmetic.{low, differ, bits_of, sum_effect, compute_effect, product_effect, shift_effect, each_flag}
 use Rattle.guest_arithmetic.specs.Flags.{changed, with_changes, is_less, is_less_or_equal, is_below_or_equal, condition_of}
 use Rattle.guest_machine.specs.Follow.{Uses, Reaches, Follows, Alike, IsFollowed, IsKept, SameFlags, SameState, SameFrame, SameAfter}
 use Rattle.guest_arithmetic.specs.Cause.{used, both}
 use Rattle.guest_operands.specs.Operand.{size_of, charged, address_of, number_at, carried, weighed, taken_at, taken, put}
 use Rattle.guest_operands.specs.State.{register_of}
-use Rattle.guest_machine.specs.Step.{immediate_of, sign_extended, all_unsettled, is_cleared, settled, nop_use, finished, concluded, move_in, stored, store_byte, move_number, move_of, extend_byte}
-use Rattle.guest_machine.specs.Step.{extend_long, load_address, compute_in, compute_out, add_field, compute_plain, compute_number, compute_of, test_of, multiply_of, shift_of, pushed, push_of, pop_of}
+use Rattle.guest_machine.specs.Step.{immediate_of, is_cleared, settled, nop_use, finished, concluded, move_in, stored, store_byte, move_number, move_of, extend_byte}
+use Rattle.guest_machine.specs.Step.{extend_long, load_address, compute_in, add_field, compute_plain, compute_number, compute_of, test_of, multiply_of, shift_of, pushed, push_of, pop_of}
 use Rattle.guest_machine.specs.Step.{leave_of, return_of, call_of, jump_of, jump_if, nop_of, act}
 use Rattle.guest_operands.specs.Use.{◌>>=◌, plus, clean, there, After, left}
 use Rattle.guest_arithmetic.specs.Values.{Operations}
 use Rattle.guest_machine.proofs.Follow.{all_registers, follows-then, follows-same, follows-clean, follows-there, follows-if, uses-used, uses-same, uses-both, uses-charged, same_register, same_with, same_word}
 use Rattle.guest_machine.proofs.Follow.{same_stack, same_place, carried-same, kept-same, kept_byte-same, number_at-uses, address-uses, unmoved-uses}
 use Rattle.guest_machine.proofs.FollowMemory.{load-reach, store-reach}
+use Rattle.amd64_subset.specs.Number.{signed_long_of}
 
 size_of-is : (width : Width) → IsSize (size_of width)
 size_of-is Long = inr (inl refl)
@@ -283,7 +284,7 @@ module _ {W F B W' F' B' : Type 0} (same : Alike W F B W' F' B') (ops : Operatio
   extend_long-follows f f' s s' m m' to from g h k =
       follows-then same.word Then _ _ _ _ (carried-follows Long f f' s s' m m' from g h k)
       (λ w w' x. record {
-        state = same_place same _ _ (same_word same s s' h to _ _ (carried-same same ops ops' followed sign_extended (ops.number_of w) (ops'.number_of w') (followed.number_of w w' x))) f.next f'.next
+        state = same_place same _ _ (same_word same s s' h to _ _ (carried-same same ops ops' followed (λ n. signed_long_of (low Long n)) (ops.number_of w) (ops'.number_of w') (followed.number_of w w' x))) f.next f'.next
             g.next;
         memory = k;
       })
@@ -303,10 +304,10 @@ module _ {W F B W' F' B' : Type 0} (same : Alike W F B W' F' B') (ops : Operatio
       (follows-same Then _ _ _ _ (taken-follows width f f' s s' m m' from _ _ g h k (number_at-uses same ops ops' followed width _ _ (same_register same s.registers s'.registers h.registers to)))
       (λ it. concluded-follows arithmetic width (OfSlot to) (compute_effect arithmetic width it.other it.number) f f' s s' m m' g h k))
 
-  compute_out-follows : (arithmetic : Arithmetic) (width : Width) (f f' : Frame) (s : State W F) (s' : State W' F') (m : M) (m' : M') (to : Memory) (from : Register)
-      → SameFrame same f f' → SameState same s s' → Same m m' → Follows Then (compute_out ops acc arithmetic width f s m to from) (compute_out ops' acc' arithmetic width f' s' m' to from)
-  unfolding compute_out
-  compute_out-follows arithmetic width f f' s s' m m' to from g h k =
+  compute_memory-follows : (arithmetic : Arithmetic) (width : Width) (f f' : Frame) (s : State W F) (s' : State W' F') (m : M) (m' : M') (to : Memory) (from : Register)
+      → SameFrame same f f' → SameState same s s' → Same m m' → Follows Then (compute_of ops acc arithmetic width f s m (IntoMemory to from)) (compute_of ops' acc' arithmetic width f' s' m' (IntoMemory to from))
+  unfolding compute_of
+  compute_memory-follows arithmetic width f f' s s' m m' to from g h k =
       follows-same Then _ _ _ _
       (taken-follows width f f' s s' m m' (InMemory to) _ _ g h k (number_at-uses same ops ops' followed width _ _ (same_register same s.registers s'.registers h.registers from)))
       (λ it. concluded-follows arithmetic width it.slot (compute_effect arithmetic width it.number it.other) f f' s s' m m' g h k)
@@ -314,7 +315,7 @@ module _ {W F B W' F' B' : Type 0} (same : Alike W F B W' F' B') (ops : Operatio
   -- a field that is added to a base, where the second machine adds a number
   field_added : (at n' : ℕ) → ((f : F) (f' : F') → same.flag (ops.unsettled f) f') → (to : Register) (f f' : Frame) (s : State W F) (s' : State W' F') (m : M) (m' : M')
       → SameFrame same f f' → SameState same s s' → Same m m' → (r r' : Result ℕ Cause) → Uses (λ p q. p ≡ q) r (used (plus n') r')
-      → Follows Then (clean s.place (charged (Some at) r) >>= (λ number. finished ops acc Quad (OfSlot to) (record { number = number; changes = all_unsettled }) f s m))
+      → Follows Then (clean s.place (charged (Some at) r) >>= (λ number. finished ops acc Quad (OfSlot to) (record { number = number; changes = each_flag Unsettled }) f s m))
       ((clean s'.place (both (used (low Quad) r') (Ok (low Quad n'))) >>= (λ parts. Ok (as_taken to parts.0 parts.1)))
       >>= (λ it. concluded ops' acc' Add Quad it.slot (compute_effect Add Quad it.number it.other) f' s' m'))
   unfolding finished concluded put compute_effect sum_effect with_changes
@@ -338,7 +339,7 @@ module _ {W F B W' F' B' : Type 0} (same : Alike W F B W' F' B') (ops : Operatio
       follows-same Then _ _ _ _ (follows-clean (λ p q. p ≡ q) s.place s'.place _ _
       (uses-charged (λ p q. p ≡ q) (Some at) (Some at') _ _
       (followed.moved at (Some at') f.immediate f'.immediate x (register_of s.registers to) (register_of s'.registers to) (same_register same s.registers s'.registers h.registers to))))
-      (λ number. finished-follows Quad (OfSlot to) (record { number = number; changes = all_unsettled }) f f' s s' m m' g h k)
+      (λ number. finished-follows Quad (OfSlot to) (record { number = number; changes = each_flag Unsettled }) f f' s s' m m' g h k)
   add_field-follows at None to f f' s s' m m' x g h k =
       field_added at f'.immediate (followed.free at f.immediate f'.immediate x) to f f' s s' m m' g h k _ _
       (followed.moved at None f.immediate f'.immediate x (register_of s.registers to) (register_of s'.registers to) (same_register same s.registers s'.registers h.registers to))
@@ -374,7 +375,7 @@ module _ {W F B W' F' B' : Type 0} (same : Alike W F B W' F' B') (ops : Operatio
       → SameFrame same f f' → SameState same s s' → Same m m' → Follows Then (compute_of ops acc arithmetic width f s m operands) (compute_of ops' acc' arithmetic width f' s' m' operands)
   unfolding compute_of
   compute_of-follows arithmetic width f f' s s' m m' (IntoRegister to from) g h k = compute_in-follows arithmetic width f f' s s' m m' to from g h k
-  compute_of-follows arithmetic width f f' s s' m m' (IntoMemory to from) g h k = compute_out-follows arithmetic width f f' s s' m m' to from g h k
+  compute_of-follows arithmetic width f f' s s' m m' (IntoMemory to from) g h k = compute_memory-follows arithmetic width f f' s s' m m' to from g h k
   compute_of-follows arithmetic width f f' s s' m m' (Immediate to) g h k =
       compute_number-follows arithmetic width f.immediate_field f'.immediate_field f f' s s' m m' to g.immediate g h k
 

@@ -1,6 +1,6 @@
 -- An instruction asks only for the bytes that it touches: where none of them is closed, its step is the same.
 use Rattle.std.proofs.Common.{◌≡◌, ℕ, zero, suc, ◌-◌, ◌^◌, Bool, true, false, List, [], ◌∷◌, Option, Some, None, Result, Ok, Err, refl, sym, ap, subst, ◌∙◌}
-use Rattle.std.specs.Prelude.{if◌then◌else◌}
+use Rattle.std.specs.Prelude.{if◌then◌else◌, is_err}
 use Rattle.std.specs.List.{list_any}
 use Rattle.std.proofs.lemmas.Bool.{or_parts}
 use Rattle.std.proofs.lemmas.List.Folds.{list_any-append}
@@ -35,18 +35,20 @@ use Rattle.guest_operands.specs.declared.stop.Stop.{Stop}
 use Rattle.guest_machine.specs.declared.touch.Direction.TheVariants.{Load, Store}
 use Rattle.guest_machine.specs.declared.touch.Touch.{Touch}
 use Rattle.guest_machine.specs.declared.touch.Touches.{Touches}
-use Rattle.guest_operands.specs.Access.{Refusal, Accesses, closed, bytes_in, next_place, reached, bytes_from, bytes_at, all_write, put_all, code_then}
+use Rattle.guest_operands.specs.Access.{Refusal, Accesses, bytes_in, next_place, reached, bytes_from, bytes_at, all_write, put_all, code_then}
+use Rattle.guest_operands.specs.Closed.{closed}
 use Rattle.guest_operands.specs.Access.{code_at, load_of, store_of, fetch_of}
 use Rattle.guest_operands.specs.Operand.{size_for, size_of, charged, address_of, number_at, carried, weighed, taken_at, taken, put}
 use Rattle.guest_operands.specs.State.{register_of, at_place}
-use Rattle.guest_arithmetic.specs.Arithmetic.{compute_effect, product_effect}
+use Rattle.guest_arithmetic.specs.Arithmetic.{compute_effect, product_effect, each_flag}
 use Rattle.guest_operands.specs.Frame.{frame_of}
-use Rattle.guest_machine.specs.Step.{immediate_of, all_unsettled, is_cleared, add_field, finished, concluded, move_in, stored, store_byte, move_number, move_of, extend_byte, extend_long, load_address}
-use Rattle.guest_machine.specs.Step.{compute_in, compute_out, compute_plain, compute_number, compute_of, test_of, multiply_of, shift_of, pushed, push_of, pop_of, leave_of, return_of, call_of, jump_of}
+use Rattle.guest_machine.specs.Step.{immediate_of, is_cleared, add_field, finished, concluded, move_in, stored, store_byte, move_number, move_of, extend_byte, extend_long, load_address}
+use Rattle.guest_machine.specs.Step.{compute_in, compute_plain, compute_number, compute_of, test_of, multiply_of, shift_of, pushed, push_of, pop_of, leave_of, return_of, call_of, jump_of}
 use Rattle.guest_machine.specs.Step.{jump_if, nop_of, act, act_if, step_of}
-use Rattle.guest_machine.specs.Touch.{touch_at, paired, push_touch, operand_touch, changed_touches, computed_touches, touches_of, touches_if, next_touches, places_from, is_refused, refuses}
+use Rattle.guest_machine.specs.Touch.{touch_at, paired, push_touch, operand_touch, changed_touches, computed_touches, touches_of, touches_if, next_touches, places_from, refuses}
 use Rattle.guest_machine.specs.Touch.{touched_then, touched}
 use Rattle.guest_operands.specs.Use.{◌>>=◌, plus, clean, there, After, left}
+use Rattle.guest_arithmetic.specs.declared.effect.Change.TheVariants.{Unsettled}
 
 -- what follows from a value that was reached
 bind-same : {A C : Type 0} (x : Result A Stop) (f g : A → Result C Stop) → ((a : A) → x ≡ Ok a → f a ≡ g a) → (x >>= f) ≡ (x >>= g)
@@ -118,11 +120,11 @@ module _ {W F B M : Type 0} (ops : Operations W F B) (acc : Accesses M B) (shut 
       rw (writes-open acc shut m size place free, put-open acc shut m (bytes_from ops word 0 size) m place) refl
 
   -- a word that was loaded was not refused
-  loaded : (place size : ℕ) (word : W) → load_of ops acc m place size ≡ Ok word → is_refused (bytes_at acc m place size) ≡ false
+  loaded : (place size : ℕ) (word : W) → load_of ops acc m place size ≡ Ok word → is_err (bytes_at acc m place size) ≡ false
   unfolding load_of
   loaded place size word e = answered (bytes_at acc m place size) e
     where
-      answered : (r : Result (List B) Refusal) → reached ops.joined r ≡ Ok word → is_refused r ≡ false
+      answered : (r : Result (List B) Refusal) → reached ops.joined r ≡ Ok word → is_err r ≡ false
       answered (Ok bytes) e = refl
       answered (Err why) e = absurd cc
 
@@ -320,9 +322,9 @@ module _ {W F B M : Type 0} (ops : Operations W F B) (acc : Accesses M B) (shut 
     unfolding compute_number add_field
     number-open Add QuadWidth (Some at) (InRegister to) free =
         after-number (charged (Some at) (ops.moved (register_of s.registers to) f.immediate at))
-        (λ number. finished ops acc' QuadWidth (OfSlot to) (record { number = number; changes = all_unsettled }) f s m)
-        (λ number. finished ops acc QuadWidth (OfSlot to) (record { number = number; changes = all_unsettled }) f s m)
-        (λ number. finished-open QuadWidth (OfSlot to) (record { number = number; changes = all_unsettled }) tt)
+        (λ number. finished ops acc' QuadWidth (OfSlot to) (record { number = number; changes = each_flag Unsettled }) f s m)
+        (λ number. finished ops acc QuadWidth (OfSlot to) (record { number = number; changes = each_flag Unsettled }) f s m)
+        (λ number. finished-open QuadWidth (OfSlot to) (record { number = number; changes = each_flag Unsettled }) tt)
     number-open Add QuadWidth (Some at) (InMemory to) free = plain-open Add QuadWidth (Some at) (InMemory to) free
     number-open Add QuadWidth None to free = plain-open Add QuadWidth None to free
     number-open Add LongWidth field to free = plain-open Add LongWidth field to free
@@ -334,7 +336,7 @@ module _ {W F B M : Type 0} (ops : Operations W F B) (acc : Accesses M B) (shut 
 
     computes-open : (arithmetic : Arithmetic) (width : Width) (operands : Operands) → Free acc shut m (touches_of ops f s (Compute arithmetic width operands))
         → compute_of ops acc' arithmetic width f s m operands ≡ compute_of ops acc arithmetic width f s m operands
-    unfolding touches_of compute_of compute_in compute_out
+    unfolding touches_of compute_of compute_in
     computes-open arithmetic width (IntoRegister to from) free =
         if-open (is_cleared arithmetic to from) _ _ _ _ (finished-open width (OfSlot to) _ tt)
         (rw (taken-open width from (number_at ops width (register_of s.registers to)) None free) (bind-same (taken ops acc width f s m from (number_at ops width (register_of s.registers to)))

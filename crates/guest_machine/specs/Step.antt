@@ -1,7 +1,8 @@
 -- One instruction, and one step of the machine (Intel's manual, volume 2). A stop is found before anything changes.
 use Rattle.std.specs.Prelude.{ℕ, ◌+◌, ◌-◌, ◌%◌, ◌^◌, Bool, false, ◌==◌, nat_lt, Result, Ok, Err, Option, Some, None, if◌then◌else◌}
 use Rattle.amd64_words.specs.declared.register.Register.{Register}
-use Rattle.amd64_subset.specs.Register.{number_of}
+use Rattle.amd64_subset.specs.Register.{are_same}
+use Rattle.amd64_subset.specs.Number.{signed_long_of}
 use Rattle.amd64_subset.specs.declared.instr.Width.{Width}
 use Rattle.amd64_subset.specs.declared.instr.Width.TheVariants.{Long, Quad}
 use Rattle.amd64_subset.specs.declared.instr.Arithmetic.{Arithmetic}
@@ -30,7 +31,7 @@ use Rattle.guest_operands.specs.declared.state.State.{State}
 use Rattle.guest_operands.specs.declared.stop.Stop.{Stop}
 use Rattle.guest_operands.specs.declared.stop.Stop.TheVariants.{Code}
 use Rattle.guest_operands.specs.Access.{Accesses, load_of, store_of, fetch_of}
-use Rattle.guest_arithmetic.specs.Arithmetic.{low, bits_of, compute_effect, product_effect, shift_effect}
+use Rattle.guest_arithmetic.specs.Arithmetic.{low, bits_of, compute_effect, product_effect, shift_effect, each_flag}
 use Rattle.guest_arithmetic.specs.Flags.{with_changes, condition_of}
 use Rattle.guest_arithmetic.specs.Cause.{used}
 use Rattle.guest_operands.specs.Frame.{frame_of}
@@ -39,19 +40,10 @@ use Rattle.guest_operands.specs.State.{register_of, with_word, with_stack, at_pl
 use Rattle.guest_operands.specs.Use.{◌>>=◌, plus, clean, there, After, left}
 use Rattle.guest_arithmetic.specs.Values.{Operations}
 
--- the lower half, sign-extended to 64 bits
-abbrev pub sign_extended : ℕ → ℕ
-sign_extended number =
-    if nat_lt (low Long number) (2 ^ 31) then low Long number else low Long number + (2 ^ 64 - 2 ^ 32)
-
--- each flag is left undefined
-abbrev pub all_unsettled : Changes
-all_unsettled = record { zero = Unsettled; sign = Unsettled; carry = Unsettled; overflow = Unsettled }
-
 -- sub or xor of a register with itself, which is 0 whatever it held
 unfoldable pub is_cleared : Arithmetic → Register → Operand → Bool
-is_cleared Sub to (InRegister from) = number_of to == number_of from
-is_cleared Xor to (InRegister from) = number_of to == number_of from
+is_cleared Sub to (InRegister from) = are_same to from
+is_cleared Xor to (InRegister from) = are_same to from
 is_cleared other to from = false
 
 module _ {W F B : Type 0} (ops : Operations W F B) where
@@ -126,7 +118,8 @@ module _ {W F B M : Type 0} (ops : Operations W F B) (acc : Accesses M B) where
   unfoldable pub extend_long : Frame → State W F → M → Register → Operand → Result (After W F M) Stop
   extend_long frame state memory to from = do
     word ← carried ops acc Long frame state memory from
-    Ok (left (at_place (with_word state to (carried_as ops sign_extended (ops.number_of word))) frame.next) memory)
+    Ok (left (at_place (with_word state to (carried_as ops (λ n. signed_long_of (low Long n)) (ops.number_of word)))
+        frame.next) memory)
 
   -- lea r, m
   unfoldable pub load_address : Width → Frame → State W F → M → Register → Memory → Result (After W F M) Stop
@@ -144,20 +137,13 @@ module _ {W F B M : Type 0} (ops : Operations W F B) (acc : Accesses M B) where
         it ← taken ops acc width frame state memory from (number_at ops width (register_of state.registers to))
         concluded arithmetic width (OfSlot to) (compute_effect arithmetic width it.other it.number) frame state memory)
 
-  -- the same, into a memory operand
-  unfoldable pub compute_out : Arithmetic → Width → Frame → State W F → M → Memory → Register
-      → Result (After W F M) Stop
-  compute_out arithmetic width frame state memory to from = do
-    it ← taken ops acc width frame state memory (InMemory to) (number_at ops width (register_of state.registers from))
-    concluded arithmetic width it.slot (compute_effect arithmetic width it.number it.other) frame state memory
-
   -- an offset field is added to a base
   unfoldable pub add_field : Frame → State W F → M → Register → ℕ → Result (After W F M) Stop
   add_field frame state memory to at = do
     number ← clean state.place (charged (Some at) (ops.moved (register_of state.registers to) frame.immediate at))
-    finished Quad (OfSlot to) (record { number = number; changes = all_unsettled }) frame state memory
+    finished Quad (OfSlot to) (record { number = number; changes = each_flag Unsettled }) frame state memory
 
-  -- the same, with an immediate
+  -- add, or, and, sub, xor, cmp with an immediate
   unfoldable pub compute_plain : Arithmetic → Width → Option ℕ → Frame → State W F → M → Operand
       → Result (After W F M) Stop
   compute_plain arithmetic width field frame state memory to = do
@@ -174,8 +160,9 @@ module _ {W F B M : Type 0} (ops : Operations W F B) (acc : Accesses M B) where
   unfoldable pub compute_of : Arithmetic → Width → Frame → State W F → M → Operands → Result (After W F M) Stop
   compute_of arithmetic width frame state memory (IntoRegister to from) =
       compute_in arithmetic width frame state memory to from
-  compute_of arithmetic width frame state memory (IntoMemory to from) =
-      compute_out arithmetic width frame state memory to from
+  compute_of arithmetic width frame state memory (IntoMemory to from) = do
+    it ← taken ops acc width frame state memory (InMemory to) (number_at ops width (register_of state.registers from))
+    concluded arithmetic width it.slot (compute_effect arithmetic width it.number it.other) frame state memory
   compute_of arithmetic width frame state memory (Immediate to) =
       compute_number arithmetic width frame.immediate_field frame state memory to
 
