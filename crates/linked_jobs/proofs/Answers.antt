@@ -28,7 +28,7 @@ use Rattle.whole_meaning.specs.declared.sequences.Sequence.{Sequence}
 use Rattle.whole_meaning.specs.Laws.{IsGeneral}
 use Rattle.whole_meaning.specs.Meanings.{Meaning}
 use Rattle.whole_meaning.specs.Running.{meaning}
-use Rattle.whole_meaning.specs.Sequences.{after_call, asks, descriptor_calls, does, looks_first, sequence_result, stack_use, variable_address, variable_distance, with_answer, without_flags}
+use Rattle.whole_meaning.specs.Sequences.{after_call, asks, descriptor_calls, does, looks_first, sequence_result, stack_use, variable_address, variable_distance, without_flags}
 use Rattle.whole_meaning.specs.Threads.{Meant, Memory, came_late, code_owner, held_next, meant_stack, meant_steps, resume_meant, resumed, resumed_at, resumed_by, resumed_for, sequence_at, sequence_does, sequence_next, start_in}
 use Rattle.tied_meaning.specs.Numbers.{Setting, SameWord, alike}
 use Rattle.tied_meaning.specs.Ties.{AreTied, IsTied}
@@ -37,6 +37,7 @@ use Rattle.tied_memory.proofs.Live.{one_owner, tied_at}
 use Rattle.site_steps.proofs.Owners.{HasOwner, numbered_same, owner_is}
 use Rattle.call_alike.proofs.Simulated.{calls_alike}
 use Rattle.linked_jobs.specs.Answers.{Finds, TakesFew, TakesStep}
+use Rattle.guest_machine.specs.Machine.{with_answer}
 
 -- ** the machine follows
 
@@ -249,12 +250,12 @@ module _ {g : Setting} {m : Meaning} {q : Loads ℕ} {history : List Event} {thr
       → Leaves s t (variable_address s (block_start thread d.y))
   general_leaves s t d Gd is e =
       let number = variable_address s (block_start thread d.y) in
-      let state = at_place (with_answer (Number number) (after_call d.state)) s.next in
+      let state = at_place (with_answer (after_call d.state) (Number number)) s.next in
       leaves_state s t number state (left_state d.state.place (stack_use (meant_stack m thread) d.state d.memory) state
       ((meant_stack m thread).forget d.memory) t.after e) refl refl
   general_leaves s t d GdInd is e =
       let number = variable_address s (block_start thread d.y) in
-      let state = at_place (with_answer (Number number) (after_call d.state)) s.next in
+      let state = at_place (with_answer (after_call d.state) (Number number)) s.next in
       leaves_state s t number state (left_state d.state.place (stack_use (meant_stack m thread) d.state d.memory) state
       ((meant_stack m thread).forget d.memory) t.after e) refl refl
   general_leaves s t d Ld is e = absurd is
@@ -270,7 +271,7 @@ module _ {g : Setting} {m : Meaning} {q : Loads ℕ} {history : List Event} {thr
       let stack = meant_stack m thread in
       let start = block_start thread d.y in
       let number = variable_distance s start d.state.thread_pointer in
-      let state = at_place (without_flags (with_answer (Number number) d.state)) s.next in
+      let state = at_place (without_flags (with_answer d.state (Number number))) s.next in
       let e = subst (λ (form : Form). does stack s thread start form d.state d.memory ≡ Ok t.after) is d.ok in
       subst (λ (pointer : ℕ). Leaves s t (variable_distance s start pointer)) d.pointer
       (leaves_state s t number state (left_state d.state.place (descriptor_calls stack s thread start d.state d.memory)

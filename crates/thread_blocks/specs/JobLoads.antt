@@ -36,10 +36,9 @@ loaded_parts m x = parts_of m x (image_at m x.image)
 
 -- the parts that the loader or threads write
 abbrev pub written_from : List Part → List (Range ℕ) → List (Range ℕ)
-written_from [] ranges = []
-written_from (part ∷ parts) [] = []
 written_from (part ∷ parts) (range ∷ ranges) =
     if is_writable part.class then range ∷ written_from parts ranges else written_from parts ranges
+written_from parts ranges = []
 
 abbrev pub tables_in : JobImages → Instance → Option Spelled → List (Range ℕ)
 tables_in m x None = []

@@ -45,18 +45,13 @@ module _ {W F B : Type 0} where
 
   module _ {L : Type 0} (x : ℕ → Turns (Held W F B) L Event) (event : ℕ → L → List Event → Option Event) where
     -- a turn of thread i, which holds the data
-    abbrev pub shared_after : Shared W F B L → ℕ → Thread (Held W F B) L Event → Option Event
-        → Thread (Held W F B) L Event → Shared W F B L
-    shared_after w i t e after = record {
-      threads = with_number w.threads i (without_data after);
-      events = with_event w.events e;
-      shared = data_in (owned_by (held_in after.phase));
-    }
-
     abbrev pub shared_turn : Shared W F B L → ℕ → Option (Thread (Held W F B) L Event) → Shared W F B L
     shared_turn w i None = w
-    shared_turn w i (Some t) =
-        shared_after w i t (event_of (event i) t w.events) (turn (x i) (with_data w.shared t) w.events)
+    shared_turn w i (Some t) = let after = turn (x i) (with_data w.shared t) w.events in record {
+      threads = with_number w.threads i (without_data after);
+      events = with_event w.events (event_of (event i) t w.events);
+      shared = data_in (owned_by (held_in after.phase));
+    }
 
     abbrev pub shared_order : List ℕ → Shared W F B L → Shared W F B L
     shared_order [] w = w

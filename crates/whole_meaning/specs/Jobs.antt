@@ -6,8 +6,7 @@ use Rattle.std.specs.List.{flat_map}
 use Rattle.std.specs.Option.{option_or}
 use Rattle.guest_arithmetic.specs.declared.cause.Cause.{Cause}
 use Rattle.guest_arithmetic.specs.declared.cause.Cause.TheVariants as cause
-use Rattle.guest_operands.specs.declared.stop.Stop.{Stop}
-use Rattle.guest_operands.specs.declared.stop.Stop.TheVariants.{Returned, Look, Address, Code, Unclean, Steps}
+use Rattle.guest_operands.specs.declared.stop.Stop.TheVariants.{Unclean}
 use Rattle.job_meaning.specs.declared.values.Byte.{Byte}
 use Rattle.job_meaning.specs.declared.values.Flag.{Flag}
 use Rattle.job_meaning.specs.declared.values.Word.{Word}
@@ -18,7 +17,7 @@ use Rattle.thread_blocks.specs.Held.{Owned, data_after}
 use Rattle.thread_blocks.specs.Instances.{instances}
 use Rattle.thread_blocks.specs.JobWorlds.{Shared, numbered_lines, shared_order}
 use Rattle.thread_blocks.specs.Lines.{Line, event_by}
-use Rattle.thread_blocks.specs.Turns.{Answered, Ending, Said, Stopped, Thread, ready, whole_order}
+use Rattle.thread_blocks.specs.Turns.{Ending, Said, Stopped, Thread, ready, whole_order}
 use Rattle.whole_meaning.specs.declared.unclean.UncleanStep.{UncleanStep}
 use Rattle.whole_meaning.specs.Meanings.{Meaning}
 use Rattle.whole_meaning.specs.Threads.{Meant, meant_ready, meant_turns}
@@ -49,18 +48,10 @@ lines_of w = map (λ t. t.said) w.threads
 
 -- ** clean or not
 
-abbrev pub unclean_stop : ℕ → ℕ → Stop → Option UncleanStep
-unclean_stop thread line (Returned number) = None
-unclean_stop thread line (Look at) = None
-unclean_stop thread line (Address at) = None
-unclean_stop thread line (Code at) = None
-unclean_stop thread line (Unclean at why) =
-    Some (record { thread = thread; line = line; address = at; cause = why })
-unclean_stop thread line (Steps at) = None
-
 abbrev pub unclean_ending : ℕ → ℕ → Ending → Option UncleanStep
-unclean_ending thread line (Answered answer) = None
-unclean_ending thread line (Stopped stop) = unclean_stop thread line stop
+unclean_ending thread line (Stopped (Unclean at why)) =
+    Some (record { thread = thread; line = line; address = at; cause = why })
+unclean_ending thread line ending = None
 
 -- the first of a thread's lines from this number on
 abbrev pub first_in : ℕ → ℕ → List Said → Option UncleanStep
