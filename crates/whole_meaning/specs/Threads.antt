@@ -216,11 +216,3 @@ module _ (m : Meaning) (thread : ℕ) where
     begin = λ line seen h. begin_meant line seen h;
     resume = λ seen h. resume_meant seen h;
   }
-
-  -- what a thread holds before its first line: its blocks of the startup images
-  abbrev pub meant_ready : Meant
-  meant_ready = looked m.loads thread [] (record {
-    after = left (start_of ops 0 0 (Number 0) (Number 0) (Number 0)) (record { seen = []; stack = []; own = [] });
-    owners = [];
-    asked = None;
-  })
