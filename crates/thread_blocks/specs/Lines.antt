@@ -20,6 +20,7 @@ use Rattle.thread_blocks.specs.Instances.{Loads, instance_at, left_by}
 use Rattle.thread_blocks.specs.Held.{Held, block_bytes, owned_by, loaded, looked, reached}
 use Rattle.thread_blocks.specs.MachineTurns.{call_start, fresh_stack}
 use Rattle.thread_blocks.specs.Turns.{Ending, Answered, Begun, Says, Calls, with_last}
+use Rattle.std.specs.Option.{option_map_or}
 
 -- a line of a thread, with its number, from 1
 pub record Line : Type 0 where
@@ -78,17 +79,13 @@ module _ {W F B : Type 0} (ops : Operations W F B) (l : Loads B) (show : List B 
   with_load false (Some x) h = loaded l thread x h
   with_load was x h = h
 
-  abbrev pub opened_as : Option Instance → ℕ
-  opened_as None = 0
-  opened_as (Some x) = x.number
-
   abbrev pub begun_open : Line → List Event → Held W F B → Option OpenRefusal → Begun (Held W F B)
   begun_open line seen h (Some refusal) = refused (refused_open refusal) h
   begun_open line seen h None =
       let all = with_last seen (event_at thread line.number true line.told.image) in
       let x = instance_at l all line.told.image in
       let was = is_loaded (module_of (left_by l seen) line.told.image) in
-      Says (Answered (Opened (opened_as x))) (with_load was x (looked l thread all h))
+      Says (Answered (Opened (option_map_or (λ (x : Instance). x.number) x 0))) (with_load was x (looked l thread all h))
 
   abbrev pub begun_close : Line → List Event → Held W F B → Option CloseRefusal → Begun (Held W F B)
   begun_close line seen h (Some refusal) = refused (refused_close refusal) h

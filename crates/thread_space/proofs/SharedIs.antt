@@ -13,8 +13,9 @@ use Rattle.loaded_modules.specs.Images.{JobImages, image_at}
 use Rattle.loaded_modules.specs.Laws.{start_of}
 use Rattle.loaded_modules.specs.Loader.{bias, loaded_part, part_bytes}
 use Rattle.module_data.specs.Parts.{bytes_at, data_part, data_start, fresh_data, is_data_part, is_number, start_in}
-use Rattle.thread_blocks.specs.JobLoads.{instance_part, job_loads, parts_from, parts_of}
+use Rattle.thread_blocks.specs.JobLoads.{instance_part, job_loads, parts_from}
 use Rattle.thread_blocks.specs.Loading.{is_loaders}
+use Rattle.std.specs.Option.{option_map_or}
 
 -- ** which part
 
@@ -103,7 +104,7 @@ module _ (m : JobImages) (x : Instance) where
       (passes (is_data_part image) (range_with_len 0 (length image.parts)) i here)
 
   in_image : (image : Option Spelled) → image_at m x.image ≡ image
-      → find (λ (range : Range ℕ). range.writable) (parts_of m x image)
+      → find (λ (range : Range ℕ). range.writable) (option_map_or (λ (own : Spelled). parts_from m own x 0 own.parts) image [])
       ≡ option_map (λ start. written_range (bytes_at m x (option_and_then data_part image)) start) (start_in x image)
   in_image None is = refl
   in_image (Some image) is = found_part m x image ∙ at_number image (data_part image) is refl

@@ -2,7 +2,7 @@
 -- machine's threads, over marked values; the steps also have sequences.
 use Rattle.std.specs.Prelude.{ℕ, ◌+◌, ◌-◌, ◌++◌, ◌&&◌, ◌==◌, Bool, true, false, List, [], ◌∷◌, drop, Option, Some, None, Result, Ok, Err, nat_lt, position, replicate, unwrap_or, option_and_then, option_map, if◌then◌else◌}
 use Rattle.std.specs.List.{list_any}
-use Rattle.std.specs.Option.{option_or}
+use Rattle.std.specs.Option.{option_or, option_map_or}
 use Rattle.address_map.specs.Map.{owner_at, stack_start}
 use Rattle.guest_arithmetic.specs.declared.cause.Cause.{Cause}
 use Rattle.guest_arithmetic.specs.declared.cause.Cause.TheVariants as cause
@@ -80,13 +80,9 @@ module _ (m : Meaning) (thread : ℕ) where
   abbrev pub code_owner : List Event → ℕ → Option Instance
   code_owner seen place = numbered_instance m.loads seen (owner_at place)
 
-  abbrev pub marked_in : ℕ → Option Instance → Mark
-  marked_in place None = Usual
-  marked_in place (Some x) = m.mark x place
-
   -- the mark of an address of code, after the events that the thread has seen
   abbrev pub meant_mark : Memory → ℕ → Mark
-  meant_mark space place = marked_in place (code_owner space.seen place)
+  meant_mark space place = option_map_or (λ x. m.mark x place) (code_owner space.seen place) Usual
 
   -- the addresses of the run time, and the rooms of live instances, are the linker's own
   abbrev pub meant_shut : Memory → ℕ → Bool
