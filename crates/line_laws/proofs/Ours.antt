@@ -180,7 +180,7 @@ module _ (l : Loads ℕ) (thread : ℕ) where
   unfolding thread_steps machine
   ended-own h = over-own (h.after.state.place == 0x2000) _ (returned-own (plain_operations.number_of h.after.state.registers.rax) h.after.state.place)
 
-  result-own : (h : Runs) (r : Result (After ℕ Bool (Space Event ℕ)) Stop) → Stays r → BegunOwn (runtime.resumed l thread h r)
+  result-own : (h : Runs) (r : Result (After ℕ Bool (Space Event ℕ)) Stop) → Stays r → BegunOwn (runtime.resumed h r)
   result-own h (Ok after) k = tt
   result-own h (Err stop) k = k
 
@@ -378,7 +378,7 @@ module _ (m : Meaning) (thread : ℕ) where
   unfolding meant_steps meaning
   meant_over-own h = over-own (h.after.state.place == 0x2000) _ (returned-own (ops.number_of h.after.state.registers.rax) h.after.state.place)
 
-  meant_result-own : (h : Meant) (r : Result (After Word Flag Memory) Stop) → Stays r → BegunOwn (threads.resumed m thread h r)
+  meant_result-own : (h : Meant) (r : Result (After Word Flag Memory) Stop) → Stays r → BegunOwn (runtime.resumed h r)
   meant_result-own h (Ok after) k = tt
   meant_result-own h (Err stop) k = k
 

@@ -39,9 +39,10 @@ use Rattle.whole_meaning.specs.Meanings.{Meaning}
 use Rattle.whole_meaning.specs.Reading.{acted, done, marked_step, plain_step}
 use Rattle.whole_meaning.specs.Running.{meaning}
 use Rattle.whole_meaning.specs.Sequences.{Stack, added, after_call, called_with, descriptor_called, descriptor_calls, does, looks_first, own_base, sequence_result, stack_use, variable_address, variable_distance, with_sum, without_flags}
-use Rattle.whole_meaning.specs.Threads.{Meant, Memory, begin_meant, held_next, meant_accesses, meant_mark, meant_sequence, meant_shut, meant_show, meant_stack, meant_steps, meant_turns, ops, resume_meant, resumed, resumed_at, resumed_by, resumed_for, sequence_at, sequence_does, sequence_next}
+use Rattle.whole_meaning.specs.Threads.{Meant, Memory, begin_meant, held_next, meant_accesses, meant_mark, meant_sequence, meant_shut, meant_show, meant_stack, meant_steps, meant_turns, ops, resume_meant, resumed_at, resumed_by, resumed_for, sequence_at, sequence_does, sequence_next}
 use Rattle.meaning_laws.specs.Laws.{HasNoData}
 use Rattle.guest_machine.specs.Machine.{with_answer}
+use Rattle.thread_blocks.specs.RunTime.{resumed}
 
 module _ (m : Meaning) (thread : ℕ) (os : List Owner) where
   -- ** what a step leaves
@@ -233,7 +234,7 @@ module _ (m : Meaning) (none : HasNoData m) (thread : ℕ) where
   -- ** a look in the middle of a line
 
   resumed_holds : (h : Meant) (result : Result (After Word Flag Memory) Stop) → HoldsBlocks h
-      → ResultFine m thread h.owners result → BegunHolds (resumed m thread h result)
+      → ResultFine m thread h.owners result → BegunHolds (resumed h result)
   resumed_holds h (Ok after) holds fine = fine
   resumed_holds h (Err stop) holds fine = holds
 

@@ -32,7 +32,7 @@ use Rattle.whole_meaning.specs.Meanings.{Meaning}
 use Rattle.whole_meaning.specs.Reading.{done, marked_step, plain_step}
 use Rattle.whole_meaning.specs.Running.{meaning}
 use Rattle.whole_meaning.specs.Sequences.{Stack, added, after_call, called_with, descriptor_called, descriptor_calls, does, looks_first, own_base, sequence_result, stack_use, variable_address, variable_distance, with_sum, without_flags}
-use Rattle.whole_meaning.specs.Threads.{Meant, Memory, begin_meant, held_next, meant_accesses, meant_mark, meant_shut, meant_show, meant_stack, meant_steps, meant_turns, ops, resume_meant, resumed, resumed_at, resumed_by, resumed_for, sequence_at, sequence_does, sequence_next}
+use Rattle.whole_meaning.specs.Threads.{Meant, Memory, begin_meant, held_next, meant_accesses, meant_mark, meant_shut, meant_show, meant_stack, meant_steps, meant_turns, ops, resume_meant, resumed_at, resumed_by, resumed_for, sequence_at, sequence_does, sequence_next}
 use Rattle.shared_data.specs.Changes.{Change, Noted, noted_by, noting, unchanged}
 use Rattle.shared_data.specs.Steps.{changes_at, meant_changes}
 use Rattle.shared_data.proofs.Begins.{BegunHolds, begin_holds}
@@ -43,6 +43,7 @@ use Rattle.shared_data.proofs.Left.{AreLeft}
 use Rattle.shared_data.proofs.Noting.{Keeps, Proved, ResultKeeps, StoresKeep, plain, proved_accesses, then_keeps}
 use Rattle.shared_data.proofs.Turns.{NextHolds, TellAll}
 use Rattle.guest_machine.specs.Machine.{with_answer}
+use Rattle.thread_blocks.specs.RunTime.{resumed}
 
 abbrev pub At : Type 0
 At = After Word Flag Memory
@@ -280,7 +281,7 @@ module _ (m : Meaning) (thread : ℕ) where
     -- ** looks
 
     resumed_holds : (log : List (Change Byte)) (h : Meant) (result : Result At Stop) → Holds m.loads thread seen log h
-        → ResultKeeps Here log h.owners result → BegunHolds m.loads thread seen log (resumed m thread h result)
+        → ResultKeeps Here log h.owners result → BegunHolds m.loads thread seen log (resumed h result)
     resumed_holds log h (Ok after) holds keeps = keeps
     resumed_holds log h (Err stop) holds keeps = holds
 

@@ -39,6 +39,11 @@ abbrev pub word_of : Result (List ℕ) Refusal → Result ℕ Refusal
 word_of (Ok bytes) = Ok (number_from bytes)
 word_of (Err why) = Err why
 
+-- a thread after what a look let it do
+abbrev pub resumed : {W F B : Type 0} → Held W F B → Result (After W F (Space Event B)) Stop → Begun (Held W F B)
+resumed h (Ok after) = Calls (record h { after = after })
+resumed h (Err stop) = Says (Stopped stop) h
+
 module _ (l : Loads ℕ) (thread : ℕ) where
   -- the accesses that a thread's memory offers
   unfoldable pub thread_accesses : Accesses (Space Event ℕ) ℕ
@@ -116,10 +121,6 @@ module _ (l : Loads ℕ) (thread : ℕ) where
   }
 
   -- ---- a look in the middle of a line
-
-  abbrev pub resumed : Runs → Result (After ℕ Bool (Space Event ℕ)) Stop → Begun Runs
-  resumed h (Ok after) = Calls (record h { after = after })
-  resumed h (Err stop) = Says (Stopped stop) h
 
   abbrev pub resumed_in : Asked → Runs → Option Instance → Begun Runs
   resumed_in asked h None = Says (Stopped (Address h.after.state.place)) h

@@ -31,7 +31,7 @@ use Rattle.whole_meaning.specs.Meanings.{Meaning}
 use Rattle.whole_meaning.specs.Reading.{done, marked_step, plain_step}
 use Rattle.whole_meaning.specs.Running.{meaning}
 use Rattle.whole_meaning.specs.Sequences.{Stack, added, after_call, called_with, descriptor_called, descriptor_calls, does, looks_first, own_base, sequence_result, stack_use, variable_address, variable_distance, with_sum, without_flags}
-use Rattle.whole_meaning.specs.Threads.{Meant, Memory, begin_meant, held_next, meant_accesses, meant_mark, meant_shut, meant_show, meant_stack, meant_steps, meant_turns, ops, resume_meant, resumed, resumed_at, resumed_by, resumed_for, sequence_at, sequence_does, sequence_next}
+use Rattle.whole_meaning.specs.Threads.{Meant, Memory, begin_meant, held_next, meant_accesses, meant_mark, meant_shut, meant_show, meant_stack, meant_steps, meant_turns, ops, resume_meant, resumed_at, resumed_by, resumed_for, sequence_at, sequence_does, sequence_next}
 use Rattle.thread_blocks.specs.Instances.{instances, numbered_instance}
 use Rattle.thread_blocks.specs.Turns.{Begun}
 use Rattle.thread_blocks.specs.TurnsAlike.{IsFront}
@@ -47,6 +47,7 @@ use Rattle.tls_map_laws.proofs.Begins.{BegunFits, FitsBy, begin_fits, looked_fit
 use Rattle.tls_map_laws.proofs.Turns.{KeepsMap, NextFits}
 use Rattle.tls_map_laws.proofs.Moment.{found_member}
 use Rattle.guest_machine.specs.Machine.{with_answer}
+use Rattle.thread_blocks.specs.RunTime.{resumed}
 
 abbrev At : Type 0
 At = After Word Flag Memory
@@ -251,7 +252,7 @@ module _ (m : Meaning) (thread : ℕ) (history : List Event) (known : Known m.lo
   -- ** looks
 
   resumed_fits : (acts : List (Act Byte)) (h : Meant) (result : Result At Stop) → Fit acts h
-      → ResultFits acts h.owners result → Begin acts (resumed m thread h result)
+      → ResultFits acts h.owners result → Begin acts (resumed h result)
   resumed_fits acts h (Ok after) fits now = now
   resumed_fits acts h (Err stop) fits now = fits
 

@@ -42,6 +42,7 @@ use Rattle.whole_meaning.specs.Meanings.{Meaning}
 use Rattle.whole_meaning.specs.Running.{meaning}
 use Rattle.whole_meaning.specs.Sequences.{Stack, asks, looks_first, sequence_result}
 use Rattle.whole_meaning.specs.declared.sequences.Sequence.{Sequence}
+use Rattle.thread_blocks.specs.RunTime.{resumed}
 
 -- the operations of marked values; an address tells whose code lies there
 abbrev pub ops : Operations Word Flag Byte
@@ -98,15 +99,10 @@ module _ (m : Meaning) (thread : ℕ) where
   abbrev pub came_late : ℕ → Bool
   came_late number = nat_lt (startup_count m.loads.infos) number
 
-  -- the address of the thread's block of an instance
-  abbrev pub start_in : Option Instance → ℕ
-  start_in None = 0
-  start_in (Some x) = block_start thread x
-
   -- the step of a sequence, without a look
   abbrev pub sequence_does : Sequence → After Word Flag Memory → Result (After Word Flag Memory) Stop
   sequence_does s at = sequence_result meant_stack s thread
-      (start_in (numbered_instance m.loads at.memory.seen s.target)) at.state at.memory
+      (option_map_or (block_start thread) (numbered_instance m.loads at.memory.seen s.target) 0) at.state at.memory
 
   -- a sequence that asks the run time for a variable of an instance that is not a startup one looks first
   abbrev pub sequence_next : After Word Flag Memory → Sequence → Next (After Word Flag Memory)
@@ -130,10 +126,6 @@ module _ (m : Meaning) (thread : ℕ) where
   }
 
   -- ** a look in the middle of a line: a sequence asks for a variable
-
-  abbrev pub resumed : Meant → Result (After Word Flag Memory) Stop → Begun Meant
-  resumed h (Ok after) = Calls (record h { after = after })
-  resumed h (Err stop) = Says (Stopped stop) h
 
   -- the thread reaches its block of the instance, and does the sequence
   abbrev pub resumed_by : Meant → Sequence → Option Instance → Begun Meant
