@@ -7,7 +7,7 @@ use Rattle.guest_arithmetic.specs.Plain.{plain_operations}
 use Rattle.guest_arithmetic.specs.Values.{number_from}
 use Rattle.guest_operands.specs.declared.stop.Stop.{Stop}
 use Rattle.guest_operands.specs.declared.stop.Stop.TheVariants.{Address}
-use Rattle.guest_machine.specs.Access.{Accesses, Refusal, bytes_at, both_reached}
+use Rattle.guest_machine.specs.Access.{Accesses, Refusal, bytes_at, both_reached, reached as read_as}
 use Rattle.guest_machine.specs.Machine.{answer_of}
 use Rattle.guest_machine.specs.Ranges.{Range}
 use Rattle.guest_machine.specs.Run.{Next, Goes, Ends, Looks, Stepping, machine}
@@ -35,10 +35,6 @@ has_words address range = nat_le range.start address && nat_le (address + 16) (r
 abbrev pub pair : ℕ → ℕ → ℕ × ℕ
 pair a b = (a, b)
 
-abbrev pub word_of : Result (List ℕ) Refusal → Result ℕ Refusal
-word_of (Ok bytes) = Ok (number_from bytes)
-word_of (Err why) = Err why
-
 -- a thread after what a look let it do
 abbrev pub resumed : {W F B : Type 0} → Held W F B → Result (After W F (Space Event B)) Stop → Begun (Held W F B)
 resumed h (Ok after) = Calls (record h { after = after })
@@ -52,7 +48,7 @@ module _ (l : Loads ℕ) (thread : ℕ) where
       (λ seen. pointer_word plain_operations thread ∷ fixed_at l seen) open_everywhere
 
   abbrev pub word_at : Space Event ℕ → ℕ → Result ℕ Refusal
-  word_at space address = word_of (bytes_at thread_accesses space address 8)
+  word_at space address = read_as number_from (bytes_at thread_accesses space address 8)
 
   -- ---- the question
 

@@ -25,6 +25,7 @@ use Rattle.whole_meaning.specs.Bytes.{block_bytes, class_bytes, function_of, var
 use Rattle.whole_meaning.specs.Code.{mark_of, sequence_of}
 use Rattle.whole_meaning.specs.Meanings.{Meaning}
 use Rattle.whole_meaning.specs.Spots.{bias_of, in_room}
+use Rattle.std.specs.Option.{option_map_or}
 
 -- ** what is known of an image from the start
 
@@ -65,12 +66,8 @@ abbrev pub data_ranges : Linking → ℕ → Option (Range Byte)
 data_ranges l bias = if has_data l then Some (class_range l bias (Writable true)) else None
 
 -- for an instance's image, if there is one
-abbrev pub at_bias : {A : Type 0} → A → (Linking → ℕ → A) → ℕ → Option Linking → A
-at_bias none f number None = none
-at_bias none f number (Some l) = f l (bias_of l.kind number)
-
 abbrev pub of_image : {A : Type 0} → List Linking → A → (Linking → ℕ → A) → Instance → A
-of_image ls none f x = at_bias none f x.number (at_number ls x.image)
+of_image ls none f x = option_map_or (λ l. f l (bias_of l.kind x.number)) (at_number ls x.image) none
 
 -- ** all of it
 
