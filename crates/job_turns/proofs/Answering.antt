@@ -7,7 +7,7 @@ use Rattle.guest_arithmetic.specs.Plain.{plain_operations}
 use Rattle.guest_operands.specs.declared.state.State.{State}
 use Rattle.guest_operands.specs.declared.stop.Stop.{Stop}
 use Rattle.guest_operands.specs.declared.stop.Stop.TheVariants.{Address}
-use Rattle.guest_operands.specs.Access.{Accesses, Refusal, Refused, Shut, both_reached, bytes_at, cons, load_of, next_place, reached as reached_so, reached as read_as}
+use Rattle.guest_operands.specs.Access.{Accesses, Refusal, Refused, Shut, both_reached, bytes_at, cons, load_of, next_place, reached as reached_so}
 use Rattle.guest_operands.specs.Ranges.{AddressSpace, range_accesses}
 use Rattle.guest_operands.specs.Use.{◌>>=◌, After, left, there}
 use Rattle.guest_machine.specs.Machine.{Answers, Standing, answer_of}
@@ -50,7 +50,7 @@ module _ (k : Kept) (seen : List Event) (has : HasSeen k.vector seen) where
 
   word-same : (address : ℕ) → word_in k address 8 ≡ word_at (job_loads k.vector.images) k.vector.thread (space_in seen k) address
   unfolding thread_accesses
-  word-same address = ap (read_as number_from) (bytes-same 8 address)
+  word-same address = ap (reached_so number_from) (bytes-same 8 address)
 
   from-same : (is_descriptor : Bool) (address : ℕ) (found : Option Instance)
       → asked_of (job_loads k.vector.images) k.vector.thread (space_in seen k) is_descriptor address found ≡ asked_from k is_descriptor address found

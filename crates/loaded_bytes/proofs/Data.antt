@@ -25,7 +25,6 @@ use Rattle.loaded_modules.specs.declared.instance.Instance.{Instance}
 use Rattle.object_faults.specs.declared.class.SectionClass.TheVariants as class
 use Rattle.relocated_parts.proofs.Fold.{left_long}
 use Rattle.thread_blocks.specs.JobLoads.{instance_part, job_loads, parts_from}
-use Rattle.thread_blocks.specs.Loading.{is_loaders}
 use Rattle.tls_layout.specs.declared.extent.Extent.{Extent}
 use Rattle.tls_layout.specs.Laws.{extent_for}
 use Rattle.tls_layout.specs.Places.{executable, read_only, tls_image, writable}
@@ -206,7 +205,7 @@ module _ (ls : List Linking) (l : Linking) (x : Instance) where
     abbrev extent : Extent
     extent = extent_for (class.Writable true) (layout l)
 
-    range_is : (n : ℕ) → is_loaders (image_of l).got n ≡ false → (extent_for (class.Writable true) (layout l)).start
+    range_is : (n : ℕ) → option_map_or (λ (own : ℕ). own == n) (image_of l).got false ≡ false → (extent_for (class.Writable true) (layout l)).start
         < (extent_for (class.Writable true) (layout l)).end
         → IsDataOf l (bias_of l.kind x.number)
         (instance_part (images_of ls) (image_of l) x n (class_part l (class.Writable true)))

@@ -22,7 +22,6 @@ use Rattle.relocated_parts.proofs.Fold.{left_long}
 use Rattle.relocated_parts.proofs.Parts.{lies_at, one_part, part_within}
 use Rattle.relocated_parts.specs.Laws.{end_of}
 use Rattle.thread_blocks.specs.JobLoads.{instance_part, job_loads, parts_from, written_from}
-use Rattle.thread_blocks.specs.Loading.{is_code}
 use Rattle.whole_meaning.specs.Spots.{bias_of}
 use Rattle.loaded_bytes.specs.Laws.{IsInstanceOf, images_of}
 use Rattle.loaded_bytes.specs.Places.{IsApart, IsOwn, PlacesAreOwn}
@@ -31,6 +30,7 @@ use Rattle.loaded_bytes.proofs.Ranges.{still}
 use Rattle.loaded_bytes.proofs.Still.{fixed_is, image_is}
 use Rattle.link_core.proofs.TogetherPlaces.{second as second_of}
 use Rattle.std.specs.Option.{option_map_or}
+use Rattle.image_names.specs.Functions.{is_code}
 
 pub holds_so : (start place n : ℕ) → (nat_le start place && nat_lt (place - start) n) ≡ true
     → (start ≤ place) × (place - start < n)

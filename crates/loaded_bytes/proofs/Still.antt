@@ -19,7 +19,6 @@ use Rattle.object_faults.specs.declared.class.SectionClass.{SectionClass}
 use Rattle.object_faults.specs.declared.class.SectionClass.TheVariants.{Executable, ReadOnly, Tls}
 use Rattle.relocated_parts.proofs.Parts.{parts_follow}
 use Rattle.thread_blocks.specs.JobLoads.{instance_part, job_loads, parts_from}
-use Rattle.thread_blocks.specs.Loading.{is_loaders}
 use Rattle.thread_blocks.specs.Turns.{at_number}
 use Rattle.tls_layout.specs.Laws.{extent_for}
 use Rattle.whole_meaning.specs.Spots.{bias_of}
@@ -47,11 +46,11 @@ unfolding job_loads
 fixed_is ls l x e = ap (λ image. still (option_map_or (λ (own : Spelled). parts_from (images_of ls) own x 0 own.parts) image [])) (image_is ls l x e)
 
 -- the part of a class is not the table
-pub not_table : (l : Linking) (i : ℕ) → i < length (section_places (layout l)) → is_loaders (image_of l).got i ≡ false
+pub not_table : (l : Linking) (i : ℕ) → i < length (section_places (layout l)) → option_map_or (λ (own : ℕ). own == i) (image_of l).got false ≡ false
 unfolding image_of finished contents got_number
 not_table l i low = of_test (got_size l == 0)
   where
-    of_test : (t : Bool) → is_loaders (if t then None else Some (length (section_places (layout l)))) i ≡ false
+    of_test : (t : Bool) → option_map_or (λ (own : ℕ). own == i) (if t then None else Some (length (section_places (layout l)))) false ≡ false
     of_test true = refl
     of_test false = ne_eqb (length (section_places (layout l))) i (λ e. omega (arith, e, low))
 

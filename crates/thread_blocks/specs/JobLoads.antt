@@ -1,6 +1,6 @@
 -- What is loaded of a job's images: each part of a live instance at its address, as the loader leaves it, with the
 -- rights of its class (gABI, "Program Loading").
-use Rattle.std.specs.Prelude.{◌+◌, ◌&&◌, ℕ, not, suc, List, [], ◌∷◌, Option, Some, None, option_and_then, option_map, if◌then◌else◌}
+use Rattle.std.specs.Prelude.{◌+◌, ◌==◌, ◌&&◌, ℕ, false, not, suc, List, [], ◌∷◌, Option, Some, None, option_and_then, option_map, if◌then◌else◌}
 use Rattle.std.specs.List.{filter, find}
 use Rattle.guest_machine.specs.Ranges.{Range}
 use Rattle.image_file.specs.Spelled.{Part, Spelled, is_writable}
@@ -9,18 +9,17 @@ use Rattle.loaded_modules.specs.Images.{JobImages, image_at, infos, last_offset}
 use Rattle.loaded_modules.specs.Loader.{bias, fresh_block, part_bytes}
 use Rattle.thread_blocks.specs.Instances.{Loads}
 use Rattle.image_names.specs.declared.variable.Variable.{Variable}
-use Rattle.image_names.specs.Functions.{entry_in}
+use Rattle.image_names.specs.Functions.{entry_in, is_code}
 use Rattle.image_names.specs.Variables.{variable_in}
-use Rattle.thread_blocks.specs.Loading.{is_code, is_loaders}
 use Rattle.std.specs.Option.{option_map_or}
 
--- part i of an image, in an instance
+-- part i of an image, in an instance; one of them, the GOT, only the loader writes
 abbrev pub instance_part : JobImages → Spelled → Instance → ℕ → Part → Range ℕ
 instance_part m image x i part = record {
   start = part.address + bias image.kind x.number;
   bytes = part_bytes m image x part;
   readable = not (is_code part.class);
-  writable = is_writable part.class && not (is_loaders image.got i);
+  writable = is_writable part.class && not (option_map_or (λ got. got == i) image.got false);
   runnable = is_code part.class;
 }
 

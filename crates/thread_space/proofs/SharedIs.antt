@@ -1,5 +1,5 @@
 -- The data that a thread finds of an instance are those that the code keeps: the first part that programs write.
-use Rattle.std.proofs.Common.{◌≡◌, ◌∙◌, ◌+◌, ◌&&◌, ℕ, suc, Bool, true, false, not, List, [], ◌∷◌, length, Option, Some, None, refl, sym, ap, subst, inl, inr, add-one, arith, cond}
+use Rattle.std.proofs.Common.{◌≡◌, ◌∙◌, ◌+◌, ◌&&◌, ℕ, suc, Bool, true, false, not, List, [], ◌∷◌, length, Option, Some, None, refl, sym, ap, subst, inl, inr, add-one, arith, cond, ◌==◌}
 use Rattle.std.specs.Prelude.{option_and_then, option_map, slice_get}
 use Rattle.std.specs.List.{find, range_with_len}
 use Rattle.std.proofs.lemmas.Bool.{cases_Bool, true≢false}
@@ -14,12 +14,11 @@ use Rattle.loaded_modules.specs.Laws.{start_of}
 use Rattle.loaded_modules.specs.Loader.{bias, loaded_part, part_bytes}
 use Rattle.module_data.specs.Parts.{bytes_at, data_part, data_start, fresh_data, is_data_part, is_number, start_in}
 use Rattle.thread_blocks.specs.JobLoads.{instance_part, job_loads, parts_from}
-use Rattle.thread_blocks.specs.Loading.{is_loaders}
 use Rattle.std.specs.Option.{option_map_or}
 
 -- ** which part
 
-number_same : (got : Option ℕ) (i : ℕ) → is_loaders got i ≡ is_number got i
+number_same : (got : Option ℕ) (i : ℕ) → option_map_or (λ (own : ℕ). own == i) got false ≡ is_number got i
 number_same None i = refl
 number_same (Some n) i = refl
 
@@ -73,7 +72,7 @@ passes p (x ∷ xs) i found = elim (cases_Bool (p x)) [
 
 -- a part of a class that is written is read, and not run
 as_written : (m : JobImages) (image : Spelled) (x : Instance) (i : ℕ) (part : Part) (class : PartClass) → part.class ≡ class
-    → (is_writable class && not (is_loaders image.got i)) ≡ true
+    → (is_writable class && not (option_map_or (λ (own : ℕ). own == i) image.got false)) ≡ true
     → instance_part m image x i part ≡ written_range (part_bytes m image x part) (start_of image.kind x.number part)
 as_written m image x i part Executable is t = absurd (true≢false (sym t))
 as_written m image x i part ReadOnly is t = absurd (true≢false (sym t))

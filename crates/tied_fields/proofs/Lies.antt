@@ -46,7 +46,6 @@ use Rattle.module_table.specs.declared.events.Event.{Event}
 use Rattle.object_faults.specs.declared.class.SectionClass.{SectionClass}
 use Rattle.object_faults.specs.declared.class.SectionClass.TheVariants.{Executable, ReadOnly, Tls}
 use Rattle.thread_blocks.specs.JobLoads.{job_loads}
-use Rattle.thread_blocks.specs.Loading.{is_code}
 use Rattle.tied_meaning.specs.Ties.{IsPlaceOf}
 use Rattle.tls_layout.proofs.LawsOfPlaces.{classes_follow}
 use Rattle.tls_layout.specs.Places.{room, zero_data}
@@ -55,6 +54,7 @@ use Rattle.whole_meaning.specs.Loads.{still_ranges, class_range}
 use Rattle.whole_meaning.specs.Spots.{bias_of, in_room}
 use Rattle.tied_fields.specs.Laws.{PlacesAreTied}
 use Rattle.tied_fields.proofs.CodeBytes.{fixed_meant, room_is}
+use Rattle.image_names.specs.Functions.{is_code}
 
 -- ** a place of its own
 
