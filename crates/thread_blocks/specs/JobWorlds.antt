@@ -69,12 +69,12 @@ abbrev pub numbered_lines : ℕ → List ThreadLine → List Line
 numbered_lines number [] = []
 numbered_lines number (line ∷ lines) = record { number = number; told = line } ∷ numbered_lines (suc number) lines
 
--- the data are those of the startup images
+-- before the first turn the data are those of the startup images
 abbrev pub first_data : {B : Type 0} → Loads B → List (Owned B)
 first_data l = flat_map (data_after l (λ x. true) []) (instances l [])
 
 module _ {W F B : Type 0} (ops : Operations W F B) (l : Loads B) where
-  -- a thread has the blocks of the startup images
+  -- a thread before its first line: it has the blocks of the startup images
   abbrev pub thread_ready : ℕ → Held W F B
   thread_ready thread = looked l thread [] (record {
     after = left (start_of ops 0 0 (ops.word 0) (ops.word 0) (ops.word 0)) (record { seen = []; stack = []; own = [] });

@@ -35,7 +35,7 @@ has_words address range = nat_le range.start address && nat_le (address + 16) (r
 abbrev pub pair : ℕ → ℕ → ℕ × ℕ
 pair a b = (a, b)
 
--- a thread after what a look let it do
+-- a line goes on after a look, or ends with a stop
 abbrev pub resumed : {W F B : Type 0} → Held W F B → Result (After W F (Space Event B)) Stop → Begun (Held W F B)
 resumed h (Ok after) = Calls (record h { after = after })
 resumed h (Err stop) = Says (Stopped stop) h

@@ -99,7 +99,7 @@ module _ (m : Meaning) (thread : ℕ) where
   abbrev pub came_late : ℕ → Bool
   came_late number = nat_lt (startup_count m.loads.infos) number
 
-  -- the step of a sequence, without a look
+  -- the step of a sequence, without a look, by the thread's block of the variable's instance
   abbrev pub sequence_does : Sequence → After Word Flag Memory → Result (After Word Flag Memory) Stop
   sequence_does s at = sequence_result meant_stack s thread
       (option_map_or (block_start thread) (numbered_instance m.loads at.memory.seen s.target) 0) at.state at.memory
