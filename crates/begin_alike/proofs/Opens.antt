@@ -11,7 +11,7 @@ use Rattle.module_table.specs.Past.{Past, close_refusal, module_of, open_refusal
 use Rattle.transcript_text.specs.declared.outcomes.Outcome.TheVariants.{Opened}
 use Rattle.thread_blocks.specs.Held.{looked}
 use Rattle.thread_blocks.specs.Instances.{Loads, instance_at, left_by}
-use Rattle.thread_blocks.specs.Lines.{Line, begun_close, begun_open, event_at, opened_as, unless_refused, with_load}
+use Rattle.thread_blocks.specs.Lines.{Line, begun_close, begun_open, event_at, unless_refused, with_load}
 use Rattle.thread_blocks.specs.RunTime.{Runs, shows}
 use Rattle.thread_blocks.specs.Turns.{Answered, Begun, Ending, Says, with_event, with_last}
 use Rattle.thread_blocks.specs.TurnsAlike.{IsFront}
@@ -22,6 +22,7 @@ use Rattle.tied_meaning.specs.Ties.{AreTied}
 use Rattle.tied_meaning.specs.Threads.{AtRest}
 use Rattle.begin_alike.specs.Begun.{BegunAlike}
 use Rattle.begin_alike.proofs.Rests.{instance_same, left_same, look_rests, with_load_rests}
+use Rattle.std.specs.Option.{option_map_or}
 
 module _ (g : Setting) (m : Meaning) (q : Loads ℕ) (history : List Event) (thread : ℕ) (tied : AreTied g m q history)
     (line : Line) (seen : List Event) where
@@ -54,8 +55,8 @@ module _ (g : Setting) (m : Meaning) (q : Loads ℕ) (history : List Event) (thr
   -- x: the instance that was opened; was: it was there before
   abbrev OpenedAlike : Meant → Runs → Option Instance → Option Instance → Bool → Bool → Type 0
   OpenedAlike h h' x x' was was' =
-      Begins (Says (Answered (Opened (opened_as ops m.loads show thread x))) (with_load ops m.loads show thread was x h))
-      (Says (Answered (Opened (opened_as plain_operations q show' thread x')))
+      Begins (Says (Answered (Opened (option_map_or (λ (x : Instance). x.number) x 0))) (with_load ops m.loads show thread was x h))
+      (Says (Answered (Opened (option_map_or (λ (x : Instance). x.number) x' 0)))
       (with_load plain_operations q show' thread was' x' h'))
 
   opened : (h : Meant) (h' : Runs) → Rest h h' → (x : Option Instance) (was : Bool) → OpenedAlike h h' x x was was

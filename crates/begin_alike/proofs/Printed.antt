@@ -2,14 +2,13 @@
 use Rattle.std.proofs.Common.{◌≡◌, ◌+◌, ℕ, zero, suc, List, [], ◌∷◌, map, Option, Some, None, refl, inl, inr, subst}
 use Rattle.std.specs.Prelude.{slice_get}
 use Rattle.std.specs.Option.{option_or}
-use Rattle.guest_operands.specs.declared.stop.Stop.{Stop}
 use Rattle.guest_operands.specs.declared.stop.Stop.TheVariants.{Returned, Look, Address, Code, Unclean, Steps}
 use Rattle.guest_machine.specs.Simulate.{IsUnclean}
 use Rattle.module_table.specs.declared.events.Event.{Event}
 use Rattle.thread_blocks.specs.Spaces.{FoundAlike}
 use Rattle.thread_blocks.specs.Turns.{Answered, Ending, Said, Stopped, Thread}
 use Rattle.thread_blocks.specs.TurnsAlike.{HasUnclean, IsUncleanEnding}
-use Rattle.whole_meaning.specs.Jobs.{first_from, first_in, unclean_ending, unclean_stop, verdict_of}
+use Rattle.whole_meaning.specs.Jobs.{first_from, first_in, unclean_ending, verdict_of}
 use Rattle.whole_meaning.specs.declared.unclean.UncleanStep.{UncleanStep}
 use Rattle.order_laws.specs.Alike.{SameOne}
 
@@ -42,17 +41,14 @@ lines_same Wait Rest (x ∷ xs) (y ∷ ys) all clean =
 -- ** the verdict: none is found, so there is none
 
 module _ (thread line : ℕ) where
-  stop_clean : (stop : Stop) → unclean_stop thread line stop ≡ None → IsUnclean stop → ⊥
-  stop_clean (Returned number) e h = h
-  stop_clean (Look at) e h = h
-  stop_clean (Address at) e h = h
-  stop_clean (Code at) e h = h
-  stop_clean (Unclean at why) e h = cc
-  stop_clean (Steps at) e h = h
-
   ending_clean : (ending : Ending) → unclean_ending thread line ending ≡ None → IsUncleanEnding ending → ⊥
   ending_clean (Answered answer) e h = h
-  ending_clean (Stopped stop) e h = stop_clean stop e h
+  ending_clean (Stopped (Returned number)) e h = h
+  ending_clean (Stopped (Look at)) e h = h
+  ending_clean (Stopped (Address at)) e h = h
+  ending_clean (Stopped (Code at)) e h = h
+  ending_clean (Stopped (Unclean at why)) e h = cc
+  ending_clean (Stopped (Steps at)) e h = h
 
 -- of two of which neither is there
 neither : (a b : Option UncleanStep) → option_or a b ≡ None → (a ≡ None) × (b ≡ None)

@@ -4,15 +4,15 @@ use Rattle.std.specs.Prelude.{Option}
 use Rattle.job_text.specs.declared.thread_lines.ThreadLine.{ThreadLine}
 use Rattle.module_table.specs.declared.events.Event.{Event}
 use Rattle.thread_blocks.specs.Instances.{Loads}
-use Rattle.thread_blocks.specs.JobWorlds.{job_start as runs_start, job_world, numbered_lines}
+use Rattle.thread_blocks.specs.JobWorlds.{job_world, numbered_lines, job_start, thread_ready}
 use Rattle.thread_blocks.specs.Lines.{event_by}
 use Rattle.thread_blocks.specs.RunTime.{Runs, thread_turns}
 use Rattle.thread_blocks.specs.Turns.{ready, whole_order, with_event}
 use Rattle.thread_blocks.specs.TurnsAlike.{HasUnclean, IsFront}
 use Rattle.thread_blocks.proofs.Orders.{front-trans}
-use Rattle.whole_meaning.specs.Jobs.{job_start, lines_of, meant_world, verdict_of}
+use Rattle.whole_meaning.specs.Jobs.{lines_of, meant_world, verdict_of}
 use Rattle.whole_meaning.specs.Meanings.{Meaning}
-use Rattle.whole_meaning.specs.Threads.{Meant, meant_ready, meant_turns}
+use Rattle.whole_meaning.specs.Threads.{Meant, meant_turns, ops}
 use Rattle.lawful_points.specs.Laws.{AtFronts}
 use Rattle.lawful_points.specs.Raced.{first_of, raced_of}
 use Rattle.order_laws.specs.Alike.{AreAlike, SameOne}
@@ -28,6 +28,7 @@ use Rattle.begin_alike.specs.Laws.{CleanJobsPrint, CleanThreadsPrint, EndsIn, Jo
 use Rattle.begin_alike.proofs.Begins.{begin_alike, event_same}
 use Rattle.begin_alike.proofs.Firsts.{ready_rests, start_alike}
 use Rattle.begin_alike.proofs.Printed.{lines_same, verdict_clean}
+use Rattle.guest_arithmetic.specs.Plain.{plain_operations}
 
 module _ (g : Setting) (m : Meaning) (q : Loads ℕ) (history : List Event) (tied : AreTied g m q history)
     (calls : CallsAreAlike g m q history) where
@@ -74,7 +75,7 @@ module _ (g : Setting) (m : Meaning) (q : Loads ℕ) (history : List Event) (tie
         (λ (thread : ℕ). event_by m.loads thread) (λ (thread : ℕ). event_by q thread)
         (λ i line seen. event_same g m q history i tied line seen)
         (λ i most. threads_do fuel (suc i) (omega arith) most) (λ i most. lent (suc i))
-        (whole_order (4 * fuel) lines order) (job_start m lines) (runs_start q lines)
+        (whole_order (4 * fuel) lines order) (job_start ops m.loads lines) (job_start plain_operations q lines)
         (start_alike g m q history tied lines few)
         (λ e front. front-trans (λ (thread : ℕ). thread_turns q thread fuel) (λ (thread : ℕ). event_by q thread) e
         (job_world q fuel lines order).events history front ends)
@@ -105,7 +106,7 @@ module _ (g : Setting) (m : Meaning) (q : Loads ℕ) (history : List Event) (tie
   thread_printed fuel thread one most own points at =
       of_threads (turns_alike (Call thread) (Wait thread) (Rest thread) Fine (meant_turns m thread fuel)
       (thread_turns q thread fuel) (event_by q thread) (threads_do fuel thread one most) points
-      (ready (meant_ready m thread) (numbered_lines 1 own)) (first_of q thread own) at
+      (ready (thread_ready ops m.loads thread) (numbered_lines 1 own)) (first_of q thread own) at
       (inr (record { todo = refl; said = refl; seen = refl; phase = ready_rests g m q history tied thread })))
     where
       of_threads : SameOne (Wait thread) (Rest thread) (meant_thread m fuel thread own points)

@@ -7,14 +7,14 @@ use Rattle.job_meaning.specs.declared.values.Word.{Word}
 use Rattle.job_text.specs.declared.thread_lines.ThreadLine.{ThreadLine}
 use Rattle.module_table.specs.declared.events.Event.{Event}
 use Rattle.thread_blocks.specs.Instances.{Loads}
-use Rattle.thread_blocks.specs.JobWorlds.{Shared, job_start as runs_start, job_world, numbered_lines}
+use Rattle.thread_blocks.specs.JobWorlds.{Shared, job_world, numbered_lines, job_start, thread_ready}
 use Rattle.thread_blocks.specs.Lines.{Line, begin_line, event_by}
 use Rattle.thread_blocks.specs.RunTime.{Runs, shows, thread_turns}
 use Rattle.thread_blocks.specs.Turns.{Said, Thread, ready, turns, with_event}
 use Rattle.thread_blocks.specs.TurnsAlike.{HasUnclean, IsFront}
-use Rattle.whole_meaning.specs.Jobs.{job_start, lines_of, meant_world, verdict_of}
+use Rattle.whole_meaning.specs.Jobs.{lines_of, meant_world, verdict_of}
 use Rattle.whole_meaning.specs.Meanings.{Meaning}
-use Rattle.whole_meaning.specs.Threads.{Meant, begin_meant, meant_ready, meant_turns}
+use Rattle.whole_meaning.specs.Threads.{Meant, begin_meant, meant_turns, ops}
 use Rattle.lawful_points.specs.Laws.{AtFronts}
 use Rattle.lawful_points.specs.Raced.{first_of, raced_of}
 use Rattle.order_laws.specs.Worlds.{IsSomeUnclean, SameWorld}
@@ -52,7 +52,7 @@ SameJob g m q history = SameWorld (λ i. Waiting g m q history i) (λ i. AtRest 
 abbrev pub JobsStartAlike : Type 0
 JobsStartAlike = (g : Setting) (m : Meaning) (q : Loads ℕ) (history : List Event) → AreTied g m q history
     → (lines : List (List ThreadLine)) → length lines ≤ 64
-    → SameJob g m q history (job_start m lines) (runs_start q lines)
+    → SameJob g m q history (job_start ops m.loads lines) (job_start plain_operations q lines)
 
 -- the history begins with the events that the machine's job ends with
 abbrev pub EndsIn : Loads ℕ → ℕ → List (List ThreadLine) → List ℕ → List Event → Type 0
@@ -74,7 +74,7 @@ all_said w = map (λ t. t.said) w.threads
 -- a thread of the meaning, by itself, after turns that see these lists of events
 abbrev pub meant_thread : Meaning → ℕ → ℕ → List ThreadLine → List (List Event) → Thread Meant Line Event
 meant_thread m fuel thread lines points =
-    turns (meant_turns m thread fuel) (ready (meant_ready m thread) (numbered_lines 1 lines)) points
+    turns (meant_turns m thread fuel) (ready (thread_ready ops m.loads thread) (numbered_lines 1 lines)) points
 
 module _ (m : Meaning) (q : Loads ℕ) (history : List Event) where
   -- a clean job prints what it means: its events, and its lines, thread by thread

@@ -13,12 +13,12 @@ use Rattle.thread_blocks.specs.Instances.{Loads}
 use Rattle.whole_meaning.specs.declared.marks.Mark.{Mark}
 use Rattle.whole_meaning.specs.declared.marks.Mark.TheVariants.{Usual, Offset, Address}
 use Rattle.whole_meaning.specs.Meanings.{Meaning}
-use Rattle.whole_meaning.specs.Threads.{marked_in}
 use Rattle.tied_meaning.specs.Codes.{AreBothThere, SameCodeByte}
 use Rattle.tied_meaning.specs.Numbers.{Setting}
 use Rattle.tied_meaning.specs.Ties.{IsPlaceOf, IsTied}
 use Rattle.tied_memory.proofs.Live.{found_holds}
 use Rattle.call_alike.proofs.Found.{found_of_owner, is_number, of_owner, outside}
+use Rattle.std.specs.Option.{option_map_or}
 
 -- ** marks of fields
 
@@ -68,7 +68,7 @@ module _ (g : Setting) (m : Meaning) (thread : ℕ) (q : Loads ℕ) (live : List
   real_code place = byte_in Run (flat_map q.fixed live) place
 
   abbrev pub mark_at : ℕ → Mark
-  mark_at place = marked_in m thread place (owner place)
+  mark_at place = option_map_or (λ (x : Instance). m.mark x place) (owner place) Usual
 
   meant_found : (place : ℕ)
       → byte_in Run (flat_map m.loads.fixed live) place ≡ of_owner Run m.loads.fixed place (owner place)
@@ -96,7 +96,7 @@ module _ (g : Setting) (m : Meaning) (thread : ℕ) (q : Loads ℕ) (live : List
       → SameCodeByte (mark_at place) (meant_code place) (real_code place)
   same_at place out = rw (meant_found place, real_found place) (by_owner (owner place) refl)
     where
-      by_owner : (o : Option Instance) → owner place ≡ o → SameCodeByte (marked_in m thread place o)
+      by_owner : (o : Option Instance) → owner place ≡ o → SameCodeByte (option_map_or (λ (x : Instance). m.mark x place) o Usual)
           (option_and_then code_byte (of_owner Run m.loads.fixed place o)) (of_owner Run q.fixed place o)
       by_owner None e = refl
       by_owner (Some x) e = by_room (m.room x place) refl
@@ -140,7 +140,7 @@ module _ (g : Setting) (m : Meaning) (thread : ℕ) (q : Loads ℕ) (live : List
   pub field_at : (place : ℕ) (mark : Mark) → IsFieldMark mark → mark_at place ≡ mark → HasField g m q live place mark
   field_at place mark field e = by_owner (owner place) refl e
     where
-      by_owner : (o : Option Instance) → owner place ≡ o → marked_in m thread place o ≡ mark
+      by_owner : (o : Option Instance) → owner place ≡ o → option_map_or (λ (x : Instance). m.mark x place) o Usual ≡ mark
           → HasField g m q live place mark
       by_owner None f h = absurd (field.0 (sym h))
       by_owner (Some x) f h =
@@ -161,4 +161,4 @@ module _ (g : Setting) (m : Meaning) (thread : ℕ) (q : Loads ℕ) (live : List
       let at = (field_byte f.x f.it (place - byte) first first_field before).1.1 in
       let owners : owner (place - byte) ≡ Some f.x =
       same_owner place (place - byte) (at.0 ∙ sym f.at.0) ∙ f.owner in
-      ap (marked_in m thread (place - byte)) owners ∙ before
+      ap (λ (o : Option Instance). option_map_or (λ (x : Instance). m.mark x (place - byte)) o Usual) owners ∙ before

@@ -1,6 +1,6 @@
 -- A call of the meaning is a call of the machine: its steps, its end, and looks in its middle.
 use Rattle.std.proofs.Common.{if◌then◌else◌, ◌≡◌, ◌≤◌, ◌==◌, ◌⊎◌, inl, inr, ℕ, Bool, true, false, List, Option, Some, None, Result, Ok, Err, refl, sym, ap}
-use Rattle.std.specs.Prelude.{option_map}
+use Rattle.std.specs.Prelude.{option_map, unwrap_or}
 use Rattle.guest_arithmetic.specs.declared.cause.Cause.{Cause}
 use Rattle.guest_arithmetic.specs.Plain.{plain_operations}
 use Rattle.guest_operands.specs.declared.stop.Stop.{Stop}
@@ -13,7 +13,7 @@ use Rattle.thread_blocks.specs.Instances.{Loads}
 use Rattle.thread_blocks.specs.RunTime.{Runs, thread_steps}
 use Rattle.whole_meaning.specs.declared.sequences.Sequence.{Sequence}
 use Rattle.whole_meaning.specs.Meanings.{Meaning}
-use Rattle.whole_meaning.specs.Running.{asked, asked_stop, meaning, sequence_or}
+use Rattle.whole_meaning.specs.Running.{asked, meaning}
 use Rattle.whole_meaning.specs.Threads.{Meant, held_next, meant_steps, ops, sequence_at, sequence_next}
 use Rattle.tied_meaning.specs.Numbers.{Setting}
 use Rattle.tied_meaning.specs.Threads.{AtRest, InCall, Waiting}
@@ -26,18 +26,15 @@ use Rattle.call_alike.proofs.Steps.{AdvancesTo, at_rest, usual_advances}
 
 -- ** where the fuel is spent the meaning is unclean
 
-stop_unclean : (place : ℕ) (stop : Stop) → IsUnclean (asked_stop place stop)
-stop_unclean place (Returned number) = tt
-stop_unclean place (Look at) = tt
-stop_unclean place (Address at) = tt
-stop_unclean place (Code at) = tt
-stop_unclean place (Unclean at why) = tt
-stop_unclean place (Steps at) = tt
-
 asked_unclean : {S : Type 0} (place : ℕ) (next : Next S) → IsUnclean (asked place next)
 asked_unclean place (Goes after) = tt
 asked_unclean place (Looks after) = tt
-asked_unclean place (Ends stop) = stop_unclean place stop
+asked_unclean place (Ends (Returned number)) = tt
+asked_unclean place (Ends (Look at)) = tt
+asked_unclean place (Ends (Address at)) = tt
+asked_unclean place (Ends (Code at)) = tt
+asked_unclean place (Ends (Unclean at why)) = tt
+asked_unclean place (Ends (Steps at)) = tt
 
 spent_unclean : (m : Meaning) (thread : ℕ) (h : Meant) → IsUnclean ((meant_steps m thread).spent h)
 unfolding meant_steps meaning
@@ -109,7 +106,7 @@ module _ {g : Setting} {m : Meaning} {q : Loads ℕ} {history : List Event} {thr
       where
         of_sequence : (o : Option Sequence) → sequence_at m thread h.after.memory.seen h.after.state.place ≡ o
             → AdvancesTo tied low h h' (held_next m thread h
-            (sequence_or (option_map (sequence_next m thread h.after) o) (next_of (usual_step m thread h))))
+            (unwrap_or (option_map (sequence_next m thread h.after) o) (next_of (usual_step m thread h))))
         of_sequence None f = usual_advances tied low h h' call (both_go_on h h' call e)
         of_sequence (Some s) f = advance g m q history thread tied low high h h' call s f
 

@@ -1,7 +1,7 @@
 -- What a field allows: the meaning's question and the table's are one.
 use Rattle.std.proofs.lemmas.Bool.{eqb-true}
 use Rattle.std.proofs.Common.{◌≡◌, ℕ, suc, ◌+◌, ◌-◌, ◌==◌, Bool, true, false, ◌&&◌, List, Option, Some, None, Result, Ok, Err, refl, sym, ap, ◌∙◌, arith}
-use Rattle.std.specs.Prelude.{if◌then◌else◌, ℤ, pos, negsuc, is_some, nat_le, not}
+use Rattle.std.specs.Prelude.{if◌then◌else◌, ℤ, pos, negsuc, is_some, nat_le, not, is_ok}
 use Rattle.address_map.specs.Map.{owner_at}
 use Rattle.amd64_subset.specs.declared.instr.Arithmetic.{Arithmetic}
 use Rattle.amd64_subset.specs.declared.instr.Arithmetic.TheVariants.{Add, Or, And, Sub, Xor, Compare}
@@ -30,7 +30,7 @@ use Rattle.job_meaning.specs.Reading.{is_at}
 use Rattle.whole_meaning.specs.declared.marks.Mark.{Mark}
 use Rattle.whole_meaning.specs.declared.marks.Mark.TheVariants.{Usual, Offset, Address, Inside}
 use Rattle.whole_meaning.specs.Fields as fields
-use Rattle.whole_meaning.specs.Fields.{is_used, marked_frame, memory_in, operand_in, read_in, reads_next, takes_address, takes_offset}
+use Rattle.whole_meaning.specs.Fields.{marked_frame, memory_in, operand_in, read_in, reads_next, takes_address, takes_offset}
 use Rattle.whole_meaning.specs.Reading.{hindrance_of}
 use Rattle.whole_meaning.specs.Threads.{ops}
 use Rattle.cause_laws.specs.Instructions.{memory_of, operand_of, read_operand}
@@ -135,13 +135,13 @@ at-is None k = refl
 at-is (Some at) k = refl
 
 used-says : (o : Option ℕ) (r : Result ℕ Cause) (own : Option ℕ) (ws : List Word) → SaysBy o r own ws
-    → is_used r ≡ is_some own
+    → is_ok r ≡ is_some own
 used-says None (Ok a) own ws h = rw (h.0) refl
 used-says None (Err why) own ws h = rw (h.0) refl
 used-says (Some number) (Ok a) own ws h = rw h refl
 used-says (Some number) (Err why) own ws h = rw (h.0) refl
 
-adds-used : (more : ℕ) (r : Result ℕ Cause) (own : Option ℕ) → AddsField more r own → is_used r ≡ is_some own
+adds-used : (more : ℕ) (r : Result ℕ Cause) (own : Option ℕ) → AddsField more r own → is_ok r ≡ is_some own
 adds-used more (Ok a) own h = let is : own ≡ Some h.0 = h.1.0 in rw is refl
 adds-used more (Err why) own h = rw h refl
 

@@ -10,7 +10,7 @@ use Rattle.guest_operands.specs.declared.stop.Stop.TheVariants.{Returned, Look, 
 use Rattle.guest_machine.specs.Run.{Next, Goes, Ends, Looks, next_of}
 use Rattle.guest_machine.specs.Use.{After}
 use Rattle.job_meaning.specs.Reading.{linker_with}
-use Rattle.whole_meaning.specs.Running.{asked, asked_stop}
+use Rattle.whole_meaning.specs.Running.{asked}
 use Rattle.cause_laws.specs.Rows.{IsFirst, order}
 use Rattle.cause_laws.proofs.Picks.{pick4}
 use Rattle.cause_laws.proofs.Uses.{Tells, TellsStop}
@@ -85,20 +85,16 @@ pub next-told : {S : Type 0} (here : ℕ) (next : Next S) (c : Option Cause) (at
 next-told here next c at why h e = subst (λ n. TellsNext here n c) e h
 
 -- a step past the limit
-stop-asked : (here : ℕ) (stop : Stop) (c : Option Cause) → TellsStop here stop c
-    → TellsStop here (asked_stop here stop) (option_or c (Some cause.Steps))
-stop-asked here (Returned n) c h = (refl, rw h refl)
-stop-asked here (Look n) c h = (refl, rw h refl)
-stop-asked here (Address n) c h = (refl, rw h refl)
-stop-asked here (Code n) c h = (refl, rw h refl)
-stop-asked here (Unclean at why) c h = (h.0, rw (h.1) refl)
-stop-asked here (Steps n) c h = (refl, rw h refl)
-
 pub asked-tells : {S : Type 0} (here : ℕ) (next : Next S) (c : Option Cause) → TellsNext here next c
     → TellsStop here (asked here next) (option_or c (Some cause.Steps))
 asked-tells here (Goes s) c h = (refl, rw h refl)
 asked-tells here (Looks s) c h = (refl, rw h refl)
-asked-tells here (Ends stop) c h = stop-asked here stop c h
+asked-tells here (Ends (Returned n)) c h = (refl, rw h refl)
+asked-tells here (Ends (Look n)) c h = (refl, rw h refl)
+asked-tells here (Ends (Address n)) c h = (refl, rw h refl)
+asked-tells here (Ends (Code n)) c h = (refl, rw h refl)
+asked-tells here (Ends (Unclean at why)) c h = (h.0, rw (h.1) refl)
+asked-tells here (Ends (Steps n)) c h = (refl, rw h refl)
 
 -- ** what is the linker's comes before the uses
 

@@ -7,7 +7,6 @@ use Rattle.std.proofs.lemmas.List.Concat.{flat_map-append}
 use Rattle.guest_operands.specs.Ranges.{Range}
 use Rattle.guest_operands.specs.State.{start_of}
 use Rattle.job_meaning.specs.declared.values.Byte.{Byte}
-use Rattle.job_meaning.specs.declared.values.Word.TheVariants.{Number}
 use Rattle.job_text.specs.declared.thread_lines.ThreadLine.{ThreadLine}
 use Rattle.job_text.specs.Jobs.{JobParts}
 use Rattle.job_text.specs.Threads.{of_thread}
@@ -20,13 +19,12 @@ use Rattle.module_table.specs.Modules.{AreInfos}
 use Rattle.module_table.specs.Past.{is_legal, past, start}
 use Rattle.thread_blocks.specs.Held.{Data, Owned, data_after, held_of, looked_at}
 use Rattle.thread_blocks.specs.Instances.{instances, instances_in, left_by}
-use Rattle.thread_blocks.specs.JobWorlds.{blocks_in, data_in, numbered_lines}
+use Rattle.thread_blocks.specs.JobWorlds.{blocks_in, data_in, numbered_lines, ready_from, first_data, job_start, thread_ready}
 use Rattle.thread_blocks.specs.Lines.{Line}
 use Rattle.thread_blocks.specs.Turns.{Thread, ready}
 use Rattle.thread_turns.proofs.Ready.{lines_at, ready-length, ready_at}
-use Rattle.whole_meaning.specs.Jobs.{first_data, job_start, ready_from}
 use Rattle.whole_meaning.specs.Loads.{info_of, loads_of, meaning_of}
-use Rattle.whole_meaning.specs.Threads.{Meant, meant_ready, ops}
+use Rattle.whole_meaning.specs.Threads.{Meant, ops}
 use Rattle.marked_memory.specs.declared.space.Wanted.TheVariants.{Fixed}
 use Rattle.job_check.specs.Histories.{IsHistory, IsLeftBy, infos_of, last_of}
 use Rattle.marked_memory.specs.Kept.{Kept}
@@ -91,7 +89,7 @@ module _ (ls : List Linking) where
   -- all of them
   pub all_data : (xs : List Instance) (i : ℕ) (items : List (Owned Byte)) → length xs ≤ i
       → xs ≡ instances_in (infos_of ls) (start (infos_of ls) (last_of ls)) → items ≡ flat_map data_made (take i xs)
-      → items ≡ first_data (meaning_of ls)
+      → items ≡ first_data (meaning_of ls).loads
   unfolding meaning_of
   all_data xs i items past are so_far =
       so_far ∙ ap (flat_map data_made) (take_all i xs past ∙ are ∙ sym (first_live ls))
@@ -119,10 +117,10 @@ module _ (ls : List Linking) (thread : ℕ) where
   kept_no_data = first_no_data (loads_of ls) thread (reaches Fixed) (fills Fixed) (λ x. refl)
       (instances_in (infos_of ls) (start (infos_of ls) (last_of ls)))
 
-  ready_idle : IsIdle first_kept (meant_ready (meaning_of ls) thread)
+  ready_idle : IsIdle first_kept (thread_ready ops (meaning_of ls).loads thread)
   unfolding with_held meaning_of looked_at
   ready_idle =
-      let state = start_of ops 0 0 (Number 0) (Number 0) (Number 0) in
+      let state = start_of ops 0 0 (ops.word 0) (ops.word 0) (ops.word 0) in
       record {
         seen = [];
         state = state;
@@ -131,7 +129,7 @@ module _ (ls : List Linking) (thread : ℕ) where
       }
 
   first_run_stands : (job : JobParts) (r : Run) (own : List ThreadLine) → IsFirstRun thread ls job r → of_thread job.lines thread ≡ own
-      → StandsFor r (ready (meant_ready (meaning_of ls) thread) (numbered_lines 1 own))
+      → StandsFor r (ready (thread_ready ops (meaning_of ls).loads thread) (numbered_lines 1 own))
   first_run_stands job r own first lines = record {
     todo = rw (first.begun, first.lines, lines) refl;
     count = rw (first.begun, first.call) refl;
@@ -149,11 +147,11 @@ module _ (ls : List Linking) (thread : ℕ) where
 
 module _ (ls : List Linking) (job : JobParts) (x : MeantThreads) (first : IsFirst ls job x) where
   first_each : (k : ℕ) (r : Run) (t : Thread Meant Line Event) → slice_get x.runs k ≡ Some r
-      → slice_get (ready_from (meaning_of ls) 1 job.lines) k ≡ Some t → IsRunOf ls job.fuel (suc k) r t
+      → slice_get (ready_from ops (meaning_of ls).loads 1 job.lines) k ≡ Some t → IsRunOf ls job.fuel (suc k) r t
   first_each k r t at_r at_t =
       let one : k + 1 ≡ suc k = omega arith in
       let run = subst (λ n. IsFirstRun n ls job r) one (first.each k r at_r) in
-      let is = ready_at (meant_ready (meaning_of ls)) (ready_from (meaning_of ls)) (λ n. refl) (λ n own lines. refl) 1
+      let is = ready_at (thread_ready ops (meaning_of ls).loads) (ready_from ops (meaning_of ls).loads) (λ n. refl) (λ n own lines. refl) 1
       job.lines k t at_t in
       let number : 1 + k ≡ suc k = omega arith in
       let kept = first_thread ls (suc k) r.kept run.kept in
@@ -162,18 +160,18 @@ module _ (ls : List Linking) (job : JobParts) (x : MeantThreads) (first : IsFirs
         images_are = kept.1;
         fuel_is = run.fuel;
         stands = subst (λ y. StandsFor r y)
-            (sym (is.is ∙ ap (λ n. ready (meant_ready (meaning_of ls) n) (numbered_lines 1 is.own)) number))
+            (sym (is.is ∙ ap (λ n. ready (thread_ready ops (meaning_of ls).loads n) (numbered_lines 1 is.own)) number))
             (first_run_stands ls (suc k) job r is.own run (lines_at job.lines k is.own is.own_is));
       }
 
-  pub first_stands : Stands ls job.fuel (job_start (meaning_of ls) job.lines) x
+  pub first_stands : Stands ls job.fuel (job_start ops (meaning_of ls).loads job.lines) x
   first_stands = record {
     legal = first.legal;
     leaves = begins ls ∙ sym first.past_is;
     shared_is = sym first.shared_is;
     are_data = rw first.shared_is (after_are_data (meaning_of ls).loads 0 (λ x. true) (λ x. true) [] (instances (meaning_of ls).loads []));
     no_blocks = rw first.shared_is (after_no_blocks (meaning_of ls).loads 0 (λ x. true) (λ x. true) [] (instances (meaning_of ls).loads []));
-    count = first.count ∙ sym (ready-length (meant_ready (meaning_of ls)) (ready_from (meaning_of ls)) (λ n. refl)
+    count = first.count ∙ sym (ready-length (thread_ready ops (meaning_of ls).loads) (ready_from ops (meaning_of ls).loads) (λ n. refl)
         (λ n own lines. refl) 1 job.lines);
     each = first_each;
   }
@@ -183,6 +181,6 @@ module _ (ls : List Linking) (job : JobParts) (x : MeantThreads) (first : IsFirs
   first_some = record {
     images = ls;
     fuel = job.fuel;
-    world = job_start (meaning_of ls) job.lines;
+    world = job_start ops (meaning_of ls).loads job.lines;
     stands = first_stands;
   }

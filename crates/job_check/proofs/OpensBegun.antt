@@ -16,7 +16,7 @@ use Rattle.transcript_text.specs.declared.outcomes.LineRefusal.{LineRefusal}
 use Rattle.transcript_text.specs.declared.outcomes.Outcome.TheVariants.{Closed, Opened, Refused}
 use Rattle.thread_blocks.specs.Held.{looked}
 use Rattle.thread_blocks.specs.Instances.{Loads, instance_at, instances_in, loaded_instance}
-use Rattle.thread_blocks.specs.Lines.{Line, begun_by, event_at, event_by, opened_as, refused_close, refused_open, with_load}
+use Rattle.thread_blocks.specs.Lines.{Line, begun_by, event_at, event_by, refused_close, refused_open, with_load}
 use Rattle.thread_blocks.specs.Turns.{Answered, Begun, Ending, Says as SaysSo, with_last}
 use Rattle.whole_meaning.specs.Loads.{loads_of}
 use Rattle.whole_meaning.specs.Threads.{Meant, ops}
@@ -29,6 +29,7 @@ use Rattle.marked_memory.specs.Spaces.{with_held}
 use Rattle.job_check.proofs.Histories.{left_with}
 use Rattle.job_check.proofs.LinesBegun.{over_at_once, same_thread, starts_so}
 use Rattle.job_check.proofs.Looks.{found_at, live_is, load_is, looks_alone}
+use Rattle.std.specs.Option.{option_map_or}
 
 -- ** an event that is refused
 
@@ -78,7 +79,7 @@ module _ (line : Line) (was : Bool) (p p' : Past) (old mid new : Kept) (sees : S
   done e seen h =
       let all = with_last seen e in
       let x = instance_at l all line.told.image in
-      SaysSo (Answered (if e.opens then Opened (opened_as ops l (shows line old seen) old.thread x) else Closed))
+      SaysSo (Answered (if e.opens then Opened (option_map_or (λ (x : Instance). x.number) x 0) else Closed))
       (with_load ops l (shows line old seen) old.thread was x (looked l old.thread all h))
 
   does : (e : Event) → p' ≡ after_one p e → Begins line.number (Some e) (done e) p old (Says None) p' new

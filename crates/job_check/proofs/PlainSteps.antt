@@ -28,7 +28,7 @@ use Rattle.thread_blocks.specs.Spaces.{IsImage}
 use Rattle.whole_meaning.specs.declared.marks.Mark.{Mark}
 use Rattle.whole_meaning.specs.Loads.{meaning_of}
 use Rattle.whole_meaning.specs.Reading.{done, hindrance, marked_step, own_touches, plain_step, reaches_linker}
-use Rattle.whole_meaning.specs.Threads.{Memory, marked_in, meant_accesses, meant_mark, meant_shut, ops}
+use Rattle.whole_meaning.specs.Threads.{Memory, meant_accesses, meant_mark, meant_shut, ops}
 use Rattle.job_check.specs.declared.step.Stepped.{Stepped}
 use Rattle.job_check.specs.declared.step.Stepped.TheVariants.{Ends}
 use Rattle.marked_memory.specs.Kept.{HasSeen, Kept, mark_in, memory_of, shut_in}
@@ -36,6 +36,8 @@ use Rattle.job_check.specs.Stepping.{Makes, StepsAs, code_in, done_in, linker_in
 use Rattle.job_check.proofs.Memories.{fetch_image, touched_image}
 use Rattle.marked_memory.proofs.SpaceImages.{image_at, lent_image, memory_is}
 use Rattle.job_check.proofs.SequencesMade.{next_made, stays_made}
+use Rattle.std.specs.Option.{option_map_or}
+use Rattle.whole_meaning.specs.declared.marks.Mark.TheVariants.{Usual}
 
 -- ** accesses that are refused
 
@@ -84,7 +86,7 @@ code_read k place count n buffer e is = rw e is
 
 pub mark_is : (k : Kept) (seen : List Event) → HasSeen k seen → meant_mark (meaning_of k.images) k.thread (space_of seen k) ≡ mark_in k
 unfolding mark_in meaning_of
-mark_is k seen has = ap {B = ℕ → Mark} (λ (live : List Instance) (place : ℕ). marked_in (meaning_of k.images) k.thread place (find (λ (x : Instance). x.number == owner_at place) live)) has
+mark_is k seen has = ap {B = ℕ → Mark} (λ (live : List Instance) (place : ℕ). option_map_or (λ (x : Instance). (meaning_of k.images).mark x place) (find (λ (x : Instance). x.number == owner_at place) live) Usual) has
 
 pub shut_is : (k : Kept) (seen : List Event) → HasSeen k seen → meant_shut (meaning_of k.images) k.thread (space_of seen k) ≡ shut_in k
 unfolding shut_in meaning_of

@@ -14,7 +14,7 @@ use Rattle.thread_blocks.specs.Held.{Owned, held_of, owned, owners_of, ranges_in
 use Rattle.thread_blocks.specs.Instances.{numbered_instance}
 use Rattle.whole_meaning.specs.declared.sequences.Sequence.{Sequence}
 use Rattle.whole_meaning.specs.Loads.{loads_of, meaning_of}
-use Rattle.whole_meaning.specs.Threads.{Meant, Memory, code_owner, resumed, resumed_at, resumed_by, resumed_for, sequence_does}
+use Rattle.whole_meaning.specs.Threads.{Meant, Memory, code_owner, resumed_at, resumed_by, resumed_for, sequence_does}
 use Rattle.thread_turns.specs.declared.parts.Resumed.{Resumed}
 use Rattle.thread_turns.specs.declared.parts.Resumed.TheVariants.{Goes, Unloaded}
 use Rattle.marked_memory.specs.declared.space.Wanted.TheVariants.{BlockOf}
@@ -25,6 +25,7 @@ use Rattle.job_check.specs.Stepping.{Makes, ResumesAs, StaysIf, made, resumed_of
 use Rattle.job_check.proofs.Memories.{owned_again, same_owners}
 use Rattle.job_check.proofs.RunsMade.{keeps_same, keeps_then}
 use Rattle.job_check.proofs.StepsMade.{keeps_job, sequence_begins}
+use Rattle.thread_blocks.specs.RunTime.{resumed}
 
 -- ** the block is reached
 
@@ -51,7 +52,7 @@ keeps-reached k k' number e = rw e (record { thread = refl; images = refl; live 
 -- ** behind it
 
 resumed-made : (thread : ℕ) (k k' : Kept) (seen : List Event) (state state' : State Word Flag) (result : Result (Unit {0}) Stop) → owners_of k'.own ≡ owners_of k.own → StaysIf result state k state' k'
-    → resumed (meaning_of k.images) thread (held_at seen state k) (made result (left state' (space_of seen k'))) ≡ resumed_as (resumed_of result) (held_at seen state' k')
+    → resumed (held_at seen state k) (made result (left state' (space_of seen k'))) ≡ resumed_as (resumed_of result) (held_at seen state' k')
 resumed-made thread k k' seen state state' (Ok done) owners stays = rw owners refl
 resumed-made thread k k' seen state state' (Err stop) owners stays = rw (stays.0, stays.1) refl
 
@@ -73,8 +74,8 @@ module _ (s : Sequence) (state : State Word Flag) (k : Kept) where
   unfolding with_held
   resume-between state' k' x result makes seen has =
       let between = with_held k.live [] (BlockOf x.number) k in
-      ap (λ (h : Meant). resumed (meaning_of k.images) k.thread h (sequence_does (meaning_of k.images) k.thread s h.after)) (reached_is k between seen state x has refl)
-      ∙ ap (λ (r : Result (After Word Flag Memory) Stop). resumed (meaning_of k.images) k.thread (held_at seen state between) r) (makes.makes seen has)
+      ap (λ (h : Meant). resumed h (sequence_does (meaning_of k.images) k.thread s h.after)) (reached_is k between seen state x has refl)
+      ∙ ap (λ (r : Result (After Word Flag Memory) Stop). resumed (held_at seen state between) r) (makes.makes seen has)
       ∙ resumed-made k.thread between k' seen state state' result (same_owners between k' makes.shape) makes.stays
 
   pub resumes_at : (state' : State Word Flag) (between k' : Kept) (x : Instance) (result : Result (Unit {0}) Stop) (it : Resumed)

@@ -17,19 +17,19 @@ use Rattle.module_table.specs.declared.events.Event.{Event}
 use Rattle.module_table.specs.Past.{startup_count}
 use Rattle.sequence_forms.specs.declared.forms.Form.{Form}
 use Rattle.sequence_forms.specs.declared.forms.Form.TheVariants.{Gd, Ld, IeMov, IeAdd, GdInd, LdInd, DescLea, DescCall}
-use Rattle.thread_blocks.specs.Instances.{instances}
+use Rattle.thread_blocks.specs.Instances.{instances, block_start}
 use Rattle.thread_blocks.specs.Spaces.{mapped}
 use Rattle.whole_meaning.specs.declared.sequences.Sequence.{Sequence}
 use Rattle.whole_meaning.specs.Loads.{info_of, loads_of, meaning_of}
-use Rattle.whole_meaning.specs.Meanings.{Meaning}
 use Rattle.whole_meaning.specs.Sequences.{asks, descriptor_use, does, looks_first, sequence_result, stack_use}
-use Rattle.whole_meaning.specs.Threads.{Memory, sequence_next, start_in}
+use Rattle.whole_meaning.specs.Threads.{Memory, sequence_next}
 use Rattle.job_check.specs.declared.step.Stepped.{Stepped}
 use Rattle.job_check.specs.declared.step.Stepped.TheVariants.{Goes, Looks, Ends}
 use Rattle.marked_memory.specs.Kept.{HasSeen, Kept, shape_of}
 use Rattle.job_check.specs.Running.{StaysUnless}
 use Rattle.job_check.specs.Stepping.{Makes, StaysIf, StepsAs, made, next_as, sequence_made, space_of, stepped_of}
 use Rattle.job_check.proofs.Memories.{kept_with}
+use Rattle.std.specs.Option.{option_map_or}
 
 -- ** which events were seen, a sequence does not ask
 
@@ -73,14 +73,14 @@ sequence-stays k k' state state' (Err stop) r shape leaves = (
 )
 
 begins-there : (k : Kept) (seen : List Event) (target start : ℕ) (x : Option Instance) → HasSeen k seen
-    → x ≡ find (λ (x : Instance). x.number == target) k.live → start ≡ start_in (meaning_of k.images) k.thread x
-    → start_in (meaning_of k.images) k.thread (find (λ (x : Instance). x.number == target) (instances (loads_of k.images) seen)) ≡ start
-begins-there k seen target start x has is e = ap (λ (live : List Instance). start_in (meaning_of k.images) k.thread (find (λ (x : Instance). x.number == target) live)) has
-    ∙ ap (λ (x : Option Instance). start_in (meaning_of k.images) k.thread x) (sym is) ∙ sym e
+    → x ≡ find (λ (x : Instance). x.number == target) k.live → start ≡ option_map_or (block_start k.thread) x 0
+    → option_map_or (block_start k.thread) (find (λ (x : Instance). x.number == target) (instances (loads_of k.images) seen)) 0 ≡ start
+begins-there k seen target start x has is e = ap (λ (live : List Instance). option_map_or (block_start k.thread) (find (λ (x : Instance). x.number == target) live) 0) has
+    ∙ ap (λ (x : Option Instance). option_map_or (block_start k.thread) x 0) (sym is) ∙ sym e
 
 -- the law of a sequence, a look aside
 pub sequence_is_made : (s : Sequence) (state state' : State Word Flag) (k k' : Kept) (x : Option Instance) (start : ℕ) (result : Result (Unit {0}) Stop)
-    → x ≡ find (λ (x : Instance). x.number == s.target) k.live → ((m : Meaning) → start ≡ start_in m k.thread x)
+    → x ≡ find (λ (x : Instance). x.number == s.target) k.live → start ≡ option_map_or (block_start k.thread) x 0
     → Leaves result (left state (space_of [] k)) (left state' (space_of [] k')) (sequence_result (stack_from (stack_start k.thread)) s k.thread start state (space_of [] k))
     → shape_of k' ≡ shape_of k
     → Makes result state k state' k' (sequence_made s state k)
@@ -90,7 +90,7 @@ sequence_is_made s state state' k k' x start result is e leaves shape = record {
   stays = sequence-stays k k' state state' result _ shape leaves;
   makes = λ seen has.
       ap (λ (start : ℕ). sequence_result (stack_from (stack_start k.thread)) s k.thread start state (space_of seen k))
-      (begins-there k seen s.target start x has is (e (meaning_of k.images)))
+      (begins-there k seen s.target start x has is e)
       ∙ result-seeing seen (stack_start k.thread) s k.thread start state (space_of [] k)
       ∙ made-seeing seen k k' state state' result _ leaves;
 }

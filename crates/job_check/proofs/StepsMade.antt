@@ -1,6 +1,6 @@
 -- A step is that of the meaning.
 use Rattle.std.proofs.Common.{◌≡◌, ℕ, ◌==◌, List, Option, Some, None, Result, Ok, Err, IfOk, refl, sym, ap, ◌∙◌}
-use Rattle.std.specs.Prelude.{option_and_then, option_map}
+use Rattle.std.specs.Prelude.{option_and_then, option_map, unwrap_or}
 use Rattle.std.specs.List.{find}
 use Rattle.address_map.specs.Map.{owner_at}
 use Rattle.guest_machine.specs.Run.{Next, Goes as GoesTo, Ends as EndsWith, Looks as LooksAt}
@@ -14,7 +14,7 @@ use Rattle.module_table.specs.declared.events.Event.{Event}
 use Rattle.thread_blocks.specs.Held.{owners_of}
 use Rattle.whole_meaning.specs.declared.sequences.Sequence.{Sequence}
 use Rattle.whole_meaning.specs.Loads.{meaning_of}
-use Rattle.whole_meaning.specs.Running.{asked, meaning, meant_step, sequence_or}
+use Rattle.whole_meaning.specs.Running.{asked, meaning, meant_step}
 use Rattle.whole_meaning.specs.Threads.{Meant, Memory, held_next, meant_accesses, meant_mark, meant_sequence, meant_shut, meant_steps, ops, sequence_at, sequence_next}
 use Rattle.job_check.specs.declared.step.Stepped.{Stepped}
 use Rattle.job_check.specs.declared.step.Stepped.TheVariants.{Goes, Looks, Ends}
@@ -78,10 +78,10 @@ sequence_begins k seen place s has is = begins k seen place has ∙ sym is
 
 bare-is : (state : State Word Flag) (k : Kept) (seen : List Event) (s : Option Sequence) → sequence_at (meaning_of k.images) k.thread seen state.place ≡ s
     → bare state k seen
-    ≡ sequence_or (option_map (sequence_next (meaning_of k.images) k.thread (left state (space_of seen k))) s) (plain_next state k seen)
+    ≡ unwrap_or (option_map (sequence_next (meaning_of k.images) k.thread (left state (space_of seen k))) s) (plain_next state k seen)
 unfolding bare
 bare-is state k seen s e = ap (λ (s : Option Sequence).
-    sequence_or (option_map (sequence_next (meaning_of k.images) k.thread (left state (space_of seen k))) s) (plain_next state k seen)) e
+    unwrap_or (option_map (sequence_next (meaning_of k.images) k.thread (left state (space_of seen k))) s) (plain_next state k seen)) e
 
 pub sequence_steps : (s : Sequence) (stepped : Stepped) (state : State Word Flag) (k : Kept) (state' : State Word Flag) (k' : Kept)
     → Some s ≡ sequence_in k state.place → StepsAs stepped state k state' k' (sequence_next_of s state k) → Steps state k stepped state' k'

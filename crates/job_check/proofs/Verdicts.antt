@@ -7,12 +7,12 @@ use Rattle.job_meaning.specs.declared.values.Word.{Word}
 use Rattle.job_text.specs.Jobs.{JobParts}
 use Rattle.link_needs.specs.Linking.{Linking}
 use Rattle.module_table.specs.declared.events.Event.{Event}
-use Rattle.thread_blocks.specs.JobWorlds.{Shared}
+use Rattle.thread_blocks.specs.JobWorlds.{Shared, job_start}
 use Rattle.thread_blocks.specs.Lines.{Line}
 use Rattle.thread_blocks.specs.Turns.{Thread, finishing}
-use Rattle.whole_meaning.specs.Jobs.{first_from, first_in, job_start, lines_of, meant_world, verdict_of}
+use Rattle.whole_meaning.specs.Jobs.{first_from, first_in, lines_of, meant_world, verdict_of}
 use Rattle.whole_meaning.specs.Loads.{meaning_of}
-use Rattle.whole_meaning.specs.Threads.{Meant}
+use Rattle.whole_meaning.specs.Threads.{Meant, ops}
 use Rattle.thread_turns.specs.Orders.{TakesTurns}
 use Rattle.thread_turns.proofs.Orders.{takes_both}
 use Rattle.job_check.specs.Progress.{IsFirst, MeantThreads, Stands, Turned, first_unclean}
@@ -51,7 +51,7 @@ module _ (ls : List Linking) (job : JobParts) (x y z : MeantThreads) (first : Is
   whole_world : Stands ls job.fuel (meant_world (meaning_of ls) job.fuel job.lines job.order) z
   unfolding meant_world
   whole_world =
-      turns_stand ls job.fuel (job.order ++ finishing (4 * job.fuel) 1 job.lines) (job_start (meaning_of ls) job.lines) x z
+      turns_stand ls job.fuel (job.order ++ finishing (4 * job.fuel) 1 job.lines) (job_start ops (meaning_of ls).loads job.lines) x z
       (first_stands ls job x first)
       (takes_both is_done Turned x y z job.order (finishing (4 * job.fuel) 1 job.lines) takes finishes)
 

@@ -14,9 +14,9 @@ use Rattle.module_table.specs.Past.{Past, after}
 use Rattle.thread_blocks.specs.Held.{Owned}
 use Rattle.thread_blocks.specs.Instances.{instance_at, instances_in, left_by}
 use Rattle.thread_blocks.specs.Lines.{Line, begun_by, begun_in, begun_peek, event_by}
-use Rattle.thread_blocks.specs.Turns.{Begun, Calls as CallsOn, Ending, Says as SaysSo, with_event}
+use Rattle.thread_blocks.specs.Turns.{Begun, Calls as CallsOn, Ending, Says as SaysSo, with_event, Stopped}
 use Rattle.whole_meaning.specs.declared.unclean.UncleanStep.{UncleanStep}
-use Rattle.whole_meaning.specs.Jobs.{unclean_ending, unclean_stop}
+use Rattle.whole_meaning.specs.Jobs.{unclean_ending}
 use Rattle.whole_meaning.specs.Loads.{loads_of, meaning_of}
 use Rattle.whole_meaning.specs.Threads.{Meant, byte_cause as cause_of_byte, is_for as is_for_cause, meant_show, ops, unclean_bytes as first_unclean, unclean_for as lowest_unclean}
 use Rattle.thread_turns.specs.declared.parts.Started.{Started as StartedWith}
@@ -133,7 +133,7 @@ unclean_bytes address bytes = first_unclean (meaning_of []) 0 address bytes
 -- the unclean step of a line that shows bytes from an address on, if some of them are not numbers
 abbrev pub shown_step : ℕ → ℕ → ℕ → List Byte → Option (List ℕ) → Option UncleanStep
 shown_step thread line address bytes (Some numbers) = None
-shown_step thread line address bytes None = unclean_stop thread line (unclean_bytes address bytes)
+shown_step thread line address bytes None = unclean_ending thread line (Stopped (unclean_bytes address bytes))
 
 -- likewise for a variable at an offset in a block
 abbrev pub step_in : ℕ → ℕ → ℕ → ℕ → ℕ → Option (List Byte) → Option UncleanStep

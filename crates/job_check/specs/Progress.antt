@@ -10,12 +10,11 @@ use Rattle.link_needs.specs.Linking.{Linking}
 use Rattle.module_table.specs.declared.events.Event.{Event}
 use Rattle.module_table.specs.Past.{start}
 use Rattle.thread_blocks.specs.Instances.{left_by}
-use Rattle.thread_blocks.specs.JobWorlds.{Shared, blocks_in, data_in, shared_order}
+use Rattle.thread_blocks.specs.JobWorlds.{Shared, blocks_in, data_in, shared_order, first_data}
 use Rattle.thread_blocks.specs.Lines.{Line, event_by}
 use Rattle.thread_blocks.specs.Turns.{Thread}
 use Rattle.thread_turns.specs.Orders.{Progress}
 use Rattle.whole_meaning.specs.declared.unclean.UncleanStep.{UncleanStep}
-use Rattle.whole_meaning.specs.Jobs.{first_data}
 use Rattle.whole_meaning.specs.Loads.{loads_of, meaning_of}
 use Rattle.whole_meaning.specs.Threads.{Meant, meant_turns}
 use Rattle.job_check.specs.declared.thread.Common.{Common}
@@ -76,7 +75,7 @@ Turned s r s' r' = TakesTurn r s.table s.ranges.items r' s'.table s'.ranges.item
 pub record IsFirst (ls : List Linking) (job : JobParts) (x : MeantThreads) : Type 0 where
   pub legal : IsHistory ls []
   pub past_is : x.shared.table ≡ start (infos_of ls) (last_of ls)
-  pub shared_is : x.shared.ranges.items ≡ first_data (meaning_of ls)
+  pub shared_is : x.shared.ranges.items ≡ first_data (meaning_of ls).loads
   pub count : length x.runs ≡ length job.lines
   pub each : (k : ℕ) (r : Run) → slice_get x.runs k ≡ Some r → IsFirstRun (k + 1) ls job r
 

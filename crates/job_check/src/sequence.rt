@@ -1,13 +1,14 @@
 //! The step of a sequence.
 
+ghost use Rattle.std.specs.Option.{option_map_or};
 ghost use Rattle.std.specs.Prelude.{◌≡◌, ◌≤◌, ◌&&◌, List, map, nat_lt, true};
 ghost use Rattle.guest_operands.specs.Use.{left};
 ghost use Rattle.module_table.specs.declared.events.Event.{Event};
 ghost use Rattle.module_table.specs.Past.{startup_count};
+ghost use Rattle.thread_blocks.specs.Instances.{block_start};
 ghost use Rattle.whole_meaning.specs.Loads.{info_of, meaning_of};
-ghost use Rattle.whole_meaning.specs.Meanings.{Meaning};
 ghost use Rattle.whole_meaning.specs.Sequences.{asks, looks_first};
-ghost use Rattle.whole_meaning.specs.Threads.{sequence_next, start_in};
+ghost use Rattle.whole_meaning.specs.Threads.{sequence_next};
 ghost use Rattle.job_check.specs.Stepping.{Makes, StepsAs, next_as, sequence_made, space_of};
 
 use crate::step::{Stepped, as_step};
@@ -31,7 +32,7 @@ fn came_late(images: &MeantImages, number: u64) -> bool
 /// The address of a thread's block of an instance.
 fn start_in(thread: u32, instance: Option<Instance>) -> u64
     requires { thread ≤ 64 }
-    ensures { (m : Meaning) → result ≡ start_in m thread instance }
+    ensures { result ≡ option_map_or (block_start thread) instance 0 }
 {
     match instance {
         None => 0,

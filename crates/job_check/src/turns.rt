@@ -3,10 +3,10 @@
 ghost use Rattle.std.specs.Prelude.{◌≡◌, [], IfOk};
 ghost use Rattle.module_table.specs.Past.{start};
 ghost use Rattle.thread_turns.specs.Orders.{progress};
-ghost use Rattle.whole_meaning.specs.Jobs.{first_data};
 ghost use Rattle.whole_meaning.specs.Loads.{meaning_of};
 ghost use Rattle.job_check.specs.Histories.{IsHistory, infos_of, last_of};
 ghost use Rattle.job_check.specs.Progress.{IsFirst, first_unclean};
+ghost use Rattle.thread_blocks.specs.JobWorlds.{first_data};
 
 use crate::live::live_instances;
 use crate::thread::{Common, MeantThread};
@@ -26,7 +26,7 @@ fn first_data(
 ) -> Result<Vec<OwnedRange>, AllocError>
     requires legal { IsHistory images.now [] }
     requires start { table.now ≡ start (infos_of images.now) (last_of images.now) }
-    ensures { IfOk result (λ shared. shared.items ≡ first_data (meaning_of images.now)) }
+    ensures { IfOk result (λ shared. shared.items ≡ first_data (meaning_of images.now).loads) }
 {
     let live = live_instances(alloc, images, table)?;
     let mut shared = Vec::new(alloc);

@@ -2,7 +2,8 @@
 
 ghost use Rattle.std.specs.Prelude.{◌≡◌, Some, IfOk};
 ghost use Rattle.std.specs.String.{string_bytes};
-ghost use Rattle.whole_meaning.specs.Jobs.{cause_name, unclean_stop, verdict_text};
+ghost use Rattle.thread_blocks.specs.Turns.{Stopped};
+ghost use Rattle.whole_meaning.specs.Jobs.{cause_name, unclean_ending, verdict_text};
 
 use guest_arithmetic::Cause;
 use guest_operands::Stop;
@@ -11,7 +12,7 @@ use whole_meaning::UncleanStep;
 
 /// The unclean step of a thread's line that stopped, if the stop is one.
 pub(crate) fn unclean_stop(thread: u32, line: u32, stop: Stop) -> Option<UncleanStep>
-    ensures { result ≡ unclean_stop thread line stop }
+    ensures { result ≡ unclean_ending thread line (Stopped stop) }
 {
     match stop {
         Stop::Unclean(address, cause) => Some(UncleanStep {

@@ -31,8 +31,7 @@ used_truth Unsettled = Err cause.Flags
 -- only bytes that are values are code
 abbrev pub code_byte : Byte → Option ℕ
 code_byte (Value number) = Some number
-code_byte Hidden = None
-code_byte (Part token k) = None
+code_byte byte = None
 
 -- byte k of a word
 abbrev pub part_of : Word → ℕ → Byte
@@ -46,9 +45,8 @@ is_same_block block block' =
 
 abbrev pub is_same : Token → Token → Bool
 is_same (Base block) (Base block') = is_same_block block block'
-is_same (Base block) (Descriptor instance' symbol') = false
-is_same (Descriptor instance symbol) (Base block') = false
 is_same (Descriptor instance symbol) (Descriptor instance' symbol') = (instance == instance') && (symbol == symbol')
+is_same token other = false
 
 abbrev pub with_value : ℕ → Option (List ℕ) → Option (List ℕ)
 with_value number None = None
@@ -58,22 +56,18 @@ with_value number (Some numbers) = Some (number ∷ numbers)
 abbrev pub values_of : List Byte → Option (List ℕ)
 values_of [] = Some []
 values_of (Value number ∷ bytes) = with_value number (values_of bytes)
-values_of (Hidden ∷ bytes) = None
-values_of (Part token k ∷ bytes) = None
+values_of (byte ∷ bytes) = None
 
 -- whether the bytes are those of a token, from byte k up to byte 7
 abbrev pub are_parts : Token → ℕ → List Byte → Bool
 are_parts token k [] = k == 8
-are_parts token k (Value number ∷ bytes) = false
-are_parts token k (Hidden ∷ bytes) = false
 are_parts token k (Part other j ∷ bytes) = (is_same token other && (k == j)) && are_parts token (k + 1) bytes
+are_parts token k (byte ∷ bytes) = false
 
 -- bytes 0 to 7 of one token are that token; nothing is known of any others that are not all values
 abbrev pub whole : List Byte → Word
-whole [] = Undefined
-whole (Value number ∷ bytes) = Undefined
-whole (Hidden ∷ bytes) = Undefined
 whole (Part token k ∷ bytes) = if are_parts token 0 (Part token k ∷ bytes) then Marked token else Undefined
+whole bytes = Undefined
 
 abbrev pub joined_as : Option (List ℕ) → List Byte → Word
 joined_as (Some numbers) bytes = Number (number_from numbers % 2 ^ 64)
@@ -83,11 +77,9 @@ joined_as None bytes = whole bytes
 module _ (owner : ℕ → ℕ) where
   -- an offset field may be added to a base of the instance that the code belongs to, and to nothing else
   abbrev pub moved_in : Word → ℕ → ℕ → Result ℕ Cause
-  moved_in (Number number) field place = Err cause.Field
-  moved_in Undefined field place = Err cause.Field
   moved_in (Marked (Base block)) field place =
       if block.instance == owner place then Ok ((block.start + field) % 2 ^ 64) else Err cause.Field
-  moved_in (Marked (Descriptor instance symbol)) field place = Err cause.Field
+  moved_in word field place = Err cause.Field
 
   unfoldable pub marked_operations : Operations Word Flag Byte
   marked_operations = record {

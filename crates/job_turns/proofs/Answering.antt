@@ -18,12 +18,13 @@ use Rattle.module_table.specs.declared.events.Event.{Event}
 use Rattle.module_table.specs.Past.{Past}
 use Rattle.thread_blocks.specs.Instances.{instances, instances_in}
 use Rattle.thread_blocks.specs.JobLoads.{job_loads}
-use Rattle.thread_blocks.specs.RunTime.{asked_at, asked_by, asked_of, has_words, pair, thread_accesses, word_at, word_of}
+use Rattle.thread_blocks.specs.RunTime.{asked_at, asked_by, asked_of, has_words, pair, thread_accesses, word_at}
 use Rattle.thread_blocks.specs.Spaces.{Space, address_space_of, after_of, mapped, space_accesses}
 use Rattle.thread_blocks.proofs.Spaces.{space_image}
 use Rattle.thread_space.specs.Kept.{HasSeen, Kept, live_in, memory_of, shape_of}
 use Rattle.job_turns.specs.Running.{asked_from, asked_in, asker_in, space_in, word_in}
 use Rattle.job_turns.proofs.SpaceRuns.{fixed_seen, memory_is, none_fixed, space_is}
+use Rattle.guest_arithmetic.specs.Values.{number_from}
 
 -- ** instances
 
@@ -49,7 +50,7 @@ module _ (k : Kept) (seen : List Event) (has : HasSeen k.vector seen) where
 
   word-same : (address : ℕ) → word_in k address 8 ≡ word_at (job_loads k.vector.images) k.vector.thread (space_in seen k) address
   unfolding thread_accesses
-  word-same address = ap word_of (bytes-same 8 address)
+  word-same address = ap (reached_so number_from) (bytes-same 8 address)
 
   from-same : (is_descriptor : Bool) (address : ℕ) (found : Option Instance)
       → asked_of (job_loads k.vector.images) k.vector.thread (space_in seen k) is_descriptor address found ≡ asked_from k is_descriptor address found

@@ -24,6 +24,7 @@ use Rattle.thread_turns.proofs.Ready.{lines_at, ready-length, ready_at}
 use Rattle.thread_vector.specs.Holding.{IsLeftBy}
 use Rattle.thread_vector.specs.Vectors.{fresh, held}
 use Rattle.job_turns.specs.Progress.{IsFirst, IsRunner, Runners, Stands}
+use Rattle.guest_arithmetic.specs.Plain.{plain_operations}
 
 -- ---- a thread before its first line
 
@@ -39,7 +40,7 @@ module _ (m : JobImages) (legal : IsLegal (infos m) (last_offset m) []) (thread 
       rw (← new.images, ← new.thread_is)
       (start_kept k.vector left_now (rw new.images new.past) (λ i. subst (λ y. held k.vector i ≡ fresh y k.vector.past i) (sym new.images) (new.blocks i)))
 
-  ready_idle : IsIdle k (thread_ready (job_loads m) thread)
+  ready_idle : IsIdle k (thread_ready plain_operations (job_loads m) thread)
   ready_idle = record {
     seen = seen_none;
     blocks = owned_again _ ∙ ready_blocks;
@@ -48,7 +49,7 @@ module _ (m : JobImages) (legal : IsLegal (infos m) (last_offset m) []) (thread 
 
 pub first_runner_stands : (m : JobImages) (job : JobParts) (legal : IsLegal (infos m) (last_offset m) []) (thread : ℕ) (r : Run)
     (own : List ThreadLine) → IsFirstRun thread m job r → of_thread job.lines thread ≡ own
-    → StandsFor r (ready (thread_ready (job_loads m) thread) (numbered_lines 1 own))
+    → StandsFor r (ready (thread_ready plain_operations (job_loads m) thread) (numbered_lines 1 own))
 first_runner_stands m job legal thread r own first lines = record {
   todo = rw (first.begun, first.lines, lines) refl;
   said = rw first.said refl;
@@ -59,11 +60,11 @@ first_runner_stands m job legal thread r own first lines = record {
 
 module _ (m : JobImages) (job : JobParts) (x : Runners) (first : IsFirst m job x) where
   first_each : (k : ℕ) (r : Run) (t : Thread Runs Line Event) → slice_get x.runs k ≡ Some r
-      → slice_get (ready_from (job_loads m) 1 job.lines) k ≡ Some t → IsRunner m job.fuel (suc k) [] r t
+      → slice_get (ready_from plain_operations (job_loads m) 1 job.lines) k ≡ Some t → IsRunner m job.fuel (suc k) [] r t
   first_each k r t at_r at_t =
       let one : k + 1 ≡ suc k = omega arith in
       let run = subst (λ n. IsFirstRun n m job r) one (first.each k r at_r) in
-      let is = ready_at (thread_ready (job_loads m)) (ready_from (job_loads m)) (λ n. refl) (λ n own lines. refl) 1 job.lines
+      let is = ready_at (thread_ready plain_operations (job_loads m)) (ready_from plain_operations (job_loads m)) (λ n. refl) (λ n own lines. refl) 1 job.lines
       k t at_t in
       let number : 1 + k ≡ suc k = omega arith in
       record {
@@ -71,7 +72,7 @@ module _ (m : JobImages) (job : JobParts) (x : Runners) (first : IsFirst m job x
         images_are = run.kept.images;
         fuel_is = run.fuel;
         stands = subst (λ y. StandsFor r y)
-            (sym (is.is ∙ ap (λ n. ready (thread_ready (job_loads m) n) (numbered_lines 1 is.own)) number))
+            (sym (is.is ∙ ap (λ n. ready (thread_ready plain_operations (job_loads m) n) (numbered_lines 1 is.own)) number))
             (first_runner_stands m job first.legal (suc k) r is.own run (lines_at job.lines k is.own is.own_is));
         front = [];
         rest = [];
@@ -83,7 +84,7 @@ module _ (m : JobImages) (job : JobParts) (x : Runners) (first : IsFirst m job x
   unfolding first_data
   first_pieces = rw first.pieces_are (length-map-range_with_len (first_piece m) 0 (length m.images + 1))
 
-  pub first_stands : Stands m job.fuel (job_start (job_loads m) job.lines) x
+  pub first_stands : Stands m job.fuel (job_start plain_operations (job_loads m) job.lines) x
   first_stands = record {
     infos_are = first.infos_are;
     last_is = first.last_is;
@@ -91,7 +92,7 @@ module _ (m : JobImages) (job : JobParts) (x : Runners) (first : IsFirst m job x
     legal = first.legal;
     pieces_are = first_pieces;
     shared_is = first_shared m first.legal.images ∙ rw (first.pieces_are, begins m) refl;
-    count = first.count ∙ sym (ready-length (thread_ready (job_loads m)) (ready_from (job_loads m)) (λ n. refl)
+    count = first.count ∙ sym (ready-length (thread_ready plain_operations (job_loads m)) (ready_from plain_operations (job_loads m)) (λ n. refl)
         (λ n own lines. refl) 1 job.lines);
     each = first_each;
   }

@@ -37,6 +37,7 @@ use Rattle.thread_turns.proofs.Lists.{same_images, set-length}
 use Rattle.job_turns.proofs.Orders.{turns_stand}
 use Rattle.thread_turns.specs.Orders.{TakesTurns}
 use Rattle.thread_turns.proofs.Orders.{takes_both}
+use Rattle.guest_arithmetic.specs.Plain.{plain_operations}
 
 -- ---- the transcript
 
@@ -59,7 +60,7 @@ pub first_some : (m : JobImages) (job : JobParts) (x : Runners) → IsFirst m jo
 first_some m job x first = record {
   images = m;
   fuel = job.fuel;
-  world = job_start (job_loads m) job.lines;
+  world = job_start plain_operations (job_loads m) job.lines;
   stands = first_stands m job x first;
 }
 
@@ -139,7 +140,7 @@ module _ (m : JobImages) (job : JobParts) (x y z : Runners) (first : IsFirst m j
   whole_world : Stands m job.fuel (job_world (job_loads m) job.fuel job.lines job.order) z
   unfolding job_world
   whole_world =
-      turns_stand m job.fuel (job.order ++ finishing (4 * job.fuel) 1 job.lines) (job_start (job_loads m) job.lines) x z
+      turns_stand m job.fuel (job.order ++ finishing (4 * job.fuel) 1 job.lines) (job_start plain_operations (job_loads m) job.lines) x z
       (first_stands m job x first)
       (takes_both is_over TurnedIn x y z job.order (finishing (4 * job.fuel) 1 job.lines) takes finishes)
 

@@ -25,7 +25,7 @@ use Rattle.thread_blocks.specs.declared.asked.Asked.{Asked}
 use Rattle.thread_blocks.specs.Held.{loaded_at, loaded as loading, looked, looked_at}
 use Rattle.thread_blocks.specs.Instances.{Loads, instance_at, loaded_instance}
 use Rattle.thread_blocks.specs.JobLoads.{job_loads}
-use Rattle.thread_blocks.specs.Lines.{Line, begun_close, begun_open, event_at, opened_as, refused_close, refused_open, unless_refused, with_load}
+use Rattle.thread_blocks.specs.Lines.{Line, begun_close, begun_open, event_at, refused_close, refused_open, unless_refused, with_load}
 use Rattle.thread_blocks.specs.RunTime.{Runs, shows}
 use Rattle.thread_blocks.specs.Turns.{Answered, Begun, Says as SaysSo, with_last}
 use Rattle.thread_vector.specs.Holding.{IsLeftBy}
@@ -45,6 +45,7 @@ use Rattle.job_turns.proofs.LinesBegun.{over_at_once, starts_so}
 use Rattle.thread_space.proofs.Live.{instance_is}
 use Rattle.thread_space.proofs.LoadKept.{load_kept}
 use Rattle.thread_space.proofs.Looks.{see_kept}
+use Rattle.std.specs.Option.{option_map_or}
 
 -- ** answers
 
@@ -200,7 +201,7 @@ module _ (old mid : Kept) (line : Line) (sees : Sees old (own_event old line tru
     l = job_loads old.vector.images
 
     at_once : Bool → Option Instance → Begun Runs
-    at_once was o = SaysSo (Answered (OpenedSo (opened_as plain_operations l (shows l old.vector.thread) old.vector.thread o)))
+    at_once was o = SaysSo (Answered (OpenedSo (option_map_or (λ (x : Instance). x.number) o 0)))
         (with_load plain_operations l (shows l old.vector.thread) old.vector.thread was o
         (looked l old.vector.thread (with_last seen (own_event old line true)) (held_at seen state asked old)))
 

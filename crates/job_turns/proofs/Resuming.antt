@@ -14,7 +14,7 @@ use Rattle.thread_blocks.specs.declared.asked.Asked.{Asked}
 use Rattle.thread_blocks.specs.Held.{Owned, reached, reached_at, with_owned}
 use Rattle.thread_blocks.specs.Instances.{Loads}
 use Rattle.thread_blocks.specs.JobLoads.{job_loads}
-use Rattle.thread_blocks.specs.RunTime.{Runs as Thread, answer_word, answered, resumed, resumed_by, resumed_in}
+use Rattle.thread_blocks.specs.RunTime.{Runs as Thread, answer_word, answered, resumed_by, resumed_in, resumed}
 use Rattle.thread_blocks.specs.Turns.{Answered, Calls, Says, Stopped}
 use Rattle.transcript_text.specs.declared.outcomes.LineFault.TheVariants.{Unloaded as UnloadedFault}
 use Rattle.transcript_text.specs.declared.outcomes.Outcome.TheVariants.{Fault}
@@ -139,12 +139,12 @@ module _ (m : Standing ℕ Bool) (k : Kept) (wanted : Asked) where
 
       then-answered : (seen : List Event) → HasSeen k.vector seen
           → resumed_by loads k.vector.thread seen (here seen) (Some wanted)
-          ≡ resumed (job_loads k1.vector.images) k1.vector.thread (held_at seen m.state None k1) (answered (job_loads k1.vector.images) k1.vector.thread wanted x (held_at seen m.state None k1))
+          ≡ resumed (held_at seen m.state None k1) (answered (job_loads k1.vector.images) k1.vector.thread wanted x (held_at seen m.state None k1))
       then-answered seen has =
           resumed-known seen has false there (Some x) is
-          ∙ ap (λ h. resumed loads k.vector.thread h (answered loads k.vector.thread wanted x h)) (reached-then seen has)
-          ∙ ap (λ l. resumed l k.vector.thread (held_at seen m.state None k1) (answered l k.vector.thread wanted x (held_at seen m.state None k1))) (ap job_loads (sym reaches.leaves.images))
-          ∙ ap (λ t. resumed (job_loads k1.vector.images) t (held_at seen m.state None k1) (answered (job_loads k1.vector.images) t wanted x (held_at seen m.state None k1))) (sym reaches.leaves.thread)
+          ∙ ap (λ h. resumed h (answered loads k.vector.thread wanted x h)) (reached-then seen has)
+          ∙ ap (λ l. resumed (held_at seen m.state None k1) (answered l k.vector.thread wanted x (held_at seen m.state None k1))) (ap job_loads (sym reaches.leaves.images))
+          ∙ ap (λ t. resumed (held_at seen m.state None k1) (answered (job_loads k1.vector.images) t wanted x (held_at seen m.state None k1))) (sym reaches.leaves.thread)
 
       module _ (m' : Standing ℕ Bool) (k' : Kept) (shape : shape_of k' ≡ shape_of k1) where
         all-same : IsSameThread k k'
@@ -157,7 +157,7 @@ module _ (m : Standing ℕ Bool) (k : Kept) (wanted : Asked) where
           takes = made.1;
           clean = tt;
           resumes = λ seen has. then-answered seen has
-              ∙ ap (resumed (job_loads k1.vector.images) k1.vector.thread (held_at seen m.state None k1)) (answer_made k1 seen (has-seen seen has) word m m' k' shape made)
+              ∙ ap (resumed (held_at seen m.state None k1)) (answer_made k1 seen (has-seen seen has) word m m' k' shape made)
               ∙ ap Calls (held_after seen m.state m'.state None k1 k' shape);
         }
 
@@ -170,7 +170,7 @@ module _ (m : Standing ℕ Bool) (k : Kept) (wanted : Asked) where
           resumes = λ seen has.
               let both = answer_refused k1 seen (has-seen seen has) word m m' k' shape refused in
               then-answered seen has
-              ∙ ap (resumed (job_loads k1.vector.images) k1.vector.thread (held_at seen m.state None k1)) both.0
+              ∙ ap (resumed (held_at seen m.state None k1)) both.0
               ∙ ap (Says (Stopped (Address m.state.place))) (sym (held_still seen m.state None k1 k' shape both.1))
               ∙ ap (λ (n : Standing ℕ Bool). Says (Stopped (Address m.state.place)) (held_at seen n.state None k')) (sym refused.1);
         }

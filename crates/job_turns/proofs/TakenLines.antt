@@ -12,7 +12,7 @@ use Rattle.transcript_text.specs.declared.outcomes.Outcome.{Outcome as Answer}
 use Rattle.thread_blocks.specs.declared.asked.Asked.{Asked}
 use Rattle.thread_blocks.specs.JobLoads.{job_loads}
 use Rattle.thread_blocks.specs.Lines.{Line, event_by}
-use Rattle.thread_blocks.specs.MachineTurns.{answer_of, answer_of_stop}
+use Rattle.thread_blocks.specs.MachineTurns.{answer_of}
 use Rattle.thread_blocks.specs.RunTime.{Runs, thread_steps, thread_turns}
 use Rattle.thread_blocks.specs.Turns.{Answered, Begun, Calls as CallsOn, Ending, Said, Says as SaysSo, Stopped, after_look, after_run, over_with, with_event}
 use Rattle.thread_turns.specs.declared.parts.Started.TheVariants.{Says, Calls}
@@ -69,7 +69,7 @@ module _ {S : Type 0} (x : Stepping S) where
 
 -- what the code makes of how a run came to an end: the outcome of its stop, or the machine that waits
 abbrev pub TakenAs : Ran → Standing ℕ Bool → Taken → Type 0
-TakenAs (Over stop) m (Over outcome) = answer_of_stop stop ≡ Some outcome
+TakenAs (Over stop) m (Over outcome) = answer_of (Stopped stop) ≡ Some outcome
 TakenAs (Over stop) m (Waits (machine, asked)) = ⊥
 TakenAs (Waits wanted) m (Over outcome) = ⊥
 TakenAs (Waits wanted) m (Waits (machine, asked)) = (machine ≡ m) × (asked ≡ wanted)

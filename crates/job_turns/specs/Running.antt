@@ -5,7 +5,7 @@ use Rattle.address_map.specs.Map.{descriptor_place}
 use Rattle.guest_arithmetic.specs.Plain.{plain_operations}
 use Rattle.guest_operands.specs.declared.state.State.{State}
 use Rattle.guest_operands.specs.declared.stop.Stop.{Stop}
-use Rattle.guest_operands.specs.Access.{Refusal, both_reached, bytes_at}
+use Rattle.guest_operands.specs.Access.{Refusal, both_reached, bytes_at, reached as read_as}
 use Rattle.guest_operands.specs.Ranges.{range_accesses}
 use Rattle.guest_operands.specs.Use.{After}
 use Rattle.guest_machine.specs.Clean.{IsClean}
@@ -19,7 +19,7 @@ use Rattle.thread_blocks.specs.declared.asked.Asked.{Asked}
 use Rattle.thread_blocks.specs.Held.{ranges_in}
 use Rattle.thread_blocks.specs.Instances.{Loads}
 use Rattle.thread_blocks.specs.JobLoads.{job_loads}
-use Rattle.thread_blocks.specs.RunTime.{Runs, asked_at, asked_by, asked_next, has_words, pair, resumed_by, thread_accesses, thread_steps, word_of}
+use Rattle.thread_blocks.specs.RunTime.{Runs, asked_at, asked_by, asked_next, has_words, pair, resumed_by, thread_accesses, thread_steps}
 use Rattle.thread_blocks.specs.Spaces.{Space, no_field}
 use Rattle.thread_blocks.specs.Turns.{Answered, Begun, Calls, Says, Stopped}
 use Rattle.thread_space.specs.Kept.{HasSeen, Kept, held_at, live_in, memory_of, owned_of, shape_of}
@@ -28,6 +28,7 @@ use Rattle.thread_turns.specs.declared.parts.Ended.{Ended as EndedWith}
 use Rattle.thread_turns.specs.declared.parts.Ended.TheVariants as ran
 use Rattle.thread_turns.specs.declared.parts.Resumed.{Resumed}
 use Rattle.thread_turns.specs.declared.parts.Resumed.TheVariants as resumed
+use Rattle.guest_arithmetic.specs.Values.{number_from}
 
 -- a thread's memory after these events
 abbrev pub space_in : List Event → Kept → Space Event ℕ
@@ -49,7 +50,7 @@ module _ (l : Loads ℕ) (thread : ℕ) where
 -- ---- the question, by the words that the code reads
 
 abbrev pub word_in : Kept → ℕ → ℕ → Result ℕ Refusal
-word_in k address count = word_of (bytes_at (range_accesses plain_operations) (memory_of k) address count)
+word_in k address count = read_as number_from (bytes_at (range_accesses plain_operations) (memory_of k) address count)
 
 abbrev pub asker_in : Kept → ℕ → Option Instance
 asker_in k address =

@@ -2,7 +2,8 @@
 
 ghost use Rattle.std.specs.Prelude.{◌≡◌, ◌≤◌, ◌<◌, ◌+◌, ◌*◌, ◌^◌, IfOk, OnErr, Some};
 ghost use Rattle.guest_machine.specs.Clean.{IsClean};
-ghost use Rattle.thread_blocks.specs.MachineTurns.{answer_of_stop};
+ghost use Rattle.thread_blocks.specs.MachineTurns.{answer_of};
+ghost use Rattle.thread_blocks.specs.Turns.{Stopped};
 ghost use Rattle.job_turns.specs.Asking.{answer_to, ask_by};
 ghost use Rattle.job_turns.specs.Taking.{BeginsTo, CanBegin, KeepsJob, ResumesTo, RunsTo};
 
@@ -24,7 +25,7 @@ pub(crate) type Taken = Ended<Outcome, (Machine<Plain>, Asked)>;
 /// A stop, as the transcript shows it.
 fn outcome_of(stop: Stop) -> Outcome
     requires { IsClean stop }
-    ensures { answer_of_stop stop ≡ Some result }
+    ensures { answer_of (Stopped stop) ≡ Some result }
 {
     match stop {
         Stop::Returned(number) => Outcome::Returned(number),

@@ -15,6 +15,7 @@ use Rattle.lawful_points.proofs.Jobs.{points_lawful, shown_at}
 use Rattle.lawful_points.proofs.Making.{TellsOwn, events_made}
 use Rattle.lawful_points.proofs.Naming.{told_count, told_named, world_fits}
 use Rattle.lawful_points.proofs.Racing.{raced_points}
+use Rattle.guest_arithmetic.specs.Plain.{plain_operations}
 
 run_tells : (l : Loads ℕ) (fuel : ℕ) (lines : List (List ThreadLine)) (order : List ℕ) (transcript : Shown)
     → Tells (job_world l fuel lines order) transcript
@@ -41,7 +42,7 @@ racer_fits l fuel thread own shown said racer =
     shown_fit (numbered_lines 1 own) said last.said racer.lines
     (last_fits (numbered_lines 1 own) last.todo last.phase last.said racer.over
     (turns_fit (thread_turns l thread fuel) (begins_fit l thread fuel) (resumes_fit l thread fuel) (numbered_lines 1 own)
-    racer.points (first_of l thread own) (first_fits (numbered_lines 1 own) (thread_ready l thread))))
+    racer.points (first_of l thread own) (first_fits (numbered_lines 1 own) (thread_ready plain_operations l thread))))
 
 pub races_make : RacesMakeTheirEvents
 races_make l fuel lines transcript raced = events_made lines transcript

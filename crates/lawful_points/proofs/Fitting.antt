@@ -24,7 +24,7 @@ use Rattle.thread_blocks.specs.Held.{block_bytes, looked, owned_by, reached}
 use Rattle.thread_blocks.specs.Instances.{Loads, instance_at, instance_with_id, left_by, numbered_instance}
 use Rattle.thread_blocks.specs.Lines.{Line, begin_line, begun_at, begun_by, begun_close, begun_in, begun_open, begun_peek, shown_from, shown_in}
 use Rattle.thread_blocks.specs.MachineTurns.{answer_of, shown}
-use Rattle.thread_blocks.specs.RunTime.{Runs, answered, resume_line, resumed, resumed_by, resumed_in, shows, thread_turns}
+use Rattle.thread_blocks.specs.RunTime.{Runs, answered, resume_line, resumed_by, resumed_in, shows, thread_turns, resumed}
 use Rattle.thread_blocks.specs.Spaces.{Space}
 use Rattle.thread_blocks.specs.Turns.{Ending, Answered, Stopped, Said, Begun, Says, Calls, Turns, Phase, Idle, Mid, Thread, IsFinished, after_look, after_run, turn, turn_at, turns, with_last}
 
@@ -264,7 +264,7 @@ module _ (l : Loads ℕ) (thread : ℕ) where
       peek_fits (Peek symbol size) line symbol size h (instance_at l seen line.told.image)
 
   -- a look in the middle of a call
-  answer_fits : (h : Runs) (after : Result (After ℕ Bool (Space Event ℕ)) Stop) → ResumeFits (resumed l thread h after)
+  answer_fits : (h : Runs) (after : Result (After ℕ Bool (Space Event ℕ)) Stop) → ResumeFits (resumed h after)
   answer_fits h (Ok after) = tt
   answer_fits h (Err stop) = stops_plain stop
 

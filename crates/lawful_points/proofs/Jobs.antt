@@ -61,7 +61,7 @@ module _ (l : Loads ℕ) (fuel : ℕ) where
     unfolding job_world job_looks
     lawful thread =
         order_lawful (λ i. thread_turns l i fuel) (λ i. event_by l i) (λ i line seen e same. event_named l i line seen e same)
-        thread (whole_order (4 * fuel) lines order) (job_start l lines) refl
+        thread (whole_order (4 * fuel) lines order) (job_start plain_operations l lines) refl
 
     -- what thread i told
     told_at : (i : ℕ) (own : List ThreadLine) → at_number lines (suc i) ≡ Some own
@@ -70,13 +70,13 @@ module _ (l : Loads ℕ) (fuel : ℕ) where
     unfolding job_world job_looks
     told_at i own at =
         order_told (λ i. thread_turns l i fuel) (λ i. event_by l i) (λ i line seen h. turns_tell i line seen h) i
-        (numbered_lines 1 own) (whole_order (4 * fuel) lines order) (job_start l lines) [] (
-          ready (thread_ready l (suc i)) (numbered_lines 1 own),
+        (numbered_lines 1 own) (whole_order (4 * fuel) lines order) (job_start plain_operations l lines) [] (
+          ready (thread_ready plain_operations l (suc i)) (numbered_lines 1 own),
           (
             thread_at l 1 lines i (suc i) own (omega arith) at,
             first_told (suc i) (thread_turns l (suc i) fuel) (event_by l (suc i)) (λ line seen h. turns_tell
                 (suc i) line seen h)
-                (numbered_lines 1 own) (thread_ready l (suc i)),
+                (numbered_lines 1 own) (thread_ready plain_operations l (suc i)),
           ),
         )
 

@@ -19,6 +19,7 @@ use Rattle.thread_blocks.proofs.Endings.{thread_at, threads_ended}
 use Rattle.thread_blocks.proofs.Orders.{get-set, get-set_same, turned}
 use Rattle.lawful_points.proofs.Fitting.{AllFit, BeginFits, HasFit, ResumeFits, begins_fit, first_fits, last_fits, resumes_fit, turn_fits}
 use Rattle.lawful_points.proofs.Jobs.{event_named}
+use Rattle.guest_arithmetic.specs.Plain.{plain_operations}
 
 -- ** what a thread holds changes nothing of how its lines fit
 
@@ -138,7 +139,7 @@ module _ {W F B : Type 0} (x : ℕ → Turns (Held W F B) Line Event) (event : �
 -- ** a job
 
 module _ (l : Loads ℕ) (fuel : ℕ) where
-  ready_count : (first : ℕ) (lines : List (List ThreadLine)) → length (ready_from l first lines) ≡ length lines
+  ready_count : (first : ℕ) (lines : List (List ThreadLine)) → length (ready_from plain_operations l first lines) ≡ length lines
   ready_count first [] = refl
   ready_count first (own ∷ lines) = ap suc (ready_count (suc first) lines)
 
@@ -147,13 +148,13 @@ module _ (l : Loads ℕ) (fuel : ℕ) where
     unfolding job_world
     world_count =
         order_count (λ i. thread_turns l i fuel) (λ i. event_by l i) (whole_order (4 * fuel) lines order)
-        (job_start l lines) ∙ ready_count 1 lines
+        (job_start plain_operations l lines) ∙ ready_count 1 lines
 
     pub world_named : All (λ (e : Event). IsThread (length lines) e.thread) (job_world l fuel lines order).events
     unfolding job_world
     world_named =
         order_named (λ i. thread_turns l i fuel) (λ i. event_by l i) (λ i line seen e same. event_named l i line seen e same)
-        (length lines) (whole_order (4 * fuel) lines order) (job_start l lines) (ready_count 1 lines) (All-nil _)
+        (length lines) (whole_order (4 * fuel) lines order) (job_start plain_operations l lines) (ready_count 1 lines) (All-nil _)
 
     fit_at : (i : ℕ) (own : List ThreadLine) → slice_get lines i ≡ Some own
         → HasAt (λ i. thread_turns l i fuel) (λ i. event_by l i) (λ i line seen h. begins_fit l i fuel line seen h)
@@ -161,10 +162,10 @@ module _ (l : Loads ℕ) (fuel : ℕ) where
     unfolding job_world
     fit_at i own at =
         order_fits (λ i. thread_turns l i fuel) (λ i. event_by l i) (λ i line seen h. begins_fit l i fuel line seen h)
-        (λ i seen h. resumes_fit l i fuel seen h) (whole_order (4 * fuel) lines order) (job_start l lines) i
+        (λ i seen h. resumes_fit l i fuel seen h) (whole_order (4 * fuel) lines order) (job_start plain_operations l lines) i
         (numbered_lines 1 own) (
-          ready (thread_ready l (suc i)) (numbered_lines 1 own),
-          (thread_at l 1 lines i (suc i) own (omega arith) at, first_fits (numbered_lines 1 own) (thread_ready l (suc i))),
+          ready (thread_ready plain_operations l (suc i)) (numbered_lines 1 own),
+          (thread_at l 1 lines i (suc i) own (omega arith) at, first_fits (numbered_lines 1 own) (thread_ready plain_operations l (suc i))),
         )
 
     pub world_fits : (i : ℕ) (own : List ThreadLine) (t : Thread Runs Line Event) → slice_get lines i ≡ Some own

@@ -20,6 +20,7 @@ use Rattle.lawful_points.proofs.Alone.{acting, acting_turns, alone_told, seen_al
 use Rattle.lawful_points.proofs.Fronts.{found_by, look_by}
 use Rattle.lawful_points.proofs.Jobs.{turns_tell}
 use Rattle.lawful_points.proofs.Telling.{Tells, first_told, last_count}
+use Rattle.guest_arithmetic.specs.Plain.{plain_operations}
 
 abbrev number_of : Point → ℕ
 number_of point = point.number
@@ -72,7 +73,7 @@ module _ (l : Loads ℕ) (fuel thread : ℕ) (own : List ThreadLine) (history : 
       let at = subst (λ (t : Thread Runs Line Event). Tells thread x event tells (numbered_lines 1 own) t told)
       (acting_turns x racer.points first)
       (alone_told thread x event tells (numbered_lines 1 own) racer.points first []
-      (first_told thread x event tells (numbered_lines 1 own) (thread_ready l thread))) in
+      (first_told thread x event tells (numbered_lines 1 own) (thread_ready plain_operations l thread))) in
       last_count thread x event tells (numbered_lines 1 own) last.todo last.phase last.said told racer.over at
 
   each_printed : length said ≡ length (numbered_lines 1 own)

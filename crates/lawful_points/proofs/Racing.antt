@@ -26,6 +26,7 @@ use Rattle.lawful_points.proofs.Jobs.{looks_lawful, said_lines, shown_at, turns_
 use Rattle.lawful_points.proofs.Naming.{told_count, told_named}
 use Rattle.lawful_points.proofs.Numbers.{numbers_lawful}
 use Rattle.lawful_points.proofs.Telling.{first_told, last_told, said_by, shown_said}
+use Rattle.guest_arithmetic.specs.Plain.{plain_operations}
 
 module _ (l : Loads ℕ) (fuel : ℕ) where
   abbrev World : Type 0
@@ -85,7 +86,7 @@ module _ (l : Loads ℕ) (fuel : ℕ) where
         (points_of looks) over
         (alone_told (suc i) (each (suc i)) (event (suc i)) tells (numbered_lines 1 own)
         (own_turns l fuel lines order (suc i) own none at).0 first []
-        (first_told (suc i) (each (suc i)) (event (suc i)) tells (numbered_lines 1 own) (thread_ready l (suc i))))
+        (first_told (suc i) (each (suc i)) (event (suc i)) tells (numbered_lines 1 own) (thread_ready plain_operations l (suc i))))
 
     lawful : AreLawful (suc i) world.events looks
     lawful =

@@ -9,6 +9,7 @@ use Rattle.thread_blocks.specs.JobWorlds.{Shared, job_start, shared_turn}
 use Rattle.thread_blocks.specs.Lines.{event_by}
 use Rattle.thread_blocks.specs.RunTime.{thread_turns}
 use Rattle.thread_blocks.specs.Turns.{Phase, Idle, Mid, Thread, Turns, at_number, event_of, turn, whole_order}
+use Rattle.guest_arithmetic.specs.Plain.{plain_operations}
 
 -- whether a thread has nothing left to do
 abbrev pub is_over : {S L : Type 0} → List L → Phase S → Bool
@@ -50,4 +51,4 @@ module _ {W F B L : Type 0} (x : ℕ → Turns (Held W F B) L Event) (event : �
 unfoldable pub job_looks : Loads ℕ → ℕ → List (List ThreadLine) → List ℕ → ℕ → List Look
 job_looks l fuel lines order thread =
     looks_in (λ thread. thread_turns l thread fuel) (λ thread. event_by l thread) thread
-    (whole_order (4 * fuel) lines order) (job_start l lines)
+    (whole_order (4 * fuel) lines order) (job_start plain_operations l lines)

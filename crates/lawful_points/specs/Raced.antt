@@ -14,10 +14,11 @@ use Rattle.thread_blocks.specs.Lines.{Line, event_by}
 use Rattle.thread_blocks.specs.MachineTurns.{shown}
 use Rattle.thread_blocks.specs.RunTime.{Runs, thread_turns}
 use Rattle.thread_blocks.specs.Turns.{IsFinished, Thread, at_number, ready, turns}
+use Rattle.guest_arithmetic.specs.Plain.{plain_operations}
 
 -- a thread of a job before its first turn
 abbrev pub first_of : Loads ℕ → ℕ → List ThreadLine → Thread Runs Line Event
-first_of l thread own = ready (thread_ready l thread) (numbered_lines 1 own)
+first_of l thread own = ready (thread_ready plain_operations l thread) (numbered_lines 1 own)
 
 module _ (l : Loads ℕ) (fuel thread : ℕ) (own : List ThreadLine) where
   -- the thread after turns that see these lists of events

@@ -1,7 +1,7 @@
 -- The looks that the printed lines of a thread tell: their points, and the events that they added.
 use Rattle.std.specs.Prelude.{◌≡◌, ◌+◌, ◌≤◌, ℕ, true, false, List, [], ◌∷◌, ◌++◌, length, map, Option, Some, None, is_some, if◌then◌else◌}
 use Rattle.job_text.specs.declared.thread_lines.Action.{Action}
-use Rattle.job_text.specs.declared.thread_lines.Action.TheVariants.{Call, Open, Close, Peek}
+use Rattle.job_text.specs.declared.thread_lines.Action.TheVariants.{Open, Close}
 use Rattle.module_table.specs.declared.events.Event.{Event}
 use Rattle.shared_modules.specs.Laws.{Placed, own_events}
 use Rattle.transcript_text.specs.declared.outcomes.Line.{Line as ShownLine}
@@ -20,25 +20,14 @@ points_of looks = map (λ look. record { number = length look.seen; added = look
 
 -- ** lines
 
--- the event, if the line says that the image was opened
-abbrev pub if_opened : Event → Outcome → Option Event
-if_opened e (Opened instance) = Some e
-if_opened e other = None
-
--- the event, if the line says that the image was closed
-abbrev pub if_closed : Event → Outcome → Option Event
-if_closed e Closed = Some e
-if_closed e other = None
-
 -- the event of a line with this outcome: that of an open or a close that was accepted
 abbrev pub added_by : ℕ → Line → Outcome → Option Event
-added_by thread line outcome = by_action line.told.action
+added_by thread line outcome = by line.told.action outcome
   where
-    by_action : Action → Option Event
-    by_action (Call symbol a b c) = None
-    by_action Open = if_opened (event_at thread line.number true line.told.image) outcome
-    by_action Close = if_closed (event_at thread line.number false line.told.image) outcome
-    by_action (Peek symbol size) = None
+    by : Action → Outcome → Option Event
+    by Open (Opened instance) = Some (event_at thread line.number true line.told.image)
+    by Close Closed = Some (event_at thread line.number false line.told.image)
+    by action answer = None
 
 -- the points that a line tells; one that adds an event has a single look
 abbrev pub told_line : ℕ → Line → ShownLine → List Point
@@ -47,9 +36,8 @@ told_line thread line said =
 
 -- the points that the lines of a thread tell
 abbrev pub told_by : ℕ → List Line → List ShownLine → List Point
-told_by thread [] said = []
-told_by thread (line ∷ lines) [] = []
 told_by thread (line ∷ lines) (said ∷ more) = told_line thread line said ++ told_by thread lines more
+told_by thread lines said = []
 
 -- ** lawful in a history
 

@@ -26,7 +26,7 @@ use Rattle.transcript_text.specs.declared.outcomes.LineRefusal.TheVariants as re
 use Rattle.transcript_text.specs.declared.outcomes.Outcome.TheVariants.{Opened, Closed, Refused, Bytes}
 use Rattle.thread_blocks.specs.Held.{Held, block_bytes, looked, owned_by, reached}
 use Rattle.thread_blocks.specs.Instances.{Loads, instance_at, left_by, loaded_instance}
-use Rattle.thread_blocks.specs.Lines.{Line, begin_line, begun_at, begun_by, begun_close, begun_in, begun_open, begun_peek, event_by, opened_as, shown_from, unless_refused}
+use Rattle.thread_blocks.specs.Lines.{Line, begin_line, begun_at, begun_by, begun_close, begun_in, begun_open, begun_peek, event_by, shown_from, unless_refused}
 use Rattle.thread_blocks.specs.RunTime.{shows, thread_turns}
 use Rattle.thread_blocks.specs.Turns.{Answered, Begun, Calls, Ending, Says, with_last}
 use Rattle.whole_meaning.specs.Meanings.{Meaning}
@@ -36,6 +36,7 @@ use Rattle.line_laws.specs.Printed.{FirstLooksAreRuled, IsBlock, IsCall, IsFirst
 use Rattle.line_laws.proofs.Accounts.{limit_is}
 use Rattle.line_laws.proofs.Blocks.{block_is}
 use Rattle.line_laws.proofs.Histories.{close_ruled, gone_of, live_of, of_late, open_ruled}
+use Rattle.std.specs.Option.{option_map_or}
 
 -- ** what is printed tells which refusal it was
 
@@ -134,11 +135,11 @@ module _ {W F B : Type 0} (values : Operations W F B) (l : Loads B) (show : List
   left_opened = past-append l.infos l.last_offset seen (opening ∷ [])
 
   number_is : (spare : ℕ) → open_refusal (left_by l seen) line.told.image ≡ None
-      → opened_as values l show thread (instance_at l (with_last seen opening) line.told.image)
+      → option_map_or (λ (x : Instance). x.number) (instance_at l (with_last seen opening) line.told.image) 0
       ≡ (opened_of (registry l seen spare) line.told.image).instance
   unfolding instance_at opened_of left
   number_is spare none =
-      ap (λ (p : Past). opened_as values l show thread (loaded_instance l.infos line.told.image (module_of p line.told.image))) left_opened
+      ap (λ (p : Past). option_map_or (λ (x : Instance). x.number) (loaded_instance l.infos line.told.image (module_of p line.told.image)) 0) left_opened
       ∙ (rw (now_held l seen legal line.told.image none) refl)
 
   opened_so : (spare : ℕ) → line.told.action ≡ Open → (o : Option OpenRefusal) → open_refusal (left_by l seen) line.told.image ≡ o
@@ -163,7 +164,7 @@ module _ {W F B : Type 0} (values : Operations W F B) (l : Loads B) (show : List
   }
   opened_so spare action (Some NoRoomToOpen) e = absurd (no_memory_to_open l seen legal line.told.image e)
   opened_so spare action None e = record {
-    outcome = Opened (opened_as values l show thread (instance_at l (with_last seen opening) line.told.image));
+    outcome = Opened (option_map_or (λ (x : Instance). x.number) (instance_at l (with_last seen opening) line.told.image) 0);
     printed = (_, refl);
     answer = rw (open_answer_is spare, e) (ap (λ (n : ℕ). Opened n) (number_is spare e));
     added = rw (open_answer_is spare, event_open action, e) refl;

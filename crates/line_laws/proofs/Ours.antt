@@ -50,7 +50,7 @@ use Rattle.whole_meaning.specs.declared.sequences.Sequence.{Sequence}
 use Rattle.whole_meaning.specs.Fields.{address_at, lent, lent_frame, marked_frame, takes_address, takes_offset}
 use Rattle.whole_meaning.specs.Meanings.{Meaning}
 use Rattle.whole_meaning.specs.Reading.{done, first_hindrance, hindered, hindrance, hindrance_of, marked_step, plain_step, reaches_linker}
-use Rattle.whole_meaning.specs.Running.{meaning, sequence_or}
+use Rattle.whole_meaning.specs.Running.{meaning}
 use Rattle.whole_meaning.specs.Sequences.{Stack, descriptor_use, does, looks_first, room_below, sequence_result, stack_use}
 use Rattle.whole_meaning.specs.Threads as threads
 use Rattle.whole_meaning.specs.Threads.{Meant, Memory, begin_meant, byte_cause, code_owner, held_next, meant_accesses, meant_mark, meant_sequence, meant_show, meant_shut, meant_stack, meant_steps, meant_turns, ops, resume_meant, resumed_at, resumed_for, sequence_at, sequence_does, sequence_next, shown_as, unclean_bytes, unclean_for}
@@ -180,7 +180,7 @@ module _ (l : Loads ℕ) (thread : ℕ) where
   unfolding thread_steps machine
   ended-own h = over-own (h.after.state.place == 0x2000) _ (returned-own (plain_operations.number_of h.after.state.registers.rax) h.after.state.place)
 
-  result-own : (h : Runs) (r : Result (After ℕ Bool (Space Event ℕ)) Stop) → Stays r → BegunOwn (runtime.resumed l thread h r)
+  result-own : (h : Runs) (r : Result (After ℕ Bool (Space Event ℕ)) Stop) → Stays r → BegunOwn (runtime.resumed h r)
   result-own h (Ok after) k = tt
   result-own h (Err stop) k = k
 
@@ -359,7 +359,7 @@ module _ (m : Meaning) (thread : ℕ) where
   looks-own true at (Err stop) h = h
 
   sequences-own : (at : After Word Flag Memory) (s : Option Sequence) (next : Next (After Word Flag Memory)) → NextOwn next
-      → NextOwn (sequence_or (option_map (sequence_next m thread at) s) next)
+      → NextOwn (unwrap_or (option_map (sequence_next m thread at) s) next)
   sequences-own at None next h = h
   sequences-own at (Some s) next h = looks-own _ at (sequence_does m thread s at) (does_so-own s at)
 
@@ -378,7 +378,7 @@ module _ (m : Meaning) (thread : ℕ) where
   unfolding meant_steps meaning
   meant_over-own h = over-own (h.after.state.place == 0x2000) _ (returned-own (ops.number_of h.after.state.registers.rax) h.after.state.place)
 
-  meant_result-own : (h : Meant) (r : Result (After Word Flag Memory) Stop) → Stays r → BegunOwn (threads.resumed m thread h r)
+  meant_result-own : (h : Meant) (r : Result (After Word Flag Memory) Stop) → Stays r → BegunOwn (runtime.resumed h r)
   meant_result-own h (Ok after) k = tt
   meant_result-own h (Err stop) k = k
 

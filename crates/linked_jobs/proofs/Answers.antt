@@ -19,7 +19,7 @@ use Rattle.sequence_forms.specs.declared.forms.Form.{Form}
 use Rattle.sequence_forms.specs.declared.forms.Form.TheVariants.{Gd, GdInd, Ld, LdInd, IeMov, IeAdd, DescLea, DescCall}
 use Rattle.thread_blocks.specs.Held.{looked, reached}
 use Rattle.thread_blocks.specs.Instances.{Loads, block_start, numbered_instance}
-use Rattle.thread_blocks.specs.RunTime.{Runs, resume_line, thread_steps}
+use Rattle.thread_blocks.specs.RunTime.{Runs, resume_line, thread_steps, resumed}
 use Rattle.thread_blocks.specs.Turns.{Answered, Begun, Calls, Says}
 use Rattle.thread_blocks.specs.TurnsAlike.{IsFront, SameBegun}
 use Rattle.transcript_text.specs.declared.outcomes.LineFault.TheVariants.{Unloaded}
@@ -28,8 +28,8 @@ use Rattle.whole_meaning.specs.declared.sequences.Sequence.{Sequence}
 use Rattle.whole_meaning.specs.Laws.{IsGeneral}
 use Rattle.whole_meaning.specs.Meanings.{Meaning}
 use Rattle.whole_meaning.specs.Running.{meaning}
-use Rattle.whole_meaning.specs.Sequences.{after_call, asks, descriptor_calls, does, looks_first, sequence_result, stack_use, variable_address, variable_distance, with_answer, without_flags}
-use Rattle.whole_meaning.specs.Threads.{Meant, Memory, came_late, code_owner, held_next, meant_stack, meant_steps, resume_meant, resumed, resumed_at, resumed_by, resumed_for, sequence_at, sequence_does, sequence_next, start_in}
+use Rattle.whole_meaning.specs.Sequences.{after_call, asks, descriptor_calls, does, looks_first, sequence_result, stack_use, variable_address, variable_distance, without_flags}
+use Rattle.whole_meaning.specs.Threads.{Meant, Memory, came_late, code_owner, held_next, meant_stack, meant_steps, resume_meant, resumed_at, resumed_by, resumed_for, sequence_at, sequence_does, sequence_next}
 use Rattle.tied_meaning.specs.Numbers.{Setting, SameWord, alike}
 use Rattle.tied_meaning.specs.Ties.{AreTied, IsTied}
 use Rattle.tied_meaning.specs.Threads.{AtRest, InCall, Waiting}
@@ -37,6 +37,8 @@ use Rattle.tied_memory.proofs.Live.{one_owner, tied_at}
 use Rattle.site_steps.proofs.Owners.{HasOwner, numbered_same, owner_is}
 use Rattle.call_alike.proofs.Simulated.{calls_alike}
 use Rattle.linked_jobs.specs.Answers.{Finds, TakesFew, TakesStep}
+use Rattle.guest_machine.specs.Machine.{with_answer}
+use Rattle.std.specs.Option.{option_map_or}
 
 -- ** the machine follows
 
@@ -135,7 +137,7 @@ module _ {g : Setting} {m : Meaning} {q : Loads ℕ} {history : List Event} {thr
   ok_looks h u true (Ok after) e = let same : record h { after = h.after } ≡ u = cc in same
   ok_looks h u true (Err stop) e = absurd cc
 
-  ok_calls : (h t : Meant) (r : Result (After Word Flag Memory) Stop) → resumed m thread h r ≡ Calls t → r ≡ Ok t.after
+  ok_calls : (h t : Meant) (r : Result (After Word Flag Memory) Stop) → resumed h r ≡ Calls t → r ≡ Ok t.after
   ok_calls h t (Ok after) e = let same : record h { after = after } ≡ t = cc in ap (λ (w : Meant). Ok w.after) same
   ok_calls h t (Err stop) e = absurd cc
 
@@ -150,7 +152,7 @@ module _ {g : Setting} {m : Meaning} {q : Loads ℕ} {history : List Event} {thr
       → does (meant_stack m thread) s thread (block_start thread y) s.form at.state at.memory ≡ Ok t.after
   unfolding sequence_result
   done_at at s y t target e = subst (λ (o : Option Instance).
-      does (meant_stack m thread) s thread (start_in m thread o) s.form at.state at.memory ≡ Ok t.after) target e
+      does (meant_stack m thread) s thread (option_map_or (block_start thread) o 0) s.form at.state at.memory ≡ Ok t.after) target e
 
   module _ (seen : List Event) (front : IsFront seen history) (h : Meant) (h' : Runs) (call : Call h h') (s : Sequence)
       (here : sequence_at m thread h.after.memory.seen h.after.state.place ≡ Some s) (t : Meant) where
@@ -198,7 +200,7 @@ module _ {g : Setting} {m : Meaning} {q : Loads ℕ} {history : List Event} {thr
         let y = target_at seen front owner.x s owner.it live owner.stands.asked in
         let reaches : Meant = reached m.loads thread y.0 now in
         let begun : resumed_for m thread now (code_owner m thread seen place)
-        ≡ resumed m thread reaches (sequence_does m thread s reaches.after) =
+        ≡ resumed reaches (sequence_does m thread s reaches.after) =
         ap (resumed_for m thread now) e ∙ (ap (resumed_at m thread now) sequence_now
         ∙ ap (resumed_by m thread now s) y.1.0) in
         record {
@@ -249,12 +251,12 @@ module _ {g : Setting} {m : Meaning} {q : Loads ℕ} {history : List Event} {thr
       → Leaves s t (variable_address s (block_start thread d.y))
   general_leaves s t d Gd is e =
       let number = variable_address s (block_start thread d.y) in
-      let state = at_place (with_answer (Number number) (after_call d.state)) s.next in
+      let state = at_place (with_answer (after_call d.state) (Number number)) s.next in
       leaves_state s t number state (left_state d.state.place (stack_use (meant_stack m thread) d.state d.memory) state
       ((meant_stack m thread).forget d.memory) t.after e) refl refl
   general_leaves s t d GdInd is e =
       let number = variable_address s (block_start thread d.y) in
-      let state = at_place (with_answer (Number number) (after_call d.state)) s.next in
+      let state = at_place (with_answer (after_call d.state) (Number number)) s.next in
       leaves_state s t number state (left_state d.state.place (stack_use (meant_stack m thread) d.state d.memory) state
       ((meant_stack m thread).forget d.memory) t.after e) refl refl
   general_leaves s t d Ld is e = absurd is
@@ -270,7 +272,7 @@ module _ {g : Setting} {m : Meaning} {q : Loads ℕ} {history : List Event} {thr
       let stack = meant_stack m thread in
       let start = block_start thread d.y in
       let number = variable_distance s start d.state.thread_pointer in
-      let state = at_place (without_flags (with_answer (Number number) d.state)) s.next in
+      let state = at_place (without_flags (with_answer d.state (Number number))) s.next in
       let e = subst (λ (form : Form). does stack s thread start form d.state d.memory ≡ Ok t.after) is d.ok in
       subst (λ (pointer : ℕ). Leaves s t (variable_distance s start pointer)) d.pointer
       (leaves_state s t number state (left_state d.state.place (descriptor_calls stack s thread start d.state d.memory)

@@ -18,7 +18,7 @@ use Rattle.thread_blocks.specs.Instances.{Loads, fixed_at, instances, instances_
 use Rattle.thread_blocks.specs.JobLoads.{job_loads}
 use Rattle.thread_blocks.specs.Spaces.{SameRange}
 use Rattle.thread_blocks.specs.Turns.{at_number}
-use Rattle.whole_meaning.specs.Loads.{at_bias, data_range, data_ranges, has_data, loads_of, meaning_of}
+use Rattle.whole_meaning.specs.Loads.{data_ranges, has_data, loads_of, meaning_of}
 use Rattle.whole_meaning.specs.Meanings.{Meaning}
 use Rattle.whole_meaning.specs.Spots.{bias_of}
 use Rattle.shared_data.specs.Places.{IsDataRange, LiesLow}
@@ -26,6 +26,7 @@ use Rattle.tied_meaning.specs.Numbers.{SameByte, Setting}
 use Rattle.tied_meaning.specs.Ties.{AreTied, IsTied, SameShared}
 use Rattle.tied_memory.proofs.Found.{data_place}
 use Rattle.tied_memory.proofs.Ranges.{found_behind, same_holds}
+use Rattle.std.specs.Option.{option_map_or}
 
 -- ** lists
 
@@ -79,15 +80,16 @@ module _ (range : Range Byte) where
   HasRights = (range.readable ≡ true) × (range.writable ≡ true)
 
   rights_of : (l : Linking) (bias : ℕ) → data_ranges l bias ≡ Some range → HasRights
-  rights_of l bias e = of_test (has_data l) e
+  rights_of l bias e = of_test _ (has_data l) e refl refl
     where
-      of_test : (b : Bool) → (if b then Some (data_range l bias) else None) ≡ Some range → HasRights
-      of_test true e =
-          let is : data_range l bias ≡ range = let both = e in cc in
-          (ap (λ (r : Range Byte). r.readable) (sym is), ap (λ (r : Range Byte). r.writable) (sym is))
-      of_test false e = cc
+      of_test : (own : Range Byte) (b : Bool) → (if b then Some own else None) ≡ Some range → own.readable ≡ true
+          → own.writable ≡ true → HasRights
+      of_test own true e read write =
+          let is : own ≡ range = let both = e in cc in
+          (ap (λ (r : Range Byte). r.readable) (sym is) ∙ read, ap (λ (r : Range Byte). r.writable) (sym is) ∙ write)
+      of_test own false e read write = cc
 
-  rights_in : (number : ℕ) (image : Option Linking) → at_bias None data_ranges number image ≡ Some range → HasRights
+  rights_in : (number : ℕ) (image : Option Linking) → option_map_or (λ (own : Linking). data_ranges own (bias_of own.kind number)) image None ≡ Some range → HasRights
   rights_in number None e = cc
   rights_in number (Some l) e = rights_of l (bias_of l.kind number) e
 

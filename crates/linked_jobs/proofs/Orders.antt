@@ -8,16 +8,15 @@ use Rattle.job_text.specs.declared.thread_lines.ThreadLine.{ThreadLine}
 use Rattle.module_table.specs.declared.events.Event.{Event}
 use Rattle.thread_blocks.specs.Held.{Held, Owned, owned_by, with_owned}
 use Rattle.thread_blocks.specs.Instances.{Loads}
-use Rattle.thread_blocks.specs.JobWorlds.{Shared, changed, job_start as runs_start, shared_order, shared_turn, with_data}
+use Rattle.thread_blocks.specs.JobWorlds.{Shared, changed, shared_order, shared_turn, with_data, job_start}
 use Rattle.thread_blocks.specs.Lines.{Line, event_by}
 use Rattle.thread_blocks.specs.RunTime.{Runs, thread_turns}
 use Rattle.thread_blocks.specs.Spaces.{FoundAlike}
 use Rattle.thread_blocks.specs.Turns.{Idle, Mid, Phase, Thread, Turns, at_number, event_of, next_line, with_event, with_last}
 use Rattle.thread_blocks.specs.TurnsAlike.{IsFront, SamePhase}
 use Rattle.thread_blocks.proofs.Orders.{front-trans, turn-front}
-use Rattle.whole_meaning.specs.Jobs.{job_start as meant_start}
 use Rattle.whole_meaning.specs.Meanings.{Meaning}
-use Rattle.whole_meaning.specs.Threads.{Meant, meant_turns}
+use Rattle.whole_meaning.specs.Threads.{Meant, meant_turns, ops}
 use Rattle.order_laws.specs.Alike.{AreAlike, SameOne}
 use Rattle.order_laws.specs.Worlds.{AreLent, IsSomeUnclean}
 use Rattle.order_laws.proofs.Worlds.{order_alike}
@@ -32,6 +31,7 @@ use Rattle.begin_alike.proofs.Worlds.{threads_do}
 use Rattle.call_alike.proofs.Simulated.{calls_alike}
 use Rattle.linked_jobs.specs.Answers.{StandsIn, meant_after, ran_after}
 use Rattle.linked_jobs.proofs.Standing.{stands_alike}
+use Rattle.guest_arithmetic.specs.Plain.{plain_operations}
 
 -- ** turns, and one more
 
@@ -118,7 +118,7 @@ module _ (g : Setting) (m : Meaning) (q : Loads ℕ) (history : List Event) (tie
 
     turned : IsFront (shared_turn by_machine adds w' (suc i) (at_number w'.threads (suc i))).events history
     turned = subst (λ (v : Shared ℕ Bool ℕ Line). IsFront v.events history)
-        (one_more by_machine adds order (suc i) (runs_start q lines)) ends
+        (one_more by_machine adds order (suc i) (job_start plain_operations q lines)) ends
 
     now : IsFront w'.events history
     now = front-trans by_machine adds w'.events
@@ -134,7 +134,7 @@ module _ (g : Setting) (m : Meaning) (q : Loads ℕ) (history : List Event) (tie
         order_alike Call Wait Rest (SameData g q) (λ (i : ℕ). suc i ≤ 64) Fine by_meaning by_machine
         (λ (thread : ℕ). event_by m.loads thread) adds (λ i line seen. event_same g m q history i tied line seen)
         (λ i most. threads_alike (suc i) (omega arith) most) (λ i most. lent (suc i))
-        order (meant_start m lines) (runs_start q lines) (start_alike g m q history tied lines few)
+        order (job_start ops m.loads lines) (job_start plain_operations q lines) (start_alike g m q history tied lines few)
         (λ e front. front-trans by_machine adds e w'.events history front now)
 
     abbrev Found : ℕ → Meant → Type 0

@@ -7,13 +7,13 @@ use Rattle.job_text.specs.declared.thread_lines.ThreadLine.{ThreadLine}
 use Rattle.module_table.specs.declared.events.Event.{Event}
 use Rattle.shared_data.specs.Told.{called, steps_of}
 use Rattle.thread_blocks.specs.Instances.{Loads}
-use Rattle.thread_blocks.specs.JobWorlds.{numbered_lines}
+use Rattle.thread_blocks.specs.JobWorlds.{numbered_lines, thread_ready}
 use Rattle.thread_blocks.specs.Lines.{Line, event_by}
 use Rattle.thread_blocks.specs.RunTime.{Runs, thread_turns}
 use Rattle.thread_blocks.specs.Turns.{Begun, Calls, Idle, Mid, Phase, Says, Thread, Turns, event_of, next_line, ready, turn, turns, with_event, with_last}
 use Rattle.thread_blocks.specs.TurnsAlike.{HasUnclean, IsFront, SameBegun, SamePhase}
 use Rattle.whole_meaning.specs.Meanings.{Meaning}
-use Rattle.whole_meaning.specs.Threads.{Meant, meant_ready, meant_turns}
+use Rattle.whole_meaning.specs.Threads.{Meant, meant_turns, ops}
 use Rattle.lawful_points.specs.Laws.{AtFronts}
 use Rattle.lawful_points.specs.Raced.{first_of, raced_of}
 use Rattle.order_laws.specs.Alike.{AreAlike, AtHistory, SameOne}
@@ -158,6 +158,6 @@ module _ (g : Setting) (m : Meaning) (q : Loads ℕ) (history : List Event) (tie
       (meant_thread m fuel thread own points) (raced_of q fuel thread own points) seen parts.1.0 parts.1.1
       (turns_alike (InCall g m q history thread) (Waiting g m q history thread) (AtRest g m q history thread) Fine
       (meant_turns m thread fuel) (thread_turns q thread fuel) (event_by q thread) alike points
-      (ready (meant_ready m thread) (numbered_lines 1 own)) (first_of q thread own) parts.0
+      (ready (thread_ready ops m.loads thread) (numbered_lines 1 own)) (first_of q thread own) parts.0
       (inr (record { todo = refl; said = refl; seen = refl; phase = ready_rests g m q history tied thread })))
       clean left h

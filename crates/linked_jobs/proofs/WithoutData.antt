@@ -13,12 +13,13 @@ use Rattle.loaded_bytes.specs.Laws.{IsData, IsInstanceOf, images_of}
 use Rattle.loaded_modules.specs.declared.instance.Instance.{Instance}
 use Rattle.loaded_modules.specs.Images.{image_at}
 use Rattle.std.specs.Prelude.{option_map}
-use Rattle.thread_blocks.specs.JobLoads.{job_loads, parts_of}
+use Rattle.thread_blocks.specs.JobLoads.{job_loads, parts_from}
 use Rattle.thread_blocks.specs.JobStatements.{HasNoData}
 use Rattle.thread_blocks.specs.Turns.{at_number}
 use Rattle.whole_meaning.specs.Loads.{has_data}
 use Rattle.whole_meaning.specs.Spots.{bias_of}
 use Rattle.linked_jobs.specs.Ready.{AreReady}
+use Rattle.std.specs.Option.{option_map_or}
 
 -- what all links have, each has
 one_of : (P : Linking → Type 0) (ls : List Linking) (n : ℕ) (l : Linking) → All P ls → at_number ls n ≡ Some l → P l
@@ -58,5 +59,5 @@ module _ (ls : List Linking) (ready : AreReady ls) (none : All (λ (l : Linking)
       of_image : (found : Option Linking) → at_number ls x.image ≡ found → (job_loads (images_of ls)).shared x ≡ None
       of_image (Some l) e = of_link x l e
       of_image None e =
-          ap (λ image. find (λ (range : Range ℕ). range.writable) (parts_of (images_of ls) x image))
+          ap (λ image. find (λ (range : Range ℕ). range.writable) (option_map_or (λ own. parts_from (images_of ls) own x 0 own.parts) image []))
           (no_image ls x.image e)

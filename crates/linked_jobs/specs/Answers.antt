@@ -18,18 +18,17 @@ use Rattle.sequence_forms.specs.declared.forms.Form.TheVariants.{DescCall}
 use Rattle.shared_data.specs.Told.{steps_of}
 use Rattle.thread_blocks.specs.Instances.{Loads, block_start}
 use Rattle.thread_blocks.specs.JobLoads.{job_loads}
-use Rattle.thread_blocks.specs.JobWorlds.{Shared, job_start as runs_start, shared_order, with_data}
+use Rattle.thread_blocks.specs.JobWorlds.{Shared, shared_order, with_data, job_start}
 use Rattle.thread_blocks.specs.Lines.{Line, event_by}
 use Rattle.thread_blocks.specs.RunTime.{Runs, resume_line, thread_steps, thread_turns}
 use Rattle.thread_blocks.specs.Turns.{Begun, Calls, Thread, Turns, at_number, with_last}
 use Rattle.thread_blocks.specs.TurnsAlike.{HasUnclean, IsFront}
 use Rattle.whole_meaning.specs.declared.sequences.Sequence.{Sequence}
-use Rattle.whole_meaning.specs.Jobs.{job_start as meant_start}
 use Rattle.whole_meaning.specs.Laws.{IsGeneral}
 use Rattle.whole_meaning.specs.Loads.{meaning_of}
 use Rattle.whole_meaning.specs.Meanings.{Meaning}
 use Rattle.whole_meaning.specs.Sequences.{variable_address, variable_distance}
-use Rattle.whole_meaning.specs.Threads.{Meant, meant_steps, meant_turns, resume_meant, sequence_at}
+use Rattle.whole_meaning.specs.Threads.{Meant, meant_steps, meant_turns, resume_meant, sequence_at, ops}
 use Rattle.lawful_points.specs.Laws.{AtFronts}
 use Rattle.lawful_points.specs.Raced.{first_of, raced_of}
 use Rattle.order_laws.specs.Worlds.{IsSomeUnclean}
@@ -37,6 +36,7 @@ use Rattle.tied_fields.specs.Settings.{setting_of}
 use Rattle.tied_meaning.specs.Threads.{InCall}
 use Rattle.begin_alike.specs.Laws.{meant_thread}
 use Rattle.linked_jobs.specs.Ready.{AreReady}
+use Rattle.guest_arithmetic.specs.Plain.{plain_operations}
 
 -- ** the middle of a turn
 
@@ -70,11 +70,11 @@ LinkedThreadsStandAlike = (ls : List Linking) (history : List Event) → AreRead
 -- threads of a job after turns in some order, in the meaning and in the machine
 abbrev pub meant_after : Meaning → ℕ → List (List ThreadLine) → List ℕ → Shared Word Flag Byte Line
 meant_after m fuel lines order = shared_order (λ (i : ℕ). meant_turns m i fuel) (λ (i : ℕ). event_by m.loads i) order
-    (meant_start m lines)
+    (job_start ops m.loads lines)
 
 abbrev pub ran_after : Loads ℕ → ℕ → List (List ThreadLine) → List ℕ → Shared ℕ Bool ℕ Line
 ran_after q fuel lines order = shared_order (λ (i : ℕ). thread_turns q i fuel) (λ (i : ℕ). event_by q i) order
-    (runs_start q lines)
+    (job_start plain_operations q lines)
 
 -- the same in any order of turns of a job, in which a turn of the thread is next, while it holds the data that the
 -- turn before left; the history is any that begins with the events after that turn

@@ -11,15 +11,15 @@ use Rattle.shared_data.specs.Steps.{machine_changes, meant_changes}
 use Rattle.thread_blocks.specs.Held.{Held}
 use Rattle.thread_blocks.specs.Instances.{Loads}
 use Rattle.thread_blocks.specs.JobLoads.{job_loads}
-use Rattle.thread_blocks.specs.JobWorlds.{Shared, job_start as runs_start}
+use Rattle.thread_blocks.specs.JobWorlds.{Shared, job_start}
 use Rattle.thread_blocks.specs.Lines.{Line}
 use Rattle.thread_blocks.specs.RunTime.{thread_accesses, thread_turns}
 use Rattle.thread_blocks.specs.Spaces.{Space}
 use Rattle.thread_blocks.specs.Turns.{Turns}
-use Rattle.whole_meaning.specs.Jobs.{job_start as meant_start}
 use Rattle.whole_meaning.specs.Loads.{meaning_of}
-use Rattle.whole_meaning.specs.Threads.{meant_accesses, meant_turns}
+use Rattle.whole_meaning.specs.Threads.{meant_accesses, meant_turns, ops}
 use Rattle.linked_jobs.specs.Ready.{AreJob}
+use Rattle.guest_arithmetic.specs.Plain.{plain_operations}
 
 -- threads share data in any order of their turns
 pub record ShareData {W F B : Type 0} (l : Loads B) (x : ℕ → Turns (Held W F B) Line Event)
@@ -38,6 +38,6 @@ LinkedThreadsShareData = (ls : List Linking) (fuel : ℕ) (lines : List (List Th
     → let q = job_loads (images_of ls) in
     let m = meaning_of ls in
     ShareData q (λ thread. thread_turns q thread fuel) (λ thread. machine_changes q thread)
-    (λ thread. thread_accesses q thread) (runs_start q lines)
+    (λ thread. thread_accesses q thread) (job_start plain_operations q lines)
     × ShareData m.loads (λ thread. meant_turns m thread fuel) (λ thread. meant_changes m thread)
-    (λ thread. meant_accesses m thread) (meant_start m lines)
+    (λ thread. meant_accesses m thread) (job_start ops m.loads lines)

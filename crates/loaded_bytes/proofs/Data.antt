@@ -5,14 +5,14 @@ use Rattle.std.proofs.Common.{Option, Some, None, length, map, refl, sym}
 use Rattle.std.proofs.Common.{ap, subst, arith, if◌then◌else◌, length-append, append_assoc}
 use Rattle.std.specs.Prelude.{nat_lt}
 use Rattle.std.specs.List.{find}
-use Rattle.std.specs.Option.{option_or}
+use Rattle.std.specs.Option.{option_or, option_map_or}
 use Rattle.std.proofs.lemmas.Bool.Decides.{nat_tests}
 use Rattle.std.proofs.lemmas.List.{length-map, map-append}
 use Rattle.std.proofs.lemmas.List.Folds.{find-append}
 use Rattle.guest_operands.specs.Ranges.{Range}
 use Rattle.image_file.specs.declared.part.PartClass.{PartClass}
 use Rattle.image_file.specs.declared.part.PartClass.TheVariants.{Executable, ReadOnly, Writable}
-use Rattle.image_file.specs.Spelled.{Part, is_writable}
+use Rattle.image_file.specs.Spelled.{Part, is_writable, Spelled}
 use Rattle.image_writer.specs.declared.outline.PartPlace.{PartPlace}
 use Rattle.image_writer.specs.Contents.{part_in}
 use Rattle.image_writer.specs.Tables.{finished, tables_part}
@@ -24,8 +24,7 @@ use Rattle.link_needs.specs.Needs.{got_size, got_start, has_stub, stub_start}
 use Rattle.loaded_modules.specs.declared.instance.Instance.{Instance}
 use Rattle.object_faults.specs.declared.class.SectionClass.TheVariants as class
 use Rattle.relocated_parts.proofs.Fold.{left_long}
-use Rattle.thread_blocks.specs.JobLoads.{instance_part, job_loads, parts_from, parts_of}
-use Rattle.thread_blocks.specs.Loading.{is_loaders}
+use Rattle.thread_blocks.specs.JobLoads.{instance_part, job_loads, parts_from}
 use Rattle.tls_layout.specs.declared.extent.Extent.{Extent}
 use Rattle.tls_layout.specs.Laws.{extent_for}
 use Rattle.tls_layout.specs.Places.{executable, read_only, tls_image, writable}
@@ -206,7 +205,7 @@ module _ (ls : List Linking) (l : Linking) (x : Instance) where
     abbrev extent : Extent
     extent = extent_for (class.Writable true) (layout l)
 
-    range_is : (n : ℕ) → is_loaders (image_of l).got n ≡ false → (extent_for (class.Writable true) (layout l)).start
+    range_is : (n : ℕ) → option_map_or (λ (own : ℕ). own == n) (image_of l).got false ≡ false → (extent_for (class.Writable true) (layout l)).start
         < (extent_for (class.Writable true) (layout l)).end
         → IsDataOf l (bias_of l.kind x.number)
         (instance_part (images_of ls) (image_of l) x n (class_part l (class.Writable true)))
@@ -272,6 +271,6 @@ pub data_loaded : DataIsLoaded
 unfolding job_loads
 data_loaded ls l x is =
     subst (IsData l (bias_of l.kind x.number) (has_data l))
-    (sym (ap (λ image. find (λ (range : Range ℕ). range.writable) (parts_of (images_of ls) x image))
+    (sym (ap (λ image. find (λ (range : Range ℕ). range.writable) (option_map_or (λ (own : Spelled). parts_from (images_of ls) own x 0 own.parts) image []))
     (image_is ls l x is.image)))
     (data_is ls l x is)

@@ -1,5 +1,5 @@
 -- Nothing is found of an instance but in the classes of its sections and in the room.
-use Rattle.std.proofs.Common.{◌≡◌, ◌+◌, ◌-◌, ◌<◌, ◌≤◌, ◌⊎◌, ◌^◌, ◌&&◌, ◌∙◌, ℕ}
+use Rattle.std.proofs.Common.{◌≡◌, ◌+◌, ◌-◌, ◌<◌, ◌≤◌, ◌⊎◌, ◌^◌, ◌&&◌, ◌∙◌, ℕ, ◌==◌}
 use Rattle.std.proofs.Common.{suc, Bool, true, false, not, List, [], ◌∷◌, ◌++◌}
 use Rattle.std.proofs.Common.{Some, None, length, map, inl, inr, refl, sym, ap, subst, arith, if◌then◌else◌}
 use Rattle.std.specs.Prelude.{nat_lt, slice_get}
@@ -27,7 +27,6 @@ use Rattle.object_faults.specs.declared.class.SectionClass.{SectionClass}
 use Rattle.object_faults.specs.declared.class.SectionClass.TheVariants.{Executable, ReadOnly, Tls, Writable}
 use Rattle.relocated_parts.proofs.Fold.{left_long}
 use Rattle.thread_blocks.specs.JobLoads.{instance_part, job_loads, parts_from}
-use Rattle.thread_blocks.specs.Loading.{is_loaders}
 use Rattle.tls_layout.specs.declared.extent.Extent.{Extent}
 use Rattle.tls_layout.specs.Laws.{extent_for}
 use Rattle.tls_layout.specs.Places.{room, writable}
@@ -42,6 +41,7 @@ use Rattle.loaded_bytes.proofs.Ranges.{still}
 use Rattle.loaded_bytes.proofs.RoomParts.{places_added, tables_added}
 use Rattle.loaded_bytes.proofs.Still.{fixed_is, not_table}
 use Rattle.link_needs.proofs.Reached.{both}
+use Rattle.std.specs.Option.{option_map_or}
 
 -- what is found in two lists is found in one of them
 found_either : (access : Access) (xs ys : List (Range ℕ)) (place byte : ℕ) → byte_in access (xs ++ ys) place ≡ Some byte
@@ -213,7 +213,7 @@ module _ (ls : List Linking) (l : Linking) (x : Instance) (is : IsInstanceOf ls 
       let long = places_long ls l x in
       let other = not_table l n (omega (arith, same, count, long)) in
       let still_there = here.0.still_there in
-      clash (is_loaders (image_of l).got n) other still_there
+      clash (option_map_or (λ (own : ℕ). own == n) (image_of l).got false) other still_there
     where
       clash : (t : Bool) → t ≡ false → (true && not t) ≡ false → ⊥
       clash true e f = cc

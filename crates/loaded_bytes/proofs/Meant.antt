@@ -23,7 +23,7 @@ use Rattle.tls_layout.specs.Laws.{extent_for}
 use Rattle.tls_layout.specs.Places.{initial_tls, tls_size}
 use Rattle.tls_relocs.specs.Elements.{slice_get-append, slice_get-append_behind, slice_get-replicate}
 use Rattle.whole_meaning.specs.Bytes.{block_bytes, byte_of, class_bytes}
-use Rattle.whole_meaning.specs.Loads.{constant_range, data_range, has_data, still_ranges}
+use Rattle.whole_meaning.specs.Loads.{has_data, still_ranges, class_range}
 use Rattle.whole_meaning.specs.Spots.{bias_of, in_room, spot_in}
 use Rattle.loaded_bytes.specs.Bytes.{byte_at}
 use Rattle.loaded_bytes.specs.Laws.{IsBlockOf, IsData, IsDataOf, IsIn, IsInstanceOf, images_of}
@@ -124,7 +124,7 @@ module _ (ls : List Linking) (l : Linking) (x : Instance) (is : IsInstanceOf ls 
   -- ** data
 
   data_same : (range : Range ℕ) → IsDataOf l (bias_of l.kind x.number) range
-      → valued range ≡ data_range l (bias_of l.kind x.number)
+      → valued range ≡ class_range l (bias_of l.kind x.number) (Writable true)
   data_same range d =
       let class = Writable true in
       let long = class_long l (bias_of l.kind x.number) (Writable true) in
@@ -145,7 +145,7 @@ module _ (ls : List Linking) (l : Linking) (x : Instance) (is : IsInstanceOf ls 
       fields s t xs ys a b c d e f p q r u v = rw (p, q, r, u, v) refl
 
   data_either : (has : Bool) (found : Option (Range ℕ)) → IsData l (bias_of l.kind x.number) has found
-      → option_map valued found ≡ (if has then Some (data_range l (bias_of l.kind x.number)) else None)
+      → option_map valued found ≡ (if has then Some (class_range l (bias_of l.kind x.number) (Writable true)) else None)
   data_either true None d = absurd d
   data_either true (Some range) d = ap Some (data_same range d)
   data_either false None d = refl
@@ -157,7 +157,7 @@ module _ (ls : List Linking) (l : Linking) (x : Instance) (is : IsInstanceOf ls 
   bias = bias_of l.kind x.number
 
   -- a place in a range of the meaning is one of its class
-  pub in_range : (class : SectionClass) (place : ℕ) → holds (constant_range l (bias_of l.kind x.number) class) place ≡ true
+  pub in_range : (class : SectionClass) (place : ℕ) → holds (class_range l (bias_of l.kind x.number) class) place ≡ true
       → IsInMoved l (bias_of l.kind x.number) class place
   in_range class place h =
       let start = (extent_for class (layout l)).start in
@@ -172,7 +172,7 @@ module _ (ls : List Linking) (l : Linking) (x : Instance) (is : IsInstanceOf ls 
       so start place n e = grind (arith, nat_tests)
 
   pub held : (class : SectionClass) (address : ℕ) → IsIn l class address
-      → holds (constant_range l (bias_of l.kind x.number) class) (address + bias_of l.kind x.number) ≡ true
+      → holds (class_range l (bias_of l.kind x.number) class) (address + bias_of l.kind x.number) ≡ true
   held class address within =
       let mapped = length-map (class_bytes l (bias_of l.kind x.number) class) Value in
       let long = class_long l (bias_of l.kind x.number) class in
@@ -185,8 +185,8 @@ module _ (ls : List Linking) (l : Linking) (x : Instance) (is : IsInstanceOf ls 
       ) refl
 
   pub byte_there : (class : SectionClass) (address : ℕ) → IsIn l class address
-      → slice_get (constant_range l (bias_of l.kind x.number) class).bytes
-      (address + bias_of l.kind x.number - (constant_range l (bias_of l.kind x.number) class).start)
+      → slice_get (class_range l (bias_of l.kind x.number) class).bytes
+      (address + bias_of l.kind x.number - (class_range l (bias_of l.kind x.number) class).start)
       ≡ Some (Value (byte_of l (bias_of l.kind x.number) (spot_in l class address)))
   byte_there class address within =
       let start = (extent_for class (layout l)).start in
@@ -202,19 +202,19 @@ module _ (ls : List Linking) (l : Linking) (x : Instance) (is : IsInstanceOf ls 
   abbrev meant : Bool → Bool → ℕ → Option Byte
   meant first second place =
       if first
-      then slice_get (constant_range l (bias_of l.kind x.number) ReadOnly).bytes
-      (place - (constant_range l (bias_of l.kind x.number) ReadOnly).start)
+      then slice_get (class_range l (bias_of l.kind x.number) ReadOnly).bytes
+      (place - (class_range l (bias_of l.kind x.number) ReadOnly).start)
       else if second
-      then slice_get (constant_range l (bias_of l.kind x.number) (Tls true)).bytes
-      (place - (constant_range l (bias_of l.kind x.number) (Tls true)).start)
+      then slice_get (class_range l (bias_of l.kind x.number) (Tls true)).bytes
+      (place - (class_range l (bias_of l.kind x.number) (Tls true)).start)
       else None
 
   reads : (place : ℕ) → in_room l (bias_of l.kind x.number) place ≡ false
       → option_map Value (byte_in Read ((job_loads (images_of ls)).fixed x) place)
       ≡ byte_in Read (still_ranges l (bias_of l.kind x.number)) place
   reads place out =
-      of_holds (holds (constant_range l (bias_of l.kind x.number) ReadOnly) place)
-      (holds (constant_range l (bias_of l.kind x.number) (Tls true)) place) refl refl
+      of_holds (holds (class_range l (bias_of l.kind x.number) ReadOnly) place)
+      (holds (class_range l (bias_of l.kind x.number) (Tls true)) place) refl refl
     where
       loaded : (class : SectionClass) → (class ≡ Executable → ⊥)
           → ((address : ℕ) → IsIn l class address
@@ -222,46 +222,46 @@ module _ (ls : List Linking) (l : Linking) (x : Instance) (is : IsInstanceOf ls 
           ≡ Some (byte_at l (bias_of l.kind x.number) class address))
           → IsInMoved l (bias_of l.kind x.number) class place
           → option_map Value (byte_in Read ((job_loads (images_of ls)).fixed x) place)
-          ≡ slice_get (constant_range l (bias_of l.kind x.number) class).bytes
-          (place - (constant_range l (bias_of l.kind x.number) class).start)
+          ≡ slice_get (class_range l (bias_of l.kind x.number) class).bytes
+          (place - (class_range l (bias_of l.kind x.number) class).start)
       loaded class other each here =
           let address = here.0 in
           ap (λ p. option_map Value (byte_in Read ((job_loads (images_of ls)).fixed x) p)) here.1
           ∙ ap (option_map Value) (each address here.2)
           ∙ ap (λ b. Some (Value b)) (same_byte class address other)
           ∙ sym (byte_there class address here.2)
-          ∙ ap (λ p. slice_get (constant_range l (bias_of l.kind x.number) class).bytes
-          (p - (constant_range l (bias_of l.kind x.number) class).start)) (sym here.1)
+          ∙ ap (λ p. slice_get (class_range l (bias_of l.kind x.number) class).bytes
+          (p - (class_range l (bias_of l.kind x.number) class).start)) (sym here.1)
 
       none : (found : Option ℕ) → byte_in Read ((job_loads (images_of ls)).fixed x) place ≡ found
-          → holds (constant_range l (bias_of l.kind x.number) ReadOnly) place ≡ false
-          → holds (constant_range l (bias_of l.kind x.number) (Tls true)) place ≡ false → option_map Value found ≡ None
+          → holds (class_range l (bias_of l.kind x.number) ReadOnly) place ≡ false
+          → holds (class_range l (bias_of l.kind x.number) (Tls true)) place ≡ false → option_map Value found ≡ None
       none None e first second = refl
       none (Some byte) e first second = elim ((elsewhere ls l x is).read place byte e) [
         | inl room ↦ absurd (cc)
         | inr here ↦ elim here [
           | inl constant ↦
-              let yes_here = ap (λ p. holds (constant_range l (bias_of l.kind x.number) ReadOnly) p) constant.1
+              let yes_here = ap (λ p. holds (class_range l (bias_of l.kind x.number) ReadOnly) p) constant.1
               ∙ held ReadOnly constant.0 constant.2 in
               absurd (cc)
           | inr initial ↦
-              let yes_here = ap (λ p. holds (constant_range l (bias_of l.kind x.number) (Tls true)) p) initial.1
+              let yes_here = ap (λ p. holds (class_range l (bias_of l.kind x.number) (Tls true)) p) initial.1
               ∙ held (Tls true) initial.0 initial.2 in
               absurd (cc)
         ]
       ]
 
-      of_holds : (first second : Bool) → holds (constant_range l (bias_of l.kind x.number) ReadOnly) place ≡ first
-          → holds (constant_range l (bias_of l.kind x.number) (Tls true)) place ≡ second
+      of_holds : (first second : Bool) → holds (class_range l (bias_of l.kind x.number) ReadOnly) place ≡ first
+          → holds (class_range l (bias_of l.kind x.number) (Tls true)) place ≡ second
           → option_map Value (byte_in Read ((job_loads (images_of ls)).fixed x) place)
           ≡ byte_in Read (still_ranges l (bias_of l.kind x.number)) place
       of_holds first second one two =
           chosen first second one two
           ∙ ap (λ b. meant b second place) (sym one)
-          ∙ ap (λ b. meant (holds (constant_range l (bias_of l.kind x.number) ReadOnly) place) b place) (sym two)
+          ∙ ap (λ b. meant (holds (class_range l (bias_of l.kind x.number) ReadOnly) place) b place) (sym two)
         where
-          chosen : (first second : Bool) → holds (constant_range l (bias_of l.kind x.number) ReadOnly) place ≡ first
-              → holds (constant_range l (bias_of l.kind x.number) (Tls true)) place ≡ second
+          chosen : (first second : Bool) → holds (class_range l (bias_of l.kind x.number) ReadOnly) place ≡ first
+              → holds (class_range l (bias_of l.kind x.number) (Tls true)) place ≡ second
               → option_map Value (byte_in Read ((job_loads (images_of ls)).fixed x) place) ≡ meant first second place
           chosen true second one two =
               loaded ReadOnly (λ e. cc) (constants_loaded ls l x is).0 (in_range ReadOnly place one)

@@ -9,7 +9,7 @@ use Rattle.guest_operands.specs.declared.space.Access.{Access}
 use Rattle.guest_operands.specs.Ranges.{Range, allows, byte_in, grants, holds}
 use Rattle.image_file.specs.declared.part.PartClass.{PartClass}
 use Rattle.image_file.specs.declared.part.PartClass.TheVariants.{Executable, ReadOnly, Writable}
-use Rattle.image_file.specs.Spelled.{Part, is_writable}
+use Rattle.image_file.specs.Spelled.{Part, is_writable, Spelled}
 use Rattle.image_writer.specs.declared.outline.PartPlace.{PartPlace}
 use Rattle.image_writer.specs.Outlined as outlined
 use Rattle.link_core.proofs.Linkable.{linkable}
@@ -21,8 +21,7 @@ use Rattle.loaded_modules.specs.Loader.{bias, part_bytes}
 use Rattle.relocated_parts.proofs.Fold.{left_long}
 use Rattle.relocated_parts.proofs.Parts.{lies_at, one_part, part_within}
 use Rattle.relocated_parts.specs.Laws.{end_of}
-use Rattle.thread_blocks.specs.JobLoads.{instance_part, job_loads, parts_from, parts_of, tables_in, written_from}
-use Rattle.thread_blocks.specs.Loading.{is_code}
+use Rattle.thread_blocks.specs.JobLoads.{instance_part, job_loads, parts_from, written_from}
 use Rattle.whole_meaning.specs.Spots.{bias_of}
 use Rattle.loaded_bytes.specs.Laws.{IsInstanceOf, images_of}
 use Rattle.loaded_bytes.specs.Places.{IsApart, IsOwn, PlacesAreOwn}
@@ -30,6 +29,8 @@ use Rattle.loaded_bytes.proofs.Biases.{image_base, image_bias}
 use Rattle.loaded_bytes.proofs.Ranges.{still}
 use Rattle.loaded_bytes.proofs.Still.{fixed_is, image_is}
 use Rattle.link_core.proofs.TogetherPlaces.{second as second_of}
+use Rattle.std.specs.Option.{option_map_or}
+use Rattle.image_names.specs.Functions.{is_code}
 
 pub holds_so : (start place n : ℕ) → (nat_le start place && nat_lt (place - start) n) ≡ true
     → (start ≤ place) × (place - start < n)
@@ -269,9 +270,9 @@ places_own ls l x is =
           found_own ls l x is 0 (image_of l).parts all access place byte
           (sym (ap (λ (ranges : List (Range ℕ)). byte_in access ranges place) fixed) ∙ e);
       tables = subst (λ (ranges : List (Range ℕ)). All (λ (range : Range ℕ). (place : ℕ) → holds range place ≡ true
-          → IsOwn l (bias_of l.kind x.number) place) ranges) (sym (ap (tables_in (images_of ls) x) image))
+          → IsOwn l (bias_of l.kind x.number) place) ranges) (sym (ap (λ i. option_map_or (λ (own : Spelled). written_from own.parts (parts_from (images_of ls) own x 0 own.parts)) i []) image))
           (tables_own ls l x is 0 (image_of l).parts all);
-      shared = shared_of (ap (λ i. find (λ (r : Range ℕ). r.writable) (parts_of (images_of ls) x i)) image) fixed;
+      shared = shared_of (ap (λ i. find (λ (r : Range ℕ). r.writable) (option_map_or (λ (own : Spelled). parts_from (images_of ls) own x 0 own.parts) i [])) image) fixed;
     }
   where
     shared_of : (job_loads (images_of ls)).shared x

@@ -32,7 +32,6 @@ use Rattle.sequence_forms.specs.declared.forms.Form.{Form}
 use Rattle.sequence_forms.specs.declared.forms.Form.TheVariants.{Gd, Ld}
 use Rattle.sequence_forms.specs.declared.places.Site.{Site}
 use Rattle.thread_blocks.specs.JobLoads.{job_loads, parts_from}
-use Rattle.thread_blocks.specs.Loading.{is_code}
 use Rattle.tls_layout.proofs.Rounds.{round_up-above, round_up-multiple}
 use Rattle.tls_layout.specs.Places.{room}
 use Rattle.tls_layout.specs.Rounding.{page_up}
@@ -44,6 +43,7 @@ use Rattle.loaded_bytes.proofs.Data.{rest}
 use Rattle.loaded_bytes.proofs.Elsewhere.{Found, bounds, one, split, where_found}
 use Rattle.loaded_bytes.proofs.Ranges.{still}
 use Rattle.loaded_bytes.proofs.Still.{fixed_is}
+use Rattle.image_names.specs.Functions.{is_code}
 
 module _ (l : Linking) where
   -- ** the stub lies on a later page than the table, which is not empty

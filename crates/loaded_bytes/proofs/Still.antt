@@ -18,8 +18,7 @@ use Rattle.loaded_modules.specs.Images.{image_at}
 use Rattle.object_faults.specs.declared.class.SectionClass.{SectionClass}
 use Rattle.object_faults.specs.declared.class.SectionClass.TheVariants.{Executable, ReadOnly, Tls}
 use Rattle.relocated_parts.proofs.Parts.{parts_follow}
-use Rattle.thread_blocks.specs.JobLoads.{instance_part, job_loads, parts_from, parts_of}
-use Rattle.thread_blocks.specs.Loading.{is_loaders}
+use Rattle.thread_blocks.specs.JobLoads.{instance_part, job_loads, parts_from}
 use Rattle.thread_blocks.specs.Turns.{at_number}
 use Rattle.tls_layout.specs.Laws.{extent_for}
 use Rattle.whole_meaning.specs.Spots.{bias_of}
@@ -28,6 +27,8 @@ use Rattle.loaded_bytes.specs.Laws.{CodeIsLoaded, ConstantsAreLoaded, IsInstance
 use Rattle.loaded_bytes.proofs.Biases.{image_bias}
 use Rattle.loaded_bytes.proofs.ClassParts.{IsPart, class_part, part_loaded, part_long, part_of}
 use Rattle.loaded_bytes.proofs.Ranges.{found_in_part, still}
+use Rattle.std.specs.Option.{option_map_or}
+use Rattle.image_file.specs.Spelled.{Spelled}
 
 -- the image of an instance
 pub image_is : (ls : List Linking) (l : Linking) (x : Instance) → at_number ls x.image ≡ Some l
@@ -42,14 +43,14 @@ image_is ls l x e = of_number x.image e
 pub fixed_is : (ls : List Linking) (l : Linking) (x : Instance) → at_number ls x.image ≡ Some l
     → (job_loads (images_of ls)).fixed x ≡ still (parts_from (images_of ls) (image_of l) x 0 (image_of l).parts)
 unfolding job_loads
-fixed_is ls l x e = ap (λ image. still (parts_of (images_of ls) x image)) (image_is ls l x e)
+fixed_is ls l x e = ap (λ image. still (option_map_or (λ (own : Spelled). parts_from (images_of ls) own x 0 own.parts) image [])) (image_is ls l x e)
 
 -- the part of a class is not the table
-pub not_table : (l : Linking) (i : ℕ) → i < length (section_places (layout l)) → is_loaders (image_of l).got i ≡ false
+pub not_table : (l : Linking) (i : ℕ) → i < length (section_places (layout l)) → option_map_or (λ (own : ℕ). own == i) (image_of l).got false ≡ false
 unfolding image_of finished contents got_number
 not_table l i low = of_test (got_size l == 0)
   where
-    of_test : (t : Bool) → is_loaders (if t then None else Some (length (section_places (layout l)))) i ≡ false
+    of_test : (t : Bool) → option_map_or (λ (own : ℕ). own == i) (if t then None else Some (length (section_places (layout l)))) false ≡ false
     of_test true = refl
     of_test false = ne_eqb (length (section_places (layout l))) i (λ e. omega (arith, e, low))
 

@@ -145,7 +145,7 @@ module _ (l : Linking) (bias : ℕ) (still : is_moved l.kind ≡ false → bias 
 
   -- and what the meaning says
   abbrev meant : RelocationKind → Option Binding → Option Field
-  meant kind bound = stored_field kind (symbol_number l bias kind bound) a (at + bias) (subtracted l bias kind)
+  meant kind bound = stored_field kind (symbol_number l bias kind bound) a (at + bias) (subtracted l bias (row kind).value)
 
   -- a field of 4 bytes with an address is in an image that is not moved
   zero_bias : (is_moved l.kind ≡ true → is_moved l.kind ≡ false) → bias ≡ 0

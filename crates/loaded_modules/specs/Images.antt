@@ -34,9 +34,8 @@ info_of kind image = record {
 }
 
 abbrev pub infos_of : List ImageKind → List Spelled → List ImageInfo
-infos_of [] images = []
-infos_of (kind ∷ kinds) [] = []
 infos_of (kind ∷ kinds) (image ∷ images) = info_of kind image ∷ infos_of kinds images
+infos_of kinds images = []
 
 unfoldable pub infos : JobImages → List ImageInfo
 infos m = infos_of m.kinds m.images

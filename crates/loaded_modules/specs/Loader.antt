@@ -42,10 +42,9 @@ is_shared symbol = symbol.is_defined && (is_tls symbol.kind && is_visible symbol
 
 -- the offset of the first shared symbol with a name; symbol 0 is reserved
 abbrev pub shared_among : List ℕ → List ImageSymbol → List (List ℕ) → Option ℕ
-shared_among name [] names = None
-shared_among name (symbol ∷ symbols) [] = None
 shared_among name (symbol ∷ symbols) (own ∷ names) =
     if is_shared symbol && bytes_eq name own then Some symbol.value else shared_among name symbols names
+shared_among name symbols names = None
 
 abbrev pub shared_offset : List ℕ → Spelled → Option ℕ
 shared_offset name image = shared_among name (drop 1 image.symbols) (drop 1 image.names)
@@ -60,10 +59,9 @@ export_here name number kind image =
 
 -- the first startup image that shares the name, by its number, and the symbol's offset there
 abbrev pub shared_from : List ℕ → ℕ → List ImageKind → List Spelled → Option Export
-shared_from name number [] images = None
-shared_from name number (kind ∷ kinds) [] = None
 shared_from name number (kind ∷ kinds) (image ∷ images) =
     option_or (export_here name number kind image) (shared_from name (suc number) kinds images)
+shared_from name number kinds images = None
 
 unfoldable pub export_of : JobImages → List ℕ → Option Export
 export_of m name = shared_from name 1 m.kinds m.images
@@ -87,17 +85,13 @@ name_of image symbol = unwrap_or (slice_get image.names symbol) []
 unfoldable pub target_of : JobImages → Spelled → Instance → ImageRelocation → Target
 target_of m image x r = if r.symbol == 0 then own_target x r else export_target m (export_of m (name_of image r.symbol))
 
--- the difference of two words
-abbrev pub word_difference : ℕ → ℕ → ℕ
-word_difference a b = (a + (2 ^ 64 - b)) % 2 ^ 64
-
 -- the bytes that the loader writes at a relocation's place, by its type
 abbrev pub written_bytes : FileKind → Instance → Target → LoaderKind → ℤ → List ℕ
 written_bytes kind x t JumpSlot addend = bytes_of 8 getter_place
 written_bytes kind x t Relative addend = bytes_of 8 ((bias kind x.number + cast_unsigned w64 addend) % 2 ^ 64)
 written_bytes kind x t Module addend = bytes_of 8 t.id
 written_bytes kind x t ModuleOffset addend = bytes_of 8 t.offset
-written_bytes kind x t ThreadOffset addend = bytes_of 8 (word_difference t.offset t.distance)
+written_bytes kind x t ThreadOffset addend = bytes_of 8 ((t.offset + (2 ^ 64 - t.distance)) % 2 ^ 64)
 written_bytes kind x t Descriptor addend = bytes_of 8 descriptor_place ++ bytes_of 8 ((t.id * 2 ^ 32 + t.offset) % 2 ^ 64)
 
 unfoldable pub relocation_bytes : JobImages → Spelled → Instance → ImageRelocation → List ℕ

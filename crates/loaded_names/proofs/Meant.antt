@@ -15,17 +15,20 @@ use Rattle.loaded_modules.specs.Images.{image_at}
 use Rattle.thread_blocks.specs.JobLoads.{job_loads}
 use Rattle.thread_blocks.specs.Turns.{at_number}
 use Rattle.whole_meaning.specs.Bytes.{function_of, variable_of}
-use Rattle.whole_meaning.specs.Loads.{at_bias, loads_of}
+use Rattle.whole_meaning.specs.Loads.{loads_of}
 use Rattle.loaded_names.specs.Laws.{FunctionsAreMeant, InfosAreMeant, VariablesAreMeant}
 use Rattle.loaded_names.proofs.Functions.{functions_loaded}
 use Rattle.loaded_names.proofs.Infos.{infos_loaded}
 use Rattle.loaded_names.proofs.Variables.{variables_loaded}
+use Rattle.std.specs.Option.{option_map_or}
+use Rattle.whole_meaning.specs.Spots.{bias_of}
 
 pub functions_meant : FunctionsAreMeant
 unfolding loads_of
 functions_meant ls l x name is =
     functions_loaded ls l x name is
-    ∙ sym (ap (at_bias None (λ l bias. option_map (λ at. at + bias) (function_of l name)) x.number) is.image)
+    ∙ sym (ap (λ (image : Option Linking).
+    option_map_or (λ (own : Linking). option_map (λ at. at + bias_of own.kind x.number) (function_of own name)) image None) is.image)
 
 -- a link of a list, all of which are given
 given_at : (ls : List Linking) → All IsGiven ls → (number : ℕ) (l : Linking) → at_number ls number ≡ Some l → IsGiven l

@@ -3,7 +3,7 @@ use Rattle.std.proofs.Common.{◌≡◌, ◌+◌, ◌-◌, ◌<◌, ◌≤◌, �
 use Rattle.std.proofs.Common.{drop, map, refl, sym, ap, subst, arith}
 use Rattle.std.specs.Prelude.{option_map, slice_get}
 use Rattle.std.specs.List.{flat_map}
-use Rattle.std.specs.Option.{IfSome}
+use Rattle.std.specs.Option.{IfSome, option_map_or}
 use Rattle.std.proofs.lemmas.Bool.Decides.{nat_tests}
 use Rattle.std.proofs.lemmas.Option.{get_or_from_slice_get, slice_get-map, slice_get_within}
 use Rattle.elf_records.specs.Fields.{part_at}
@@ -42,7 +42,6 @@ use Rattle.relocated_parts.specs.Laws.{IsMade}
 use Rattle.relocated_parts.specs.Left.{left_byte}
 use Rattle.placed_sections.specs.Files.{offset_of}
 use Rattle.thread_blocks.specs.JobLoads.{job_loads, parts_from}
-use Rattle.thread_blocks.specs.Loading.{is_loaders}
 use Rattle.tls_relocs.specs.Elements.{slice_get-append, slice_get-append_behind, slice_get-drop, slice_get-take}
 use Rattle.whole_meaning.specs.Spots.{bias_of}
 use Rattle.loaded_bytes.specs.Laws.{IsInstanceOf, images_of}
@@ -51,9 +50,9 @@ use Rattle.loaded_bytes.proofs.Still.{fixed_is, image_is}
 use Rattle.loaded_bytes.proofs.Ranges.{found_in_part, still}
 
 -- it is the part that the loader alone writes
-is_table : (l : Linking) → 0 < got_size l → is_loaders (image_of l).got (got_index l) ≡ true
+is_table : (l : Linking) → 0 < got_size l → option_map_or (λ (own : ℕ). own == got_index l) (image_of l).got false ≡ true
 unfolding image_of finished contents
-is_table l some = ap (λ n. is_loaders n (got_index l)) (got_numbered l some) ∙ same (got_index l)
+is_table l some = ap (λ n. option_map_or (λ (own : ℕ). own == (got_index l)) n false) (got_numbered l some) ∙ same (got_index l)
   where
     same : (n : ℕ) → (n == n) ≡ true
     same n = grind (arith, nat_tests)

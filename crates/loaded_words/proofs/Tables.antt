@@ -16,13 +16,14 @@ use Rattle.loaded_modules.specs.declared.instance.Instance.{Instance}
 use Rattle.loaded_modules.specs.Images.{JobImages}
 use Rattle.loaded_modules.specs.Loader.{bias, part_bytes}
 use Rattle.relocated_parts.proofs.Fold.{left_long}
-use Rattle.thread_blocks.specs.JobLoads.{instance_part, job_loads, parts_from, tables_in, written_from}
+use Rattle.thread_blocks.specs.JobLoads.{instance_part, job_loads, parts_from, written_from}
 use Rattle.thread_blocks.specs.RunTime.{has_words}
 use Rattle.whole_meaning.specs.Spots.{bias_of}
 use Rattle.loaded_bytes.specs.Laws.{images_of}
 use Rattle.loaded_bytes.proofs.Biases.{image_bias}
 use Rattle.loaded_bytes.proofs.Still.{image_is}
 use Rattle.loaded_words.specs.Laws.{TablesHold}
+use Rattle.std.specs.Option.{option_map_or}
 
 or_true : (a b : Bool) → b ≡ true → (a || b) ≡ true
 or_true true b e = refl
@@ -66,7 +67,7 @@ tables_hold ls l x need at is starts wide =
     let ends : got_start l + at + bias_of l.kind x.number + 16
     ≤ got_start l + bias (image_of l).kind x.number + length (part_bytes m (image_of l) x (got_part l)) =
     omega (arith, moved, kept, long, inside, wide) in
-    ap (λ image. list_any (has_words (got_start l + at + bias_of l.kind x.number)) (tables_in m x image))
+    ap (λ image. list_any (has_words (got_start l + at + bias_of l.kind x.number)) (option_map_or (λ (own : Spelled). written_from own.parts (parts_from m own x 0 own.parts)) image []))
     (image_is ls l x is.image)
     ∙ among m (image_of l) x (got_start l + at + bias_of l.kind x.number) (got_part l) 0 (got_index l) (got_index l)
     (image_of l).parts (omega arith) part refl

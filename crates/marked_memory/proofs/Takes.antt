@@ -2,7 +2,7 @@
 use Rattle.std.proofs.Common.{◌≡◌, ◌∙◌, ◌+◌, ◌++◌, ◌<◌, ◌≤◌, ◌==◌, ℕ, Bool, true, false, List, [], ◌∷◌, length, get_or, set, drop, Option, Some, None, refl, sym, ap, subst, arith, add-one, append_assoc}
 use Rattle.std.specs.Prelude.{All, if◌then◌else◌, option_map, slice_get}
 use Rattle.std.specs.List.{find, flat_map, position_or_len}
-use Rattle.std.specs.Option.{option_or}
+use Rattle.std.specs.Option.{option_or, option_map_or}
 use Rattle.std.proofs.lemmas.Bool.{eqb-true, false≢true}
 use Rattle.std.proofs.lemmas.List.{get_or-drop, length-drop}
 use Rattle.std.proofs.lemmas.List.Elements.{All-from_get_or, All-head, All-tail}
@@ -16,14 +16,14 @@ use Rattle.loaded_modules.specs.declared.instance.Instance.{Instance}
 use Rattle.thread_blocks.specs.Held.{Block, Data, Kind, Owned, Owner, block_after, block_with, data_after, data_bytes, data_with, fresh_data, fresh_if, held_of, is_block_of, is_data_of}
 use Rattle.thread_blocks.specs.Instances.{Loads}
 use Rattle.thread_blocks.specs.Turns.{at_number}
-use Rattle.whole_meaning.specs.Loads.{at_bias, data_range, data_ranges, has_data, loads_of}
-use Rattle.whole_meaning.specs.Spots.{bias_of}
+use Rattle.whole_meaning.specs.Loads.{data_ranges, has_data, loads_of}
 use Rattle.marked_memory.specs.declared.owned.Written.{Written}
 use Rattle.marked_memory.specs.declared.owned.Written.TheVariants as written
 use Rattle.marked_memory.specs.declared.space.Wanted.{Wanted}
 use Rattle.marked_memory.specs.Kept.{Kept}
 use Rattle.marked_memory.specs.Owners.{LeavesOthers, is_owner, kind_of}
 use Rattle.marked_memory.specs.Spaces.{HaveOwnNumbers, fills, reaches, with_held}
+use Rattle.whole_meaning.specs.Spots.{bias_of}
 
 -- ** the first that passes
 
@@ -153,23 +153,20 @@ module _ (x : Instance) (bytes : List Byte) (start : ℕ) where
     range = record { start = start; bytes = bytes; readable = true; writable = true; runnable = false };
   }
 
-  by-class : (l : Linking) (bias : ℕ) (has : Bool)
-      → option_map (λ (r : Range Byte). r.start) (if has then Some (data_range l bias) else None) ≡ Some start
-      → data_there ∷ [] ≡ data_with x (if has then Some (data_range l bias) else None)
-      (option_or (fresh_data (if has then Some (data_range l bias) else None) false) (Some bytes))
-  by-class l bias false e = absurd (none-some start e)
-  by-class l bias true e =
-      ap (λ n. record {
-        owner = record { kind = Data; instance = x.number };
-        range = record { start = n; bytes = bytes; readable = true; writable = true; runnable = false };
-      } ∷ []) (sym (same_Some _ start e))
+  by-class : (own : Range Byte) (has : Bool)
+      → option_map (λ (r : Range Byte). r.start) (if has then Some own else None) ≡ Some start
+      → own.readable ≡ true → own.writable ≡ true → own.runnable ≡ false
+      → data_there ∷ [] ≡ data_with x (if has then Some own else None)
+      (option_or (fresh_data (if has then Some own else None) false) (Some bytes))
+  by-class own false e read write run = absurd (none-some start e)
+  by-class own true e read write run = rw (read, write, run, same_Some own.start start e) refl
 
   by-image : (image : Option Linking)
-      → option_map (λ (r : Range Byte). r.start) (at_bias None data_ranges x.number image) ≡ Some start
-      → data_there ∷ [] ≡ data_with x (at_bias None data_ranges x.number image)
-      (option_or (fresh_data (at_bias None data_ranges x.number image) false) (Some bytes))
+      → option_map (λ (r : Range Byte). r.start) (option_map_or (λ (own : Linking). data_ranges own (bias_of own.kind x.number)) image None) ≡ Some start
+      → data_there ∷ [] ≡ data_with x (option_map_or (λ (own : Linking). data_ranges own (bias_of own.kind x.number)) image None)
+      (option_or (fresh_data (option_map_or (λ (own : Linking). data_ranges own (bias_of own.kind x.number)) image None) false) (Some bytes))
   by-image None e = absurd (none-some start e)
-  by-image (Some l) e = by-class l (bias_of l.kind x.number) (has_data l) e
+  by-image (Some l) e = by-class _ (has_data l) e refl refl refl
 
   pub data_kept : (ls : List Linking) (wanted : Instance → Bool) (pool : List (Owned Byte)) → wanted x ≡ false
       → data_bytes x.number pool ≡ Some bytes → option_map (λ (r : Range Byte). r.start) ((loads_of ls).shared x) ≡ Some start
@@ -177,10 +174,10 @@ module _ (x : Instance) (bytes : List Byte) (start : ℕ) where
   unfolding loads_of
   data_kept ls wanted pool not held begins =
       by-image (at_number ls x.image) begins
-      ∙ ap (λ b. data_with x (at_bias None data_ranges x.number (at_number ls x.image))
-      (option_or (fresh_data (at_bias None data_ranges x.number (at_number ls x.image)) b) (Some bytes))) (sym not)
-      ∙ ap (λ o. data_with x (at_bias None data_ranges x.number (at_number ls x.image))
-      (option_or (fresh_data (at_bias None data_ranges x.number (at_number ls x.image)) (wanted x)) o)) (sym held)
+      ∙ ap (λ b. data_with x (option_map_or (λ (own : Linking). data_ranges own (bias_of own.kind x.number)) (at_number ls x.image) None)
+      (option_or (fresh_data (option_map_or (λ (own : Linking). data_ranges own (bias_of own.kind x.number)) (at_number ls x.image) None) b) (Some bytes))) (sym not)
+      ∙ ap (λ o. data_with x (option_map_or (λ (own : Linking). data_ranges own (bias_of own.kind x.number)) (at_number ls x.image) None)
+      (option_or (fresh_data (option_map_or (λ (own : Linking). data_ranges own (bias_of own.kind x.number)) (at_number ls x.image) None) (wanted x)) o)) (sym held)
 
 -- ** all of it
 

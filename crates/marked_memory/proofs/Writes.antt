@@ -1,7 +1,7 @@
 -- What a byte that is written leaves of a thread's memory.
 use Rattle.std.proofs.Common.{◌≡◌, ◌∙◌, ◌-◌, ◌++◌, ◌<◌, ◌≤◌, ℕ, zero, suc, Bool, true, false, List, [], ◌∷◌, length, get_or, set, Option, Some, None, refl, sym, ap, inl, inr, arith}
 use Rattle.std.specs.Prelude.{◌&&◌, if◌then◌else◌, slice_set}
-use Rattle.std.specs.Option.{option_or}
+use Rattle.std.specs.Option.{option_or, option_map_or}
 use Rattle.std.proofs.lemmas.Bool.{cases_Bool}
 use Rattle.address_map.specs.Map.{stack_start}
 use Rattle.guest_memory.specs.Writable.{first_writable}
@@ -18,12 +18,13 @@ use Rattle.thread_blocks.specs.MachineTurns.{pointer_word}
 use Rattle.thread_blocks.specs.Spaces.{NoneWritable, stack_range}
 use Rattle.thread_blocks.specs.Turns.{at_number}
 use Rattle.thread_blocks.proofs.Spaces.{put_is_with_byte}
-use Rattle.whole_meaning.specs.Loads.{at_bias, loads_of, still_ranges}
+use Rattle.whole_meaning.specs.Loads.{loads_of, still_ranges}
 use Rattle.whole_meaning.specs.Threads.{ops}
 use Rattle.marked_memory.specs.Kept.{Kept, fixed_in, memory_of, shape_of, with_lent}
 use Rattle.marked_memory.specs.Writing.{written_at, written_in}
 use Rattle.guest_operands.proofs.Sought.{byte_in-append}
 use Rattle.guest_memory.proofs.Writes.{second}
+use Rattle.whole_meaning.specs.Spots.{bias_of}
 
 -- ** ranges with owners
 
@@ -79,14 +80,14 @@ none-both : (xs ys : List (Range Byte)) → NoneWritable xs → NoneWritable ys 
 none-both [] ys f g = g
 none-both (x ∷ xs) ys f g = (f.0, none-both xs ys f.1 g)
 
-none-image : (number : ℕ) (l : Option Linking) → NoneWritable (at_bias [] still_ranges number l)
+none-image : (number : ℕ) (l : Option Linking) → NoneWritable (option_map_or (λ (own : Linking). still_ranges own (bias_of own.kind number)) l [])
 none-image number None = tt
 none-image number (Some l) = (refl, (refl, (refl, tt)))
 
 none-each : (ls : List Linking) (live : List Instance) → NoneWritable (fixed_of (loads_of ls) live)
 unfolding loads_of
 none-each ls [] = tt
-none-each ls (x ∷ live) = none-both (at_bias [] still_ranges x.number (at_number ls x.image)) _ (none-image x.number (at_number ls x.image)) (none-each ls live)
+none-each ls (x ∷ live) = none-both (option_map_or (λ (own : Linking). still_ranges own (bias_of own.kind x.number)) (at_number ls x.image) []) _ (none-image x.number (at_number ls x.image)) (none-each ls live)
 
 -- the word at the thread pointer, and what is loaded of instances
 pub none_fixed : (ls : List Linking) (thread : ℕ) (live : List Instance) → NoneWritable (pointer_word ops thread ∷ fixed_of (loads_of ls) live)

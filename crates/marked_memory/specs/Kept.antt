@@ -20,7 +20,9 @@ use Rattle.thread_blocks.specs.Spaces.{stack_range}
 use Rattle.whole_meaning.specs.declared.marks.Mark.{Mark}
 use Rattle.whole_meaning.specs.declared.sequences.Sequence.{Sequence}
 use Rattle.whole_meaning.specs.Loads.{loads_of, meaning_of}
-use Rattle.whole_meaning.specs.Threads.{Meant, marked_in, ops}
+use Rattle.whole_meaning.specs.Threads.{Meant, ops}
+use Rattle.std.specs.Option.{option_map_or}
+use Rattle.whole_meaning.specs.declared.marks.Mark.TheVariants.{Usual}
 
 pub record Kept : Type 0 where
   pub thread : ℕ
@@ -91,7 +93,7 @@ owner_in k place = find (λ (x : Instance). x.number == owner_at place) k.live
 
 -- the mark of a byte of code
 unfoldable pub mark_in : Kept → ℕ → Mark
-mark_in k place = marked_in (meaning_of k.images) k.thread place (owner_in k place)
+mark_in k place = option_map_or (λ (x : Instance). (meaning_of k.images).mark x place) (owner_in k place) Usual
 
 -- whether a place is the linker's own: an address of the run time, or in the room of a live instance
 unfoldable pub shut_in : Kept → ℕ → Bool

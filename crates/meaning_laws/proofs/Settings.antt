@@ -20,10 +20,11 @@ use Rattle.whole_meaning.specs.declared.sequences.Sequence.{Sequence}
 use Rattle.whole_meaning.specs.Bytes.{block_bytes, class_bytes, function_of, value_of, variable_of}
 use Rattle.whole_meaning.specs.Code.{mark_of, no_variable, sequence_of, sequence_with, shared_by, starts_at, variable_by, variable_for}
 use Rattle.whole_meaning.specs.Jobs.{lines_of, meant_world, verdict_of}
-use Rattle.whole_meaning.specs.Loads.{at_bias, data_ranges, info_of, loads_of, meaning_of, still_ranges, wants_surplus}
+use Rattle.whole_meaning.specs.Loads.{data_ranges, info_of, loads_of, meaning_of, still_ranges, wants_surplus}
 use Rattle.whole_meaning.specs.Meanings.{Meaning}
 use Rattle.whole_meaning.specs.Spots.{Spot, bias_of, in_room, moved_spot, spot_in}
 use Rattle.meaning_laws.specs.Laws.{MeaningKnowsNoSetting, VerdictKnowsNoSetting}
+use Rattle.std.specs.Option.{option_map_or}
 
 module _ (relax : Bool) where
   -- a link, where sequences may be rewritten or not
@@ -47,14 +48,16 @@ module _ (relax : Bool) where
 
   image_at : {A : Type 0} (none : A) (f g : Linking → ℕ → A)
       → ((l : Linking) (bias : ℕ) → f (set l) bias ≡ g l bias) → (ls : List Linking) (i number : ℕ)
-      → at_bias none f number (slice_get (map set ls) i) ≡ at_bias none g number (slice_get ls i)
+      → option_map_or (λ (own : Linking). f own (bias_of own.kind number)) (slice_get (map set ls) i) none
+      ≡ option_map_or (λ (own : Linking). g own (bias_of own.kind number)) (slice_get ls i) none
   image_at none f g same [] i number = refl
   image_at none f g same (l ∷ ls) zero number = same l (bias_of l.kind number)
   image_at none f g same (l ∷ ls) (suc i) number = image_at none f g same ls i number
 
   image : {A : Type 0} (none : A) (f g : Linking → ℕ → A) → ((l : Linking) (bias : ℕ) → f (set l) bias ≡ g l bias)
       → (ls : List Linking) (image number : ℕ)
-      → at_bias none f number (at_number (map set ls) image) ≡ at_bias none g number (at_number ls image)
+      → option_map_or (λ (own : Linking). f own (bias_of own.kind number)) (at_number (map set ls) image) none
+      ≡ option_map_or (λ (own : Linking). g own (bias_of own.kind number)) (at_number ls image) none
   image none f g same ls zero number = refl
   image none f g same ls (suc i) number = image_at none f g same ls i number
 

@@ -1,6 +1,6 @@
 -- Where no image has data, steps of the meaning, its sequences and its looks keep blocks alone.
 use Rattle.std.proofs.Common.{Bool, true, false, ℕ, List, Option, Some, None, Result, Ok, Err, refl, sym, subst}
-use Rattle.std.specs.Prelude.{if◌then◌else◌, option_map}
+use Rattle.std.specs.Prelude.{if◌then◌else◌, option_map, unwrap_or}
 use Rattle.address_map.specs.Map.{stack_start}
 use Rattle.amd64_subset.specs.declared.instr.Decoded.{Decoded}
 use Rattle.guest_arithmetic.specs.declared.cause.Cause.{Cause}
@@ -37,10 +37,12 @@ use Rattle.whole_meaning.specs.declared.sequences.Sequence.{Sequence}
 use Rattle.whole_meaning.specs.Fields.{address_at, lent, lent_frame, marked_frame}
 use Rattle.whole_meaning.specs.Meanings.{Meaning}
 use Rattle.whole_meaning.specs.Reading.{acted, done, marked_step, plain_step}
-use Rattle.whole_meaning.specs.Running.{meaning, sequence_or}
-use Rattle.whole_meaning.specs.Sequences.{Stack, added, after_call, called_with, descriptor_called, descriptor_calls, does, looks_first, own_base, sequence_result, stack_use, variable_address, variable_distance, with_answer, with_sum, without_flags}
-use Rattle.whole_meaning.specs.Threads.{Meant, Memory, begin_meant, held_next, meant_accesses, meant_mark, meant_sequence, meant_shut, meant_show, meant_stack, meant_steps, meant_turns, ops, resume_meant, resumed, resumed_at, resumed_by, resumed_for, sequence_at, sequence_does, sequence_next}
+use Rattle.whole_meaning.specs.Running.{meaning}
+use Rattle.whole_meaning.specs.Sequences.{Stack, added, after_call, called_with, descriptor_called, descriptor_calls, does, looks_first, own_base, sequence_result, stack_use, variable_address, variable_distance, with_sum, without_flags}
+use Rattle.whole_meaning.specs.Threads.{Meant, Memory, begin_meant, held_next, meant_accesses, meant_mark, meant_sequence, meant_shut, meant_show, meant_stack, meant_steps, meant_turns, ops, resume_meant, resumed_at, resumed_by, resumed_for, sequence_at, sequence_does, sequence_next}
 use Rattle.meaning_laws.specs.Laws.{HasNoData}
+use Rattle.guest_machine.specs.Machine.{with_answer}
+use Rattle.thread_blocks.specs.RunTime.{resumed}
 
 module _ (m : Meaning) (thread : ℕ) (os : List Owner) where
   -- ** what a step leaves
@@ -158,7 +160,7 @@ module _ (m : Meaning) (thread : ℕ) (os : List Owner) where
     called_fine : (word : Word) → ResultFine (called_with stack s thread start word state memory)
     called_fine word =
         then_fine (clean state.place (stack_use stack state memory))
-        (λ below. Ok (left (at_place (with_answer word (after_call state)) s.next) (stack.forget memory below)))
+        (λ below. Ok (left (at_place (with_answer (after_call state) word) s.next) (stack.forget memory below)))
         (λ below. fine)
 
     added_fine : ResultFine (added stack s thread start state memory)
@@ -172,7 +174,7 @@ module _ (m : Meaning) (thread : ℕ) (os : List Owner) where
     descriptor_fine =
         let answer : Word = Number (variable_distance s start state.thread_pointer) in
         then_fine (clean state.place (descriptor_calls stack s thread start state memory))
-        (λ uses. Ok (left (at_place (without_flags (with_answer answer state)) s.next) (stack.forget memory uses.1)))
+        (λ uses. Ok (left (at_place (without_flags (with_answer state answer)) s.next) (stack.forget memory uses.1)))
         (λ uses. fine)
 
     form_fine : (form : Form) → ResultFine (does stack s thread start form state memory)
@@ -202,7 +204,7 @@ module _ (m : Meaning) (thread : ℕ) (os : List Owner) where
   -- ** a step
 
   either_fine : (at : After Word Flag Memory) (s : Option Sequence) (next : Next (After Word Flag Memory))
-      → Fine at.memory → NextFine next → NextFine (sequence_or (option_map (sequence_next m thread at) s) next)
+      → Fine at.memory → NextFine next → NextFine (unwrap_or (option_map (sequence_next m thread at) s) next)
   either_fine at None next fine after = after
   either_fine at (Some s) next fine after = looks_fine _ at (sequence_does m thread s at) fine (does_fine s at fine)
 
@@ -232,7 +234,7 @@ module _ (m : Meaning) (none : HasNoData m) (thread : ℕ) where
   -- ** a look in the middle of a line
 
   resumed_holds : (h : Meant) (result : Result (After Word Flag Memory) Stop) → HoldsBlocks h
-      → ResultFine m thread h.owners result → BegunHolds (resumed m thread h result)
+      → ResultFine m thread h.owners result → BegunHolds (resumed h result)
   resumed_holds h (Ok after) holds fine = fine
   resumed_holds h (Err stop) holds fine = holds
 

@@ -5,13 +5,13 @@ use Rattle.job_text.specs.declared.thread_lines.ThreadLine.{ThreadLine}
 use Rattle.link_needs.specs.Linking.{Linking}
 use Rattle.loaded_modules.specs.declared.instance.Instance.{Instance}
 use Rattle.module_table.specs.declared.events.Event.{Event}
-use Rattle.thread_blocks.specs.JobWorlds.{numbered_lines}
+use Rattle.thread_blocks.specs.JobWorlds.{numbered_lines, thread_ready}
 use Rattle.thread_blocks.specs.Turns.{at_number, ready, turns}
 use Rattle.thread_blocks.specs.TurnsAlike.{AllFronts, IsFront, Rises}
 use Rattle.whole_meaning.specs.Jobs.{lines_of, meant_world, verdict_of}
 use Rattle.whole_meaning.specs.Loads.{has_data, meaning_of}
 use Rattle.whole_meaning.specs.Meanings.{Meaning}
-use Rattle.whole_meaning.specs.Threads.{meant_ready, meant_turns}
+use Rattle.whole_meaning.specs.Threads.{meant_turns, ops}
 
 -- no image has data that threads write
 abbrev pub HasNoData : Meaning → Type 0
@@ -25,7 +25,7 @@ ThreadsMeanTheirOwn = (m : Meaning) (fuel : ℕ) (lines : List (List ThreadLine)
     → (points : List (List Event)) × Rises IsFront [] points
     × AllFronts points (meant_world m fuel lines order).events
     × (at_number (meant_world m fuel lines order).threads thread
-    ≡ Some (turns (meant_turns m thread fuel) (ready (meant_ready m thread) (numbered_lines 1 own)) points))
+    ≡ Some (turns (meant_turns m thread fuel) (ready (thread_ready ops m.loads thread) (numbered_lines 1 own)) points))
 
 -- images whose objects have no byte in a writable section have no such data
 abbrev pub ImagesWithoutDataShareNone : Type 0

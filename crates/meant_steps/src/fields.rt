@@ -1,6 +1,6 @@
 //! What an instruction may do with a field in it.
 
-ghost use Rattle.std.specs.Prelude.{◌≡◌, ℕ};
+ghost use Rattle.std.specs.Prelude.{◌≡◌, ℕ, is_ok};
 ghost use Rattle.amd64_subset.specs.declared.instr.Operation.TheVariants.{Compute as Computes, Move as Moves};
 ghost use Rattle.amd64_subset.specs.declared.instr.Arithmetic.TheVariants.{Add};
 ghost use Rattle.amd64_subset.specs.declared.instr.Width.TheVariants.{Quad};
@@ -11,7 +11,7 @@ ghost use Rattle.guest_operands.specs.declared.state.State.{State};
 ghost use Rattle.job_meaning.specs.declared.values.Flag.{Flag};
 ghost use Rattle.job_meaning.specs.declared.values.Word.{Word};
 ghost use Rattle.job_meaning.specs.Reading.{is_at};
-ghost use Rattle.whole_meaning.specs.Fields.{operand_in, operands_in, target_in, memory_in, read_in, starts_offset, field_number, field_address, is_minus, is_used, is_from_next, reads_next, number_in, marked_frame, address_at, has_address, adds_to_base, takes_offset, takes_address};
+ghost use Rattle.whole_meaning.specs.Fields.{operand_in, operands_in, target_in, memory_in, read_in, starts_offset, field_number, field_address, is_minus, is_from_next, reads_next, number_in, marked_frame, address_at, has_address, adds_to_base, takes_offset, takes_address};
 ghost use Rattle.whole_meaning.specs.Threads.{ops};
 ghost use Rattle.whole_meaning.specs.declared.marks.Mark.{Mark};
 
@@ -227,7 +227,7 @@ fn is_at(at: Option<u8>, k: u8) -> bool
 }
 
 fn is_used(answer: Result<u64, Cause>) -> bool
-    ensures { result ≡ is_used answer }
+    ensures { result ≡ is_ok answer }
 {
     match answer {
         Ok(_) => true,

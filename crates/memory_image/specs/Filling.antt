@@ -37,7 +37,7 @@ moved_place kind (Some (Here found)) = 0
 moved_place kind bound = bias_of kind 0
 
 abbrev pub own_subtracted : Linking → RelocationKind → ℕ
-own_subtracted l kind = subtracted l 0 kind
+own_subtracted l kind = subtracted l 0 (row kind).value
 
 -- what a field holds; zeros if it can't hold its value
 unfoldable pub own_field : Linking → ℕ → ℕ → Relocation → Field

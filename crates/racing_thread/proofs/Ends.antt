@@ -31,6 +31,7 @@ use Rattle.job_turns.proofs.FirstTurn.{seen_none}
 use Rattle.racing_thread.proofs.FirstThread.{first_runner, is_finished}
 use Rattle.racing_thread.proofs.Going.{Behind, Going}
 use Rattle.racing_thread.proofs.Marking.{first_marks, last_marks, shown_marks}
+use Rattle.guest_arithmetic.specs.Plain.{plain_operations}
 
 -- ** before the first turn
 
@@ -48,8 +49,8 @@ module _ (m : JobImages) (job : JobParts) (thread : ℕ) (p : PassView) (r : Run
     known = refl;
     told = first_told thread (thread_turns (job_loads m) thread job.fuel) (event_by (job_loads m) thread)
         (λ line seen h. turns_tell (job_loads m) job.fuel thread line seen h) (lines_in job thread)
-        (thread_ready (job_loads m) thread);
-    marked = first_marks thread (lines_in job thread) (thread_ready (job_loads m) thread);
+        (thread_ready plain_operations (job_loads m) thread);
+    marked = first_marks thread (lines_in job thread) (thread_ready plain_operations (job_loads m) thread);
     reached = refl;
   }
 

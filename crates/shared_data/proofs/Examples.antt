@@ -22,6 +22,7 @@ use Rattle.shared_data.specs.Changes.{Change, Filled, Written, data_at, last_lef
 use Rattle.shared_data.specs.Laws.{at_order, told_at}
 use Rattle.shared_data.specs.Steps.{machine_changes}
 use Rattle.shared_data.specs.Told.{begins}
+use Rattle.guest_arithmetic.specs.Plain.{plain_operations}
 
 -- mov n(%rip), %eax; add $1, %eax; mov %eax, n(%rip); ret
 abbrev counter_app : Spelled
@@ -61,7 +62,7 @@ count_line = record { image = 1; action = Call (0x66 ∷ []) 0 0 0 }
 abbrev counter_told : List (Change ℕ)
 counter_told = told_at counter_loads (λ thread. thread_turns counter_loads thread 4)
     (λ thread. machine_changes counter_loads thread) (λ thread. thread_accesses counter_loads thread)
-    (job_start counter_loads ((count_line ∷ count_line ∷ []) ∷ (count_line ∷ []) ∷ [])) (1 ∷ 2 ∷ 1 ∷ [])
+    (job_start plain_operations counter_loads ((count_line ∷ count_line ∷ []) ∷ (count_line ∷ []) ∷ [])) (1 ∷ 2 ∷ 1 ∷ [])
 
 counted : counter_told
     ≡ Filled 1 (5 ∷ 0 ∷ 0 ∷ 0 ∷ [])
@@ -79,7 +80,7 @@ counted_last = refl
 abbrev counter_world : Shared ℕ Bool ℕ Line
 counter_world = at_order counter_loads (λ thread. thread_turns counter_loads thread 4)
     (λ thread. machine_changes counter_loads thread) (λ thread. thread_accesses counter_loads thread)
-    (job_start counter_loads ((count_line ∷ count_line ∷ []) ∷ (count_line ∷ []) ∷ [])) (1 ∷ 2 ∷ [])
+    (job_start plain_operations counter_loads ((count_line ∷ count_line ∷ []) ∷ (count_line ∷ []) ∷ [])) (1 ∷ 2 ∷ [])
 
 abbrev second_turn : Option (ℕ × Runs)
 second_turn = option_and_then (λ t. begins counter_loads (λ thread. thread_turns counter_loads thread 4)

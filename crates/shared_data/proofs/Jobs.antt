@@ -10,7 +10,6 @@ use Rattle.guest_machine.specs.Run.{run, state_after}
 use Rattle.guest_machine.specs.State.{start_of}
 use Rattle.guest_machine.specs.Use.{left as left_of}
 use Rattle.job_meaning.specs.declared.values.Byte.{Byte}
-use Rattle.job_meaning.specs.declared.values.Word.TheVariants.{Number}
 use Rattle.job_text.specs.declared.thread_lines.ThreadLine.{ThreadLine}
 use Rattle.module_table.specs.declared.events.Event.{Event}
 use Rattle.module_table.specs.History.{IsLegal}
@@ -22,7 +21,7 @@ use Rattle.thread_blocks.specs.MachineTurns.{pointer_word}
 use Rattle.thread_blocks.specs.RunTime.{thread_accesses, thread_turns}
 use Rattle.thread_blocks.specs.Spaces.{Space, stack_range}
 use Rattle.thread_blocks.specs.Turns.{Turns, at_number}
-use Rattle.whole_meaning.specs.Jobs.{job_start as meant_start, meant_world, ready_from as ready_meant}
+use Rattle.whole_meaning.specs.Jobs.{meant_world}
 use Rattle.whole_meaning.specs.Meanings.{Meaning}
 use Rattle.whole_meaning.specs.Threads.{meant_accesses, meant_turns, ops}
 use Rattle.shared_data.specs.Changes.{Change, data_found, last_left}
@@ -111,18 +110,18 @@ module _ {W F B : Type 0} (l : Loads B) (x : ℕ → Turns (Held W F B) Line Eve
 -- ** the machine
 
 module _ (l : Loads ℕ) (legal : IsLegal l.infos l.last_offset []) where
-  ready_blocks : (thread : ℕ) (lines : List (List ThreadLine)) → Each HoldsBlocks (ready_from l thread lines)
+  ready_blocks : (thread : ℕ) (lines : List (List ThreadLine)) → Each HoldsBlocks (ready_from plain_operations l thread lines)
   ready_blocks thread [] = tt
   ready_blocks thread (own ∷ more) = (
     look_blocks l thread [] (record {
-      after = left_of (start_of plain_operations 0 0 0 0 0) (record { seen = []; stack = []; own = [] });
+      after = left_of (start_of plain_operations 0 0 (plain_operations.word 0) (plain_operations.word 0) (plain_operations.word 0)) (record { seen = []; stack = []; own = [] });
       owners = [];
       asked = None;
     }) refl,
     ready_blocks (suc thread) more,
   )
 
-  first_holds : (lines : List (List ThreadLine)) → WorldHolds l (first_filled l) (job_start l lines)
+  first_holds : (lines : List (List ThreadLine)) → WorldHolds l (first_filled l) (job_start plain_operations l lines)
   first_holds lines = record {
     legal = legal;
     left = data_first l (instances l []) (numbers_own l [] legal);
@@ -144,19 +143,19 @@ machine_reads l i log space os place at left e =
 pub machine_data_last : MachineDataLast
 machine_data_last l fuel lines legal =
     data_last l (λ thread. thread_turns l thread fuel) (λ thread. machine_changes l thread)
-    (λ thread. thread_accesses l thread) (job_start l lines) (λ i. machine_tells l i fuel) (first_holds l legal lines)
+    (λ thread. thread_accesses l thread) (job_start plain_operations l lines) (λ i. machine_tells l i fuel) (first_holds l legal lines)
 
 pub machine_reads_last : MachineReadsLast
 machine_reads_last l fuel lines legal =
     reads_last l (λ thread. thread_turns l thread fuel) (λ thread. machine_changes l thread)
-    (λ thread. thread_accesses l thread) (job_start l lines) (λ i. machine_tells l i fuel) (first_holds l legal lines)
+    (λ thread. thread_accesses l thread) (job_start plain_operations l lines) (λ i. machine_tells l i fuel) (first_holds l legal lines)
     (machine_reads l)
 
 pub machine_there : MachineDataAreThere
 machine_there = (
   (λ l fuel lines legal low.
       data_there l (λ thread. thread_turns l thread fuel) (λ thread. machine_changes l thread)
-      (λ thread. thread_accesses l thread) (job_start l lines) (λ i. machine_tells l i fuel) (first_holds l legal lines)
+      (λ thread. thread_accesses l thread) (job_start plain_operations l lines) (λ i. machine_tells l i fuel) (first_holds l legal lines)
       low (machine_reads l)),
   data_held,
 )
@@ -168,18 +167,18 @@ jobs_are_orders l fuel lines order = refl
 -- ** the meaning
 
 module _ (m : Meaning) (legal : IsLegal m.loads.infos m.loads.last_offset []) where
-  meant_ready_blocks : (thread : ℕ) (lines : List (List ThreadLine)) → Each HoldsBlocks (ready_meant m thread lines)
+  meant_ready_blocks : (thread : ℕ) (lines : List (List ThreadLine)) → Each HoldsBlocks (ready_from ops m.loads thread lines)
   meant_ready_blocks thread [] = tt
   meant_ready_blocks thread (own ∷ more) = (
     look_blocks m.loads thread [] (record {
-      after = left_of (start_of ops 0 0 (Number 0) (Number 0) (Number 0)) (record { seen = []; stack = []; own = [] });
+      after = left_of (start_of ops 0 0 (ops.word 0) (ops.word 0) (ops.word 0)) (record { seen = []; stack = []; own = [] });
       owners = [];
       asked = None;
     }) refl,
     meant_ready_blocks (suc thread) more,
   )
 
-  meant_first : (lines : List (List ThreadLine)) → WorldHolds m.loads (first_filled m.loads) (meant_start m lines)
+  meant_first : (lines : List (List ThreadLine)) → WorldHolds m.loads (first_filled m.loads) (job_start ops m.loads lines)
   meant_first lines = record {
     legal = legal;
     left = data_first m.loads (instances m.loads []) (numbers_own m.loads [] legal);
@@ -200,19 +199,19 @@ meant_reads m i log space os place at left e =
 pub meant_data_last : MeantDataLast
 meant_data_last m fuel lines legal =
     data_last m.loads (λ thread. meant_turns m thread fuel) (λ thread. meant_changes m thread)
-    (λ thread. meant_accesses m thread) (meant_start m lines) (λ i. meant_tells m i fuel) (meant_first m legal lines)
+    (λ thread. meant_accesses m thread) (job_start ops m.loads lines) (λ i. meant_tells m i fuel) (meant_first m legal lines)
 
 pub meant_reads_last : MeantReadsLast
 meant_reads_last m fuel lines legal =
     reads_last m.loads (λ thread. meant_turns m thread fuel) (λ thread. meant_changes m thread)
-    (λ thread. meant_accesses m thread) (meant_start m lines) (λ i. meant_tells m i fuel) (meant_first m legal lines)
+    (λ thread. meant_accesses m thread) (job_start ops m.loads lines) (λ i. meant_tells m i fuel) (meant_first m legal lines)
     (meant_reads m)
 
 pub meant_there : MeantDataAreThere
 meant_there = (
   (λ m fuel lines legal low.
       data_there m.loads (λ thread. meant_turns m thread fuel) (λ thread. meant_changes m thread)
-      (λ thread. meant_accesses m thread) (meant_start m lines) (λ i. meant_tells m i fuel) (meant_first m legal lines)
+      (λ thread. meant_accesses m thread) (job_start ops m.loads lines) (λ i. meant_tells m i fuel) (meant_first m legal lines)
       low (meant_reads m)),
   data_held,
 )

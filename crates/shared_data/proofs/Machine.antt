@@ -18,7 +18,7 @@ use Rattle.transcript_text.specs.declared.outcomes.Outcome.TheVariants.{Fault}
 use Rattle.thread_blocks.specs.declared.asked.Asked.{Asked}
 use Rattle.thread_blocks.specs.Held.{Owned, Owner, looked, owned_by, reached}
 use Rattle.thread_blocks.specs.Instances.{Loads, instance_with_id, instances, is_startup_id, numbered_instance}
-use Rattle.thread_blocks.specs.RunTime.{Runs, answer_word, answered, asked_at, asked_next, found_at_once, goes_answered, resume_line, resumed, resumed_by, resumed_in, shows, thread_accesses, thread_next, thread_steps, thread_turns}
+use Rattle.thread_blocks.specs.RunTime.{Runs, answer_word, answered, asked_at, asked_next, found_at_once, goes_answered, resume_line, resumed_by, resumed_in, shows, thread_accesses, thread_next, thread_steps, thread_turns, resumed}
 use Rattle.thread_blocks.specs.Spaces.{Space, after_of, next_image, no_field, put_byte, space_accesses}
 use Rattle.thread_blocks.specs.Turns.{Answered, Begun, Says}
 use Rattle.thread_blocks.proofs.Image.{machine_image}
@@ -178,7 +178,7 @@ module _ (l : Loads ℕ) (thread : ℕ) where
 
     resumed_holds : (log : List (Change ℕ)) (h : Runs) (result : Result (After ℕ Bool (Space Event ℕ)) Stop)
         → Holds l thread seen log h
-        → ResultKeeps Here log h.owners result → BegunHolds l thread seen log (resumed l thread h result)
+        → ResultKeeps Here log h.owners result → BegunHolds l thread seen log (resumed h result)
     resumed_holds log h (Ok after) holds keeps = keeps
     resumed_holds log h (Err stop) holds keeps = holds
 

@@ -1,6 +1,6 @@
 -- A thread of the meaning: its steps and its looks do with data what is told of them.
 use Rattle.std.proofs.Common.{◌≡◌, ◌++◌, ℕ, zero, suc, Bool, true, false, List, Option, Some, None, Result, Ok, Err, refl, sym, ap, subst}
-use Rattle.std.specs.Prelude.{option_map}
+use Rattle.std.specs.Prelude.{option_map, unwrap_or}
 use Rattle.address_map.specs.Map.{stack_start}
 use Rattle.amd64_subset.specs.declared.instr.Decoded.{Decoded}
 use Rattle.guest_arithmetic.specs.declared.cause.Cause.{Cause}
@@ -30,9 +30,9 @@ use Rattle.whole_meaning.specs.declared.sequences.Sequence.{Sequence}
 use Rattle.whole_meaning.specs.Fields.{address_at, lent, lent_frame, marked_frame}
 use Rattle.whole_meaning.specs.Meanings.{Meaning}
 use Rattle.whole_meaning.specs.Reading.{done, marked_step, plain_step}
-use Rattle.whole_meaning.specs.Running.{meaning, sequence_or}
-use Rattle.whole_meaning.specs.Sequences.{Stack, added, after_call, called_with, descriptor_called, descriptor_calls, does, looks_first, own_base, sequence_result, stack_use, variable_address, variable_distance, with_answer, with_sum, without_flags}
-use Rattle.whole_meaning.specs.Threads.{Meant, Memory, begin_meant, held_next, meant_accesses, meant_mark, meant_shut, meant_show, meant_stack, meant_steps, meant_turns, ops, resume_meant, resumed, resumed_at, resumed_by, resumed_for, sequence_at, sequence_does, sequence_next}
+use Rattle.whole_meaning.specs.Running.{meaning}
+use Rattle.whole_meaning.specs.Sequences.{Stack, added, after_call, called_with, descriptor_called, descriptor_calls, does, looks_first, own_base, sequence_result, stack_use, variable_address, variable_distance, with_sum, without_flags}
+use Rattle.whole_meaning.specs.Threads.{Meant, Memory, begin_meant, held_next, meant_accesses, meant_mark, meant_shut, meant_show, meant_stack, meant_steps, meant_turns, ops, resume_meant, resumed_at, resumed_by, resumed_for, sequence_at, sequence_does, sequence_next}
 use Rattle.shared_data.specs.Changes.{Change, Noted, noted_by, noting, unchanged}
 use Rattle.shared_data.specs.Steps.{changes_at, meant_changes}
 use Rattle.shared_data.proofs.Begins.{BegunHolds, begin_holds}
@@ -42,6 +42,8 @@ use Rattle.shared_data.proofs.Last.{append_none}
 use Rattle.shared_data.proofs.Left.{AreLeft}
 use Rattle.shared_data.proofs.Noting.{Keeps, Proved, ResultKeeps, StoresKeep, plain, proved_accesses, then_keeps}
 use Rattle.shared_data.proofs.Turns.{NextHolds, TellAll}
+use Rattle.guest_machine.specs.Machine.{with_answer}
+use Rattle.thread_blocks.specs.RunTime.{resumed}
 
 abbrev pub At : Type 0
 At = After Word Flag Memory
@@ -205,7 +207,7 @@ module _ (m : Meaning) (thread : ℕ) where
       called_keeps : (word : Word) → ResultKeeps Here log os (called_with stack s thread start word state memory)
       called_keeps word =
           then_keeps Here log os (clean state.place (stack_use stack state memory))
-          (λ below. Ok (left (at_place (with_answer word (after_call state)) s.next) (stack.forget memory below)))
+          (λ below. Ok (left (at_place (with_answer (after_call state) word) s.next) (stack.forget memory below)))
           (λ below. keeps)
 
       added_keeps : ResultKeeps Here log os (added stack s thread start state memory)
@@ -219,7 +221,7 @@ module _ (m : Meaning) (thread : ℕ) where
       descriptor_keeps =
           let answer : Word = Number (variable_distance s start state.thread_pointer) in
           then_keeps Here log os (clean state.place (descriptor_calls stack s thread start state memory))
-          (λ uses. Ok (left (at_place (without_flags (with_answer answer state)) s.next) (stack.forget memory uses.1)))
+          (λ uses. Ok (left (at_place (without_flags (with_answer state answer)) s.next) (stack.forget memory uses.1)))
           (λ uses. keeps)
 
       form_keeps : (form : Form) → ResultKeeps Here log os (does stack s thread start form state memory)
@@ -249,7 +251,7 @@ module _ (m : Meaning) (thread : ℕ) where
     -- ** a step
 
     either_keeps : (log : List (Change Byte)) (h : Meant) (s : Option Sequence) → Holds m.loads thread seen log h
-        → NextKeeps (log ++ changes_at m thread s h) h.owners (sequence_or
+        → NextKeeps (log ++ changes_at m thread s h) h.owners (unwrap_or
         (option_map (sequence_next m thread h.after) s)
         (next_of (marked_step ops acc (meant_mark m thread h.after.memory)
         (meant_shut m thread h.after.memory) h.after.state h.after.memory)))
@@ -279,7 +281,7 @@ module _ (m : Meaning) (thread : ℕ) where
     -- ** looks
 
     resumed_holds : (log : List (Change Byte)) (h : Meant) (result : Result At Stop) → Holds m.loads thread seen log h
-        → ResultKeeps Here log h.owners result → BegunHolds m.loads thread seen log (resumed m thread h result)
+        → ResultKeeps Here log h.owners result → BegunHolds m.loads thread seen log (resumed h result)
     resumed_holds log h (Ok after) holds keeps = keeps
     resumed_holds log h (Err stop) holds keeps = holds
 

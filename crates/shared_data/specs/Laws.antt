@@ -24,7 +24,7 @@ use Rattle.thread_blocks.specs.RunTime.{thread_accesses, thread_turns}
 use Rattle.thread_blocks.specs.Spaces.{Space, after_of, mapped, next_image, no_field}
 use Rattle.thread_blocks.specs.Turns.{Thread, Turns, at_number, whole_order}
 use Rattle.whole_meaning.specs.declared.marks.Mark.{Mark}
-use Rattle.whole_meaning.specs.Jobs.{job_start as meant_start, meant_world}
+use Rattle.whole_meaning.specs.Jobs.{meant_world}
 use Rattle.whole_meaning.specs.Meanings.{Meaning}
 use Rattle.whole_meaning.specs.Reading.{plain_step}
 use Rattle.whole_meaning.specs.Threads.{meant_accesses, meant_turns, ops}
@@ -120,19 +120,19 @@ IsInOrder l = IsLegal l.infos l.last_offset []
 abbrev pub MachineDataLast : Type 0
 MachineDataLast = (l : Loads ℕ) (fuel : ℕ) (lines : List (List ThreadLine)) → IsInOrder l
     → DataLast l (λ thread. thread_turns l thread fuel) (λ thread. machine_changes l thread)
-    (λ thread. thread_accesses l thread) (job_start l lines)
+    (λ thread. thread_accesses l thread) (job_start plain_operations l lines)
 
 abbrev pub MachineReadsLast : Type 0
 MachineReadsLast = (l : Loads ℕ) (fuel : ℕ) (lines : List (List ThreadLine)) → IsInOrder l
     → ReadsLast l (λ thread. thread_turns l thread fuel) (λ thread. machine_changes l thread)
-    (λ thread. thread_accesses l thread) (job_start l lines)
+    (λ thread. thread_accesses l thread) (job_start plain_operations l lines)
 
 -- data are there, where what is loaded lies below all that threads have for themselves (`LinkedThreadsShareData` of
 -- `linked_jobs` has this of each job whose images link)
 abbrev pub MachineDataThere : Type 0
 MachineDataThere = (l : Loads ℕ) (fuel : ℕ) (lines : List (List ThreadLine)) → IsInOrder l → LiesLow l
     → DataThere l (λ thread. thread_turns l thread fuel) (λ thread. machine_changes l thread)
-    (λ thread. thread_accesses l thread) (job_start l lines)
+    (λ thread. thread_accesses l thread) (job_start plain_operations l lines)
 
 abbrev pub MachineDataAreThere : Type 0
 MachineDataAreThere = MachineDataThere × DataAreHeld ℕ Bool ℕ
@@ -142,7 +142,7 @@ abbrev pub JobsAreOrders : Type 0
 JobsAreOrders = (l : Loads ℕ) (fuel : ℕ) (lines : List (List ThreadLine)) (order : List ℕ)
     → job_world l fuel lines order
     ≡ at_order l (λ thread. thread_turns l thread fuel) (λ thread. machine_changes l thread)
-    (λ thread. thread_accesses l thread) (job_start l lines) (whole_order (4 * fuel) lines order)
+    (λ thread. thread_accesses l thread) (job_start plain_operations l lines) (whole_order (4 * fuel) lines order)
 
 -- a step over a memory that notes its stores is the machine's step
 abbrev pub NotesFollow : Type 0
@@ -156,17 +156,17 @@ NotesFollow = (l : Loads ℕ) (thread : ℕ) (owners : List Owner) (at : After �
 abbrev pub MeantDataLast : Type 0
 MeantDataLast = (m : Meaning) (fuel : ℕ) (lines : List (List ThreadLine)) → IsInOrder m.loads
     → DataLast m.loads (λ thread. meant_turns m thread fuel) (λ thread. meant_changes m thread)
-    (λ thread. meant_accesses m thread) (meant_start m lines)
+    (λ thread. meant_accesses m thread) (job_start ops m.loads lines)
 
 abbrev pub MeantReadsLast : Type 0
 MeantReadsLast = (m : Meaning) (fuel : ℕ) (lines : List (List ThreadLine)) → IsInOrder m.loads
     → ReadsLast m.loads (λ thread. meant_turns m thread fuel) (λ thread. meant_changes m thread)
-    (λ thread. meant_accesses m thread) (meant_start m lines)
+    (λ thread. meant_accesses m thread) (job_start ops m.loads lines)
 
 abbrev pub MeantDataThere : Type 0
 MeantDataThere = (m : Meaning) (fuel : ℕ) (lines : List (List ThreadLine)) → IsInOrder m.loads → LiesLow m.loads
     → DataThere m.loads (λ thread. meant_turns m thread fuel) (λ thread. meant_changes m thread)
-    (λ thread. meant_accesses m thread) (meant_start m lines)
+    (λ thread. meant_accesses m thread) (job_start ops m.loads lines)
 
 abbrev pub MeantDataAreThere : Type 0
 MeantDataAreThere = MeantDataThere × DataAreHeld Word Flag Byte
@@ -175,7 +175,7 @@ abbrev pub MeaningsAreOrders : Type 0
 MeaningsAreOrders = (m : Meaning) (fuel : ℕ) (lines : List (List ThreadLine)) (order : List ℕ)
     → meant_world m fuel lines order
     ≡ at_order m.loads (λ thread. meant_turns m thread fuel) (λ thread. meant_changes m thread)
-    (λ thread. meant_accesses m thread) (meant_start m lines) (whole_order (4 * fuel) lines order)
+    (λ thread. meant_accesses m thread) (job_start ops m.loads lines) (whole_order (4 * fuel) lines order)
 
 -- an instruction of the meaning over a memory that notes its stores is that instruction
 abbrev pub NotesFollowMeaning : Type 0

@@ -34,7 +34,7 @@ use Rattle.relax_sites.specs.Rows.{form_length}
 use Rattle.sequence_forms.specs.Forms.{row}
 use Rattle.sequence_laws.specs.Instructions.{kept_instructions, new_instructions}
 use Rattle.whole_meaning.specs.Sequences.{sequence_result}
-use Rattle.whole_meaning.specs.Threads.{sequence_next, start_in}
+use Rattle.whole_meaning.specs.Threads.{sequence_next}
 use Rattle.site_steps.proofs.Owners.{begins as begins_at}
 use Rattle.site_steps.proofs.Callers.{by_stub, by_word}
 use Rattle.site_steps.proofs.Descriptors.{descriptor_goes}
@@ -43,6 +43,7 @@ use Rattle.site_steps.proofs.Pairs.{IsPair, pair_goes}
 use Rattle.site_steps.specs.Laws.{SequencesAdvance}
 use Rattle.site_steps.proofs.Single.{desc_ie, desc_le, desc_lea, desc_nop, ie_add, ie_add_le, ie_mov, ie_mov_le}
 use Rattle.site_steps.proofs.Written.{gd_ie, gd_le, ld_written}
+use Rattle.std.specs.Option.{option_map_or}
 
 abbrev length_of : Form → ℕ
 length_of Gd = 16
@@ -281,7 +282,7 @@ module _ {g : Setting} {m : Meaning} {q : Loads ℕ} {history : List Event} {thr
   unfolding sequence_result
   sequence_advances h h' call s e =
       subst (λ (o : Option Instance). AnswersTo g m q history thread h h' s
-      (sequence_result (meant_stack m thread) s thread (start_in m thread o) h.after.state h.after.memory))
+      (sequence_result (meant_stack m thread) s thread (option_map_or (block_start thread) o 0) h.after.state h.after.memory))
       (sym b.meant_target) (of_either b.stands.stands)
     where
       b : Begins g m q h h' s

@@ -11,7 +11,7 @@ use Rattle.module_table.specs.Past.{startup_count}
 use Rattle.relax_sites.specs.declared.choices.Choice.{Choice}
 use Rattle.thread_blocks.specs.Held.{Owned, Owner, looked, looked_at, owned, owned_by, owners_of, ranges_in, reached, reached_at}
 use Rattle.thread_blocks.specs.Instances.{Loads, block_start, instance_with_id, numbered_instance}
-use Rattle.thread_blocks.specs.RunTime.{Runs, answer_word, answered as answered_by, resume_line, resumed as run_resumed, resumed_by as run_resumed_by, resumed_in as run_resumed_in}
+use Rattle.thread_blocks.specs.RunTime.{Runs, answer_word, answered as answered_by, resume_line, resumed_by as run_resumed_by, resumed_in as run_resumed_in, resumed}
 use Rattle.thread_blocks.specs.Turns.{Answered, Calls, Says}
 use Rattle.thread_blocks.specs.TurnsAlike.{IsFront, SameBegun}
 use Rattle.transcript_text.specs.declared.outcomes.LineFault.TheVariants.{Unloaded}
@@ -19,7 +19,7 @@ use Rattle.transcript_text.specs.declared.outcomes.Outcome.TheVariants.{Fault}
 use Rattle.whole_meaning.specs.declared.sequences.Sequence.{Sequence}
 use Rattle.whole_meaning.specs.Meanings.{Meaning}
 use Rattle.whole_meaning.specs.Sequences.{asks, sequence_result}
-use Rattle.whole_meaning.specs.Threads.{Meant, came_late, code_owner, hidden_below, meant_stack, resume_meant, resumed, resumed_at, resumed_by, resumed_for, sequence_at, sequence_does}
+use Rattle.whole_meaning.specs.Threads.{Meant, came_late, code_owner, hidden_below, meant_stack, resume_meant, resumed_at, resumed_by, resumed_for, sequence_at, sequence_does}
 use Rattle.held_alike.proofs.Lent.{as_many, both_again, held_alike, owners_alike, ranges_alike}
 use Rattle.held_alike.proofs.Looks.{looked_alike, reached_alike}
 use Rattle.tied_meaning.specs.Numbers.{Setting, SameWord}
@@ -205,7 +205,7 @@ module _ {g : Setting} {m : Meaning} {q : Loads ℕ} {history : List Event} {thr
           ≡ Calls (meant_after x (answer_for m thread s (block_start thread x) s.form)) =
           ap (resumed_for m thread meant_now) found ∙ (ap (resumed_at m thread meant_now) sequence_now
           ∙ (ap (resumed_by m thread meant_now s) target
-          ∙ ap (resumed m thread (meant_there x)) (meant_result x target parts.0))) in
+          ∙ ap (resumed (meant_there x)) (meant_result x target parts.0))) in
           let runs_side : run_resumed_by q thread seen runs_now h'.asked
           ≡ Calls (runs_after x (answer_word q thread wait.asked x)) =
           ap (run_resumed_by q thread seen runs_now) wait.is

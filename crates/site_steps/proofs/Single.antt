@@ -32,7 +32,7 @@ use Rattle.thread_blocks.specs.Instances.{Loads, block_start}
 use Rattle.thread_blocks.specs.RunTime.{Runs, thread_accesses}
 use Rattle.whole_meaning.specs.declared.sequences.Sequence.{Sequence}
 use Rattle.whole_meaning.specs.Meanings.{Meaning}
-use Rattle.whole_meaning.specs.Sequences.{added, described, descriptor_called, descriptor_use, loaded, stack_use, without_flags, variable_distance, with_answer, with_sum}
+use Rattle.whole_meaning.specs.Sequences.{added, described, descriptor_called, descriptor_use, loaded, stack_use, without_flags, variable_distance, with_sum}
 use Rattle.whole_meaning.specs.Threads.{Meant, Memory, meant_stack}
 use Rattle.tied_meaning.specs.Numbers.{Setting, SameWord, alike}
 use Rattle.tied_meaning.specs.Sites.{HasInstruction, HasWord, IsDistance}
@@ -43,6 +43,7 @@ use Rattle.site_steps.proofs.Owners.{Begins}
 use Rattle.site_steps.proofs.Called.{AdvancesTo, described_same, goes_to, hidden_call, stack_room}
 use Rattle.site_steps.proofs.Steps.{in_place, one_move, small_place, stepped, still_in_call, sum_small}
 use Rattle.tied_memory.proofs.Standing.{word_read}
+use Rattle.guest_machine.specs.Machine.{with_answer}
 
 -- a descriptor that %rax holds
 pub descriptor_is : (g : Setting) (s : Sequence) (w : Word) (n : ℕ) → descriptor_use s w ≡ Ok tt → SameWord g w n
@@ -269,7 +270,7 @@ module _ {g : Setting} {m : Meaning} {q : Loads ℕ} {history : List Event} {thr
           → stack_use (meant_stack m thread) h.after.state h.after.memory ≡ r
           → Goal (next_of ((clean h.after.state.place (both d r)) >>= (λ (uses : Unit {0} × ℕ).
           Ok (left (at_place (without_flags
-          (with_answer (Number (variable_distance s begin h.after.state.thread_pointer)) h.after.state)) s.next)
+          (with_answer h.after.state (Number (variable_distance s begin h.after.state.thread_pointer)))) s.next)
           ((meant_stack m thread).forget h.after.memory uses.1)))))
       of_uses (Err why) (Ok stack) e f = inl tt
       of_uses (Err why) (Err other) e f = inl tt

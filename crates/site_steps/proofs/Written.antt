@@ -24,7 +24,7 @@ use Rattle.thread_blocks.specs.Instances.{Loads, block_start}
 use Rattle.thread_blocks.specs.RunTime.{Runs, thread_accesses, thread_steps}
 use Rattle.whole_meaning.specs.declared.sequences.Sequence.{Sequence}
 use Rattle.whole_meaning.specs.Meanings.{Meaning}
-use Rattle.whole_meaning.specs.Sequences.{after_call, called_with, own_base, stack_use, variable_address, variable_distance, with_answer}
+use Rattle.whole_meaning.specs.Sequences.{after_call, called_with, own_base, stack_use, variable_address, variable_distance}
 use Rattle.whole_meaning.specs.Threads.{Meant, Memory, meant_stack}
 use Rattle.tied_meaning.specs.Numbers.{Setting, SameWord}
 use Rattle.tied_meaning.specs.Sites.{HasInstruction, HasWord, IsDistance}
@@ -36,6 +36,7 @@ use Rattle.site_steps.proofs.Called.{AdvancesTo, called_same, goes_to, hidden_ca
 use Rattle.site_steps.proofs.Steps.{StepsTo, in_place, one_move, small_place, stepped, sum_small, then_moves}
 use Rattle.tied_memory.proofs.Pointer.{pointer_read}
 use Rattle.tied_memory.proofs.Standing.{word_read}
+use Rattle.guest_machine.specs.Machine.{with_answer}
 
 module _ {g : Setting} {m : Meaning} {q : Loads ℕ} {history : List Event} {thread : ℕ} (tied : AreTied g m q history)
     (low : 1 ≤ thread) (high : thread ≤ 64) {h : Meant} {h' : Runs} (call : InCall g m q history thread h h')
@@ -98,7 +99,7 @@ module _ {g : Setting} {m : Meaning} {q : Loads ℕ} {history : List Event} {thr
     where
       of_use : (r : Result ℕ Cause) → stack_use (meant_stack m thread) h.after.state h.after.memory ≡ r
           → Goal (next_of ((clean h.after.state.place r) >>= (λ (below : ℕ).
-          Ok (left (at_place (with_answer word (after_call h.after.state)) s.next)
+          Ok (left (at_place (with_answer (after_call h.after.state) word) s.next)
           ((meant_stack m thread).forget h.after.memory below)))))
       of_use (Err why) e = inl tt
       of_use (Ok stack) e =

@@ -1,6 +1,6 @@
 -- The laws for a thread of a job's meaning.
 use Rattle.std.proofs.Common.{◌≡◌, ℕ, Bool, true, false, Option, Some, None, Result, Ok, Err, refl, sym, ap, subst, ◌∙◌}
-use Rattle.std.specs.Prelude.{◌||◌, if◌then◌else◌, ok_or, option_map}
+use Rattle.std.specs.Prelude.{◌||◌, if◌then◌else◌, ok_or, option_map, unwrap_or}
 use Rattle.std.specs.List.{list_any}
 use Rattle.guest_operands.specs.declared.stop.Stop.{Stop}
 use Rattle.guest_operands.specs.Access.{Accesses, Refused}
@@ -13,7 +13,7 @@ use Rattle.thread_blocks.specs.Spaces.{space_accesses}
 use Rattle.whole_meaning.specs.declared.sequences.Sequence.{Sequence}
 use Rattle.whole_meaning.specs.Meanings.{Meaning}
 use Rattle.whole_meaning.specs.Reading.{marked_step, reaches_linker}
-use Rattle.whole_meaning.specs.Running.{meaning, sequence_or}
+use Rattle.whole_meaning.specs.Running.{meaning}
 use Rattle.whole_meaning.specs.Threads.{Meant, Memory, held_next, meant_accesses, meant_mark, meant_shut, meant_steps, ops, sequence_at}
 use Rattle.step_laws.specs.Laws.{StepsAreAsTold, TouchedBytesAreNeeded}
 use Rattle.step_laws.specs.Steps.{HasNoCause, StartsNoSequence, data_touched, step_over, without}
@@ -26,7 +26,7 @@ found-open None = tt
 found-open (Some b) = tt
 
 no-sequence : {S : Type 0} (o : Option Sequence) (f : Sequence → Next S) (next : Next S) → o ≡ None
-    → sequence_or (option_map f o) next ≡ next
+    → unwrap_or (option_map f o) next ≡ next
 no-sequence None f next e = refl
 no-sequence (Some s) f next e = absurd cc
 

@@ -9,11 +9,12 @@ use Rattle.thread_blocks.specs.Lines.{event_by}
 use Rattle.thread_blocks.specs.RunTime.{thread_turns}
 use Rattle.thread_blocks.specs.Turns.{enough, ready}
 use Rattle.thread_blocks.proofs.Orders.{HasLeft, order_ends}
+use Rattle.guest_arithmetic.specs.Plain.{plain_operations}
 
 -- which thread stands where at first
 pub thread_at : (l : Loads ℕ) (first : ℕ) (lines : List (List ThreadLine)) (i number : ℕ) (own : List ThreadLine)
     → number ≡ first + i → slice_get lines i ≡ Some own
-    → slice_get (ready_from l first lines) i ≡ Some (ready (thread_ready l number) (numbered_lines 1 own))
+    → slice_get (ready_from plain_operations l first lines) i ≡ Some (ready (thread_ready plain_operations l number) (numbered_lines 1 own))
 thread_at l first [] i number own e at = cc
 thread_at l first (lines ∷ more) zero number own e at =
     let same : number ≡ first = omega arith in
@@ -30,10 +31,10 @@ module _ (l : Loads ℕ) (fuel : ℕ) where
   within i = omega arith
 
   first_left : (lines : List (List ThreadLine)) (i : ℕ) (own : List ThreadLine) → slice_get lines i ≡ Some own
-      → HasLeft (λ thread. thread_turns l thread fuel) (λ thread. event_by l thread) (4 * fuel) within (job_start l lines) i
+      → HasLeft (λ thread. thread_turns l thread fuel) (λ thread. event_by l thread) (4 * fuel) within (job_start plain_operations l lines) i
       (enough (4 * fuel) (length own))
   first_left lines i own at = (
-    ready (thread_ready l (suc i)) (numbered_lines 1 own),
+    ready (thread_ready plain_operations l (suc i)) (numbered_lines 1 own),
     (thread_at l 1 lines i (suc i) own (omega arith) at, rw (as_many 1 own) (omega arith)),
   )
 
@@ -43,4 +44,4 @@ unfolding job_world
 threads_ended l fuel lines order zero own at = cc
 threads_ended l fuel lines order (suc i) own at =
     order_ends (λ thread. thread_turns l thread fuel) (λ thread. event_by l thread) (4 * fuel) (within l fuel) lines order
-    (job_start l lines) i own at (first_left l fuel lines i own at)
+    (job_start plain_operations l lines) i own at (first_left l fuel lines i own at)

@@ -12,6 +12,7 @@ use Rattle.thread_blocks.specs.JobWorlds.{Shared, job_world, job_start, shared_o
 use Rattle.thread_blocks.specs.Lines.{Line, event_at, event_by, unless_refused}
 use Rattle.thread_blocks.specs.RunTime.{Runs, thread_turns}
 use Rattle.thread_blocks.specs.Turns.{Thread, at_number, event_of, next_line, whole_order, with_event}
+use Rattle.guest_arithmetic.specs.Plain.{plain_operations}
 
 -- an event that is not refused
 pub is_event : {R : Type 0} (refusal : Option R) (e found : Event) → unless_refused refusal e ≡ Some found
@@ -85,4 +86,4 @@ none_legal l = refl
 pub histories_legal : HistoriesAreLegal
 unfolding job_world
 histories_legal l fuel lines order =
-    legal_order l fuel (whole_order (4 * fuel) lines order) (job_start l lines) (none_legal l)
+    legal_order l fuel (whole_order (4 * fuel) lines order) (job_start plain_operations l lines) (none_legal l)

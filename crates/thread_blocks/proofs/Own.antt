@@ -39,30 +39,30 @@ module _ (l : Loads ℕ) (none : HasNoData l) (fuel : ℕ) where
   no_first (y ∷ ys) = no_range y (flat_map (data_after l (λ y. true) []) ys) ∙ no_first ys
 
   -- a thread before its first line
-  ready_holds : (first : ℕ) → HoldsBlocks (thread_ready l first)
+  ready_holds : (first : ℕ) → HoldsBlocks (thread_ready plain_operations l first)
   ready_holds first = look_holds l none first [] (record {
-    after = left (start_of plain_operations 0 0 0 0 0) (record { seen = []; stack = []; own = [] });
+    after = left (start_of plain_operations 0 0 (plain_operations.word 0) (plain_operations.word 0) (plain_operations.word 0)) (record { seen = []; stack = []; own = [] });
     owners = [];
     asked = None;
   })
 
-  first_holds : (first : ℕ) (lines : List (List ThreadLine)) (i : ℕ) (t : Ours) → slice_get (ready_from l first lines) i ≡ Some t → Holds t
+  first_holds : (first : ℕ) (lines : List (List ThreadLine)) (i : ℕ) (t : Ours) → slice_get (ready_from plain_operations l first lines) i ≡ Some t → Holds t
   first_holds first [] i t found = cc
   first_holds first (own ∷ lines) zero t found =
-      let same : ready (thread_ready l first) (numbered_lines 1 own) ≡ t = cc in
+      let same : ready (thread_ready plain_operations l first) (numbered_lines 1 own) ≡ t = cc in
       subst Holds same (ready_holds first)
   first_holds first (own ∷ lines) (suc i) t found = first_holds (suc first) lines i t found
 
-  first_saw : (first : ℕ) (lines : List (List ThreadLine)) (i : ℕ) (t : Ours) → slice_get (ready_from l first lines) i ≡ Some t
+  first_saw : (first : ℕ) (lines : List (List ThreadLine)) (i : ℕ) (t : Ours) → slice_get (ready_from plain_operations l first lines) i ≡ Some t
       → IsFront t.seen []
   first_saw first [] i t found = cc
   first_saw first (own ∷ lines) zero t found =
-      let same : ready (thread_ready l first) (numbered_lines 1 own) ≡ t = cc in
+      let same : ready (thread_ready plain_operations l first) (numbered_lines 1 own) ≡ t = cc in
       subst (λ (u : Ours). IsFront u.seen []) same ([], refl)
   first_saw first (own ∷ lines) (suc i) t found = first_saw (suc first) lines i t found
 
   starts : (lines : List (List ThreadLine))
-      → IsOn each event (λ thread. keeps_blocks l none thread fuel) (job_start l lines)
+      → IsOn each event (λ thread. keeps_blocks l none thread fuel) (job_start plain_operations l lines)
   starts lines = record {
     shared = no_first (instances l []);
     holds = λ i t found. first_holds 1 lines i t found;
@@ -75,6 +75,6 @@ unfolding job_world
 own_turns l fuel lines order zero own none at = cc
 own_turns l fuel lines order (suc i) own none at =
     let points = order_points (λ thread. thread_turns l thread fuel) (λ thread. event_by l thread)
-    (λ thread. keeps_blocks l none thread fuel) (whole_order (4 * fuel) lines order) i (job_start l lines)
-    (ready (thread_ready l (suc i)) (numbered_lines 1 own)) (thread_at l 1 lines i (suc i) own (omega arith) at)
+    (λ thread. keeps_blocks l none thread fuel) (whole_order (4 * fuel) lines order) i (job_start plain_operations l lines)
+    (ready (thread_ready plain_operations l (suc i)) (numbered_lines 1 own)) (thread_at l 1 lines i (suc i) own (omega arith) at)
     (starts l none fuel lines) in (points.points, points.rises, points.fronts, points.thread)

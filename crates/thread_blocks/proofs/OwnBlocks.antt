@@ -11,7 +11,7 @@ use Rattle.thread_blocks.specs.declared.asked.Asked.{Asked}
 use Rattle.thread_blocks.specs.Held.{Owner, looked, reached}
 use Rattle.thread_blocks.specs.Instances.{Loads, instance_with_id, numbered_instance}
 use Rattle.thread_blocks.specs.JobStatements.{HasNoData}
-use Rattle.thread_blocks.specs.RunTime.{Runs, thread_turns, answered, resume_line, resumed, resumed_by, resumed_in, shows, thread_accesses, thread_steps}
+use Rattle.thread_blocks.specs.RunTime.{Runs, thread_turns, answered, resume_line, resumed_by, resumed_in, shows, thread_accesses, thread_steps, resumed}
 use Rattle.thread_blocks.specs.Spaces.{Space, space_accesses, stack_range}
 use Rattle.thread_blocks.specs.Turns.{Answered, Begun, Calls, Says}
 use Rattle.transcript_text.specs.declared.outcomes.LineFault.TheVariants.{Unloaded}
@@ -58,7 +58,7 @@ module _ (l : Loads ℕ) (none : HasNoData l) (thread : ℕ) where
   resumed_in_holds asked h None holds = holds
   resumed_in_holds asked h (Some x) holds =
       let now = reach_holds l none thread x h in
-      begun_are (resumed l thread (reached l thread x h) (answered l thread asked x (reached l thread x h)))
+      begun_are (resumed (reached l thread x h) (answered l thread asked x (reached l thread x h)))
       (steps.resumed_holds l thread Keeps put_keeps asked x (reached l thread x h) now)
 
   resumed_by_holds : (seen : List Event) (h : Runs) (asked : Option Asked) → HoldsBlocks h

@@ -13,7 +13,7 @@ use Rattle.module_table.specs.declared.events.Event.{Event}
 use Rattle.thread_blocks.specs.declared.asked.Asked.{Asked}
 use Rattle.thread_blocks.specs.Held.{Owner}
 use Rattle.thread_blocks.specs.Instances.{Loads, instance_with_id, is_startup_id}
-use Rattle.thread_blocks.specs.RunTime.{Runs, answer_word, answered, asked_at, asked_next, found_at_once, goes_answered, resumed, thread_accesses, thread_next, thread_steps}
+use Rattle.thread_blocks.specs.RunTime.{Runs, answer_word, answered, asked_at, asked_next, found_at_once, goes_answered, thread_accesses, thread_next, thread_steps, resumed}
 use Rattle.thread_blocks.specs.Spaces.{Space, IsImage, after_of, mapped, next_image, no_field}
 use Rattle.thread_blocks.specs.Turns.{Begun, Says, Calls}
 use Rattle.thread_blocks.proofs.Image.{machine_image, return_of-image}
@@ -155,10 +155,10 @@ module _ (l : Loads ℕ) (thread : ℕ) (Keeps : List Owner → Space Event ℕ 
 
   -- an answer in the middle of a line
   resumed_of : (h : Runs) (result : Result (After ℕ Bool (Space Event ℕ)) Stop) → Holds h → ResultFine h.owners result
-      → BegunHolds (resumed l thread h result)
+      → BegunHolds (resumed h result)
   resumed_of h (Ok at) holds fine = fine
   resumed_of h (Err stop) holds fine = holds
 
   pub resumed_holds : (asked : Asked) (x : Instance) (h : Runs) → Holds h
-      → BegunHolds (resumed l thread h (answered l thread asked x h))
+      → BegunHolds (resumed h (answered l thread asked x h))
   resumed_holds asked x h holds = resumed_of h (answered l thread asked x h) holds (answer_holds asked x h holds)

@@ -38,9 +38,8 @@ pub record Held (W F B : Type 0) : Type 0 where
 -- ---- ranges with their owners
 
 abbrev pub owned : {B : Type 0} → List Owner → List (Range B) → List (Owned B)
-owned [] ranges = []
-owned (o ∷ os) [] = []
 owned (o ∷ os) (r ∷ rs) = record { owner = o; range = r } ∷ owned os rs
+owned owners ranges = []
 
 abbrev pub owners_of : {B : Type 0} → List (Owned B) → List Owner
 owners_of xs = map (λ x. x.owner) xs
@@ -83,10 +82,9 @@ block_with thread x (Some bytes) =
 
 -- the instance's data with these bytes, at their address, if there are any
 abbrev pub data_with : {B : Type 0} → Instance → Option (Range B) → Option (List B) → List (Owned B)
-data_with x None bytes = []
-data_with x (Some range) None = []
 data_with x (Some range) (Some bytes) =
     record { owner = record { kind = Data; instance = x.number }; range = record range { bytes = bytes } } ∷ []
+data_with x range bytes = []
 
 abbrev pub fresh_if : {A : Type 0} → Bool → A → Option A
 fresh_if true fresh = Some fresh

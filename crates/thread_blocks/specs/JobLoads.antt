@@ -1,6 +1,6 @@
 -- What is loaded of a job's images: each part of a live instance at its address, as the loader leaves it, with the
 -- rights of its class (gABI, "Program Loading").
-use Rattle.std.specs.Prelude.{◌+◌, ◌&&◌, ℕ, not, suc, List, [], ◌∷◌, Option, Some, None, option_and_then, option_map, if◌then◌else◌}
+use Rattle.std.specs.Prelude.{◌+◌, ◌==◌, ◌&&◌, ℕ, false, not, suc, List, [], ◌∷◌, Option, Some, None, option_and_then, option_map, if◌then◌else◌}
 use Rattle.std.specs.List.{filter, find}
 use Rattle.guest_machine.specs.Ranges.{Range}
 use Rattle.image_file.specs.Spelled.{Part, Spelled, is_writable}
@@ -9,17 +9,17 @@ use Rattle.loaded_modules.specs.Images.{JobImages, image_at, infos, last_offset}
 use Rattle.loaded_modules.specs.Loader.{bias, fresh_block, part_bytes}
 use Rattle.thread_blocks.specs.Instances.{Loads}
 use Rattle.image_names.specs.declared.variable.Variable.{Variable}
-use Rattle.image_names.specs.Functions.{entry_in}
+use Rattle.image_names.specs.Functions.{entry_in, is_code}
 use Rattle.image_names.specs.Variables.{variable_in}
-use Rattle.thread_blocks.specs.Loading.{is_code, is_loaders}
+use Rattle.std.specs.Option.{option_map_or}
 
--- part i of an image, in an instance
+-- part i of an image, in an instance; one of them, the GOT, only the loader writes
 abbrev pub instance_part : JobImages → Spelled → Instance → ℕ → Part → Range ℕ
 instance_part m image x i part = record {
   start = part.address + bias image.kind x.number;
   bytes = part_bytes m image x part;
   readable = not (is_code part.class);
-  writable = is_writable part.class && not (is_loaders image.got i);
+  writable = is_writable part.class && not (option_map_or (λ got. got == i) image.got false);
   runnable = is_code part.class;
 }
 
@@ -27,23 +27,14 @@ abbrev pub parts_from : JobImages → Spelled → Instance → ℕ → List Part
 parts_from m image x i [] = []
 parts_from m image x i (part ∷ more) = instance_part m image x i part ∷ parts_from m image x (suc i) more
 
-abbrev pub parts_of : JobImages → Instance → Option Spelled → List (Range ℕ)
-parts_of m x None = []
-parts_of m x (Some image) = parts_from m image x 0 image.parts
-
 abbrev pub loaded_parts : JobImages → Instance → List (Range ℕ)
-loaded_parts m x = parts_of m x (image_at m x.image)
+loaded_parts m x = option_map_or (λ image. parts_from m image x 0 image.parts) (image_at m x.image) []
 
 -- the parts that the loader or threads write
 abbrev pub written_from : List Part → List (Range ℕ) → List (Range ℕ)
-written_from [] ranges = []
-written_from (part ∷ parts) [] = []
 written_from (part ∷ parts) (range ∷ ranges) =
     if is_writable part.class then range ∷ written_from parts ranges else written_from parts ranges
-
-abbrev pub tables_in : JobImages → Instance → Option Spelled → List (Range ℕ)
-tables_in m x None = []
-tables_in m x (Some image) = written_from image.parts (parts_from m image x 0 image.parts)
+written_from parts ranges = []
 
 -- all that is loaded of a job's images
 unfoldable pub job_loads : JobImages → Loads ℕ
@@ -55,7 +46,8 @@ job_loads m = record {
   variable = λ image name. option_map (λ (v : Variable). v.offset)
       (option_and_then (λ found. variable_in found name) (image_at m image));
   fixed = λ x. filter (λ (range : Range ℕ). not range.writable) (loaded_parts m x);
-  tables = λ x. tables_in m x (image_at m x.image);
+  tables = λ x. option_map_or (λ image. written_from image.parts (parts_from m image x 0 image.parts))
+      (image_at m x.image) [];
   shared = λ x. find (λ (range : Range ℕ). range.writable) (loaded_parts m x);
   block = λ x. fresh_block m x;
 }

@@ -13,6 +13,7 @@ use Rattle.thread_blocks.specs.Lines.{Line}
 use Rattle.thread_blocks.specs.RunTime.{Runs, thread_turns}
 use Rattle.thread_blocks.specs.Turns.{IsFinished, Thread, at_number, ready, turns}
 use Rattle.thread_blocks.specs.TurnsAlike.{AllFronts, IsFront, Rises}
+use Rattle.guest_arithmetic.specs.Plain.{plain_operations}
 
 -- each open and close of a job was accepted after those before it, whatever is loaded, in any order of turns
 abbrev pub HistoriesAreLegal : Type 0
@@ -48,4 +49,4 @@ ThreadsTakeTheirOwnTurns = (l : Loads ℕ) (fuel : ℕ) (lines : List (List Thre
     → (points : List (List Event)) × Rises IsFront [] points
     × AllFronts points (job_world l fuel lines order).events
     × (at_number (job_world l fuel lines order).threads thread
-    ≡ Some (turns (thread_turns l thread fuel) (ready (thread_ready l thread) (numbered_lines 1 own)) points))
+    ≡ Some (turns (thread_turns l thread fuel) (ready (thread_ready plain_operations l thread) (numbered_lines 1 own)) points))

@@ -12,8 +12,9 @@ use Rattle.thread_blocks.specs.Held.{Held, Owned, owned_by, with_owned, data_aft
 use Rattle.thread_blocks.specs.Instances.{Loads, instances}
 use Rattle.thread_blocks.specs.Lines.{Line, event_by}
 use Rattle.thread_blocks.specs.MachineTurns.{shown}
-use Rattle.thread_blocks.specs.RunTime.{Runs, thread_turns}
+use Rattle.thread_blocks.specs.RunTime.{thread_turns}
 use Rattle.thread_blocks.specs.Turns.{Phase, Idle, Mid, Thread, Turns, at_number, with_number, event_of, ready, turn, whole_order, with_event}
+use Rattle.guest_arithmetic.specs.Values.{Operations}
 
 -- B: a byte
 pub record Shared (W F B L : Type 0) : Type 0 where
@@ -45,18 +46,13 @@ module _ {W F B : Type 0} where
 
   module _ {L : Type 0} (x : ℕ → Turns (Held W F B) L Event) (event : ℕ → L → List Event → Option Event) where
     -- a turn of thread i, which holds the data
-    abbrev pub shared_after : Shared W F B L → ℕ → Thread (Held W F B) L Event → Option Event
-        → Thread (Held W F B) L Event → Shared W F B L
-    shared_after w i t e after = record {
-      threads = with_number w.threads i (without_data after);
-      events = with_event w.events e;
-      shared = data_in (owned_by (held_in after.phase));
-    }
-
     abbrev pub shared_turn : Shared W F B L → ℕ → Option (Thread (Held W F B) L Event) → Shared W F B L
     shared_turn w i None = w
-    shared_turn w i (Some t) =
-        shared_after w i t (event_of (event i) t w.events) (turn (x i) (with_data w.shared t) w.events)
+    shared_turn w i (Some t) = let after = turn (x i) (with_data w.shared t) w.events in record {
+      threads = with_number w.threads i (without_data after);
+      events = with_event w.events (event_of (event i) t w.events);
+      shared = data_in (owned_by (held_in after.phase));
+    }
 
     abbrev pub shared_order : List ℕ → Shared W F B L → Shared W F B L
     shared_order [] w = w
@@ -67,33 +63,36 @@ pub record Tells {W F B : Type 0} (w : Shared W F B Line) (transcript : Shown) :
   pub events : transcript.events ≡ w.events
   pub lines : map (map Some) transcript.threads ≡ map (λ t. map shown t.said) w.threads
 
--- ---- the machine's threads
+-- ---- before the first turn
 
 abbrev pub numbered_lines : ℕ → List ThreadLine → List Line
 numbered_lines number [] = []
 numbered_lines number (line ∷ lines) = record { number = number; told = line } ∷ numbered_lines (suc number) lines
 
--- a thread before its first line: it has the blocks of the startup images
-abbrev pub thread_ready : Loads ℕ → ℕ → Runs
-thread_ready l thread = looked l thread [] (record {
-  after = left (start_of plain_operations 0 0 0 0 0) (record { seen = []; stack = []; own = [] });
-  owners = [];
-  asked = None;
-})
-
-abbrev pub ready_from : Loads ℕ → ℕ → List (List ThreadLine) → List (Thread Runs Line Event)
-ready_from l thread [] = []
-ready_from l thread (lines ∷ more) =
-    ready (thread_ready l thread) (numbered_lines 1 lines) ∷ ready_from l (suc thread) more
-
 -- before the first turn the data are those of the startup images
-abbrev pub first_data : Loads ℕ → List (Owned ℕ)
+abbrev pub first_data : {B : Type 0} → Loads B → List (Owned B)
 first_data l = flat_map (data_after l (λ x. true) []) (instances l [])
 
-abbrev pub job_start : Loads ℕ → List (List ThreadLine) → Shared ℕ Bool ℕ Line
-job_start l lines = record { threads = ready_from l 1 lines; events = []; shared = first_data l }
+module _ {W F B : Type 0} (ops : Operations W F B) (l : Loads B) where
+  -- a thread before its first line: it has the blocks of the startup images
+  abbrev pub thread_ready : ℕ → Held W F B
+  thread_ready thread = looked l thread [] (record {
+    after = left (start_of ops 0 0 (ops.word 0) (ops.word 0) (ops.word 0)) (record { seen = []; stack = []; own = [] });
+    owners = [];
+    asked = None;
+  })
+
+  abbrev pub ready_from : ℕ → List (List ThreadLine) → List (Thread (Held W F B) Line Event)
+  ready_from thread [] = []
+  ready_from thread (lines ∷ more) =
+      ready (thread_ready thread) (numbered_lines 1 lines) ∷ ready_from (suc thread) more
+
+  abbrev pub job_start : List (List ThreadLine) → Shared W F B Line
+  job_start lines = record { threads = ready_from 1 lines; events = []; shared = first_data l }
+
+-- ---- the machine's threads
 
 -- all turns of a job: those of its order, and then each thread up to its end
 unfoldable pub job_world : Loads ℕ → ℕ → List (List ThreadLine) → List ℕ → Shared ℕ Bool ℕ Line
 job_world l fuel lines order = shared_order (λ thread. thread_turns l thread fuel) (λ thread. event_by l thread)
-    (whole_order (4 * fuel) lines order) (job_start l lines)
+    (whole_order (4 * fuel) lines order) (job_start plain_operations l lines)

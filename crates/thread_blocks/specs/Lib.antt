@@ -2,7 +2,6 @@ pub mod Turns
 pub mod TurnsAlike
 pub mod Spaces
 pub mod MachineTurns
-pub mod Loading
 pub mod Held
 pub mod Instances
 pub mod JobLoads

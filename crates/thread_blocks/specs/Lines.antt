@@ -7,10 +7,10 @@ use Rattle.job_text.specs.declared.thread_lines.Action.TheVariants.{Call, Open, 
 use Rattle.job_text.specs.declared.thread_lines.ThreadLine.{ThreadLine}
 use Rattle.loaded_modules.specs.declared.instance.Instance.{Instance}
 use Rattle.module_table.specs.declared.events.CloseRefusal.{CloseRefusal}
-use Rattle.module_table.specs.declared.events.CloseRefusal.TheVariants.{Permanent, NotOpen, OutOfMemory as NoRoomToClose}
+use Rattle.module_table.specs.declared.events.CloseRefusal.TheVariants.{Permanent}
 use Rattle.module_table.specs.declared.events.Event.{Event}
 use Rattle.module_table.specs.declared.events.OpenRefusal.{OpenRefusal}
-use Rattle.module_table.specs.declared.events.OpenRefusal.TheVariants.{Unknown, Full, StaticFull, OutOfMemory as NoRoomToOpen}
+use Rattle.module_table.specs.declared.events.OpenRefusal.TheVariants.{Unknown, StaticFull}
 use Rattle.module_table.specs.Modules.{is_loaded}
 use Rattle.module_table.specs.Past.{open_refusal, close_refusal, module_of}
 use Rattle.transcript_text.specs.declared.outcomes.LineRefusal.{LineRefusal}
@@ -18,8 +18,9 @@ use Rattle.transcript_text.specs.declared.outcomes.LineRefusal.TheVariants.{Unkn
 use Rattle.transcript_text.specs.declared.outcomes.Outcome.TheVariants.{Opened, Closed, Refused}
 use Rattle.thread_blocks.specs.Instances.{Loads, instance_at, left_by}
 use Rattle.thread_blocks.specs.Held.{Held, block_bytes, owned_by, loaded, looked, reached}
-use Rattle.thread_blocks.specs.MachineTurns.{call_start, fresh_space}
+use Rattle.thread_blocks.specs.MachineTurns.{call_start, fresh_stack}
 use Rattle.thread_blocks.specs.Turns.{Ending, Answered, Begun, Says, Calls, with_last}
+use Rattle.std.specs.Option.{option_map_or}
 
 -- a line of a thread, with its number, from 1
 pub record Line : Type 0 where
@@ -30,14 +31,12 @@ pub record Line : Type 0 where
 
 abbrev pub refused_open : OpenRefusal → LineRefusal
 refused_open Unknown = UnknownImage
-refused_open Full = TooMany
 refused_open StaticFull = NoSurplus
-refused_open NoRoomToOpen = TooMany
+refused_open refusal = TooMany
 
 abbrev pub refused_close : CloseRefusal → LineRefusal
 refused_close Permanent = Stays
-refused_close NotOpen = IsClosed
-refused_close NoRoomToClose = IsClosed
+refused_close refusal = IsClosed
 
 abbrev pub unless_refused : {R : Type 0} → Option R → Event → Option Event
 unless_refused None e = Some e
@@ -51,12 +50,11 @@ abbrev pub event_by : {B : Type 0} → Loads B → ℕ → Line → List Event �
 event_by l thread line seen = added line.told.action
   where
     added : Action → Option Event
-    added (Call symbol a b c) = None
     added Open = unless_refused (open_refusal (left_by l seen) line.told.image)
         (event_at thread line.number true line.told.image)
     added Close = unless_refused (close_refusal (left_by l seen) line.told.image)
         (event_at thread line.number false line.told.image)
-    added (Peek symbol size) = None
+    added action = None
 
 -- ---- the start of a line
 
@@ -69,7 +67,7 @@ module _ {W F B : Type 0} (ops : Operations W F B) (l : Loads B) (show : List B 
   abbrev pub begun_at : List ℕ → ℕ → ℕ → ℕ → Held W F B → Option ℕ → Begun (Held W F B)
   begun_at symbol a b c h None = refused NoSymbol h
   begun_at symbol a b c h (Some place) = Calls (record h {
-    after = left (call_start ops thread place a b c) (fresh_space ops h.after.memory.seen h.after.memory.own);
+    after = left (call_start ops thread place a b c) (record h.after.memory { stack = fresh_stack ops });
   })
 
   abbrev pub begun_in : List ℕ → ℕ → ℕ → ℕ → Held W F B → Option Instance → Begun (Held W F B)
@@ -78,13 +76,8 @@ module _ {W F B : Type 0} (ops : Operations W F B) (l : Loads B) (show : List B 
 
   -- an accepted event is seen at once, and a load fills its instance's data
   abbrev pub with_load : Bool → Option Instance → Held W F B → Held W F B
-  with_load true x h = h
-  with_load false None h = h
   with_load false (Some x) h = loaded l thread x h
-
-  abbrev pub opened_as : Option Instance → ℕ
-  opened_as None = 0
-  opened_as (Some x) = x.number
+  with_load was x h = h
 
   abbrev pub begun_open : Line → List Event → Held W F B → Option OpenRefusal → Begun (Held W F B)
   begun_open line seen h (Some refusal) = refused (refused_open refusal) h
@@ -92,7 +85,7 @@ module _ {W F B : Type 0} (ops : Operations W F B) (l : Loads B) (show : List B 
       let all = with_last seen (event_at thread line.number true line.told.image) in
       let x = instance_at l all line.told.image in
       let was = is_loaded (module_of (left_by l seen) line.told.image) in
-      Says (Answered (Opened (opened_as x))) (with_load was x (looked l thread all h))
+      Says (Answered (Opened (option_map_or (λ (x : Instance). x.number) x 0))) (with_load was x (looked l thread all h))
 
   abbrev pub begun_close : Line → List Event → Held W F B → Option CloseRefusal → Begun (Held W F B)
   begun_close line seen h (Some refusal) = refused (refused_close refusal) h

@@ -2,7 +2,6 @@
 use Rattle.std.specs.Prelude.{ℕ, ◌-◌, true, false, List, ◌++◌, replicate, Option, Some, None, option_map}
 use Rattle.address_map.specs.Map.{pointer_of, return_place, stack_end, stack_size}
 use Rattle.guest_operands.specs.declared.state.State.{State}
-use Rattle.guest_operands.specs.declared.stop.Stop.{Stop}
 use Rattle.guest_operands.specs.declared.stop.Stop.TheVariants.{Returned, Look, Address, Code, Unclean, Steps}
 use Rattle.guest_machine.specs.Access.{bytes_from}
 use Rattle.guest_machine.specs.Ranges.{Range}
@@ -12,7 +11,6 @@ use Rattle.transcript_text.specs.declared.outcomes.Line.{Line}
 use Rattle.transcript_text.specs.declared.outcomes.LineFault.TheVariants.{Address as AddressFault, Code as CodeFault, Steps as StepsFault}
 use Rattle.transcript_text.specs.declared.outcomes.Outcome.{Outcome as Answer}
 use Rattle.transcript_text.specs.declared.outcomes.Outcome.TheVariants.{Returned as ReturnedAnswer, Fault}
-use Rattle.thread_blocks.specs.Spaces.{Space}
 use Rattle.thread_blocks.specs.Turns.{Ending, Answered, Stopped, Said}
 
 unfoldable pub zeros : {B : Type 0} → B → ℕ → List B
@@ -47,24 +45,17 @@ module _ {W F B : Type 0} (ops : Operations W F B) where
       let start = start_of ops place (stack_end thread - 8) (ops.word a) (ops.word b) (ops.word c) in
       record start { thread_pointer = pointer_of thread }
 
-  -- a fresh stack, and the blocks as the line before left them
-  abbrev pub fresh_space : {E : Type 0} → List E → List (Range B) → Space E B
-  fresh_space seen own = record { seen = seen; stack = fresh_stack ops; own = own }
-
 -- ---- lines in the transcript
 
--- a stop in the transcript; an unclean one has no answer
-abbrev pub answer_of_stop : Stop → Option Answer
-answer_of_stop (Returned number) = Some (ReturnedAnswer number)
-answer_of_stop (Look place) = Some (Fault AddressFault)
-answer_of_stop (Address place) = Some (Fault AddressFault)
-answer_of_stop (Code place) = Some (Fault CodeFault)
-answer_of_stop (Unclean place cause) = None
-answer_of_stop (Steps place) = Some (Fault StepsFault)
-
+-- the end of a line in the transcript; an unclean one has no answer
 abbrev pub answer_of : Ending → Option Answer
 answer_of (Answered answer) = Some answer
-answer_of (Stopped stop) = answer_of_stop stop
+answer_of (Stopped (Returned number)) = Some (ReturnedAnswer number)
+answer_of (Stopped (Look place)) = Some (Fault AddressFault)
+answer_of (Stopped (Address place)) = Some (Fault AddressFault)
+answer_of (Stopped (Code place)) = Some (Fault CodeFault)
+answer_of (Stopped (Unclean place cause)) = None
+answer_of (Stopped (Steps place)) = Some (Fault StepsFault)
 
 -- a line in the transcript
 abbrev pub shown : Said → Option Line

@@ -7,7 +7,7 @@ use Rattle.guest_arithmetic.specs.Plain.{plain_operations}
 use Rattle.guest_arithmetic.specs.Values.{number_from}
 use Rattle.guest_operands.specs.declared.stop.Stop.{Stop}
 use Rattle.guest_operands.specs.declared.stop.Stop.TheVariants.{Address}
-use Rattle.guest_machine.specs.Access.{Accesses, Refusal, bytes_at, both_reached}
+use Rattle.guest_machine.specs.Access.{Accesses, Refusal, bytes_at, both_reached, reached as read_as}
 use Rattle.guest_machine.specs.Machine.{answer_of}
 use Rattle.guest_machine.specs.Ranges.{Range}
 use Rattle.guest_machine.specs.Run.{Next, Goes, Ends, Looks, Stepping, machine}
@@ -35,9 +35,10 @@ has_words address range = nat_le range.start address && nat_le (address + 16) (r
 abbrev pub pair : ℕ → ℕ → ℕ × ℕ
 pair a b = (a, b)
 
-abbrev pub word_of : Result (List ℕ) Refusal → Result ℕ Refusal
-word_of (Ok bytes) = Ok (number_from bytes)
-word_of (Err why) = Err why
+-- a line goes on after a look, or ends with a stop
+abbrev pub resumed : {W F B : Type 0} → Held W F B → Result (After W F (Space Event B)) Stop → Begun (Held W F B)
+resumed h (Ok after) = Calls (record h { after = after })
+resumed h (Err stop) = Says (Stopped stop) h
 
 module _ (l : Loads ℕ) (thread : ℕ) where
   -- the accesses that a thread's memory offers
@@ -47,7 +48,7 @@ module _ (l : Loads ℕ) (thread : ℕ) where
       (λ seen. pointer_word plain_operations thread ∷ fixed_at l seen)
 
   abbrev pub word_at : Space Event ℕ → ℕ → Result ℕ Refusal
-  word_at space address = word_of (bytes_at thread_accesses space address 8)
+  word_at space address = read_as number_from (bytes_at thread_accesses space address 8)
 
   -- ---- the question
 
@@ -116,10 +117,6 @@ module _ (l : Loads ℕ) (thread : ℕ) where
   }
 
   -- ---- a look in the middle of a line
-
-  abbrev pub resumed : Runs → Result (After ℕ Bool (Space Event ℕ)) Stop → Begun Runs
-  resumed h (Ok after) = Calls (record h { after = after })
-  resumed h (Err stop) = Says (Stopped stop) h
 
   abbrev pub resumed_in : Asked → Runs → Option Instance → Begun Runs
   resumed_in asked h None = Says (Stopped (Address h.after.state.place)) h

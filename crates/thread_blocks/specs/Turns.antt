@@ -89,9 +89,8 @@ module _ {S L E : Type 0} (x : Turns S L E) where
 
 -- the line that a thread's next turn begins, if it begins one
 abbrev pub next_line : {S L : Type 0} → List L → Phase S → Option L
-next_line [] phase = None
 next_line (line ∷ todo) (Idle s) = Some line
-next_line (line ∷ todo) (Mid left points s) = None
+next_line todo phase = None
 
 -- the history with an event, if there is one
 abbrev pub with_event : {E : Type 0} → List E → Option E → List E
@@ -110,8 +109,7 @@ event_of event t events = option_and_then (λ line. event line events) (next_lin
 -- nothing is left to do
 abbrev pub IsFinished : {S L : Type 0} → List L → Phase S → Type 0
 IsFinished [] (Idle s) = Unit {0}
-IsFinished (line ∷ todo) (Idle s) = ⊥
-IsFinished todo (Mid left points s) = ⊥
+IsFinished todo phase = ⊥
 
 -- enough turns for this many lines: each line has its first look, and each look in its middle takes a step
 abbrev pub enough : ℕ → ℕ → ℕ

@@ -1,7 +1,7 @@
 -- An image that lies far from a place has no part there.
-use Rattle.std.proofs.Common.{◌≡◌, ◌∙◌, ◌⊎◌, ◌+◌, ◌-◌, ◌^◌, ◌<◌, ◌≤◌, ℕ, suc, Bool, true, false, List, [], ◌∷◌, length, Option, Some, None, refl, sym, ap, arith, inl, inr, cond}
+use Rattle.std.proofs.Common.{◌≡◌, ◌∙◌, ◌⊎◌, ◌+◌, ◌-◌, ◌^◌, ◌<◌, ◌≤◌, ℕ, suc, Bool, true, false, List, [], ◌∷◌, length, Option, Some, None, refl, sym, ap, arith, inl, inr, cond, ◌==◌}
 use Rattle.std.specs.Prelude.{◌&&◌, nat_le, nat_lt, option_and_then, slice_get}
-use Rattle.std.specs.Option.{option_or}
+use Rattle.std.specs.Option.{option_or, option_map_or}
 use Rattle.std.proofs.lemmas.Bool.{cases_Bool, cases_lt, leb-true, le-ltb, lt-ltb, ltb-false}
 use Rattle.std.proofs.lemmas.Option.{slice_get_past}
 use Rattle.guest_operands.specs.declared.space.Access.{Access}
@@ -12,13 +12,13 @@ use Rattle.loaded_modules.specs.declared.instance.Instance.{Instance}
 use Rattle.loaded_modules.specs.Images.{JobImages, image_at}
 use Rattle.loaded_modules.specs.Loader.{bias, bias_of, part_bytes}
 use Rattle.thread_blocks.specs.JobLoads.{job_loads, parts_from}
-use Rattle.thread_blocks.specs.Loading.{is_code, is_loaders}
 use Rattle.thread_space.specs.Fetching.{code_number, first_code, meets, part_meets}
 use Rattle.thread_space.specs.OfParts.{allows_fixed, fixed_ranges, is_near}
 use Rattle.thread_space.specs.Places.{behind}
 use Rattle.thread_space.proofs.Fetched.{number_of_image}
 use Rattle.thread_space.proofs.LowParts.{length-part_bytes, part_low}
 use Rattle.thread_space.proofs.PartBytes.{bias_here, by_class, of_image}
+use Rattle.image_names.specs.Functions.{is_code}
 
 -- ** bytes from a start on, which end before a place or begin behind the 15 places from it on
 
@@ -69,9 +69,9 @@ module _ (m : JobImages) (image : Spelled) (x : Instance) (place : ℕ) (far : i
       → byte_in access (fixed_ranges (parts_from m image x i parts)) place ≡ None
   no_bytes access [] i lows = refl
   no_bytes access (part ∷ more) i lows =
-      by_class access part.class (is_loaders image.got i) (part.address + bias image.kind x.number) place (part_bytes m image x part) (parts_from m image x (suc i) more)
+      by_class access part.class (option_map_or (λ (own : ℕ). own == i) image.got false) (part.address + bias image.kind x.number) place (part_bytes m image x part) (parts_from m image x (suc i) more)
       ∙ ap (λ o. option_or o (byte_in access (fixed_ranges (parts_from m image x (suc i) more)) place))
-      (no_byte (allows_fixed access part.class (is_loaders image.got i)) (part.address + bias image.kind x.number) place (part_bytes m image x part) (away part (lows 0 part refl)))
+      (no_byte (allows_fixed access part.class (option_map_or (λ (own : ℕ). own == i) image.got false)) (part.address + bias image.kind x.number) place (part_bytes m image x part) (away part (lows 0 part refl)))
       ∙ no_bytes access more (suc i) (λ k other at. lows (suc k) other at)
 
   no_first : (parts : List Part) (i : ℕ) → Lows parts → first_code m image x place i parts ≡ None

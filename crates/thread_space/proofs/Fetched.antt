@@ -1,8 +1,8 @@
 -- Code that is fetched at once is what its bytes are one by one.
-use Rattle.std.proofs.Common.{◌≡◌, ◌∙◌, ◌+◌, ◌-◌, ◌^◌, ◌<◌, ◌≤◌, ◌++◌, ℕ, zero, suc, Bool, true, false, List, [], ◌∷◌, length, drop, take, get_or, Option, Some, None, refl, sym, ap, subst, arith, inl, inr, cond, add-one}
+use Rattle.std.proofs.Common.{◌≡◌, ◌∙◌, ◌+◌, ◌-◌, ◌^◌, ◌<◌, ◌≤◌, ◌++◌, ℕ, zero, suc, Bool, true, false, List, [], ◌∷◌, length, drop, take, get_or, Option, Some, None, refl, sym, ap, subst, arith, inl, inr, cond, add-one, ◌==◌}
 use Rattle.std.specs.Prelude.{◌&&◌, is_some, nat_le, option_and_then, slice_get, slice_range}
 use Rattle.std.specs.List.{find, flat_map}
-use Rattle.std.specs.Option.{option_or}
+use Rattle.std.specs.Option.{option_or, option_map_or}
 use Rattle.std.proofs.Math.Seq.{drop-cons}
 use Rattle.std.proofs.lemmas.Bool.{cases_Bool, false≢true, le-leb, leb-true, ltb-false, lt-ltb}
 use Rattle.std.proofs.lemmas.Option.{none-some, same_Some, slice_get-get_or, slice_get_past}
@@ -16,7 +16,6 @@ use Rattle.loaded_modules.specs.declared.instance.Instance.{Instance}
 use Rattle.loaded_modules.specs.Images.{JobImages, image_at}
 use Rattle.loaded_modules.specs.Loader.{bias, bias_of, loaded_part, part_bytes}
 use Rattle.thread_blocks.specs.JobLoads.{job_loads, parts_from}
-use Rattle.thread_blocks.specs.Loading.{is_code, is_loaders}
 use Rattle.thread_space.specs.Fetching.{Copies, code_number, first_code, meets, part_meets}
 use Rattle.thread_space.specs.Kept.{Kept, live_in, memory_of}
 use Rattle.thread_space.specs.OfParts.{fixed_ranges}
@@ -24,6 +23,7 @@ use Rattle.thread_space.specs.Places.{behind}
 use Rattle.thread_space.proofs.PartBytes.{behind_some, bias_here, by_class, of_image, of_no_image, part_here}
 use Rattle.thread_space.proofs.ReadKept.{run_is}
 use Rattle.guest_operands.proofs.Sought.{byte_in-append, is_byte}
+use Rattle.image_names.specs.Functions.{is_code}
 
 -- ** one part
 
@@ -47,7 +47,7 @@ module _ (m : JobImages) (image : Spelled) (x : Instance) (place k : ℕ) (low :
   passed : (i : ℕ) (part : Part) (rest : List Part) → part_meets m image x place (Some part) ≡ false
       → rest_of i (part ∷ rest) ≡ rest_of (suc i) rest
   passed i part rest none =
-      by_class Run part.class (is_loaders image.got i) (part.address + bias image.kind x.number) (place + k) (part_bytes m image x part) (parts_from m image x (suc i) rest)
+      by_class Run part.class (option_map_or (λ (own : ℕ). own == i) image.got false) (part.address + bias image.kind x.number) (place + k) (part_bytes m image x part) (parts_from m image x (suc i) rest)
       ∙ ap (λ o. option_or o (rest_of (suc i) rest)) (by_code (is_code part.class) refl)
     where
       by_code : (b : Bool) → is_code part.class ≡ b
@@ -77,7 +77,7 @@ module _ (m : JobImages) (image : Spelled) (x : Instance) (place k : ℕ) (low :
         (let offset : place + k - start ≡ at + k = omega (arith, told.1, from) in
         rw (le-leb start (place + k) (omega (arith, from)), offset) refl)
         in
-        by_class Run found_part.class (is_loaders image.got i) start (place + k) bytes (parts_from m image x (suc i) rest)
+        by_class Run found_part.class (option_map_or (λ (own : ℕ). own == i) image.got false) start (place + k) bytes (parts_from m image x (suc i) rest)
         ∙ rw (code, later) (sym (is_byte bytes (at + k) (rest_of (suc i) rest) (omega (arith, room, low))))
 
     code_from : (rest : List Part) (i : ℕ) → ((j : ℕ) → slice_get image.parts (i + j) ≡ slice_get rest j)

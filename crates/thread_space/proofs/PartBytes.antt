@@ -1,8 +1,8 @@
 -- The parts of an image one after another.
-use Rattle.std.proofs.Common.{◌≡◌, ◌∙◌, ◌+◌, ◌-◌, ◌<◌, ◌≤◌, ◌||◌, ℕ, suc, Bool, true, false, List, [], ◌∷◌, length, drop, get_or, Option, Some, None, refl, sym, ap, arith, inl, inr, cond, add-one}
+use Rattle.std.proofs.Common.{◌≡◌, ◌∙◌, ◌+◌, ◌-◌, ◌<◌, ◌≤◌, ◌||◌, ℕ, suc, Bool, true, false, List, [], ◌∷◌, length, drop, get_or, Option, Some, None, refl, sym, ap, arith, inl, inr, cond, add-one, ◌==◌}
 use Rattle.std.specs.Prelude.{◌&&◌, not, nat_le, option_and_then, slice_get}
 use Rattle.std.specs.List.{list_any}
-use Rattle.std.specs.Option.{option_or}
+use Rattle.std.specs.Option.{option_or, option_map_or}
 use Rattle.std.proofs.lemmas.Bool.{cases_Bool, leb-true, leb-false, le-leb, lt-leb}
 use Rattle.std.proofs.lemmas.Option.{cond_some, none-some, slice_get-get_or}
 use Rattle.std.proofs.Math.Seq.{drop-cons}
@@ -17,11 +17,11 @@ use Rattle.loaded_modules.specs.declared.instance.Instance.{Instance}
 use Rattle.loaded_modules.specs.Images.{JobImages, image_at}
 use Rattle.loaded_modules.specs.Loader.{bias, bias_of, loaded_part, part_bytes}
 use Rattle.thread_blocks.specs.JobLoads.{instance_part, job_loads, parts_from, written_from}
-use Rattle.thread_blocks.specs.Loading.{is_code, is_loaders}
 use Rattle.thread_blocks.specs.RunTime.{has_words}
 use Rattle.thread_space.specs.OfParts.{allows_fixed, byte_of_part, fixed_ranges, part_has_words}
 use Rattle.thread_space.specs.Places.{behind}
 use Rattle.thread_space.proofs.Sought.{looked}
+use Rattle.image_names.specs.Functions.{is_code}
 
 -- ** one range before others
 
@@ -56,7 +56,7 @@ module _ (m : JobImages) (image : Spelled) (x : Instance) where
   fixed_next access place i within =
       let part = get_or image.parts i (record { class = Executable; address = 0; bytes = [] }) in
       rw (add-one, slice_get-get_or image.parts i (record { class = Executable; address = 0; bytes = [] }) within, drop-cons image.parts i (record { class = Executable; address = 0; bytes = [] }))
-      (by_class access part.class (is_loaders image.got i) (part.address + bias image.kind x.number) place
+      (by_class access part.class (option_map_or (λ (own : ℕ). own == i) image.got false) (part.address + bias image.kind x.number) place
       (part_bytes m image x part) (parts_from m image x (suc i) (drop (suc i) image.parts)))
 
   pub fixed_start : (access : Access) (place : ℕ)
@@ -175,7 +175,7 @@ module _ (m : JobImages) (image : Spelled) (x : Instance) (i : ℕ) (there : ima
   part_here part is = rw (there, is) refl
 
   pub byte_read : (access : Access) (place at : ℕ) (part : Part) → slice_get image.parts i ≡ Some part
-      → allows_fixed access part.class (is_loaders image.got i) ≡ true → behind (part.address + bias_of m x) place ≡ Some at
+      → allows_fixed access part.class (option_map_or (λ (own : ℕ). own == i) image.got false) ≡ true → behind (part.address + bias_of m x) place ≡ Some at
       → slice_get (loaded_part m x i) at ≡ byte_of_part m image x i access place (slice_get image.parts i)
   byte_read access place at part is allowed begins =
       let begins' : behind (part.address + bias image.kind x.number) place ≡ Some at = rw bias_here at begins in
@@ -185,7 +185,7 @@ module _ (m : JobImages) (image : Spelled) (x : Instance) (i : ℕ) (there : ima
       → behind (part.address + bias_of m x) place ≡ None → None ≡ byte_of_part m image x i access place (slice_get image.parts i)
   none_read access place part is begins =
       let begins' : behind (part.address + bias image.kind x.number) place ≡ None = rw bias_here at begins in
-      rw (is, begins') (by_test (allows_fixed access part.class (is_loaders image.got i)))
+      rw (is, begins') (by_test (allows_fixed access part.class (option_map_or (λ (own : ℕ). own == i) image.got false)))
     where
       by_test : (b : Bool) → None ≡ cond {A = Option ℕ} b None None
       by_test true = refl

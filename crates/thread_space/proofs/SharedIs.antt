@@ -1,5 +1,5 @@
 -- The data that a thread finds of an instance are those that the code keeps: the first part that programs write.
-use Rattle.std.proofs.Common.{◌≡◌, ◌∙◌, ◌+◌, ◌&&◌, ℕ, suc, Bool, true, false, not, List, [], ◌∷◌, length, Option, Some, None, refl, sym, ap, subst, inl, inr, add-one, arith, cond}
+use Rattle.std.proofs.Common.{◌≡◌, ◌∙◌, ◌+◌, ◌&&◌, ℕ, suc, Bool, true, false, not, List, [], ◌∷◌, length, Option, Some, None, refl, sym, ap, subst, inl, inr, add-one, arith, cond, ◌==◌}
 use Rattle.std.specs.Prelude.{option_and_then, option_map, slice_get}
 use Rattle.std.specs.List.{find, range_with_len}
 use Rattle.std.proofs.lemmas.Bool.{cases_Bool, true≢false}
@@ -13,12 +13,12 @@ use Rattle.loaded_modules.specs.Images.{JobImages, image_at}
 use Rattle.loaded_modules.specs.Laws.{start_of}
 use Rattle.loaded_modules.specs.Loader.{bias, loaded_part, part_bytes}
 use Rattle.module_data.specs.Parts.{bytes_at, data_part, data_start, fresh_data, is_data_part, is_number, start_in}
-use Rattle.thread_blocks.specs.JobLoads.{instance_part, job_loads, parts_from, parts_of}
-use Rattle.thread_blocks.specs.Loading.{is_loaders}
+use Rattle.thread_blocks.specs.JobLoads.{instance_part, job_loads, parts_from}
+use Rattle.std.specs.Option.{option_map_or}
 
 -- ** which part
 
-number_same : (got : Option ℕ) (i : ℕ) → is_loaders got i ≡ is_number got i
+number_same : (got : Option ℕ) (i : ℕ) → option_map_or (λ (own : ℕ). own == i) got false ≡ is_number got i
 number_same None i = refl
 number_same (Some n) i = refl
 
@@ -72,7 +72,7 @@ passes p (x ∷ xs) i found = elim (cases_Bool (p x)) [
 
 -- a part of a class that is written is read, and not run
 as_written : (m : JobImages) (image : Spelled) (x : Instance) (i : ℕ) (part : Part) (class : PartClass) → part.class ≡ class
-    → (is_writable class && not (is_loaders image.got i)) ≡ true
+    → (is_writable class && not (option_map_or (λ (own : ℕ). own == i) image.got false)) ≡ true
     → instance_part m image x i part ≡ written_range (part_bytes m image x part) (start_of image.kind x.number part)
 as_written m image x i part Executable is t = absurd (true≢false (sym t))
 as_written m image x i part ReadOnly is t = absurd (true≢false (sym t))
@@ -103,7 +103,7 @@ module _ (m : JobImages) (x : Instance) where
       (passes (is_data_part image) (range_with_len 0 (length image.parts)) i here)
 
   in_image : (image : Option Spelled) → image_at m x.image ≡ image
-      → find (λ (range : Range ℕ). range.writable) (parts_of m x image)
+      → find (λ (range : Range ℕ). range.writable) (option_map_or (λ (own : Spelled). parts_from m own x 0 own.parts) image [])
       ≡ option_map (λ start. written_range (bytes_at m x (option_and_then data_part image)) start) (start_in x image)
   in_image None is = refl
   in_image (Some image) is = found_part m x image ∙ at_number image (data_part image) is refl

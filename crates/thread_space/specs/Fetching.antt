@@ -4,8 +4,8 @@ use Rattle.image_file.specs.Spelled.{Part, Spelled}
 use Rattle.loaded_modules.specs.declared.instance.Instance.{Instance}
 use Rattle.loaded_modules.specs.Images.{JobImages, image_at}
 use Rattle.loaded_modules.specs.Loader.{bias, bias_of, part_bytes}
-use Rattle.thread_blocks.specs.Loading.{is_code}
 use Rattle.thread_space.specs.Places.{behind}
+use Rattle.image_names.specs.Functions.{is_code}
 
 -- this many bytes from a start on hold one of the 15 addresses from `place` on
 abbrev pub meets : ℕ → ℕ → ℕ → Bool

@@ -1,5 +1,5 @@
 -- One part of an instance: its rights, and its bytes.
-use Rattle.std.specs.Prelude.{◌+◌, ◌^◌, ◌&&◌, ℕ, Bool, false, not, List, Option, Some, None, if◌then◌else◌, option_and_then, nat_lt, slice_get}
+use Rattle.std.specs.Prelude.{◌+◌, ◌^◌, ◌&&◌, ℕ, Bool, false, not, List, Option, Some, None, if◌then◌else◌, option_and_then, nat_lt, slice_get, ◌==◌}
 use Rattle.std.specs.List.{filter}
 use Rattle.guest_operands.specs.declared.space.Access.{Access}
 use Rattle.guest_operands.specs.declared.space.Access.TheVariants.{Read, Run, Write}
@@ -10,9 +10,10 @@ use Rattle.loaded_modules.specs.declared.instance.Instance.{Instance}
 use Rattle.loaded_modules.specs.Images.{JobImages}
 use Rattle.loaded_modules.specs.Loader.{bias, part_bytes}
 use Rattle.thread_blocks.specs.JobLoads.{instance_part}
-use Rattle.thread_blocks.specs.Loading.{is_code, is_loaders}
 use Rattle.thread_blocks.specs.RunTime.{has_words}
 use Rattle.thread_space.specs.Places.{behind}
+use Rattle.image_names.specs.Functions.{is_code}
+use Rattle.std.specs.Option.{option_map_or}
 
 -- the accesses that a part allows, if no thread writes it
 abbrev pub allows_fixed : Access → PartClass → Bool → Bool
@@ -33,7 +34,7 @@ module _ (m : JobImages) (image : Spelled) (x : Instance) (i : ℕ) where
   -- the byte at an address in part i, if the part allows the access and no thread writes it
   abbrev pub byte_of_part : Access → ℕ → Option Part → Option ℕ
   byte_of_part access place None = None
-  byte_of_part access place (Some part) = if allows_fixed access part.class (is_loaders image.got i)
+  byte_of_part access place (Some part) = if allows_fixed access part.class (option_map_or (λ (own : ℕ). own == i) image.got false)
       then option_and_then (slice_get (part_bytes m image x part))
       (behind (part.address + bias image.kind x.number) place)
       else None

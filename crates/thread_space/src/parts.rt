@@ -1,17 +1,18 @@
 //! The parts of images, as instances have them.
 
-ghost use Rattle.std.specs.Prelude.{◌≡◌, ◌+◌, ◌^◌, ◌<◌, ◌≤◌, true, Some, length, nat_le, option_map, slice_get};
+ghost use Rattle.std.specs.Prelude.{◌≡◌, ◌+◌, ◌^◌, ◌<◌, ◌≤◌, true, Some, length, nat_le, option_map, slice_get, ◌==◌, false};
 ghost use Rattle.std.specs.List.{list_any};
 ghost use Rattle.guest_operands.specs.Ranges.{byte_in};
 ghost use Rattle.loaded_modules.specs.Images.{image_at};
 ghost use Rattle.loaded_modules.specs.Loader.{bias_of, loaded_part};
 ghost use Rattle.thread_blocks.specs.Instances.{fixed_of};
 ghost use Rattle.thread_blocks.specs.JobLoads.{job_loads, parts_from, written_from};
-ghost use Rattle.thread_blocks.specs.Loading.{is_code, is_loaders};
 ghost use Rattle.thread_blocks.specs.RunTime.{has_words};
 ghost use Rattle.thread_space.specs.Kept.{live_in};
 ghost use Rattle.thread_space.specs.OfParts.{allows_fixed, byte_of_part, fixed_ranges, is_near, part_has_words};
 ghost use Rattle.thread_space.specs.Places.{behind};
+ghost use Rattle.image_names.specs.Functions.{is_code};
+ghost use Rattle.std.specs.Option.{option_map_or};
 
 use crate::space::ThreadSpace;
 use guest_machine::Access;
@@ -33,7 +34,7 @@ pub(crate) fn is_code(class: PartClass) -> bool
 
 /// Whether a part is the one that only the loader writes.
 fn is_loaders(got: Option<u64>, number: u64) -> bool
-    ensures { result ≡ is_loaders got number }
+    ensures { result ≡ option_map_or (λ own. own == number) got false }
 {
     match got {
         Some(got) => got == number,

@@ -59,7 +59,7 @@ use Rattle.tls_relocs.specs.Fields.{field_bytes}
 use Rattle.whole_meaning.specs.declared.marks.Mark.TheVariants.{Usual}
 use Rattle.whole_meaning.specs.Bytes.{byte_by, byte_of, covers, has_value}
 use Rattle.whole_meaning.specs.Code.{field_mark, is_in_site, mark_of, relocated_mark, site_mark, spot_mark}
-use Rattle.whole_meaning.specs.Loads.{code_range, constant_range, loads_of, meaning_of, still_ranges}
+use Rattle.whole_meaning.specs.Loads.{loads_of, meaning_of, still_ranges, class_range}
 use Rattle.whole_meaning.specs.Spots.{Spot, begin_of, bias_of, in_room, moved_spot, spot_in}
 use Rattle.tied_fields.proofs.Marks.{IsAt, at_spot, mark_is}
 use Rattle.tied_fields.proofs.Fields.{bound, covered_so, covers_so, not_of_sequence, stays}
@@ -222,7 +222,7 @@ passed r more place e = rw e refl
 
 -- what the meaning loads of an instance beside its code
 abbrev others : Linking → ℕ → List (Range Byte)
-others l bias = constant_range l bias ReadOnly ∷ constant_range l bias (Tls true) ∷ []
+others l bias = class_range l bias ReadOnly ∷ class_range l bias (Tls true) ∷ []
 
 module _ (ls : List Linking) (l : Linking) (x : Instance) (is : IsInstanceOf ls l x) (place : ℕ) where
   abbrev bias : ℕ
@@ -242,13 +242,13 @@ module _ (ls : List Linking) (l : Linking) (x : Instance) (is : IsInstanceOf ls 
   unfolding mark_of byte_at
   in_class here =
       let address = here.0 in
-      let grant : grants Run (code_range l (bias_of l.kind x.number)) place ≡ true =
-      ap (λ p. grants Run (code_range l (bias_of l.kind x.number)) p) here.1 ∙ held ls l x is Executable here.0 here.2 in
+      let grant : grants Run (class_range l (bias_of l.kind x.number) Executable) place ≡ true =
+      ap (λ p. grants Run (class_range l (bias_of l.kind x.number) Executable) p) here.1 ∙ held ls l x is Executable here.0 here.2 in
       let meaning : byte_in Run (still_ranges l (bias_of l.kind x.number)) place
       ≡ Some (Value (byte_of l (bias_of l.kind x.number) (spot_in l Executable here.0))) =
-      granted (code_range l (bias_of l.kind x.number)) (others l (bias_of l.kind x.number)) place grant
-      ∙ ap (λ p. slice_get (code_range l (bias_of l.kind x.number)).bytes
-      (p - (code_range l (bias_of l.kind x.number)).start)) here.1
+      granted (class_range l (bias_of l.kind x.number) Executable) (others l (bias_of l.kind x.number)) place grant
+      ∙ ap (λ p. slice_get (class_range l (bias_of l.kind x.number) Executable).bytes
+      (p - (class_range l (bias_of l.kind x.number) Executable).start)) here.1
       ∙ byte_there ls l x is Executable here.0 here.2 in
       let machine : byte_in Run ((job_loads (images_of ls)).fixed x) place
       ≡ Some (byte_of_spot l (bias_of l.kind x.number) (spot_in l Executable here.0)) =
@@ -277,15 +277,15 @@ module _ (ls : List Linking) (l : Linking) (x : Instance) (is : IsInstanceOf ls 
 
   -- ** elsewhere
 
-  module _ (out : holds (code_range l (bias_of l.kind x.number)) place ≡ false) where
+  module _ (out : holds (class_range l (bias_of l.kind x.number) Executable) place ≡ false) where
     not_there : IsInMoved l (bias_of l.kind x.number) Executable place → ⊥
     not_there here =
-        let yes : holds (code_range l (bias_of l.kind x.number)) place ≡ true =
-        ap (holds (code_range l (bias_of l.kind x.number))) here.1 ∙ held ls l x is Executable here.0 here.2 in
+        let yes : holds (class_range l (bias_of l.kind x.number) Executable) place ≡ true =
+        ap (holds (class_range l (bias_of l.kind x.number) Executable)) here.1 ∙ held ls l x is Executable here.0 here.2 in
         cc
 
     pub unmeant : byte_in Run (still_ranges l (bias_of l.kind x.number)) place ≡ None
-    unmeant = passed (code_range l (bias_of l.kind x.number)) (others l (bias_of l.kind x.number)) place out
+    unmeant = passed (class_range l (bias_of l.kind x.number) Executable) (others l (bias_of l.kind x.number)) place out
 
     pub unmarked : mark_of l (bias_of l.kind x.number) place ≡ Usual
     unfolding mark_of
@@ -315,24 +315,24 @@ module _ (ls : List Linking) (l : Linking) (x : Instance) (is : IsInstanceOf ls 
   -- either
   same : in_room l (bias_of l.kind x.number) place ≡ false
       → SameCodeByte (mark_of l (bias_of l.kind x.number) place) meant_byte loaded
-  same away = of_test (holds (code_range l (bias_of l.kind x.number)) place) refl
+  same away = of_test (holds (class_range l (bias_of l.kind x.number) Executable) place) refl
     where
-      of_test : (t : Bool) → holds (code_range l (bias_of l.kind x.number)) place ≡ t
+      of_test : (t : Bool) → holds (class_range l (bias_of l.kind x.number) Executable) place ≡ t
           → SameCodeByte (mark_of l (bias_of l.kind x.number) place) meant_byte loaded
       of_test true e = in_class (in_range ls l x is Executable place e)
       of_test false e = nothing e away
 
   -- ** in the room
 
-  behind : in_room l (bias_of l.kind x.number) place ≡ true → holds (code_range l (bias_of l.kind x.number)) place ≡ false
+  behind : in_room l (bias_of l.kind x.number) place ≡ true → holds (class_range l (bias_of l.kind x.number) Executable) place ≡ false
   unfolding in_room
-  behind room = of_test (holds (code_range l (bias_of l.kind x.number)) place) refl
+  behind room = of_test (holds (class_range l (bias_of l.kind x.number) Executable) place) refl
     where
       low : (a b : ℕ) (t : Bool) → (nat_le a b && t) ≡ true → a ≤ b
       low a b t e = grind (arith, nat_tests)
 
-      of_test : (t : Bool) → holds (code_range l (bias_of l.kind x.number)) place ≡ t
-          → holds (code_range l (bias_of l.kind x.number)) place ≡ false
+      of_test : (t : Bool) → holds (class_range l (bias_of l.kind x.number) Executable) place ≡ t
+          → holds (class_range l (bias_of l.kind x.number) Executable) place ≡ false
       of_test false e = e
       of_test true e =
           let here = in_range ls l x is Executable place e in

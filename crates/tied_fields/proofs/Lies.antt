@@ -46,15 +46,15 @@ use Rattle.module_table.specs.declared.events.Event.{Event}
 use Rattle.object_faults.specs.declared.class.SectionClass.{SectionClass}
 use Rattle.object_faults.specs.declared.class.SectionClass.TheVariants.{Executable, ReadOnly, Tls}
 use Rattle.thread_blocks.specs.JobLoads.{job_loads}
-use Rattle.thread_blocks.specs.Loading.{is_code}
 use Rattle.tied_meaning.specs.Ties.{IsPlaceOf}
 use Rattle.tls_layout.proofs.LawsOfPlaces.{classes_follow}
 use Rattle.tls_layout.specs.Places.{room, zero_data}
 use Rattle.tls_layout.specs.Rounding.{page_up, round_up}
-use Rattle.whole_meaning.specs.Loads.{code_range, constant_range, still_ranges}
+use Rattle.whole_meaning.specs.Loads.{still_ranges, class_range}
 use Rattle.whole_meaning.specs.Spots.{bias_of, in_room}
 use Rattle.tied_fields.specs.Laws.{PlacesAreTied}
 use Rattle.tied_fields.proofs.CodeBytes.{fixed_meant, room_is}
+use Rattle.image_names.specs.Functions.{is_code}
 
 -- ** a place of its own
 
@@ -110,9 +110,9 @@ module _ (ls : List Linking) (history : List Event) (l : Linking) (x : Instance)
       → byte_in access (still_ranges l (bias_of l.kind x.number)) place ≡ Some byte → IsPlaceOf x place
   meant access place byte e =
       let bias = bias_of l.kind x.number in
-      let constants = constant_range l (bias_of l.kind x.number) ReadOnly in
-      let initial = constant_range l (bias_of l.kind x.number) (Tls true) in
-      elim (first_or access (code_range l (bias_of l.kind x.number)) (constants ∷ initial ∷ []) place byte e) [
+      let constants = class_range l (bias_of l.kind x.number) ReadOnly in
+      let initial = class_range l (bias_of l.kind x.number) (Tls true) in
+      elim (first_or access (class_range l (bias_of l.kind x.number) Executable) (constants ∷ initial ∷ []) place byte e) [
         | inl code ↦ of_class Executable place (in_range ls l x is Executable place code)
         | inr past ↦ elim (first_or access constants (initial ∷ []) place byte past) [
           | inl constant ↦ of_class ReadOnly place (in_range ls l x is ReadOnly place constant)

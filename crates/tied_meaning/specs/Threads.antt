@@ -25,10 +25,11 @@ use Rattle.thread_blocks.specs.Spaces.{SameRange, SameSpace, Space}
 use Rattle.thread_blocks.specs.TurnsAlike.{IsFront}
 use Rattle.whole_meaning.specs.declared.sequences.Sequence.{Sequence}
 use Rattle.whole_meaning.specs.Meanings.{Meaning}
-use Rattle.whole_meaning.specs.Sequences.{after_call, asks, descriptor_use, stack_use, with_answer, without_flags}
+use Rattle.whole_meaning.specs.Sequences.{after_call, asks, descriptor_use, stack_use, without_flags}
 use Rattle.whole_meaning.specs.Threads.{Meant, came_late, hidden_below, meant_stack, sequence_at}
 use Rattle.tied_meaning.specs.Numbers.{Setting, SameByte, alike}
 use Rattle.tied_meaning.specs.Sites.{IsIdFor}
+use Rattle.guest_machine.specs.Machine.{with_answer}
 
 -- ** written ranges
 
@@ -65,8 +66,8 @@ is_descriptor_call form = false
 
 -- the meaning's state then: all that the sequence leaves, except the answer
 abbrev pub called_state : Form → State Word Flag → ℕ → State Word Flag
-called_state DescCall state next = at_place (without_flags (with_answer Undefined state)) next
-called_state form state next = at_place (with_answer Undefined (after_call state)) next
+called_state DescCall state next = at_place (without_flags (with_answer state Undefined)) next
+called_state form state next = at_place (with_answer (after_call state) Undefined) next
 
 -- history: the events that the job ends with. thread: one of the first 64; a much later one has its thread pointer
 -- past 2^64

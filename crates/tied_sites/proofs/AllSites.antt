@@ -13,7 +13,7 @@ use Rattle.tied_fields.specs.Laws.{HasItsNumber, is_of_descriptor}
 use Rattle.tied_fields.specs.Settings.{setting_of}
 use Rattle.whole_meaning.specs.Code.{Variable, no_variable, sequence_of, variable_by, variable_for}
 use Rattle.whole_meaning.specs.declared.sequences.Sequence.{Sequence}
-use Rattle.whole_meaning.specs.Loads.{at_bias, meaning_of}
+use Rattle.whole_meaning.specs.Loads.{meaning_of}
 use Rattle.tied_sites.proofs.Described.{asks_by_name, described_stands}
 use Rattle.tied_sites.proofs.General.{general_stands}
 use Rattle.tied_sites.proofs.Initial.{initial_stands}
@@ -25,6 +25,7 @@ use Rattle.tied_sites.specs.Laws.{DescriptorSitesStand, GeneralSitesStand, Initi
 use Rattle.tied_sites.specs.Laws.{SitesStand}
 use Rattle.tied_sites.specs.Laws.{IsInitial, IsLocal, IsMeant, IsOfDescriptor, StandsInJob}
 use Rattle.whole_meaning.specs.Laws.{IsGeneral}
+use Rattle.std.specs.Option.{option_map_or}
 
 of_descriptor : (form : Form) → IsOfDescriptor form → is_of_descriptor form ≡ true
 of_descriptor DescLea h = refl
@@ -37,7 +38,8 @@ module _ (ls : List Linking) (history : List Event) (l : Linking) (x : Instance)
   unfolding meaning_of
   found =
       site_of ls l x place s
-      (sym (ap (at_bias None (λ m bias. sequence_of ls x.image x.number m place) x.number) is.of.image) ∙ is.meant)
+      (sym (ap (λ (image : Option Linking).
+      option_map_or (λ (own : Linking). sequence_of ls x.image x.number own place) image None) is.of.image) ∙ is.meant)
 
   rests : IsRelied (setting_of ls history) ls l x
   rests = relied ls history l x is.together is.late_last is.known is.of

@@ -23,9 +23,8 @@ use Rattle.thread_blocks.specs.RunTime.{Runs, thread_turns}
 use Rattle.thread_blocks.specs.Spaces.{Space, space_accesses}
 use Rattle.thread_blocks.specs.Turns.{Ending, Thread, Turns, at_number, event_of, ready, turn, with_event}
 use Rattle.thread_blocks.specs.TurnsAlike.{IsFront}
-use Rattle.whole_meaning.specs.Jobs.{job_start as meant_start, ready_from as meant_from}
 use Rattle.whole_meaning.specs.Meanings.{Meaning}
-use Rattle.whole_meaning.specs.Threads.{Meant, meant_ready, meant_turns}
+use Rattle.whole_meaning.specs.Threads.{Meant, meant_turns, ops as marked_ops}
 use Rattle.tls_map_laws.specs.Always.{OrdersHaveMap, PeeksShow}
 use Rattle.tls_map_laws.specs.Machine.{machine_acts, machine_asks}
 use Rattle.tls_map_laws.specs.Map.{Act}
@@ -43,6 +42,7 @@ use Rattle.tls_map_laws.proofs.Meaning.{meant_keeps}
 use Rattle.tls_map_laws.proofs.Moment.{anew, found_member, is_map}
 use Rattle.tls_map_laws.proofs.Orders.{AllFit, order_fit, thread_fit, thread_stands, thread_within}
 use Rattle.tls_map_laws.proofs.Law.{machine_first, meant_first}
+use Rattle.guest_arithmetic.specs.Plain.{plain_operations}
 
 -- ** all instances that are ever live
 
@@ -157,36 +157,36 @@ module _ {B : Type 0} (l : Loads B) (thread : ℕ) (history : List Event) (known
       (lows l thread history known [] (history, refl)) tt
 
 machine_ready : (l : Loads ℕ) (first : ℕ) (lines : List (List ThreadLine)) (i : ℕ) (t : Thread Runs Line Event)
-    → slice_get (ready_from l first lines) i ≡ Some t → thread_ready l (first + i) ≡ held_in t.phase
+    → slice_get (ready_from plain_operations l first lines) i ≡ Some t → thread_ready plain_operations l (first + i) ≡ held_in t.phase
 machine_ready l first [] i t e = cc
 machine_ready l first (own ∷ lines) zero t e =
-    let same : ready (thread_ready l first) (numbered_lines 1 own) ≡ t = (let s = e in cc) in
+    let same : ready (thread_ready plain_operations l first) (numbered_lines 1 own) ≡ t = (let s = e in cc) in
     let number : first + 0 ≡ first = omega arith in
-    ap (λ (n : ℕ). thread_ready l n) number ∙ ap (λ (u : Thread Runs Line Event). held_in u.phase) same
+    ap (λ (n : ℕ). thread_ready plain_operations l n) number ∙ ap (λ (u : Thread Runs Line Event). held_in u.phase) same
 machine_ready l first (own ∷ lines) (suc i) t e =
     let number : first + suc i ≡ suc first + i = omega arith in
-    ap (λ (n : ℕ). thread_ready l n) number ∙ machine_ready l (suc first) lines i t e
+    ap (λ (n : ℕ). thread_ready plain_operations l n) number ∙ machine_ready l (suc first) lines i t e
 
 meaning_ready : (m : Meaning) (first : ℕ) (lines : List (List ThreadLine)) (i : ℕ) (t : Thread Meant Line Event)
-    → slice_get (meant_from m first lines) i ≡ Some t → meant_ready m (first + i) ≡ held_in t.phase
+    → slice_get (ready_from marked_ops m.loads first lines) i ≡ Some t → thread_ready marked_ops m.loads (first + i) ≡ held_in t.phase
 meaning_ready m first [] i t e = cc
 meaning_ready m first (own ∷ lines) zero t e =
-    let same : ready (meant_ready m first) (numbered_lines 1 own) ≡ t = (let s = e in cc) in
+    let same : ready (thread_ready marked_ops m.loads first) (numbered_lines 1 own) ≡ t = (let s = e in cc) in
     let number : first + 0 ≡ first = omega arith in
-    ap (λ (n : ℕ). meant_ready m n) number ∙ ap (λ (u : Thread Meant Line Event). held_in u.phase) same
+    ap (λ (n : ℕ). thread_ready marked_ops m.loads n) number ∙ ap (λ (u : Thread Meant Line Event). held_in u.phase) same
 meaning_ready m first (own ∷ lines) (suc i) t e =
     let number : first + suc i ≡ suc first + i = omega arith in
-    ap (λ (n : ℕ). meant_ready m n) number ∙ meaning_ready m (suc first) lines i t e
+    ap (λ (n : ℕ). thread_ready marked_ops m.loads n) number ∙ meaning_ready m (suc first) lines i t e
 
 pub machine_start : (l : Loads ℕ) (fuel : ℕ) (lines : List (List ThreadLine)) (history : List Event)
     (known : (thread : ℕ) → Known l thread history)
     → AllFit l (λ i. thread_turns l i fuel) (λ i. machine_acts l i) (λ i. machine_asks l i)
-    (λ i h k. machine_keeps l i h k fuel) history known (λ i. first_acts l) (job_start l lines)
+    (λ i h k. machine_keeps l i h k fuel) history known (λ i. first_acts l) (job_start plain_operations l lines)
 machine_start l fuel lines history known = record {
   low = first_low l 1 history (known 1);
   all = λ i t e.
       let next : suc i ≡ 1 + i = omega arith in
-      let is = ap (λ (n : ℕ). thread_ready l n) next ∙ machine_ready l 1 lines i t e in (
+      let is = ap (λ (n : ℕ). thread_ready plain_operations l n) next ∙ machine_ready l 1 lines i t e in (
         subst (λ (h : Runs). FitsBy l (suc i) history (known (suc i)) (first_acts l) h) is
             (machine_first l (suc i) history (known (suc i))),
         subst (λ (h : Runs). IsFront h.after.memory.seen []) is ([], refl),
@@ -196,12 +196,12 @@ machine_start l fuel lines history known = record {
 pub meaning_start : (m : Meaning) (fuel : ℕ) (lines : List (List ThreadLine)) (history : List Event)
     (known : (thread : ℕ) → Known m.loads thread history)
     → AllFit m.loads (λ i. meant_turns m i fuel) (λ i. meant_acts m i) (λ i. meant_asks m i)
-    (λ i h k. meant_keeps m i h k fuel) history known (λ i. first_acts m.loads) (meant_start m lines)
+    (λ i h k. meant_keeps m i h k fuel) history known (λ i. first_acts m.loads) (job_start marked_ops m.loads lines)
 meaning_start m fuel lines history known = record {
   low = first_low m.loads 1 history (known 1);
   all = λ i t e.
       let next : suc i ≡ 1 + i = omega arith in
-      let is = ap (λ (n : ℕ). meant_ready m n) next ∙ meaning_ready m 1 lines i t e in (
+      let is = ap (λ (n : ℕ). thread_ready marked_ops m.loads n) next ∙ meaning_ready m 1 lines i t e in (
         subst (λ (h : Meant). FitsBy m.loads (suc i) history (known (suc i)) (first_acts m.loads) h) is
             (meant_first m (suc i) history (known (suc i))),
         subst (λ (h : Meant). IsFront h.after.memory.seen []) is ([], refl),

@@ -4,7 +4,6 @@ use Rattle.guest_arithmetic.specs.Plain.{plain_operations}
 use Rattle.guest_machine.specs.Run.{run, state_after}
 use Rattle.guest_machine.specs.State.{start_of}
 use Rattle.guest_machine.specs.Use.{left}
-use Rattle.job_meaning.specs.declared.values.Word.TheVariants.{Number}
 use Rattle.loaded_modules.specs.declared.instance.Instance.{Instance}
 use Rattle.module_table.specs.declared.events.Event.{Event}
 use Rattle.shared_data.specs.Told.{steps_of}
@@ -15,7 +14,7 @@ use Rattle.thread_blocks.specs.Lines.{Line, event_by}
 use Rattle.thread_blocks.specs.Turns.{Turns, ready, turns, with_last}
 use Rattle.thread_blocks.specs.TurnsAlike.{IsFront}
 use Rattle.whole_meaning.specs.Meanings.{Meaning}
-use Rattle.whole_meaning.specs.Threads.{meant_ready, ops}
+use Rattle.whole_meaning.specs.Threads.{ops}
 use Rattle.tls_map_laws.specs.Map.{Act}
 use Rattle.tls_map_laws.specs.Told.{AtRising, first_acts, look_acts, run_acts, turns_acts}
 use Rattle.tls_map_laws.proofs.Entries.{blocks}
@@ -43,22 +42,22 @@ module _ {B : Type 0} (l : Loads B) (thread : ℕ) (history : List Event) (known
   }
 
 pub machine_first : (l : Loads ℕ) (thread : ℕ) (history : List Event) (known : Known l thread history)
-    → FitsBy l thread history known (first_acts l) (thread_ready l thread)
+    → FitsBy l thread history known (first_acts l) (thread_ready plain_operations l thread)
 machine_first l thread history known =
     looked_fits l thread history known [] []
     (record {
-      after = left (start_of plain_operations 0 0 0 0 0) (record { seen = []; stack = []; own = [] });
+      after = left (start_of plain_operations 0 0 (plain_operations.word 0) (plain_operations.word 0) (plain_operations.word 0)) (record { seen = []; stack = []; own = [] });
       owners = [];
       asked = None;
     })
     (nothing_fits l thread history known) ([], refl) (history, refl)
 
 pub meant_first : (m : Meaning) (thread : ℕ) (history : List Event) (known : Known m.loads thread history)
-    → FitsBy m.loads thread history known (first_acts m.loads) (meant_ready m thread)
+    → FitsBy m.loads thread history known (first_acts m.loads) (thread_ready ops m.loads thread)
 meant_first m thread history known =
     looked_fits m.loads thread history known [] []
     (record {
-      after = left (start_of ops 0 0 (Number 0) (Number 0) (Number 0)) (record { seen = []; stack = []; own = [] });
+      after = left (start_of ops 0 0 (ops.word 0) (ops.word 0) (ops.word 0)) (record { seen = []; stack = []; own = [] });
       owners = [];
       asked = None;
     })

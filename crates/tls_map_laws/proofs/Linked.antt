@@ -44,7 +44,7 @@ use Rattle.tls_layout.specs.Laws.{extent_for}
 use Rattle.tls_layout.specs.Places.{tls_size}
 use Rattle.tls_relocs.specs.Elements.{slice_get-append, slice_get-append_behind, slice_get-replicate}
 use Rattle.whole_meaning.specs.Bytes.{block_bytes, class_bytes}
-use Rattle.whole_meaning.specs.Loads.{at_bias, has_data, info_of, loads_of}
+use Rattle.whole_meaning.specs.Loads.{has_data, info_of, loads_of}
 use Rattle.whole_meaning.specs.Spots.{bias_of}
 use Rattle.whole_meaning.specs.Threads.{ops}
 use Rattle.tls_map_laws.specs.Initial.{initial_image, initial_meant}
@@ -52,6 +52,7 @@ use Rattle.tls_map_laws.proofs.Beside.{blocks_alone, blocks_high}
 use Rattle.tls_map_laws.proofs.Known.{Around, IsLow, Known}
 use Rattle.tls_map_laws.proofs.Live.{BlocksAreLong, is_live, known_all}
 use Rattle.tls_map_laws.proofs.Places.{Member}
+use Rattle.std.specs.Option.{option_map_or}
 
 -- ** the link of an instance
 
@@ -198,7 +199,8 @@ module _ (ls : List Linking) (together : AreTogether ls) (stray : All HasNoStray
   initial_is : (l : Linking) (x : Instance) → IsInstanceOf ls l x
       → initial_image ls x ≡ class_bytes l (bias_of l.kind x.number) (Tls true)
   initial_is l x is =
-      ap (at_bias [] (λ (m : Linking) (bias : ℕ). class_bytes m bias (Tls true)) x.number) is.image
+      ap (λ (image : Option Linking).
+      option_map_or (λ (own : Linking). class_bytes own (bias_of own.kind x.number) (Tls true)) image []) is.image
 
   -- the law, of the machine
   fresh : (l : Linking) (x : Instance) → IsInstanceOf ls l x → (k : ℕ) → k < length (q.block x)

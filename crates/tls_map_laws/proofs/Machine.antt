@@ -17,7 +17,7 @@ use Rattle.transcript_text.specs.declared.outcomes.Outcome.TheVariants.{Fault}
 use Rattle.thread_blocks.specs.declared.asked.Asked.{Asked}
 use Rattle.thread_blocks.specs.Held.{Owner, looked, reached}
 use Rattle.thread_blocks.specs.Instances.{Loads, instance_with_id, instances, is_startup_id, numbered_instance}
-use Rattle.thread_blocks.specs.RunTime.{Runs, answer_word, answered, asked_at, asked_next, found_at_once, goes_answered, resume_line, resumed, resumed_by, resumed_in, shows, thread_accesses, thread_next, thread_steps, thread_turns}
+use Rattle.thread_blocks.specs.RunTime.{Runs, answer_word, answered, asked_at, asked_next, found_at_once, goes_answered, resume_line, resumed_by, resumed_in, shows, thread_accesses, thread_next, thread_steps, thread_turns, resumed}
 use Rattle.thread_blocks.specs.Spaces.{Space, after_of, next_image}
 use Rattle.thread_blocks.specs.Turns.{Answered, Begun, Says}
 use Rattle.thread_blocks.specs.TurnsAlike.{IsFront}
@@ -147,7 +147,7 @@ module _ (l : Loads ℕ) (thread : ℕ) (history : List Event) (known : Known l 
   -- ** a look in the middle of a line
 
   resumed_fits : (acts : List (Act ℕ)) (h : Runs) (result : Result (After ℕ Bool (Space Event ℕ)) Stop) → Fit acts h
-      → ResultFits acts h.owners result → Begin acts (resumed l thread h result)
+      → ResultFits acts h.owners result → Begin acts (resumed h result)
   resumed_fits acts h (Ok after) fits now = now
   resumed_fits acts h (Err stop) fits now = fits
 

@@ -1,6 +1,6 @@
 -- The meaning's threads have what the map says, after any turns at rising points of a history.
 use Rattle.std.proofs.Common.{◌≡◌, ℕ, Bool, true, false, List, Option, Some, None, Result, Ok, Err, refl, sym, subst, ◌==◌}
-use Rattle.std.specs.Prelude.{option_map}
+use Rattle.std.specs.Prelude.{option_map, unwrap_or}
 use Rattle.address_map.specs.Map.{stack_start}
 use Rattle.amd64_subset.specs.declared.instr.Decoded.{Decoded}
 use Rattle.guest_arithmetic.specs.declared.cause.Cause.{Cause}
@@ -29,9 +29,9 @@ use Rattle.whole_meaning.specs.declared.sequences.Sequence.{Sequence}
 use Rattle.whole_meaning.specs.Fields.{address_at, lent, lent_frame, marked_frame}
 use Rattle.whole_meaning.specs.Meanings.{Meaning}
 use Rattle.whole_meaning.specs.Reading.{done, marked_step, plain_step}
-use Rattle.whole_meaning.specs.Running.{meaning, sequence_or}
-use Rattle.whole_meaning.specs.Sequences.{Stack, added, after_call, called_with, descriptor_called, descriptor_calls, does, looks_first, own_base, sequence_result, stack_use, variable_address, variable_distance, with_answer, with_sum, without_flags}
-use Rattle.whole_meaning.specs.Threads.{Meant, Memory, begin_meant, held_next, meant_accesses, meant_mark, meant_shut, meant_show, meant_stack, meant_steps, meant_turns, ops, resume_meant, resumed, resumed_at, resumed_by, resumed_for, sequence_at, sequence_does, sequence_next}
+use Rattle.whole_meaning.specs.Running.{meaning}
+use Rattle.whole_meaning.specs.Sequences.{Stack, added, after_call, called_with, descriptor_called, descriptor_calls, does, looks_first, own_base, sequence_result, stack_use, variable_address, variable_distance, with_sum, without_flags}
+use Rattle.whole_meaning.specs.Threads.{Meant, Memory, begin_meant, held_next, meant_accesses, meant_mark, meant_shut, meant_show, meant_stack, meant_steps, meant_turns, ops, resume_meant, resumed_at, resumed_by, resumed_for, sequence_at, sequence_does, sequence_next}
 use Rattle.thread_blocks.specs.Instances.{instances, numbered_instance}
 use Rattle.thread_blocks.specs.Turns.{Begun}
 use Rattle.thread_blocks.specs.TurnsAlike.{IsFront}
@@ -46,6 +46,8 @@ use Rattle.tls_map_laws.proofs.Known.{Known}
 use Rattle.tls_map_laws.proofs.Begins.{BegunFits, FitsBy, begin_fits, looked_fits, reached_fits}
 use Rattle.tls_map_laws.proofs.Turns.{KeepsMap, NextFits}
 use Rattle.tls_map_laws.proofs.Moment.{found_member}
+use Rattle.guest_machine.specs.Machine.{with_answer}
+use Rattle.thread_blocks.specs.RunTime.{resumed}
 
 abbrev At : Type 0
 At = After Word Flag Memory
@@ -176,7 +178,7 @@ module _ (m : Meaning) (thread : ℕ) (history : List Event) (known : Known m.lo
     called_fits : (word : Word) → ResultFits acts os (called_with stack s thread start word state memory)
     called_fits word =
         then_fits acts os (clean state.place (stack_use stack state memory))
-        (λ low. Ok (left (at_place (with_answer word (after_call state)) s.next) (stack.forget memory low)))
+        (λ low. Ok (left (at_place (with_answer (after_call state) word) s.next) (stack.forget memory low)))
         (λ low. forgets low)
 
     added_fits : ResultFits acts os (added stack s thread start state memory)
@@ -190,7 +192,7 @@ module _ (m : Meaning) (thread : ℕ) (history : List Event) (known : Known m.lo
     descriptor_fits =
         let answer : Word = Number (variable_distance s start state.thread_pointer) in
         then_fits acts os (clean state.place (descriptor_calls stack s thread start state memory))
-        (λ uses. Ok (left (at_place (without_flags (with_answer answer state)) s.next) (stack.forget memory uses.1)))
+        (λ uses. Ok (left (at_place (without_flags (with_answer state answer)) s.next) (stack.forget memory uses.1)))
         (λ uses. forgets uses.1)
 
     form_fits : (form : Form) → ResultFits acts os (does stack s thread start form state memory)
@@ -226,7 +228,7 @@ module _ (m : Meaning) (thread : ℕ) (history : List Event) (known : Known m.lo
   Begin acts begun = BegunFits m.loads thread history known acts begun
 
   either_fits : (acts : List (Act Byte)) (h : Meant) (s : Option Sequence) → Fit acts h
-      → NextIn (acts_at m thread s acts h) h.owners (sequence_or (option_map (sequence_next m thread h.after) s)
+      → NextIn (acts_at m thread s acts h) h.owners (unwrap_or (option_map (sequence_next m thread h.after) s)
       (next_of (marked_step ops acc (meant_mark m thread h.after.memory)
       (meant_shut m thread h.after.memory) h.after.state h.after.memory)))
   either_fits acts h None fits =
@@ -250,7 +252,7 @@ module _ (m : Meaning) (thread : ℕ) (history : List Event) (known : Known m.lo
   -- ** looks
 
   resumed_fits : (acts : List (Act Byte)) (h : Meant) (result : Result At Stop) → Fit acts h
-      → ResultFits acts h.owners result → Begin acts (resumed m thread h result)
+      → ResultFits acts h.owners result → Begin acts (resumed h result)
   resumed_fits acts h (Ok after) fits now = now
   resumed_fits acts h (Err stop) fits now = fits
 

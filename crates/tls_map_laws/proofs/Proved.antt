@@ -26,10 +26,9 @@ use Rattle.thread_blocks.specs.MachineTurns.{pointer_word}
 use Rattle.thread_blocks.specs.RunTime.{Runs, thread_accesses, thread_turns}
 use Rattle.thread_blocks.specs.Turns.{Thread, event_of, ready, turns, with_last}
 use Rattle.thread_blocks.specs.TurnsAlike.{IsFront}
-use Rattle.whole_meaning.specs.Jobs.{job_start as meant_start}
 use Rattle.whole_meaning.specs.Loads.{meaning_of}
 use Rattle.whole_meaning.specs.Meanings.{Meaning}
-use Rattle.whole_meaning.specs.Threads.{Meant, begin_meant, meant_accesses, meant_ready, meant_show, meant_turns, ops}
+use Rattle.whole_meaning.specs.Threads.{Meant, begin_meant, meant_accesses, meant_show, meant_turns, ops}
 use Rattle.tls_map_laws.specs.Always.{HasMap, PeeksShow}
 use Rattle.tls_map_laws.specs.Initial.{initial_image, initial_meant}
 use Rattle.tls_map_laws.specs.Laws.{JobsHaveMap, MachineHasMap, MeaningsHaveMap, MeantJobsHaveMap, RacersHaveMap, ThreadsHaveMap, machine_show}
@@ -116,14 +115,14 @@ module _ (ls : List Linking) (history : List Event) (ready_links : AreReady ls)
       record {
         between = λ points rising. machine_map thread some _ _
             (alone_fits l thread x (machine_acts l thread) (machine_asks l thread) keeps history (known thread)
-            (thread_ready l thread) (numbered_lines 1 own) first ([], refl) points rising);
+            (thread_ready plain_operations l thread) (numbered_lines 1 own) first ([], refl) points rising);
         within = λ points seen rising from n begun. machine_map thread some _ _
             (alone_within l thread x (machine_acts l thread) (machine_asks l thread) keeps history (known thread)
-            (thread_ready l thread) (numbered_lines 1 own) first ([], refl) points seen from n rising begun);
+            (thread_ready plain_operations l thread) (numbered_lines 1 own) first ([], refl) points seen from n rising begun);
         peeks = λ points seen rising.
             let t = turns x (first_of l thread own) points in
             let stands = alone_stands l thread x (machine_acts l thread) (machine_asks l thread) keeps history (known thread)
-            (thread_ready l thread) (numbered_lines 1 own) first ([], refl) points seen rising in
+            (thread_ready plain_operations l thread) (numbered_lines 1 own) first ([], refl) points seen rising in
             machine_peeks fuel thread some _ t seen stands.fits stands.front
             (front_of seen (event_of (event_by l thread) t seen) history stands.mine);
       }
@@ -131,7 +130,7 @@ module _ (ls : List Linking) (history : List Event) (ready_links : AreReady ls)
   meant_threads : (fuel thread : ℕ) (own : List ThreadLine) → 1 ≤ thread
       → HasMap m.loads thread (meant_turns m thread fuel) (meant_acts m thread) (meant_asks m thread)
       (meant_accesses m thread) (initial_meant ls) (Value 0) (meant_show m thread) history
-      (ready (meant_ready m thread) (numbered_lines 1 own))
+      (ready (thread_ready ops m.loads thread) (numbered_lines 1 own))
   meant_threads fuel thread own some =
       let x = meant_turns m thread fuel in
       let keeps = λ (h : List Event) (k : Known m.loads thread h). meant_keeps m thread h k fuel in
@@ -139,14 +138,14 @@ module _ (ls : List Linking) (history : List Event) (ready_links : AreReady ls)
       record {
         between = λ points rising. meant_map thread some _ _
             (alone_fits m.loads thread x (meant_acts m thread) (meant_asks m thread) keeps history (known_meant thread)
-            (meant_ready m thread) (numbered_lines 1 own) first ([], refl) points rising);
+            (thread_ready ops m.loads thread) (numbered_lines 1 own) first ([], refl) points rising);
         within = λ points seen rising from n begun. meant_map thread some _ _
             (alone_within m.loads thread x (meant_acts m thread) (meant_asks m thread) keeps history (known_meant thread)
-            (meant_ready m thread) (numbered_lines 1 own) first ([], refl) points seen from n rising begun);
+            (thread_ready ops m.loads thread) (numbered_lines 1 own) first ([], refl) points seen from n rising begun);
         peeks = λ points seen rising.
-            let t = turns x (ready (meant_ready m thread) (numbered_lines 1 own)) points in
+            let t = turns x (ready (thread_ready ops m.loads thread) (numbered_lines 1 own)) points in
             let stands = alone_stands m.loads thread x (meant_acts m thread) (meant_asks m thread) keeps history
-            (known_meant thread) (meant_ready m thread) (numbered_lines 1 own) first ([], refl) points seen rising in
+            (known_meant thread) (thread_ready ops m.loads thread) (numbered_lines 1 own) first ([], refl) points seen rising in
             meant_peeks fuel thread some _ t seen stands.fits stands.front
             (front_of seen (event_of (event_by m.loads thread) t seen) history stands.mine);
       }
@@ -197,7 +196,7 @@ jobs_have_map ls fuel lines order job thread t at =
     (λ h legal i. known ls h job.ready legal i)
     (λ h legal i some acts s fits. machine_map ls h job.ready legal i some acts s fits) (λ i. machine_show q i)
     (λ h legal i some acts u seen fits front to. machine_peeks ls h job.ready legal fuel i some acts u seen fits front to)
-    (job_start q lines)
+    (job_start plain_operations q lines)
     (λ h legal. machine_start q fuel lines h (λ i. known ls h job.ready legal i)) (legal_first ls job) order thread t at
 
 -- the meaning knows of each image what the machine knows
@@ -224,6 +223,6 @@ meant_jobs_have_map ls fuel lines order job thread t at =
     (λ i. meant_show m i)
     (λ h legal i some acts u seen fits front to.
     meant_peeks ls h job.ready (legal_both ls h legal) fuel i some acts u seen fits front to)
-    (meant_start m lines)
+    (job_start ops m.loads lines)
     (λ h legal. meaning_start m fuel lines h (λ i. known_meant ls h job.ready (legal_both ls h legal) i))
     (legal_meant ls job) order thread t at

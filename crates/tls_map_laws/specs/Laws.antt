@@ -11,18 +11,18 @@ use Rattle.module_table.specs.History.{IsLegal}
 use Rattle.thread_blocks.specs.Held.{Held}
 use Rattle.thread_blocks.specs.Instances.{Loads}
 use Rattle.thread_blocks.specs.JobLoads.{job_loads}
-use Rattle.thread_blocks.specs.JobWorlds.{job_start, numbered_lines, shared_order}
+use Rattle.thread_blocks.specs.JobWorlds.{job_start, numbered_lines, shared_order, thread_ready}
 use Rattle.thread_blocks.specs.Lines.{Line, event_by}
 use Rattle.thread_blocks.specs.RunTime.{shows, thread_accesses, thread_turns}
 use Rattle.thread_blocks.specs.Turns.{Ending, Thread, at_number, ready}
 use Rattle.transcript_text.specs.declared.outcomes.Line.{Line as ShownLine}
-use Rattle.whole_meaning.specs.Jobs.{job_start as meant_start}
 use Rattle.whole_meaning.specs.Loads.{meaning_of}
-use Rattle.whole_meaning.specs.Threads.{Meant, meant_accesses, meant_ready, meant_show, meant_turns}
+use Rattle.whole_meaning.specs.Threads.{Meant, meant_accesses, meant_show, meant_turns, ops}
 use Rattle.tls_map_laws.specs.Always.{HasMap, HasMapAfter, HasMapWithin, OrdersHaveMap}
 use Rattle.tls_map_laws.specs.Initial.{initial_image, initial_meant}
 use Rattle.tls_map_laws.specs.Machine.{machine_acts, machine_asks}
 use Rattle.tls_map_laws.specs.Meaning.{meant_acts, meant_asks}
+use Rattle.guest_arithmetic.specs.Plain.{plain_operations}
 
 -- ** the machine
 
@@ -73,7 +73,7 @@ abbrev pub JobsHaveMap : Type 0
 JobsHaveMap = (ls : List Linking) (fuel : ℕ) (lines : List (List ThreadLine)) (order : List ℕ) → AreJob ls
     → let l = loads ls in
     let x = λ (i : ℕ). thread_turns l i fuel in
-    let start = job_start l lines in
+    let start = job_start plain_operations l lines in
     (thread : ℕ) (t : Thread (Held ℕ Bool ℕ) Line Event)
     → at_number (shared_order x (λ (i : ℕ). event_by l i) order start).threads thread ≡ Some t
     → OrdersHaveMap l x (λ (i : ℕ). machine_acts l i) (λ (i : ℕ). machine_asks l i) (λ (i : ℕ). thread_accesses l i)
@@ -87,13 +87,13 @@ MeaningsHaveMap = (ls : List Linking) (history : List Event) → AreReady ls →
     (fuel thread : ℕ) (own : List ThreadLine) → 1 ≤ thread
     → HasMap m.loads thread (meant_turns m thread fuel) (meant_acts m thread) (meant_asks m thread)
     (meant_accesses m thread) (initial_meant ls) (Value 0) (meant_show m thread) history
-    (ready (meant_ready m thread) (numbered_lines 1 own))
+    (ready (thread_ready ops m.loads thread) (numbered_lines 1 own))
 
 abbrev pub MeantJobsHaveMap : Type 0
 MeantJobsHaveMap = (ls : List Linking) (fuel : ℕ) (lines : List (List ThreadLine)) (order : List ℕ) → AreJob ls
     → let m = meaning_of ls in
     let x = λ (i : ℕ). meant_turns m i fuel in
-    let start = meant_start m lines in
+    let start = job_start ops m.loads lines in
     (thread : ℕ) (t : Thread Meant Line Event)
     → at_number (shared_order x (λ (i : ℕ). event_by m.loads i) order start).threads thread ≡ Some t
     → OrdersHaveMap m.loads x (λ (i : ℕ). meant_acts m i) (λ (i : ℕ). meant_asks m i) (λ (i : ℕ). meant_accesses m i)

@@ -9,9 +9,10 @@ use Rattle.job_meaning.specs.declared.values.Word.{Word}
 use Rattle.job_meaning.specs.declared.values.Word.TheVariants.{Number}
 use Rattle.sequence_forms.specs.declared.forms.Form.TheVariants.{Gd, GdInd, Ld, LdInd, IeMov, IeAdd, DescLea, DescCall}
 use Rattle.whole_meaning.specs.Laws.{AnswersAgree, RunTimeAnswersAgree}
-use Rattle.whole_meaning.specs.Sequences.{Stack, after_call, called_with, descriptor_called, descriptor_calls, stack_use, variable_address, variable_distance, with_answer, without_flags}
+use Rattle.whole_meaning.specs.Sequences.{Stack, after_call, called_with, descriptor_called, descriptor_calls, stack_use, variable_address, variable_distance, without_flags}
 use Rattle.whole_meaning.specs.declared.sequences.Sequence.{Sequence}
 use Rattle.whole_meaning.specs.Threads.{Memory}
+use Rattle.guest_machine.specs.Machine.{with_answer}
 
 -- a step that was done left its state
 done : {A : Type 0} (place : ℕ) (wanted : Result A Cause) (state : State Word Flag) (memory : A → Memory) (after : After Word Flag Memory)
@@ -23,14 +24,14 @@ module _ (stack : Stack Memory) (s : Sequence) (thread start : ℕ) (state : Sta
   called : (word : Word) → called_with stack s thread start word state memory ≡ Ok after → after.state.registers.rax ≡ word
   called word e =
       ap (λ (now : State Word Flag). now.registers.rax)
-      (done state.place (stack_use stack state memory) (at_place (with_answer word (after_call state)) s.next) (stack.forget memory) after e)
+      (done state.place (stack_use stack state memory) (at_place (with_answer (after_call state) word) s.next) (stack.forget memory) after e)
 
   described : descriptor_called stack s thread start state memory ≡ Ok after
       → after.state.registers.rax ≡ Number (variable_distance s start state.thread_pointer)
   described e =
       ap (λ (now : State Word Flag). now.registers.rax)
       (done state.place (descriptor_calls stack s thread start state memory)
-      (at_place (without_flags (with_answer (Number (variable_distance s start state.thread_pointer)) state)) s.next) (λ uses. stack.forget memory uses.1) after e)
+      (at_place (without_flags (with_answer state (Number (variable_distance s start state.thread_pointer)))) s.next) (λ uses. stack.forget memory uses.1) after e)
 
 -- the address is the distance and the thread pointer
 apart : (s t : Sequence) (start pointer : ℕ) → s.offset ≡ t.offset → pointer < 2 ^ 64

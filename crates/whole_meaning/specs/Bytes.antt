@@ -44,18 +44,15 @@ module _ (l : Linking) (bias : ℕ) where
   symbol_number kind bound = 0
 
   -- the number that is subtracted from an offset from the thread pointer
-  abbrev pub subtracted_from : FieldValue → ℕ
-  subtracted_from ThreadOffset = block_offset l
-  subtracted_from value = 0
-
-  abbrev pub subtracted : RelocationKind → ℕ
-  subtracted kind = subtracted_from (row kind).value
+  abbrev pub subtracted : FieldValue → ℕ
+  subtracted ThreadOffset = block_offset l
+  subtracted value = 0
 
   -- the field of a relocation of section s of object o, at the instance's address
   unfoldable pub value_of : ℕ → ℕ → Relocation → Option Field
   value_of o s r =
       stored_field r.kind (symbol_number r.kind (binding l o r)) r.addend (place l o s r.offset + bias)
-      (subtracted r.kind)
+      (subtracted (row r.kind).value)
 
   -- ** bytes
 

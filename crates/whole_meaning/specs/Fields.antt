@@ -1,14 +1,14 @@
 -- What an instruction may do with a field in it that holds a number which only the linker knows.
-use Rattle.std.specs.Prelude.{ℕ, ℤ, pos, negsuc, suc, ◌-◌, ◌%◌, ◌^◌, ◌==◌, ◌&&◌, ◌||◌, Bool, true, false, not, nat_lt, Option, Some, None, option_and_then, Result, Ok, Err, if◌then◌else◌}
+use Rattle.std.specs.Prelude.{ℕ, ℤ, pos, negsuc, suc, ◌-◌, ◌%◌, ◌^◌, ◌==◌, ◌&&◌, ◌||◌, Bool, true, false, not, nat_lt, Option, Some, None, option_and_then, Result, Ok, Err, if◌then◌else◌, is_ok}
 use Rattle.amd64_subset.specs.declared.instr.Arithmetic.TheVariants.{Add, Compare}
 use Rattle.amd64_subset.specs.declared.instr.Decoded.{Decoded}
 use Rattle.amd64_subset.specs.declared.instr.Operation.{Operation}
-use Rattle.amd64_subset.specs.declared.instr.Operation.TheVariants.{Move, StoreByte, ExtendByte, ExtendLong, LoadAddress, Compute, Test, Multiply, Shift, Push, Pop, Leave, Call, Jump, JumpIf, Return, Nop, Undefined}
+use Rattle.amd64_subset.specs.declared.instr.Operation.TheVariants.{Move, StoreByte, ExtendByte, ExtendLong, LoadAddress, Compute, Test, Multiply, Shift, Call, Jump, Nop}
 use Rattle.amd64_subset.specs.declared.instr.Target.{Target}
 use Rattle.amd64_subset.specs.declared.instr.Target.TheVariants.{Relative, Indirect}
 use Rattle.amd64_subset.specs.declared.instr.Width.TheVariants.{Quad}
 use Rattle.amd64_subset.specs.declared.operand.Base.{Base}
-use Rattle.amd64_subset.specs.declared.operand.Base.TheVariants.{Absolute, NextInstruction, Register as OfRegister}
+use Rattle.amd64_subset.specs.declared.operand.Base.TheVariants.{NextInstruction}
 use Rattle.amd64_subset.specs.declared.operand.Memory.{Memory}
 use Rattle.amd64_subset.specs.declared.operand.Operand.{Operand}
 use Rattle.amd64_subset.specs.declared.operand.Operand.TheVariants.{InMemory, Register as InRegister}
@@ -25,7 +25,7 @@ use Rattle.guest_operands.specs.Use.{plus}
 use Rattle.guest_machine.specs.declared.touch.Touches.{Touches}
 use Rattle.job_meaning.specs.Reading.{is_at}
 use Rattle.whole_meaning.specs.declared.marks.Mark.{Mark}
-use Rattle.whole_meaning.specs.declared.marks.Mark.TheVariants.{Usual, Offset, Address, Inside}
+use Rattle.whole_meaning.specs.declared.marks.Mark.TheVariants.{Offset, Address}
 
 -- ** an instruction's operand in memory
 
@@ -53,15 +53,10 @@ memory_in (Compute arithmetic width operands) = operands_in operands
 memory_in (Test width left right) = operand_in left
 memory_in (Multiply width to from) = operand_in from
 memory_in (Shift shift width to count) = operand_in to
-memory_in (Push from) = None
-memory_in (Pop to) = None
-memory_in Leave = None
 memory_in (Call target) = target_in target
 memory_in (Jump target) = target_in target
-memory_in (JumpIf condition distance) = None
-memory_in Return = None
 memory_in (Nop operand) = option_and_then operand_in operand
-memory_in Undefined = None
+memory_in operation = None
 
 -- the operand in memory of an instruction that reads its 64 bits and does not write it
 unfoldable pub read_in : Operation → Option Memory
@@ -79,39 +74,28 @@ read_in operation = None
 
 -- an offset field begins here
 abbrev pub starts_offset : Mark → Bool
-starts_offset Usual = false
 starts_offset (Offset number byte) = byte == 0
-starts_offset (Address number addend byte) = false
-starts_offset Inside = false
+starts_offset mark = false
 
 -- the field's own number if an offset field begins here, and else what was decoded
 abbrev pub field_number : Mark → ℕ → ℕ
-field_number Usual read = read
 field_number (Offset number byte) read = if byte == 0 then number else read
-field_number (Address number addend byte) read = read
-field_number Inside read = read
+field_number mark read = read
 
 -- the address that an address field stands for, if one begins here
 abbrev pub field_address : Mark → Option ℕ
-field_address Usual = None
-field_address (Offset number byte) = None
 field_address (Address number addend byte) = if byte == 0 then Some number else None
-field_address Inside = None
+field_address mark = None
 
 -- an addend is minus this many
 abbrev pub is_minus : ℤ → ℕ → Bool
 is_minus (pos n) size = false
 is_minus (negsuc n) size = suc n == size
 
-abbrev pub is_used : {A C : Type 0} → Result A C → Bool
-is_used (Ok x) = true
-is_used (Err why) = false
-
 -- relative to the next instruction's address, and not to the thread pointer
 abbrev pub is_from_next : Base → Bool
-is_from_next Absolute = false
 is_from_next NextInstruction = true
-is_from_next (OfRegister register) = false
+is_from_next base = false
 
 abbrev pub reads_next : Option Memory → Bool
 reads_next None = false
@@ -141,11 +125,11 @@ module _ {W F B : Type 0} (ops : Operations W F B) (mark : ℕ → Mark) (state 
   -- an operand's address can be used: its base is one of the code's own instance, and its index is a number
   abbrev pub has_address : Decoded → Option Memory → Bool
   has_address it None = false
-  has_address it (Some memory) = is_used (address_of ops (marked_frame mark state.place it) state memory)
+  has_address it (Some memory) = is_ok (address_of ops (marked_frame mark state.place it) state memory)
 
   -- the sum of such a base and an immediate at byte k
   abbrev pub adds_to_base : Decoded → ℕ → Operation → Bool
-  adds_to_base it k (Compute Add Quad (Immediate (InRegister to))) = is_used (ops.moved (register_of state.registers to)
+  adds_to_base it k (Compute Add Quad (Immediate (InRegister to))) = is_ok (ops.moved (register_of state.registers to)
       (marked_frame mark state.place it).immediate (plus state.place k))
   adds_to_base it k operation = false
 

@@ -1,47 +1,30 @@
 -- What all threads of a job mean, and whether that is clean. The turns are those of the machine's threads, in the same
 -- order, and the data go from turn to turn.
-use Rattle.std.specs.Prelude.{ℕ, ◌+◌, ◌*◌, ◌++◌, true, suc, List, [], ◌∷◌, codes, map, Option, Some, None}
+use Rattle.std.specs.Prelude.{ℕ, ◌+◌, ◌*◌, ◌++◌, List, [], ◌∷◌, codes, map, Option, Some, None}
 use Rattle.std.specs.Fmt.{decimal}
-use Rattle.std.specs.List.{flat_map}
 use Rattle.std.specs.Option.{option_or}
 use Rattle.guest_arithmetic.specs.declared.cause.Cause.{Cause}
 use Rattle.guest_arithmetic.specs.declared.cause.Cause.TheVariants as cause
-use Rattle.guest_operands.specs.declared.stop.Stop.{Stop}
-use Rattle.guest_operands.specs.declared.stop.Stop.TheVariants.{Returned, Look, Address, Code, Unclean, Steps}
+use Rattle.guest_operands.specs.declared.stop.Stop.TheVariants.{Unclean}
 use Rattle.job_meaning.specs.declared.values.Byte.{Byte}
 use Rattle.job_meaning.specs.declared.values.Flag.{Flag}
 use Rattle.job_meaning.specs.declared.values.Word.{Word}
 use Rattle.job_text.specs.declared.thread_lines.ThreadLine.{ThreadLine}
-use Rattle.module_table.specs.declared.events.Event.{Event}
 use Rattle.transcript_text.specs.Texts.{hex16}
-use Rattle.thread_blocks.specs.Held.{Owned, data_after}
-use Rattle.thread_blocks.specs.Instances.{instances}
-use Rattle.thread_blocks.specs.JobWorlds.{Shared, numbered_lines, shared_order}
+use Rattle.thread_blocks.specs.JobWorlds.{Shared, job_start, shared_order}
 use Rattle.thread_blocks.specs.Lines.{Line, event_by}
-use Rattle.thread_blocks.specs.Turns.{Answered, Ending, Said, Stopped, Thread, ready, whole_order}
+use Rattle.thread_blocks.specs.Turns.{Ending, Said, Stopped, whole_order}
 use Rattle.whole_meaning.specs.declared.unclean.UncleanStep.{UncleanStep}
 use Rattle.whole_meaning.specs.Meanings.{Meaning}
-use Rattle.whole_meaning.specs.Threads.{Meant, meant_ready, meant_turns}
+use Rattle.whole_meaning.specs.Threads.{meant_turns, ops}
 
 -- ** turns
 
 module _ (m : Meaning) where
-  abbrev pub ready_from : ℕ → List (List ThreadLine) → List (Thread Meant Line Event)
-  ready_from thread [] = []
-  ready_from thread (lines ∷ more) =
-      ready (meant_ready m thread) (numbered_lines 1 lines) ∷ ready_from (suc thread) more
-
-  -- before the first turn the data are those of the startup images
-  abbrev pub first_data : List (Owned Byte)
-  first_data = flat_map (data_after m.loads (λ x. true) []) (instances m.loads [])
-
-  abbrev pub job_start : List (List ThreadLine) → Shared Word Flag Byte Line
-  job_start lines = record { threads = ready_from 1 lines; events = []; shared = first_data }
-
   -- all turns of a job: as many for each thread as the machine's may need; a finished thread does nothing in a turn
   unfoldable pub meant_world : ℕ → List (List ThreadLine) → List ℕ → Shared Word Flag Byte Line
   meant_world fuel lines order = shared_order (λ thread. meant_turns m thread fuel) (λ thread. event_by m.loads thread)
-      (whole_order (4 * fuel) lines order) (job_start lines)
+      (whole_order (4 * fuel) lines order) (job_start ops m.loads lines)
 
 -- the lines of each thread
 abbrev pub lines_of : Shared Word Flag Byte Line → List (List Said)
@@ -49,18 +32,10 @@ lines_of w = map (λ t. t.said) w.threads
 
 -- ** clean or not
 
-abbrev pub unclean_stop : ℕ → ℕ → Stop → Option UncleanStep
-unclean_stop thread line (Returned number) = None
-unclean_stop thread line (Look at) = None
-unclean_stop thread line (Address at) = None
-unclean_stop thread line (Code at) = None
-unclean_stop thread line (Unclean at why) =
-    Some (record { thread = thread; line = line; address = at; cause = why })
-unclean_stop thread line (Steps at) = None
-
 abbrev pub unclean_ending : ℕ → ℕ → Ending → Option UncleanStep
-unclean_ending thread line (Answered answer) = None
-unclean_ending thread line (Stopped stop) = unclean_stop thread line stop
+unclean_ending thread line (Stopped (Unclean at why)) =
+    Some (record { thread = thread; line = line; address = at; cause = why })
+unclean_ending thread line ending = None
 
 -- the first of a thread's lines from this number on
 abbrev pub first_in : ℕ → ℕ → List Said → Option UncleanStep

@@ -1,6 +1,6 @@
 -- What is loaded of a job's images in the meaning, made of their objects: each section of a live instance at its
 -- address. There is no table that a linker makes, no module id, and nothing that a loader would write.
-use Rattle.std.specs.Prelude.{ℕ, ◌+◌, ◌&&◌, Bool, true, false, List, [], ◌∷◌, Option, Some, None, map, nat_lt, option_and_then, option_map, if◌then◌else◌}
+use Rattle.std.specs.Prelude.{ℕ, ◌+◌, ◌&&◌, Bool, true, false, not, List, [], ◌∷◌, Option, Some, None, map, nat_lt, option_and_then, option_map, if◌then◌else◌}
 use Rattle.std.specs.List.{list_any}
 use Rattle.guest_machine.specs.Ranges.{Range}
 use Rattle.job_meaning.specs.declared.values.Byte.{Byte}
@@ -19,11 +19,13 @@ use Rattle.thread_blocks.specs.Instances.{Loads}
 use Rattle.thread_blocks.specs.Turns.{at_number}
 use Rattle.tls_layout.specs.Laws.{extent_for}
 use Rattle.tls_layout.specs.Places.{tls_alignment, tls_size}
+use Rattle.tls_layout.specs.Sections.{same_class}
 use Rattle.whole_meaning.specs.declared.marks.Mark.TheVariants.{Usual}
 use Rattle.whole_meaning.specs.Bytes.{block_bytes, class_bytes, function_of, variable_of}
 use Rattle.whole_meaning.specs.Code.{mark_of, sequence_of}
 use Rattle.whole_meaning.specs.Meanings.{Meaning}
 use Rattle.whole_meaning.specs.Spots.{bias_of, in_room}
+use Rattle.std.specs.Option.{option_map_or}
 
 -- ** what is known of an image from the start
 
@@ -41,45 +43,31 @@ info_of l = record {
 
 -- ** what is loaded of an instance
 
--- the bytes of a class at an instance's address
+-- the bytes of a class at an instance's address: code can be fetched, and not be read; all others can be read, and
+-- data also written
 abbrev pub class_range : Linking → ℕ → SectionClass → Range Byte
 class_range l bias class = record {
   start = (extent_for class (layout l)).start + bias;
   bytes = map Value (class_bytes l bias class);
-  readable = false;
-  writable = false;
-  runnable = false;
+  readable = not (same_class Executable class);
+  writable = same_class (Writable true) class;
+  runnable = same_class Executable class;
 }
 
--- code can be fetched, and not be read
-abbrev pub code_range : Linking → ℕ → Range Byte
-code_range l bias = record (class_range l bias Executable) { runnable = true }
-
--- constants, and the initial image, can be read
-abbrev pub constant_range : Linking → ℕ → SectionClass → Range Byte
-constant_range l bias class = record (class_range l bias class) { readable = true }
-
--- data can be read and written
-abbrev pub data_range : Linking → ℕ → Range Byte
-data_range l bias = record (class_range l bias (Writable true)) { readable = true; writable = true }
-
+-- code, constants and the initial image
 abbrev pub still_ranges : Linking → ℕ → List (Range Byte)
 still_ranges l bias =
-    code_range l bias ∷ constant_range l bias ReadOnly ∷ constant_range l bias (Tls true) ∷ []
+    class_range l bias Executable ∷ class_range l bias ReadOnly ∷ class_range l bias (Tls true) ∷ []
 
 abbrev pub has_data : Linking → Bool
 has_data l = let extent = extent_for (Writable true) (layout l) in nat_lt extent.start extent.end
 
 abbrev pub data_ranges : Linking → ℕ → Option (Range Byte)
-data_ranges l bias = if has_data l then Some (data_range l bias) else None
+data_ranges l bias = if has_data l then Some (class_range l bias (Writable true)) else None
 
 -- for an instance's image, if there is one
-abbrev pub at_bias : {A : Type 0} → A → (Linking → ℕ → A) → ℕ → Option Linking → A
-at_bias none f number None = none
-at_bias none f number (Some l) = f l (bias_of l.kind number)
-
 abbrev pub of_image : {A : Type 0} → List Linking → A → (Linking → ℕ → A) → Instance → A
-of_image ls none f x = at_bias none f x.number (at_number ls x.image)
+of_image ls none f x = option_map_or (λ l. f l (bias_of l.kind x.number)) (at_number ls x.image) none
 
 -- ** all of it
 

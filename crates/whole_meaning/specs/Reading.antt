@@ -25,20 +25,16 @@ use Rattle.whole_meaning.specs.Fields.{address_at, lent, lent_frame, marked_fram
 module _ {W F B : Type 0} (ops : Operations W F B) (mark : ℕ → Mark) (state : State W F) where
   -- ** reading
 
-  abbrev pub unless_taken : Bool → Option Cause
-  unless_taken taken = if taken then None else Some cause.Field
-
   -- why byte k of an instruction may not be read: it lies in a sequence, or in a field that the instruction may not
   -- cover
   abbrev pub hindrance_of : Option Decoded → ℕ → Mark → Option Cause
   hindrance_of it k Usual = None
-  hindrance_of None k (Offset number byte) = Some cause.Field
-  hindrance_of (Some it) k (Offset number byte) =
-      unless_taken (nat_le byte k && takes_offset ops mark state (k - byte) it)
-  hindrance_of None k (Address number addend byte) = Some cause.Field
-  hindrance_of (Some it) k (Address number addend byte) =
-      unless_taken (nat_le byte k && takes_address ops mark state addend (k - byte) it)
   hindrance_of it k Inside = Some cause.Inside
+  hindrance_of (Some it) k (Offset number byte) =
+      if nat_le byte k && takes_offset ops mark state (k - byte) it then None else Some cause.Field
+  hindrance_of (Some it) k (Address number addend byte) =
+      if nat_le byte k && takes_address ops mark state addend (k - byte) it then None else Some cause.Field
+  hindrance_of None k mark = Some cause.Field
 
   -- the same if the bytes before it are a proper prefix of a spelling; otherwise byte k is not read
   abbrev pub hindered : List ℕ → ℕ → Option Cause

@@ -4,7 +4,6 @@ use Rattle.std.specs.Prelude.{ℕ, ◌-◌, ◌^◌, Bool, true, false, Result, 
 use Rattle.std.specs.List.{list_all}
 use Rattle.guest_arithmetic.specs.declared.cause.Cause.{Cause}
 use Rattle.guest_arithmetic.specs.declared.cause.Cause.TheVariants as cause
-use Rattle.guest_arithmetic.specs.declared.flags.Flags.{Flags}
 use Rattle.guest_arithmetic.specs.Cause.{both}
 use Rattle.guest_operands.specs.declared.state.State.{State}
 use Rattle.guest_operands.specs.declared.stop.Stop.{Stop}
@@ -21,6 +20,7 @@ use Rattle.job_meaning.specs.Marked.{is_same, used_number}
 use Rattle.sequence_forms.specs.declared.forms.Form.{Form}
 use Rattle.sequence_forms.specs.declared.forms.Form.TheVariants.{Gd, Ld, IeMov, IeAdd, GdInd, LdInd, DescLea, DescCall}
 use Rattle.whole_meaning.specs.declared.sequences.Sequence.{Sequence}
+use Rattle.guest_machine.specs.Machine.{with_answer}
 
 -- the stack in a thread's memory
 pub record Stack (M : Type 0) : Type 0 where
@@ -56,14 +56,9 @@ descriptor_use s (Marked (Descriptor instance symbol)) =
 
 -- ** what it leaves
 
-abbrev pub no_flags : Flags Flag
-no_flags = record { zero = Unsettled; sign = Unsettled; carry = Unsettled; overflow = Unsettled }
-
 abbrev pub without_flags : State Word Flag → State Word Flag
-without_flags state = record state { flags = no_flags }
-
-abbrev pub with_answer : Word → State Word Flag → State Word Flag
-with_answer word state = record state { registers = record state.registers { rax = word } }
+without_flags state =
+    record state { flags = record { zero = Unsettled; sign = Unsettled; carry = Unsettled; overflow = Unsettled } }
 
 -- a call leaves these registers unknown to its caller (psABI, "Registers and the Stack Frame"), and the flags
 abbrev pub after_call : State Word Flag → State Word Flag
@@ -101,7 +96,7 @@ module _ {M : Type 0} (stack : Stack M) (s : Sequence) (thread start : ℕ) wher
   abbrev pub called_with : Word → State Word Flag → M → Result (After Word Flag M) Stop
   called_with word state memory = do
     below ← clean state.place (stack_use stack state memory)
-    Ok (left (at_place (with_answer word (after_call state)) s.next) (stack.forget memory below))
+    Ok (left (at_place (with_answer (after_call state) word) s.next) (stack.forget memory below))
 
   -- a register holds the distance
   abbrev pub loaded : State Word Flag → M → Result (After Word Flag M) Stop
@@ -122,7 +117,7 @@ module _ {M : Type 0} (stack : Stack M) (s : Sequence) (thread start : ℕ) wher
   -- %rax holds the descriptor
   abbrev pub described : State Word Flag → M → Result (After Word Flag M) Stop
   described state memory =
-      Ok (left (at_place (with_answer (Marked (Descriptor s.instance s.symbol)) state) s.next) memory)
+      Ok (left (at_place (with_answer state (Marked (Descriptor s.instance s.symbol))) s.next) memory)
 
   abbrev pub descriptor_calls : State Word Flag → M → Result (Unit {0} × ℕ) Cause
   descriptor_calls state memory = both (descriptor_use s state.registers.rax) (stack_use stack state memory)
@@ -131,7 +126,7 @@ module _ {M : Type 0} (stack : Stack M) (s : Sequence) (thread start : ℕ) wher
   abbrev pub descriptor_called : State Word Flag → M → Result (After Word Flag M) Stop
   descriptor_called state memory = do
     uses ← clean state.place (descriptor_calls state memory)
-    Ok (left (at_place (without_flags (with_answer (Number (variable_distance s start state.thread_pointer)) state))
+    Ok (left (at_place (without_flags (with_answer state (Number (variable_distance s start state.thread_pointer))))
         s.next)
         (stack.forget memory uses.1))
 
@@ -151,14 +146,10 @@ module _ {M : Type 0} (stack : Stack M) (s : Sequence) (thread start : ℕ) wher
 
 -- the forms that call the run time, and look if their variable's instance is not a startup one
 abbrev pub asks : Form → Bool
-asks Gd = true
-asks GdInd = true
-asks Ld = true
-asks LdInd = true
-asks DescCall = true
 asks IeMov = false
 asks IeAdd = false
 asks DescLea = false
+asks form = true
 
 -- a look changes nothing, and is made only if the rest of the step is clean
 abbrev pub looks_first : {W F M : Type 0} → Bool → After W F M → Result (After W F M) Stop → Next (After W F M)

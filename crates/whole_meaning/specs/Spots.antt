@@ -43,16 +43,13 @@ stands_at p class o b address s =
 abbrev pub spot_at : Layout → ℕ → ℕ → ℕ → Spot
 spot_at p o address s = record { object = o; section = s; within = address - begin_of p o s }
 
--- the section of object o that holds it, if there is one
-abbrev pub object_spot : Layout → SectionClass → ℕ → List ℕ → ℕ → Option Spot
-object_spot p class o b address =
-    option_map (spot_at p o address) (find (stands_at p class o b address) (range_with_len 0 (section_count b)))
-
--- the one of the objects from number o on
+-- the section that holds it, if there is one, of the objects from number o on
 abbrev pub spot_from : Layout → SectionClass → ℕ → List (List ℕ) → ℕ → Option Spot
 spot_from p class o [] address = None
 spot_from p class o (b ∷ more) address =
-    option_or (object_spot p class o b address) (spot_from p class (o + 1) more address)
+    option_or
+    (option_map (spot_at p o address) (find (stands_at p class o b address) (range_with_len 0 (section_count b))))
+    (spot_from p class (o + 1) more address)
 
 -- the byte of a section at an address of the class; there is none between two sections
 unfoldable pub spot_in : Linking → SectionClass → ℕ → Option Spot

@@ -2,7 +2,7 @@
 -- machine's threads, over marked values; the steps also have sequences.
 use Rattle.std.specs.Prelude.{ℕ, ◌+◌, ◌-◌, ◌++◌, ◌&&◌, ◌==◌, Bool, true, false, List, [], ◌∷◌, drop, Option, Some, None, Result, Ok, Err, nat_lt, position, replicate, unwrap_or, option_and_then, option_map, if◌then◌else◌}
 use Rattle.std.specs.List.{list_any}
-use Rattle.std.specs.Option.{option_or}
+use Rattle.std.specs.Option.{option_or, option_map_or}
 use Rattle.address_map.specs.Map.{owner_at, stack_start}
 use Rattle.guest_arithmetic.specs.declared.cause.Cause.{Cause}
 use Rattle.guest_arithmetic.specs.declared.cause.Cause.TheVariants as cause
@@ -42,6 +42,7 @@ use Rattle.whole_meaning.specs.Meanings.{Meaning}
 use Rattle.whole_meaning.specs.Running.{meaning}
 use Rattle.whole_meaning.specs.Sequences.{Stack, asks, looks_first, sequence_result}
 use Rattle.whole_meaning.specs.declared.sequences.Sequence.{Sequence}
+use Rattle.thread_blocks.specs.RunTime.{resumed}
 
 -- the operations of marked values; an address tells whose code lies there
 abbrev pub ops : Operations Word Flag Byte
@@ -80,13 +81,9 @@ module _ (m : Meaning) (thread : ℕ) where
   abbrev pub code_owner : List Event → ℕ → Option Instance
   code_owner seen place = numbered_instance m.loads seen (owner_at place)
 
-  abbrev pub marked_in : ℕ → Option Instance → Mark
-  marked_in place None = Usual
-  marked_in place (Some x) = m.mark x place
-
   -- the mark of an address of code, after the events that the thread has seen
   abbrev pub meant_mark : Memory → ℕ → Mark
-  meant_mark space place = marked_in place (code_owner space.seen place)
+  meant_mark space place = option_map_or (λ x. m.mark x place) (code_owner space.seen place) Usual
 
   -- the addresses of the run time, and the rooms of live instances, are the linker's own
   abbrev pub meant_shut : Memory → ℕ → Bool
@@ -102,15 +99,10 @@ module _ (m : Meaning) (thread : ℕ) where
   abbrev pub came_late : ℕ → Bool
   came_late number = nat_lt (startup_count m.loads.infos) number
 
-  -- the address of the thread's block of an instance
-  abbrev pub start_in : Option Instance → ℕ
-  start_in None = 0
-  start_in (Some x) = block_start thread x
-
-  -- the step of a sequence, without a look
+  -- the step of a sequence, without a look, by the thread's block of the variable's instance
   abbrev pub sequence_does : Sequence → After Word Flag Memory → Result (After Word Flag Memory) Stop
   sequence_does s at = sequence_result meant_stack s thread
-      (start_in (numbered_instance m.loads at.memory.seen s.target)) at.state at.memory
+      (option_map_or (block_start thread) (numbered_instance m.loads at.memory.seen s.target) 0) at.state at.memory
 
   -- a sequence that asks the run time for a variable of an instance that is not a startup one looks first
   abbrev pub sequence_next : After Word Flag Memory → Sequence → Next (After Word Flag Memory)
@@ -134,10 +126,6 @@ module _ (m : Meaning) (thread : ℕ) where
   }
 
   -- ** a look in the middle of a line: a sequence asks for a variable
-
-  abbrev pub resumed : Meant → Result (After Word Flag Memory) Stop → Begun Meant
-  resumed h (Ok after) = Calls (record h { after = after })
-  resumed h (Err stop) = Says (Stopped stop) h
 
   -- the thread reaches its block of the instance, and does the sequence
   abbrev pub resumed_by : Meant → Sequence → Option Instance → Begun Meant
@@ -216,11 +204,3 @@ module _ (m : Meaning) (thread : ℕ) where
     begin = λ line seen h. begin_meant line seen h;
     resume = λ seen h. resume_meant seen h;
   }
-
-  -- what a thread holds before its first line: its blocks of the startup images
-  abbrev pub meant_ready : Meant
-  meant_ready = looked m.loads thread [] (record {
-    after = left (start_of ops 0 0 (Number 0) (Number 0) (Number 0)) (record { seen = []; stack = []; own = [] });
-    owners = [];
-    asked = None;
-  })

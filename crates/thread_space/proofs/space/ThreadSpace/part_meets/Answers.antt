@@ -2,10 +2,10 @@
 use Rattle.std.proofs.Common.{◌≡◌, ◌∙◌, ◌+◌, Some, length, true, ap, refl, sym, slice_get}
 use Rattle.image_file.specs.Spelled.{Part, part_seen}
 use Rattle.loaded_modules.specs.Loader.{bias_of, loaded_part}
-use Rattle.thread_blocks.specs.Loading.{is_code}
 use Rattle.thread_space.specs.Fetching.{meets}
 use Rattle.thread_space.proofs.Fetched.{meets_read}
 use Rattle.thread_space.proofs.space.ThreadSpace.part_meets.Goals as goal
+use Rattle.image_names.specs.Functions.{is_code}
 
 pub returns : goal.returns
 returns c =
