@@ -9,7 +9,7 @@ use Rattle.elf_records.specs.declared.dynamic.TheConstants.{DT_RELA, DT_RELASZ}
 use Rattle.image_rules.specs.declared.rule.EntryRule.TheVariants.{Hash, Strings, Symbols, Relocations}
 use Rattle.image_faults.specs.Parts.{last}
 use Rattle.image_faults.specs.Array.{array_size, entry, HasTag, has_tag, place, HoldsTable, IsRightEntry, hash_place, bucket_count, symbol_count}
-use Rattle.image_faults.specs.Array.{strings_place, strings_size, symbols_place, has_relocations, relocations_size, relocations_place}
+use Rattle.image_faults.specs.Array.{strings_place, strings_size, symbols_place, relocations_size, relocations_place}
 use Rattle.image_faults.specs.Array.{relocation_count}
 use Rattle.image_faults.specs.Symbols.{symbol}
 use Rattle.image_faults.specs.Relocations.{rela}
@@ -138,7 +138,7 @@ pub relocations_held : (b : List ℕ) → IsRightEntry Relocations b → 0 < rel
     → HasTag b 5 DT_RELA × HoldsTable b (entry b 5).value (relocations_size b)
 relocations_held b right some =
     let sized : 0 < relocations_size b = omega (arith, count_of_size b) in
-    let named = size_named (has_relocations b) (has_tag b 6 DT_RELASZ) (entry b 6).value sized in
+    let named = size_named (has_tag b 5 DT_RELA) (has_tag b 6 DT_RELASZ) (entry b 6).value sized in
     elim right [
       | inl none ↦ absurd (none (tag_of_test _ _ _ _ named))
       | inr holds ↦ holds
