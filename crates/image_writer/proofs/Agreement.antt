@@ -1,5 +1,5 @@
 -- A file of an image that was read stands for that very image.
-use Rattle.std.proofs.Common.{◌≡◌, ◌+◌, ◌<◌, ℕ, List, arith}
+use Rattle.std.proofs.Common.{◌≡◌, ◌<◌, ℕ, List, arith}
 use Rattle.image_rules.specs.declared.rule.Rule.{Rule}
 use Rattle.image_rules.specs.declared.rule.Rule.TheVariants.{Length, Ident, Field, Extent, Segment, Entry, Table}
 use Rattle.image_rules.specs.declared.rule.FieldRule.{FieldRule}

@@ -13,7 +13,6 @@ use Rattle.image_rules.specs.declared.rule.EntryRule.TheVariants.{Relocations, R
 use Rattle.image_rules.specs.declared.rule.EntryRule.TheVariants.{End}
 use Rattle.image_rules.specs.declared.rule.Rule.TheVariants.{Entry}
 use Rattle.image_faults.specs.Parts.{header, last}
-use Rattle.image_faults.specs.Array as seen
 use Rattle.image_faults.specs.Array.{HasTag, HoldsTable, IsRightEntry, entry, flags_entry, has_tag}
 use Rattle.image_faults.specs.Faults.{Breaks, Keeps}
 use Rattle.image_faults.specs.Places.{file_kind, is_flagged}
@@ -89,7 +88,7 @@ symbols_right f c s =
 -- where there are none, the array names none
 none_named : (f : List ℕ) (c : Contents) → IsSeen f c → has_relocations c ≡ false → HasTag f 5 DT_RELA → ⊥
 none_named f c s lacking has =
-    both_ways (seen.has_relocations f) (has_relocations_is f c s ∙ lacking) (test_true f 5 DT_RELA has)
+    both_ways (has_tag f 5 DT_RELA) (has_relocations_is f c s ∙ lacking) (test_true f 5 DT_RELA has)
 
 -- that of the relocations
 relocations_right : (f : List ℕ) (c : Contents) → IsSeen f c → IsRightEntry Relocations f

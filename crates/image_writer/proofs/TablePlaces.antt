@@ -4,7 +4,7 @@ use Rattle.std.proofs.Common.{ap, ◌∙◌, arith, if◌then◌else◌, inl, in
 use Rattle.std.proofs.lemmas.Bool.{cases_Bool, lt-ltb, ltb-false, and_from, and_left}
 use Rattle.elf_records.specs.Fields.{number_at, part_at}
 use Rattle.elf_records.specs.Records.{symbol_at, rela_at, FitsSymbolEntry, FitsRela}
-use Rattle.elf_records.specs.declared.dynamic.TheConstants.{DT_RELASZ, DT_STRSZ}
+use Rattle.elf_records.specs.declared.dynamic.TheConstants.{DT_RELA, DT_RELASZ, DT_STRSZ}
 use Rattle.image_faults.specs.Parts.{last}
 use Rattle.image_faults.specs.Array as seen
 use Rattle.image_faults.specs.Array.{has_tag, entry, bucket_count, symbol_count, relocation_count}
@@ -109,13 +109,13 @@ relocations_size_is f c s = elim (cases_Bool (has_relocations c)) [
   | inl some ↦
       let told = relocations_size_seen f c s some in
       ap (λ b. if b then (entry f 6).value else 0)
-      (and_from (seen.has_relocations f) (has_tag f 6 DT_RELASZ) (has_relocations_is f c s ∙ some) (test_true f 6 DT_RELASZ told.0))
+      (and_from (has_tag f 5 DT_RELA) (has_tag f 6 DT_RELASZ) (has_relocations_is f c s ∙ some) (test_true f 6 DT_RELASZ told.0))
       ∙ told.1
   | inr lacking ↦
       let few : length c.relocations ≤ 0 = ltb-false 0 (length c.relocations) lacking in
       let zeros : 0 ≡ 24 * length c.relocations = omega (arith, few) in
       ap (λ b. if b then (entry f 6).value else 0)
-      (and_left (seen.has_relocations f) (has_tag f 6 DT_RELASZ) (has_relocations_is f c s ∙ lacking)) ∙ zeros
+      (and_left (has_tag f 5 DT_RELA) (has_tag f 6 DT_RELASZ) (has_relocations_is f c s ∙ lacking)) ∙ zeros
 ]
 
 -- as many as the contents have

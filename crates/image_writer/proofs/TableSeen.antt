@@ -200,7 +200,7 @@ no_relocations f c (inr (inl told)) = test_false f 5 DT_RELA DT_FLAGS_1 told.2 (
 no_relocations f c (inr (inr told)) = test_false f 5 DT_RELA DT_NULL told.2 (λ e. omega (arith, e))
 
 -- the array names relocations just where the contents have some
-pub has_relocations_is : (f : List ℕ) (c : Contents) → IsSeen f c → seen.has_relocations f ≡ has_relocations c
+pub has_relocations_is : (f : List ℕ) (c : Contents) → IsSeen f c → has_tag f 5 DT_RELA ≡ has_relocations c
 has_relocations_is f c s = elim (cases_Bool (has_relocations c)) [
   | inl some ↦ test_true f 5 DT_RELA (relocations_seen f c s some).0 ∙ sym some
   | inr lacking ↦
