@@ -3,7 +3,7 @@ use Rattle.std.proofs.Common.{◌≡◌, ◌<◌, ◌≤◌, ◌⊎◌, ℕ, Lis
 use Rattle.object_rules.specs.declared.fault.FaultKind.{FaultKind}
 use Rattle.object_rules.specs.declared.fault.FaultKind.TheVariants.{Sequence, StrayCall}
 use Rattle.elf_object.specs.declared.relocation.Relocation.{Relocation}
-use Rattle.elf_object.specs.Faults.{number, Earlier, IsFirstAt}
+use Rattle.elf_object.specs.Faults.{number, Earlier, IsFirst, IsFirstAt}
 use Rattle.elf_object.specs.Laws.{table_of_kept}
 use Rattle.elf_object.specs.Lent.{kept_relocation_table, relocations, section_class}
 use Rattle.elf_object.specs.Parts.{header}
