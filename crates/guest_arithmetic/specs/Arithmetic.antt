@@ -36,13 +36,20 @@ abbrev pub differ : Bool → Bool → Bool
 differ true other = not other
 differ false other = other
 
--- ZF and SF are set by the result
-abbrev pub by_result : Width → ℕ → Change → Change → Changes
+-- each flag changes in this way
+abbrev pub each_flag : Change → Changes
+each_flag change = record { zero = change; sign = change; carry = change; overflow = change }
+
+-- a result, which sets ZF and SF
+abbrev pub by_result : Width → ℕ → Change → Change → Effect
 by_result width number carry overflow = record {
-  zero = Set (number == 0);
-  sign = Set (is_negative width number);
-  carry = carry;
-  overflow = overflow;
+  number = number;
+  changes = record {
+    zero = Set (number == 0);
+    sign = Set (is_negative width number);
+    carry = carry;
+    overflow = overflow;
+  };
 }
 
 -- the signed number that a number stands for, plus half the span, so that it is not negative
@@ -62,24 +69,14 @@ difference_overflows width a b =
 
 unfoldable pub sum_effect : Width → ℕ → ℕ → Effect
 sum_effect width a b =
-    let number = (a + b) % span_of width in
-    record {
-      number = number;
-      changes = by_result width number (Set (nat_le (span_of width) (a + b)))
-          (Set (sum_overflows width a b));
-    }
+    by_result width ((a + b) % span_of width) (Set (nat_le (span_of width) (a + b))) (Set (sum_overflows width a b))
 
 unfoldable pub difference_effect : Width → ℕ → ℕ → Effect
 difference_effect width a b =
-    let number = (a + (span_of width - b)) % span_of width in
-    record {
-      number = number;
-      changes = by_result width number (Set (nat_lt a b))
-          (Set (difference_overflows width a b));
-    }
+    by_result width ((a + (span_of width - b)) % span_of width) (Set (nat_lt a b)) (Set (difference_overflows width a b))
 
 unfoldable pub logic_effect : Width → ℕ → Effect
-logic_effect width number = record { number = number; changes = by_result width number (Set false) (Set false) }
+logic_effect width number = by_result width number (Set false) (Set false)
 
 unfoldable pub compute_effect : Arithmetic → Width → ℕ → ℕ → Effect
 compute_effect Add width a b = sum_effect width a b
@@ -106,17 +103,8 @@ product_effect width a b =
     let lost = Set (not (product_fits width a b)) in
     record {
       number = a * b % span_of width;
-      changes = record {
-        zero = Unsettled;
-        sign = Unsettled;
-        carry = lost;
-        overflow = lost;
-      };
+      changes = record (each_flag Unsettled) { carry = lost; overflow = lost };
     }
-
--- the greatest number of the width: all its bits are set
-abbrev pub greatest : Width → ℕ
-greatest width = span_of width - 1
 
 -- a shift by a count below the number of bits; the bits shifted in are 0, or the sign for sar
 unfoldable pub shifted : Shift → Width → ℕ → ℕ → ℕ
@@ -124,14 +112,13 @@ shifted Left width number count = number * 2 ^ count % span_of width
 shifted Right width number count = number / 2 ^ count
 shifted RightSigned width number count =
     if is_negative width number
-    then number / 2 ^ count + (greatest width - greatest width / 2 ^ count)
+    then number / 2 ^ count + (span_of width - 1 - (span_of width - 1) / 2 ^ count)
     else number / 2 ^ count
 
 -- the last bit that was shifted out, if the count is not 0
 unfoldable pub bit_out : Shift → Width → ℕ → ℕ → Bool
 bit_out Left width number count = number / 2 ^ (bits_of width - count) % 2 == 1
-bit_out Right width number count = number / 2 ^ (count - 1) % 2 == 1
-bit_out RightSigned width number count = number / 2 ^ (count - 1) % 2 == 1
+bit_out _ width number count = number / 2 ^ (count - 1) % 2 == 1
 
 -- OF of a shift by 1: to the left, whether the sign changed; to the right, the old sign
 unfoldable pub shift_overflows : Shift → Width → ℕ → Bool
@@ -143,19 +130,6 @@ shift_overflows RightSigned width number = false
 -- a shift by 0 changes no flag
 unfoldable pub shift_effect : Shift → Width → ℕ → ℕ → Effect
 shift_effect shift width number count =
-    let result = shifted shift width number count in
-    if count == 0 then record {
-      number = number;
-      changes = record {
-        zero = Kept;
-        sign = Kept;
-        carry = Kept;
-        overflow = Kept;
-      };
-    }
-    else record {
-      number = result;
-      changes =
-          by_result width result (Set (bit_out shift width number count))
-          (if count == 1 then Set (shift_overflows shift width number) else Unsettled);
-    }
+    if count == 0 then record { number = number; changes = each_flag Kept }
+    else by_result width (shifted shift width number count) (Set (bit_out shift width number count))
+    (if count == 1 then Set (shift_overflows shift width number) else Unsettled)

@@ -1,9 +1,9 @@
 //! Arithmetic on plain numbers at a width: results and flags.
 
-ghost use Rattle.std.specs.Prelude.{◌≡◌, ◌<◌, ◌≤◌, ◌%◌, ◌^◌, ◌==◌, if◌then◌else◌};
+ghost use Rattle.std.specs.Prelude.{◌≡◌, ◌<◌, ◌≤◌, ◌%◌, ◌^◌, ◌==◌, if◌then◌else◌, ◌-◌};
 ghost use Rattle.amd64_subset.specs.declared.instr.Shift.TheVariants.{RightSigned};
-ghost use Rattle.guest_arithmetic.specs.declared.effect.Change.TheVariants.{Set, Unsettled, Kept};
-ghost use Rattle.guest_arithmetic.specs.Arithmetic.{bits_of, span_of, half_of, is_negative, differ, biased, sum_overflows, difference_overflows, sum_effect, difference_effect, logic_effect, compute_effect, magnitude, product_fits, product_effect, greatest, shifted, bit_out, shift_overflows, shift_effect};
+ghost use Rattle.guest_arithmetic.specs.declared.effect.Change.TheVariants.{Set, Unsettled};
+ghost use Rattle.guest_arithmetic.specs.Arithmetic.{bits_of, span_of, half_of, is_negative, differ, biased, sum_overflows, difference_overflows, sum_effect, difference_effect, logic_effect, compute_effect, magnitude, product_fits, product_effect, shifted, bit_out, shift_overflows, shift_effect};
 
 use crate::effect::{Change, Changes, Effect, by_result};
 use amd64_subset::{Arithmetic, Shift, Width};
@@ -88,10 +88,7 @@ fn sum(width: Width, left: u64, right: u64) -> Effect
     let number = low(width, left.wrapping_add(right));
     let carry = span(width) <= u128::from(left) + u128::from(right);
     let overflow = sum_overflows(width, left, right);
-    Effect {
-        number,
-        changes: by_result(width, number, Change::Set(carry), Change::Set(overflow)),
-    }
+    by_result(width, number, Change::Set(carry), Change::Set(overflow))
 }
 
 /// How many numbers the width has: 2^32 or 2^64.
@@ -111,25 +108,19 @@ fn difference(width: Width, left: u64, right: u64) -> Effect
 {
     let number = low(width, left.wrapping_sub(right));
     let overflow = difference_overflows(width, left, right);
-    Effect {
+    by_result(
+        width,
         number,
-        changes: by_result(
-            width,
-            number,
-            Change::Set(left < right),
-            Change::Set(overflow),
-        ),
-    }
+        Change::Set(left < right),
+        Change::Set(overflow),
+    )
 }
 
 #[tactic(auto, unfolding(crate::specs::Arithmetic::logic_effect))]
 fn logic(width: Width, number: u64) -> Effect
     ensures { result ≡ logic_effect width number }
 {
-    Effect {
-        number,
-        changes: by_result(width, number, Change::Set(false), Change::Set(false)),
-    }
+    by_result(width, number, Change::Set(false), Change::Set(false))
 }
 
 /// add, or, and, sub, xor, cmp
@@ -186,17 +177,16 @@ pub fn product(width: Width, left: u64, right: u64) -> Effect
     Effect {
         number: low(width, left.wrapping_mul(right)),
         changes: Changes {
-            zero: Change::Unsettled,
-            sign: Change::Unsettled,
             carry: lost,
             overflow: lost,
+            ..Changes::each(Change::Unsettled)
         },
     }
 }
 
 /// The greatest number of the width.
 fn greatest(width: Width) -> u64
-    ensures { result ≡ greatest width }
+    ensures { result ≡ span_of width - 1 }
 {
     match width {
         Width::Long => 0xffff_ffff,
@@ -273,24 +263,6 @@ fn shift_overflow(shift: Shift, width: Width, number: u64, count: u8) -> Change
     Change::Unsettled
 }
 
-/// The effect of a shift by 0: the number, and no flag changed.
-fn unchanged(number: u64) -> Effect
-    ensures { result ≡ record {
-      number = number;
-      changes = record { zero = Kept; sign = Kept; carry = Kept; overflow = Kept };
-    } }
-{
-    Effect {
-        number,
-        changes: Changes {
-            zero: Change::Kept,
-            sign: Change::Kept,
-            carry: Change::Kept,
-            overflow: Change::Kept,
-        },
-    }
-}
-
 /// shl, shr, sar by a count below the number of bits.
 #[tactic(auto, unfolding(crate::specs::Arithmetic::shift_effect))]
 fn shift_by(shift: Shift, width: Width, number: u64, count: u8) -> Effect
@@ -299,19 +271,18 @@ fn shift_by(shift: Shift, width: Width, number: u64, count: u8) -> Effect
     ensures { result ≡ shift_effect shift width number count }
 {
     if count == 0 {
-        return unchanged(number);
+        return Effect {
+            number,
+            changes: Changes::each(Change::Kept),
+        };
     }
-    let result = shifted(shift, width, number, count);
     let carry = Change::Set(bit_out(shift, width, number, count));
-    Effect {
-        number: result,
-        changes: by_result(
-            width,
-            result,
-            carry,
-            shift_overflow(shift, width, number, count),
-        ),
-    }
+    by_result(
+        width,
+        shifted(shift, width, number, count),
+        carry,
+        shift_overflow(shift, width, number, count),
+    )
 }
 
 /// shl, shr, sar. The count is taken modulo the width's number of bits.

@@ -1,7 +1,7 @@
 //! The effect of an instruction: a number, and changes of flags.
 
 ghost use Rattle.std.specs.Prelude.{◌≡◌};
-ghost use Rattle.guest_arithmetic.specs.Arithmetic.{by_result};
+ghost use Rattle.guest_arithmetic.specs.Arithmetic.{by_result, each_flag};
 
 use crate::arithmetic::is_negative;
 use amd64_subset::Width;
@@ -31,14 +31,31 @@ pub struct Effect {
     pub changes: Changes,
 }
 
-/// The changes that set ZF and SF by the result.
-pub(crate) fn by_result(width: Width, number: u64, carry: Change, overflow: Change) -> Changes
+impl Changes {
+    /// Each flag changes in this way.
+    pub fn each(change: Change) -> Changes
+        ensures { result ≡ each_flag change }
+    {
+        Changes {
+            zero: change,
+            sign: change,
+            carry: change,
+            overflow: change,
+        }
+    }
+}
+
+/// A result, which sets ZF and SF.
+pub(crate) fn by_result(width: Width, number: u64, carry: Change, overflow: Change) -> Effect
     ensures { result ≡ by_result width number carry overflow }
 {
-    Changes {
-        zero: Change::Set(number == 0),
-        sign: Change::Set(is_negative(width, number)),
-        carry,
-        overflow,
+    Effect {
+        number,
+        changes: Changes {
+            zero: Change::Set(number == 0),
+            sign: Change::Set(is_negative(width, number)),
+            carry,
+            overflow,
+        },
     }
 }

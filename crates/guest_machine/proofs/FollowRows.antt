@@ -32,13 +32,13 @@ use Rattle.guest_arithmetic.specs.declared.flags.Flags.{Flags}
 use Rattle.guest_operands.specs.declared.state.State.{State}
 use Rattle.guest_operands.specs.declared.stop.Stop.TheVariants.{Address, Code}
 use Rattle.guest_operands.specs.Access.{Refusal, Refused, Shut, Accesses, IsSize, load_of}
-use Rattle.guest_arithmetic.specs.Arithmetic.{low, differ, bits_of, sum_effect, compute_effect, product_effect, shift_effect}
+use Rattle.guest_arithmetic.specs.Arithmetic.{low, differ, bits_of, sum_effect, compute_effect, product_effect, shift_effect, each_flag}
 use Rattle.guest_arithmetic.specs.Flags.{changed, with_changes, is_less, is_less_or_equal, is_below_or_equal, condition_of}
 use Rattle.guest_machine.specs.Follow.{Uses, Reaches, Follows, Alike, IsFollowed, IsKept, SameFlags, SameState, SameFrame, SameAfter}
 use Rattle.guest_arithmetic.specs.Cause.{used, both}
 use Rattle.guest_operands.specs.Operand.{size_of, charged, address_of, number_at, carried, weighed, taken_at, taken, put}
 use Rattle.guest_operands.specs.State.{register_of}
-use Rattle.guest_machine.specs.Step.{immediate_of, sign_extended, all_unsettled, is_cleared, settled, nop_use, finished, concluded, move_in, stored, store_byte, move_number, move_of, extend_byte}
+use Rattle.guest_machine.specs.Step.{immediate_of, sign_extended, is_cleared, settled, nop_use, finished, concluded, move_in, stored, store_byte, move_number, move_of, extend_byte}
 use Rattle.guest_machine.specs.Step.{extend_long, load_address, compute_in, compute_out, add_field, compute_plain, compute_number, compute_of, test_of, multiply_of, shift_of, pushed, push_of, pop_of}
 use Rattle.guest_machine.specs.Step.{leave_of, return_of, call_of, jump_of, jump_if, nop_of, act}
 use Rattle.guest_operands.specs.Use.{◌>>=◌, plus, clean, there, After, left}
@@ -314,7 +314,7 @@ module _ {W F B W' F' B' : Type 0} (same : Alike W F B W' F' B') (ops : Operatio
   -- a field that is added to a base, where the second machine adds a number
   field_added : (at n' : ℕ) → ((f : F) (f' : F') → same.flag (ops.unsettled f) f') → (to : Register) (f f' : Frame) (s : State W F) (s' : State W' F') (m : M) (m' : M')
       → SameFrame same f f' → SameState same s s' → Same m m' → (r r' : Result ℕ Cause) → Uses (λ p q. p ≡ q) r (used (plus n') r')
-      → Follows Then (clean s.place (charged (Some at) r) >>= (λ number. finished ops acc Quad (OfSlot to) (record { number = number; changes = all_unsettled }) f s m))
+      → Follows Then (clean s.place (charged (Some at) r) >>= (λ number. finished ops acc Quad (OfSlot to) (record { number = number; changes = each_flag Unsettled }) f s m))
       ((clean s'.place (both (used (low Quad) r') (Ok (low Quad n'))) >>= (λ parts. Ok (as_taken to parts.0 parts.1)))
       >>= (λ it. concluded ops' acc' Add Quad it.slot (compute_effect Add Quad it.number it.other) f' s' m'))
   unfolding finished concluded put compute_effect sum_effect with_changes
@@ -338,7 +338,7 @@ module _ {W F B W' F' B' : Type 0} (same : Alike W F B W' F' B') (ops : Operatio
       follows-same Then _ _ _ _ (follows-clean (λ p q. p ≡ q) s.place s'.place _ _
       (uses-charged (λ p q. p ≡ q) (Some at) (Some at') _ _
       (followed.moved at (Some at') f.immediate f'.immediate x (register_of s.registers to) (register_of s'.registers to) (same_register same s.registers s'.registers h.registers to))))
-      (λ number. finished-follows Quad (OfSlot to) (record { number = number; changes = all_unsettled }) f f' s s' m m' g h k)
+      (λ number. finished-follows Quad (OfSlot to) (record { number = number; changes = each_flag Unsettled }) f f' s s' m m' g h k)
   add_field-follows at None to f f' s s' m m' x g h k =
       field_added at f'.immediate (followed.free at f.immediate f'.immediate x) to f f' s s' m m' g h k _ _
       (followed.moved at None f.immediate f'.immediate x (register_of s.registers to) (register_of s'.registers to) (same_register same s.registers s'.registers h.registers to))

@@ -39,14 +39,15 @@ use Rattle.guest_operands.specs.Access.{Refusal, Accesses, closed, bytes_in, nex
 use Rattle.guest_operands.specs.Access.{code_at, load_of, store_of, fetch_of}
 use Rattle.guest_operands.specs.Operand.{size_for, size_of, charged, address_of, number_at, carried, weighed, taken_at, taken, put}
 use Rattle.guest_operands.specs.State.{register_of, at_place}
-use Rattle.guest_arithmetic.specs.Arithmetic.{compute_effect, product_effect}
+use Rattle.guest_arithmetic.specs.Arithmetic.{compute_effect, product_effect, each_flag}
 use Rattle.guest_operands.specs.Frame.{frame_of}
-use Rattle.guest_machine.specs.Step.{immediate_of, all_unsettled, is_cleared, add_field, finished, concluded, move_in, stored, store_byte, move_number, move_of, extend_byte, extend_long, load_address}
+use Rattle.guest_machine.specs.Step.{immediate_of, is_cleared, add_field, finished, concluded, move_in, stored, store_byte, move_number, move_of, extend_byte, extend_long, load_address}
 use Rattle.guest_machine.specs.Step.{compute_in, compute_out, compute_plain, compute_number, compute_of, test_of, multiply_of, shift_of, pushed, push_of, pop_of, leave_of, return_of, call_of, jump_of}
 use Rattle.guest_machine.specs.Step.{jump_if, nop_of, act, act_if, step_of}
 use Rattle.guest_machine.specs.Touch.{touch_at, paired, push_touch, operand_touch, changed_touches, computed_touches, touches_of, touches_if, next_touches, places_from, is_refused, refuses}
 use Rattle.guest_machine.specs.Touch.{touched_then, touched}
 use Rattle.guest_operands.specs.Use.{◌>>=◌, plus, clean, there, After, left}
+use Rattle.guest_arithmetic.specs.declared.effect.Change.TheVariants.{Unsettled}
 
 -- what follows from a value that was reached
 bind-same : {A C : Type 0} (x : Result A Stop) (f g : A → Result C Stop) → ((a : A) → x ≡ Ok a → f a ≡ g a) → (x >>= f) ≡ (x >>= g)
@@ -320,9 +321,9 @@ module _ {W F B M : Type 0} (ops : Operations W F B) (acc : Accesses M B) (shut 
     unfolding compute_number add_field
     number-open Add QuadWidth (Some at) (InRegister to) free =
         after-number (charged (Some at) (ops.moved (register_of s.registers to) f.immediate at))
-        (λ number. finished ops acc' QuadWidth (OfSlot to) (record { number = number; changes = all_unsettled }) f s m)
-        (λ number. finished ops acc QuadWidth (OfSlot to) (record { number = number; changes = all_unsettled }) f s m)
-        (λ number. finished-open QuadWidth (OfSlot to) (record { number = number; changes = all_unsettled }) tt)
+        (λ number. finished ops acc' QuadWidth (OfSlot to) (record { number = number; changes = each_flag Unsettled }) f s m)
+        (λ number. finished ops acc QuadWidth (OfSlot to) (record { number = number; changes = each_flag Unsettled }) f s m)
+        (λ number. finished-open QuadWidth (OfSlot to) (record { number = number; changes = each_flag Unsettled }) tt)
     number-open Add QuadWidth (Some at) (InMemory to) free = plain-open Add QuadWidth (Some at) (InMemory to) free
     number-open Add QuadWidth None to free = plain-open Add QuadWidth None to free
     number-open Add LongWidth field to free = plain-open Add LongWidth field to free

@@ -30,7 +30,7 @@ use Rattle.guest_operands.specs.declared.state.State.{State}
 use Rattle.guest_operands.specs.declared.stop.Stop.{Stop}
 use Rattle.guest_operands.specs.declared.stop.Stop.TheVariants.{Code}
 use Rattle.guest_operands.specs.Access.{Accesses, load_of, store_of, fetch_of}
-use Rattle.guest_arithmetic.specs.Arithmetic.{low, bits_of, compute_effect, product_effect, shift_effect}
+use Rattle.guest_arithmetic.specs.Arithmetic.{low, bits_of, compute_effect, product_effect, shift_effect, each_flag}
 use Rattle.guest_arithmetic.specs.Flags.{with_changes, condition_of}
 use Rattle.guest_arithmetic.specs.Cause.{used}
 use Rattle.guest_operands.specs.Frame.{frame_of}
@@ -43,10 +43,6 @@ use Rattle.guest_arithmetic.specs.Values.{Operations}
 abbrev pub sign_extended : ℕ → ℕ
 sign_extended number =
     if nat_lt (low Long number) (2 ^ 31) then low Long number else low Long number + (2 ^ 64 - 2 ^ 32)
-
--- each flag is left undefined
-abbrev pub all_unsettled : Changes
-all_unsettled = record { zero = Unsettled; sign = Unsettled; carry = Unsettled; overflow = Unsettled }
 
 -- sub or xor of a register with itself, which is 0 whatever it held
 unfoldable pub is_cleared : Arithmetic → Register → Operand → Bool
@@ -155,7 +151,7 @@ module _ {W F B M : Type 0} (ops : Operations W F B) (acc : Accesses M B) where
   unfoldable pub add_field : Frame → State W F → M → Register → ℕ → Result (After W F M) Stop
   add_field frame state memory to at = do
     number ← clean state.place (charged (Some at) (ops.moved (register_of state.registers to) frame.immediate at))
-    finished Quad (OfSlot to) (record { number = number; changes = all_unsettled }) frame state memory
+    finished Quad (OfSlot to) (record { number = number; changes = each_flag Unsettled }) frame state memory
 
   -- the same, with an immediate
   unfoldable pub compute_plain : Arithmetic → Width → Option ℕ → Frame → State W F → M → Operand

@@ -3,7 +3,7 @@
 ghost use Rattle.std.specs.Prelude.{◌≡◌, ◌<◌};
 ghost use Rattle.guest_arithmetic.specs.Arithmetic.{compute_effect, span_of};
 ghost use Rattle.guest_arithmetic.specs.Flags.{with_changes};
-ghost use Rattle.guest_machine.specs.Step.{is_cleared, finished, concluded, settled, compute_in, compute_out, add_field, compute_plain, compute_number, compute_of, test_of, multiply_of, shift_of, all_unsettled};
+ghost use Rattle.guest_machine.specs.Step.{is_cleared, finished, concluded, settled, compute_in, compute_out, add_field, compute_plain, compute_number, compute_of, test_of, multiply_of, shift_of};
 ghost use Rattle.guest_operands.specs.Use.{Does};
 
 use crate::execution::Execution;
@@ -110,12 +110,7 @@ impl<V: Values, S: Space<V>> Execution<'_, V, S> {
         let base = register(&self.state.registers, to);
         let moved = V::moved(base, self.frame.immediate, at);
         let number = used(self.state.place, charged(Some(at), moved))?;
-        let changes = Changes {
-            zero: Change::Unsettled,
-            sign: Change::Unsettled,
-            carry: Change::Unsettled,
-            overflow: Change::Unsettled,
-        };
+        let changes = Changes::each(Change::Unsettled);
         self.finish(Width::Quad, Slot::Register(to), &Effect { number, changes })
     }
 

@@ -15,7 +15,7 @@ use Rattle.amd64_subset.specs.declared.instr.Width.TheVariants.{Long, Quad}
 use Rattle.guest_arithmetic.specs.declared.effect.Change.{Change}
 use Rattle.guest_arithmetic.specs.declared.effect.Change.TheVariants.{Set, Unsettled, Kept}
 use Rattle.guest_arithmetic.specs.declared.effect.Effect.{Effect}
-use Rattle.guest_arithmetic.specs.Arithmetic.{span_of, half_of, by_result, differ, greatest, shifted, bit_out, shift_overflows, shift_effect}
+use Rattle.guest_arithmetic.specs.Arithmetic.{span_of, half_of, by_result, differ, shifted, bit_out, shift_overflows, shift_effect}
 use Rattle.instruction_laws.specs.Words.{words, half, counts, IsOutside, IsSigned, Shows, IsUndefined}
 use Rattle.instruction_laws.specs.Results.{IsUntouched, IsShiftedLeft, IsShiftedRight, IsShiftedSigned, Shifts}
 use Rattle.instruction_laws.proofs.Words.{low_half, only_cut, same_shown, same_undefined, same_kept, same_effect, same_told}
@@ -43,11 +43,9 @@ same_by_count P count c d some p p' q q' = ⊎_elim
 
 -- what a shift by more than 0 does
 abbrev moved : Shift → Width → ℕ → ℕ → Effect
-moved shift width a count = record {
-  number = shifted shift width a count;
-  changes = by_result width (shifted shift width a count) (Set (bit_out shift width a count))
-      (if count == 1 then Set (shift_overflows shift width a) else Unsettled);
-}
+moved shift width a count =
+    by_result width (shifted shift width a count) (Set (bit_out shift width a count))
+    (if count == 1 then Set (shift_overflows shift width a) else Unsettled)
 
 moved_is : (shift : Shift) (width : Width) (a less : ℕ)
     → shift_effect shift width a (suc less) ≡ moved shift width a (suc less)
@@ -322,17 +320,17 @@ floor_at : (width : Width) (a less : ℕ) {x : ℤ} → Signed width a x → suc
     → IsFloor width a x (suc less) (shifted RightSigned width a (suc less))
 unfolding shifted
 floor_at Long a less (Upward low) within = subst (λ (t : Bool). IsFloor Long a (pos a) (suc less)
-    (if t then a / 2 ^ suc less + (greatest Long - greatest Long / 2 ^ suc less) else a / 2 ^ suc less))
+    (if t then a / 2 ^ suc less + (span_of Long - 1 - (span_of Long - 1) / 2 ^ suc less) else a / 2 ^ suc less))
     (sym (lt-leb (half_of Long) a low)) (upward_floor Long a (suc less) low)
 floor_at Long a less (Downward n is size) within = subst (λ (t : Bool). IsFloor Long a (negsuc n) (suc less)
-    (if t then a / 2 ^ suc less + (greatest Long - greatest Long / 2 ^ suc less) else a / 2 ^ suc less))
+    (if t then a / 2 ^ suc less + (span_of Long - 1 - (span_of Long - 1) / 2 ^ suc less) else a / 2 ^ suc less))
     (sym (le-leb (half_of Long) a (omega (arith, is, size))))
     (downward_floor Long 32 a less n refl within (pow_mono {j = 31} (omega arith)) is size)
 floor_at Quad a less (Upward low) within = subst (λ (t : Bool). IsFloor Quad a (pos a) (suc less)
-    (if t then a / 2 ^ suc less + (greatest Quad - greatest Quad / 2 ^ suc less) else a / 2 ^ suc less))
+    (if t then a / 2 ^ suc less + (span_of Quad - 1 - (span_of Quad - 1) / 2 ^ suc less) else a / 2 ^ suc less))
     (sym (lt-leb (half_of Quad) a low)) (upward_floor Quad a (suc less) low)
 floor_at Quad a less (Downward n is size) within = subst (λ (t : Bool). IsFloor Quad a (negsuc n) (suc less)
-    (if t then a / 2 ^ suc less + (greatest Quad - greatest Quad / 2 ^ suc less) else a / 2 ^ suc less))
+    (if t then a / 2 ^ suc less + (span_of Quad - 1 - (span_of Quad - 1) / 2 ^ suc less) else a / 2 ^ suc less))
     (sym (le-leb (half_of Quad) a (omega (arith, is, size))))
     (downward_floor Quad 64 a less n refl within (pow_mono {j = 63} (omega arith)) is size)
 

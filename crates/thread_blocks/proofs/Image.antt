@@ -27,16 +27,17 @@ use Rattle.guest_operands.specs.declared.slot.Slot.TheVariants.{Place, Register 
 use Rattle.guest_operands.specs.declared.state.State.{State}
 use Rattle.guest_operands.specs.declared.stop.Stop.{Stop}
 use Rattle.guest_machine.specs.Access.{Refusal, Refused, Shut, Accesses, next_place, reached, bytes_from, bytes_at, all_write, put_all, code_at, fetch_of, load_of, store_of}
-use Rattle.guest_arithmetic.specs.Arithmetic.{bits_of, compute_effect, product_effect, shift_effect}
+use Rattle.guest_arithmetic.specs.Arithmetic.{bits_of, compute_effect, product_effect, shift_effect, each_flag}
 use Rattle.guest_arithmetic.specs.Flags.{condition_of}
 use Rattle.guest_machine.specs.Operand.{size_of, address_of, number_at, carried, taken_at, taken, put}
 use Rattle.guest_machine.specs.Run.{Next, Goes, Ends, Looks, Outcome, Ended, Stepping, over_or, go_on, run, next_of, is_look, machine}
 use Rattle.guest_machine.specs.State.{register_of}
 use Rattle.guest_machine.specs.Frame.{frame_of}
-use Rattle.guest_machine.specs.Step.{immediate_of, all_unsettled, is_cleared, nop_use, finished, concluded, move_in, stored, store_byte, move_number, move_of, extend_byte, extend_long, load_address, compute_in, compute_out, add_field, compute_plain, compute_number, compute_of, test_of, multiply_of, shift_of, pushed, push_of, pop_of, leave_of, return_of, call_of, jump_of, jump_if, nop_of, act, act_if, step_of}
+use Rattle.guest_machine.specs.Step.{immediate_of, is_cleared, nop_use, finished, concluded, move_in, stored, store_byte, move_number, move_of, extend_byte, extend_long, load_address, compute_in, compute_out, add_field, compute_plain, compute_number, compute_of, test_of, multiply_of, shift_of, pushed, push_of, pop_of, leave_of, return_of, call_of, jump_of, jump_if, nop_of, act, act_if, step_of}
 use Rattle.guest_machine.specs.Use.{◌>>=◌, plus, clean, there, After}
 use Rattle.guest_arithmetic.specs.Values.{Operations}
 use Rattle.thread_blocks.specs.Spaces.{IsImage, after_of, mapped, next_image, outcome_image, IsRunImage}
+use Rattle.guest_arithmetic.specs.declared.effect.Change.TheVariants.{Unsettled}
 
 -- the same thing after the same
 then-same : {A C : Type 0} (r : Result A Stop) (f g : A → Result C Stop) → ((a : A) → g a ≡ f a) → (r >>= g) ≡ (r >>= f)
@@ -199,7 +200,7 @@ module _ {W F B M M' : Type 0} (ops : Operations W F B) (acc : Accesses M B) (ac
 
   add_field-image : (f : Frame) (s : State W F) (m : M) (to : Register) (at : ℕ) → add_field ops acc' f s (image m) to at ≡ mapped image (add_field ops acc f s m to at)
   unfolding add_field
-  add_field-image f s m to at = then-plain image _ _ _ _ refl (λ number. finished-image Quad (OfSlot to) (record { number = number; changes = all_unsettled }) f s m)
+  add_field-image f s m to at = then-plain image _ _ _ _ refl (λ number. finished-image Quad (OfSlot to) (record { number = number; changes = each_flag Unsettled }) f s m)
 
   compute_plain-image : (arithmetic : Arithmetic) (width : Width) (field : Option ℕ) (f : Frame) (s : State W F) (m : M) (to : Operand)
       → compute_plain ops acc' arithmetic width field f s (image m) to ≡ mapped image (compute_plain ops acc arithmetic width field f s m to)
