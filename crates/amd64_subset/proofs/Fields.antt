@@ -1,7 +1,7 @@
 -- Fields behind the opcode: what is read is what stands there, and what stands there is read.
 use Rattle.std.proofs.Common.{◌≡◌, ℕ, ◌+◌, ◌-◌, ◌/◌, ◌%◌, ◌≤◌, true, false, ltb, List, [], ◌∷◌, ◌++◌, length, take, drop, Option, Some, None, Ok, refl, sym, ap, subst, ◌∙◌, append_assoc, arith}
 use Rattle.std.proofs.Common.{inl, inr}
-use Rattle.std.specs.Prelude.{not, is_some}
+use Rattle.std.specs.Prelude.{not, is_some, ok_or}
 use Rattle.std.specs.Option.{option_to_list}
 use Rattle.std.proofs.lemmas.Bool.{ltb-false, le-ltb, not-true, not-false}
 use Rattle.std.proofs.lemmas.List.{take_at, drop_at, take-append-drop, length-append, length-take, length-drop}
@@ -15,12 +15,12 @@ use Rattle.amd64_subset.specs.declared.selectors.Selectors.{Selectors}
 use Rattle.amd64_subset.specs.declared.meaning.Body.{Body}
 use Rattle.amd64_subset.specs.Number.{count_of, signed_of}
 use Rattle.amd64_subset.specs.Row.{action_of}
-use Rattle.amd64_subset.specs.Selectors.{has_sib, allowed, displacement_size, sib_at, selectors_at, or_wrong}
+use Rattle.amd64_subset.specs.Selectors.{has_sib, allowed, displacement_size, sib_at, selectors_at}
 use Rattle.amd64_subset.specs.Meaning.{operand_body}
 use Rattle.amd64_subset.specs.Reading.{numbers_at}
 use Rattle.amd64_subset.specs.Decoding.{operated_at}
 use Rattle.amd64_subset.specs.Spelling.{IsOperated}
-use Rattle.amd64_subset.proofs.Steps.{bind_ok, kept, chosen, or_wrong_ok, ok_is}
+use Rattle.amd64_subset.proofs.Steps.{bind_ok, kept, chosen, ok_or_ok, ok_is}
 
 -- ---- numbers
 
@@ -99,14 +99,14 @@ pub selectors_takes : (prefixes : Prefixes) (row : Row) (size : Size) (bytes : L
 unfolding selectors_at
 selectors_takes prefixes row size [] selected rest e = absurd cc
 selectors_takes prefixes row size (modrm ∷ bytes) selected rest e =
-    let named = bind_ok (or_wrong (action_of row ((modrm / 8) % 8))) _ (selected, rest) e in
+    let named = bind_ok (ok_or (action_of row ((modrm / 8) % 8)) Wrong) _ (selected, rest) e in
     let fits = kept (not (allowed named.0 prefixes modrm)) Wrong _ (selected, rest) named.2 in
     let sib = bind_ok (sib_at modrm size bytes) _ (selected, rest) fits.1 in
     let front = sib_takes modrm size bytes sib.0.0 sib.0.1 sib.1 in
     let P : (Action × Selectors) × List ℕ → Type 0 = λ x. HasSelectors prefixes row (modrm ∷ bytes) x.0 x.1 in
     subst P (ok_is _ (selected, rest) sib.2) (record {
       whole = ap (λ (t : List ℕ). modrm ∷ t) front.0;
-      action-is = or_wrong_ok _ _ named.1;
+      action-is = ok_or_ok _ _ named.1;
       allows = not-false _ fits.0;
       has_sib = front.1;
     })

@@ -1,7 +1,7 @@
 -- How many bytes are missing: what stands behind an opcode.
 use Rattle.std.proofs.Common.{◌≡◌, ℕ, zero, suc, ◌+◌, ◌-◌, ◌/◌, ◌%◌, ◌<◌, ◌≤◌, Bool, true, false, cond, eqb, ltb, List, [], ◌∷◌, ◌++◌, length, take, drop, Option, Some, None, Result, Ok, Err}
 use Rattle.std.proofs.Common.{refl, sym, ap, ◌∙◌, arith, inl, inr}
-use Rattle.std.specs.Prelude.{not, replicate}
+use Rattle.std.specs.Prelude.{not, ok_or, replicate}
 use Rattle.std.specs.List.{list_all}
 use Rattle.std.specs.Option.{option_to_list}
 use Rattle.std.proofs.lemmas.Bool.{ltb-true, lt-ltb, le-ltb, not-false, and_from}
@@ -25,11 +25,11 @@ use Rattle.amd64_subset.specs.declared.selectors.Selectors.{Selectors}
 use Rattle.amd64_subset.specs.declared.meaning.Body.{Body}
 use Rattle.amd64_subset.specs.Number.{count_of, signed_of}
 use Rattle.amd64_subset.specs.Row.{action_of, group_action, arithmetic_of, shift_of}
-use Rattle.amd64_subset.specs.Selectors.{has_sib, least_displacement, allowed, displacement_size, sib_at, selectors_at, or_wrong}
+use Rattle.amd64_subset.specs.Selectors.{has_sib, least_displacement, allowed, displacement_size, sib_at, selectors_at}
 use Rattle.amd64_subset.specs.Meaning.{width_of, alone_body, numbered_body, operand_body}
 use Rattle.amd64_subset.specs.Reading.{Read, ◌>>=◌, numbers_at}
 use Rattle.amd64_subset.specs.Decoding.{operated_at, body_at}
-use Rattle.amd64_subset.proofs.Steps.{bind_ok, bind_short, kept, kept_short, or_wrong_ok, or_wrong_short, ok_is}
+use Rattle.amd64_subset.proofs.Steps.{bind_ok, bind_short, kept, kept_short, ok_or_ok, ok_or_short, ok_is}
 use Rattle.amd64_subset.proofs.Fields.{numbers_takes, operated_takes}
 
 abbrev pub is_byte : ℕ → Bool
@@ -144,16 +144,16 @@ selectors_allowed : (prefixes : Prefixes) (r : Row) (s : Size) (modrm : ℕ) (by
     → selectors_at prefixes r s (modrm ∷ bytes) ≡ Ok y → Allowed prefixes r modrm
 unfolding selectors_at
 selectors_allowed prefixes r s modrm bytes y e =
-    let named = bind_ok (or_wrong (action_of r ((modrm / 8) % 8))) _ y e in
+    let named = bind_ok (ok_or (action_of r ((modrm / 8) % 8)) Wrong) _ y e in
     let fits = kept (not (allowed named.0 prefixes modrm)) Wrong _ y named.2 in
-    (named.0, or_wrong_ok _ _ named.1, not-false _ fits.0)
+    (named.0, ok_or_ok _ _ named.1, not-false _ fits.0)
 
 selectors_short : (prefixes : Prefixes) (r : Row) (s : Size) (modrm : ℕ) (bytes : List ℕ) (n : ℕ) → selectors_at prefixes r s (modrm ∷ bytes) ≡ Err (Short n) → Allowed prefixes r modrm
 unfolding selectors_at
 selectors_short prefixes r s modrm bytes n e =
-    elim (bind_short (or_wrong (action_of r ((modrm / 8) % 8))) _ n e) [
-      | inl h ↦ absurd (or_wrong_short (action_of r ((modrm / 8) % 8)) n h)
-      | inr h ↦ (h.0, or_wrong_ok _ _ h.1, not-false _ (kept_short (not (allowed h.0 prefixes modrm)) _ n h.2).0)
+    elim (bind_short (ok_or (action_of r ((modrm / 8) % 8)) Wrong) _ n e) [
+      | inl h ↦ absurd (ok_or_short (action_of r ((modrm / 8) % 8)) n h)
+      | inr h ↦ (h.0, ok_or_ok _ _ h.1, not-false _ (kept_short (not (allowed h.0 prefixes modrm)) _ n h.2).0)
     ]
 
 operated_allowed : (prefixes : Prefixes) (r : Row) (s : Size) (modrm : ℕ) (bytes : List ℕ) (y : Body × List ℕ) → operated_at prefixes r s (modrm ∷ bytes) ≡ Ok y → Allowed prefixes r modrm

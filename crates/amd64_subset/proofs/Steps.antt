@@ -1,9 +1,9 @@
 -- Steps of reading: what did not fail.
 use Rattle.std.proofs.Common.{◌≡◌, ℕ, Bool, true, false, cond, Option, Some, None, Result, Ok, Err, refl, inl, inr, ◌⊎◌}
+use Rattle.std.specs.Prelude.{ok_or}
 use Rattle.amd64_subset.specs.declared.fault.Fault.{Fault}
 use Rattle.amd64_subset.specs.declared.fault.Fault.TheVariants.{Short, Wrong}
 use Rattle.amd64_subset.specs.Reading.{◌>>=◌}
-use Rattle.amd64_subset.specs.Selectors.{or_wrong}
 
 -- the value of a step that did not fail
 pub bind_ok : {A B : Type 0} (r : Result A Fault) (f : A → Result B Fault) (y : B) → (r >>= f) ≡ Ok y → (x : A) × (r ≡ Ok x) × (f x ≡ Ok y)
@@ -24,9 +24,9 @@ pub kept_if : {A : Type 0} (b : Bool) (d : Fault) (x : Result A Fault) (y : A) �
 kept_if true d x y e = (refl, e)
 kept_if false d x y e = absurd cc
 
-pub or_wrong_ok : {A : Type 0} (o : Option A) (x : A) → or_wrong o ≡ Ok x → o ≡ Some x
-or_wrong_ok (Some y) x e = cc
-or_wrong_ok None x e = absurd cc
+pub ok_or_ok : {A : Type 0} (o : Option A) (x : A) → ok_or o Wrong ≡ Ok x → o ≡ Some x
+ok_or_ok (Some y) x e = cc
+ok_or_ok None x e = absurd cc
 
 abbrev done : {A : Type 0} → A → Result A Fault
 done x = Ok x
@@ -48,6 +48,6 @@ pub kept_if_short : {A : Type 0} (b : Bool) (x : Result A Fault) (n : ℕ) → c
 kept_if_short true x n e = (refl, e)
 kept_if_short false x n e = absurd cc
 
-pub or_wrong_short : {A : Type 0} (o : Option A) (n : ℕ) → or_wrong o ≡ Err (Short n) → ⊥
-or_wrong_short None n e = cc
-or_wrong_short (Some x) n e = cc
+pub ok_or_short : {A : Type 0} (o : Option A) (n : ℕ) → ok_or o Wrong ≡ Err (Short n) → ⊥
+ok_or_short None n e = cc
+ok_or_short (Some x) n e = cc

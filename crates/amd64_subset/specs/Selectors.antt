@@ -1,7 +1,7 @@
 -- ModRM and SIB: which operands they select, and what follows them (Intel's manual, volume 2, 2.1.3 to 2.1.5, tables
 -- 2-2 and 2-3).
-use Rattle.std.specs.Prelude.{ℕ, ◌+◌, ◌/◌, ◌%◌, Bool, true, false, List, [], ◌∷◌, Option, Some, None, Result, Ok, Err}
-use Rattle.std.specs.Prelude.{is_some, unwrap_or, not, nat_lt, ◌&&◌, ◌||◌, ◌==◌, if◌then◌else◌}
+use Rattle.std.specs.Prelude.{ℕ, ◌+◌, ◌/◌, ◌%◌, Bool, true, false, List, [], ◌∷◌, Option, Some, None, Ok, Err}
+use Rattle.std.specs.Prelude.{is_some, unwrap_or, ok_or, option_and_then, not, nat_lt, ◌&&◌, ◌||◌, ◌==◌, if◌then◌else◌}
 use Rattle.amd64_words.specs.declared.register.Register.{Register}
 use Rattle.amd64_subset.specs.declared.operand.Base.{Base}
 use Rattle.amd64_subset.specs.declared.operand.Base.TheVariants as base
@@ -11,7 +11,6 @@ use Rattle.amd64_subset.specs.declared.operand.Index.{Index}
 use Rattle.amd64_subset.specs.declared.operand.Memory.{Memory}
 use Rattle.amd64_subset.specs.declared.operand.Operand.{Operand}
 use Rattle.amd64_subset.specs.declared.operand.Operand.TheVariants as operand
-use Rattle.amd64_subset.specs.declared.fault.Fault.{Fault}
 use Rattle.amd64_subset.specs.declared.fault.Fault.TheVariants.{Short, Wrong}
 use Rattle.amd64_subset.specs.declared.prefix.Prefixes.{Prefixes}
 use Rattle.amd64_words.specs.declared.size.Size.{Size}
@@ -68,12 +67,11 @@ displacement_size selectors =
 abbrev pub register_in : Prefixes → Selectors → Register
 register_in prefixes selectors = extended ((selectors.modrm / 8) % 8) (bits_of prefixes).register
 
-abbrev pub rip_or_base : ℕ → Bool → Base
-rip_or_base modrm high =
+-- the base that ModRM names, or SIB if there is one; in mode 0, 101 means no register
+abbrev pub base_in : ℕ → Bool → Option ℕ → Base
+base_in modrm high None =
     if (modrm / 64 == 0) && (modrm % 8 == 5) then base.NextInstruction else base.Register (extended (modrm % 8) high)
-
-abbrev pub absolute_or_base : ℕ → ℕ → Bool → Base
-absolute_or_base modrm sib high =
+base_in modrm high (Some sib) =
     if (modrm / 64 == 0) && (sib % 8 == 5) then base.Absolute else base.Register (extended (sib % 8) high)
 
 abbrev pub scale_of : ℕ → Scale
@@ -92,19 +90,11 @@ index_of sib high =
 
 -- the memory operand that modes 0 to 2 name
 unfoldable pub memory_in : Prefixes → Selectors → Memory
-memory_in prefixes selectors = addressed selectors.sib
-  where
-    addressed : Option ℕ → Memory
-    addressed None = record {
-      from_thread_pointer = prefixes.thread_pointer;
-      base = rip_or_base selectors.modrm (bits_of prefixes).base;
-      index = None;
-    }
-    addressed (Some sib) = record {
-      from_thread_pointer = prefixes.thread_pointer;
-      base = absolute_or_base selectors.modrm sib (bits_of prefixes).base;
-      index = index_of sib (bits_of prefixes).index;
-    }
+memory_in prefixes selectors = record {
+  from_thread_pointer = prefixes.thread_pointer;
+  base = base_in selectors.modrm (bits_of prefixes).base selectors.sib;
+  index = option_and_then (λ sib. index_of sib (bits_of prefixes).index) selectors.sib;
+}
 
 -- the register or the memory operand that ModRM's rm field names
 abbrev pub operand_in : Prefixes → Selectors → Operand
@@ -119,15 +109,10 @@ sib_at modrm behind bytes = if not (has_sib modrm) then Ok (None, bytes) else fi
     first [] = Err (Short (1 + least_displacement modrm + count_of behind))
     first (sib ∷ rest) = Ok (Some sib, rest)
 
--- what was found, or a refusal
-abbrev pub or_wrong : {A : Type 0} → Option A → Result A Fault
-or_wrong None = Err Wrong
-or_wrong (Some x) = Ok x
-
 unfoldable pub selectors_at : Prefixes → Row → Size → List ℕ → Read (Action × Selectors)
 selectors_at prefixes row behind [] = Err (Short (1 + count_of behind))
 selectors_at prefixes row behind (modrm ∷ rest) = do
-  action ← or_wrong (action_of row ((modrm / 8) % 8))
+  action ← ok_or (action_of row ((modrm / 8) % 8)) Wrong
   if not (allowed action prefixes modrm) then Err Wrong else (do
     sib ← sib_at modrm behind rest
     Ok ((action, record { modrm = modrm; sib = sib.0 }), sib.1))

@@ -2,7 +2,7 @@
 
 ghost use Rattle.std.specs.Prelude.{◌≡◌, ◌≤◌};
 ghost use Rattle.amd64_subset.specs.Selectors.{has_sib, least_displacement, byte_register, allowed};
-ghost use Rattle.amd64_subset.specs.Selectors.{displacement_size, register_in, rip_or_base, absolute_or_base};
+ghost use Rattle.amd64_subset.specs.Selectors.{displacement_size, register_in, base_in};
 ghost use Rattle.amd64_subset.specs.Selectors.{index_of, memory_in, operand_in, sib_at, selectors_at};
 ghost use Rattle.amd64_subset.specs.Reading.{Gives};
 
@@ -100,16 +100,13 @@ impl Selectors {
         ensures { result ≡ memory_in prefixes self }
     {
         let rex = prefixes.bits();
-        let (base, index) = match self.sib {
-            None => (rip_or_base(self.modrm, rex.base), None),
-            Some(sib) => (
-                absolute_or_base(self.modrm, sib, rex.base),
-                index(sib, rex.index),
-            ),
+        let index = match self.sib {
+            None => None,
+            Some(sib) => index(sib, rex.index),
         };
         Memory {
             from_thread_pointer: prefixes.thread_pointer,
-            base,
+            base: base(self.modrm, rex.base, self.sib),
             index,
         }
     }
@@ -126,25 +123,25 @@ impl Selectors {
     }
 }
 
-/// The base, if there is no SIB byte.
-fn rip_or_base(modrm: u8, high: bool) -> Base
-    ensures { result ≡ rip_or_base modrm high }
+/// The base that ModRM names, or SIB if there is one. In mode 0, 101 means no register.
+fn base(modrm: u8, high: bool, sib: Option<u8>) -> Base
+    ensures { result ≡ base_in modrm high sib }
 {
-    if modrm / 64 == 0 && modrm % 8 == 5 {
-        Base::NextInstruction
-    } else {
-        Base::Register(Register::extended(modrm % 8, high))
-    }
-}
-
-/// The base that a SIB byte names.
-fn absolute_or_base(modrm: u8, sib: u8, high: bool) -> Base
-    ensures { result ≡ absolute_or_base modrm sib high }
-{
-    if modrm / 64 == 0 && sib % 8 == 5 {
-        Base::Absolute
-    } else {
-        Base::Register(Register::extended(sib % 8, high))
+    match sib {
+        None => {
+            if modrm / 64 == 0 && modrm % 8 == 5 {
+                Base::NextInstruction
+            } else {
+                Base::Register(Register::extended(modrm % 8, high))
+            }
+        }
+        Some(sib) => {
+            if modrm / 64 == 0 && sib % 8 == 5 {
+                Base::Absolute
+            } else {
+                Base::Register(Register::extended(sib % 8, high))
+            }
+        }
     }
 }
 
