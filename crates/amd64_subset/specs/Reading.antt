@@ -11,7 +11,8 @@ abbrev pub Read : Type 0 → Type 0
 Read A = Result (A × List ℕ) Fault
 
 infixl 10 ◌>>=◌
-abbrev pub ◌>>=◌ : {A B : Type 0} → Result A Fault → (A → Result B Fault) → Result B Fault
+-- one thing after another, up to the first error
+abbrev pub ◌>>=◌ : {A B E : Type 0} → Result A E → (A → Result B E) → Result B E
 (Ok x) >>= f = f x
 (Err e) >>= f = Err e
 

@@ -1,5 +1,6 @@
 -- How a step uses values and accesses bytes.
 use Rattle.std.specs.Prelude.{◌≡◌, ℕ, ◌+◌, ◌%◌, ◌^◌, Result, Ok, Err}
+pub use Rattle.amd64_subset.specs.Reading.{◌>>=◌}
 use Rattle.guest_arithmetic.specs.declared.cause.Cause.{Cause}
 use Rattle.guest_arithmetic.specs.declared.cause.Cause.TheVariants.{Linker}
 use Rattle.guest_operands.specs.declared.stop.Stop.{Stop}
@@ -9,12 +10,6 @@ use Rattle.guest_operands.specs.Access.{Refusal, Refused, Shut, Accesses}
 use Rattle.guest_operands.specs.Ranges.{AddressSpace, range_accesses}
 use Rattle.guest_arithmetic.specs.Cause.{cause_with}
 use Rattle.guest_arithmetic.specs.Values.{Operations}
-
-infixl 10 ◌>>=◌
--- one thing after another, up to the first stop
-abbrev pub ◌>>=◌ : {A B : Type 0} → Result A Stop → (A → Result B Stop) → Result B Stop
-(Ok x) >>= f = f x
-(Err stop) >>= f = Err stop
 
 -- a sum, modulo 2^64
 abbrev pub plus : ℕ → ℕ → ℕ
