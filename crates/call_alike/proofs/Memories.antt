@@ -7,7 +7,8 @@ use Rattle.address_map.specs.Map.{stack_start}
 use Rattle.guest_arithmetic.specs.Plain.{plain_operations}
 use Rattle.guest_operands.specs.declared.space.Access.{Access}
 use Rattle.guest_operands.specs.declared.space.Access.TheVariants.{Read, Write}
-use Rattle.guest_machine.specs.Access.{Accesses, closed}
+use Rattle.guest_machine.specs.Access.{Accesses}
+use Rattle.guest_operands.specs.Closed.{closed}
 use Rattle.guest_machine.specs.Follow.{Alike, IsKept, Reaches}
 use Rattle.guest_machine.specs.Ranges.{Range, byte_in, grants, with_byte}
 use Rattle.guest_machine.specs.Run.{is_look}
@@ -21,7 +22,7 @@ use Rattle.thread_blocks.specs.Held.{Kind, Block, Data, Owner, owned}
 use Rattle.thread_blocks.specs.Instances.{Loads, fixed_at, instances}
 use Rattle.thread_blocks.specs.MachineTurns.{pointer_word}
 use Rattle.thread_blocks.specs.RunTime.{thread_accesses}
-use Rattle.thread_blocks.specs.Spaces.{FoundAlike, NoneWritable, SameRange, SameSpace, Space, open_everywhere, space_accesses, stack_range}
+use Rattle.thread_blocks.specs.Spaces.{FoundAlike, NoneWritable, SameRange, SameSpace, Space, space_accesses, stack_range}
 use Rattle.thread_blocks.specs.TurnsAlike.{IsFront}
 use Rattle.thread_blocks.proofs.Begin.{pointer_word_alike}
 use Rattle.thread_blocks.proofs.Spaces.{byte_in-front, spaces_kept}
@@ -174,9 +175,9 @@ module _ (g : Setting) (m : Meaning) (q : Loads ℕ) (history : List Event) (thr
 
       -- with what is fixed at these events, whatever a memory has seen
       whole_kept : IsKept (alike g)
-          (space_accesses ops (stack_start thread) (λ (e : List Event). meant_fixed)
-          (λ (e : List Event) place. if is_look place then true else in_rooms place))
-          (space_accesses plain_operations (stack_start thread) (λ (e : List Event). real_fixed) open_everywhere)
+          (closed (λ space place. if is_look place then true else in_rooms place)
+          (space_accesses ops (stack_start thread) (λ (e : List Event). meant_fixed)))
+          (space_accesses plain_operations (stack_start thread) (λ (e : List Event). real_fixed))
           (SameSpace {E = Event} (SameByte g))
       unfolding alike
       whole_kept =

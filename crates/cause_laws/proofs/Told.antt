@@ -1,5 +1,5 @@
 -- A step that nothing hinders is unclean for the first cause of its words and flags, whatever fields it has.
-use Rattle.std.proofs.Common.{◌≡◌, ℕ, zero, suc, true, false, ◌&&◌, List, [], ◌++◌, Option, Some, None, Result, Ok, Err, refl, sym, ap, ◌∙◌, arith}
+use Rattle.std.proofs.Common.{◌≡◌, ℕ, zero, suc, true, false, ◌&&◌, List, [], ◌∷◌, ◌++◌, Option, Some, None, Result, Ok, Err, refl, sym, ap, ◌∙◌, arith}
 use Rattle.std.specs.Prelude.{if◌then◌else◌, not, nat_lt}
 use Rattle.std.proofs.lemmas.Bool.{and_parts}
 use Rattle.amd64_words.specs.declared.register.Register.{Register}
@@ -17,7 +17,7 @@ use Rattle.guest_arithmetic.specs.declared.cause.Cause.{Cause}
 use Rattle.guest_operands.specs.declared.frame.Frame.{Frame}
 use Rattle.guest_operands.specs.declared.state.State.{State}
 use Rattle.guest_operands.specs.declared.stop.Stop.{Stop}
-use Rattle.guest_operands.specs.Access.{Accesses, Refusal, Refused, Shut, all_write, both_reached, bytes_at, cons, fetch_of, load_of, next_place, reached, store_of}
+use Rattle.guest_operands.specs.Access.{Accesses, Refusal, Refused, Shut, all_write, both_reached, bytes_at, fetch_of, load_of, next_place, reached, store_of}
 use Rattle.guest_operands.specs.Frame.{frame_of}
 use Rattle.guest_operands.specs.Operand.{address_of}
 use Rattle.guest_operands.specs.Use.{After}
@@ -55,9 +55,7 @@ both-open f (Ok a) (Ok c) g h = tt
 both-open f (Ok a) (Err Refused) g h = tt
 both-open f (Ok a) (Err Shut) g h = h
 both-open f (Err Shut) c g h = absurd g
-both-open f (Err Refused) (Ok c) g h = tt
-both-open f (Err Refused) (Err Refused) g h = tt
-both-open f (Err Refused) (Err Shut) g h = h
+both-open f (Err Refused) c g h = tt
 
 reached-open : {A C : Type 0} (f : A → C) (r : Result A Refusal) → NotShut r → NotShut (reached f r)
 reached-open f (Ok a) g = tt
@@ -68,7 +66,7 @@ module _ {M : Type 0} (acc : Accesses M Byte) (m : M) (open_byte : (place : ℕ)
     (open_write : (place : ℕ) → NotShut (acc.writes m place)) where
   bytes-open : (size place : ℕ) → NotShut (bytes_at acc m place size)
   bytes-open zero place = tt
-  bytes-open (suc size) place = both-open cons _ _ (open_byte place) (bytes-open size (next_place place))
+  bytes-open (suc size) place = both-open ◌∷◌ _ _ (open_byte place) (bytes-open size (next_place place))
 
   writes-open : (size place : ℕ) → NotShut (all_write acc m place size)
   writes-open zero place = tt

@@ -1,5 +1,5 @@
 -- A machine whose values may always be used, over ranges, never stops unclean.
-use Rattle.std.proofs.Common.{ℕ, zero, suc, Bool, true, false, not, Option, Some, None, Result, Ok, Err}
+use Rattle.std.proofs.Common.{ℕ, zero, suc, Bool, true, false, not, ◌∷◌, Option, Some, None, Result, Ok, Err}
 use Rattle.std.specs.Prelude.{ok_or, if◌then◌else◌, ◌==◌}
 use Rattle.amd64_words.specs.declared.register.Register.{Register}
 use Rattle.amd64_subset.specs.declared.instr.Width.{Width}
@@ -33,7 +33,7 @@ use Rattle.guest_operands.specs.declared.state.Registers.{Registers}
 use Rattle.guest_operands.specs.declared.state.State.{State}
 use Rattle.guest_operands.specs.declared.stop.Stop.{Stop}
 use Rattle.guest_operands.specs.declared.space.Access.TheVariants.{Read, Write}
-use Rattle.guest_operands.specs.Access.{Refusal, Refused, Shut, Accesses, next_place, both_reached, reached, cons, bytes_from, bytes_at, all_write, put_all, load_of, store_of, fetch_of}
+use Rattle.guest_operands.specs.Access.{Refusal, Refused, Shut, Accesses, next_place, both_reached, reached, bytes_from, bytes_at, all_write, put_all, load_of, store_of, fetch_of}
 use Rattle.guest_machine.specs.Clean.{IsClean, PlainIsClean}
 use Rattle.guest_arithmetic.specs.Flags.{is_less, is_less_or_equal, is_below_or_equal, condition_of}
 use Rattle.guest_arithmetic.specs.Cause.{used, both}
@@ -102,9 +102,7 @@ both-open : {A C D : Type 0} (f : A → C → D) (a : Result A Refusal) (c : Res
 both-open f (Ok x) (Ok y) h k = tt
 both-open f (Ok x) (Err Refused) h k = tt
 both-open f (Ok x) (Err Shut) h k = absurd k
-both-open f (Err Refused) (Ok y) h k = tt
-both-open f (Err Refused) (Err Refused) h k = tt
-both-open f (Err Refused) (Err Shut) h k = absurd k
+both-open f (Err Refused) c h k = tt
 both-open f (Err Shut) c h k = absurd h
 
 record AlwaysUsed {W F B : Type 0} (ops : Operations W F B) : Type 0 where
@@ -120,7 +118,7 @@ record AlwaysOpen {M B : Type 0} (acc : Accesses M B) : Type 0 where
 module _ {W F B M : Type 0} (ops : Operations W F B) (acc : Accesses M B) (always : AlwaysUsed ops) (open_to : AlwaysOpen acc) where
   bytes-open : (size : ℕ) (m : M) (place : ℕ) → IsOpen (bytes_at acc m place size)
   bytes-open zero m place = tt
-  bytes-open (suc size) m place = both-open cons _ _ (open_to.byte m place) (bytes-open size m (next_place place))
+  bytes-open (suc size) m place = both-open ◌∷◌ _ _ (open_to.byte m place) (bytes-open size m (next_place place))
 
   writes-open : (size : ℕ) (m : M) (place : ℕ) → IsOpen (all_write acc m place size)
   writes-open zero m place = tt

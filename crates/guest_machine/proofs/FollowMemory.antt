@@ -1,6 +1,6 @@
 -- Loads and stores of related memories, by their bytes.
 use Rattle.std.proofs.Common.{◌≡◌, ℕ, zero, suc, ◌+◌, ◌≤◌, List, [], ◌∷◌, length, Result, Ok, Err, refl, ap, ◌∙◌, inl, inr, arith}
-use Rattle.guest_operands.specs.Access.{Refusal, Refused, Shut, Accesses, IsSize, next_place, both_reached, reached, cons, bytes_from, bytes_at, all_write, put_all, load_of, store_of}
+use Rattle.guest_operands.specs.Access.{Refusal, Refused, Shut, Accesses, IsSize, next_place, both_reached, reached, bytes_from, bytes_at, all_write, put_all, load_of, store_of}
 use Rattle.guest_machine.specs.Follow.{Reaches, All2, Alike, IsFollowed, IsKept}
 use Rattle.guest_arithmetic.specs.Values.{Operations}
 
@@ -25,12 +25,7 @@ reaches-both R Q P f g (Ok x) (Ok x') (Err Shut) b' h k c = tt
 reaches-both R Q P f g (Ok x) (Err why) b b' h k c = absurd h
 reaches-both R Q P f g (Err Refused) (Ok x') b b' h k c = absurd h
 reaches-both R Q P f g (Err Refused) (Err Shut) b b' h k c = absurd h
-reaches-both R Q P f g (Err Refused) (Err Refused) (Ok y) (Ok y') h k c = tt
-reaches-both R Q P f g (Err Refused) (Err Refused) (Ok y) (Err why) h k c = absurd k
-reaches-both R Q P f g (Err Refused) (Err Refused) (Err Refused) (Ok y') h k c = absurd k
-reaches-both R Q P f g (Err Refused) (Err Refused) (Err Refused) (Err Refused) h k c = tt
-reaches-both R Q P f g (Err Refused) (Err Refused) (Err Refused) (Err Shut) h k c = absurd k
-reaches-both R Q P f g (Err Refused) (Err Refused) (Err Shut) b' h k c = tt
+reaches-both R Q P f g (Err Refused) (Err Refused) b b' h k c = tt
 reaches-both R Q P f g (Err Shut) a' b b' h k c = tt
 
 -- both were reached where the two together were
@@ -54,7 +49,7 @@ module _ {W F B W' F' B' : Type 0} (same : Alike W F B W' F' B') {M M' : Type 0}
   bytes-reach : (size : ℕ) (m : M) (m' : M') → Same m m' → (place : ℕ) → Reaches (IsRead size) (bytes_at acc m place size) (bytes_at acc' m' place size)
   bytes-reach zero m m' h place = (tt, refl)
   bytes-reach (suc size) m m' h place =
-      reaches-both same.byte (IsRead size) (IsRead (suc size)) cons cons _ _ _ _ (kept.byte m m' h place) (bytes-reach size m m' h (next_place place))
+      reaches-both same.byte (IsRead size) (IsRead (suc size)) ◌∷◌ ◌∷◌ _ _ _ _ (kept.byte m m' h place) (bytes-reach size m m' h (next_place place))
       (λ x x' y y' p q. ((p, q.0), ap suc q.1))
 
   writes-reach : (size : ℕ) (m : M) (m' : M') → Same m m' → (place : ℕ) → Reaches (λ a b. Unit {0}) (all_write acc m place size) (all_write acc' m' place size)

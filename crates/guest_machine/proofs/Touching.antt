@@ -35,7 +35,8 @@ use Rattle.guest_operands.specs.declared.stop.Stop.{Stop}
 use Rattle.guest_machine.specs.declared.touch.Direction.TheVariants.{Load, Store}
 use Rattle.guest_machine.specs.declared.touch.Touch.{Touch}
 use Rattle.guest_machine.specs.declared.touch.Touches.{Touches}
-use Rattle.guest_operands.specs.Access.{Refusal, Accesses, closed, bytes_in, next_place, reached, bytes_from, bytes_at, all_write, put_all, code_then}
+use Rattle.guest_operands.specs.Access.{Refusal, Accesses, bytes_in, next_place, reached, bytes_from, bytes_at, all_write, put_all, code_then}
+use Rattle.guest_operands.specs.Closed.{closed}
 use Rattle.guest_operands.specs.Access.{code_at, load_of, store_of, fetch_of}
 use Rattle.guest_operands.specs.Operand.{size_for, size_of, charged, address_of, number_at, carried, weighed, taken_at, taken, put}
 use Rattle.guest_operands.specs.State.{register_of, at_place}

@@ -3,7 +3,7 @@ use Rattle.std.specs.Prelude.{◌≡◌, ℕ, Bool, false}
 use Rattle.std.specs.List.{list_any}
 use Rattle.guest_arithmetic.specs.Plain.{plain_operations}
 use Rattle.guest_operands.specs.declared.state.State.{State}
-use Rattle.guest_operands.specs.Access.{closed}
+use Rattle.guest_operands.specs.Closed.{closed}
 use Rattle.guest_operands.specs.Ranges.{AddressSpace, range_accesses}
 use Rattle.guest_machine.specs.Step.{step_of}
 use Rattle.guest_machine.specs.Touch.{next_touches, touched}

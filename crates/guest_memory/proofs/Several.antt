@@ -1,13 +1,13 @@
 -- Several bytes over ranges are what the accesses of ranges say.
-use Rattle.std.proofs.Common.{◌≡◌, ℕ, zero, suc, Bool, true, false, List, Option, Some, None, Result, Ok, Err, refl}
+use Rattle.std.proofs.Common.{◌≡◌, ℕ, zero, suc, Bool, true, false, List, ◌∷◌, Option, Some, None, Result, Ok, Err, refl}
 use Rattle.std.specs.Prelude.{ok_or, option_map, is_some, ◌&&◌}
 use Rattle.guest_operands.specs.declared.space.Access.TheVariants.{Read, Write}
 use Rattle.guest_arithmetic.specs.Values.{Operations}
-use Rattle.guest_operands.specs.Access.{Refusal, Refused, both_reached, reached, cons, next_place, bytes_at, all_write, load_of, store_of, put_all, bytes_from}
+use Rattle.guest_operands.specs.Access.{Refusal, Refused, both_reached, reached, next_place, bytes_at, all_write, load_of, store_of, put_all, bytes_from}
 use Rattle.guest_operands.specs.Ranges.{AddressSpace, byte_in, range_accesses}
 use Rattle.guest_memory.specs.Several.{before, bytes_in, all_writable}
 
-reached-before : {B : Type 0} (byte : Option B) (bytes : Option (List B)) → both_reached cons (ok_or byte Refused) (ok_or bytes Refused) ≡ ok_or (before byte bytes) Refused
+reached-before : {B : Type 0} (byte : Option B) (bytes : Option (List B)) → both_reached ◌∷◌ (ok_or byte Refused) (ok_or bytes Refused) ≡ ok_or (before byte bytes) Refused
 reached-before None None = refl
 reached-before None (Some bytes) = refl
 reached-before (Some byte) None = refl

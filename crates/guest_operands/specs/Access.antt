@@ -1,5 +1,5 @@
 -- The accesses that a memory offers, byte by byte, and the accesses of several bytes made of them.
-use Rattle.std.specs.Prelude.{◌≡◌, ◌⊎◌, ℕ, Bool, true, false, zero, suc, ◌+◌, ◌%◌, ◌^◌, List, [], ◌∷◌, Option, Some, None, Result, Ok, Err}
+use Rattle.std.specs.Prelude.{◌≡◌, ◌⊎◌, ℕ, zero, suc, ◌+◌, ◌%◌, ◌^◌, List, [], ◌∷◌, Option, Some, None, Result, Ok, Err}
 use Rattle.guest_arithmetic.specs.Values.{Operations}
 use Rattle.guest_operands.specs.declared.space.Size.{Size}
 use Rattle.guest_operands.specs.declared.space.Size.TheVariants.{Byte, Long, Quad}
@@ -22,20 +22,6 @@ pub record Accesses (M B : Type 0) : Type 0 where
   -- the byte of code at a place, if it may be run
   pub code : M → ℕ → Option ℕ
 
--- an access, unless its byte is closed
-abbrev pub unless_shut : {A : Type 0} → Bool → Result A Refusal → Result A Refusal
-unless_shut true access = Err Shut
-unless_shut false access = access
-
--- the same memory with some bytes closed
-abbrev pub closed : {M B : Type 0} → (M → ℕ → Bool) → Accesses M B → Accesses M B
-closed shut acc = record {
-  byte = λ memory place. unless_shut (shut memory place) (acc.byte memory place);
-  writes = λ memory place. unless_shut (shut memory place) (acc.writes memory place);
-  put = acc.put;
-  code = acc.code;
-}
-
 -- how many bytes an access of data has
 abbrev pub bytes_in : Size → ℕ
 bytes_in Byte = 1
@@ -49,21 +35,14 @@ IsSize size = (size ≡ 1) ⊎ ((size ≡ 4) ⊎ (size ≡ 8))
 abbrev pub next_place : ℕ → ℕ
 next_place place = (place + 1) % 2 ^ 64
 
--- a byte and those after it: of two refusals, the closed byte's is reported
-abbrev pub both_reached : {A C D : Type 0} → (A → C → D) → Result A Refusal → Result C Refusal → Result D Refusal
-both_reached f (Ok a) (Ok c) = Ok (f a c)
-both_reached f (Ok a) (Err why) = Err why
-both_reached f (Err Shut) c = Err Shut
-both_reached f (Err Refused) (Ok c) = Err Refused
-both_reached f (Err Refused) (Err why) = Err why
-
 abbrev pub reached : {A C : Type 0} → (A → C) → Result A Refusal → Result C Refusal
 reached f (Ok a) = Ok (f a)
 reached f (Err why) = Err why
 
--- a byte before others
-abbrev pub cons : {A : Type 0} → A → List A → List A
-cons x xs = x ∷ xs
+-- a byte and those after it: of two refusals, the first is reported
+abbrev pub both_reached : {A C D : Type 0} → (A → C → D) → Result A Refusal → Result C Refusal → Result D Refusal
+both_reached f (Ok a) rest = reached (f a) rest
+both_reached f (Err why) rest = Err why
 
 -- the lowest bytes of a word, from byte k on
 abbrev pub bytes_from : {W F B : Type 0} → Operations W F B → W → ℕ → ℕ → List B
@@ -79,7 +58,7 @@ module _ {M B : Type 0} (acc : Accesses M B) where
   -- `size` bytes from a place on
   abbrev pub bytes_at : M → ℕ → ℕ → Result (List B) Refusal
   bytes_at memory place zero = Ok []
-  bytes_at memory place (suc size) = both_reached cons (acc.byte memory place) (bytes_at memory (next_place place) size)
+  bytes_at memory place (suc size) = both_reached ◌∷◌ (acc.byte memory place) (bytes_at memory (next_place place) size)
 
   -- whether each of these bytes may be written
   abbrev pub all_write : M → ℕ → ℕ → Result (Unit {0}) Refusal

@@ -1,4 +1,5 @@
 pub mod Access
+pub mod Closed
 pub mod Frame
 pub mod Operand
 pub mod Ranges

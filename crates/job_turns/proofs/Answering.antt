@@ -1,5 +1,5 @@
 -- What is asked for and answered over the code's ranges, is asked for and answered over a thread's space.
-use Rattle.std.proofs.Common.{◌≡◌, ◌+◌, ◌==◌, ℕ, zero, suc, Bool, true, false, List, Option, Some, None, Result, Ok, Err, IsErr, refl, sym, ap, ◌∙◌, subst}
+use Rattle.std.proofs.Common.{◌≡◌, ◌+◌, ◌==◌, ℕ, zero, suc, Bool, true, false, List, ◌∷◌, Option, Some, None, Result, Ok, Err, IsErr, refl, sym, ap, ◌∙◌, subst}
 use Rattle.std.specs.Prelude.{if◌then◌else◌, ok_or}
 use Rattle.std.specs.List.{find, list_any}
 use Rattle.address_map.specs.Map.{stack_start}
@@ -7,7 +7,7 @@ use Rattle.guest_arithmetic.specs.Plain.{plain_operations}
 use Rattle.guest_operands.specs.declared.state.State.{State}
 use Rattle.guest_operands.specs.declared.stop.Stop.{Stop}
 use Rattle.guest_operands.specs.declared.stop.Stop.TheVariants.{Address}
-use Rattle.guest_operands.specs.Access.{Accesses, Refusal, Refused, Shut, both_reached, bytes_at, cons, load_of, next_place, reached as reached_so}
+use Rattle.guest_operands.specs.Access.{Accesses, Refusal, Refused, Shut, both_reached, bytes_at, load_of, next_place, reached as reached_so}
 use Rattle.guest_operands.specs.Ranges.{AddressSpace, range_accesses}
 use Rattle.guest_operands.specs.Use.{◌>>=◌, After, left, there}
 use Rattle.guest_machine.specs.Machine.{Answers, Standing, answer_of}
@@ -19,7 +19,7 @@ use Rattle.module_table.specs.Past.{Past}
 use Rattle.thread_blocks.specs.Instances.{instances, instances_in}
 use Rattle.thread_blocks.specs.JobLoads.{job_loads}
 use Rattle.thread_blocks.specs.RunTime.{asked_at, asked_by, asked_of, has_words, pair, thread_accesses, word_at, word_of}
-use Rattle.thread_blocks.specs.Spaces.{Space, address_space_of, after_of, mapped, open_everywhere, space_accesses}
+use Rattle.thread_blocks.specs.Spaces.{Space, address_space_of, after_of, mapped, space_accesses}
 use Rattle.thread_blocks.proofs.Spaces.{space_image}
 use Rattle.thread_space.specs.Kept.{HasSeen, Kept, live_in, memory_of, shape_of}
 use Rattle.job_turns.specs.Running.{asked_from, asked_in, asker_in, space_in, word_in}
@@ -36,7 +36,7 @@ live_seen k seen has = ap (λ (p : Past). instances_in (infos k.vector.images) p
 
 module _ (k : Kept) (seen : List Event) (has : HasSeen k.vector seen) where
   abbrev space-accesses : Accesses (Space Event ℕ) ℕ
-  space-accesses = space_accesses plain_operations (stack_start k.vector.thread) (fixed_seen k.vector.images k.vector.thread) open_everywhere
+  space-accesses = space_accesses plain_operations (stack_start k.vector.thread) (fixed_seen k.vector.images k.vector.thread)
 
   byte-same : (place : ℕ) → (range_accesses plain_operations).byte (memory_of k) place ≡ space-accesses.byte (space_in seen k) place
   byte-same place =
@@ -86,9 +86,7 @@ both-open f (Ok a) (Ok c) g h = tt
 both-open f (Ok a) (Err Refused) g h = tt
 both-open f (Ok a) (Err Shut) g h = h
 both-open f (Err Shut) c g h = absurd g
-both-open f (Err Refused) (Ok c) g h = tt
-both-open f (Err Refused) (Err Refused) g h = tt
-both-open f (Err Refused) (Err Shut) g h = h
+both-open f (Err Refused) c g h = tt
 
 reached-open : {A C : Type 0} (f : A → C) (a : Result A Refusal) → NotShut a → NotShut (reached_so f a)
 reached-open f (Ok a) g = tt
@@ -137,7 +135,7 @@ module _ (k : Kept) (seen : List Event) (has : HasSeen k.vector seen) (word : �
   space-open : (size place : ℕ) → NotShut (bytes_at (space-accesses k seen has) (space_in seen k) place size)
   unfolding space_accesses
   space-open zero place = tt
-  space-open (suc size) place = both-open cons _ _ (byte-open _) (space-open size (next_place place))
+  space-open (suc size) place = both-open ◌∷◌ _ _ (byte-open _) (space-open size (next_place place))
 
   over-is : IsReturn state.place (space_in seen k) over-space
   unfolding thread_accesses return_of load_of plain_operations

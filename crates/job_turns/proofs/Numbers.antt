@@ -1,5 +1,5 @@
 -- Numbers and questions that the code reads byte by byte.
-use Rattle.std.proofs.Common.{◌≡◌, ◌+◌, ◌*◌, ◌^◌, ◌<◌, ◌≤◌, ℕ, zero, suc, Bool, List, Option, Some, None, Result, Ok, Err, refl, sym, ap, ◌∙◌, arith}
+use Rattle.std.proofs.Common.{◌≡◌, ◌+◌, ◌*◌, ◌^◌, ◌<◌, ◌≤◌, ℕ, zero, suc, Bool, List, ◌∷◌, Option, Some, None, Result, Ok, Err, refl, sym, ap, ◌∙◌, arith}
 use Rattle.std.specs.Prelude.{◌==◌, if◌then◌else◌}
 use Rattle.std.proofs.lemmas.Nat.{pow-add}
 use Rattle.std.proofs.Math.Nat.{pow-le-pow_right}
@@ -7,7 +7,7 @@ use Rattle.guest_arithmetic.specs.Plain.{plain_operations}
 use Rattle.guest_arithmetic.specs.Values.{number_from}
 use Rattle.guest_operands.specs.declared.space.Access.TheVariants.{Read}
 use Rattle.guest_operands.specs.declared.state.State.{State}
-use Rattle.guest_operands.specs.Access.{Refusal, Refused, Shut, both_reached, bytes_at, cons, next_place}
+use Rattle.guest_operands.specs.Access.{Refusal, Refused, Shut, both_reached, bytes_at, next_place}
 use Rattle.guest_operands.specs.Ranges.{byte_in, range_accesses}
 use Rattle.loaded_modules.specs.declared.instance.Instance.{Instance}
 use Rattle.thread_blocks.specs.Instances.{Loads}
@@ -22,18 +22,18 @@ use Rattle.job_turns.proofs.Answering.{NotShut, both-open, byte-open}
 range-open : (k : Kept) (size place : ℕ) → NotShut (bytes_at (range_accesses plain_operations) (memory_of k) place size)
 unfolding range_accesses
 range-open k zero place = tt
-range-open k (suc size) place = both-open cons _ _ (byte-open (byte_in Read (memory_of k).ranges place)) (range-open k size (next_place place))
+range-open k (suc size) place = both-open ◌∷◌ _ _ (byte-open (byte_in Read (memory_of k).ranges place)) (range-open k size (next_place place))
 
-first-refused : (rest : Result (List ℕ) Refusal) → NotShut rest → word_of (both_reached (cons {A = ℕ}) (Err Refused) rest) ≡ Err Refused
+first-refused : (rest : Result (List ℕ) Refusal) → NotShut rest → word_of (both_reached (λ (x : ℕ) xs. x ∷ xs) (Err Refused) rest) ≡ Err Refused
 first-refused (Ok bytes) g = refl
 first-refused (Err Refused) g = refl
 first-refused (Err Shut) g = absurd g
 
-rest-refused : (byte : ℕ) (rest : Result (List ℕ) Refusal) → word_of rest ≡ Err Refused → word_of (both_reached cons (Ok byte) rest) ≡ Err Refused
+rest-refused : (byte : ℕ) (rest : Result (List ℕ) Refusal) → word_of rest ≡ Err Refused → word_of (both_reached ◌∷◌ (Ok byte) rest) ≡ Err Refused
 rest-refused byte (Ok bytes) e = cc
 rest-refused byte (Err why) e = e
 
-both-read : (byte n : ℕ) (rest : Result (List ℕ) Refusal) → word_of rest ≡ Ok n → word_of (both_reached cons (Ok byte) rest) ≡ Ok (byte + 256 * n)
+both-read : (byte n : ℕ) (rest : Result (List ℕ) Refusal) → word_of rest ≡ Ok n → word_of (both_reached ◌∷◌ (Ok byte) rest) ≡ Ok (byte + 256 * n)
 both-read byte n (Ok bytes) e = let same : number_from bytes ≡ n = cc in ap (λ m. Ok (byte + 256 * m)) same
 both-read byte n (Err why) e = cc
 

@@ -22,7 +22,7 @@ use Rattle.thread_blocks.specs.Instances.{fixed_at, fixed_of, instances_in}
 use Rattle.thread_blocks.specs.JobLoads.{job_loads, loaded_parts}
 use Rattle.thread_blocks.specs.MachineTurns.{pointer_word}
 use Rattle.thread_blocks.specs.RunTime.{thread_accesses}
-use Rattle.thread_blocks.specs.Spaces.{Space, NoneWritable, IsImage, address_space_of, after_of, no_field, open_everywhere, outcome_image, space_accesses, stack_range}
+use Rattle.thread_blocks.specs.Spaces.{Space, NoneWritable, IsImage, address_space_of, after_of, no_field, outcome_image, space_accesses, stack_range}
 use Rattle.thread_blocks.proofs.Image.{machine_image, run_image}
 use Rattle.thread_blocks.proofs.Spaces.{space_run}
 use Rattle.thread_space.specs.Kept.{Kept, HasSeen, Shape, fixed_in, memory_of, owned_of, shape_of}
@@ -40,7 +40,7 @@ module _ {W F E B : Type 0} (ops : Operations W F B) (start : ℕ) (fixed : List
   put-seeing true m place byte own = refl
   put-seeing false m place byte own = refl
 
-  seeing-image : IsImage (space_accesses ops start (λ (_ : List E). fixed seen) open_everywhere) (space_accesses ops start fixed open_everywhere) seeing
+  seeing-image : IsImage (space_accesses ops start (λ (_ : List E). fixed seen)) (space_accesses ops start fixed) seeing
   unfolding space_accesses
   seeing-image = record {
     byte = λ m place. refl;
@@ -54,10 +54,10 @@ module _ {W F E B : Type 0} (ops : Operations W F B) (start : ℕ) (fixed : List
   out-seen (Waits n at) = refl
 
   pub run_sees : (n : ℕ) (state : State W F) (m : Space E B) → m.seen ≡ seen
-      → (state_after (run (machine ops (space_accesses ops start fixed open_everywhere) no_field) n (left state m))).memory.seen ≡ seen
+      → (state_after (run (machine ops (space_accesses ops start fixed) no_field) n (left state m))).memory.seen ≡ seen
   run_sees n state m e =
-      let x = machine ops (space_accesses ops start (λ (_ : List E). fixed seen) open_everywhere) no_field in
-      let y = machine ops (space_accesses ops start fixed open_everywhere) no_field in
+      let x = machine ops (space_accesses ops start (λ (_ : List E). fixed seen)) no_field in
+      let y = machine ops (space_accesses ops start fixed) no_field in
       let same : m ≡ seeing m = rw e refl in
       ap (λ (m : Space E B). (state_after (run y n (left state m))).memory.seen) same
       ∙ ap (λ (out : Outcome (After W F (Space E B))). (state_after out).memory.seen)

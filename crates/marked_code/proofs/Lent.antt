@@ -23,7 +23,8 @@ use Rattle.guest_operands.specs.declared.frame.Frame.{Frame}
 use Rattle.guest_operands.specs.declared.space.Size.TheVariants.{Quad}
 use Rattle.guest_operands.specs.declared.state.Registers.{Registers}
 use Rattle.guest_operands.specs.declared.state.State.{State}
-use Rattle.guest_operands.specs.Access.{Accesses, closed, next_place, both_reached, reached, unless_shut, bytes_in, bytes_from, bytes_at, all_write, put_all, load_of, store_of}
+use Rattle.guest_operands.specs.Access.{Accesses, next_place, both_reached, reached, bytes_in, bytes_from, bytes_at, all_write, put_all, load_of, store_of}
+use Rattle.guest_operands.specs.Closed.{closed, unless_shut}
 use Rattle.guest_operands.specs.Operand.{charged, base_of, index_of, address_of}
 use Rattle.guest_operands.specs.Use.{plus}
 use Rattle.guest_machine.specs.declared.touch.Direction.TheVariants.{Load}

@@ -13,7 +13,8 @@ use Rattle.guest_operands.specs.declared.frame.Frame.{Frame}
 use Rattle.guest_operands.specs.declared.state.State.{State}
 use Rattle.guest_operands.specs.declared.stop.Stop.{Stop}
 use Rattle.guest_operands.specs.declared.stop.Stop.TheVariants.{Code}
-use Rattle.guest_operands.specs.Access.{Accesses, closed, code_at, fetch_of, bytes_from, load_of}
+use Rattle.guest_operands.specs.Access.{Accesses, code_at, fetch_of, bytes_from, load_of}
+use Rattle.guest_operands.specs.Closed.{closed}
 use Rattle.guest_operands.specs.Frame.{field_at, frame_of}
 use Rattle.guest_operands.specs.Operand.{address_of}
 use Rattle.guest_operands.specs.Use.{plus, After}

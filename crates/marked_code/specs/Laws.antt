@@ -9,7 +9,8 @@ use Rattle.guest_arithmetic.specs.Plain.{plain_operations}
 use Rattle.guest_operands.specs.declared.frame.Frame.{Frame}
 use Rattle.guest_operands.specs.declared.state.State.{State}
 use Rattle.guest_operands.specs.Operand.{address_of}
-use Rattle.guest_machine.specs.Access.{Accesses, closed, load_of, store_of}
+use Rattle.guest_machine.specs.Access.{Accesses, load_of, store_of}
+use Rattle.guest_operands.specs.Closed.{closed}
 use Rattle.guest_machine.specs.Follow.{Follows, IsKept, Reaches, SameAfter, SameState}
 use Rattle.guest_machine.specs.Step.{act, step_of}
 use Rattle.job_meaning.specs.declared.values.Byte.{Byte}

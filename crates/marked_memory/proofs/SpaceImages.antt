@@ -22,7 +22,7 @@ use Rattle.module_table.specs.declared.events.Event.{Event}
 use Rattle.thread_blocks.specs.Held.{Owner, ranges_in}
 use Rattle.thread_blocks.specs.Instances.{fixed_at, fixed_of, instances}
 use Rattle.thread_blocks.specs.MachineTurns.{pointer_word, word_bytes}
-use Rattle.thread_blocks.specs.Spaces.{IsImage, NoneWritable, mapped, open_everywhere, put_byte, space_accesses, stack_range}
+use Rattle.thread_blocks.specs.Spaces.{IsImage, NoneWritable, mapped, put_byte, space_accesses, stack_range}
 use Rattle.thread_blocks.proofs.Image.{act_image}
 use Rattle.thread_blocks.proofs.Spaces.{put_is_with_byte}
 use Rattle.whole_meaning.specs.Fields.{lent, lent_byte}
@@ -198,7 +198,7 @@ module _ (ls : List Linking) (thread : ℕ) (lent_word : Option ℕ) (seen : Lis
   put-seeing false m place byte own = refl
 
   abbrev seen-accesses : Accesses Memory Byte
-  seen-accesses = space_accesses ops (stack_start thread) (λ (_ : List Event). pointer_word ops thread ∷ fixed_at (loads_of ls) seen) open_everywhere
+  seen-accesses = space_accesses ops (stack_start thread) (λ (_ : List Event). pointer_word ops thread ∷ fixed_at (loads_of ls) seen)
 
 seeing-image : (ls : List Linking) (thread : ℕ) (lent_word : Option ℕ) (seen : List Event)
     → IsImage (lent ops (seen-accesses ls thread lent_word seen) lent_word) (lent ops (meant_accesses (meaning_of ls) thread) lent_word) (seeing ls thread lent_word seen)

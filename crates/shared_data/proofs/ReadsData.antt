@@ -7,7 +7,7 @@ use Rattle.guest_operands.specs.declared.space.Access.TheVariants.{Read}
 use Rattle.guest_machine.specs.Access.{Refused}
 use Rattle.guest_machine.specs.Ranges.{Range, allows, byte_in, grants, holds}
 use Rattle.thread_blocks.specs.Held.{Block, Data, Kind, Owner, owned}
-use Rattle.thread_blocks.specs.Spaces.{Space, open_everywhere, space_accesses, stack_range}
+use Rattle.thread_blocks.specs.Spaces.{Space, space_accesses, stack_range}
 use Rattle.shared_data.specs.Changes.{Change, data_found, data_place, last_left}
 use Rattle.shared_data.proofs.Left.{AreLeft, IsLeft}
 
@@ -44,7 +44,7 @@ module _ {W F B : Type 0} (ops : Operations W F B) (stack : ℕ) {E : Type 0} (f
   pub beside_stack : (log : List (Change B)) (space : Space E B) (os : List Owner) (place : ℕ) (at : ℕ × ℕ)
       → AreLeft log (owned os space.own)
       → (if grants Read (stack_range stack space.stack) place then None else data_found (owned os space.own) place) ≡ Some at
-      → (space_accesses ops stack fixed open_everywhere).byte space place ≡ ok_or (last_left at.0 at.1 log) Refused
+      → (space_accesses ops stack fixed).byte space place ≡ ok_or (last_left at.0 at.1 log) Refused
   unfolding space_accesses
   beside_stack log space os place at left e = elim (cases_Bool (grants Read (stack_range stack space.stack) place)) [
     | inl t ↦ absurd (let none : None ≡ Some at = rw t at e in cc)

@@ -11,7 +11,7 @@ use Rattle.guest_arithmetic.specs.Arithmetic.{low}
 use Rattle.guest_arithmetic.specs.Flags.{condition_of, is_below_or_equal, is_less, is_less_or_equal}
 use Rattle.guest_arithmetic.specs.Plain.{plain_operations}
 use Rattle.guest_arithmetic.specs.Values.{Operations, number_from}
-use Rattle.guest_operands.specs.Access.{Accesses, Refusal, Refused, Shut, all_write, both_reached, bytes_at, bytes_from, cons, load_of, next_place, put_all, reached, store_of}
+use Rattle.guest_operands.specs.Access.{Accesses, Refusal, Refused, Shut, all_write, both_reached, bytes_at, bytes_from, load_of, next_place, put_all, reached, store_of}
 use Rattle.guest_operands.specs.Operand.{kept, kept_byte, number_at}
 use Rattle.guest_machine.specs.Touch.{places_from}
 use Rattle.job_meaning.specs.declared.values.Byte.{Byte}
@@ -133,7 +133,7 @@ module _ (owner : ℕ → ℕ) where
     bytes-same zero place h = refl
     bytes-same (suc size) place h =
         both-same (λ b n. b ≡ Value n) (λ (bs : List Byte) (ns : List ℕ). bs ≡ map Value ns)
-        (λ (bs : List Byte) (ns : List ℕ). bs ≡ map Value ns) cons cons _ _ _ _
+        (λ (bs : List Byte) (ns : List ℕ). bs ≡ map Value ns) ◌∷◌ ◌∷◌ _ _ _ _
         (byte-same (acc.byte m place) (opened.byte place)
         (All-head (λ place. IsByte (acc.byte m place)) place (places_from (next_place place) size) h))
         (bytes-same size (next_place place) (All-tail (λ place. IsByte (acc.byte m place)) place

@@ -3,7 +3,7 @@ use Rattle.std.proofs.Common.{◌≡◌, ◌⊎◌, inl, inr, ◌<◌, ℕ, zero
 use Rattle.std.specs.Prelude.{slice_index_or, if◌then◌else◌}
 use Rattle.std.specs.List.{Contains}
 use Rattle.std.proofs.lemmas.List.Elements.{Contains-append_cases}
-use Rattle.guest_operands.specs.Access.{Accesses, Refusal, Refused, Shut, all_write, both_reached, bytes_at, bytes_in, cons, next_place, reached}
+use Rattle.guest_operands.specs.Access.{Accesses, Refusal, Refused, Shut, all_write, both_reached, bytes_at, bytes_in, next_place, reached}
 use Rattle.guest_machine.specs.declared.touch.Touch.{Touch}
 use Rattle.guest_machine.specs.declared.touch.Touches.{Touches}
 use Rattle.guest_machine.specs.Touch.{places_from, refuses, touched, touched_then}
@@ -32,8 +32,7 @@ module _ {A C D : Type 0} (f : A → C → D) where
   pub both-open : (a : Result A Refusal) (b : Result C Refusal) → IsOpen a → IsOpen b → IsOpen (both_reached f a b)
   both-open (Ok x) (Ok y) h k = tt
   both-open (Ok x) (Err why) h k = k
-  both-open (Err Refused) (Ok y) h k = tt
-  both-open (Err Refused) (Err why) h k = k
+  both-open (Err Refused) b h k = tt
   both-open (Err Shut) b h k = absurd h
 
   pub both-less : (a a' : Result A Refusal) (b b' : Result C Refusal) → IsOpen a → IsOpen b → IsLess a a' → IsLess b b'
@@ -121,7 +120,7 @@ module _ {M B : Type 0} (acc acc' : Accesses M B) (m : M) where
   module _ (less : AllowsLess) where
     pub bytes-open : (size place : ℕ) → IsOpen (bytes_at acc m place size)
     bytes-open zero place = tt
-    bytes-open (suc size) place = both-open cons _ _ (less.open_byte place) (bytes-open size (next_place place))
+    bytes-open (suc size) place = both-open ◌∷◌ _ _ (less.open_byte place) (bytes-open size (next_place place))
 
     pub writes-open : (size place : ℕ) → IsOpen (all_write acc m place size)
     writes-open zero place = tt
@@ -131,7 +130,7 @@ module _ {M B : Type 0} (acc acc' : Accesses M B) (m : M) where
     pub bytes-less : (size place : ℕ) → IsLess (bytes_at acc m place size) (bytes_at acc' m place size)
     bytes-less zero place = inl refl
     bytes-less (suc size) place =
-        both-less cons (acc.byte m place) (acc'.byte m place) (bytes_at acc m (next_place place) size)
+        both-less ◌∷◌ (acc.byte m place) (acc'.byte m place) (bytes_at acc m (next_place place) size)
         (bytes_at acc' m (next_place place) size)
         (less.open_byte place) (bytes-open size (next_place place)) (less.byte place)
         (bytes-less size (next_place place))
@@ -155,10 +154,10 @@ module _ {M B : Type 0} (acc acc' : Accesses M B) (m : M) where
         bytes-refused (suc size) place (inl e) =
             let rest : IsOpen (bytes_at acc' m (next_place place) size) =
             less-open _ _ (bytes-open size (next_place place)) (bytes-less size (next_place place)) in
-            rw (e, unread) (refused-first cons (bytes_at acc' m (next_place a) size) (rw (← e) rest))
+            rw (e, unread) (refused-first ◌∷◌ (bytes_at acc' m (next_place a) size) (rw (← e) rest))
         bytes-refused (suc size) place (inr h) =
             rw (bytes-refused size (next_place place) h)
-            (refused-rest cons (acc'.byte m place) (less-open _ _ (less.open_byte place) (less.byte place)))
+            (refused-rest ◌∷◌ (acc'.byte m place) (less-open _ _ (less.open_byte place) (less.byte place)))
 
       module _ (unwritten : acc'.writes m a ≡ Err Refused) where
         pub writes-refused : (size place : ℕ) → IsAmong a place size → all_write acc' m place size ≡ Err Refused

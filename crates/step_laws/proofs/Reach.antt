@@ -25,7 +25,7 @@ use Rattle.guest_operands.specs.declared.frame.Frame.{Frame}
 use Rattle.guest_operands.specs.declared.space.Size.{Size}
 use Rattle.guest_operands.specs.declared.space.Size.TheVariants.{Byte as ByteSize, Long as LongSize, Quad as QuadSize}
 use Rattle.guest_operands.specs.declared.state.State.{State}
-use Rattle.guest_operands.specs.Access.{bytes_in as bytes_of, Accesses, Refusal, Refused, Shut, both_reached, bytes_at, cons, next_place}
+use Rattle.guest_operands.specs.Access.{bytes_in as bytes_of, Accesses, Refusal, Refused, Shut, both_reached, bytes_at, next_place}
 use Rattle.guest_operands.specs.Operand.{address_of, size_for, size_of}
 use Rattle.guest_operands.specs.State.{register_of}
 use Rattle.guest_operands.specs.Use.{plus}
@@ -59,7 +59,7 @@ module _ {M : Type 0} (acc : Accesses M Byte) (m : M) (shut : ℕ → Bool) wher
   load-refused : (size place : ℕ) → is_refused (bytes_at acc m place size) ≡ any_refused acc m (places_from place size)
   load-refused zero place = refl
   load-refused (suc size) place =
-      either-refused cons (acc.byte m place) (bytes_at acc m (next_place place) size)
+      either-refused ◌∷◌ (acc.byte m place) (bytes_at acc m (next_place place) size)
       ∙ or-same (is_refused (acc.byte m place)) _ _ (load-refused size (next_place place))
 
   -- none of these places is the linker's own

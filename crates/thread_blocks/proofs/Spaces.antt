@@ -9,8 +9,8 @@ use Rattle.guest_machine.specs.Ranges.{Range, grants, byte_in, with_byte, range_
 use Rattle.guest_machine.specs.Run.{run, machine, machine_of}
 use Rattle.guest_machine.specs.Use.{After}
 use Rattle.guest_arithmetic.specs.Values.{Operations}
-use Rattle.thread_blocks.specs.Spaces.{Space, stack_range, ranges_of, address_space_of, put_byte, space_accesses, open_everywhere, no_field, NoneWritable, IsImage, after_of, outcome_image, IsRunImage, FoundAlike, SameRange, SameSpace}
-use Rattle.guest_operands.specs.Access.{unless_shut}
+use Rattle.thread_blocks.specs.Spaces.{Space, stack_range, ranges_of, address_space_of, put_byte, space_accesses, no_field, NoneWritable, IsImage, after_of, outcome_image, IsRunImage, FoundAlike, SameRange, SameSpace}
+use Rattle.guest_operands.specs.Closed.{closed, unless_shut}
 use Rattle.thread_blocks.proofs.Image.{machine_image, run_image}
 
 -- ** a space as its ranges
@@ -46,7 +46,7 @@ module _ {W F E B : Type 0} (ops : Operations W F B) (start : ℕ) (fixed : List
       put-ranges (grants Write (stack_range start space.stack) place) space place byte _ (with-own space.own (fixed space.seen) place byte (none space.seen))
 
   -- the law: the ranges of a space are its image
-  pub space_image : IsImage (space_accesses ops start fixed open_everywhere) (range_accesses ops) (address_space_of start fixed)
+  pub space_image : IsImage (space_accesses ops start fixed) (range_accesses ops) (address_space_of start fixed)
   unfolding space_accesses range_accesses
   space_image = record {
     byte = λ space place. refl;
@@ -56,13 +56,13 @@ module _ {W F E B : Type 0} (ops : Operations W F B) (start : ℕ) (fixed : List
   }
 
   -- runs over a space are runs over its ranges
-  pub space_machine : IsRunImage (after_of {W = W} {F = F} (address_space_of start fixed)) (machine ops (space_accesses ops start fixed open_everywhere) no_field) (machine_of ops)
+  pub space_machine : IsRunImage (after_of {W = W} {F = F} (address_space_of start fixed)) (machine ops (space_accesses ops start fixed) no_field) (machine_of ops)
   unfolding is_field_of
-  space_machine = machine_image ops (space_accesses ops start fixed open_everywhere) (range_accesses ops) (address_space_of start fixed) space_image no_field is_field_of (λ m. refl)
+  space_machine = machine_image ops (space_accesses ops start fixed) (range_accesses ops) (address_space_of start fixed) space_image no_field is_field_of (λ m. refl)
 
   pub space_run : (n : ℕ) (a : After W F (Space E B)) → run (machine_of ops) n (after_of (address_space_of start fixed) a)
-      ≡ outcome_image (after_of (address_space_of start fixed)) (run (machine ops (space_accesses ops start fixed open_everywhere) no_field) n a)
-  space_run n a = run_image (after_of (address_space_of start fixed)) (machine ops (space_accesses ops start fixed open_everywhere) no_field) (machine_of ops) space_machine n a
+      ≡ outcome_image (after_of (address_space_of start fixed)) (run (machine ops (space_accesses ops start fixed) no_field) n a)
+  space_run n a = run_image (after_of (address_space_of start fixed)) (machine ops (space_accesses ops start fixed) no_field) (machine_of ops) space_machine n a
 
 -- ** spaces part by part
 
@@ -260,7 +260,7 @@ module _ {W F E B W' F' B' : Type 0} (same : Alike W F B W' F' B') (ops : Operat
 
   -- the law: spaces that are related part by part are related under reads and writes, where what no thread writes is alike at each place that is not the
   -- linker's own
-  pub spaces_kept : IsKept same (space_accesses ops start fixed shut) (space_accesses ops' start fixed' open_everywhere) (SameSpace {E = E} same.byte)
+  pub spaces_kept : IsKept same (closed (λ (space : Space E B). shut space.seen) (space_accesses ops start fixed)) (space_accesses ops' start fixed') (SameSpace {E = E} same.byte)
   unfolding space_accesses
   spaces_kept = record {
     byte = λ space space' h place. reach-byte same.byte (shut space.seen place) _ _ (λ other. found-same Read space space' place h (reads space.seen place other));

@@ -21,7 +21,7 @@ use Rattle.thread_blocks.specs.Held.{Held, looked, reached}
 use Rattle.thread_blocks.specs.Instances.{Loads, fixed_at, instances, instance_with_id, is_startup_id, numbered_instance, block_start}
 use Rattle.thread_blocks.specs.Lines.{Line, begin_line}
 use Rattle.thread_blocks.specs.MachineTurns.{pointer_word}
-use Rattle.thread_blocks.specs.Spaces.{Space, space_accesses, open_everywhere, no_field}
+use Rattle.thread_blocks.specs.Spaces.{Space, space_accesses, no_field}
 use Rattle.thread_blocks.specs.Turns.{Ending, Answered, Stopped, Begun, Says, Calls, Turns}
 
 -- what a thread of the machine holds
@@ -44,7 +44,7 @@ module _ (l : Loads ℕ) (thread : ℕ) where
   unfoldable pub thread_accesses : Accesses (Space Event ℕ) ℕ
   thread_accesses =
       space_accesses plain_operations (stack_start thread)
-      (λ seen. pointer_word plain_operations thread ∷ fixed_at l seen) open_everywhere
+      (λ seen. pointer_word plain_operations thread ∷ fixed_at l seen)
 
   abbrev pub word_at : Space Event ℕ → ℕ → Result ℕ Refusal
   word_at space address = word_of (bytes_at thread_accesses space address 8)

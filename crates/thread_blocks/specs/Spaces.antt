@@ -8,7 +8,6 @@ use Rattle.guest_machine.specs.Ranges.{Range, AddressSpace, grants, byte_in, wit
 use Rattle.guest_machine.specs.Run.{Next, Goes, Ends, Looks, Outcome, Ended, Waits, Stepping}
 use Rattle.guest_machine.specs.Use.{After, left}
 use Rattle.guest_arithmetic.specs.Values.{Operations}
-use Rattle.guest_operands.specs.Access.{unless_shut}
 
 -- E: an event, B: a byte
 pub record Space (E B : Type 0) : Type 0 where
@@ -38,22 +37,15 @@ put_byte start space place byte =
     then record space { stack = slice_set space.stack (place - start) byte }
     else record space { own = with_byte space.own place byte }
 
--- the accesses that such a memory offers; shut: the addresses that are the linker's own after these events
+-- the accesses that such a memory offers
 unfoldable pub space_accesses : {W F E B : Type 0} → Operations W F B → ℕ → (List E → List (Range B))
-    → (List E → ℕ → Bool) → Accesses (Space E B) B
-space_accesses ops start fixed shut = record {
-  byte = λ space place.
-      unless_shut (shut space.seen place) (ok_or (byte_in Read (ranges_of start fixed space) place) Refused);
-  writes = λ space place.
-      unless_shut (shut space.seen place)
-      (reached (λ byte. tt) (ok_or (byte_in Write (ranges_of start fixed space) place) Refused));
+    → Accesses (Space E B) B
+space_accesses ops start fixed = record {
+  byte = λ space place. ok_or (byte_in Read (ranges_of start fixed space) place) Refused;
+  writes = λ space place. reached (λ byte. tt) (ok_or (byte_in Write (ranges_of start fixed space) place) Refused);
   put = λ space place byte. put_byte start space place byte;
   code = λ space place. option_and_then ops.code (byte_in Run (ranges_of start fixed space) place);
 }
-
--- a memory where no address is the linker's own
-abbrev pub open_everywhere : {E : Type 0} → List E → ℕ → Bool
-open_everywhere seen place = false
 
 -- no offset field begins anywhere
 abbrev pub no_field : {M : Type 0} → M → ℕ → Bool

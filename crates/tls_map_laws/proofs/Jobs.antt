@@ -20,7 +20,7 @@ use Rattle.thread_blocks.specs.JobWorlds.{Shared, held_in, job_start, numbered_l
 use Rattle.thread_blocks.specs.Lines.{Line, event_by}
 use Rattle.thread_blocks.specs.MachineTurns.{pointer_word}
 use Rattle.thread_blocks.specs.RunTime.{Runs, thread_turns}
-use Rattle.thread_blocks.specs.Spaces.{Space, open_everywhere, space_accesses}
+use Rattle.thread_blocks.specs.Spaces.{Space, space_accesses}
 use Rattle.thread_blocks.specs.Turns.{Ending, Thread, Turns, at_number, event_of, ready, turn, with_event}
 use Rattle.thread_blocks.specs.TurnsAlike.{IsFront}
 use Rattle.whole_meaning.specs.Jobs.{job_start as meant_start, ready_from as meant_from}
@@ -53,7 +53,7 @@ module _ {W F B : Type 0} (ops : Operations W F B) (l : Loads B) (thread : ℕ) 
   fixed seen = pointer_word ops thread ∷ fixed_at l seen
 
   pub are_map : (acts : List (Act B)) (h : Held W F B) → FitsBy l thread history known acts h
-      → AreMap l thread (space_accesses ops (stack_start thread) fixed open_everywhere) initial zero_byte history acts h
+      → AreMap l thread (space_accesses ops (stack_start thread) fixed) initial zero_byte history acts h
   are_map acts h fits = record {
     each = λ x lived. is_map ops l thread fixed initial zero_byte history known around acts h fits x lived.seen lived.front
         (found_member (λ (y : Instance). y.number == x.number) (instances l lived.seen) x lived.live);

@@ -14,7 +14,7 @@ use Rattle.loaded_modules.specs.declared.instance.Instance.{Instance}
 use Rattle.module_table.specs.declared.events.Event.{Event}
 use Rattle.thread_blocks.specs.Held.{Held, Owned, ranges_in}
 use Rattle.thread_blocks.specs.Instances.{Loads, block_range, block_start, instances}
-use Rattle.thread_blocks.specs.Spaces.{Space, open_everywhere, space_accesses, stack_range}
+use Rattle.thread_blocks.specs.Spaces.{Space, space_accesses, stack_range}
 use Rattle.thread_blocks.specs.TurnsAlike.{IsFront}
 use Rattle.tls_map_laws.specs.Map.{Act, byte_of, has_storage, last_written}
 use Rattle.tls_map_laws.specs.Acts.{is_in}
@@ -52,7 +52,7 @@ module _ {W F B : Type 0} (ops : Operations W F B) (l : Loads B) (thread : ℕ) 
     (initial : Instance → List B) (zero_byte : B) (history : List Event) (known : Known l thread history)
     (around : Around l thread fixed initial zero_byte history) where
   abbrev acc : Accesses (Space Event B) B
-  acc = space_accesses ops (stack_start thread) fixed open_everywhere
+  acc = space_accesses ops (stack_start thread) fixed
 
   stack_apart : (stack : List B) (place : ℕ) → place < stack_start thread
       → holds (stack_range (stack_start thread) stack) place ≡ false

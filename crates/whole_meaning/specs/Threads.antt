@@ -34,7 +34,7 @@ use Rattle.thread_blocks.specs.Held.{Held, looked, reached}
 use Rattle.thread_blocks.specs.Instances.{block_start, fixed_at, instance_at, instances, numbered_instance}
 use Rattle.thread_blocks.specs.Lines.{Line, begin_line}
 use Rattle.thread_blocks.specs.MachineTurns.{pointer_word}
-use Rattle.thread_blocks.specs.Spaces.{Space, open_everywhere, space_accesses, stack_range}
+use Rattle.thread_blocks.specs.Spaces.{Space, space_accesses, stack_range}
 use Rattle.thread_blocks.specs.Turns.{Answered, Begun, Calls, Ending, Says, Stopped, Turns}
 use Rattle.whole_meaning.specs.declared.marks.Mark.{Mark}
 use Rattle.whole_meaning.specs.declared.marks.Mark.TheVariants.{Usual}
@@ -64,7 +64,7 @@ module _ (m : Meaning) (thread : ℕ) where
   -- the accesses that a thread's memory offers
   unfoldable pub meant_accesses : Accesses Memory Byte
   meant_accesses = space_accesses ops (stack_start thread)
-      (λ seen. pointer_word ops thread ∷ fixed_at m.loads seen) open_everywhere
+      (λ seen. pointer_word ops thread ∷ fixed_at m.loads seen)
 
   -- its stack
   abbrev pub meant_stack : Stack Memory
