@@ -1,6 +1,6 @@
 -- One step of a thread's meaning where no sequence begins, and what the instruction there does: its accesses, the words
 -- and the flags that it computes with.
-use Rattle.std.specs.Prelude.{ℕ, ◌-◌, ◌^◌, zero, suc, Bool, true, false, List, [], ◌∷◌, ◌++◌, map, Option, Some, None, option_map, Result, Ok, Err, if◌then◌else◌}
+use Rattle.std.specs.Prelude.{ℕ, ◌-◌, ◌^◌, zero, suc, Bool, true, false, List, [], ◌∷◌, ◌++◌, map, Option, Some, None, option_map, Result, Ok, Err, if◌then◌else◌, is_err}
 use Rattle.amd64_subset.specs.declared.instr.Arithmetic.{Arithmetic}
 use Rattle.amd64_subset.specs.declared.instr.Arithmetic.TheVariants.{Compare}
 use Rattle.amd64_subset.specs.declared.instr.Decoded.{Decoded}
@@ -20,7 +20,6 @@ use Rattle.guest_operands.specs.declared.stop.Stop.{Stop}
 use Rattle.guest_operands.specs.Access.{Accesses, all_write, bytes_at, load_of, next_place}
 use Rattle.guest_operands.specs.Use.{plus}
 use Rattle.guest_machine.specs.Run.{Next, Ends, Stepping}
-use Rattle.guest_machine.specs.Touch.{is_refused}
 use Rattle.job_meaning.specs.declared.values.Byte.{Byte}
 use Rattle.job_meaning.specs.declared.values.Flag.{Flag}
 use Rattle.job_meaning.specs.declared.values.Word.{Word}
@@ -167,9 +166,9 @@ module _ {M : Type 0} (acc : Accesses M Byte) (memory : M) where
   abbrev pub touched_by : List Access → List ℕ
   touched_by [] = []
   touched_by (Load address size ∷ more) =
-      places_from address size ++ (if is_refused (bytes_at acc memory address size) then [] else touched_by more)
+      places_from address size ++ (if is_err (bytes_at acc memory address size) then [] else touched_by more)
   touched_by (Store address size ∷ more) =
-      places_from address size ++ (if is_refused (all_write acc memory address size) then [] else touched_by more)
+      places_from address size ++ (if is_err (all_write acc memory address size) then [] else touched_by more)
 
 -- ** what an instruction computes with, and what it touches
 

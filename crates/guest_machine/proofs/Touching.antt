@@ -1,6 +1,6 @@
 -- An instruction asks only for the bytes that it touches: where none of them is closed, its step is the same.
 use Rattle.std.proofs.Common.{◌≡◌, ℕ, zero, suc, ◌-◌, ◌^◌, Bool, true, false, List, [], ◌∷◌, Option, Some, None, Result, Ok, Err, refl, sym, ap, subst, ◌∙◌}
-use Rattle.std.specs.Prelude.{if◌then◌else◌}
+use Rattle.std.specs.Prelude.{if◌then◌else◌, is_err}
 use Rattle.std.specs.List.{list_any}
 use Rattle.std.proofs.lemmas.Bool.{or_parts}
 use Rattle.std.proofs.lemmas.List.Folds.{list_any-append}
@@ -45,7 +45,7 @@ use Rattle.guest_operands.specs.Frame.{frame_of}
 use Rattle.guest_machine.specs.Step.{immediate_of, is_cleared, add_field, finished, concluded, move_in, stored, store_byte, move_number, move_of, extend_byte, extend_long, load_address}
 use Rattle.guest_machine.specs.Step.{compute_in, compute_out, compute_plain, compute_number, compute_of, test_of, multiply_of, shift_of, pushed, push_of, pop_of, leave_of, return_of, call_of, jump_of}
 use Rattle.guest_machine.specs.Step.{jump_if, nop_of, act, act_if, step_of}
-use Rattle.guest_machine.specs.Touch.{touch_at, paired, push_touch, operand_touch, changed_touches, computed_touches, touches_of, touches_if, next_touches, places_from, is_refused, refuses}
+use Rattle.guest_machine.specs.Touch.{touch_at, paired, push_touch, operand_touch, changed_touches, computed_touches, touches_of, touches_if, next_touches, places_from, refuses}
 use Rattle.guest_machine.specs.Touch.{touched_then, touched}
 use Rattle.guest_operands.specs.Use.{◌>>=◌, plus, clean, there, After, left}
 use Rattle.guest_arithmetic.specs.declared.effect.Change.TheVariants.{Unsettled}
@@ -120,11 +120,11 @@ module _ {W F B M : Type 0} (ops : Operations W F B) (acc : Accesses M B) (shut 
       rw (writes-open acc shut m size place free, put-open acc shut m (bytes_from ops word 0 size) m place) refl
 
   -- a word that was loaded was not refused
-  loaded : (place size : ℕ) (word : W) → load_of ops acc m place size ≡ Ok word → is_refused (bytes_at acc m place size) ≡ false
+  loaded : (place size : ℕ) (word : W) → load_of ops acc m place size ≡ Ok word → is_err (bytes_at acc m place size) ≡ false
   unfolding load_of
   loaded place size word e = answered (bytes_at acc m place size) e
     where
-      answered : (r : Result (List B) Refusal) → reached ops.joined r ≡ Ok word → is_refused r ≡ false
+      answered : (r : Result (List B) Refusal) → reached ops.joined r ≡ Ok word → is_err r ≡ false
       answered (Ok bytes) e = refl
       answered (Err why) e = absurd cc
 

@@ -1,5 +1,5 @@
 -- The data bytes that an instruction touches.
-use Rattle.std.specs.Prelude.{ℕ, ◌-◌, ◌^◌, zero, suc, Bool, true, false, List, [], ◌∷◌, ◌++◌, Result, Ok, Err, Option, Some, None, if◌then◌else◌}
+use Rattle.std.specs.Prelude.{ℕ, ◌-◌, ◌^◌, zero, suc, Bool, true, false, List, [], ◌∷◌, ◌++◌, Result, Ok, Err, Option, Some, None, if◌then◌else◌, is_err}
 use Rattle.amd64_subset.specs.declared.instr.Width.{Width}
 use Rattle.amd64_subset.specs.declared.instr.Arithmetic.{Arithmetic}
 use Rattle.amd64_subset.specs.declared.instr.Arithmetic.TheVariants.{Compare}
@@ -113,15 +113,11 @@ abbrev pub places_from : ℕ → ℕ → List ℕ
 places_from address zero = []
 places_from address (suc size) = address ∷ places_from (next_place address) size
 
-abbrev pub is_refused : {A : Type 0} → Result A Refusal → Bool
-is_refused (Ok x) = false
-is_refused (Err why) = true
-
 module _ {M B : Type 0} (acc : Accesses M B) (memory : M) where
   -- whether an access of this many bytes is refused
   abbrev pub refuses : Direction → ℕ → ℕ → Bool
-  refuses Load address size = is_refused (bytes_at acc memory address size)
-  refuses Store address size = is_refused (all_write acc memory address size)
+  refuses Load address size = is_err (bytes_at acc memory address size)
+  refuses Store address size = is_err (all_write acc memory address size)
 
   -- an access's bytes, and those after it unless it is refused
   abbrev pub touched_then : Option Touch → List ℕ → List ℕ

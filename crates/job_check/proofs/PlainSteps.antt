@@ -10,7 +10,7 @@ use Rattle.guest_machine.specs.declared.touch.Direction.{Direction}
 use Rattle.guest_machine.specs.declared.touch.Direction.TheVariants.{Load, Store}
 use Rattle.guest_machine.specs.declared.touch.Touches.{Touches}
 use Rattle.guest_machine.specs.Run.{is_look, next_of}
-use Rattle.guest_machine.specs.Touch.{is_refused, refuses, touched}
+use Rattle.guest_machine.specs.Touch.{refuses, touched}
 use Rattle.guest_operands.specs.declared.space.Access.TheVariants.{Write}
 use Rattle.guest_operands.specs.declared.state.State.{State}
 use Rattle.guest_operands.specs.declared.stop.Stop.{Stop}
@@ -40,7 +40,7 @@ use Rattle.job_check.proofs.SequencesMade.{next_made, stays_made}
 -- ** accesses that are refused
 
 both-writes : (found : Option Byte) (rest : Result (Unit {0}) Refusal)
-    → not (is_refused (both_reached (λ (a b : Unit {0}). tt {0}) (reached (λ (byte : Byte). tt {0}) (ok_or found Refused)) rest)) ≡ (is_some found && not (is_refused rest))
+    → not (is_err (both_reached (λ (a b : Unit {0}). tt {0}) (reached (λ (byte : Byte). tt {0}) (ok_or found Refused)) rest)) ≡ (is_some found && not (is_err rest))
 both-writes None (Ok done) = refl
 both-writes None (Err why) = refl
 both-writes (Some byte) (Ok done) = refl
@@ -64,7 +64,7 @@ module _ (m : AddressSpace Byte) (place : ℕ) where
   may_write_else size first some found here = here
       ∙ sym (write-more size some ∙ ap (λ (first : Bool). first && not (refuses (range_accesses ops) m Store (next_place place) (size - 1))) (sym found ∙ here))
 
-load-there : (here : ℕ) (r : Result (List Byte) Refusal) (f : List Byte → Word) → is_err (there here (reached f r)) ≡ is_refused r
+load-there : (here : ℕ) (r : Result (List Byte) Refusal) (f : List Byte → Word) → is_err (there here (reached f r)) ≡ is_err r
 load-there here (Ok bytes) f = refl
 load-there here (Err Refused) f = refl
 load-there here (Err Shut) f = refl

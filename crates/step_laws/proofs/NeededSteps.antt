@@ -1,7 +1,7 @@
 -- A step of the meaning that has no cause is refused as soon as one byte that it touches can be neither read nor
 -- written.
 use Rattle.std.proofs.Common.{◌≡◌, ◌⊎◌, inl, inr, ℕ, zero, suc, Bool, true, false, List, [], ◌++◌, Option, Some, None, Result, Err, refl, sym, ap, ◌∙◌, eq-eqb}
-use Rattle.std.specs.Prelude.{if◌then◌else◌, ◌==◌, nat_lt}
+use Rattle.std.specs.Prelude.{if◌then◌else◌, ◌==◌, nat_lt, is_err}
 use Rattle.std.specs.List.{Contains, list_any}
 use Rattle.std.proofs.lemmas.Bool.{or_parts}
 use Rattle.std.proofs.lemmas.List.Folds.{list_any-append}
@@ -29,7 +29,7 @@ use Rattle.guest_machine.specs.declared.touch.Touch.{Touch}
 use Rattle.guest_machine.specs.declared.touch.Touches.{Touches}
 use Rattle.guest_machine.specs.declared.touch.Direction.{Direction}
 use Rattle.guest_machine.specs.declared.touch.Direction.TheVariants.{Load, Store}
-use Rattle.guest_machine.specs.Touch.{is_refused, places_from, refuses, touched, touched_then, touches_of}
+use Rattle.guest_machine.specs.Touch.{places_from, refuses, touched, touched_then, touches_of}
 use Rattle.job_meaning.specs.Reading.{beside_linker}
 use Rattle.whole_meaning.specs.declared.marks.Mark.{Mark}
 use Rattle.whole_meaning.specs.Fields.{address_at, lent, lent_at, lent_frame, marked_frame, read_in, reads_next, without_operand}
@@ -71,7 +71,7 @@ module _ {M B : Type 0} (acc : Accesses M B) (m : M) (opened : OpenTo acc m) (a 
 
   -- ** what is touched
 
-  refused-less : {A : Type 0} (r r' : Result A Refusal) → IsLess r r' → is_refused r ≡ true → is_refused r' ≡ true
+  refused-less : {A : Type 0} (r r' : Result A Refusal) → IsLess r r' → is_err r ≡ true → is_err r' ≡ true
   refused-less r r' (inl e) h = rw e h
   refused-less r r' (inr e) h = rw e refl
 

@@ -1,6 +1,6 @@
 -- The bytes that the meaning's instruction touches are those that it reads and writes.
 use Rattle.std.proofs.Common.{◌≡◌, ℕ, zero, suc, ◌-◌, ◌^◌, Bool, true, false, ◌||◌, List, [], ◌∷◌, ◌++◌, Option, None, Result, Ok, Err, refl, sym, ap, subst, ◌∙◌}
-use Rattle.std.specs.Prelude.{if◌then◌else◌}
+use Rattle.std.specs.Prelude.{if◌then◌else◌, is_err}
 use Rattle.std.specs.List.{list_any}
 use Rattle.std.proofs.lemmas.Bool.{or_parts}
 use Rattle.std.proofs.lemmas.List.Folds.{list_any-append}
@@ -32,7 +32,7 @@ use Rattle.guest_operands.specs.Use.{plus}
 use Rattle.guest_machine.specs.declared.touch.Touch.{Touch}
 use Rattle.guest_machine.specs.declared.touch.Touches.{Touches}
 use Rattle.guest_machine.specs.declared.touch.Direction.TheVariants.{Load, Store}
-use Rattle.guest_machine.specs.Touch.{changed_touches, computed_touches, is_refused, operand_touch, paired, places_from, push_touch, refuses, touch_at, touched, touched_then, touches_of}
+use Rattle.guest_machine.specs.Touch.{changed_touches, computed_touches, operand_touch, paired, places_from, push_touch, refuses, touch_at, touched, touched_then, touches_of}
 use Rattle.job_meaning.specs.declared.values.Byte.{Byte}
 use Rattle.job_meaning.specs.declared.values.Flag.{Flag}
 use Rattle.job_meaning.specs.declared.values.Word.{Word}
@@ -44,7 +44,7 @@ use Rattle.step_laws.proofs.NeededSteps.{OpenTo}
 use Rattle.step_laws.proofs.Numbers.{marked}
 
 either-refused : {A C D : Type 0} (f : A → C → D) (a : Result A Refusal) (b : Result C Refusal)
-    → is_refused (both_reached f a b) ≡ (is_refused a || is_refused b)
+    → is_err (both_reached f a b) ≡ (is_err a || is_err b)
 either-refused f (Ok a) (Ok b) = refl
 either-refused f (Ok a) (Err why) = refl
 either-refused f (Err Refused) (Ok b) = refl
@@ -56,11 +56,11 @@ or-same a b c e = ap (λ x. a || x) e
 
 module _ {M : Type 0} (acc : Accesses M Byte) (m : M) (shut : ℕ → Bool) where
   -- a load is refused if one of its bytes is
-  load-refused : (size place : ℕ) → is_refused (bytes_at acc m place size) ≡ any_refused acc m (places_from place size)
+  load-refused : (size place : ℕ) → is_err (bytes_at acc m place size) ≡ any_refused acc m (places_from place size)
   load-refused zero place = refl
   load-refused (suc size) place =
       either-refused ◌∷◌ (acc.byte m place) (bytes_at acc m (next_place place) size)
-      ∙ or-same (is_refused (acc.byte m place)) _ _ (load-refused size (next_place place))
+      ∙ or-same (is_err (acc.byte m place)) _ _ (load-refused size (next_place place))
 
   -- none of these places is the linker's own
   abbrev pub Apart : List ℕ → Type 0

@@ -1,5 +1,5 @@
 -- Steps of the meaning that read plain numbers alone, and the machine's step of the same numbers.
-use Rattle.std.specs.Prelude.{◌≡◌, ◌⊎◌, ◌++◌, ◌<◌, ℕ, Bool, true, false, List, [], length, take, Option, Some, None, Result, Ok, Err, if◌then◌else◌}
+use Rattle.std.specs.Prelude.{◌≡◌, ◌⊎◌, ◌++◌, ◌<◌, ℕ, Bool, true, false, List, [], length, take, Option, Some, None, Result, Ok, Err, if◌then◌else◌, is_err}
 use Rattle.std.specs.List.{All, list_any}
 use Rattle.amd64_words.specs.declared.register.Register.{Register}
 use Rattle.amd64_subset.specs.declared.instr.Decoded.{Decoded}
@@ -13,7 +13,6 @@ use Rattle.guest_operands.specs.State.{register_of}
 use Rattle.guest_operands.specs.Use.{After}
 use Rattle.guest_machine.specs.Clean.{IsClean}
 use Rattle.guest_machine.specs.Run.{Next, Goes, Ends, Looks}
-use Rattle.guest_machine.specs.Touch.{is_refused}
 use Rattle.job_meaning.specs.declared.values.Byte.{Byte}
 use Rattle.job_meaning.specs.declared.values.Byte.TheVariants.{Value, Hidden, Part}
 use Rattle.job_meaning.specs.declared.values.Flag.{Flag}
@@ -102,7 +101,7 @@ DoesRead acc memory state state' (Some d) = ReadsNumbers acc memory state state'
 
 -- some of these bytes can't be read
 abbrev pub any_refused : {M : Type 0} → Accesses M Byte → M → List ℕ → Bool
-any_refused acc memory places = list_any (λ place. is_refused (acc.byte memory place)) places
+any_refused acc memory places = list_any (λ place. is_err (acc.byte memory place)) places
 
 -- the bytes that the instruction touches: what it writes it does not reach if what it reads is refused
 abbrev pub bytes_touched : {M : Type 0} → Accesses M Byte → M → State ℕ Bool → Option Decoded → List ℕ
