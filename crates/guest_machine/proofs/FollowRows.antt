@@ -38,7 +38,7 @@ use Rattle.guest_machine.specs.Follow.{Uses, Reaches, Follows, Alike, IsFollowed
 use Rattle.guest_arithmetic.specs.Cause.{used, both}
 use Rattle.guest_operands.specs.Operand.{size_of, charged, address_of, number_at, carried, weighed, taken_at, taken, put}
 use Rattle.guest_operands.specs.State.{register_of}
-use Rattle.guest_machine.specs.Step.{immediate_of, sign_extended, is_cleared, settled, nop_use, finished, concluded, move_in, stored, store_byte, move_number, move_of, extend_byte}
+use Rattle.guest_machine.specs.Step.{immediate_of, is_cleared, settled, nop_use, finished, concluded, move_in, stored, store_byte, move_number, move_of, extend_byte}
 use Rattle.guest_machine.specs.Step.{extend_long, load_address, compute_in, compute_out, add_field, compute_plain, compute_number, compute_of, test_of, multiply_of, shift_of, pushed, push_of, pop_of}
 use Rattle.guest_machine.specs.Step.{leave_of, return_of, call_of, jump_of, jump_if, nop_of, act}
 use Rattle.guest_operands.specs.Use.{◌>>=◌, plus, clean, there, After, left}
@@ -46,6 +46,7 @@ use Rattle.guest_arithmetic.specs.Values.{Operations}
 use Rattle.guest_machine.proofs.Follow.{all_registers, follows-then, follows-same, follows-clean, follows-there, follows-if, uses-used, uses-same, uses-both, uses-charged, same_register, same_with, same_word}
 use Rattle.guest_machine.proofs.Follow.{same_stack, same_place, carried-same, kept-same, kept_byte-same, number_at-uses, address-uses, unmoved-uses}
 use Rattle.guest_machine.proofs.FollowMemory.{load-reach, store-reach}
+use Rattle.amd64_subset.specs.Number.{signed_long_of}
 
 size_of-is : (width : Width) → IsSize (size_of width)
 size_of-is Long = inr (inl refl)
@@ -283,7 +284,7 @@ module _ {W F B W' F' B' : Type 0} (same : Alike W F B W' F' B') (ops : Operatio
   extend_long-follows f f' s s' m m' to from g h k =
       follows-then same.word Then _ _ _ _ (carried-follows Long f f' s s' m m' from g h k)
       (λ w w' x. record {
-        state = same_place same _ _ (same_word same s s' h to _ _ (carried-same same ops ops' followed sign_extended (ops.number_of w) (ops'.number_of w') (followed.number_of w w' x))) f.next f'.next
+        state = same_place same _ _ (same_word same s s' h to _ _ (carried-same same ops ops' followed (λ n. signed_long_of (low Long n)) (ops.number_of w) (ops'.number_of w') (followed.number_of w w' x))) f.next f'.next
             g.next;
         memory = k;
       })

@@ -2,6 +2,7 @@
 use Rattle.std.specs.Prelude.{ℕ, ◌+◌, ◌-◌, ◌%◌, ◌^◌, Bool, false, ◌==◌, nat_lt, Result, Ok, Err, Option, Some, None, if◌then◌else◌}
 use Rattle.amd64_words.specs.declared.register.Register.{Register}
 use Rattle.amd64_subset.specs.Register.{number_of}
+use Rattle.amd64_subset.specs.Number.{signed_long_of}
 use Rattle.amd64_subset.specs.declared.instr.Width.{Width}
 use Rattle.amd64_subset.specs.declared.instr.Width.TheVariants.{Long, Quad}
 use Rattle.amd64_subset.specs.declared.instr.Arithmetic.{Arithmetic}
@@ -38,11 +39,6 @@ use Rattle.guest_operands.specs.Operand.{size_of, charged, unmoved, carried_as, 
 use Rattle.guest_operands.specs.State.{register_of, with_word, with_stack, at_place}
 use Rattle.guest_operands.specs.Use.{◌>>=◌, plus, clean, there, After, left}
 use Rattle.guest_arithmetic.specs.Values.{Operations}
-
--- the lower half, sign-extended to 64 bits
-abbrev pub sign_extended : ℕ → ℕ
-sign_extended number =
-    if nat_lt (low Long number) (2 ^ 31) then low Long number else low Long number + (2 ^ 64 - 2 ^ 32)
 
 -- sub or xor of a register with itself, which is 0 whatever it held
 unfoldable pub is_cleared : Arithmetic → Register → Operand → Bool
@@ -122,7 +118,8 @@ module _ {W F B M : Type 0} (ops : Operations W F B) (acc : Accesses M B) where
   unfoldable pub extend_long : Frame → State W F → M → Register → Operand → Result (After W F M) Stop
   extend_long frame state memory to from = do
     word ← carried ops acc Long frame state memory from
-    Ok (left (at_place (with_word state to (carried_as ops sign_extended (ops.number_of word))) frame.next) memory)
+    Ok (left (at_place (with_word state to (carried_as ops (λ n. signed_long_of (low Long n)) (ops.number_of word)))
+        frame.next) memory)
 
   -- lea r, m
   unfoldable pub load_address : Width → Frame → State W F → M → Register → Memory → Result (After W F M) Stop

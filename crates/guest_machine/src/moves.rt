@@ -1,10 +1,12 @@
 //! mov, movzx, movslq and lea.
 
 ghost use Rattle.std.specs.Prelude.{◌≡◌, ◌<◌, IfOk};
+ghost use Rattle.amd64_subset.specs.Number.{signed_long_of};
+ghost use Rattle.amd64_subset.specs.declared.instr.Width.TheVariants.{Long};
 ghost use Rattle.guest_operands.specs.Access.{bytes_in};
-ghost use Rattle.guest_arithmetic.specs.Arithmetic.{span_of};
+ghost use Rattle.guest_arithmetic.specs.Arithmetic.{low, span_of};
 ghost use Rattle.guest_operands.specs.Operand.{carried_as};
-ghost use Rattle.guest_machine.specs.Step.{immediate_of, sign_extended, move_in, stored, store_byte, move_number, move_of, extend_byte, extend_long, load_address};
+ghost use Rattle.guest_machine.specs.Step.{immediate_of, move_in, stored, store_byte, move_number, move_of, extend_byte, extend_long, load_address};
 ghost use Rattle.guest_operands.specs.Use.{Does};
 
 use crate::execution::Execution;
@@ -26,7 +28,7 @@ pub(crate) fn immediate<V: Values>(width: Width, frame: &Frame) -> Result<u64, C
 
 /// The lower half as a signed number of 64 bits.
 fn sign_extended(number: u64) -> u64
-    ensures { result ≡ sign_extended number }
+    ensures { result ≡ signed_long_of (low Long number) }
 {
     let low = low(Width::Long, number);
     if low < 1 << 31 {
@@ -38,7 +40,7 @@ fn sign_extended(number: u64) -> u64
 
 /// A word's lower half, sign-extended and moved.
 fn extended<V: Values>(word: V::Word) -> V::Word
-    ensures { result ≡ carried_as V.operations sign_extended (V.operations.number_of word) }
+    ensures { result ≡ carried_as V.operations (λ n. signed_long_of (low Long n)) (V.operations.number_of word) }
 {
     match V::number_of(word) {
         Ok(number) => V::word(sign_extended(number)),

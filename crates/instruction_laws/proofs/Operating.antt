@@ -28,7 +28,7 @@ use Rattle.guest_operands.specs.Access.{load_of, store_of}
 use Rattle.guest_operands.specs.Operand.{size_of, kept, kept_byte, carried, taken}
 use Rattle.guest_operands.specs.State.{register_of, with_register, with_word, at_place}
 use Rattle.guest_operands.specs.Use.{◌>>=◌, plus, clean, there}
-use Rattle.guest_machine.specs.Step.{act, stored, store_byte, move_in, move_number, move_of, extend_byte, extend_long, sign_extended, load_address, compute_out, compute_plain, compute_number, compute_of, concluded, finished, immediate_of, test_of, multiply_of, shift_of, settled}
+use Rattle.guest_machine.specs.Step.{act, stored, store_byte, move_in, move_number, move_of, extend_byte, extend_long, load_address, compute_out, compute_plain, compute_number, compute_of, concluded, finished, immediate_of, test_of, multiply_of, shift_of, settled}
 use Rattle.instruction_laws.specs.Results.{Computes, Shifts}
 use Rattle.instruction_laws.specs.Words.{words, IsSigned, IsCut}
 use Rattle.instruction_laws.specs.Steps.{Numbers, bytes, IsStored, Has, IsLowByte, IsMasked, IsLeft, Moves, MovesImmediate, MovesByte, ExtendsByte, ExtendsLong, LoadsAddress, writes, ComputesOf, Multiplies, ShiftsBy}
@@ -36,6 +36,7 @@ use Rattle.instruction_laws.proofs.Computing.{computes}
 use Rattle.instruction_laws.proofs.Multiplying.{multiplies}
 use Rattle.instruction_laws.proofs.Shifting.{shifts}
 use Rattle.instruction_laws.proofs.Stepping.{Outcome, done, acc, frame, low_is, whole, sizes, address_is, IsSlot, take, left_as, goes, register_number, finish, settle}
+use Rattle.amd64_subset.specs.Number.{signed_long_of}
 
 module _ (d : Decoded) (before : State ℕ Bool) (memory : Numbers)
     (have_words : (register : Register) → register_of before.registers register < 2 ^ 64) where
@@ -128,7 +129,7 @@ module _ (d : Decoded) (before : State ℕ Bool) (memory : Numbers)
       ∙ put_register to it.byte after memory' it.to_it
 
   extended : (n result : ℕ) (value : ℤ) → IsSigned Long n value → IsSigned Quad result value
-      → sign_extended n % 2 ^ 64 ≡ result
+      → signed_long_of (low Long n) % 2 ^ 64 ≡ result
   extended n result value short long = ⊎_elim
       (λ small. ap (λ (t : Bool). (if t then low Long n else low Long n + (2 ^ 64 - 2 ^ 32)) % 2 ^ 64)
       (lt-ltb (low Long n) (2 ^ 31) small)
@@ -142,7 +143,7 @@ module _ (d : Decoded) (before : State ℕ Bool) (memory : Numbers)
       → ExtendsLong d before memory to from after memory' → At (ExtendLong to from) after memory'
   unfolding act extend_long plain_operations
   extends_long to from after memory' it =
-      ap (λ r. r >>= λ word. in_register to (sign_extended word % 2 ^ 64)) (carried_is Long from it.number it.from_it)
+      ap (λ r. r >>= λ word. in_register to (signed_long_of (low Long word) % 2 ^ 64)) (carried_is Long from it.number it.from_it)
       ∙ ap (in_register to) (extended it.number it.result it.value it.short it.long)
       ∙ put_register to it.result after memory' it.to_it
 

@@ -46,7 +46,7 @@ use Rattle.guest_operands.specs.Operand.{address_of, base_of, carried, carried_a
 use Rattle.guest_operands.specs.State.{at_place, register_of, with_register, with_stack, with_word}
 use Rattle.guest_operands.specs.Use.{◌>>=◌, After, clean, left, plus, there}
 use Rattle.guest_machine.specs.Step.{act, call_of, compute_in, compute_number, compute_of, compute_out, compute_plain, concluded, extend_byte, extend_long, finished, immediate_of, is_cleared, jump_if, jump_of}
-use Rattle.guest_machine.specs.Step.{leave_of, load_address, move_in, move_number, move_of, multiply_of, nop_of, pop_of, push_of, pushed, return_of, settled, shift_of, sign_extended, store_byte, stored, test_of}
+use Rattle.guest_machine.specs.Step.{leave_of, load_address, move_in, move_number, move_of, multiply_of, nop_of, pop_of, push_of, pushed, return_of, settled, shift_of, store_byte, stored, test_of}
 use Rattle.guest_machine.specs.Touch.{places_from}
 use Rattle.job_meaning.specs.declared.values.Byte.{Byte}
 use Rattle.job_meaning.specs.declared.values.Flag.{Flag}
@@ -58,6 +58,7 @@ use Rattle.step_laws.specs.Reads.{address_in, base_at, bytes_in, bytes_read, cle
 use Rattle.step_laws.proofs.NeededSteps.{OpenTo}
 use Rattle.step_laws.proofs.After.{Same, SoFar, at-first, at-last, computed-settled, far-stack, far-word, none_undefined, product-settled, same-if, same-then, same-there, settled-last, shift-settled, unsettled_by}
 use Rattle.step_laws.proofs.Numbers.{SameAccess, all-left, all-right, condition-is, kept-is, kept_byte-is, load-same, marked, number-is, number_at-is, store-same, used-is}
+use Rattle.amd64_subset.specs.Number.{signed_long_of}
 
 -- the sum of an address's parts
 sum-is : (x y z b i d : ℕ) → x % 2 ^ 64 ≡ (b + d) % 2 ^ 64 → y % 2 ^ 64 ≡ i % 2 ^ 64
@@ -371,8 +372,8 @@ module _ (owner : ℕ → ℕ) {M : Type 0} (acc : Accesses M Byte) (m : M) (ope
       (same-there (λ w n. w ≡ Number n) s.place s'.place _ _ same.place
       (load-same owner acc m opened (address_in d s' from) 1 b)) (λ w n e. word-last to w n e bare.next))
 
-  extended : (w : Word) (n : ℕ) → w ≡ Number n → carried_as ops sign_extended (ops.number_of w)
-      ≡ Number (carried_as plain_operations sign_extended (plain_operations.number_of n))
+  extended : (w : Word) (n : ℕ) → w ≡ Number n → carried_as ops (λ n. signed_long_of (low Long n)) (ops.number_of w)
+      ≡ Number (carried_as plain_operations (λ n. signed_long_of (low Long n)) (plain_operations.number_of n))
   unfolding marked_operations plain_operations
   extended w n e = rw e refl
 
