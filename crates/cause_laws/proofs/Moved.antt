@@ -28,7 +28,7 @@ use Rattle.guest_operands.specs.declared.stop.Stop.{Stop}
 use Rattle.guest_operands.specs.declared.slot.Slot.TheVariants.{Register as OfSlot}
 use Rattle.amd64_subset.specs.declared.instr.Shift.{Shift}
 use Rattle.guest_machine.specs.Step.{immediate_of, finished, concluded, move_in, stored, store_byte, move_number, move_of, extend_byte, extend_long, load_address, is_cleared}
-use Rattle.guest_machine.specs.Step.{compute_in, compute_out, compute_plain, compute_number, compute_of, test_of, multiply_of, shift_of, call_of, jump_of, nop_of, nop_use, act}
+use Rattle.guest_machine.specs.Step.{compute_in, compute_plain, compute_number, compute_of, test_of, multiply_of, shift_of, call_of, jump_of, nop_of, nop_use, act}
 use Rattle.cause_laws.specs.Instructions.{memory_if, memory_of, operand_of}
 use Rattle.cause_laws.specs.Laws.{absolute, with_absolute}
 
@@ -134,7 +134,7 @@ module _ {W F B M : Type 0} (ops : Operations W F B) (acc : Accesses M B) (f g :
 
   computed-out : (arithmetic : Arithmetic) (width : Width) (from : Register)
       → Moves (Compute arithmetic width (IntoMemory memory from))
-  unfolding act compute_of compute_out
+  unfolding act compute_of
   computed-out arithmetic width from =
       rw (taken-same width (number_at ops width (register_of s.registers from)))
       (bind-all _ _ _ (λ it. concluded-same arithmetic width it.slot

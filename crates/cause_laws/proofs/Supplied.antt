@@ -26,7 +26,7 @@ use Rattle.guest_operands.specs.Access.{Accesses, Refusal, load_of, store_of}
 use Rattle.guest_operands.specs.Operand.{address_of, carried, number_at, put, taken, taken_at, weighed}
 use Rattle.guest_operands.specs.Use.{◌>>=◌, clean, plus}
 use Rattle.guest_machine.specs.Step.{immediate_of, finished, concluded, move_in, move_of}
-use Rattle.guest_machine.specs.Step.{compute_in, compute_out, compute_plain, compute_number, compute_of, test_of, multiply_of, pushed, call_of, jump_of, act}
+use Rattle.guest_machine.specs.Step.{compute_in, compute_plain, compute_number, compute_of, test_of, multiply_of, pushed, call_of, jump_of, act}
 use Rattle.cause_laws.specs.Instructions.{read_operand}
 use Rattle.cause_laws.specs.Laws.{absolute, with_absolute}
 use Rattle.cause_laws.proofs.Moved.{is_memory, not-cleared}
@@ -103,7 +103,7 @@ module _ {W F B M : Type 0} (ops : Operations W F B) (acc acc' : Accesses M B) (
       (compute_effect arithmetic QuadWidth other number)))
 
   compared-out : (from : Register) → Moves (Compute Compare QuadWidth (IntoMemory memory from))
-  unfolding act compute_of compute_out
+  unfolding act compute_of
   compared-out from = taken-then _ _ _
       (λ slot slot' number other. compared slot slot' (compute_effect Compare QuadWidth number other))
 

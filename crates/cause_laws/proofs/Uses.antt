@@ -34,7 +34,7 @@ use Rattle.guest_operands.specs.Operand.{address_of, carried, number_at, put, si
 use Rattle.guest_operands.specs.State.{at_place, register_of, with_stack}
 use Rattle.guest_operands.specs.Use.{◌>>=◌, clean, left, plus, refused_with, there}
 use Rattle.guest_machine.specs.Step.{immediate_of, finished, concluded, move_in, stored, store_byte, move_number, move_of, extend_byte, extend_long, load_address, is_cleared}
-use Rattle.guest_machine.specs.Step.{compute_in, compute_out, compute_plain, compute_number, compute_of, test_of, multiply_of, shift_of, pushed, push_of, pop_of, leave_of, return_of, call_of, jump_of, jump_if, nop_of, nop_use, act}
+use Rattle.guest_machine.specs.Step.{compute_in, compute_plain, compute_number, compute_of, test_of, multiply_of, shift_of, pushed, push_of, pop_of, leave_of, return_of, call_of, jump_of, jump_if, nop_of, nop_use, act}
 use Rattle.job_meaning.specs.declared.values.Byte.{Byte}
 use Rattle.job_meaning.specs.declared.values.Flag.{Flag}
 use Rattle.job_meaning.specs.declared.values.Flag.TheVariants.{Truth, Unsettled}
@@ -427,9 +427,9 @@ module _ {M : Type 0} (acc : Accesses M Byte) (f : Frame) (state : State Word Fl
       (λ it. concluded-tells arithmetic width (OfSlot to) _))
 
   into-memory : (arithmetic : Arithmetic) (width : Width) (to : Memory) (from : Register) → Fits to
-      → Stepped (compute_out ops acc arithmetic width f state m to from)
+      → Stepped (compute_of ops acc arithmetic width f state m (IntoMemory to from))
       (word_cause (value from ∷ (aw to ++ loaded_of (size_of width) (InMemory to))))
-  unfolding compute_out
+  unfolding compute_of
   into-memory arithmetic width to from fits =
       then-tells state.place _ _ _ (taken-tells width (InMemory to) _ (value from ∷ [])
       (λ memory e. let is : to ≡ memory = cc in subst Fits is fits) (register-cause width (value from)))

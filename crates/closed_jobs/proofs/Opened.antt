@@ -25,7 +25,7 @@ use Rattle.guest_operands.specs.Access.{fetch_of, load_of, store_of}
 use Rattle.guest_operands.specs.Frame.{frame_of}
 use Rattle.guest_operands.specs.Operand.{base_of, index_of, address_of, kept, kept_byte, number_at as operand_number, carried, taken_at, taken, put}
 use Rattle.guest_operands.specs.State.{register_of, with_register, start_of}
-use Rattle.guest_machine.specs.Step.{is_cleared, immediate_of, finished, concluded, move_in, stored, store_byte, move_number, move_of, extend_byte, extend_long, load_address, compute_in, compute_out, add_field, compute_plain, compute_number, compute_of, test_of, multiply_of, shift_of, pushed, push_of, pop_of, leave_of, return_of, call_of, jump_of, jump_if, nop_of, act}
+use Rattle.guest_machine.specs.Step.{is_cleared, immediate_of, finished, concluded, move_in, stored, store_byte, move_number, move_of, extend_byte, extend_long, load_address, compute_in, add_field, compute_plain, compute_number, compute_of, test_of, multiply_of, shift_of, pushed, push_of, pop_of, leave_of, return_of, call_of, jump_of, jump_if, nop_of, act}
 use Rattle.guest_machine.specs.Touch.{touches_of, touched}
 use Rattle.job_meaning.specs.Marked.{marked_operations}
 use Rattle.job_meaning.specs.Reading.{completed}
@@ -74,7 +74,7 @@ unfolding
     is_below_or_equal condition_of fetch_of load_of store_of frame_of base_of index_of address_of kept kept_byte
     operand_number carried taken_at taken put register_of with_register start_of is_cleared immediate_of
     finished concluded move_in stored store_byte move_number move_of extend_byte extend_long load_address
-    compute_in compute_out add_field compute_plain compute_number compute_of test_of multiply_of shift_of pushed
+    compute_in add_field compute_plain compute_number compute_of test_of multiply_of shift_of pushed
     push_of pop_of leave_of return_of call_of jump_of jump_if nop_of act touches_of touched marked_operations
     owner_at completed block_offset address offset start open_refusal close_refusal least_free loaded retained
     released opened after_one past row looked_at reached_at loaded_at instances_in instance_at fixed_at

@@ -18,7 +18,7 @@ use Rattle.guest_machine.specs.Operand.{base_of, index_of, address_of, kept, kep
 use Rattle.guest_machine.specs.State.{register_of, with_register, start_of}
 use Rattle.guest_machine.specs.Frame.{frame_of}
 use Rattle.guest_machine.specs.Run.{machine}
-use Rattle.guest_machine.specs.Step.{act, step_of, move_of, move_in, move_number, extend_byte, extend_long, store_byte, test_of, multiply_of, shift_of as guest_shift, leave_of, stored, load_address, compute_out, compute_of, compute_plain, compute_number, compute_in, add_field, finished, concluded, immediate_of, pushed, push_of, pop_of, call_of, return_of, jump_of, jump_if, nop_of, is_cleared}
+use Rattle.guest_machine.specs.Step.{act, step_of, move_of, move_in, move_number, extend_byte, extend_long, store_byte, test_of, multiply_of, shift_of as guest_shift, leave_of, stored, load_address, compute_of, compute_plain, compute_number, compute_in, add_field, finished, concluded, immediate_of, pushed, push_of, pop_of, call_of, return_of, jump_of, jump_if, nop_of, is_cleared}
 use Rattle.elf_records.specs.Fields.{bytes_of, splice}
 use Rattle.module_table.specs.Past.{start, open_refusal, close_refusal, least_free, loaded, retained, released, opened, after_one, past}
 use Rattle.loaded_modules.specs.Images.{infos, last_offset, static_offset, image_at}
@@ -47,7 +47,7 @@ unfolding
     selectors_at fetch_of load_of store_of product_fits product_effect compute_effect sum_effect sum_overflows
     difference_effect difference_overflows logic_effect plain_operations with_changes condition_of base_of
     index_of address_of kept carried number_at taken_at taken put register_of with_register start_of frame_of
-    machine act step_of move_of move_in stored load_address compute_out compute_of compute_plain compute_number
+    machine act step_of move_of move_in stored load_address compute_of compute_plain compute_number
     compute_in add_field finished concluded immediate_of pushed push_of pop_of call_of return_of jump_of jump_if
     nop_of is_cleared bytes_of splice start open_refusal close_refusal least_free loaded retained released
     opened after_one past infos last_offset static_offset image_at bias export_of target_of relocation_bytes

@@ -43,7 +43,7 @@ use Rattle.guest_operands.specs.Ranges.{byte_in, range_accesses, is_field_of}
 use Rattle.guest_machine.specs.Run.{Next, Goes, Ends, Looks, Outcome, run, over_or, go_on, next_of, returned, is_look, machine, stop_of}
 use Rattle.guest_operands.specs.Frame.{frame_of}
 use Rattle.guest_machine.specs.Step.{immediate_of, is_cleared, nop_use, finished, concluded, move_in, stored, store_byte, move_number, move_of, extend_byte, extend_long, load_address, compute_in}
-use Rattle.guest_machine.specs.Step.{compute_out, add_field, compute_plain, compute_number, compute_of, test_of, multiply_of, shift_of, pushed, push_of, pop_of, leave_of, return_of, call_of, jump_of}
+use Rattle.guest_machine.specs.Step.{add_field, compute_plain, compute_number, compute_of, test_of, multiply_of, shift_of, pushed, push_of, pop_of, leave_of, return_of, call_of, jump_of}
 use Rattle.guest_machine.specs.Step.{jump_if, nop_of, act, act_if, step_of}
 use Rattle.guest_operands.specs.Use.{◌>>=◌, clean, there, After, left}
 use Rattle.guest_arithmetic.specs.Values.{Operations}
@@ -271,7 +271,7 @@ module _ {W F B M : Type 0} (ops : Operations W F B) (acc : Accesses M B) (alway
   number-stays Compare width field f s m to = plain-stays Compare width field f s m to
 
   compute-stays : (arithmetic : Arithmetic) (width : Width) (f : Frame) (s : State W F) (m : M) (operands : Operands) → Stays (compute_of ops acc arithmetic width f s m operands)
-  unfolding compute_of compute_in compute_out
+  unfolding compute_of compute_in
   compute-stays arithmetic width f s m (IntoRegister to from) =
       stays-if (is_cleared arithmetic to from) _ _ (finished-stays width (OfSlot to) _ f s m)
       (stays-then _ _ (taken-stays width f s m from _ (number-is width _)) (λ it. concluded-stays arithmetic width (OfSlot to) _ f s m))

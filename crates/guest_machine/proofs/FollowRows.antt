@@ -39,7 +39,7 @@ use Rattle.guest_arithmetic.specs.Cause.{used, both}
 use Rattle.guest_operands.specs.Operand.{size_of, charged, address_of, number_at, carried, weighed, taken_at, taken, put}
 use Rattle.guest_operands.specs.State.{register_of}
 use Rattle.guest_machine.specs.Step.{immediate_of, is_cleared, settled, nop_use, finished, concluded, move_in, stored, store_byte, move_number, move_of, extend_byte}
-use Rattle.guest_machine.specs.Step.{extend_long, load_address, compute_in, compute_out, add_field, compute_plain, compute_number, compute_of, test_of, multiply_of, shift_of, pushed, push_of, pop_of}
+use Rattle.guest_machine.specs.Step.{extend_long, load_address, compute_in, add_field, compute_plain, compute_number, compute_of, test_of, multiply_of, shift_of, pushed, push_of, pop_of}
 use Rattle.guest_machine.specs.Step.{leave_of, return_of, call_of, jump_of, jump_if, nop_of, act}
 use Rattle.guest_operands.specs.Use.{◌>>=◌, plus, clean, there, After, left}
 use Rattle.guest_arithmetic.specs.Values.{Operations}
@@ -304,10 +304,10 @@ module _ {W F B W' F' B' : Type 0} (same : Alike W F B W' F' B') (ops : Operatio
       (follows-same Then _ _ _ _ (taken-follows width f f' s s' m m' from _ _ g h k (number_at-uses same ops ops' followed width _ _ (same_register same s.registers s'.registers h.registers to)))
       (λ it. concluded-follows arithmetic width (OfSlot to) (compute_effect arithmetic width it.other it.number) f f' s s' m m' g h k))
 
-  compute_out-follows : (arithmetic : Arithmetic) (width : Width) (f f' : Frame) (s : State W F) (s' : State W' F') (m : M) (m' : M') (to : Memory) (from : Register)
-      → SameFrame same f f' → SameState same s s' → Same m m' → Follows Then (compute_out ops acc arithmetic width f s m to from) (compute_out ops' acc' arithmetic width f' s' m' to from)
-  unfolding compute_out
-  compute_out-follows arithmetic width f f' s s' m m' to from g h k =
+  compute_memory-follows : (arithmetic : Arithmetic) (width : Width) (f f' : Frame) (s : State W F) (s' : State W' F') (m : M) (m' : M') (to : Memory) (from : Register)
+      → SameFrame same f f' → SameState same s s' → Same m m' → Follows Then (compute_of ops acc arithmetic width f s m (IntoMemory to from)) (compute_of ops' acc' arithmetic width f' s' m' (IntoMemory to from))
+  unfolding compute_of
+  compute_memory-follows arithmetic width f f' s s' m m' to from g h k =
       follows-same Then _ _ _ _
       (taken-follows width f f' s s' m m' (InMemory to) _ _ g h k (number_at-uses same ops ops' followed width _ _ (same_register same s.registers s'.registers h.registers from)))
       (λ it. concluded-follows arithmetic width it.slot (compute_effect arithmetic width it.number it.other) f f' s s' m m' g h k)
@@ -375,7 +375,7 @@ module _ {W F B W' F' B' : Type 0} (same : Alike W F B W' F' B') (ops : Operatio
       → SameFrame same f f' → SameState same s s' → Same m m' → Follows Then (compute_of ops acc arithmetic width f s m operands) (compute_of ops' acc' arithmetic width f' s' m' operands)
   unfolding compute_of
   compute_of-follows arithmetic width f f' s s' m m' (IntoRegister to from) g h k = compute_in-follows arithmetic width f f' s s' m m' to from g h k
-  compute_of-follows arithmetic width f f' s s' m m' (IntoMemory to from) g h k = compute_out-follows arithmetic width f f' s s' m m' to from g h k
+  compute_of-follows arithmetic width f f' s s' m m' (IntoMemory to from) g h k = compute_memory-follows arithmetic width f f' s s' m m' to from g h k
   compute_of-follows arithmetic width f f' s s' m m' (Immediate to) g h k =
       compute_number-follows arithmetic width f.immediate_field f'.immediate_field f f' s s' m m' to g.immediate g h k
 

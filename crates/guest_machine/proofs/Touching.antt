@@ -43,7 +43,7 @@ use Rattle.guest_operands.specs.State.{register_of, at_place}
 use Rattle.guest_arithmetic.specs.Arithmetic.{compute_effect, product_effect, each_flag}
 use Rattle.guest_operands.specs.Frame.{frame_of}
 use Rattle.guest_machine.specs.Step.{immediate_of, is_cleared, add_field, finished, concluded, move_in, stored, store_byte, move_number, move_of, extend_byte, extend_long, load_address}
-use Rattle.guest_machine.specs.Step.{compute_in, compute_out, compute_plain, compute_number, compute_of, test_of, multiply_of, shift_of, pushed, push_of, pop_of, leave_of, return_of, call_of, jump_of}
+use Rattle.guest_machine.specs.Step.{compute_in, compute_plain, compute_number, compute_of, test_of, multiply_of, shift_of, pushed, push_of, pop_of, leave_of, return_of, call_of, jump_of}
 use Rattle.guest_machine.specs.Step.{jump_if, nop_of, act, act_if, step_of}
 use Rattle.guest_machine.specs.Touch.{touch_at, paired, push_touch, operand_touch, changed_touches, computed_touches, touches_of, touches_if, next_touches, places_from, refuses}
 use Rattle.guest_machine.specs.Touch.{touched_then, touched}
@@ -336,7 +336,7 @@ module _ {W F B M : Type 0} (ops : Operations W F B) (acc : Accesses M B) (shut 
 
     computes-open : (arithmetic : Arithmetic) (width : Width) (operands : Operands) → Free acc shut m (touches_of ops f s (Compute arithmetic width operands))
         → compute_of ops acc' arithmetic width f s m operands ≡ compute_of ops acc arithmetic width f s m operands
-    unfolding touches_of compute_of compute_in compute_out
+    unfolding touches_of compute_of compute_in
     computes-open arithmetic width (IntoRegister to from) free =
         if-open (is_cleared arithmetic to from) _ _ _ _ (finished-open width (OfSlot to) _ tt)
         (rw (taken-open width from (number_at ops width (register_of s.registers to)) None free) (bind-same (taken ops acc width f s m from (number_at ops width (register_of s.registers to)))

@@ -137,20 +137,13 @@ module _ {W F B M : Type 0} (ops : Operations W F B) (acc : Accesses M B) where
         it ← taken ops acc width frame state memory from (number_at ops width (register_of state.registers to))
         concluded arithmetic width (OfSlot to) (compute_effect arithmetic width it.other it.number) frame state memory)
 
-  -- the same, into a memory operand
-  unfoldable pub compute_out : Arithmetic → Width → Frame → State W F → M → Memory → Register
-      → Result (After W F M) Stop
-  compute_out arithmetic width frame state memory to from = do
-    it ← taken ops acc width frame state memory (InMemory to) (number_at ops width (register_of state.registers from))
-    concluded arithmetic width it.slot (compute_effect arithmetic width it.number it.other) frame state memory
-
   -- an offset field is added to a base
   unfoldable pub add_field : Frame → State W F → M → Register → ℕ → Result (After W F M) Stop
   add_field frame state memory to at = do
     number ← clean state.place (charged (Some at) (ops.moved (register_of state.registers to) frame.immediate at))
     finished Quad (OfSlot to) (record { number = number; changes = each_flag Unsettled }) frame state memory
 
-  -- the same, with an immediate
+  -- add, or, and, sub, xor, cmp with an immediate
   unfoldable pub compute_plain : Arithmetic → Width → Option ℕ → Frame → State W F → M → Operand
       → Result (After W F M) Stop
   compute_plain arithmetic width field frame state memory to = do
@@ -167,8 +160,9 @@ module _ {W F B M : Type 0} (ops : Operations W F B) (acc : Accesses M B) where
   unfoldable pub compute_of : Arithmetic → Width → Frame → State W F → M → Operands → Result (After W F M) Stop
   compute_of arithmetic width frame state memory (IntoRegister to from) =
       compute_in arithmetic width frame state memory to from
-  compute_of arithmetic width frame state memory (IntoMemory to from) =
-      compute_out arithmetic width frame state memory to from
+  compute_of arithmetic width frame state memory (IntoMemory to from) = do
+    it ← taken ops acc width frame state memory (InMemory to) (number_at ops width (register_of state.registers from))
+    concluded arithmetic width it.slot (compute_effect arithmetic width it.number it.other) frame state memory
   compute_of arithmetic width frame state memory (Immediate to) =
       compute_number arithmetic width frame.immediate_field frame state memory to
 

@@ -3,7 +3,7 @@
 ghost use Rattle.std.specs.Prelude.{◌≡◌, ◌<◌};
 ghost use Rattle.guest_arithmetic.specs.Arithmetic.{compute_effect, span_of};
 ghost use Rattle.guest_arithmetic.specs.Flags.{with_changes};
-ghost use Rattle.guest_machine.specs.Step.{is_cleared, finished, concluded, settled, compute_in, compute_out, add_field, compute_plain, compute_number, compute_of, test_of, multiply_of, shift_of};
+ghost use Rattle.guest_machine.specs.Step.{is_cleared, finished, concluded, settled, compute_in, add_field, compute_plain, compute_number, compute_of, test_of, multiply_of, shift_of};
 ghost use Rattle.guest_operands.specs.Use.{Does};
 
 use crate::execution::Execution;
@@ -145,7 +145,7 @@ impl<V: Values, S: Space<V>> Execution<'_, V, S> {
     }
 
     /// add, or, and, sub, xor, cmp
-    #[tactic(auto, unfolding(crate::specs::Step::compute_of, crate::specs::Step::compute_out))]
+    #[tactic(auto, unfolding(crate::specs::Step::compute_of))]
     pub(crate) fn compute(
         self,
         arithmetic: Arithmetic,

@@ -28,7 +28,7 @@ use Rattle.guest_operands.specs.Access.{load_of, store_of}
 use Rattle.guest_operands.specs.Operand.{size_of, kept, kept_byte, carried, taken}
 use Rattle.guest_operands.specs.State.{register_of, with_register, with_word, at_place}
 use Rattle.guest_operands.specs.Use.{◌>>=◌, plus, clean, there}
-use Rattle.guest_machine.specs.Step.{act, stored, store_byte, move_in, move_number, move_of, extend_byte, extend_long, load_address, compute_out, compute_plain, compute_number, compute_of, concluded, finished, immediate_of, test_of, multiply_of, shift_of, settled}
+use Rattle.guest_machine.specs.Step.{act, stored, store_byte, move_in, move_number, move_of, extend_byte, extend_long, load_address, compute_plain, compute_number, compute_of, concluded, finished, immediate_of, test_of, multiply_of, shift_of, settled}
 use Rattle.instruction_laws.specs.Results.{Computes, Shifts}
 use Rattle.instruction_laws.specs.Words.{words, IsSigned, IsCut}
 use Rattle.instruction_laws.specs.Steps.{Numbers, bytes, IsStored, Has, IsLowByte, IsMasked, IsLeft, Moves, MovesImmediate, MovesByte, ExtendsByte, ExtendsLong, LoadsAddress, writes, ComputesOf, Multiplies, ShiftsBy}
@@ -232,7 +232,7 @@ module _ (d : Decoded) (before : State ℕ Bool) (memory : Numbers)
       → ComputesOf d before memory kind (writes kind) width (InMemory to)
       (Has d before memory width (InRegister from)) after memory'
       → At (Compute kind width (IntoMemory to from)) after memory'
-  unfolding act compute_of compute_out
+  unfolding act compute_of
   computes_out kind width to from after memory' it =
       let first = take d before memory width (InMemory to) it.a it.b it.first_is in
       ap (λ other. taken plain_operations acc width (frame d before memory) before memory (InMemory to) other >>=

@@ -27,7 +27,7 @@ use Rattle.guest_operands.specs.Operand.{address_of, number_at, carried, weighed
 use Rattle.guest_operands.specs.State.{register_of}
 use Rattle.guest_operands.specs.Use.{◌>>=◌, plus, After, left}
 use Rattle.guest_machine.specs.Follow.{Uses, Reaches, Follows, Alike, IsFollowed, SameState, SameAfter}
-use Rattle.guest_machine.specs.Step.{immediate_of, is_cleared, settled, finished, concluded, move_in, move_of, compute_in, compute_out, compute_plain, compute_number, compute_of, test_of, multiply_of, pushed, call_of, jump_of, act}
+use Rattle.guest_machine.specs.Step.{immediate_of, is_cleared, settled, finished, concluded, move_in, move_of, compute_in, compute_plain, compute_number, compute_of, test_of, multiply_of, pushed, call_of, jump_of, act}
 use Rattle.guest_machine.proofs.FollowRows.{settled-same}
 use Rattle.guest_machine.proofs.Follow.{follows-then, follows-clean, follows-there, uses-same, uses-both, same_register, same_word, same_stack, same_place, number_at-uses, unmoved-uses}
 use Rattle.whole_meaning.specs.Fields.{operand_in, read_in}
@@ -155,9 +155,9 @@ module _ {W F B W' F' B' : Type 0} (same : Alike W F B W' F' B') (ops : Operatio
         computed-in Compare to = computed-with Compare to
 
         compared-out : (from : Register)
-            → Follows Then (compute_out ops acc Compare Quad f s m memory from)
-            (compute_out ops' acc' Compare Quad f' s' m' memory from)
-        unfolding compute_out concluded
+            → Follows Then (compute_of ops acc Compare Quad f s m (IntoMemory memory from))
+            (compute_of ops' acc' Compare Quad f' s' m' (IntoMemory memory from))
+        unfolding compute_of concluded
         compared-out from = follows-then TakenAlike Then _ _ _ _ (taken-beside from)
             (λ p q x. dropped _ _ (ap (λ (t : Effect). t.changes)
             (effects Compare p.number q.number p.other q.other x.0 x.1)))

@@ -45,7 +45,7 @@ use Rattle.guest_operands.specs.Access.{Accesses, Refusal, Refused, Shut, load_o
 use Rattle.guest_operands.specs.Operand.{address_of, base_of, carried, carried_as, factor_of, index_of, number_at, put, size_of, taken, taken_at, weighed}
 use Rattle.guest_operands.specs.State.{at_place, register_of, with_register, with_stack, with_word}
 use Rattle.guest_operands.specs.Use.{◌>>=◌, After, clean, left, plus, there}
-use Rattle.guest_machine.specs.Step.{act, call_of, compute_in, compute_number, compute_of, compute_out, compute_plain, concluded, extend_byte, extend_long, finished, immediate_of, is_cleared, jump_if, jump_of}
+use Rattle.guest_machine.specs.Step.{act, call_of, compute_in, compute_number, compute_of, compute_plain, concluded, extend_byte, extend_long, finished, immediate_of, is_cleared, jump_if, jump_of}
 use Rattle.guest_machine.specs.Step.{leave_of, load_address, move_in, move_number, move_of, multiply_of, nop_of, pop_of, push_of, pushed, return_of, settled, shift_of, store_byte, stored, test_of}
 use Rattle.guest_machine.specs.Touch.{places_from}
 use Rattle.job_meaning.specs.declared.values.Byte.{Byte}
@@ -423,7 +423,7 @@ module _ (owner : ℕ → ℕ) {M : Type 0} (acc : Accesses M Byte) (m : M) (ope
       → AreBytes (bytes_read d s' (Compute arithmetic width operands))
       → Same (Then none_undefined) (compute_of ops acc arithmetic width bare s m operands)
       (compute_of plain_operations acc' arithmetic width bare s' m operands)
-  unfolding compute_of compute_in compute_out registers_read bytes_read
+  unfolding compute_of compute_in registers_read bytes_read
   compute-same arithmetic width (IntoRegister to from) h b =
       same-if (Then none_undefined) (is_cleared arithmetic to from) _ _ _ _
       (λ e. finished-same none_undefined width (OfSlot to) (compute_effect arithmetic width 0 0)

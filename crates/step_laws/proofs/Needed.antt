@@ -33,7 +33,7 @@ use Rattle.guest_operands.specs.Operand.{address_of, carried, number_at, size_fo
 use Rattle.guest_operands.specs.State.{at_place, register_of}
 use Rattle.guest_operands.specs.Use.{◌>>=◌, After, clean, left, plus, refused_with, there}
 use Rattle.guest_machine.specs.Clean.{IsClean}
-use Rattle.guest_machine.specs.Step.{act, call_of, compute_in, compute_number, compute_of, compute_out, compute_plain, extend_byte, extend_long, immediate_of, is_cleared, jump_of, leave_of, move_in}
+use Rattle.guest_machine.specs.Step.{act, call_of, compute_in, compute_number, compute_of, compute_plain, extend_byte, extend_long, immediate_of, is_cleared, jump_of, leave_of, move_in}
 use Rattle.guest_machine.specs.Step.{move_number, move_of, multiply_of, pop_of, push_of, pushed, return_of, shift_of, store_byte, stored, test_of}
 use Rattle.guest_machine.specs.declared.touch.Direction.TheVariants.{Load, Store}
 use Rattle.guest_machine.specs.Touch.{computed_touches, operand_touch, push_touch, touch_at, touched, touches_of}
@@ -365,7 +365,7 @@ module _ {W F B M : Type 0} (ops : Operations W F B) (acc acc' : Accesses M B) (
           → IsIn a (touches_of ops f s (Compute arithmetic width operands)).first ⊎ IsIn a
           (touches_of ops f s (Compute arithmetic width operands)).second
           → compute_of ops acc' arithmetic width f s m operands ≡ Err (Address s.place)
-      unfolding touches_of compute_of compute_in compute_out
+      unfolding touches_of compute_of compute_in
       computes-refused arithmetic width (IntoRegister to (InRegister from)) h i = nowhere i
       computes-refused arithmetic width (IntoRegister to (InMemory from)) h i =
           unless (is_cleared arithmetic to (InMemory from)) (not-cleared arithmetic to from) _ _ _ _ h

@@ -33,7 +33,7 @@ use Rattle.guest_machine.specs.Operand.{size_of, address_of, number_at, carried,
 use Rattle.guest_machine.specs.Run.{Next, Goes, Ends, Looks, Outcome, Ended, Stepping, over_or, go_on, run, next_of, is_look, machine}
 use Rattle.guest_machine.specs.State.{register_of}
 use Rattle.guest_machine.specs.Frame.{frame_of}
-use Rattle.guest_machine.specs.Step.{immediate_of, is_cleared, nop_use, finished, concluded, move_in, stored, store_byte, move_number, move_of, extend_byte, extend_long, load_address, compute_in, compute_out, add_field, compute_plain, compute_number, compute_of, test_of, multiply_of, shift_of, pushed, push_of, pop_of, leave_of, return_of, call_of, jump_of, jump_if, nop_of, act, act_if, step_of}
+use Rattle.guest_machine.specs.Step.{immediate_of, is_cleared, nop_use, finished, concluded, move_in, stored, store_byte, move_number, move_of, extend_byte, extend_long, load_address, compute_in, add_field, compute_plain, compute_number, compute_of, test_of, multiply_of, shift_of, pushed, push_of, pop_of, leave_of, return_of, call_of, jump_of, jump_if, nop_of, act, act_if, step_of}
 use Rattle.guest_machine.specs.Use.{◌>>=◌, plus, clean, there, After}
 use Rattle.guest_arithmetic.specs.Values.{Operations}
 use Rattle.thread_blocks.specs.Spaces.{IsImage, after_of, mapped, next_image, outcome_image, IsRunImage}
@@ -191,10 +191,11 @@ module _ {W F B M M' : Type 0} (ops : Operations W F B) (acc : Accesses M B) (ac
       (then-plain image _ _ _ _ (taken-image width f s m from (number_at ops width (register_of s.registers to)))
       (λ it. concluded-image arithmetic width (OfSlot to) (compute_effect arithmetic width it.other it.number) f s m))
 
-  compute_out-image : (arithmetic : Arithmetic) (width : Width) (f : Frame) (s : State W F) (m : M) (to : Memory) (from : Register)
-      → compute_out ops acc' arithmetic width f s (image m) to from ≡ mapped image (compute_out ops acc arithmetic width f s m to from)
-  unfolding compute_out
-  compute_out-image arithmetic width f s m to from =
+  compute_memory-image : (arithmetic : Arithmetic) (width : Width) (f : Frame) (s : State W F) (m : M) (to : Memory) (from : Register)
+      → compute_of ops acc' arithmetic width f s (image m) (IntoMemory to from)
+      ≡ mapped image (compute_of ops acc arithmetic width f s m (IntoMemory to from))
+  unfolding compute_of
+  compute_memory-image arithmetic width f s m to from =
       then-plain image _ _ _ _ (taken-image width f s m (InMemory to) (number_at ops width (register_of s.registers from)))
       (λ it. concluded-image arithmetic width it.slot (compute_effect arithmetic width it.number it.other) f s m)
 
@@ -227,7 +228,7 @@ module _ {W F B M M' : Type 0} (ops : Operations W F B) (acc : Accesses M B) (ac
       → compute_of ops acc' arithmetic width f s (image m) operands ≡ mapped image (compute_of ops acc arithmetic width f s m operands)
   unfolding compute_of
   compute_of-image arithmetic width f s m (IntoRegister to from) = compute_in-image arithmetic width f s m to from
-  compute_of-image arithmetic width f s m (IntoMemory to from) = compute_out-image arithmetic width f s m to from
+  compute_of-image arithmetic width f s m (IntoMemory to from) = compute_memory-image arithmetic width f s m to from
   compute_of-image arithmetic width f s m (Immediate to) = compute_number-image arithmetic width f.immediate_field f s m to
 
   test_of-image : (width : Width) (f : Frame) (s : State W F) (m : M) (from : Operand) (right : Register)

@@ -19,7 +19,7 @@ use Rattle.guest_machine.specs.Operand.{base_of, index_of, address_of, kept, car
 use Rattle.guest_machine.specs.State.{register_of, with_register, start_of}
 use Rattle.guest_machine.specs.Frame.{frame_of}
 use Rattle.guest_machine.specs.Run.{machine}
-use Rattle.guest_machine.specs.Step.{act, step_of, move_of, move_in, stored, load_address, compute_out, compute_of, compute_plain, compute_number, compute_in, add_field, finished, concluded, immediate_of, pushed, push_of, pop_of, call_of, return_of, jump_of, jump_if, nop_of, is_cleared}
+use Rattle.guest_machine.specs.Step.{act, step_of, move_of, move_in, stored, load_address, compute_of, compute_plain, compute_number, compute_in, add_field, finished, concluded, immediate_of, pushed, push_of, pop_of, call_of, return_of, jump_of, jump_if, nop_of, is_cleared}
 use Rattle.elf_records.specs.Fields.{bytes_of, splice}
 use Rattle.module_table.specs.Past.{start, open_refusal, close_refusal, least_free, loaded, retained, released, opened, after_one, past}
 use Rattle.loaded_modules.specs.Images.{infos, last_offset, static_offset, image_at}
@@ -40,7 +40,7 @@ use Rattle.link_faults.specs.declared.image_kind.ImageKind.{ImageKind}
 
 -- the kinds of the images and the images, the steps of a call, the lines of each thread, the order of their turns
 unfoldable pub said : List ImageKind → List Spelled → ℕ → List (List ThreadLine) → List ℕ → Shared ℕ Bool ℕ Line
-unfolding begins_of end_branch_at escaped_at row_at operated_at body_at instruction_at decoded numbered_body operation_of operand_body signed_of rex_at prefixes_at numbers_at named_register number_of encoded_condition fixed_row_of row_of escaped_row_of arithmetic_of shift_of group_action takes allowed displacement_size memory_in sib_at selectors_at fetch_of load_of store_of product_fits product_effect compute_effect sum_effect sum_overflows difference_effect difference_overflows logic_effect plain_operations with_changes condition_of base_of index_of address_of kept carried number_at taken_at taken put register_of with_register start_of frame_of machine act step_of move_of move_in stored load_address compute_out compute_of compute_plain compute_number compute_in add_field finished concluded immediate_of pushed push_of pop_of call_of return_of jump_of jump_if nop_of is_cleared bytes_of splice start open_refusal close_refusal least_free loaded retained released opened after_one past infos last_offset static_offset image_at bias export_of target_of relocation_bytes part_bytes fresh_block looked_at reached_at loaded_at instances_in instance_at fixed_at entry_in zeros space_accesses job_loads variable_in begin_line thread_accesses thread_steps resume_line thread_turns job_world
+unfolding begins_of end_branch_at escaped_at row_at operated_at body_at instruction_at decoded numbered_body operation_of operand_body signed_of rex_at prefixes_at numbers_at named_register number_of encoded_condition fixed_row_of row_of escaped_row_of arithmetic_of shift_of group_action takes allowed displacement_size memory_in sib_at selectors_at fetch_of load_of store_of product_fits product_effect compute_effect sum_effect sum_overflows difference_effect difference_overflows logic_effect plain_operations with_changes condition_of base_of index_of address_of kept carried number_at taken_at taken put register_of with_register start_of frame_of machine act step_of move_of move_in stored load_address compute_of compute_plain compute_number compute_in add_field finished concluded immediate_of pushed push_of pop_of call_of return_of jump_of jump_if nop_of is_cleared bytes_of splice start open_refusal close_refusal least_free loaded retained released opened after_one past infos last_offset static_offset image_at bias export_of target_of relocation_bytes part_bytes fresh_block looked_at reached_at loaded_at instances_in instance_at fixed_at entry_in zeros space_accesses job_loads variable_in begin_line thread_accesses thread_steps resume_line thread_turns job_world
 said kinds images fuel lines order = job_world (job_loads (record { kinds = kinds; images = images })) fuel lines order
 
 -- what each thread says of its lines, and the history
