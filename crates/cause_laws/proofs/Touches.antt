@@ -24,7 +24,7 @@ use Rattle.guest_operands.specs.Operand.{address_of, size_for}
 use Rattle.guest_operands.specs.Use.{plus}
 use Rattle.guest_machine.specs.declared.touch.Direction.TheVariants as direction
 use Rattle.guest_machine.specs.Touch as touch
-use Rattle.guest_machine.specs.Touch.{operand_touch, paired, pop_touch, push_touch, touch_at, touched, touched_then, touches_of}
+use Rattle.guest_machine.specs.Touch.{operand_touch, paired, push_touch, touch_at, touched, touched_then, touches_of}
 use Rattle.job_meaning.specs.declared.values.Byte.{Byte}
 use Rattle.job_meaning.specs.declared.values.Flag.{Flag}
 use Rattle.job_meaning.specs.declared.values.Token.TheVariants.{Base as BaseOf, Descriptor}
@@ -114,7 +114,8 @@ module _ {M : Type 0} (acc : Accesses M Byte) (state : State Word Flag) (m : M) 
     unfolding marked_operations
     push-is = last-store Quad _ _ (used-same state.registers.rsp)
 
-    pop-is : touched acc m (paired (pop_touch ops state) None) ≡ mine (steps.pops mark state it)
+    pop-is : touched acc m (paired (touch_at direction.Load Quad (ops.number_of state.registers.rsp)) None)
+        ≡ mine (steps.pops mark state it)
     unfolding touched marked_operations
     pop-is = last-load Quad _ _ (same-word state.registers.rsp)
 

@@ -1,5 +1,5 @@
 -- The data bytes that an instruction touches.
-use Rattle.std.specs.Prelude.{ℕ, ◌-◌, ◌^◌, zero, suc, Bool, true, false, List, [], ◌∷◌, ◌++◌, Result, Ok, Err, Option, Some, None, if◌then◌else◌, is_err}
+use Rattle.std.specs.Prelude.{ℕ, ◌-◌, ◌^◌, zero, suc, Bool, List, [], ◌∷◌, ◌++◌, Result, Ok, Err, Option, Some, None, if◌then◌else◌, is_err}
 use Rattle.amd64_subset.specs.declared.instr.Width.{Width}
 use Rattle.amd64_subset.specs.declared.instr.Arithmetic.{Arithmetic}
 use Rattle.amd64_subset.specs.declared.instr.Arithmetic.TheVariants.{Compare}
@@ -7,11 +7,9 @@ use Rattle.amd64_subset.specs.declared.instr.Decoded.{Decoded}
 use Rattle.amd64_subset.specs.Decoding.{decoded}
 use Rattle.amd64_subset.specs.declared.instr.Operation.{Operation}
 use Rattle.amd64_subset.specs.declared.instr.Operation.TheVariants.{Move, StoreByte, ExtendByte, ExtendLong, LoadAddress, Compute, Test, Multiply, Shift, Push, Pop, Leave, Call, Jump, JumpIf, Return, Nop, Undefined}
-use Rattle.amd64_subset.specs.declared.instr.Target.{Target}
 use Rattle.amd64_subset.specs.declared.instr.Target.TheVariants.{Relative, Indirect}
 use Rattle.amd64_subset.specs.declared.operand.Operand.{Operand}
 use Rattle.amd64_subset.specs.declared.operand.Operand.TheVariants.{InMemory, Register as InRegister}
-use Rattle.amd64_subset.specs.declared.operand.Operands.{Operands}
 use Rattle.amd64_subset.specs.declared.operand.Operands.TheVariants.{IntoRegister, IntoMemory, Immediate}
 use Rattle.guest_arithmetic.specs.declared.cause.Cause.{Cause}
 use Rattle.guest_arithmetic.specs.Cause.{used}
@@ -24,7 +22,7 @@ use Rattle.guest_machine.specs.declared.touch.Direction.{Direction}
 use Rattle.guest_machine.specs.declared.touch.Direction.TheVariants.{Load, Store}
 use Rattle.guest_machine.specs.declared.touch.Touch.{Touch}
 use Rattle.guest_machine.specs.declared.touch.Touches.{Touches}
-use Rattle.guest_operands.specs.Access.{Refusal, Accesses, next_place, bytes_at, all_write, bytes_in, fetch_of}
+use Rattle.guest_operands.specs.Access.{Accesses, next_place, bytes_at, all_write, bytes_in, fetch_of}
 use Rattle.guest_operands.specs.Operand.{address_of, size_for}
 use Rattle.guest_operands.specs.Frame.{frame_of}
 use Rattle.guest_operands.specs.Use.{plus}
@@ -38,10 +36,7 @@ abbrev pub paired : Option Touch → Option Touch → Touches
 paired first second = record { first = first; second = second }
 
 module _ {W F B : Type 0} (ops : Operations W F B) (state : State W F) where
-  -- the eight bytes that %rsp points to, and those below it
-  abbrev pub pop_touch : Option Touch
-  pop_touch = touch_at Load Quad (ops.number_of state.registers.rsp)
-
+  -- the eight bytes below those that %rsp points to
   abbrev pub push_touch : Option Touch
   push_touch = touch_at Store Quad (used (λ stack. plus stack (2 ^ 64 - 8)) (ops.number_of state.registers.rsp))
 
@@ -60,42 +55,30 @@ module _ {W F B : Type 0} (ops : Operations W F B) (frame : Frame) (state : Stat
   computed_touches Compare width to = paired (operand_touch Load (size_for width) to) None
   computed_touches arithmetic width to = changed_touches width to
 
-  abbrev pub move_touches : Width → Operands → Touches
-  move_touches width (IntoRegister to from) = paired (operand_touch Load (size_for width) from) None
-  move_touches width (IntoMemory to from) = paired (operand_touch Store (size_for width) (InMemory to)) None
-  move_touches width (Immediate to) = paired (operand_touch Store (size_for width) to) None
-
-  abbrev pub compute_touches : Arithmetic → Width → Operands → Touches
-  compute_touches arithmetic width (IntoRegister to from) = paired (operand_touch Load (size_for width) from) None
-  compute_touches arithmetic width (IntoMemory to from) = computed_touches arithmetic width (InMemory to)
-  compute_touches arithmetic width (Immediate to) = computed_touches arithmetic width to
-
-  abbrev pub call_touches : Target → Touches
-  call_touches (Relative distance) = paired (push_touch ops state) None
-  call_touches (Indirect operand) = paired (operand_touch Load Quad operand) (push_touch ops state)
-
-  abbrev pub jump_touches : Target → Touches
-  jump_touches (Relative distance) = paired None None
-  jump_touches (Indirect operand) = paired (operand_touch Load Quad operand) None
-
   -- an instruction's accesses in their order: stores come after loads, and a push last
   unfoldable pub touches_of : Operation → Touches
-  touches_of (Move width operands) = move_touches width operands
+  touches_of (Move width (IntoRegister to from)) = paired (operand_touch Load (size_for width) from) None
+  touches_of (Move width (IntoMemory to from)) = paired (operand_touch Store (size_for width) (InMemory to)) None
+  touches_of (Move width (Immediate to)) = paired (operand_touch Store (size_for width) to) None
   touches_of (StoreByte to from) = paired (operand_touch Store Byte (InMemory to)) None
   touches_of (ExtendByte width to from) = paired (operand_touch Load Byte from) None
   touches_of (ExtendLong to from) = paired (operand_touch Load Long from) None
   touches_of (LoadAddress width to from) = paired None None
-  touches_of (Compute arithmetic width operands) = compute_touches arithmetic width operands
+  touches_of (Compute arithmetic width (IntoRegister to from)) = paired (operand_touch Load (size_for width) from) None
+  touches_of (Compute arithmetic width (IntoMemory to from)) = computed_touches arithmetic width (InMemory to)
+  touches_of (Compute arithmetic width (Immediate to)) = computed_touches arithmetic width to
   touches_of (Test width left right) = paired (operand_touch Load (size_for width) left) None
   touches_of (Multiply width to from) = paired (operand_touch Load (size_for width) from) None
   touches_of (Shift shift width to count) = changed_touches width to
   touches_of (Push from) = paired (push_touch ops state) None
-  touches_of (Pop to) = paired (pop_touch ops state) None
+  touches_of (Pop to) = paired (touch_at Load Quad (ops.number_of state.registers.rsp)) None
   touches_of Leave = paired (touch_at Load Quad (ops.number_of state.registers.rbp)) None
-  touches_of (Call target) = call_touches target
-  touches_of (Jump target) = jump_touches target
+  touches_of (Call (Relative distance)) = paired (push_touch ops state) None
+  touches_of (Call (Indirect operand)) = paired (operand_touch Load Quad operand) (push_touch ops state)
+  touches_of (Jump (Relative distance)) = paired None None
+  touches_of (Jump (Indirect operand)) = paired (operand_touch Load Quad operand) None
   touches_of (JumpIf condition distance) = paired None None
-  touches_of Return = paired (pop_touch ops state) None
+  touches_of Return = paired (touch_at Load Quad (ops.number_of state.registers.rsp)) None
   touches_of (Nop operand) = paired None None
   touches_of Undefined = paired None None
 

@@ -1,9 +1,11 @@
 //! The data bytes that an instruction touches, computed without a memory.
 
 ghost use Rattle.std.specs.Prelude.{◌≡◌, None};
+ghost use Rattle.amd64_subset.specs.declared.instr.Operation.TheVariants.{Call, Compute, Jump, Move};
 ghost use Rattle.amd64_subset.specs.declared.operand.Operand.TheVariants.{InMemory};
 ghost use Rattle.guest_machine.specs.declared.touch.Direction.TheVariants.{Load};
-ghost use Rattle.guest_machine.specs.Touch.{touch_at, paired, operand_touch, changed_touches, computed_touches, move_touches, compute_touches, call_touches, jump_touches, pop_touch, push_touch, touches_of};
+ghost use Rattle.guest_operands.specs.declared.space.Size.TheVariants.{Quad};
+ghost use Rattle.guest_machine.specs.Touch.{touch_at, paired, operand_touch, changed_touches, computed_touches, push_touch, touches_of};
 
 use amd64_subset::Operation::{
     Call, Compute, ExtendByte, ExtendLong, Jump, JumpIf, Leave, LoadAddress, Move, Multiply, Nop,
@@ -115,8 +117,9 @@ impl<V: Values> Addressing<'_, V> {
         }
     }
 
+    #[tactic(auto, unfolding(crate::specs::Touch::touches_of))]
     fn of_move(&self, width: Width, operands: &Operands) -> Touches
-        ensures { result ≡ move_touches V.operations self.now.frame.now self.now.state.now width operands.now }
+        ensures { result ≡ touches_of V.operations self.now.frame.now self.now.state.now (Move width operands.now) }
     {
         let store = match operands {
             Operands::IntoRegister { from, .. } => return self.loaded(size(width), from),
@@ -126,9 +129,10 @@ impl<V: Values> Addressing<'_, V> {
         paired(store, None)
     }
 
+    #[tactic(auto, unfolding(crate::specs::Touch::touches_of))]
     fn of_compute(&self, arithmetic: Arithmetic, width: Width, operands: &Operands) -> Touches
-        ensures { result ≡ compute_touches V.operations self.now.frame.now self.now.state.now arithmetic width
-            operands.now }
+        ensures { result ≡ touches_of V.operations self.now.frame.now self.now.state.now
+            (Compute arithmetic width operands.now) }
     {
         match operands {
             Operands::IntoRegister { from, .. } => self.loaded(size(width), from),
@@ -141,7 +145,7 @@ impl<V: Values> Addressing<'_, V> {
 
     /// The eight bytes that %rsp points to.
     fn pop(&self) -> Option<Touch>
-        ensures { result ≡ pop_touch V.operations self.now.state.now }
+        ensures { result ≡ touch_at Load Quad (V.operations.number_of self.now.state.now.registers.rsp) }
     {
         let stack = V::number_of(self.state.registers.rsp);
         touch_at(Direction::Load, Size::Quad, stack)
@@ -157,8 +161,9 @@ impl<V: Values> Addressing<'_, V> {
         }
     }
 
+    #[tactic(auto, unfolding(crate::specs::Touch::touches_of))]
     fn of_call(&self, target: &Target) -> Touches
-        ensures { result ≡ call_touches V.operations self.now.frame.now self.now.state.now target.now }
+        ensures { result ≡ touches_of V.operations self.now.frame.now self.now.state.now (Call target.now) }
     {
         match target {
             Target::Relative(_) => paired(self.push(), None),
@@ -169,8 +174,9 @@ impl<V: Values> Addressing<'_, V> {
         }
     }
 
+    #[tactic(auto, unfolding(crate::specs::Touch::touches_of))]
     fn of_jump(&self, target: &Target) -> Touches
-        ensures { result ≡ jump_touches V.operations self.now.frame.now self.now.state.now target.now }
+        ensures { result ≡ touches_of V.operations self.now.frame.now self.now.state.now (Jump target.now) }
     {
         match target {
             Target::Relative(_) => paired(None, None),
