@@ -1,5 +1,7 @@
 -- Registers by their numbers (Intel's manual, volume 2, table 2-2).
 use Rattle.std.specs.Prelude.{ℕ, ◌+◌, Bool, ◌==◌, if◌then◌else◌}
+use denote.Enum.Bare.{sameb}
+use Rattle.amd64_words.specs.contracts.register.Register.{the_type}
 use Rattle.amd64_words.specs.declared.register.Register.{Register}
 use Rattle.amd64_words.specs.declared.register.Register.TheVariants.{Rax, Rcx, Rdx, Rbx, Rsp, Rbp, Rsi, Rdi, R8, R9}
 use Rattle.amd64_words.specs.declared.register.Register.TheVariants.{R10, R11, R12, R13, R14, R15}
@@ -40,6 +42,10 @@ number_of R12 = 12
 number_of R13 = 13
 number_of R14 = 14
 number_of R15 = 15
+
+-- whether two registers are the same
+abbrev pub are_same : Register → Register → Bool
+are_same = sameb the_type
 
 -- a register by the three bits in the instruction's own bytes and the fourth in REX
 abbrev pub extended : ℕ → Bool → Register

@@ -48,6 +48,7 @@ use Rattle.cause_laws.specs.Instructions.{is_nop, is_zeroing, memory_if, memory_
 use Rattle.cause_laws.specs.Rows.{is_base, is_descriptor, is_undefined}
 use Rattle.cause_laws.specs.Steps.{word_in}
 use Rattle.cause_laws.proofs.Picks.{earlier, earlier-none, pick, pick-append, word_cause}
+use Rattle.amd64_words.specs.RegisterLaws.{told_by_number}
 
 -- ** causes of uses
 
@@ -392,9 +393,9 @@ module _ {M : Type 0} (acc : Accesses M Byte) (f : Frame) (state : State Word Fl
   zeroing-is : (arithmetic : Arithmetic) (to : Register) (from : Operand)
       → is_cleared arithmetic to from ≡ is_zeroing arithmetic to from
   unfolding is_cleared
-  zeroing-is Sub to (InRegister from) = refl
+  zeroing-is Sub to (InRegister from) = told_by_number to from
   zeroing-is Sub to (InMemory from) = refl
-  zeroing-is Xor to (InRegister from) = refl
+  zeroing-is Xor to (InRegister from) = told_by_number to from
   zeroing-is Xor to (InMemory from) = refl
   zeroing-is Add to from = refl
   zeroing-is Or to from = refl

@@ -1,7 +1,7 @@
 -- One instruction, and one step of the machine (Intel's manual, volume 2). A stop is found before anything changes.
-use Rattle.std.specs.Prelude.{ℕ, ◌+◌, ◌-◌, ◌%◌, ◌^◌, Bool, false, ◌==◌, nat_lt, Result, Ok, Err, Option, Some, None, if◌then◌else◌}
+use Rattle.std.specs.Prelude.{ℕ, ◌-◌, ◌%◌, ◌^◌, Bool, false, Result, Ok, Err, Option, Some, None, if◌then◌else◌}
 use Rattle.amd64_words.specs.declared.register.Register.{Register}
-use Rattle.amd64_subset.specs.Register.{number_of}
+use Rattle.amd64_subset.specs.Register.{are_same}
 use Rattle.amd64_subset.specs.Number.{signed_long_of}
 use Rattle.amd64_subset.specs.declared.instr.Width.{Width}
 use Rattle.amd64_subset.specs.declared.instr.Width.TheVariants.{Long, Quad}
@@ -42,8 +42,8 @@ use Rattle.guest_arithmetic.specs.Values.{Operations}
 
 -- sub or xor of a register with itself, which is 0 whatever it held
 unfoldable pub is_cleared : Arithmetic → Register → Operand → Bool
-is_cleared Sub to (InRegister from) = number_of to == number_of from
-is_cleared Xor to (InRegister from) = number_of to == number_of from
+is_cleared Sub to (InRegister from) = are_same to from
+is_cleared Xor to (InRegister from) = are_same to from
 is_cleared other to from = false
 
 module _ {W F B : Type 0} (ops : Operations W F B) where

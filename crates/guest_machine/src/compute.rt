@@ -18,8 +18,8 @@ fn is_cleared(arithmetic: Arithmetic, to: Register, from: &Operand) -> bool
     ensures { result ≡ is_cleared arithmetic to from.now }
 {
     match (arithmetic, from) {
-        (Arithmetic::Sub, Operand::Register(from)) => to.number() == from.number(),
-        (Arithmetic::Xor, Operand::Register(from)) => to.number() == from.number(),
+        (Arithmetic::Sub, Operand::Register(from)) => to == *from,
+        (Arithmetic::Xor, Operand::Register(from)) => to == *from,
         _ => false,
     }
 }

@@ -1,12 +1,13 @@
 -- The other operations do what the manual says, and all of them together.
 use Rattle.std.proofs.Common.{◌≡◌, ℕ, ◌+◌, ◌-◌, ◌%◌, ◌^◌, ◌<◌, ℤ, pos, Bool, true, false, Option, Some, None, Ok, refl, ap, sym, subst, ap₂, ⊎_elim, arith, ◌∙◌}
 use Rattle.std.specs.Bool.{Decides}
-use Rattle.std.specs.Prelude.{◌-ℤ◌, ◌<ℤ◌, if◌then◌else◌, ◌==◌}
+use Rattle.std.specs.Prelude.{◌-ℤ◌, ◌<ℤ◌, if◌then◌else◌}
 use Rattle.std.proofs.lemmas.Bool.{false≢true, eqb-true}
 use Rattle.std.proofs.lemmas.Int.{ints}
 use Rattle.amd64_words.specs.declared.register.Register.{Register}
 use Rattle.amd64_words.specs.declared.register.Register.TheVariants.{Rax, Rcx, Rdx, Rbx, Rsp, Rbp, Rsi, Rdi, R8, R9, R10, R11, R12, R13, R14, R15}
-use Rattle.amd64_words.specs.Register.{number_of, register_of as register_numbered}
+use Rattle.amd64_words.specs.Register.{are_same, number_of, register_of as register_numbered}
+use Rattle.amd64_words.specs.RegisterLaws.{told_by_number}
 use Rattle.amd64_subset.specs.declared.instr.Arithmetic.{Arithmetic}
 use Rattle.amd64_subset.specs.declared.instr.Arithmetic.TheVariants.{Add, Or, And, Sub, Xor, Compare}
 use Rattle.amd64_subset.specs.declared.instr.Condition.{Condition}
@@ -64,8 +65,9 @@ numbered R13 = refl
 numbered R14 = refl
 numbered R15 = refl
 
-same_register : (p q : Register) → (number_of p == number_of q) ≡ true → p ≡ q
-same_register p q is = sym (numbered p) ∙ ap register_numbered (eqb-true (number_of p) (number_of q) is) ∙ numbered q
+same_register : (p q : Register) → are_same p q ≡ true → p ≡ q
+same_register p q is = sym (numbered p)
+    ∙ ap register_numbered (eqb-true (number_of p) (number_of q) (sym (told_by_number p q) ∙ is)) ∙ numbered q
 
 zero_signed : (width : Width) → IsSigned width 0 (pos 0)
 zero_signed Long = low_half Long 0 (omega arith)
@@ -129,14 +131,14 @@ module _ (d : Decoded) (before : State ℕ Bool) (memory : Numbers)
       ∙ concluded_is d before memory have_words kind width (InRegister to) _ (OfSlot to) after memory' it refl
 
   -- both operands are one register
-  same_number : (width : Width) (to from : Register) (a b : ℕ) → (number_of to == number_of from) ≡ true
+  same_number : (width : Width) (to from : Register) (a b : ℕ) → are_same to from ≡ true
       → Has d before memory width (InRegister to) a → Has d before memory width (InRegister from) b → b ≡ a
   same_number width to from a b same p q = only_cut width (pos (register_of before.registers to)) b a
       (subst (λ (r : Register). IsCut width b (pos (register_of before.registers r)))
       (sym (same_register to from same)) q) p
 
   clears_sub : (width : Width) (to from : Register) (after : State ℕ Bool) (memory' : Numbers)
-      → (number_of to == number_of from) ≡ true → IsComputed Sub width to (InRegister from) after memory'
+      → are_same to from ≡ true → IsComputed Sub width to (InRegister from) after memory'
       → finished plain_operations acc width (OfSlot to) (compute_effect Sub width 0 0) (frame d before memory) before
       memory ≡ done after memory'
   clears_sub width to from after memory' same it =
@@ -149,7 +151,7 @@ module _ (d : Decoded) (before : State ℕ Bool) (memory : Numbers)
       it.flags it.answers
 
   clears_xor : (width : Width) (to from : Register) (after : State ℕ Bool) (memory' : Numbers)
-      → (number_of to == number_of from) ≡ true → IsComputed Xor width to (InRegister from) after memory'
+      → are_same to from ≡ true → IsComputed Xor width to (InRegister from) after memory'
       → finished plain_operations acc width (OfSlot to) (compute_effect Xor width 0 0) (frame d before memory) before
       memory ≡ done after memory'
   clears_xor width to from after memory' same it =
@@ -170,10 +172,10 @@ module _ (d : Decoded) (before : State ℕ Bool) (memory : Numbers)
   computes_in Compare width to from after memory' it = computing_is Compare width to from after memory' it
   computes_in Sub width to (InMemory from) after memory' it = computing_is Sub width to (InMemory from) after memory' it
   computes_in Xor width to (InMemory from) after memory' it = computing_is Xor width to (InMemory from) after memory' it
-  computes_in Sub width to (InRegister from) after memory' it = branch (number_of to == number_of from) _ _ _
+  computes_in Sub width to (InRegister from) after memory' it = branch (are_same to from) _ _ _
       (λ same. clears_sub width to from after memory' same it)
       (computing_is Sub width to (InRegister from) after memory' it)
-  computes_in Xor width to (InRegister from) after memory' it = branch (number_of to == number_of from) _ _ _
+  computes_in Xor width to (InRegister from) after memory' it = branch (are_same to from) _ _ _
       (λ same. clears_xor width to from after memory' same it)
       (computing_is Xor width to (InRegister from) after memory' it)
 

@@ -59,6 +59,7 @@ use Rattle.step_laws.proofs.NeededSteps.{OpenTo}
 use Rattle.step_laws.proofs.After.{Same, SoFar, at-first, at-last, computed-settled, far-stack, far-word, none_undefined, product-settled, same-if, same-then, same-there, settled-last, shift-settled, unsettled_by}
 use Rattle.step_laws.proofs.Numbers.{SameAccess, all-left, all-right, condition-is, kept-is, kept_byte-is, load-same, marked, number-is, number_at-is, store-same, used-is}
 use Rattle.amd64_subset.specs.Number.{signed_long_of}
+use Rattle.amd64_words.specs.RegisterLaws.{told_by_number}
 
 -- the sum of an address's parts
 sum-is : (x y z b i d : ℕ) → x % 2 ^ 64 ≡ (b + d) % 2 ^ 64 → y % 2 ^ 64 ≡ i % 2 ^ 64
@@ -96,9 +97,9 @@ unfolding is_cleared
 cleared-is Add to from = refl
 cleared-is Or to from = refl
 cleared-is And to from = refl
-cleared-is Sub to (InRegister from) = refl
+cleared-is Sub to (InRegister from) = told_by_number to from
 cleared-is Sub to (InMemory from) = refl
-cleared-is Xor to (InRegister from) = refl
+cleared-is Xor to (InRegister from) = told_by_number to from
 cleared-is Xor to (InMemory from) = refl
 cleared-is Compare to from = refl
 
