@@ -1,5 +1,5 @@
 -- One instruction, and one step of the machine (Intel's manual, volume 2). A stop is found before anything changes.
-use Rattle.std.specs.Prelude.{ℕ, ◌+◌, ◌-◌, ◌%◌, ◌^◌, Bool, false, ◌==◌, nat_lt, Result, Ok, Err, Option, Some, None, if◌then◌else◌}
+use Rattle.std.specs.Prelude.{ℕ, ◌-◌, ◌%◌, ◌^◌, Bool, false, Result, Ok, Err, Option, Some, None, if◌then◌else◌}
 use Rattle.amd64_words.specs.declared.register.Register.{Register}
 use Rattle.amd64_subset.specs.Register.{are_same}
 use Rattle.amd64_subset.specs.Number.{signed_long_of}

@@ -1,5 +1,9 @@
 -- The data bytes that an instruction touches.
+<<<<<<< HEAD
 use Rattle.std.specs.Prelude.{ℕ, ◌-◌, ◌^◌, zero, suc, Bool, true, false, List, [], ◌∷◌, ◌++◌, Result, Ok, Err, Option, Some, None, if◌then◌else◌, is_err}
+=======
+use Rattle.std.specs.Prelude.{ℕ, ◌-◌, ◌^◌, zero, suc, Bool, List, [], ◌∷◌, ◌++◌, Result, Ok, Err, Option, Some, None, if◌then◌else◌, is_err}
+>>>>>>> bce71d54bbb51cbdf1baeb59fe94f7de656915b9
 use Rattle.amd64_subset.specs.declared.instr.Width.{Width}
 use Rattle.amd64_subset.specs.declared.instr.Arithmetic.{Arithmetic}
 use Rattle.amd64_subset.specs.declared.instr.Arithmetic.TheVariants.{Compare}
@@ -22,7 +26,7 @@ use Rattle.guest_machine.specs.declared.touch.Direction.{Direction}
 use Rattle.guest_machine.specs.declared.touch.Direction.TheVariants.{Load, Store}
 use Rattle.guest_machine.specs.declared.touch.Touch.{Touch}
 use Rattle.guest_machine.specs.declared.touch.Touches.{Touches}
-use Rattle.guest_operands.specs.Access.{Refusal, Accesses, next_place, bytes_at, all_write, bytes_in, fetch_of}
+use Rattle.guest_operands.specs.Access.{Accesses, next_place, bytes_at, all_write, bytes_in, fetch_of}
 use Rattle.guest_operands.specs.Operand.{address_of, size_for}
 use Rattle.guest_operands.specs.Frame.{frame_of}
 use Rattle.guest_operands.specs.Use.{plus}

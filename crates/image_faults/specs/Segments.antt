@@ -6,7 +6,7 @@ use Rattle.elf_records.specs.declared.program_header.Segment.{Segment}
 use Rattle.elf_records.specs.declared.program_header.TheConstants.{PT_DYNAMIC, PT_TLS, PT_GNU_RELRO, PF_X, PF_R, PF_W}
 use Rattle.image_faults.specs.Counts.{how_many}
 use Rattle.image_faults.specs.Parts.{count, segment, base, loads, last, is_writable, behind_last_writable, has_relro}
-use Rattle.image_faults.specs.Parts.{has_tls}
+use Rattle.image_faults.specs.Parts.{relro_place}
 pub use Rattle.elf_records.specs.Alignments.{IsAlignment}
 
 -- the bytes of segment i pass the end of the file
@@ -15,9 +15,7 @@ HasSegmentPastEnd b i = (i < count b) × (length b < (segment b i).offset + (seg
 
 -- the program headers, or the bytes of a segment, pass the end of the file
 abbrev pub PassesEnd : List ℕ → Type 0
-PassesEnd b =
-    (length b < 64 + 56 * count b)
-    ⊎ ((i : ℕ) × (i < count b) × (length b < (segment b i).offset + (segment b i).filesz))
+PassesEnd b = (length b < 64 + 56 * count b) ⊎ ((i : ℕ) × HasSegmentPastEnd b i)
 
 -- the bytes of address a stand at offset a - base + 4096
 abbrev pub IsPlaced : List ℕ → Segment → Type 0
@@ -82,8 +80,7 @@ IsRightRelro b s =
 abbrev pub IsRightRest : List ℕ → ℕ → Type 0
 IsRightRest b i =
     ((i ≡ loads b + 1) × ((segment b i).kind ≡ PT_TLS) × IsRightTls b (segment b i))
-    ⊎ ((i ≡ (if has_tls b then loads b + 2 else loads b + 1)) × ((segment b i).kind ≡ PT_GNU_RELRO)
-    × IsRightRelro b (segment b i))
+    ⊎ ((i ≡ relro_place b) × ((segment b i).kind ≡ PT_GNU_RELRO) × IsRightRelro b (segment b i))
 
 -- header i is wrong; if DYNAMIC is missing, i is the end of the table
 abbrev pub IsWrongSegment : List ℕ → ℕ → Type 0

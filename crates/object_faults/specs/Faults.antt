@@ -1,6 +1,6 @@
 -- When an object is at fault: what each kind means, and which fault is the first (gABI; psABI).
 use Rattle.std.specs.Prelude.{◌≡◌, ◌≢◌, ◌+◌, ◌*◌, ◌%◌, ◌^◌, ◌<◌, ◌≤◌, ◌⊎◌, ℕ, List, Option, Result, Ok, Err, Some}
-use Rattle.std.specs.Prelude.{None, IsNone, IsSome, length, bit_and, slice_index}
+use Rattle.std.specs.Prelude.{None, IsNone, IsSome, length, bit_and}
 use Rattle.elf_records.specs.Alignments.{IsAlignment}
 use Rattle.elf_records.specs.declared.file_header.Header.{Header}
 use Rattle.elf_records.specs.declared.section_header.SectionHeader.{SectionHeader}
@@ -25,7 +25,7 @@ use Rattle.elf_records.specs.declared.relocation.RelocationKind.{RelocationKind}
 use Rattle.object_faults.specs.Parts.{header, section, symbol, rela, symbol_table, symbol_count, entry_count}
 use Rattle.object_faults.specs.Parts.{HasBytes, IsSection, IsStrings, IsTable, IsRela}
 use Rattle.object_faults.specs.Classes.{class_of, kept_class, IsKeptSection, IsTls}
-use Rattle.object_faults.specs.Names.{Ends}
+use Rattle.object_faults.specs.Names.{byte_of, Ends}
 use Rattle.elf_records.specs.Records.{symbol_binding, symbol_kind, rela_symbol, rela_kind}
 pub use Rattle.elf_records.specs.Records.{IsElf}
 use Rattle.object_faults.specs.Relocations.{relocation_kind, width_at, IsOfCode, IsReloc, Covers}
@@ -64,11 +64,9 @@ IsRelocatable h =
 abbrev pub HasPartPastEnd : List ℕ → ℕ → Type 0
 HasPartPastEnd b s = IsSection b s × HasBytes (section b s) × (length b < (section b s).offset + (section b s).size)
 
--- the table of section headers, for s 0, or else the bytes that section s has in the file pass its end
+-- the table of section headers, for s 0, or else the bytes of section s pass the end of the file
 abbrev pub PassesEnd : List ℕ → ℕ → Type 0
-PassesEnd b s =
-    ((s ≡ 0) × (length b < (header b).e_shoff + 64 * (header b).e_shnum))
-    ⊎ (IsSection b s × HasBytes (section b s) × (length b < (section b s).offset + (section b s).size))
+PassesEnd b s = ((s ≡ 0) × (length b < (header b).e_shoff + 64 * (header b).e_shnum)) ⊎ HasPartPastEnd b s
 
 -- the section's flags and type fit no class, or linking refuses its type
 abbrev pub IsRefused : SectionHeader → Type 0
@@ -96,13 +94,12 @@ IsMisplaced symbol e first =
 abbrev pub symbol_strings : List ℕ → ℕ
 symbol_strings b = (section b (symbol_table b)).link
 
--- by the string table of the symbol table, the name does not end, or it is empty and the symbol is not LOCAL
+-- the name does not end, or it is empty and the symbol is not LOCAL
 abbrev pub IsMisnamed : List ℕ → SymbolEntry → Type 0
 IsMisnamed b symbol =
-    let strings = (section b (symbol_table b)).link in
-    IsStrings b strings
-    × ((Ends b strings symbol.name → ⊥)
-    ⊎ ((slice_index b ((section b strings).offset + symbol.name) ≡ 0) × (symbol_binding symbol ≢ STB_LOCAL)))
+    IsStrings b (symbol_strings b)
+    × ((Ends b (symbol_strings b) symbol.name → ⊥)
+    ⊎ ((byte_of b (symbol_strings b) symbol.name ≡ 0) × (symbol_binding symbol ≢ STB_LOCAL)))
 
 -- section s is one, but linking drops it
 abbrev pub IsDropped : List ℕ → ℕ → Type 0
