@@ -2,11 +2,7 @@
 
 ghost use Rattle.std.specs.Prelude.{◌≡◌, ◌<◌, ◌≤◌, ◌%◌, ◌^◌, ◌==◌, if◌then◌else◌, ◌-◌};
 ghost use Rattle.amd64_subset.specs.declared.instr.Shift.TheVariants.{RightSigned};
-<<<<<<< HEAD
-ghost use Rattle.guest_arithmetic.specs.declared.effect.Change.TheVariants.{Set, Unsettled, Kept};
-=======
 ghost use Rattle.guest_arithmetic.specs.declared.effect.Change.TheVariants.{Set, Unsettled};
->>>>>>> bce71d54bbb51cbdf1baeb59fe94f7de656915b9
 ghost use Rattle.guest_arithmetic.specs.Arithmetic.{bits_of, span_of, half_of, is_negative, differ, biased, sum_overflows, difference_overflows, sum_effect, difference_effect, logic_effect, compute_effect, magnitude, product_fits, product_effect, shifted, bit_out, shift_overflows, shift_effect};
 
 use crate::effect::{Change, Changes, Effect, by_result};

@@ -2,10 +2,7 @@
 
 ghost use Rattle.std.specs.Prelude.{◌≡◌, ◌<◌, IfOk};
 ghost use Rattle.amd64_subset.specs.Number.{signed_long_of};
-<<<<<<< HEAD
-=======
 ghost use Rattle.amd64_subset.specs.declared.instr.Width.TheVariants.{Long};
->>>>>>> bce71d54bbb51cbdf1baeb59fe94f7de656915b9
 ghost use Rattle.guest_operands.specs.Access.{bytes_in};
 ghost use Rattle.guest_arithmetic.specs.Arithmetic.{low, span_of};
 ghost use Rattle.guest_operands.specs.Operand.{carried_as};

@@ -18,11 +18,7 @@ use Rattle.module_table.specs.declared.events.Event.{Event}
 use Rattle.module_table.specs.Past.{Past}
 use Rattle.thread_blocks.specs.Instances.{instances, instances_in}
 use Rattle.thread_blocks.specs.JobLoads.{job_loads}
-<<<<<<< HEAD
 use Rattle.thread_blocks.specs.RunTime.{asked_at, asked_by, asked_of, has_words, pair, thread_accesses, word_at}
-=======
-use Rattle.thread_blocks.specs.RunTime.{asked_at, asked_by, asked_of, has_words, pair, thread_accesses, word_at, word_of}
->>>>>>> bce71d54bbb51cbdf1baeb59fe94f7de656915b9
 use Rattle.thread_blocks.specs.Spaces.{Space, address_space_of, after_of, mapped, space_accesses}
 use Rattle.thread_blocks.proofs.Spaces.{space_image}
 use Rattle.thread_space.specs.Kept.{HasSeen, Kept, live_in, memory_of, shape_of}

@@ -7,11 +7,7 @@ use Rattle.guest_arithmetic.specs.Plain.{plain_operations}
 use Rattle.guest_arithmetic.specs.Values.{number_from}
 use Rattle.guest_operands.specs.declared.space.Access.TheVariants.{Read}
 use Rattle.guest_operands.specs.declared.state.State.{State}
-<<<<<<< HEAD
 use Rattle.guest_operands.specs.Access.{Refusal, Refused, Shut, both_reached, bytes_at, next_place, reached as read_as}
-=======
-use Rattle.guest_operands.specs.Access.{Refusal, Refused, Shut, both_reached, bytes_at, next_place}
->>>>>>> bce71d54bbb51cbdf1baeb59fe94f7de656915b9
 use Rattle.guest_operands.specs.Ranges.{byte_in, range_accesses}
 use Rattle.loaded_modules.specs.declared.instance.Instance.{Instance}
 use Rattle.thread_blocks.specs.Instances.{Loads}
@@ -28,28 +24,16 @@ unfolding range_accesses
 range-open k zero place = tt
 range-open k (suc size) place = both-open ◌∷◌ _ _ (byte-open (byte_in Read (memory_of k).ranges place)) (range-open k size (next_place place))
 
-<<<<<<< HEAD
 first-refused : (rest : Result (List ℕ) Refusal) → NotShut rest → read_as number_from (both_reached (λ (x : ℕ) xs. x ∷ xs) (Err Refused) rest) ≡ Err Refused
-=======
-first-refused : (rest : Result (List ℕ) Refusal) → NotShut rest → word_of (both_reached (λ (x : ℕ) xs. x ∷ xs) (Err Refused) rest) ≡ Err Refused
->>>>>>> bce71d54bbb51cbdf1baeb59fe94f7de656915b9
 first-refused (Ok bytes) g = refl
 first-refused (Err Refused) g = refl
 first-refused (Err Shut) g = absurd g
 
-<<<<<<< HEAD
 rest-refused : (byte : ℕ) (rest : Result (List ℕ) Refusal) → read_as number_from rest ≡ Err Refused → read_as number_from (both_reached ◌∷◌ (Ok byte) rest) ≡ Err Refused
 rest-refused byte (Ok bytes) e = cc
 rest-refused byte (Err why) e = e
 
 both-read : (byte n : ℕ) (rest : Result (List ℕ) Refusal) → read_as number_from rest ≡ Ok n → read_as number_from (both_reached ◌∷◌ (Ok byte) rest) ≡ Ok (byte + 256 * n)
-=======
-rest-refused : (byte : ℕ) (rest : Result (List ℕ) Refusal) → word_of rest ≡ Err Refused → word_of (both_reached ◌∷◌ (Ok byte) rest) ≡ Err Refused
-rest-refused byte (Ok bytes) e = cc
-rest-refused byte (Err why) e = e
-
-both-read : (byte n : ℕ) (rest : Result (List ℕ) Refusal) → word_of rest ≡ Ok n → word_of (both_reached ◌∷◌ (Ok byte) rest) ≡ Ok (byte + 256 * n)
->>>>>>> bce71d54bbb51cbdf1baeb59fe94f7de656915b9
 both-read byte n (Ok bytes) e = let same : number_from bytes ≡ n = cc in ap (λ m. Ok (byte + 256 * m)) same
 both-read byte n (Err why) e = cc
 
