@@ -1,5 +1,5 @@
 -- What an instruction may do with a field in it that holds a number which only the linker knows.
-use Rattle.std.specs.Prelude.{ℕ, ℤ, pos, negsuc, suc, ◌-◌, ◌%◌, ◌^◌, ◌==◌, ◌&&◌, ◌||◌, Bool, true, false, not, nat_lt, Option, Some, None, option_and_then, Result, Ok, Err, if◌then◌else◌, is_ok}
+use Rattle.std.specs.Prelude.{ℕ, ℤ, pos, negsuc, suc, ◌-◌, ◌%◌, ◌^◌, ◌==◌, ◌&&◌, ◌||◌, Bool, true, false, not, nat_lt, Option, Some, None, option_and_then, Result, Ok, if◌then◌else◌, is_ok}
 use Rattle.amd64_subset.specs.declared.instr.Arithmetic.TheVariants.{Add, Compare}
 use Rattle.amd64_subset.specs.declared.instr.Decoded.{Decoded}
 use Rattle.amd64_subset.specs.declared.instr.Operation.{Operation}

@@ -1,6 +1,6 @@
 -- What a thread means: its steps, its looks and its lines. The lines, looks, blocks and data are those of the
 -- machine's threads, over marked values; the steps also have sequences.
-use Rattle.std.specs.Prelude.{ℕ, ◌+◌, ◌-◌, ◌++◌, ◌&&◌, ◌==◌, Bool, true, false, List, [], ◌∷◌, drop, Option, Some, None, Result, Ok, Err, nat_lt, position, replicate, unwrap_or, option_and_then, option_map, if◌then◌else◌}
+use Rattle.std.specs.Prelude.{ℕ, ◌+◌, ◌-◌, ◌++◌, ◌&&◌, ◌==◌, Bool, true, false, List, ◌∷◌, drop, Option, Some, None, Result, nat_lt, position, replicate, unwrap_or, option_and_then, option_map, if◌then◌else◌}
 use Rattle.std.specs.List.{list_any}
 use Rattle.std.specs.Option.{option_or, option_map_or}
 use Rattle.address_map.specs.Map.{owner_at, stack_start}
@@ -14,14 +14,12 @@ use Rattle.guest_operands.specs.declared.stop.Stop.TheVariants.{Unclean}
 use Rattle.guest_machine.specs.Access.{Accesses}
 use Rattle.guest_machine.specs.Ranges.{grants}
 use Rattle.guest_machine.specs.Run.{Next, Goes, Ends, Looks, Stepping, is_look}
-use Rattle.guest_machine.specs.State.{start_of}
-use Rattle.guest_machine.specs.Use.{After, left}
+use Rattle.guest_machine.specs.Use.{After}
 use Rattle.job_meaning.specs.declared.values.Byte.{Byte}
 use Rattle.job_meaning.specs.declared.values.Byte.TheVariants.{Value, Hidden, Part}
 use Rattle.job_meaning.specs.declared.values.Flag.{Flag}
 use Rattle.job_meaning.specs.declared.values.Token.TheVariants.{Base, Descriptor}
 use Rattle.job_meaning.specs.declared.values.Word.{Word}
-use Rattle.job_meaning.specs.declared.values.Word.TheVariants.{Number}
 use Rattle.job_meaning.specs.Marked.{marked_operations, values_of}
 use Rattle.job_text.specs.declared.thread_lines.Action.{Action}
 use Rattle.job_text.specs.declared.thread_lines.Action.TheVariants.{Call, Open, Close, Peek}
