@@ -1,15 +1,16 @@
 -- What a command about a job says over the files of a store: how the job is refused, in which order; and, if all its
 -- images link, what the command's own last step says.
 use Rattle.std.specs.Prelude.{◌≡◌, ◌⊎◌, ℕ, Bool, true, false, List, [], ◌∷◌, map, slice_get}
-use Rattle.std.specs.Prelude.{Option, Some, None, IsSome, Result, Ok, Err, is_some}
+use Rattle.std.specs.Prelude.{Option, Some, None, IsSome, Result, Ok, Err, is_some, if◌then◌else◌}
 use Rattle.std.specs.List.{All}
 use Rattle.std.specs.Option.{option_map_or}
-use Rattle.command_replies.specs.Says.{HasFile, Is, IsLinkLine, IsObjectLine, JobFaultSays, job_fault_text}
+use Rattle.command_replies.specs.Says.{HasFile, IsLinkLine, IsObjectLine, JobFaultSays}
 use Rattle.job_link.specs.declared.writable.WritableSections.{WritableSections}
 use Rattle.job_link.specs.Given.{Given, AreGiven, IsFirstFaulty}
 use Rattle.job_link.specs.Linked.{AllLink, IsFirstUnlinked, link_in}
 use Rattle.job_link.specs.Mentions.{bytes_at, mentions_of, object_names}
 use Rattle.job_text.specs.declared.fault.JobFault.{JobFault}
+use Rattle.job_text.specs.declared.fault.JobFault.TheVariants.{At}
 use Rattle.job_text.specs.declared.fault.JobFaultKind.TheVariants.{Name}
 use Rattle.job_text.specs.Images.{image_number}
 use Rattle.job_text.specs.Jobs.{JobParts, job_of}
@@ -80,7 +81,7 @@ module _ (E : Ending) (relax : Bool) where
     -- the job has the image that the command names, or not
     abbrev pub NamedSays : Files → JobParts → Bool → ℕ → List ℕ → Type 0
     NamedSays fs job true status text = ObjectsSay fs job status text
-    NamedSays fs job false status text = Is 5 (job_fault_text 0 Name) status text
+    NamedSays fs job false status text = JobFaultSays (At 0 Name) status text
 
 -- the job has an image of that name, if the command names one
 abbrev pub has : JobParts → Option (List ℕ) → Bool
@@ -101,18 +102,10 @@ module _ (image : Option (List ℕ)) where
 -- ---- the names asked for
 
 -- the objects of all images of the job, if it has the image
-abbrev pub named_objects : JobParts → Bool → List (List ℕ)
-named_objects job true = object_names job
-named_objects job false = []
-
 abbrev pub job_names : Option (List ℕ) → Result JobParts JobFault → List (List ℕ)
-job_names image (Ok job) = named_objects job (has job image)
+job_names image (Ok job) = if has job image then object_names job else []
 job_names image (Err fault) = []
-
-abbrev pub file_names : Option (List ℕ) → Option (List ℕ) → List (List ℕ)
-file_names image None = []
-file_names image (Some bytes) = job_names image (job_of bytes)
 
 -- the job, and then its objects
 abbrev pub asked_names : Files → List ℕ → Option (List ℕ) → List (List ℕ)
-asked_names fs name image = name ∷ file_names image (file_at fs name)
+asked_names fs name image = name ∷ option_map_or (λ bytes. job_names image (job_of bytes)) (file_at fs name) []
