@@ -26,7 +26,7 @@ use Rattle.image_rules.specs.declared.fault.ImageFault.{ImageFault}
 use Rattle.image_rules.specs.declared.fault.ImageFault.TheVariants as image_fault
 use Rattle.job_link.specs.declared.writable.WritableSections.{WritableSections}
 use Rattle.job_link.specs.declared.writable.WritableSections.TheVariants.{Kept, Refused}
-use Rattle.job_link.specs.Given.{Allows, Given, AreGiven, IsSound}
+use Rattle.job_link.specs.Given.{Allows, Given, AreGiven, IsSoundObject}
 use Rattle.job_link.specs.Linked.{AllLink}
 use Rattle.job_link.specs.Mentions.{bytes_at, mentions_of, object_names}
 use Rattle.dynamic_symbols.specs.Names.{distinct}
@@ -57,11 +57,11 @@ use Rattle.commands.proofs.Words.{not_asked}
 
 -- ** a good job is not refused
 
-sound_at : (o : Option (List ℕ)) → HasFile o IsSound → IsSound (unwrap_or o [])
+sound_at : (o : Option (List ℕ)) → HasFile o IsSoundObject → IsSoundObject (unwrap_or o [])
 sound_at None h = absurd h
 sound_at (Some b) h = h
 
-faultless : (b : List ℕ) → IsSound b → IsFaultless b
+faultless : (b : List ℕ) → IsSoundObject b → IsFaultless b
 faultless b sound = record { object = sound.object; no_loose = sound.no_loose; no_stray = sound.no_stray }
 
 -- what its ending says alone is said
@@ -72,7 +72,9 @@ module _ (image : Option (List ℕ)) (E : Ending) (relax : Bool) (w : WritableSe
   unfolding object_names
   fine object i =
       faultless (bytes_at fs object)
-      (sound_at (file_at fs object) (of_all (λ other. HasFile (file_at fs other) IsSound) (distinct (mentions_of good.job)) object good.objects
+      (sound_at (file_at fs object)
+          (of_all (λ other. HasFile (file_at fs other) IsSoundObject)
+          (distinct (mentions_of good.job)) object good.objects
       (in_once (mentions_of good.job) object i)))
 
   all_link : (images : List Given) → AreGiven (bytes_at fs) good.job images → AllLink images relax

@@ -8,7 +8,7 @@ use Rattle.command_replies.specs.Steps.{Comes}
 use Rattle.dynamic_symbols.specs.Laws.{SitesHaveSymbols}
 use Rattle.image_file.specs.Spelled.{spelled}
 use Rattle.image_writer.specs.Written.{written}
-use Rattle.job_link.specs.Given.{Given, IsGiven as IsGivenImage}
+use Rattle.job_link.specs.Given.{Given, IsGivenImage}
 use Rattle.job_link.specs.Linked.{link_in}
 use Rattle.job_text.specs.declared.images.Image.{Image}
 use Rattle.job_text.specs.Jobs.{JobParts}

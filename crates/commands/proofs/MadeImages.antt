@@ -6,7 +6,7 @@ use Rattle.generated_job.specs.Generated.{generated_files, module_shape}
 use Rattle.generated_job.specs.Shapes.{object_bytes}
 use Rattle.generated_laws.specs.Jobs.{generated_parts}
 use Rattle.generated_laws.specs.Linked.{GeneratedObjectsLink, program_objects}
-use Rattle.job_link.specs.Given.{Given, AreGiven, IsGiven}
+use Rattle.job_link.specs.Given.{Given, AreGiven, IsGivenImage}
 use Rattle.job_link.specs.LinkLaws.{is_given}
 use Rattle.job_link.specs.Linked.{AllLink, link_in}
 use Rattle.job_link.specs.Mentions.{bytes_in}
@@ -30,7 +30,8 @@ abbrev LinksIn : List Given → Given → Type 0
 LinksIn images g = Links (link_in images true g)
 
 both_link : GeneratedObjectsLink → (n : ℕ) → 1 ≤ n → n ≤ 1000 → (images : List Given) → map (λ (g : Given). g.kind) images ≡ Exe ∷ Late ∷ []
-    → map (λ (g : Given). g.objects) images ≡ program_objects n ∷ (object_bytes module_shape ∷ []) ∷ [] → All IsGiven images → AllLink images true
+    → map (λ (g : Given). g.objects) images ≡ program_objects n ∷ (object_bytes module_shape ∷ []) ∷ []
+        → All IsGivenImage images → AllLink images true
 unfolding link_in
 both_link laws n some few [] kinds objects given = cc
 both_link laws n some few (app ∷ []) kinds objects given = cc

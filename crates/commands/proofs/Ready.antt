@@ -3,7 +3,7 @@ use Rattle.std.proofs.Common.{◌≡◌, ◌∙◌, ◌≤◌, ◌<◌, ◌^◌,
 use Rattle.std.proofs.lemmas.List.{length-map}
 use Rattle.std.proofs.lemmas.List.Elements.{All-cons, All-map, All-nil, All-same, All-weaker}
 use Rattle.job_link.specs.declared.writable.WritableSections.TheVariants.{Refused}
-use Rattle.job_link.specs.Given.{Allows, Given, IsGiven as IsGivenImage}
+use Rattle.job_link.specs.Given.{Allows, Given, IsGivenImage}
 use Rattle.job_link.specs.Linked.{link_in}
 use Rattle.job_link.specs.LinkLaws.{is_given, kinds_linked}
 use Rattle.job_text.specs.declared.images.Image.{Image}

@@ -3,7 +3,7 @@ use Rattle.std.proofs.Common.{◌≡◌, ◌∙◌, ◌<◌, ℕ, suc, List, All
 use Rattle.std.specs.List.{AllPairs}
 use Rattle.std.proofs.lemmas.List.Elements.{All-head, All-tail}
 use Rattle.std.proofs.lemmas.Option.{get_or_from_slice_get, slice_get_within}
-use Rattle.job_link.specs.Given.{Given, AreGiven, IsGiven}
+use Rattle.job_link.specs.Given.{Given, AreGiven, IsGivenImage}
 use Rattle.job_text.specs.Jobs.{JobParts}
 use Rattle.link_faults.specs.declared.image_kind.ImageKind.{ImageKind}
 use Rattle.sequence_forms.specs.declared.places.Site.{Site}
@@ -56,7 +56,8 @@ same_sites b xs ys own other =
 
 -- ** images
 
-module _ (g h : Given) (kinds : g.kind ≡ h.kind) (objects : g.objects ≡ h.objects) (own : IsGiven g) (other : IsGiven h) where
+module _ (g h : Given) (kinds : g.kind ≡ h.kind) (objects : g.objects ≡ h.objects) (own : IsGivenImage g)
+    (other : IsGivenImage h) where
   sites : g.sites ≡ h.sites
   sites =
       let lengths : length g.objects ≡ length h.objects = ap length objects in
@@ -72,7 +73,8 @@ module _ (g h : Given) (kinds : g.kind ≡ h.kind) (objects : g.objects ≡ h.ob
       ∙ ap (λ (all : List (List Site)). record { kind = h.kind; objects = h.objects; sites = all }) sites
 
 same_all : (gs hs : List Given) → map (λ (g : Given). g.kind) gs ≡ map (λ (g : Given). g.kind) hs
-    → map (λ (g : Given). g.objects) gs ≡ map (λ (g : Given). g.objects) hs → All IsGiven gs → All IsGiven hs → gs ≡ hs
+    → map (λ (g : Given). g.objects) gs ≡ map (λ (g : Given). g.objects) hs → All IsGivenImage gs → All IsGivenImage hs
+        → gs ≡ hs
 same_all [] [] kinds objects own other = refl
 same_all [] (h ∷ hs) kinds objects own other = cc
 same_all (g ∷ gs) [] kinds objects own other = cc
@@ -81,8 +83,9 @@ same_all (g ∷ gs) (h ∷ hs) kinds objects own other =
     let bytes : g.objects ≡ h.objects = cc in
     let more_kinds : map (λ (g : Given). g.kind) gs ≡ map (λ (g : Given). g.kind) hs = cc in
     let more_bytes : map (λ (g : Given). g.objects) gs ≡ map (λ (g : Given). g.objects) hs = cc in
-    let heads : g ≡ h = same_image g h kind bytes (All-head IsGiven g gs own) (All-head IsGiven h hs other) in
-    let tails : gs ≡ hs = same_all gs hs more_kinds more_bytes (All-tail IsGiven g gs own) (All-tail IsGiven h hs other) in
+    let heads : g ≡ h = same_image g h kind bytes (All-head IsGivenImage g gs own) (All-head IsGivenImage h hs other) in
+    let tails : gs ≡ hs = same_all gs hs more_kinds more_bytes (All-tail IsGivenImage g gs own)
+        (All-tail IsGivenImage h hs other) in
     cc
 
 pub same_images : (bytes : List ℕ → List ℕ) (job : JobParts) (gs hs : List Given) → AreGiven bytes job gs → AreGiven bytes job hs → gs ≡ hs

@@ -9,7 +9,7 @@ use Rattle.command_line.specs.declared.tasks.Task.TheVariants.{Run, Check, Link,
 use Rattle.command_replies.specs.Says.{HasFile}
 use Rattle.image_faults.specs.Faults.{IsImage}
 use Rattle.job_link.specs.declared.writable.WritableSections.TheVariants.{Refused}
-use Rattle.job_link.specs.Given.{Allows, Given, AreGiven, IsSound}
+use Rattle.job_link.specs.Given.{Allows, Given, AreGiven, IsSoundObject}
 use Rattle.job_link.specs.Linked.{AllLink}
 use Rattle.job_link.specs.Mentions.{bytes_at, object_names}
 use Rattle.job_text.specs.Jobs.{JobParts, job_of}
@@ -23,7 +23,7 @@ use Rattle.ports.specs.Files.{Files, file_at}
 pub record IsGoodJob (fs : Files) (relax : Bool) (name : List ℕ) : Type 0 where
   pub job : JobParts
   pub text : HasFile (file_at fs name) (λ bytes. job_of bytes ≡ Ok job)
-  pub objects : All (λ object. HasFile (file_at fs object) IsSound) (object_names job)
+  pub objects : All (λ object. HasFile (file_at fs object) IsSoundObject) (object_names job)
   pub images : List Given
   pub given : AreGiven (bytes_at fs) job images
   pub links : AllLink images relax

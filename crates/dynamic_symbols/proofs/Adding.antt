@@ -19,9 +19,10 @@ use Rattle.link_faults.specs.declared.symbol_ref.SymbolRef.{SymbolRef}
 use Rattle.tls_symbols.specs.Bindings.{object_at}
 use Rattle.tls_symbols.specs.Definitions.{definition_of}
 use Rattle.elf_object.proofs.Ranges.{range_first}
-use Rattle.dynamic_symbols.specs.Names.{defined_at, distinct, imported_at, imported_from, imported_in, is_definition, is_import}
+use Rattle.dynamic_symbols.specs.Names.{defined_at, distinct, imported_at, imported_in, is_definition, is_import}
 use Rattle.dynamic_symbols.specs.Found.{with_name, with_names}
 use Rattle.tls_symbols.proofs.Numbered.{same_names}
+use Rattle.tls_symbols.specs.Definitions.{flat_map_from}
 
 -- ** what a set of names that are lent keeps
 
@@ -153,14 +154,19 @@ ended f seen xs i past = sym (ap (λ ys. with_names seen (flat_map f ys)) (drop_
 -- the sites of one object, and of those behind it
 module _ (objects : List (List ℕ)) (startup : List (List (List ℕ))) (seen : List (List ℕ)) (sites : List (Vec Site)) (i : ℕ) where
   pub walk_from : (own : Vec Site) → drop i sites ≡ own ∷ drop (i + 1) sites
-      → with_names (with_names seen (imported_in objects startup i own.items)) (imported_from objects startup (i + 1) (map (λ v. v.items) (drop (i + 1) sites)))
-      ≡ with_names seen (imported_from objects startup i (map (λ v. v.items) (drop i sites)))
+      → with_names (with_names seen (imported_in objects startup i own.items))
+          (flat_map_from (imported_in objects startup) (i + 1) (map (λ v. v.items) (drop (i + 1) sites)))
+      ≡ with_names seen (flat_map_from (imported_in objects startup) i (map (λ v. v.items) (drop i sites)))
   walk_from own here =
-      sym (with_names-append seen (imported_in objects startup i own.items) (imported_from objects startup (i + 1) (map (λ v. v.items) (drop (i + 1) sites))))
-      ∙ ap (λ vs. with_names seen (imported_from objects startup i (map (λ v. v.items) vs))) (sym here)
+      sym (with_names-append seen (imported_in objects startup i own.items)
+          (flat_map_from (imported_in objects startup) (i + 1) (map (λ v. v.items) (drop (i + 1) sites))))
+      ∙ ap (λ vs. with_names seen (flat_map_from (imported_in objects startup) i (map (λ v. v.items) vs))) (sym here)
 
-  pub ended_from : length sites ≤ i → seen ≡ with_names seen (imported_from objects startup i (map (λ v. v.items) (drop i sites)))
-  ended_from past = sym (ap (λ vs. with_names seen (imported_from objects startup i (map (λ v. v.items) vs))) (drop_of_length-le sites past))
+  pub ended_from : length sites ≤ i → seen ≡ with_names seen
+      (flat_map_from (imported_in objects startup) i (map (λ v. v.items) (drop i sites)))
+  ended_from past = sym
+      (ap (λ vs. with_names seen (flat_map_from (imported_in objects startup) i (map (λ v. v.items) vs)))
+      (drop_of_length-le sites past))
 
 -- ** what is read at a place
 

@@ -15,9 +15,10 @@ use Rattle.tls_symbols.specs.Bindings.{binding_of, bound_to, first_export, here_
 use Rattle.elf_records.specs.Symbols.{get_address}
 use Rattle.tls_symbols.specs.Definitions.{definition_of, same_binding}
 use Rattle.dynamic_symbols.specs.Laws.{BindingsAreByUse, ImportsAreDistinct, ImportsAreForeign, IsForeign}
-use Rattle.dynamic_symbols.specs.Names.{imported_at, imported_from, imported_in, imports, is_import, is_startup}
+use Rattle.dynamic_symbols.specs.Names.{imported_at, imported_in, imports, is_import, is_startup}
 use Rattle.sequence_match.specs.Sites.{first_of}
 use Rattle.dynamic_symbols.proofs.Lists.{all_append, all_cons, all_distinct, all_flat, all_nil, distinct_names}
+use Rattle.tls_symbols.specs.Definitions.{flat_map_from}
 
 module _ (objects : List (List ℕ)) (startup : List (List (List ℕ))) where
   -- a name that is bound to a startup image
@@ -57,19 +58,22 @@ module _ (objects : List (List ℕ)) (startup : List (List (List ℕ))) where
   unfolding imported_in
   all_in o sites = all_flat (IsForeign objects) (imported_at objects startup o) sites (all_at o)
 
-  all_from : (o : ℕ) (sites : List (List Site)) → All (IsForeign objects) (imported_from objects startup o sites)
+  all_from : (o : ℕ) (sites : List (List Site)) → All (IsForeign objects)
+      (flat_map_from (imported_in objects startup) o sites)
   all_from o [] = all_nil (IsForeign objects)
-  all_from o (own ∷ more) = all_append (IsForeign objects) (imported_in objects startup o own) (imported_from objects startup (o + 1) more) (all_in o own) (all_from (o + 1) more)
+  all_from o (own ∷ more) = all_append (IsForeign objects) (imported_in objects startup o own)
+      (flat_map_from (imported_in objects startup) (o + 1) more) (all_in o own) (all_from (o + 1) more)
 
 -- ** the laws of imports
 
 pub imports_foreign : ImportsAreForeign
 unfolding imports
-imports_foreign objects startup sites = all_distinct (IsForeign objects) (imported_from objects startup 0 sites) (all_from objects startup 0 sites)
+imports_foreign objects startup sites = all_distinct (IsForeign objects)
+    (flat_map_from (imported_in objects startup) 0 sites) (all_from objects startup 0 sites)
 
 pub imports_distinct : ImportsAreDistinct
 unfolding imports
-imports_distinct objects startup sites = distinct_names (imported_from objects startup 0 sites)
+imports_distinct objects startup sites = distinct_names (flat_map_from (imported_in objects startup) 0 sites)
 
 pub bindings_by_use : BindingsAreByUse
 unfolding bound_to

@@ -17,7 +17,7 @@ use Rattle.link_faults.specs.declared.symbol_ref.SymbolRef.{SymbolRef}
 use Rattle.tls_symbols.specs.Bindings.{bound_to, here_or, name_bound, object_at}
 use Rattle.tls_symbols.specs.Bindings.{may_import as may_be_elsewhere}
 use Rattle.tls_symbols.specs.Definitions.{definition_of, same_binding}
-use Rattle.dynamic_symbols.specs.Found.{may_import}
+use Rattle.dynamic_symbols.specs.Found.{imports_any}
 use Rattle.dynamic_symbols.specs.Names.{imported_in, is_import, is_startup}
 use Rattle.dynamic_symbols.proofs.Adding.{imports_none}
 use Rattle.dynamic_symbols.proofs.Lists.{all_first, all_rest}
@@ -54,7 +54,7 @@ module _ (objects : List (List ℕ)) (startup : List (List (List ℕ))) (o : ℕ
       of_local true = refl
       of_local false = of_name (bytes_eq name get_address)
 
-  module _ (b : List ℕ) (none : may_import objects startup o b ≡ false) where
+  module _ (b : List ℕ) (none : imports_any objects startup o b ≡ false) where
     no_import : (site : Site) → site.symbol < symbol_count b → is_import objects startup o site ≡ false
     no_import site below = by (may_be_elsewhere (row site.form).first)
       where

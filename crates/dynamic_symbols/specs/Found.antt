@@ -26,6 +26,6 @@ abbrev pub IsBound : List (List ℕ) → Found → Type 0
 IsBound objects found = found.symbols.items ≡ filter_map (definition_of objects) (names_of found)
 
 -- whether any symbol of object o, with the bytes b, is bound to a startup image if it may be one's variable
-abbrev pub may_import : List (List ℕ) → List (List (List ℕ)) → ℕ → List ℕ → Bool
-may_import objects startup o b =
+abbrev pub imports_any : List (List ℕ) → List (List (List ℕ)) → ℕ → List ℕ → Bool
+imports_any objects startup o b =
     list_any (λ e. is_startup (bound_to objects startup o e true)) (range_with_len 0 (symbol_count b))

@@ -13,7 +13,7 @@ use Rattle.link_faults.specs.declared.binding.Binding.{Binding}
 use Rattle.link_faults.specs.declared.binding.Binding.TheVariants.{Startup}
 use Rattle.link_faults.specs.declared.symbol_ref.SymbolRef.{SymbolRef}
 use Rattle.tls_symbols.specs.Bindings.{bound_to, may_import, object_at}
-use Rattle.tls_symbols.specs.Definitions.{definition_of, is_defined, same_binding}
+use Rattle.tls_symbols.specs.Definitions.{definition_of, flat_map_from, is_defined, same_binding}
 
 -- the names without repetition, each at its first place
 abbrev pub distinct : List (List ℕ) → List (List ℕ)
@@ -62,15 +62,9 @@ imported_at objects startup o site =
 unfoldable pub imported_in : List (List ℕ) → List (List (List ℕ)) → ℕ → List Site → List (List ℕ)
 imported_in objects startup o sites = flat_map (imported_at objects startup o) sites
 
--- the names that the objects from number o on import
-abbrev pub imported_from : List (List ℕ) → List (List (List ℕ)) → ℕ → List (List Site) → List (List ℕ)
-imported_from objects startup o [] = []
-imported_from objects startup o (sites ∷ more) =
-    imported_in objects startup o sites ++ imported_from objects startup (o + 1) more
-
 -- the names that a startup image defines and a sequence uses, each once, in the order of their first sites
 unfoldable pub imports : List (List ℕ) → List (List (List ℕ)) → List (List Site) → List (List ℕ)
-imports objects startup sites = distinct (imported_from objects startup 0 sites)
+imports objects startup sites = distinct (flat_map_from (imported_in objects startup) 0 sites)
 
 -- ** how much room the names take
 

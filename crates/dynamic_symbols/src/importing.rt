@@ -5,7 +5,7 @@ ghost use Rattle.std.specs.List.{All};
 ghost use Rattle.elf_object.specs.Parts.{symbol_count};
 ghost use Rattle.tls_symbols.specs.Bindings.{bound_to, may, object_at};
 ghost use Rattle.dynamic_symbols.specs.Names.{imported_in, imports, is_startup};
-ghost use Rattle.dynamic_symbols.specs.Found.{may_import, with_names};
+ghost use Rattle.dynamic_symbols.specs.Found.{imports_any, with_names};
 ghost use Rattle.sequence_match.specs.Sites.{HaveSymbols};
 
 use elf_object::Object;
@@ -32,7 +32,7 @@ fn is_startup(bindings: &Bindings, index: usize, symbol: u32, imports: Imports) 
 fn may_import(bindings: &Bindings, index: usize, object: &Object) -> bool
     requires object { index < length bindings.now.objects }
     requires here { object.now ≡ object_at bindings.now.objects index }
-    ensures { result ≡ may_import bindings.now.objects bindings.now.startup index object.now }
+    ensures { result ≡ imports_any bindings.now.objects bindings.now.startup index object.now }
 {
     (0..object.symbol_count()).any(|symbol| is_startup(bindings, index, symbol, Imports::Yes))
 }

@@ -14,13 +14,15 @@ use Rattle.sequence_match.specs.Faults.{AreSites, IsSite}
 use Rattle.sequence_match.specs.Sites.{IsEntry, first_of}
 use Rattle.tls_symbols.specs.Bindings.{binding_of, object_at}
 use Rattle.tls_symbols.proofs.Search.{first_all, rest_all}
-use Rattle.dynamic_symbols.specs.Names.{defined_at, defined_in, defined_names, defined_symbols, distinct, imported_at, imported_from, imported_in, imports, is_startup, name_of, name_size, size_of}
+use Rattle.dynamic_symbols.specs.Names.{defined_at, defined_in, defined_names, defined_symbols, distinct, imported_at}
+use Rattle.dynamic_symbols.specs.Names.{imported_in, imports, is_startup, name_of, name_size, size_of}
 use Rattle.dynamic_symbols.proofs.Named.{symbols_named}
 use Rattle.generated_job.specs.Shapes.{Shape}
 use Rattle.generated_laws.specs.Reading.{ReadsAs, relocation_of}
 use Rattle.generated_laws.proofs.KindPlain.{ReadAsShapes, Suits}
 use Rattle.generated_laws.proofs.NameSymbols.{HasGetter, HasSymbols, symbols_are}
 use Rattle.generated_laws.proofs.NameDefinitions.{AreApart, getter_bound, variable_bound}
+use Rattle.tls_symbols.specs.Definitions.{flat_map_from}
 
 -- ** what an object defines
 
@@ -131,7 +133,7 @@ module _ (objects : List (List ℕ)) (shape : ℕ → Shape) (given : ReadAsShap
         flat_none (imported_at objects startup o) sites (λ k d h. site_imports_none o there (slice_index_or sites k d) (are.only k d h))
 
     none_from : (sites : List (List Site)) (o : ℕ) → ((k : ℕ) → k < length sites → imported_in objects startup (o + k) (slice_index_or sites k []) ≡ [])
-        → imported_from objects startup o sites ≡ []
+        → flat_map_from (imported_in objects startup) o sites ≡ []
     none_from [] o each = refl
     none_from (own ∷ more) o each =
         let same : o + 0 ≡ o = omega arith in

@@ -1,10 +1,11 @@
 //! The contents of an entry.
-ghost use Rattle.std.specs.Prelude.{◌≡◌, ◌*◌, length};
+ghost use Rattle.std.specs.Prelude.{◌≡◌, ◌*◌, length, if◌then◌else◌};
 ghost use Rattle.got_pairs.specs.declared.entry.DynamicKind.TheVariants.{DtpMod64, Relative, TlsDesc, TpOff64};
 ghost use Rattle.got_pairs.specs.declared.entry.DynamicSymbol.TheVariants.{Image, Imported};
 ghost use Rattle.got_pairs.specs.declared.entry.Entry.TheVariants.{One, Two};
-ghost use Rattle.got_pairs.specs.Entries.{by_kind, entry_of, filled, held, less, loaded, words};
+ghost use Rattle.got_pairs.specs.Entries.{entry_of, held, less, loaded, words};
 ghost use Rattle.got_pairs.specs.Needs.{size_of};
+ghost use Rattle.link_faults.specs.ImageKinds.{is_module, is_moved};
 
 use crate::name::Name;
 use crate::need::{Need, Target};
@@ -88,8 +89,7 @@ pub fn entry_of<'a>(kind: ImageKind, block_offset: u64, need: &Need<'a>) -> Entr
 
 /// The pair of the image's own module id and an offset. A program is module 1.
 fn own_pair<'a>(kind: ImageKind, offset: u64) -> Entry<'a>
-    ensures { result ≡ by_kind kind (Two (held 1) (held offset)) (Two (held 1) (held offset))
-        (Two (filled DtpMod64 Image 0) (held offset)) }
+    ensures { result ≡ Two (if is_module kind then loaded 0 DtpMod64 Image 0 else held 1) (held offset) }
 {
     let id = match kind {
         ImageKind::Exe | ImageKind::Pie => held(1),
@@ -102,15 +102,14 @@ fn own_pair<'a>(kind: ImageKind, offset: u64) -> Entry<'a>
 
 /// A TLS descriptor: the loader writes both words.
 fn descriptor<'a>(symbol: DynamicSymbol<'a>, addend: u64) -> Entry<'a>
-    ensures { result ≡ Two (filled TlsDesc symbol.entry addend) (held 0) }
+    ensures { result ≡ Two (loaded 0 TlsDesc symbol.entry addend) (held 0) }
 {
     Entry::Two(filled(DynamicKind::TlsDesc, symbol, addend), held(0))
 }
 
 /// The offset from the thread pointer of a variable of the image itself. A program knows where its block lies.
 fn own_offset<'a>(kind: ImageKind, block_offset: u64, offset: u64) -> Entry<'a>
-    ensures { result ≡ by_kind kind (One (held (less offset block_offset))) (One (held (less offset block_offset)))
-        (One (filled TpOff64 Image offset)) }
+    ensures { result ≡ One (if is_module kind then loaded 0 TpOff64 Image offset else held (less offset block_offset)) }
 {
     Entry::One(match kind {
         ImageKind::Exe | ImageKind::Pie => held(offset.wrapping_sub(block_offset)),
@@ -122,8 +121,7 @@ fn own_offset<'a>(kind: ImageKind, block_offset: u64, offset: u64) -> Entry<'a>
 
 /// The address of a symbol of the image itself. It stands in the file, and the loader adds how far it moved the image.
 fn own_address<'a>(kind: ImageKind, place: u64) -> Entry<'a>
-    ensures { result ≡ by_kind kind (One (held place)) (One (loaded place Relative Image place))
-        (One (loaded place Relative Image place)) }
+    ensures { result ≡ One (if is_moved kind then loaded place Relative Image place else held place) }
 {
     Entry::One(match kind {
         ImageKind::Exe => held(place),
@@ -152,7 +150,7 @@ fn held<'a>(number: u64) -> Word<'a>
 
 /// A word that the loader writes; it is 0 in the file.
 fn filled<'a>(kind: DynamicKind, symbol: DynamicSymbol<'a>, addend: u64) -> Word<'a>
-    ensures { result ≡ filled kind symbol.entry addend }
+    ensures { result ≡ loaded 0 kind symbol.entry addend }
 {
     loaded(0, kind, symbol, addend)
 }

@@ -10,12 +10,13 @@ use Rattle.image_file.specs.Spelled.{Part, Spelled, spelled}
 use Rattle.image_writer.specs.Files.{IsFileOf}
 use Rattle.image_writer.specs.Loadable.{IsLoadable, HoldsTls}
 use Rattle.image_writer.specs.Outlined.{Outlined, end_of, outline_of, last_part, no_part, place_of}
-use Rattle.image_writer.specs.Page.{base_of, file_header, file_offset, page, program_headers}
+use Rattle.image_writer.specs.Page.{base_of, file_offset, page, program_headers}
 use Rattle.image_writer.specs.Written.{laid, written}
 use Rattle.image_writer.proofs.Agreement.{reads_again}
 use Rattle.image_writer.proofs.Loaded.{loadable}
 use Rattle.image_writer.proofs.Headings.{length-file_header, length-segments, program_headers-count}
 use Rattle.image_writer.proofs.Laying.{part_end, past, reach, reach-laid, laid-append, around, rise_at, parts_rise}
+use Rattle.image_writer.proofs.FileHeader.{file_header}
 
 -- what is put over zeros behind other bytes
 pub splice_end : (old new : List ℕ) (n : ℕ) → length new ≡ n → splice (length old) new (old ++ replicate n 0) ≡ old ++ new

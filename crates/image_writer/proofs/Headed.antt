@@ -9,13 +9,14 @@ use Rattle.image_faults.specs.Faults.{KeepsBelow}
 use Rattle.image_file.specs.declared.part.TlsPart.{TlsPart}
 use Rattle.image_file.specs.Spelled.{tls_part}
 use Rattle.image_writer.specs.Outlined.{Outlined, part, last_part, end_of}
-use Rattle.image_writer.specs.Page.{base_of, file_header, load_header, dynamic_header, file_offset, page}
+use Rattle.image_writer.specs.Page.{base_of, load_header, dynamic_header, file_offset, page}
 use Rattle.image_writer.specs.Loadable.{IsLoadable, HoldsTls, one_if_some}
 use Rattle.image_writer.specs.Linkable.{tls_size}
 use Rattle.image_writer.proofs.HeaderReads.{are_read}
 use Rattle.image_writer.proofs.HeaderFinds.{base_read, loads_read, has_tls_read, tls_read, got_read}
 use Rattle.image_writer.proofs.HeaderExtents.{segment_inside}
 use Rattle.image_writer.proofs.HeaderRules.{keeps_ten}
+use Rattle.image_writer.proofs.FileHeader.{file_header}
 
 pub record IsHeaded (f : List ℕ) (o : Outlined) : Type 0 where
   pub header_is : header f ≡ file_header o

@@ -13,8 +13,9 @@ use Rattle.image_rules.specs.declared.places.FileKind.{FileKind}
 use Rattle.image_rules.specs.declared.places.FileKind.TheVariants.{Exe, Pie, Module}
 use Rattle.image_faults.specs.Parts.{header, segment}
 use Rattle.image_writer.specs.Outlined.{Outlined}
-use Rattle.image_writer.specs.Page.{file_header, type_of, program_headers, page}
+use Rattle.image_writer.specs.Page.{type_of, program_headers, page, header_of}
 use Rattle.image_writer.proofs.Rows.{length_rows, row_at}
+use Rattle.image_writer.proofs.FileHeader.{file_header}
 
 -- the type of a file is a number of two bytes
 type_fits : (k : FileKind) → type_of k < 256 ^ 2
@@ -24,7 +25,7 @@ type_fits Module = omega arith
 
 -- the header's numbers lie in the range of their types
 pub header_fits : (o : Outlined) → length (program_headers o) ≤ 10 → FitsHeader (file_header o)
-unfolding file_header
+unfolding header_of
 header_fits o few = search (rules, type_fits, arith)
 
 -- the page takes 4096 bytes

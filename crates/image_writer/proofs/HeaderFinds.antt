@@ -18,15 +18,16 @@ use Rattle.image_file.specs.declared.part.TlsPart.{TlsPart}
 use Rattle.image_file.specs.Spelled.{tls_part, is_writable}
 use Rattle.image_writer.specs.declared.outline.PartPlace.{PartPlace}
 use Rattle.image_writer.specs.Outlined.{Outlined, part}
-use Rattle.image_writer.specs.Page.{base_of, flags_of, file_header, load_header, dynamic_header, tls_header, relro_header}
+use Rattle.image_writer.specs.Page.{base_of, flags_of, load_header, dynamic_header, tls_header, relro_header, header_of}
 use Rattle.image_writer.specs.Loadable.{IsLoadable, is_written, one_if_some}
 use Rattle.image_writer.proofs.HeaderCounts.{leading_is, many_agree, last_agree, last_none}
 use Rattle.image_faults.proofs.Counts.{is_load, is_relro, last_more as last_is}
 use Rattle.image_writer.proofs.HeaderReads.{AreRead}
+use Rattle.image_writer.proofs.FileHeader.{file_header}
 
 -- the address at which the image begins
 base_found : (k : FileKind) (o : Outlined) → k ≡ o.kind → (if (file_header o).e_type == ET_EXEC then 0x400000 else 0) ≡ base_of k
-unfolding file_header
+unfolding header_of
 base_found Exe o is = rw (← is) refl
 base_found Pie o is = rw (← is) refl
 base_found Module o is = rw (← is) refl

@@ -11,11 +11,13 @@ use Rattle.image_file.specs.declared.part.PartClass.TheVariants.{Executable, Rea
 use Rattle.image_file.specs.declared.part.TlsPart.{TlsPart}
 use Rattle.image_writer.specs.declared.outline.PartPlace.{PartPlace}
 use Rattle.image_writer.specs.Outlined.{Outlined, part, last_part, end_of}
-use Rattle.image_writer.specs.Page.{base_of, flags_of, file_header, load_header, dynamic_header, tls_header, relro_header, program_headers, page}
+use Rattle.image_writer.specs.Page.{base_of, flags_of, load_header, dynamic_header, tls_header, relro_header}
+use Rattle.image_writer.specs.Page.{program_headers, page, header_of}
 use Rattle.image_writer.specs.Loadable.{IsLoadable, HoldsTls, IsRightTlsPart, is_written, one_if_some}
 use Rattle.image_writer.proofs.HeaderCounts.{last_within}
 use Rattle.image_writer.proofs.HeaderRows.{length_headers, row_of_load, row_of_dynamic, row_of_tls, row_of_relro}
 use Rattle.image_writer.proofs.HeaderBytes.{long_enough, header_led, segment_led}
+use Rattle.image_writer.proofs.FileHeader.{file_header}
 
 -- the base is low
 pub base_low : (k : FileKind) → base_of k ≤ 0x400000
@@ -100,7 +102,7 @@ pub record AreRead (f : List ℕ) (o : Outlined) : Type 0 where
 
 -- the header counts the program headers
 count_of : (o : Outlined) → (file_header o).e_phnum ≡ length (program_headers o)
-unfolding file_header
+unfolding header_of
 count_of o = refl
 
 -- a file whose first 4096 bytes are the page says all that

@@ -15,17 +15,18 @@ use Rattle.image_rules.specs.Rules.{number}
 use Rattle.image_faults.specs.Segments.{IsWrongSegment}
 use Rattle.image_faults.specs.Faults.{Breaks, Keeps}
 use Rattle.image_writer.specs.Outlined.{Outlined, last_part, end_of}
-use Rattle.image_writer.specs.Page.{type_of, file_offset, file_header}
+use Rattle.image_writer.specs.Page.{type_of, file_offset, header_of}
 use Rattle.image_writer.specs.Loadable.{IsLoadable, HoldsTls}
 use Rattle.image_writer.proofs.HeaderReads.{AreRead}
 use Rattle.image_writer.proofs.HeaderFinds.{loads_read}
 use Rattle.image_writer.proofs.HeaderLoads.{right_load, right_dynamic}
 use Rattle.image_writer.proofs.HeaderRest.{right_rest}
 use Rattle.image_writer.proofs.HeaderExtents.{passes_nowhere}
+use Rattle.image_writer.proofs.FileHeader.{file_header}
 
 -- the identification
 right_ident : (o : Outlined) (k : ℕ) → IsWrongIdent (file_header o) k → ⊥
-unfolding file_header
+unfolding header_of
 right_ident o k wrong = wrong.1 (get_or_append_left ELF_IDENT (replicate 9 0) 0 k wrong.0)
 
 -- the fields
@@ -36,7 +37,7 @@ right_type Module = inr refl
 
 -- each field is right
 right_field : (o : Outlined) (rule : FieldRule) → 0 < (file_header o).e_phnum → (file_header o).e_phnum ≤ 10 → IsRightField rule (file_header o)
-unfolding file_header
+unfolding header_of
 right_field o FileType some few = right_type o.kind
 right_field o Machine some few = refl
 right_field o Version some few = refl

@@ -11,11 +11,13 @@ use Rattle.elf_records.specs.RecordLaws.{length-header_bytes, length-segment_byt
 use Rattle.elf_records.specs.declared.program_header.Segment.{Segment}
 use Rattle.image_rules.specs.declared.places.FileKind.{FileKind}
 use Rattle.image_file.specs.declared.part.TlsPart.{TlsPart}
-use Rattle.image_writer.specs.Headers.{header_of, loads_bytes}
+use Rattle.image_writer.specs.Headers.{loads_bytes}
 use Rattle.image_writer.specs.Loadable.{one_if_some}
 use Rattle.image_writer.specs.Outlined.{Outlined}
-use Rattle.image_writer.specs.Page.{load_header, dynamic_header, tls_headers, relro_headers, program_headers, file_header, page}
+use Rattle.image_writer.specs.Page.{load_header, dynamic_header, tls_headers, relro_headers, program_headers, page}
+use Rattle.image_writer.specs.Page.{header_of}
 use Rattle.image_writer.proofs.Puts.{length-items, put_next}
+use Rattle.image_writer.proofs.FileHeader.{file_header}
 
 -- what a test of an option counts
 pub one_if-is : {X : Type 0} (o : Option X) (b : Bool) (n : ℕ) → b ≡ is_some o → n ≡ bool_byte b → n ≡ one_if_some o
@@ -81,12 +83,8 @@ put_headers o at next after last bytes one two three four next-is after-is last-
     )
 
 -- the header
-pub header-is : (o : Outlined) → header_of o.kind (length (program_headers o)) ≡ file_header o
-unfolding header_of file_header
-header-is o = refl
-
 pub length-file_header : (o : Outlined) → length (header_bytes (file_header o)) ≡ 64
-unfolding file_header
+unfolding header_of
 length-file_header o = length-header_bytes (file_header o) refl
 
 -- the page, put in three steps
@@ -104,7 +102,7 @@ put_page o at next last count bytes one two three count-is next-is last-is insid
     let long-h = length-file_header o in
     let long-p : length P ≡ 56 * length (program_headers o) = length-segments (program_headers o) in
     let long-hp = length-append H P in
-    let header : header_of o.kind count ≡ file_header o = ap (header_of o.kind) count-is ∙ header-is o in
+    let header : header_of o.kind count ≡ file_header o = ap (header_of o.kind) count-is in
     let rest : 4096 - (64 + 56 * count) ≡ 4032 - 56 * length (program_headers o) = omega arith in
     let one-is : one ≡ splice at H bytes = first ∙ ap (λ h. splice at (header_bytes h) bytes) header in
     let two-is = put_next at next H P bytes one two (omega arith) inside one-is second in

@@ -16,7 +16,7 @@ use Rattle.image_writer.specs.declared.draft.NamedSymbol.{NamedSymbol}
 use Rattle.image_writer.specs.declared.draft.Draft.{Draft}
 use Rattle.image_writer.specs.declared.layout.Layout.{Layout}
 use Rattle.image_writer.specs.Contents.{Contents}
-use Rattle.image_writer.specs.Tables.{array_size, hash_size, symbols_start, relocations_start, strings, is_pie}
+use Rattle.image_writer.specs.Tables.{array_size, hash_size, symbols_start, relocations_start, strings}
 use Rattle.elf_records.specs.declared.dynamic.TheConstants.{DT_NULL}
 use Rattle.image_writer.specs.Tables.{array_entry, flags_entries, has_relocations, hash_words, relocation_entry, symbol_rows, symbol_total}
 use Rattle.image_writer.specs.Told.{told, layout_of, tables_size, place_entries, leading_entries, array_at, tables_at}
@@ -64,12 +64,6 @@ pub leading-count : (b : Bool) (place n : ℕ) → length (leading_entries b pla
 leading-count true place n = refl
 leading-count false place n = refl
 
-pub flags-count : (b : Bool) (kind : FileKind) → length (flags_entries b kind) ≡ (if b || is_pie kind then 1 else 0)
-flags-count true kind = refl
-flags-count false Exe = refl
-flags-count false Pie = refl
-flags-count false Module = refl
-
 -- entries have sixteen bytes each
 pub length-entries : (entries : List DynamicEntry) → length (flat_map dynamic_bytes entries) ≡ 16 * length entries
 length-entries entries = length-items dynamic_bytes 16 entries length-dynamic_bytes
@@ -92,8 +86,7 @@ pub length-array_at : (address : ℕ) (c : Contents) → length (flat_map dynami
 length-array_at address c =
     length-entries (array_at address c)
     ∙ ap (λ n. 16 * n) (array-count address c _ _
-    (leading-count (has_relocations c) (address + relocations_start c) (length c.relocations))
-    (flags-count c.is_flagged c.kind))
+    (leading-count (has_relocations c) (address + relocations_start c) (length c.relocations)) refl)
 
 -- the array's entries have room in what a layout tells of it
 pub entries-fit : (d : Draft) (l : Layout) → l ≡ layout_of (told d) → (place : ℕ)
@@ -102,8 +95,7 @@ pub entries-fit : (d : Draft) (l : Layout) → l ≡ layout_of (told d) → (pla
 entries-fit d l is place =
     let facts = layout_facts d l is in
     let leading = leading-count (has_relocations (told d)) place (length d.relocations.now) in
-    let flags = flags-count d.is_flagged d.kind in
-    rw (leading, flags) (sym facts.array_is)
+    rw leading (sym facts.array_is)
 
 -- the sizes of the other tables
 pub length-hash : (n : ℕ) → length (flat_map (bytes_of 4) (hash_words n)) ≡ 12 + 4 * n

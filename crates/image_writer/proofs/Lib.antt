@@ -1,6 +1,7 @@
 pub mod Agreement
 pub mod Counted
 pub mod Decided
+pub mod FileHeader
 pub mod Filing
 pub mod Finishing
 pub mod Framing

@@ -19,7 +19,7 @@ use Rattle.image_file.specs.declared.part.TlsPart.{TlsPart}
 use Rattle.image_file.specs.Spelled.{part as part_read, class_numbered, tls_part, spelled}
 use Rattle.image_file.specs.Tabled.{tabled_at}
 use Rattle.image_writer.specs.Outlined.{Outlined, outline_of, part, last_part, end_of}
-use Rattle.image_writer.specs.Page.{base_of, flags_of, type_of, file_offset, file_header, load_header, dynamic_header}
+use Rattle.image_writer.specs.Page.{base_of, flags_of, type_of, file_offset, load_header, dynamic_header, header_of}
 use Rattle.image_writer.specs.Loadable.{HoldsTls}
 use Rattle.image_writer.specs.Files.{IsFileOf}
 use Rattle.image_writer.proofs.Headed.{IsHeaded, headed}
@@ -28,6 +28,7 @@ use Rattle.image_writer.proofs.Positive.{field_right, segment_in, load_right, dy
 use Rattle.image_writer.proofs.Seen.{IsSeen, place, seen}
 use Rattle.image_writer.proofs.SameBytes.{HoldSame, range_is_part, part_length, part_inside}
 use Rattle.image_writer.proofs.SameArray.{SameHeaders}
+use Rattle.image_writer.proofs.FileHeader.{file_header}
 
 -- the flags of a class are those that it was read from
 flags_again : (s : Segment) → IsClass s → flags_of (class_numbered s.flags) ≡ s.flags
@@ -89,7 +90,7 @@ unfolding dynamic_header
 made_array o = refl
 
 made_type : (o : Outlined) → (file_header o).e_type ≡ type_of o.kind
-unfolding file_header
+unfolding header_of
 made_type o = refl
 
 -- how many LOADs the file has

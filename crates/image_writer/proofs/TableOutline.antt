@@ -10,13 +10,14 @@ use Rattle.image_rules.specs.declared.places.FileKind.TheVariants.{Exe, Pie, Mod
 use Rattle.image_faults.specs.Parts.{header, last, loads, segment}
 use Rattle.image_file.specs.Spelled.{Part}
 use Rattle.image_writer.specs.Outlined.{end_of, last_part, no_part, outline_of, part, place_of}
-use Rattle.image_writer.specs.Page.{base_of, dynamic_header, file_header, file_offset, load_header, type_of}
+use Rattle.image_writer.specs.Page.{base_of, dynamic_header, file_offset, load_header, type_of, header_of}
 use Rattle.image_writer.specs.Contents.{Contents, tables_address}
 use Rattle.image_writer.specs.Tables.{finished, tables, tables_part}
 use Rattle.image_writer.specs.Loadable.{IsLoadable, IsRightPart}
 use Rattle.image_writer.specs.Files.{IsFileOf}
 use Rattle.image_writer.proofs.Headed.{IsHeaded}
 use Rattle.image_writer.proofs.TableSeen.{IsSeen}
+use Rattle.image_writer.proofs.FileHeader.{file_header}
 
 -- it has one part more than the contents
 pub part_count : (c : Contents) → length (outline_of (finished c)).parts ≡ length c.parts + 1
@@ -140,5 +141,5 @@ seen_is c f headed loadable file =
 
 -- the type of the file
 pub type_is : (c : Contents) (f : List ℕ) → IsHeaded f (outline_of (finished c)) → (header f).e_type ≡ type_of c.kind
-unfolding finished file_header
+unfolding finished header_of
 type_is c f headed = ap (λ h. h.e_type) headed.header_is

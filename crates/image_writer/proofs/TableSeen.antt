@@ -1,5 +1,5 @@
 -- What a file of finished contents tells of its dynamic tables: where they lie, what the array says, and each row.
-use Rattle.std.proofs.Common.{◌≡◌, ◌≢◌, ◌+◌, ◌*◌, ◌<◌, ◌≤◌, ◌==◌, ◌||◌, ℕ, Bool, true, false, List, [], ◌∷◌, ◌++◌}
+use Rattle.std.proofs.Common.{◌≡◌, ◌≢◌, ◌+◌, ◌*◌, ◌<◌, ◌≤◌, ◌==◌, ℕ, Bool, true, false, List, [], ◌∷◌, ◌++◌}
 use Rattle.std.proofs.Common.{length, get_or, refl, sym, ap, ◌∙◌, arith, if◌then◌else◌, nat_le, subst, inl, inr, ◌⊎◌}
 use Rattle.std.proofs.lemmas.Bool.{le-leb, eq-eqb, ne_eqb, cases_Bool, and_from, and_right}
 use Rattle.elf_records.specs.Fields.{part_at}
@@ -16,7 +16,7 @@ use Rattle.image_faults.specs.Array.{HasTag, has_tag, entry}
 use Rattle.image_writer.specs.Page.{file_offset}
 use Rattle.image_writer.specs.Contents.{Contents, tables_address}
 use Rattle.image_writer.specs.Tables.{array, array_entry, array_size, has_relocations}
-use Rattle.image_writer.specs.Tables.{flags_entries, is_pie, relocations_start, strings, strings_start, symbols_start}
+use Rattle.image_writer.specs.Tables.{flags_entries, relocations_start, strings, strings_start, symbols_start}
 use Rattle.image_writer.specs.Tables.{tables}
 use Rattle.image_writer.proofs.TableSizes.{length-array}
 use Rattle.image_writer.proofs.TableTold.{entry_told}
@@ -131,7 +131,7 @@ first_is false Pie = inr (inl (refl, refl, refl))
 first_is false Module = inr (inr (refl, λ e. cc, refl))
 
 -- behind a flag the array ends
-second_is : (flagged : Bool) (kind : FileKind) → (flagged || is_pie kind) ≡ true
+second_is : (flagged : Bool) (kind : FileKind) → length (flags_entries flagged kind) ≡ 1
     → get_or (flags_entries flagged kind ++ (none ∷ [])) 1 none ≡ none
 second_is true kind some = refl
 second_is false Exe some = absurd (cc)
@@ -151,18 +151,13 @@ place_sum false = refl
 flags_reach : (c : Contents) → 16 * (flags_place c + 1) ≤ array_size c
 flags_reach c = omega (arith, place_sum (has_relocations c))
 
--- one entry, or none
-abbrev one_if : Bool → ℕ
-one_if b = if b then 1 else 0
-
 -- and another behind a flag
-next_reach : (c : Contents) → (c.is_flagged || is_pie c.kind) ≡ true → 16 * (flags_place c + 1 + 1) ≤ array_size c
-next_reach c some =
-    let one : one_if (c.is_flagged || is_pie c.kind) ≡ 1 = ap one_if some in
-    omega (arith, place_sum (has_relocations c), one)
+next_reach : (c : Contents) → length (flags_entries c.is_flagged c.kind) ≡ 1 → 16 *
+    (flags_place c + 1 + 1) ≤ array_size c
+next_reach c some = omega (arith, place_sum (has_relocations c), some)
 
 -- the entry behind it ends the array
-end_seen : (f : List ℕ) (c : Contents) → IsSeen f c → (c.is_flagged || is_pie c.kind) ≡ true
+end_seen : (f : List ℕ) (c : Contents) → IsSeen f c → length (flags_entries c.is_flagged c.kind) ≡ 1
     → HasTag f (flags_place c + 1) DT_NULL
 end_seen f c s some =
     (tagged f c s (flags_place c + 1) DT_NULL 0 (next_reach c some)
@@ -181,12 +176,12 @@ flags_seen_by : (f : List ℕ) (c : Contents) → IsSeen f c → IsFirst c.is_fl
 unfolding IsFirst IsFlagsSeen
 flags_seen_by f c s (inl told) =
     let here = tagged f c s (flags_place c) DT_FLAGS DF_STATIC_TLS (flags_reach c) (rest_entry c ∙ told.1) in
-    let some : (c.is_flagged || is_pie c.kind) ≡ true = ap (λ b. b || is_pie c.kind) told.0 in
+    let some : length (flags_entries c.is_flagged c.kind) ≡ 1 = ap (λ b. length (flags_entries b c.kind)) told.0 in
     inl (told.0, here.0, here.1, end_seen f c s some)
 flags_seen_by f c s (inr (inl told)) =
     let here = tagged f c s (flags_place c) DT_FLAGS_1 DF_1_PIE (flags_reach c) (rest_entry c ∙ told.2) in
-    let some : (c.is_flagged || is_pie c.kind) ≡ true =
-    ap (λ b. b || is_pie c.kind) told.0 ∙ ap is_pie told.1 in
+    let some : length (flags_entries c.is_flagged c.kind) ≡ 1 =
+    ap (λ b. length (flags_entries b c.kind)) told.0 ∙ ap (λ k. length (flags_entries false k)) told.1 in
     inr (inl (told.0, told.1, here.0, here.1, end_seen f c s some))
 flags_seen_by f c s (inr (inr told)) =
     let here = tagged f c s (flags_place c) DT_NULL 0 (flags_reach c) (rest_entry c ∙ told.2) in

@@ -1,5 +1,5 @@
 -- How long the pieces of the dynamic tables are, and where each begins.
-use Rattle.std.proofs.Common.{◌≡◌, ◌+◌, ◌-◌, ◌*◌, ◌%◌, ◌≤◌, ◌||◌, ℕ, Bool, true, false, List, [], ◌∷◌, ◌++◌, length}
+use Rattle.std.proofs.Common.{◌≡◌, ◌+◌, ◌-◌, ◌*◌, ◌%◌, ◌≤◌, ℕ, Bool, true, false, List, [], ◌∷◌, ◌++◌, length}
 use Rattle.std.proofs.Common.{refl, ap, ◌∙◌, arith, length-append, if◌then◌else◌, replicate}
 use Rattle.std.specs.List.{flat_map}
 use Rattle.std.specs.Int.{next_multiple_of}
@@ -12,7 +12,8 @@ use Rattle.image_rules.specs.declared.places.FileKind.{FileKind}
 use Rattle.image_rules.specs.declared.places.FileKind.TheVariants.{Exe, Pie, Module}
 use Rattle.image_file.specs.Tabled.{length-tabled}
 use Rattle.image_writer.specs.Contents.{Contents}
-use Rattle.image_writer.specs.Tables.{array, array_entry, array_size, chain, flags_entries, has_relocations, hash_size, hash_words, is_pie}
+use Rattle.image_writer.specs.Tables.{array, array_entry, array_size, chain, flags_entries, has_relocations, hash_size}
+use Rattle.image_writer.specs.Tables.{hash_words}
 use Rattle.image_writer.specs.Tables.{relocation_entries, relocation_entry, strings, strings_start}
 use Rattle.image_writer.specs.Tables.{symbol_rows, symbol_total, symbols_start, tables}
 use Rattle.image_writer.proofs.TableRows.{length-rows, length-pieces}
@@ -30,16 +31,6 @@ relocation_entry_count : (c : Contents) (b : Bool) → length (relocation_entrie
 relocation_entry_count c true = refl
 relocation_entry_count c false = refl
 
--- one entry of a flag, or none
-flags_entry_count : (flagged : Bool) (kind : FileKind)
-    → length (flags_entries flagged kind) ≡ (if flagged || is_pie kind then 1 else 0)
-flags_entry_count true Exe = refl
-flags_entry_count true Pie = refl
-flags_entry_count true Module = refl
-flags_entry_count false Exe = refl
-flags_entry_count false Pie = refl
-flags_entry_count false Module = refl
-
 -- five entries, those of relocations, that of a flag and the end
 five_more : {X : Type 0} (u v w x y end : X) (relocations flags : List X) (r f : ℕ)
     → length relocations ≡ r → length flags ≡ f
@@ -55,7 +46,7 @@ unfolding array
 length-array c =
     let e = array_entry 0 0 in
     ap (λ n. 16 * n) (five_more e e e e e e (relocation_entries c (has_relocations c)) (flags_entries c.is_flagged c.kind)
-    _ _ (relocation_entry_count c (has_relocations c)) (flags_entry_count c.is_flagged c.kind))
+    _ _ (relocation_entry_count c (has_relocations c)) refl)
 
 -- how many words the hash table has
 pub length-words : (n : ℕ) → length (hash_words n) ≡ 3 + n

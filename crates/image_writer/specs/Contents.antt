@@ -4,7 +4,9 @@ use Rattle.std.specs.Int.{next_multiple_of}
 use Rattle.image_rules.specs.declared.places.FileKind.{FileKind}
 use Rattle.image_file.specs.declared.part.TlsPart.{TlsPart}
 use Rattle.image_file.specs.declared.symbol.ImageSymbol.{ImageSymbol}
+use Rattle.elf_records.specs.declared.symbol.SymbolBinding.{SymbolBinding}
 use Rattle.elf_records.specs.declared.symbol.SymbolBinding.TheVariants.{Local}
+use Rattle.elf_records.specs.declared.symbol.SymbolType.{SymbolType}
 use Rattle.elf_records.specs.declared.symbol.SymbolType.TheVariants.{NoType}
 use Rattle.elf_records.specs.declared.symbol.Visibility.TheVariants.{Default}
 use Rattle.image_file.specs.declared.relocation.ImageRelocation.{ImageRelocation}
@@ -36,16 +38,20 @@ parts_end kind (p ∷ (q ∷ more)) = parts_end kind (q ∷ more)
 abbrev pub tables_address : Contents → ℕ
 tables_address c = next_multiple_of (parts_end c.kind c.parts) 4096
 
--- the reserved symbol, number 0
-abbrev pub null_symbol : ImageSymbol
-null_symbol = record {
-  binding = Local;
-  kind = NoType;
+-- a symbol that the image doesn't define
+abbrev pub undefined_symbol : SymbolBinding → SymbolType → ImageSymbol
+undefined_symbol binding kind = record {
+  binding = binding;
+  kind = kind;
   visibility = Default;
   is_defined = false;
   value = 0;
   size = 0;
 }
+
+-- the reserved symbol, number 0
+abbrev pub null_symbol : ImageSymbol
+null_symbol = undefined_symbol Local NoType
 
 abbrev pub all_symbols : Contents → List ImageSymbol
 all_symbols c = null_symbol ∷ c.symbols

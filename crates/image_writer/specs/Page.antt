@@ -1,6 +1,7 @@
 -- The first page of an image's file: its header, its program headers, and zeros after them (gABI, "ELF Header",
 -- "Program Header"; "ELF Handling For Thread-Local Storage", "Program Headers").
-use Rattle.std.specs.Prelude.{◌+◌, ◌-◌, ◌*◌, ℕ, List, [], ◌∷◌, ◌++◌, Option, Some, None, length, map, replicate}
+use Rattle.std.specs.Prelude.{◌+◌, ◌-◌, ◌*◌, ℕ, List, ◌∷◌, ◌++◌, Option, length, map, option_map, option_to_list}
+use Rattle.std.specs.Prelude.{replicate}
 use Rattle.std.specs.List.{flat_map}
 use Rattle.elf_records.specs.declared.file_header.Header.{Header}
 use Rattle.elf_records.specs.declared.program_header.Segment.{Segment}
@@ -38,65 +39,39 @@ base_of Module = 0
 abbrev pub file_offset : FileKind → ℕ → ℕ
 file_offset kind address = address + 4096 - base_of kind
 
--- LOAD
+-- the program header of a type for what lies at an address: its flags, how many bytes it has in the file and in memory,
+-- and its alignment
+abbrev pub range_header : FileKind → ℕ → ℕ → ℕ → ℕ → ℕ → ℕ → Segment
+range_header file kind flags address filesz memsz align = record {
+  kind = kind;
+  flags = flags;
+  offset = file_offset file address;
+  vaddr = address;
+  paddr = address;
+  filesz = filesz;
+  memsz = memsz;
+  align = align;
+}
+
 unfoldable pub load_header : FileKind → PartPlace → Segment
-load_header kind p = record {
-  kind = PT_LOAD;
-  flags = flags_of p.class;
-  offset = file_offset kind p.address;
-  vaddr = p.address;
-  paddr = p.address;
-  filesz = p.size;
-  memsz = p.size;
-  align = 4096;
-}
+load_header kind p = range_header kind PT_LOAD (flags_of p.class) p.address p.size p.size 4096
 
--- DYNAMIC: the array at the start of the last part
+-- the dynamic array, at the start of the last part
 unfoldable pub dynamic_header : Outlined → Segment
-dynamic_header o = record {
-  kind = PT_DYNAMIC;
-  flags = PF_R;
-  offset = file_offset o.kind (last_part o).address;
-  vaddr = (last_part o).address;
-  paddr = (last_part o).address;
-  filesz = o.array_size;
-  memsz = o.array_size;
-  align = 8;
-}
+dynamic_header o = range_header o.kind PT_DYNAMIC PF_R (last_part o).address o.array_size o.array_size 8
 
--- TLS
 unfoldable pub tls_header : FileKind → TlsPart → Segment
-tls_header kind t = record {
-  kind = PT_TLS;
-  flags = PF_R;
-  offset = file_offset kind t.address;
-  vaddr = t.address;
-  paddr = t.address;
-  filesz = t.initial;
-  memsz = t.size;
-  align = t.alignment;
-}
+tls_header kind t = range_header kind PT_TLS PF_R t.address t.initial t.size t.alignment
 
--- GNU_RELRO: the part that only the loader writes
+-- the part that only the loader writes
 unfoldable pub relro_header : FileKind → PartPlace → Segment
-relro_header kind p = record {
-  kind = PT_GNU_RELRO;
-  flags = PF_R;
-  offset = file_offset kind p.address;
-  vaddr = p.address;
-  paddr = p.address;
-  filesz = p.size;
-  memsz = p.size;
-  align = 1;
-}
+relro_header kind p = range_header kind PT_GNU_RELRO PF_R p.address p.size p.size 1
 
 abbrev pub tls_headers : FileKind → Option TlsPart → List Segment
-tls_headers kind None = []
-tls_headers kind (Some t) = tls_header kind t ∷ []
+tls_headers kind tls = option_to_list (option_map (tls_header kind) tls)
 
 abbrev pub relro_headers : Outlined → Option ℕ → List Segment
-relro_headers o None = []
-relro_headers o (Some g) = relro_header o.kind (part o g) ∷ []
+relro_headers o got = option_to_list (option_map (λ g. relro_header o.kind (part o g)) got)
 
 -- the program headers: one for each part, and then DYNAMIC, TLS and GNU_RELRO
 unfoldable pub program_headers : Outlined → List Segment
@@ -104,11 +79,11 @@ program_headers o =
     map (load_header o.kind) o.parts
     ++ (dynamic_header o ∷ (tls_headers o.kind o.tls ++ relro_headers o o.got))
 
--- the header
-unfoldable pub file_header : Outlined → Header
-file_header o = record {
+-- the header of a file with this many program headers
+unfoldable pub header_of : FileKind → ℕ → Header
+header_of kind count = record {
   ident = ELF_IDENT ++ replicate 9 0;
-  e_type = type_of o.kind;
+  e_type = type_of kind;
   e_machine = EM_X86_64;
   e_version = EV_CURRENT;
   e_entry = 0;
@@ -117,7 +92,7 @@ file_header o = record {
   e_flags = 0;
   e_ehsize = 64;
   e_phentsize = 56;
-  e_phnum = length (program_headers o);
+  e_phnum = count;
   e_shentsize = 0;
   e_shnum = 0;
   e_shstrndx = 0;
@@ -126,5 +101,5 @@ file_header o = record {
 -- the page
 unfoldable pub page : Outlined → List ℕ
 page o =
-    header_bytes (file_header o)
+    header_bytes (header_of o.kind (length (program_headers o)))
     ++ (flat_map segment_bytes (program_headers o) ++ replicate (4032 - 56 * length (program_headers o)) 0)

@@ -1,7 +1,7 @@
 -- The dynamic tables of a linked image: the dynamic array, the hash table, the symbols, the relocations and the names,
 -- each at the next multiple of 8 (gABI, "Dynamic Section", "Hash Table", "Symbol Table", "Relocation",
 -- "String Table").
-use Rattle.std.specs.Prelude.{◌+◌, ◌-◌, ◌*◌, ◌^◌, ◌==◌, ◌||◌, ℕ, Bool, true, false, List, [], ◌∷◌, ◌++◌}
+use Rattle.std.specs.Prelude.{◌+◌, ◌-◌, ◌*◌, ◌^◌, ◌==◌, ℕ, Bool, true, false, List, [], ◌∷◌, ◌++◌}
 use Rattle.std.specs.Prelude.{length, replicate, take, sum_by, nat_lt, if◌then◌else◌}
 use Rattle.std.specs.List.{flat_map}
 use Rattle.std.specs.Int.{next_multiple_of}
@@ -32,16 +32,20 @@ symbol_total c = length c.symbols + 1
 abbrev pub has_relocations : Contents → Bool
 has_relocations c = nat_lt 0 (length c.relocations)
 
--- the array has a flag: that of static TLS, or that of a program that may be loaded anywhere
-abbrev pub is_pie : FileKind → Bool
-is_pie Exe = false
-is_pie Pie = true
-is_pie Module = false
+-- an entry of the dynamic array
+abbrev pub array_entry : ℕ → ℕ → DynamicEntry
+array_entry tag value = record { tag = tag; value = value }
+
+-- that of a flag, if the array has one: of static TLS, or of a program that may be loaded anywhere
+abbrev pub flags_entries : Bool → FileKind → List DynamicEntry
+flags_entries true kind = array_entry DT_FLAGS DF_STATIC_TLS ∷ []
+flags_entries false Exe = []
+flags_entries false Pie = array_entry DT_FLAGS_1 DF_1_PIE ∷ []
+flags_entries false Module = []
 
 -- how many bytes each table has, and where it begins, in bytes from the start of the part
 abbrev pub array_size : Contents → ℕ
-array_size c =
-    16 * (6 + (if has_relocations c then 3 else 0) + (if c.is_flagged || is_pie c.kind then 1 else 0))
+array_size c = 16 * (6 + (if has_relocations c then 3 else 0) + length (flags_entries c.is_flagged c.kind))
 
 abbrev pub hash_size : Contents → ℕ
 hash_size c = 12 + 4 * symbol_total c
@@ -63,15 +67,6 @@ unfoldable pub strings : Contents → List ℕ
 strings c = flat_map name_bytes (all_names c)
 
 -- the dynamic array
-abbrev pub array_entry : ℕ → ℕ → DynamicEntry
-array_entry tag value = record { tag = tag; value = value }
-
-abbrev pub flags_entries : Bool → FileKind → List DynamicEntry
-flags_entries true kind = array_entry DT_FLAGS DF_STATIC_TLS ∷ []
-flags_entries false Exe = []
-flags_entries false Pie = array_entry DT_FLAGS_1 DF_1_PIE ∷ []
-flags_entries false Module = []
-
 abbrev pub relocation_entries : Contents → Bool → List DynamicEntry
 relocation_entries c false = []
 relocation_entries c true =

@@ -4,10 +4,10 @@ ghost use Rattle.std.specs.Prelude.{◌≡◌, ◌+◌, ◌*◌, ◌^◌, ◌<�
 ghost use Rattle.std.specs.List.{flat_map};
 ghost use Rattle.elf_records.specs.Fields.{splice};
 ghost use Rattle.elf_records.specs.Records.{segment_bytes};
-ghost use Rattle.image_writer.specs.Headers.{IsNear, header_of, loads_bytes};
+ghost use Rattle.image_writer.specs.Headers.{IsNear, loads_bytes};
 ghost use Rattle.image_writer.specs.Loadable.{IsLoadable, HoldsTls};
 ghost use Rattle.image_writer.specs.Outlined.{outlined, part, last_part};
-ghost use Rattle.image_writer.specs.Page.{base_of, flags_of, type_of, file_offset, load_header, dynamic_header};
+ghost use Rattle.image_writer.specs.Page.{base_of, flags_of, header_of, type_of, file_offset, load_header, dynamic_header};
 ghost use Rattle.image_writer.specs.Page.{tls_headers, relro_header, relro_headers, program_headers, page};
 
 use crate::outline::{Outline, PartPlace};
@@ -66,7 +66,7 @@ fn type_of(kind: FileKind) -> u16
 }
 
 /// The header of a file with `count` program headers.
-#[tactic(auto, unfolding(crate::specs::Headers::header_of))]
+#[tactic(auto, unfolding(crate::specs::Page::header_of))]
 fn header_of(kind: FileKind, count: u16) -> Header
     ensures { result ≡ header_of kind count }
 {

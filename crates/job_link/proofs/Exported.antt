@@ -15,7 +15,7 @@ use Rattle.sequence_forms.specs.declared.places.Site.{Site}
 use Rattle.sequence_match.specs.Faults.{AreSites}
 use Rattle.tls_symbols.specs.Bindings.{exported_names}
 use Rattle.job_link.specs.Beside.{link_beside}
-use Rattle.job_link.specs.Given.{Given, IsGiven}
+use Rattle.job_link.specs.Given.{Given, IsGivenImage}
 use Rattle.job_link.specs.Linked.{exports_of, link_in, AllLink, IsFirstUnlinked}
 use Rattle.job_link.proofs.Pushed.{below_or_at}
 
@@ -33,7 +33,7 @@ made_beside objects sites kind startup relax g o s k =
 
 -- the sequences of its objects, as code holds them
 pub sites_held : (objects : List (List ℕ)) (sites : List (Vec Site)) (g : Given) → objects ≡ g.objects
-    → map (λ own. own.items) sites ≡ g.sites → IsGiven g → (o : ℕ) → o < length objects
+    → map (λ own. own.items) sites ≡ g.sites → IsGivenImage g → (o : ℕ) → o < length objects
     → AreSites (slice_index_or objects o []) (slice_index_or (map (λ own. own.items) sites) o [])
 sites_held objects sites g o s given =
     let P : List (List ℕ) → List (List Site) → Type 0 = λ objects sites. (o : ℕ) → o < length objects

@@ -13,7 +13,7 @@ use Rattle.job_text.specs.Jobs.{JobParts}
 use Rattle.link_faults.specs.declared.image_kind.ImageKind.{ImageKind}
 use Rattle.job_link.specs.declared.reading.ReadRefusal.{ReadRefusal}
 use Rattle.job_link.specs.declared.writable.WritableSections.{WritableSections}
-use Rattle.job_link.specs.Given.{Allows, AreGiven, Given, IsFileFault, IsGiven, IsTaken}
+use Rattle.job_link.specs.Given.{Allows, AreGiven, Given, IsFileFault, IsGivenImage, IsTaken}
 use Rattle.job_link.specs.Reads.{kinds_of, objects_of, IsReadIn, IsReadRefusal, IsRefusalOf}
 
 -- ** images
@@ -42,7 +42,7 @@ module _ (bytes : List ℕ
     → List ℕ) (job : JobParts) (numbers : List ℕ) (images : List Given) (number : ℕ) (image : Image) (g : Given)
     (h : IsReadIn bytes job numbers images) (some : 1 ≤ number)
     (there : slice_get job.images (number - 1) ≡ Some image) (kind : g.kind ≡ image.kind)
-    (are : g.objects ≡ map bytes image.objects) (given : IsGiven g) where
+    (are : g.objects ≡ map bytes image.objects) (given : IsGivenImage g) where
   inside : number - 1 < length job.images
   inside = slice_get_within job.images (number - 1) image there
 
@@ -87,7 +87,7 @@ module _ (bytes : List ℕ
   pub read_more : IsReadIn bytes job (numbers ++ number ∷ []) (set images (number - 1) g)
   read_more = record {
     kinds = same_kinds;
-    given = All-set IsGiven images (number - 1) g given h.given;
+    given = All-set IsGivenImage images (number - 1) g given h.given;
     objects =
         same_objects;
   }

@@ -6,7 +6,7 @@ use Rattle.std.proofs.lemmas.List.Elements.{All-push}
 use Rattle.link_faults.specs.declared.image_kind.ImageKind.{ImageKind}
 use Rattle.sequence_forms.specs.declared.places.Site.{Site}
 use Rattle.sequence_match.specs.Faults.{AreSites}
-use Rattle.job_link.specs.Given.{Given, IsGiven, IsSound}
+use Rattle.job_link.specs.Given.{Given, IsGivenImage, IsSoundObject}
 
 -- an image of these objects and sequences
 abbrev pub given : ImageKind → List (List ℕ) → List (Vec Site) → Given
@@ -18,10 +18,11 @@ below_or_at k n h = grind arith
 
 -- it still has the sequences of each object
 pub pushed : (kind : ImageKind) (objects : List (List ℕ)) (sites : List (Vec Site)) (object : List ℕ) (own : Vec Site)
-    → IsGiven (given kind objects sites)
-    → IsSound object → AreSites object own.items → IsGiven (given kind (objects ++ object ∷ []) (sites ++ own ∷ []))
+    → IsGivenImage (given kind objects sites)
+    → IsSoundObject object → AreSites object own.items → IsGivenImage
+        (given kind (objects ++ object ∷ []) (sites ++ own ∷ []))
 pushed kind objects sites object own before sound are = record {
-  sound = All-push IsSound objects object before.sound sound;
+  sound = All-push IsSoundObject objects object before.sound sound;
   each = rw all (omega (arith, length_push all_sites own.items, length_push objects object, before.each));
   own = λ o inside. rw all (elim (below_or_at o (length objects) (omega (arith, length_push objects object))) [
     | inl below ↦

@@ -18,7 +18,7 @@ use Rattle.job_link.specs.declared.writable.WritableSections.TheVariants.{Kept, 
 -- ** one file
 
 -- it is an object, and its thread-local accesses are sequences
-pub record IsSound (b : List ℕ) : Type 0 where
+pub record IsSoundObject (b : List ℕ) : Type 0 where
   pub object : IsObject b
   pub no_loose : Nowhere Sequence b
   pub no_stray : Nowhere StrayCall b
@@ -30,7 +30,7 @@ Allows Refused b = (section : ℕ) → IsWritable b section → ⊥
 
 -- it is sound, and has nothing that is refused
 pub record IsTaken (writable : WritableSections) (b : List ℕ) : Type 0 where
-  pub sound : IsSound b
+  pub sound : IsSoundObject b
   pub allowed : Allows writable b
 
 -- the lowest of its sections that are refused
@@ -61,8 +61,8 @@ pub record Given : Type 0 where
   pub sites : List (List Site)
 
 -- the objects are sound, and the sites are their own sequences
-pub record IsGiven (g : Given) : Type 0 where
-  pub sound : All IsSound g.objects
+pub record IsGivenImage (g : Given) : Type 0 where
+  pub sound : All IsSoundObject g.objects
   pub each : length g.sites ≡ length g.objects
   pub own : (o : ℕ) → o < length g.objects → AreSites (slice_index_or g.objects o []) (slice_index_or g.sites o [])
 
@@ -71,7 +71,7 @@ pub record AreGiven (bytes : List ℕ → List ℕ) (job : JobParts) (images : L
   pub kinds : map (λ (g : Given). g.kind) images ≡ map (λ (image : Image). image.kind) job.images
   pub objects : map (λ (g : Given). g.objects) images
       ≡ map (λ (image : Image). map bytes image.objects) job.images
-  pub given : All IsGiven images
+  pub given : All IsGivenImage images
 
 -- ** the first of these names whose file is refused, and its fault
 

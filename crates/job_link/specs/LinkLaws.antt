@@ -8,7 +8,7 @@ use Rattle.link_faults.specs.ImageKinds.{is_late}
 use Rattle.link_needs.specs.Given.{IsGiven as IsGivenLink}
 use Rattle.link_needs.specs.Linking.{Linking}
 use Rattle.tls_symbols.specs.Bindings.{exported_names}
-use Rattle.job_link.specs.Given.{Given, IsGiven, IsSound}
+use Rattle.job_link.specs.Given.{Given, IsGivenImage, IsSoundObject}
 use Rattle.job_link.specs.Linked.{exports_of, link_in}
 
 -- ** what the startup images export
@@ -34,12 +34,12 @@ exports_few images =
 -- ** the links
 
 -- the input of each link is sound
-pub is_given : (images : List Given) (relax : Bool) (g : Given) → length images ≤ 64 → IsGiven g
+pub is_given : (images : List Given) (relax : Bool) (g : Given) → length images ≤ 64 → IsGivenImage g
     → IsGivenLink (link_in images relax g)
 unfolding link_in
 is_given images relax g few given = record {
   few_startup = omega (arith, exports_few images, few);
-  are_objects = All-weaker IsSound IsObject (λ b s. s.object) g.objects given.sound;
+  are_objects = All-weaker IsSoundObject IsObject (λ b s. s.object) g.objects given.sound;
   each = given.each;
   are_sites = given.own;
 }

@@ -34,7 +34,7 @@ no_link_fault l fault.ImageTooLarge object section entry links (resolved, (whole
     omega (arith, wordy, links.sound.limits.short)
 no_link_fault l fault.NoTls (Some o) section entry links (resolved, (kind, limits, first)) =
     links.sound.storage.nowhere o section entry first.here
-no_link_fault l fault.NoTls None section entry links (resolved, (kind, limits, never)) = never
-no_link_fault l fault.Overflow (Some o) section entry links (resolved, (sound, first)) =
-    links.fits o section entry first.0
+no_link_fault l fault.NoTls None section entry links (resolved, never) = never
+no_link_fault l fault.Overflow (Some o) section entry links (resolved, (sound, here, before)) =
+    links.fits o section entry here
 no_link_fault l fault.Overflow None section entry links (resolved, never) = never

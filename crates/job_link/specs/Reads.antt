@@ -9,7 +9,7 @@ use Rattle.sequence_match.specs.Faults.{AreSites}
 use Rattle.job_link.specs.declared.images.ReadObject.{ReadObject}
 use Rattle.job_link.specs.declared.reading.ReadRefusal.{ReadRefusal}
 use Rattle.job_link.specs.declared.writable.WritableSections.{WritableSections}
-use Rattle.job_link.specs.Given.{Given, IsFileFault, IsFirstFaulty, IsGiven, IsTaken}
+use Rattle.job_link.specs.Given.{Given, IsFileFault, IsFirstFaulty, IsGivenImage, IsTaken}
 
 -- what a refusal says of files by these names; nothing when memory runs out
 abbrev pub IsReadRefusal : WritableSections → (List ℕ → List ℕ) → List (List ℕ) → ReadRefusal → Type 0
@@ -38,6 +38,6 @@ kinds_of images = map (λ (g : Given). g.kind) images
 -- images of the job's kinds, in image order; those of these numbers have been read
 pub record IsReadIn (bytes : List ℕ → List ℕ) (job : JobParts) (numbers : List ℕ) (images : List Given) : Type 0 where
   pub kinds : kinds_of images ≡ map (λ (image : Image). image.kind) job.images
-  pub given : All IsGiven images
+  pub given : All IsGivenImage images
   pub objects : (k : ℕ) → k < length job.images → Contains numbers (k + 1)
       → slice_index_or (map (λ (g : Given). g.objects) images) k [] ≡ slice_index_or (objects_of bytes job) k []

@@ -2,7 +2,7 @@
 
 ghost use Rattle.std.specs.Prelude.{◌≡◌, [], ◌∷◌, ◌++◌, IfErr, IfOk, OnOk, map};
 ghost use Rattle.sequence_match.specs.Faults.{AreSites};
-ghost use Rattle.job_link.specs.Given.{IsFileFault, IsGiven, IsSound, IsTaken};
+ghost use Rattle.job_link.specs.Given.{IsFileFault, IsGivenImage, IsSoundObject, IsTaken};
 
 use crate::writable::WritableSections;
 use elf_object::{Object, ObjectFault};
@@ -56,7 +56,7 @@ pub struct ImageObjects<'a> {
 
 impl<'a> Model for ImageObjects<'a> {
     ghost use Rattle.std.specs.Prelude.{map};
-    ghost use Rattle.job_link.specs.Given.{Given, IsGiven};
+    ghost use Rattle.job_link.specs.Given.{Given, IsGivenImage};
 
     ghost Value = { Given };
 
@@ -66,7 +66,7 @@ impl<'a> Model for ImageObjects<'a> {
       sites = map (λ own. own.items) image.sites.items;
     } };
 
-    ghost invariant = { λ image. IsGiven (record {
+    ghost invariant = { λ image. IsGivenImage (record {
       kind = image.kind;
       objects = image.objects.items;
       sites = map (λ own. own.items) image.sites.items;
@@ -77,7 +77,7 @@ impl<'a> ImageObjects<'a> {
     /// No objects yet.
     pub(crate) fn new(alloc: Global, kind: ImageKind) -> Self
         ensures value { result ≡ record { kind = kind; objects = []; sites = [] } }
-        ensures given { IsGiven result }
+        ensures given { IsGivenImage result }
     {
         ImageObjects {
             kind,
@@ -89,7 +89,7 @@ impl<'a> ImageObjects<'a> {
     /// The kind of image to link.
     pub fn kind(&self) -> ImageKind
         ensures kind { result ≡ self.now.kind }
-        ensures given { IsGiven self.now }
+        ensures given { IsGivenImage self.now }
     {
         self.kind
     }
@@ -97,7 +97,7 @@ impl<'a> ImageObjects<'a> {
     /// Its objects, in the order of the job.
     pub fn objects(&self) -> &[Object<'a>]
         ensures objects { result.now ≡ self.now.objects }
-        ensures given { IsGiven self.now }
+        ensures given { IsGivenImage self.now }
     {
         self.objects.as_slice()
     }
@@ -105,18 +105,18 @@ impl<'a> ImageObjects<'a> {
     /// The sequences of each object.
     pub fn sites(&self) -> &[Vec<Site>]
         ensures sites { map (λ own. own.items) result.now ≡ self.now.sites }
-        ensures given { IsGiven self.now }
+        ensures given { IsGivenImage self.now }
     {
         self.sites.as_slice()
     }
 
     /// Adds an object with its sequences.
     pub(crate) fn push(&mut self, read: ReadObject<'a>) -> Result<(), AllocError>
-        requires sound { IsSound read.object }
+        requires sound { IsSoundObject read.object }
         requires sites { AreSites read.object read.sites.items }
         ensures kind { self.new.kind ≡ self.old.kind }
         ensures objects { OnOk result (self.new.objects ≡ self.old.objects ++ read.entry.object ∷ []) }
-        ensures given { IsGiven self.new }
+        ensures given { IsGivenImage self.new }
     {
         self.objects.reserve(1)?;
         self.sites.reserve(1)?;

@@ -3,7 +3,7 @@
 ghost use Rattle.std.specs.Prelude.{◌≡◌, ◌≤◌, ◌-◌, [], All, IfErr, IfOk, OnOk, length, map, slice_set};
 ghost use Rattle.std.specs.List.{AllZip};
 ghost use Rattle.job_text.specs.declared.images.Image.{Image as DeclaredImage};
-ghost use Rattle.job_link.specs.Given.{Allows, AreGiven, Given, IsGiven, IsTaken};
+ghost use Rattle.job_link.specs.Given.{Allows, AreGiven, Given, IsGivenImage, IsTaken};
 ghost use Rattle.job_link.specs.Mentions.{bytes_in, mentions_of};
 ghost use Rattle.job_link.specs.Reads.{kinds_of, IsReading, IsReadRefusal};
 
@@ -43,7 +43,7 @@ impl From<AllocError> for ReadRefusal<'_> {
 fn empty_images<'a>(alloc: Global, job: &Job) -> Result<Vec<ImageObjects<'a>>, AllocError>
     ensures kinds { IfOk result (λ images. kinds_of images.items
         ≡ map (λ (image : DeclaredImage). image.kind) job.now.images) }
-    ensures given { IfOk result (λ images. All IsGiven images.items) }
+    ensures given { IfOk result (λ images. All IsGivenImage images.items) }
     ensures empty { IfOk result (λ images. All (λ (image : Given). image.objects ≡ []) images.items) }
 {
     let mut images = Vec::with_capacity(alloc, job.images().len())?;
@@ -99,7 +99,7 @@ fn read_image<'j, 'a, R: Threads + Sync>(
 ) -> Result<ImageObjects<'a>, ReadRefusal<'j>>
     ensures kind { IfOk result (λ read. read.kind ≡ image.now.kind) }
     ensures objects { IfOk result (λ read. read.objects ≡ map (bytes_in files.now) image.now.objects) }
-    ensures given { IfOk result IsGiven }
+    ensures given { IfOk result IsGivenImage }
     ensures taken { OnOk result (All (λ name. IsTaken writable (bytes_in files.now name)) image.now.objects) }
     ensures allowed { IfOk result (λ read. All (Allows writable) read.objects) }
     ensures refused { IfErr result (IsReadRefusal writable (bytes_in files.now) image.now.objects) }

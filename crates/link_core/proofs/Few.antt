@@ -18,15 +18,17 @@ use Rattle.link_faults.specs.ImageKinds.{is_moved}
 use Rattle.sequence_forms.specs.declared.places.Site.{Site}
 use Rattle.sequence_match.specs.Faults.{AreSites}
 use Rattle.link_needs.specs.Linking.{Linking, block_offset, choice}
-use Rattle.link_needs.specs.Needs.{as_list, calls, entries, got_size, got_start, is_kept, needs, object_needs}
-use Rattle.link_needs.specs.Needs.{object_needs_from, reaching, relocation_need, site_needs, site_needs_from, sorted_by}
+use Rattle.link_needs.specs.Needs.{calls, entries, got_size, got_start, is_kept, needs, object_needs}
+use Rattle.link_needs.specs.Needs.{reaching, relocation_need, site_needs, sorted_by}
 use Rattle.link_tables.specs.Dynamic.{entry_relocations, got_relocations, image_relocations, need_relocations}
-use Rattle.link_tables.specs.Dynamic.{object_relocations, object_relocations_from, relatives, word_relocations}
+use Rattle.link_tables.specs.Dynamic.{object_relocations, relatives, word_relocations}
 use Rattle.link_tables.specs.Faults.{FitsLimits}
 use Rattle.link_needs.specs.Given.{FitsTable, IsGiven}
 use Rattle.link_core.proofs.FewEntries.{length-entries, others, others-append, others-le, total_size-le}
 use Rattle.link_core.proofs.FewLists.{length-each, length-sorted_by}
 use Rattle.link_core.proofs.FewSites.{of_object}
+use Rattle.tls_symbols.specs.Definitions.{flat_map_from}
+use Rattle.std.specs.Prelude.{option_to_list}
 
 -- a relocation opens a sequence, or reaches an address, or is an address: each asks for one entry or is one relocation
 -- itself, and an entry has at most two; the run time's word comes besides
@@ -37,9 +39,9 @@ pub record AreFew (l : Linking) : Type 0 where
 
 -- ** what sites need
 
-as_list-le : (need : Option Need) → length (as_list need) ≤ 1
-as_list-le None = omega arith
-as_list-le (Some need) = omega arith
+option_to_list-le : (need : Option Need) → length (option_to_list need) ≤ 1
+option_to_list-le None = omega arith
+option_to_list-le (Some need) = omega arith
 
 runtime-le : (b : Bool)
     → (others (if b then RuntimeWord ∷ [] else []) ≡ 0) × (length (if b then RuntimeWord ∷ [] else []) ≤ 1)
@@ -51,9 +53,9 @@ module _ (l : Linking) where
   of_site : (o : ℕ) (site : Site) → (length (site_needs l o site) ≤ 2) × (others (site_needs l o site) ≤ 1)
   unfolding site_needs
   of_site o site =
-      let own = as_list (option_and_then (relocation_need l o) (reaching site (choice l o site))) in
+      let own = option_to_list (option_and_then (relocation_need l o) (reaching site (choice l o site))) in
       let word = if is_kept (choice l o site) && calls site.form then RuntimeWord ∷ [] else [] in
-      let few = as_list-le (option_and_then (relocation_need l o) (reaching site (choice l o site))) in
+      let few = option_to_list-le (option_and_then (relocation_need l o) (reaching site (choice l o site))) in
       let called = runtime-le (is_kept (choice l o site) && calls site.form) in
       let both : length own + length word ≤ 2 = omega (arith, few, called.1) in
       let one : others own + others word ≤ 1 = omega (arith, others-le own, few, called.0) in
@@ -71,14 +73,14 @@ module _ (l : Linking) where
       )
 
   of_all_sites : (o : ℕ) (all : List (List Site))
-      → (length (site_needs_from l o all) ≤ 2 * sum_by length all)
-      × (others (site_needs_from l o all) ≤ sum_by length all)
+      → (length (flat_map_from (λ o. flat_map (site_needs l o)) o all) ≤ 2 * sum_by length all)
+      × (others (flat_map_from (λ o. flat_map (site_needs l o)) o all) ≤ sum_by length all)
   of_all_sites o [] = (omega arith, omega arith)
   of_all_sites o (own ∷ all) =
       let one = of_sites o own in
       let more = of_all_sites (o + 1) all in
       let first = flat_map (site_needs l o) own in
-      let rest = site_needs_from l (o + 1) all in (
+      let rest = flat_map_from (λ o. flat_map (site_needs l o)) (o + 1) all in (
         omega (arith, length-append first rest, sum_by-cons length own all, one.0, more.0),
         omega (arith, others-append first rest, sum_by-cons length own all, one.1, more.1),
       )
@@ -88,7 +90,8 @@ module _ (l : Linking) where
   -- sequences, address fields and addresses are no more than relocations
   of_objects : (o : ℕ) (all : List (List Site)) (objects : List (List ℕ)) → length all ≡ length objects
       → ((k : ℕ) → k < length objects → AreSites (get_or objects k []) (get_or all k []))
-      → sum_by length all + (length (object_needs_from l o objects) + length (object_relocations_from l o objects))
+      → sum_by length all +
+          (length (flat_map_from (object_needs l) o objects) + length (flat_map_from (object_relocations l) o objects))
       ≤ relocation_count objects
   of_objects o [] [] same are = omega arith
   of_objects o [] (b ∷ objects) same are = absurd (omega arith)
@@ -97,8 +100,8 @@ module _ (l : Linking) where
     arith,
     sum_by-cons length own all,
     sum_by-cons own_count b objects,
-    length-append (object_needs l o b) (object_needs_from l (o + 1) objects),
-    length-append (object_relocations l o b) (object_relocations_from l (o + 1) objects),
+    length-append (object_needs l o b) (flat_map_from (object_needs l) (o + 1) objects),
+    length-append (object_relocations l o b) (flat_map_from (object_relocations l) (o + 1) objects),
     of_object l o b own (are 0 (omega arith)),
     of_objects (o + 1) all objects (omega arith) (λ k h. are (suc k) (omega arith)),
   )
@@ -130,21 +133,25 @@ module _ (l : Linking) where
     length-starts (got_start l) (entries l),
   )
 
-  of_relatives : length (relatives l) ≤ length (object_relocations_from l 0 l.objects)
+  of_relatives : length (relatives l) ≤ length (flat_map_from (object_relocations l) 0 l.objects)
   unfolding relatives
   of_relatives =
-      let all = object_relocations_from l 0 l.objects in
+      let all = flat_map_from (object_relocations l) 0 l.objects in
       elim (is_moved l.kind) as (λ b. length (if b then sorted_by (λ r. r.place) all else []) ≤ length all) [
         | true ↦ omega (arith, length-sorted_by (λ r. r.place) all)
         | false ↦ omega arith
       ]
 
-  of_needs : (length (needs l) ≡ length (site_needs_from l 0 l.sites) + length (object_needs_from l 0 l.objects))
-      × (others (needs l) ≡ others (site_needs_from l 0 l.sites) + others (object_needs_from l 0 l.objects))
+  of_needs : (length (needs l) ≡ length (flat_map_from (λ o. flat_map (site_needs l o)) 0 l.sites) + length
+      (flat_map_from (object_needs l) 0 l.objects))
+      × (others (needs l) ≡ others (flat_map_from (λ o. flat_map (site_needs l o)) 0 l.sites) + others
+          (flat_map_from (object_needs l) 0 l.objects))
   unfolding needs
   of_needs = (
-    length-append (site_needs_from l 0 l.sites) (object_needs_from l 0 l.objects),
-    others-append (site_needs_from l 0 l.sites) (object_needs_from l 0 l.objects),
+    length-append (flat_map_from (λ o. flat_map (site_needs l o)) 0 l.sites)
+        (flat_map_from (object_needs l) 0 l.objects),
+    others-append (flat_map_from (λ o. flat_map (site_needs l o)) 0 l.sites)
+        (flat_map_from (object_needs l) 0 l.objects),
   )
 
   of_entries : length (entries l) ≤ others (needs l) + 1
@@ -162,7 +169,7 @@ few l given limits =
     let sites = of_all_sites l 0 l.sites in
     let count = limits.few in
     let own = of_needs l in
-    let more = others-le (object_needs_from l 0 l.objects) in
+    let more = others-le (flat_map_from (object_needs l) 0 l.objects) in
     let table = of_entries l in
     record {
       needs = omega (arith, all, count, own.0, sites.0);

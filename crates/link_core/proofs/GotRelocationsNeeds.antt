@@ -1,7 +1,7 @@
 -- What a loader may rely on of the entries of the table.
 use Rattle.std.proofs.Common.{◌≡◌, ◌∙◌, ◌+◌, ◌<◌, ◌≤◌, ◌⊎◌, ◌&&◌, ℕ, zero, suc, Bool, true, false, not, List, [], ◌∷◌}
 use Rattle.std.proofs.Common.{length, filter, Option, Some, None, inl, inr, refl, sym, ap, subst, arith}
-use Rattle.std.specs.Prelude.{is_some, option_and_then, option_map, slice_index_or, if◌then◌else◌}
+use Rattle.std.specs.Prelude.{is_some, nat_eq, option_and_then, option_map, slice_index_or, if◌then◌else◌}
 use Rattle.std.specs.List.{All, Contains, flat_map, range_with_len}
 use Rattle.std.proofs.lemmas.List.Elements.{All-append, All-cons, All-contains, All-contains_itself, All-filter}
 use Rattle.std.proofs.lemmas.List.Elements.{All-head, All-nil, All-tail}
@@ -35,7 +35,7 @@ use Rattle.got_pairs.specs.declared.need.Need.TheVariants.{ModulePair, SymbolPai
 use Rattle.got_pairs.specs.declared.need.Need.TheVariants.{AddressWord, RuntimeWord}
 use Rattle.got_pairs.specs.declared.need.Target.{Target}
 use Rattle.got_pairs.specs.declared.need.Target.TheVariants as target
-use Rattle.got_pairs.specs.Needs.{by_group, distinct, entries as entries_of, group_of, groups, of_group, same_group}
+use Rattle.got_pairs.specs.Needs.{by_group, distinct, entries as entries_of, group_of, of_group}
 use Rattle.got_pairs.specs.Needs.{same_need, size_of, start_from}
 use Rattle.link_needs.specs.Refusals.{asks_storage}
 use Rattle.link_faults.specs.ImageKinds.{is_module}
@@ -44,13 +44,15 @@ use Rattle.relax_sites.specs.declared.choices.Choice.TheVariants.{Keep, GdLe, Gd
 use Rattle.relax_sites.specs.declared.rows.NewField.{NewField}
 use Rattle.relax_sites.specs.Rows.{new_field}
 use Rattle.link_needs.specs.Linking.{Linking, address, binding, choice, object, offset, sites_at}
-use Rattle.link_needs.specs.Needs.{address_needs, as_list, calls, entries, is_kept, need_by, needs, new_relocation}
-use Rattle.link_needs.specs.Needs.{object_needs, object_needs_from, own_word, reaching, relocation_need, section_needs}
-use Rattle.link_needs.specs.Needs.{site_needs, site_needs_from, target_by, address_fields, uses_runtime}
+use Rattle.link_needs.specs.Needs.{address_needs, calls, entries, is_kept, need_by, needs, new_relocation}
+use Rattle.link_needs.specs.Needs.{object_needs, own_word, reaching, relocation_need, section_needs}
+use Rattle.link_needs.specs.Needs.{site_needs, target_by, address_fields, uses_runtime}
 use Rattle.link_tables.specs.Dynamic.{imports}
 use Rattle.link_tables.specs.Faults.{IsSound}
 use Rattle.link_needs.specs.Given.{IsGiven}
 use Rattle.link_core.proofs.GotRelocationsSites.{known, segment, IsKnown}
+use Rattle.tls_symbols.specs.Definitions.{flat_map_from}
+use Rattle.std.specs.Prelude.{option_to_list}
 
 -- ** what an entry asks of an image of this kind
 
@@ -81,7 +83,7 @@ module _ (l : Linking) where
       → (o e : ℕ) (bound : Option Binding)
       → ((found : SymbolRef) → bound ≡ Some (Here found) → asks ≡ true → (0 < segment l) × (offset l found ≤ segment l))
       → (is_startup bound ≡ true → 0 < length (imports l))
-      → All S (as_list (option_map f (target_by l o e bound)))
+      → All S (option_to_list (option_map f (target_by l o e bound)))
   made f asks suits o e None here import = All-nil S
   made f asks suits o e (Some Runtime) here import = All-nil S
   made f asks suits o e (Some (Startup image)) here import =
@@ -96,7 +98,7 @@ module _ (l : Linking) where
     both_true s t p q = rw (p, q) refl
 
     pair : (asks_storage l.kind TlsGd bound ≡ true → 0 < segment l)
-        → All S (as_list (option_map SymbolPair (target_by l o e bound)))
+        → All S (option_to_list (option_map SymbolPair (target_by l o e bound)))
     pair stored =
         let asked : (found : SymbolRef) → bound ≡ Some (Here found) → is_module l.kind ≡ true
         → asks_storage l.kind TlsGd bound ≡ true = λ found is asks.
@@ -105,7 +107,7 @@ module _ (l : Linking) where
         (λ found is asks. (stored (asked found is asks), inside found is)) import
 
     descriptor : (asks_storage l.kind GotPc32TlsDesc bound ≡ true → 0 < segment l)
-        → All S (as_list (option_map Descriptor (target_by l o e bound)))
+        → All S (option_to_list (option_map Descriptor (target_by l o e bound)))
     descriptor stored =
         made Descriptor true (λ x suits. suits) o e bound
         (λ found is asks. (stored (ap (asks_storage l.kind GotPc32TlsDesc) is), inside found is)) import
@@ -113,7 +115,7 @@ module _ (l : Linking) where
     -- an offset's word is asked for by its own type, and in the place of a pair and of a descriptor
     offset_word : (kind : RelocationKind) → (kind ≡ TlsGd) ⊎ ((kind ≡ GotTpOff) ⊎ (kind ≡ GotPc32TlsDesc))
         → (asks_storage l.kind kind bound ≡ true → 0 < segment l)
-        → All S (as_list (option_map SymbolWord (target_by l o e bound)))
+        → All S (option_to_list (option_map SymbolWord (target_by l o e bound)))
     offset_word kind which stored =
         made SymbolWord (is_module l.kind) (λ x suits. suits) o e bound
         (λ found is asks. (stored (asked found is asks which), inside found is)) import
@@ -131,7 +133,7 @@ module _ (l : Linking) where
 
     -- of a sequence that is kept
     kept : (form : Form) → (asks_storage l.kind (row form).first bound ≡ true → 0 < segment l)
-        → All S (as_list (need_by l o e bound (row form).first))
+        → All S (option_to_list (need_by l o e bound (row form).first))
     unfolding row
     kept Gd stored = pair stored
     kept GdInd stored = pair stored
@@ -175,17 +177,17 @@ bound_alike objects startup o x y kinds symbols = λ i.
 module _ (l : Linking) (o : ℕ) (site : Site) (is : IsKnown l o site) where
   -- of a sequence that is rewritten
   new_suits : (f : Option NewField) → IsNewKind site.form f
-      → All (S l) (as_list (option_and_then (relocation_need l o) (option_map (new_relocation site) f)))
+      → All (S l) (option_to_list (option_and_then (relocation_need l o) (option_map (new_relocation site) f)))
   unfolding relocation_need
   new_suits None h = All-nil (S l)
   new_suits (Some f) (inl offset_is) =
       let P : RelocationKind → Type 0 = λ kind.
-      All (S l) (as_list (need_by l o site.symbol (binding l o (new_relocation site f)) kind)) in
+      All (S l) (option_to_list (need_by l o site.symbol (binding l o (new_relocation site f)) kind)) in
       subst P (sym offset_is) (All-nil (S l))
   new_suits (Some f) (inr h) =
       let P : RelocationKind → Type 0 = λ kind.
-      All (S l) (as_list (need_by l o site.symbol (binding l o (new_relocation site f)) kind)) in
-      let Q : Option Binding → Type 0 = λ bound. All (S l) (as_list (need_by l o site.symbol bound GotTpOff)) in
+      All (S l) (option_to_list (need_by l o site.symbol (binding l o (new_relocation site f)) kind)) in
+      let Q : Option Binding → Type 0 = λ bound. All (S l) (option_to_list (need_by l o site.symbol bound GotTpOff)) in
       let bound = binding l o (first_of site) in
       let word = offset_word l o site.symbol bound is.inside is.imported (row site.form).first (which h.1) is.stored in
       subst P (sym h.0) (subst Q (same h.1) word)
@@ -202,7 +204,7 @@ module _ (l : Linking) (o : ℕ) (site : Site) (is : IsKnown l o site) where
       which (inl e) = inl e
       which (inr e) = inr (inr e)
 
-  reached_suits : (c : Choice) → All (S l) (as_list (option_and_then (relocation_need l o) (reaching site c)))
+  reached_suits : (c : Choice) → All (S l) (option_to_list (option_and_then (relocation_need l o) (reaching site c)))
   unfolding relocation_need
   reached_suits Keep = kept l o site.symbol (binding l o (first_of site)) is.inside is.imported site.form is.stored
   reached_suits c = new_suits (new_field site.form c) (new_kind site.form c)
@@ -214,7 +216,7 @@ module _ (l : Linking) (o : ℕ) (site : Site) (is : IsKnown l o site) where
   site_suits : All (S l) (site_needs l o site)
   unfolding site_needs
   site_suits =
-      All-append (S l) (as_list (option_and_then (relocation_need l o) (reaching site (choice l o site))))
+      All-append (S l) (option_to_list (option_and_then (relocation_need l o) (reaching site (choice l o site))))
       (if is_kept (choice l o site) && calls site.form then RuntimeWord ∷ [] else []) (reached_suits (choice l o site))
       (called (is_kept (choice l o site) && calls site.form))
 
@@ -229,12 +231,12 @@ flat_suits l Q f each (x ∷ xs) all =
 
 sites_suit : (l : Linking) (n : ℕ) (sites : List (List Site))
     → ((o : ℕ) → o < length sites → All (S l) (flat_map (site_needs l (n + o)) (slice_index_or sites o [])))
-    → All (S l) (site_needs_from l n sites)
+    → All (S l) (flat_map_from (λ o. flat_map (site_needs l o)) n sites)
 sites_suit l n [] each = All-nil (S l)
 sites_suit l n (own ∷ more) each =
     let P : ℕ → Type 0 = λ m. All (S l) (flat_map (site_needs l m) own) in
     let at : n + 0 ≡ n = omega arith in
-    All-append (S l) (flat_map (site_needs l n) own) (site_needs_from l (n + 1) more)
+    All-append (S l) (flat_map (site_needs l n) own) (flat_map_from (λ o. flat_map (site_needs l o)) (n + 1) more)
     (subst P at (each 0 (omega arith)))
     (sites_suit l (n + 1) more (λ o h.
     let R : ℕ → Type 0 = λ m. All (S l) (flat_map (site_needs l m) (slice_index_or more o [])) in
@@ -251,16 +253,17 @@ object_suits l o b =
     all_flat (S l) (section_needs l o b) (range_with_len 0 (section_count b))
     (λ t. all_flat (S l) (address_needs l o) (address_fields b t) (λ r. own_suits l (binding l o r)))
 
-objects_suit : (l : Linking) (o : ℕ) (objects : List (List ℕ)) → All (S l) (object_needs_from l o objects)
+objects_suit : (l : Linking) (o : ℕ) (objects : List (List ℕ)) → All (S l) (flat_map_from (object_needs l) o objects)
 objects_suit l o [] = All-nil (S l)
 objects_suit l o (b ∷ more) =
-    All-append (S l) (object_needs l o b) (object_needs_from l (o + 1) more) (object_suits l o b)
+    All-append (S l) (object_needs l o b) (flat_map_from (object_needs l) (o + 1) more) (object_suits l o b)
     (objects_suit l (o + 1) more)
 
 needs_suit : (l : Linking) → IsGiven l → IsSound l → All (S l) (needs l)
 unfolding needs
 needs_suit l given sound =
-    All-append (S l) (site_needs_from l 0 l.sites) (object_needs_from l 0 l.objects) (sites_suit l 0 l.sites each)
+    All-append (S l) (flat_map_from (λ o. flat_map (site_needs l o)) 0 l.sites)
+        (flat_map_from (object_needs l) 0 l.objects) (sites_suit l 0 l.sites each)
     (objects_suit l 0 l.objects)
   where
     each : (o : ℕ) → o < length l.sites → All (S l) (flat_map (site_needs l (0 + o)) (sites_at l o))
@@ -288,7 +291,7 @@ entries_all : (P : Need → Type 0) (xs : List Need) → All P xs → All P (ent
 unfolding entries_of
 entries_all P xs all =
     distinct_suits P (by_group xs)
-    (all_flat P (λ g. of_group g xs) groups (λ g. All-filter (λ need. same_group g (group_of need)) P xs all))
+    (all_flat P (λ g. of_group g xs) (range_with_len 0 6) (λ g. All-filter (λ need. nat_eq (group_of need) g) P xs all))
 
 -- where the run time's word is one of them its function is used
 word_starts : (at : ℕ) (ks : List Need) (k : ℕ) (d : Need) → k < length ks → slice_index_or ks k d ≡ RuntimeWord

@@ -35,15 +35,17 @@ use Rattle.elf_object.specs.Lent.{is_tls_class, is_tls_place}
 use Rattle.tls_symbols.specs.Definitions.{IsWithin}
 use Rattle.tls_symbols.specs.Faults.{differ, held_in, is_faulty, is_mismatched, is_tls_kind, names_symbol, Stands}
 use Rattle.tls_symbols.proofs.Within.{binding_within}
-use Rattle.dynamic_symbols.specs.Names.{distinct, imported_at, imported_from, imported_in, imports as imports_of}
+use Rattle.dynamic_symbols.specs.Names.{distinct, imported_at, imported_in, imports as imports_of}
 use Rattle.sequence_match.specs.Sites.{first_of}
 use Rattle.dynamic_symbols.specs.Names.{is_import}
 use Rattle.dynamic_symbols.proofs.Foreign.{bindings_by_use}
 use Rattle.link_needs.specs.Refusals.{by_storage, asks_storage}
-use Rattle.link_needs.specs.Linking.{Linking, binding, layout, object, offset, offset_in, sites_at}
+use Rattle.link_needs.specs.Linking.{Linking, binding, layout, object, offset, sites_at}
 use Rattle.link_tables.specs.Dynamic.{imports}
 use Rattle.link_tables.specs.Faults.{IsSound}
 use Rattle.link_needs.specs.Given.{IsGiven}
+use Rattle.tls_symbols.specs.Definitions.{flat_map_from}
+use Rattle.link_needs.specs.Linking.{placed_value}
 
 -- how many bytes the segment has
 abbrev pub segment : Linking → ℕ
@@ -131,7 +133,8 @@ module _ (l : Linking) (given : IsGiven l) (lawful : IsLawful (layout l)) where
     where
       by : (place : SymbolPlace) → symbol_place (object l found.object) found.symbol ≡ place
           → is_tls_place (object l found.object) place ≡ true
-          → offset_in (layout l) found.object place (symbol_value (object l found.object) found.symbol) ≤ segment l
+          → placed_value (tls_offset_of (layout l) found.object) place
+              (symbol_value (object l found.object) found.symbol) ≤ segment l
       by Undefined at h = absurd (cc)
       by Absolute at h = absurd (cc)
       by (InSection s) at h = in_section found within s at h
@@ -158,20 +161,22 @@ module _ (objects : List (List ℕ)) (startup : List (List (List ℕ))) where
 
   some_from : (n : ℕ) (sites : List (List Site)) (o : ℕ) (site : Site) → o < length sites
       → Contains (slice_index_or sites o []) site → is_import objects startup (n + o) site ≡ true
-      → 0 < length (imported_from objects startup n sites)
+      → 0 < length (flat_map_from (imported_in objects startup) n sites)
   unfolding imported_in
   some_from n [] o site h there is = absurd (omega arith)
   some_from n (own ∷ more) zero site h there is =
       let at : n + 0 ≡ n = omega arith in
       let here = some_flat (imported_at objects startup n) own there.0 site there.1 there.2
       (one_name n site (ap (λ m. is_import objects startup m site) (sym at) ∙ is)) in
-      let both = length-append (imported_in objects startup n own) (imported_from objects startup (n + 1) more) in
+      let both = length-append (imported_in objects startup n own)
+          (flat_map_from (imported_in objects startup) (n + 1) more) in
       omega (arith, both, here)
   some_from n (own ∷ more) (suc o) site h there is =
       let at : n + 1 + o ≡ n + suc o = omega arith in
       let here = ap (λ m. is_import objects startup m site) at ∙ is in
       let rest = some_from (n + 1) more o site (omega arith) there here in
-      let both = length-append (imported_in objects startup n own) (imported_from objects startup (n + 1) more) in
+      let both = length-append (imported_in objects startup n own)
+          (flat_map_from (imported_in objects startup) (n + 1) more) in
       omega (arith, both, rest)
 
 pub has_import : (l : Linking) (o : ℕ) (site : Site) → o < length l.sites → Contains (sites_at l o) site
@@ -179,7 +184,7 @@ pub has_import : (l : Linking) (o : ℕ) (site : Site) → o < length l.sites �
 unfolding imports_of
 has_import l o site h there is =
     let at : 0 + o ≡ o = omega arith in
-    some_distinct (imported_from l.objects l.startup 0 l.sites)
+    some_distinct (flat_map_from (imported_in l.objects l.startup) 0 l.sites)
     (some_from l.objects l.startup 0 l.sites o site h there (ap (λ m. is_import l.objects l.startup m site) at ∙ is))
 
 -- ** what is known of a site

@@ -9,5 +9,5 @@ use Rattle.link_tables.specs.Faults.{IsLinkFault, IsSound, IsFirstOverflow}
 -- that of a field
 pub first_fault : (l : Linking) → IsSound l → (told : LinkFault) → IsFirstOverflow l told → IsLinkFault l told
 first_fault l sound OutOfMemory is = absurd is
-first_fault l sound (At fault.Overflow (Some o) s e) is = (sound.resolved, (sound, is))
+first_fault l sound (At fault.Overflow (Some o) s e) is = (sound.resolved, (sound, is.0, is.1))
 first_fault l sound (At kind object s e) is = absurd is

@@ -1,5 +1,5 @@
 -- How many bytes the dynamic tables of an image have.
-use Rattle.std.proofs.Common.{◌≡◌, ◌+◌, ◌*◌, ◌^◌, ◌<◌, ◌≤◌, ◌||◌, ◌∙◌, ℕ, Bool, true, false, List, [], ◌∷◌, ◌++◌}
+use Rattle.std.proofs.Common.{◌≡◌, ◌+◌, ◌*◌, ◌^◌, ◌<◌, ◌≤◌, ◌∙◌, ℕ, Bool, true, false, List, [], ◌∷◌, ◌++◌}
 use Rattle.std.proofs.Common.{length, map, refl, arith, length-append, if◌then◌else◌}
 use Rattle.std.specs.Prelude.{sum_by}
 use Rattle.std.specs.List.{flat_map}
@@ -7,8 +7,10 @@ use Rattle.std.proofs.lemmas.List.{length-map}
 use Rattle.std.proofs.lemmas.List.Sums.{sum_by-cons}
 use Rattle.dynamic_symbols.specs.Names.{name_of, name_size, size_of}
 use Rattle.elf_records.specs.declared.symbol.SymbolType.TheVariants.{Tls}
+use Rattle.image_rules.specs.declared.places.FileKind.{FileKind}
+use Rattle.image_rules.specs.declared.places.FileKind.TheVariants.{Exe, Pie, Module}
 use Rattle.image_writer.specs.Contents.{Contents}
-use Rattle.image_writer.specs.Tables.{array_size, has_relocations, is_pie, name_bytes, strings, tables}
+use Rattle.image_writer.specs.Tables.{array_size, flags_entries, has_relocations, name_bytes, strings, tables}
 use Rattle.image_writer.proofs.TableSizes.{tables_long}
 use Rattle.link_faults.specs.declared.symbol_ref.SymbolRef.{SymbolRef}
 use Rattle.link_needs.specs.Linking.{Linking}
@@ -84,15 +86,20 @@ symbols_short l limits =
 
 -- ** all tables
 
+-- one entry of a flag at most
+few_flags : (flagged : Bool) (kind : FileKind) → length (flags_entries flagged kind) ≤ 1
+few_flags true kind = omega arith
+few_flags false Exe = omega arith
+few_flags false Pie = omega arith
+few_flags false Module = omega arith
+
 -- the dynamic array has ten entries at most
 pub array_short : (c : Contents) → array_size c ≤ 160
-array_short c = of_tests (has_relocations c) (c.is_flagged || is_pie c.kind)
+array_short c = of_test (has_relocations c)
   where
-    of_tests : (s t : Bool) → 16 * (6 + (if s then 3 else 0) + (if t then 1 else 0)) ≤ 160
-    of_tests true true = omega arith
-    of_tests true false = omega arith
-    of_tests false true = omega arith
-    of_tests false false = omega arith
+    of_test : (s : Bool) → 16 * (6 + (if s then 3 else 0) + length (flags_entries c.is_flagged c.kind)) ≤ 160
+    of_test true = omega (arith, few_flags c.is_flagged c.kind)
+    of_test false = omega (arith, few_flags c.is_flagged c.kind)
 
 -- the array is among them
 pub array_inside : (c : Contents) → array_size c ≤ length (tables c)

@@ -22,8 +22,8 @@ use Rattle.link_faults.specs.declared.symbol_ref.SymbolRef.{SymbolRef}
 use Rattle.link_needs.proofs.InputsLemmas.{address_small, offset_small}
 use Rattle.link_needs.proofs.PlanLemmas.{table_small}
 use Rattle.link_needs.specs.Given.{FitsTable, IsGiven}
-use Rattle.link_needs.specs.Linking.{Linking, address, address_in, binding, block_offset, layout, object, offset}
-use Rattle.link_needs.specs.Linking.{offset_in, place}
+use Rattle.link_needs.specs.Linking.{Linking, address, binding, block_offset, layout, object, offset}
+use Rattle.link_needs.specs.Linking.{place}
 use Rattle.link_needs.specs.Needs.{got_size, got_start, relocation_need, stub_start}
 use Rattle.link_needs.specs.Values.{counts_from_thread_pointer, number_beside, other_number, own_number}
 use Rattle.tls_layout.specs.Places.{address_of, tls_offset_of}
@@ -34,6 +34,7 @@ use Rattle.link_core.proofs.NarrowSums.{AreSmall}
 use Rattle.link_core.proofs.NewFields.{block_near, entry_low}
 use Rattle.link_core.proofs.StandingPlaces.{field_in}
 use Rattle.link_core.proofs.NarrowSymbols.{IsKept, bound_kept}
+use Rattle.link_needs.specs.Linking.{placed_value}
 
 or_zero : (found : Option ℕ) (limit : ℕ) → ((n : ℕ) → found ≡ Some n → n ≤ limit) → unwrap_or found 0 ≤ limit
 or_zero None limit small = omega arith
@@ -57,7 +58,7 @@ module _ (l : Linking) (given : IsGiven l) (limits : FitsTable l) where
       let b = object l found.object in
       let e : address l found
       ≡ unwrap_or (address_of (layout l) found.object s.section) 0 + symbol_value b found.symbol =
-      ap (λ p. address_in (layout l) found.object p (symbol_value b found.symbol)) s.place_is in
+      ap (λ p. placed_value (address_of (layout l) found.object) p (symbol_value b found.symbol)) s.place_is in
       let low = or_zero (address_of (layout l) found.object s.section) (2 ^ 25)
       (λ n is. address_small (layout l) found.object s.section n limits.lawful is) in
       omega (arith, e, low, value_small found kept)
@@ -69,7 +70,7 @@ module _ (l : Linking) (given : IsGiven l) (limits : FitsTable l) where
       let b = object l found.object in
       let e : offset l found
       ≡ unwrap_or (tls_offset_of (layout l) found.object s.section) 0 + symbol_value b found.symbol =
-      ap (λ p. offset_in (layout l) found.object p (symbol_value b found.symbol)) s.place_is in
+      ap (λ p. placed_value (tls_offset_of (layout l) found.object) p (symbol_value b found.symbol)) s.place_is in
       let low = or_zero (tls_offset_of (layout l) found.object s.section) (2 ^ 20)
       (λ n is. offset_small (layout l) found.object s.section n limits.lawful is) in
       omega (arith, e, low, value_small found kept)

@@ -11,7 +11,7 @@ use Rattle.tls_layout.specs.Places.{section_named}
 use Rattle.tls_layout.proofs.LawsOfPlaces.{lie_in_classes}
 use Rattle.link_needs.specs.Linking.{Linking, layout}
 use Rattle.link_needs.specs.Needs.{got_start, sorted_by}
-use Rattle.link_tables.specs.Dynamic.{image_relocations, got_relocations, object_relocations_from, relatives}
+use Rattle.link_tables.specs.Dynamic.{image_relocations, got_relocations, relatives}
 use Rattle.link_needs.specs.Given.{FitsTable, IsGiven}
 use Rattle.link_core.specs.Images.{contents}
 use Rattle.link_core.proofs.GotRelocations.{got_above}
@@ -19,6 +19,8 @@ use Rattle.link_core.proofs.GotRelocationsRows.{got_rises}
 use Rattle.link_core.proofs.RelativesApart.{IsRelative, all_sorted, rising_append, rising_from, sorted_rise, width_of}
 use Rattle.link_core.proofs.RelativesFields.{IsField, all_from, apart_from}
 use Rattle.link_core.proofs.RelativesParts.{class_part, held_in}
+use Rattle.link_tables.specs.Dynamic.{object_relocations}
+use Rattle.tls_symbols.specs.Definitions.{flat_map_from}
 
 -- each is the relocation of a field
 pub are_fields : (l : Linking) → IsGiven l → All (IsField l 0) (relatives l)
@@ -26,9 +28,9 @@ unfolding relatives
 are_fields l given = of_test (is_moved l.kind)
   where
     of_test : (t : Bool) → All (IsField l 0)
-        (if t then sorted_by (λ r. r.place) (object_relocations_from l 0 l.objects) else [])
+        (if t then sorted_by (λ r. r.place) (flat_map_from (object_relocations l) 0 l.objects) else [])
     of_test true =
-        all_sorted (λ r. r.place) (IsField l 0) (object_relocations_from l 0 l.objects)
+        all_sorted (λ r. r.place) (IsField l 0) (flat_map_from (object_relocations l) 0 l.objects)
         (all_from l given 0 l.objects refl)
     of_test false = All-nil (IsField l 0)
 
@@ -68,11 +70,11 @@ rising_relatives l given limits =
     of_test (is_moved l.kind) (All-weaker (IsField l 0) IsRelative (relative l) (relatives l) (are_fields l given))
   where
     of_test : (t : Bool)
-        → All IsRelative (if t then sorted_by (λ r. r.place) (object_relocations_from l 0 l.objects) else [])
-        → AreRising (if t then sorted_by (λ r. r.place) (object_relocations_from l 0 l.objects) else [])
+        → All IsRelative (if t then sorted_by (λ r. r.place) (flat_map_from (object_relocations l) 0 l.objects) else [])
+        → AreRising (if t then sorted_by (λ r. r.place) (flat_map_from (object_relocations l) 0 l.objects) else [])
     of_test true all =
-        rising_from 0 (sorted_by (λ r. r.place) (object_relocations_from l 0 l.objects)) all
-        (sorted_rise (object_relocations_from l 0 l.objects) (apart_from l given 0 l.objects refl))
+        rising_from 0 (sorted_by (λ r. r.place) (flat_map_from (object_relocations l) 0 l.objects)) all
+        (sorted_rise (flat_map_from (object_relocations l) 0 l.objects) (apart_from l given 0 l.objects refl))
     of_test false all = tt
 
 -- they lie before the table

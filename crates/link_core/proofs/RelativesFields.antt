@@ -24,12 +24,13 @@ use Rattle.tls_layout.specs.Places.{address_of, class_of, section_named}
 use Rattle.tls_layout.proofs.LawsOfPlaces.{addresses_apart, have_addresses}
 use Rattle.tls_layout.proofs.LawsOfSections.{finds_sections}
 use Rattle.link_needs.specs.Linking.{Linking, layout, object, place}
-use Rattle.link_tables.specs.Dynamic.{field_relocations, is_absolute, object_relocations, object_relocations_from}
+use Rattle.link_tables.specs.Dynamic.{field_relocations, is_absolute, object_relocations}
 use Rattle.link_tables.specs.Dynamic.{relative, section_relocations, sum_of}
 use Rattle.link_needs.specs.Given.{IsGiven}
 use Rattle.link_core.proofs.RelativesApart.{AreApart, IsApart, apart_append, apart_range}
 use Rattle.link_tables.proofs.RelativesTables.{IsPlaced, IsApart as FieldsApart, apart_first, apart_rest, placed_section}
 use Rattle.link_core.proofs.GotRelocationsSites.{has_value}
+use Rattle.tls_symbols.specs.Definitions.{flat_map_from}
 
 -- ** where a relocation lies
 
@@ -202,13 +203,13 @@ module _ (l : Linking) (given : IsGiven l) where
 
   -- those of object o and the later ones
   pub all_from : (o : ℕ) (bs : List (List ℕ)) → drop o l.objects ≡ bs
-      → All (IsField l o) (object_relocations_from l o bs)
+      → All (IsField l o) (flat_map_from (object_relocations l) o bs)
   all_from o [] rest = All-nil (IsField l o)
   all_from o (b ∷ more) rest =
       let is = dropped_is l.objects o [] b more rest in
-      All-append (IsField l o) (object_relocations l o b) (object_relocations_from l (o + 1) more)
+      All-append (IsField l o) (object_relocations l o b) (flat_map_from (object_relocations l) (o + 1) more)
       (subst (λ c. All (IsField l o) (object_relocations l o c)) is.here (all_own o is.within))
-      (All-weaker (IsField l (o + 1)) (IsField l o) (from_next o) (object_relocations_from l (o + 1) more)
+      (All-weaker (IsField l (o + 1)) (IsField l o) (from_next o) (flat_map_from (object_relocations l) (o + 1) more)
       (all_from (o + 1) more is.rest))
 
   -- those of an object share no byte with those of the later ones
@@ -222,11 +223,12 @@ module _ (l : Linking) (given : IsGiven l) where
       (object_relocations l o (object l o)) (all_object l given o within)
 
   -- they share no byte
-  pub apart_from : (o : ℕ) (bs : List (List ℕ)) → drop o l.objects ≡ bs → AreApart (object_relocations_from l o bs)
+  pub apart_from : (o : ℕ) (bs : List (List ℕ)) → drop o l.objects ≡ bs → AreApart
+      (flat_map_from (object_relocations l) o bs)
   apart_from o [] rest = tt
   apart_from o (b ∷ more) rest =
       let is = dropped_is l.objects o [] b more rest in
-      let later = object_relocations_from l (o + 1) more in
+      let later = flat_map_from (object_relocations l) (o + 1) more in
       apart_append (object_relocations l o b) later
       (subst (λ c. AreApart (object_relocations l o c)) is.here (apart_object l given o is.within))
       (apart_from (o + 1) more is.rest)

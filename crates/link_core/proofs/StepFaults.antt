@@ -1,5 +1,5 @@
 -- What each step of linking tells is a fault of the link.
-use Rattle.std.proofs.Common.{◌≡◌, ◌<◌, ◌≤◌, ◌^◌, ◌↔◌, ℕ, Bool, true, false, IsTrue, None, List, inl, inr, refl}
+use Rattle.std.proofs.Common.{◌≡◌, ◌<◌, ◌≤◌, ◌^◌, ◌↔◌, ℕ, Bool, true, false, IsTrue, Some, None, List, inl, inr, refl}
 use Rattle.std.proofs.Common.{subst}
 use Rattle.std.proofs.lemmas.Bool.{cases_lt}
 use Rattle.link_faults.specs.declared.fault.LinkFault.{LinkFault}
@@ -23,7 +23,7 @@ module _ (l : Linking) (resolved : AreResolved l.objects l.startup) where
     pub storage_fault : FitsLimits l → (told : LinkFault)
         → LacksStorage l.objects l.startup l.kind (tls_size (layout l).sections) told → IsLinkFault l told
     storage_fault limits OutOfMemory is = tt
-    storage_fault limits (At fault.NoTls object s e) is = (resolved, (fits, limits, is))
+    storage_fault limits (At fault.NoTls (Some o) s e) is = (resolved, (fits, limits, is))
     storage_fault limits (At kind object s e) is = absurd is
 
 -- a fault of storage that is no want of memory

@@ -27,12 +27,14 @@ use Rattle.tls_layout.specs.Places.{tls_alignment, tls_image, tls_size, initial_
 use Rattle.tls_layout.specs.Sections.{Layout}
 use Rattle.elf_object.specs.Lent.{is_tls_class, is_tls_place}
 use Rattle.tls_symbols.specs.Definitions.{same_binding}
-use Rattle.link_needs.specs.Linking.{Linking, address, layout, object, offset, offset_in}
+use Rattle.link_needs.specs.Linking.{Linking, address, layout, object, offset}
 use Rattle.link_tables.specs.Dynamic.{defined, foreign, imports, own_symbols, runtime_symbols, symbols}
 use Rattle.link_needs.specs.Given.{FitsTable, IsGiven}
 use Rattle.link_core.specs.Images.{tls_part}
 use Rattle.link_needs.specs.Needs.{uses_runtime}
 use Rattle.link_core.proofs.GotRelocationsSites.{in_section}
+use Rattle.link_needs.specs.Linking.{placed_value}
+use Rattle.tls_layout.specs.Places.{tls_offset_of}
 
 -- a symbol that is shared, and lies in a TLS segment of n bytes if it is thread-local here
 pub record IsRight (n : ℕ) (s : ImageSymbol) : Type 0 where
@@ -64,7 +66,8 @@ module _ (l : Linking) (given : IsGiven l) (limits : FitsTable l) (o e : ℕ)
   -- a place in a section of thread-local storage
   in_segment : (s : ℕ) → symbol_place (object l o) e ≡ InSection s
       → is_tls_class (section_class (object l o) s) ≡ true
-      → offset_in (layout l) o (InSection s) (symbol_value (object l o) e) ≤ tls_size (layout l).sections
+      → placed_value (tls_offset_of (layout l) o) (InSection s) (symbol_value (object l o) e) ≤ tls_size
+          (layout l).sections
   in_segment s at tls =
       in_section l given limits.lawful (record { object = o; symbol = e }) found.within s at tls
 
@@ -73,7 +76,7 @@ module _ (l : Linking) (given : IsGiven l) (limits : FitsTable l) (o e : ℕ)
       → (if is_tls_place (object l o) place then Tls
       else symbol_type (object l o) e) ≡ Tls
       → (if is_tls_place (object l o) place
-      then offset_in (layout l) o place (symbol_value (object l o) e) else address)
+      then placed_value (tls_offset_of (layout l) o) place (symbol_value (object l o) e) else address)
       ≤ tls_size (layout l).sections
   shown_inside Undefined address at shows = absurd (cc)
   shown_inside Absolute address at shows = absurd (is_shared.relative at)
@@ -81,7 +84,8 @@ module _ (l : Linking) (given : IsGiven l) (limits : FitsTable l) (o e : ℕ)
     where
       by : (t : Bool) → is_tls_class (section_class (object l o) s) ≡ t
           → (if t then Tls else symbol_type (object l o) e) ≡ Tls
-          → (if t then offset_in (layout l) o (InSection s) (symbol_value (object l o) e) else address)
+          → (if t then placed_value (tls_offset_of (layout l) o) (InSection s)
+              (symbol_value (object l o) e) else address)
           ≤ tls_size (layout l).sections
       by true is shows = in_segment s at is
       by false is shows =

@@ -14,11 +14,12 @@ use Rattle.sequence_forms.specs.declared.places.Site.{Site}
 use Rattle.link_faults.specs.declared.symbol_ref.SymbolRef.{SymbolRef}
 use Rattle.tls_symbols.specs.Bindings.{object_at}
 use Rattle.elf_records.specs.Symbols.{get_address}
-use Rattle.dynamic_symbols.specs.Names.{imported_at, imported_from, imported_in, imports, is_import, name_of}
+use Rattle.dynamic_symbols.specs.Names.{imported_at, imported_in, imports, is_import, name_of}
 use Rattle.dynamic_symbols.proofs.Lists.{all_distinct, all_flat}
 use Rattle.link_needs.specs.Linking.{Linking}
 use Rattle.link_tables.specs.Dynamic.{names, own_symbols, runtime_names, imports as imported}
 use Rattle.link_needs.specs.Needs.{uses_runtime}
+use Rattle.tls_symbols.specs.Definitions.{flat_map_from}
 
 -- a name of no zero byte
 abbrev pub IsClean : List ℕ → Type 0
@@ -62,15 +63,15 @@ module _ (objects : List (List ℕ)) (startup : List (List (List ℕ))) where
   unfolding imported_in
   clean_in o own = all_flat IsClean (imported_at objects startup o) own (clean_at o)
 
-  clean_from : (o : ℕ) (sites : List (List Site)) → All IsClean (imported_from objects startup o sites)
+  clean_from : (o : ℕ) (sites : List (List Site)) → All IsClean (flat_map_from (imported_in objects startup) o sites)
   clean_from o [] = All-nil IsClean
   clean_from o (own ∷ more) =
-      All-append IsClean (imported_in objects startup o own) (imported_from objects startup (o + 1) more)
+      All-append IsClean (imported_in objects startup o own) (flat_map_from (imported_in objects startup) (o + 1) more)
       (clean_in o own) (clean_from (o + 1) more)
 
   imports_clean : (sites : List (List Site)) → All IsClean (imports objects startup sites)
   unfolding imports
-  imports_clean sites = all_distinct IsClean (imported_from objects startup 0 sites) (clean_from 0 sites)
+  imports_clean sites = all_distinct IsClean (flat_map_from (imported_in objects startup) 0 sites) (clean_from 0 sites)
 
 -- ** the function of the run time
 

@@ -3,7 +3,7 @@
 use Rattle.std.specs.Prelude.{◌+◌, ◌-◌, ◌==◌, ◌∷◌, ◌++◌, ℕ, negsuc, List, [], Option, Some, None, fold, length}
 use Rattle.std.specs.Prelude.{unwrap_or, if◌then◌else◌}
 use Rattle.std.specs.List.{filter, flat_map}
-use Rattle.elf_records.specs.Fields.{bytes_of}
+use Rattle.elf_records.specs.Fields.{bytes_of, splice}
 use Rattle.elf_records.specs.declared.relocation.RelocationKind.TheVariants.{GotPcRel}
 use Rattle.elf_object.specs.declared.relocation.Relocation.{Relocation}
 use Rattle.elf_object.specs.Lent.{relocations}
@@ -18,9 +18,8 @@ use Rattle.placed_sections.specs.Files.{memory_bytes, offset_of, sections_file}
 use Rattle.sequence_forms.specs.declared.places.Site.{Site}
 use Rattle.tls_relocs.specs.declared.fields.Field.{Field}
 use Rattle.tls_relocs.specs.declared.fields.Field.TheVariants.{Empty}
-use Rattle.tls_relocs.specs.Fields.{field_bytes, field_patch}
+use Rattle.tls_relocs.specs.Fields.{field_bytes}
 use Rattle.tls_relocs.specs.Laid.{zeros}
-use Rattle.tls_relocs.specs.Patches.{patched}
 use Rattle.tls_relocs.specs.Values.{stored_field}
 use Rattle.link_needs.specs.Linking.{Linking, block_offset, choice, layout, object, sites_at}
 use Rattle.link_needs.specs.Needs.{entries, got_size, got_start, has_stub, need_address, new_relocation, stub_start}
@@ -61,7 +60,7 @@ with_stub l file = if has_stub l then with_part l (stub_start l) (stub_bytes l) 
 
 -- the bytes with a value at an offset; a value that doesn't fit its field leaves them
 abbrev pub with_value : ℕ → Option Field → List ℕ → List ℕ
-with_value at value bytes = patched (field_patch at (unwrap_or value Empty) ∷ []) bytes
+with_value at value bytes = splice at (field_bytes (unwrap_or value Empty)) bytes
 
 -- section t of object o with the field of a relocation written; one whose sequence is rewritten has none
 abbrev pub with_field : Linking → ℕ → ℕ → List ℕ → Relocation → List ℕ

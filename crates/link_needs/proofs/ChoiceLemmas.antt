@@ -12,7 +12,7 @@ use Rattle.relax_sites.specs.Choices.{IsChoiceOf}
 use Rattle.relax_sites.proofs.Tables.{own_choice}
 use Rattle.sequence_forms.specs.declared.forms.Form.{Form}
 use Rattle.sequence_forms.specs.declared.places.Site.{Site}
-use Rattle.link_needs.specs.Linking.{Linking, binding, choice, choices_from, choices_in, chosen, sites_at}
+use Rattle.link_needs.specs.Linking.{Linking, binding, choice, choices_from, chosen, sites_at}
 use Rattle.sequence_match.specs.Sites.{first_of}
 
 -- ** those of one object among those of all
@@ -22,14 +22,14 @@ choices_long l n [] = refl
 choices_long l n (own ∷ more) = ap suc (choices_long l (n + 1) more)
 
 choices_here : (l : Linking) (n o : ℕ) (xs : List (List Site)) → o < length xs
-    → slice_index_or (choices_from l n xs) o [] ≡ choices_in l (n + o) (slice_index_or xs o [])
+    → slice_index_or (choices_from l n xs) o [] ≡ map (choice l (n + o)) (slice_index_or xs o [])
 choices_here l n o [] there = absurd (omega (arith, there))
 choices_here l n zero (own ∷ more) there =
     let same : n ≡ n + 0 = omega arith in
-    ap (λ m. choices_in l m own) same
+    ap (λ m. map (choice l m) own) same
 choices_here l n (suc o) (own ∷ more) there =
     let same : n + 1 + o ≡ n + suc o = omega arith in
-    choices_here l (n + 1) o more (omega (arith, there)) ∙ ap (λ m. choices_in l m (slice_index_or more o [])) same
+    choices_here l (n + 1) o more (omega (arith, there)) ∙ ap (λ m. map (choice l m) (slice_index_or more o [])) same
 
 module _ (l : Linking) (held : List (Vec Choice)) (o : ℕ)
     (are : map (λ own. own.items) held ≡ choices_from l 0 l.sites) (there : o < length l.sites) where
@@ -40,14 +40,14 @@ module _ (l : Linking) (held : List (Vec Choice)) (o : ℕ)
       omega (arith, there, long)
 
   module _ (own : Vec Choice) (is : own ≡ slice_index_or held o own) where
-    pub own_choices : own.items ≡ choices_in l o (sites_at l o)
+    pub own_choices : own.items ≡ map (choice l o) (sites_at l o)
     own_choices =
         let same : 0 + o ≡ o = omega arith in
         ap (λ (own : Vec Choice). own.items) is
         ∙ sym (get_or-map (λ (own : Vec Choice). own.items) held o own [] choices_there)
         ∙ ap (λ all. slice_index_or all o []) are
         ∙ choices_here l 0 o l.sites there
-        ∙ ap (λ m. choices_in l m (sites_at l o)) same
+        ∙ ap (λ m. map (choice l m) (sites_at l o)) same
 
     module _ (k : ℕ) (inside : k < length (sites_at l o)) where
       pub choice_there : k < length own.items

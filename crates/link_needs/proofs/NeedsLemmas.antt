@@ -15,12 +15,14 @@ use Rattle.elf_object.specs.Parts.{symbol_count}
 use Rattle.sequence_forms.specs.declared.places.Site.{Site}
 use Rattle.elf_object.proofs.Ranges.{range_first, range_none}
 use Rattle.sequence_match.proofs.OwnSites.{drop_at}
-use Rattle.link_needs.specs.Linking.{Linking, choices_from, choices_in}
+use Rattle.link_needs.specs.Linking.{Linking, choices_from}
 use Rattle.link_needs.specs.declared.needs.OwnWanted.{OwnWanted}
 use Rattle.link_needs.specs.Plans.{AreOwn}
 use Rattle.std.proofs.lemmas.List.Concat.{flat_map_single}
 use Rattle.link_needs.specs.Needs.{absolutes, absolutes_from, any_stub_call, is_address_kind, is_stub_call}
-use Rattle.link_needs.specs.Needs.{object_absolutes, object_needs, object_needs_from, site_needs, site_needs_from}
+use Rattle.link_needs.specs.Needs.{object_absolutes, object_needs, site_needs}
+use Rattle.tls_symbols.specs.Definitions.{flat_map_from}
+use Rattle.link_needs.specs.Linking.{choice}
 
 -- ** numbers below an end
 
@@ -56,9 +58,9 @@ module _ {X Y Z : Type 0} (from : ℕ → List X → List Y) (step : ℕ → X �
       ∙ sym (ap (from o) (drop_at xs o d (omega (arith, long))) ∙ more o x (drop (o + 1) xs))
 
 module _ (l : Linking) (zs : List OwnWanted) (are : AllZip (AreOwn l) (range_with_len 0 (length l.objects)) zs) where
-  pub fields_found : flat_map (λ own. own.fields.items) zs ≡ object_needs_from l 0 l.objects
+  pub fields_found : flat_map (λ own. own.fields.items) zs ≡ flat_map_from (object_needs l) 0 l.objects
   fields_found =
-      all_found (object_needs_from l) (object_needs l) l.objects [] (λ o. refl) (λ o x ys. refl)
+      all_found (flat_map_from (object_needs l)) (object_needs l) l.objects [] (λ o. refl) (λ o x ys. refl)
       (λ own. own.fields.items) (AreOwn l) (λ o z own. own.fields_are) 0 (length l.objects) zs (omega arith) are
 
   pub absolutes_found : flat_map (λ own. own.absolutes.items) zs ≡ absolutes l
@@ -68,16 +70,17 @@ module _ (l : Linking) (zs : List OwnWanted) (are : AllZip (AreOwn l) (range_wit
       (λ own. own.absolutes.items) (AreOwn l) (λ o z own. own.absolutes_are) 0 (length l.objects) zs (omega arith) are
 
   module _ (each : length l.sites ≡ length l.objects) where
-    pub sites_found : flat_map (λ own. own.sites.items) zs ≡ site_needs_from l 0 l.sites
+    pub sites_found : flat_map (λ own. own.sites.items) zs ≡ flat_map_from (λ o. flat_map (site_needs l o)) 0 l.sites
     sites_found =
-        all_found (site_needs_from l) (λ o own. flat_map (site_needs l o) own) l.sites [] (λ o. refl)
+        all_found (flat_map_from (λ o. flat_map (site_needs l o))) (λ o own. flat_map (site_needs l o) own) l.sites []
+            (λ o. refl)
         (λ o x ys. refl) (λ own. own.sites.items) (AreOwn l) (λ o z own. own.sites_are) 0 (length l.objects) zs
         (omega (arith, each)) are
 
     pub choices_found : map (λ own. own.choices.items) zs ≡ choices_from l 0 l.sites
     choices_found =
         sym (flat_map_single (λ (own : OwnWanted). own.choices.items) zs)
-        ∙ all_found (choices_from l) (λ o own. choices_in l o own ∷ []) l.sites [] (λ o. refl)
+        ∙ all_found (choices_from l) (λ o own. map (choice l o) own ∷ []) l.sites [] (λ o. refl)
         (λ o x ys. refl) (λ own. own.choices.items ∷ []) (AreOwn l) (λ o z own. ap (λ ys. ys ∷ []) own.choices_are) 0
         (length l.objects) zs (omega (arith, each)) are
 

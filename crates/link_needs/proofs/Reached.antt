@@ -31,10 +31,12 @@ use Rattle.sequence_match.specs.Sites.{first_of}
 use Rattle.link_needs.specs.Given.{IsGiven}
 use Rattle.link_needs.specs.Laws.{FieldsReachEntries, HasEntry, NeedsHaveEntries, SitesReachEntries, StubsHaveTheirWord}
 use Rattle.link_needs.specs.Linking.{Linking, address, binding, choice, object, sites_at}
-use Rattle.link_needs.specs.Needs.{address_needs, any_stub_call, as_list, calls, calls_stub, entries, got_size, has_stub}
+use Rattle.link_needs.specs.Needs.{address_needs, any_stub_call, calls, calls_stub, entries, got_size, has_stub}
 use Rattle.link_needs.specs.Needs.{is_address_kind, is_kept, is_stub_call, needs, new_relocation, object_needs}
-use Rattle.link_needs.specs.Needs.{object_needs_from, own_word, reaching, relocation_need, section_needs, site_needs}
-use Rattle.link_needs.specs.Needs.{site_needs_from, inserted, sorted_by}
+use Rattle.link_needs.specs.Needs.{own_word, reaching, relocation_need, section_needs, site_needs}
+use Rattle.link_needs.specs.Needs.{inserted, sorted_by}
+use Rattle.tls_symbols.specs.Definitions.{flat_map_from}
+use Rattle.std.specs.Prelude.{option_to_list}
 
 -- ** lists
 
@@ -155,14 +157,16 @@ module _ (l : Linking) where
   -- those of the sites of an object
   from_site : (n : ℕ) (sites : List (List Site)) (o i : ℕ) (site : Site) (need : Need) → o ≡ n + i
       → i < length sites → Contains (slice_index_or sites i []) site → Contains (site_needs l o site) need
-      → Contains (site_needs_from l n sites) need
+      → Contains (flat_map_from (λ o. flat_map (site_needs l o)) n sites) need
   from_site n [] o i site need number below own has = absurd (omega arith)
   from_site n (first ∷ more) o zero site need number below own has =
       let same : o ≡ n = omega arith in
-      Contains-append_left (flat_map (site_needs l n) first) (site_needs_from l (n + 1) more) need
+      Contains-append_left (flat_map (site_needs l n) first)
+          (flat_map_from (λ o. flat_map (site_needs l o)) (n + 1) more) need
       (contains_flat (site_needs l n) first site need own (subst (λ m. Contains (site_needs l m site) need) same has))
   from_site n (first ∷ more) o (suc i) site need number below own has =
-      Contains-append_right (flat_map (site_needs l n) first) (site_needs_from l (n + 1) more) need
+      Contains-append_right (flat_map (site_needs l n) first)
+          (flat_map_from (λ o. flat_map (site_needs l o)) (n + 1) more) need
       (from_site (n + 1) more o i site need (omega arith) (omega (arith, below)) own has)
 
   calls_from : (n : ℕ) (sites : List (List Site)) (o i : ℕ) (site : Site) → o ≡ n + i → i < length sites
@@ -187,9 +191,10 @@ module _ (l : Linking) where
       → option_and_then (relocation_need l o) r ≡ Some need → Contains (site_needs l o site) need
   unfolding site_needs
   reached o site r need reach e =
-      let listed : as_list (option_and_then (relocation_need l o) (reaching site (choice l o site))) ≡ need ∷ [] =
-      ap (λ found. as_list (option_and_then (relocation_need l o) found)) reach ∙ ap as_list e in
-      Contains-append_left (as_list (option_and_then (relocation_need l o) (reaching site (choice l o site))))
+      let listed : option_to_list (option_and_then (relocation_need l o) (reaching site (choice l o site)))
+          ≡ need ∷ [] =
+      ap (λ found. option_to_list (option_and_then (relocation_need l o) found)) reach ∙ ap option_to_list e in
+      Contains-append_left (option_to_list (option_and_then (relocation_need l o) (reaching site (choice l o site))))
       (if is_kept (choice l o site) && calls site.form then RuntimeWord ∷ [] else []) need
       (subst (λ xs. Contains xs need) (sym listed) (0, omega arith, refl))
 
@@ -199,7 +204,7 @@ module _ (l : Linking) where
   called o site kept call =
       let listed : (if is_kept (choice l o site) && calls site.form then RuntimeWord ∷ [] else []) ≡ RuntimeWord ∷ [] =
       rw (kept, call) refl in
-      Contains-append_right (as_list (option_and_then (relocation_need l o) (reaching site (choice l o site))))
+      Contains-append_right (option_to_list (option_and_then (relocation_need l o) (reaching site (choice l o site))))
       (if is_kept (choice l o site) && calls site.form then RuntimeWord ∷ [] else []) RuntimeWord
       (subst (λ xs. Contains xs RuntimeWord) (sym listed) (0, omega arith, refl))
 
@@ -209,7 +214,8 @@ module _ (l : Linking) where
     unfolding needs
     of_site need has =
         entry_has l need
-        (Contains-append_left (site_needs_from l 0 l.sites) (object_needs_from l 0 l.objects) need
+        (Contains-append_left (flat_map_from (λ o. flat_map (site_needs l o)) 0 l.sites)
+            (flat_map_from (object_needs l) 0 l.objects) need
         (from_site 0 l.sites o o site need (omega arith) (omega (arith, given.each, there)) own has))
 
     pub stub_there : is_stub_call l o site ≡ true → has_stub l ≡ true
@@ -290,25 +296,30 @@ module _ (l : Linking) where
           (later (rw here at e))
 
   in_all : (o : ℕ) (sites : List (List Site)) → any_stub_call l o sites ≡ true
-      → Contains (site_needs_from l o sites) RuntimeWord
+      → Contains (flat_map_from (λ o. flat_map (site_needs l o)) o sites) RuntimeWord
   in_all o [] e = absurd (cc)
   in_all o (own ∷ more) e = of_test (list_any (is_stub_call l o) own) refl e (in_all (o + 1) more)
     where
       of_test : (t : Bool) → list_any (is_stub_call l o) own ≡ t
           → (if t then true else any_stub_call l (o + 1) more) ≡ true
-          → (any_stub_call l (o + 1) more ≡ true → Contains (site_needs_from l (o + 1) more) RuntimeWord)
-          → Contains (flat_map (site_needs l o) own ++ site_needs_from l (o + 1) more) RuntimeWord
+          → (any_stub_call l (o + 1) more ≡ true → Contains
+              (flat_map_from (λ o. flat_map (site_needs l o)) (o + 1) more) RuntimeWord)
+          → Contains (flat_map (site_needs l o) own ++ flat_map_from (λ o. flat_map (site_needs l o))
+              (o + 1) more) RuntimeWord
       of_test true here e later =
-          Contains-append_left (flat_map (site_needs l o) own) (site_needs_from l (o + 1) more) RuntimeWord
+          Contains-append_left (flat_map (site_needs l o) own)
+              (flat_map_from (λ o. flat_map (site_needs l o)) (o + 1) more) RuntimeWord
           (in_sites o own here)
       of_test false here e later =
-          Contains-append_right (flat_map (site_needs l o) own) (site_needs_from l (o + 1) more) RuntimeWord (later e)
+          Contains-append_right (flat_map (site_needs l o) own)
+              (flat_map_from (λ o. flat_map (site_needs l o)) (o + 1) more) RuntimeWord (later e)
 
 pub stubs_have_their_word : StubsHaveTheirWord
 unfolding has_stub needs
 stubs_have_their_word l e =
     entry_has l RuntimeWord
-    (Contains-append_left (site_needs_from l 0 l.sites) (object_needs_from l 0 l.objects) RuntimeWord (in_all l 0 l.sites e))
+    (Contains-append_left (flat_map_from (λ o. flat_map (site_needs l o)) 0 l.sites)
+        (flat_map_from (object_needs l) 0 l.objects) RuntimeWord (in_all l 0 l.sites e))
 
 -- ** address fields
 
@@ -334,7 +345,7 @@ module _ (l : Linking) (o t : ℕ) (r : Relocation) (v : SymbolRef) (inside : t 
 
   in_objects : (i : ℕ) (bs : List (List ℕ)) → i ≤ o → o < i + length bs
       → ((k : ℕ) → k < length bs → object l (i + k) ≡ slice_index_or bs k [])
-      → Contains (object_needs_from l i bs) (AddressWord v (address l v))
+      → Contains (flat_map_from (object_needs l) i bs) (AddressWord v (address l v))
   in_objects i [] low high each = absurd (omega (arith, low, high))
   in_objects i (b ∷ more) low high each =
       of_index (o - i) (omega (arith, low)) (λ later.
@@ -342,23 +353,26 @@ module _ (l : Linking) (o t : ℕ) (r : Relocation) (v : SymbolRef) (inside : t 
       let next : i + 1 + k ≡ i + suc k = omega arith in ap (object l) next ∙ each (suc k) (omega (arith, below))))
     where
       of_index : (d : ℕ) → i + d ≡ o
-          → (i + 1 ≤ o → Contains (object_needs_from l (i + 1) more) (AddressWord v (address l v)))
-          → Contains (object_needs l i b ++ object_needs_from l (i + 1) more) (AddressWord v (address l v))
+          → (i + 1 ≤ o → Contains (flat_map_from (object_needs l) (i + 1) more) (AddressWord v (address l v)))
+          → Contains (object_needs l i b ++ flat_map_from (object_needs l) (i + 1) more) (AddressWord v (address l v))
       of_index zero far rest =
           let same : o ≡ i = omega (arith, far) in
           let first : i ≡ i + 0 = omega arith in
           let here : object l o ≡ b = ap (object l) (same ∙ first) ∙ each 0 (omega arith) in
-          Contains-append_left (object_needs l i b) (object_needs_from l (i + 1) more) (AddressWord v (address l v))
+          Contains-append_left (object_needs l i b) (flat_map_from (object_needs l) (i + 1) more)
+              (AddressWord v (address l v))
           (subst (λ (n : ℕ). Contains (object_needs l n b) (AddressWord v (address l v))) same
           (subst (λ (x : List ℕ). Contains (object_needs l o x) (AddressWord v (address l v))) here in_object))
       of_index (suc d) far rest =
-          Contains-append_right (object_needs l i b) (object_needs_from l (i + 1) more) (AddressWord v (address l v))
+          Contains-append_right (object_needs l i b) (flat_map_from (object_needs l) (i + 1) more)
+              (AddressWord v (address l v))
           (rest (omega (arith, far)))
 
 pub fields_reach_entries : FieldsReachEntries
 unfolding needs
 fields_reach_entries l o t r v there inside has kind bound =
     entry_has l (AddressWord v (address l v))
-    (Contains-append_right (site_needs_from l 0 l.sites) (object_needs_from l 0 l.objects) (AddressWord v (address l v))
+    (Contains-append_right (flat_map_from (λ o. flat_map (site_needs l o)) 0 l.sites)
+        (flat_map_from (object_needs l) 0 l.objects) (AddressWord v (address l v))
     (in_objects l o t r v inside has kind bound 0 l.objects (omega arith) (omega (arith, there)) (λ k below.
     let same : 0 + k ≡ k = omega arith in ap (object l) same)))

@@ -59,24 +59,20 @@ block_offset l = round_up (tls_size (layout l).sections) (tls_alignment (layout 
 abbrev pub binding : Linking → ℕ → Relocation → Option Binding
 binding l o r = binding_of l.objects l.startup o r
 
--- a symbol of object o that is this many bytes after the start of its section: its address, and its offset in the TLS
--- segment
-abbrev pub address_in : Layout → ℕ → SymbolPlace → ℕ → ℕ
-address_in p o (InSection s) value = unwrap_or (address_of p o s) 0 + value
-address_in p o place value = value
+-- a symbol's value counts from where its section begins, if it is in one
+abbrev pub placed_value : (ℕ → Option ℕ) → SymbolPlace → ℕ → ℕ
+placed_value begins (InSection s) value = unwrap_or (begins s) 0 + value
+placed_value begins place value = value
 
-abbrev pub offset_in : Layout → ℕ → SymbolPlace → ℕ → ℕ
-offset_in p o (InSection s) value = unwrap_or (tls_offset_of p o s) 0 + value
-offset_in p o place value = value
-
+-- the address of a symbol, and its offset in the TLS segment
 unfoldable pub address : Linking → SymbolRef → ℕ
 address l found =
-    address_in (layout l) found.object (symbol_place (object l found.object) found.symbol)
+    placed_value (address_of (layout l) found.object) (symbol_place (object l found.object) found.symbol)
     (symbol_value (object l found.object) found.symbol)
 
 unfoldable pub offset : Linking → SymbolRef → ℕ
 offset l found =
-    offset_in (layout l) found.object (symbol_place (object l found.object) found.symbol)
+    placed_value (tls_offset_of (layout l) found.object) (symbol_place (object l found.object) found.symbol)
     (symbol_value (object l found.object) found.symbol)
 
 -- the address of byte k of section s of object o
@@ -93,10 +89,7 @@ chosen l form (Some bound) = choice_of form bound l.kind l.relax
 unfoldable pub choice : Linking → ℕ → Site → Choice
 choice l o site = chosen l site.form (binding l o (first_of site))
 
--- likewise for the sites of object o, and of all objects from number o on
-abbrev pub choices_in : Linking → ℕ → List Site → List Choice
-choices_in l o own = map (choice l o) own
-
+-- likewise for the sites of all objects from number o on
 abbrev pub choices_from : Linking → ℕ → List (List Site) → List (List Choice)
 choices_from l o [] = []
-choices_from l o (own ∷ more) = choices_in l o own ∷ choices_from l (o + 1) more
+choices_from l o (own ∷ more) = map (choice l o) own ∷ choices_from l (o + 1) more

@@ -29,10 +29,12 @@ use Rattle.sequence_forms.specs.declared.places.Site.{Site}
 use Rattle.tls_layout.specs.Places.{room}
 use Rattle.tls_layout.specs.Rounding.{page_up}
 use Rattle.link_faults.specs.declared.binding.Binding.{Binding}
+use Rattle.tls_symbols.specs.Definitions.{flat_map_from}
 use Rattle.link_faults.specs.declared.binding.Binding.TheVariants.{Here, Startup, Runtime}
 use Rattle.link_faults.specs.ImageKinds.{is_moved}
 use Rattle.link_needs.specs.declared.needs.AbsoluteField.{AbsoluteField}
 use Rattle.link_needs.specs.Linking.{Linking, address, binding, choice, layout, block_offset, object, offset}
+use Rattle.std.specs.Prelude.{option_to_list}
 
 -- ** what a relocation reaches
 
@@ -93,20 +95,11 @@ abbrev pub is_kept : Choice → Bool
 is_kept Keep = true
 is_kept choice = false
 
-abbrev pub as_list : {X : Type 0} → Option X → List X
-as_list None = []
-as_list (Some x) = x ∷ []
-
 -- what a site of object o needs: its variable's entry, and the run time's word if it is kept and calls through it
 unfoldable pub site_needs : Linking → ℕ → Site → List Need
 site_needs l o site =
-    as_list (option_and_then (relocation_need l o) (reaching site (choice l o site)))
+    option_to_list (option_and_then (relocation_need l o) (reaching site (choice l o site)))
     ++ (if is_kept (choice l o site) && calls site.form then RuntimeWord ∷ [] else [])
-
--- what the objects from number o on need, which have these sites
-abbrev pub site_needs_from : Linking → ℕ → List (List Site) → List Need
-site_needs_from l o [] = []
-site_needs_from l o (own ∷ more) = flat_map (site_needs l o) own ++ site_needs_from l (o + 1) more
 
 -- ** what other code needs: the addresses of symbols of the image
 
@@ -139,14 +132,11 @@ section_needs l o b t = flat_map (address_needs l o) (address_fields b t)
 unfoldable pub object_needs : Linking → ℕ → List ℕ → List Need
 object_needs l o b = flat_map (section_needs l o b) (range_with_len 0 (section_count b))
 
-abbrev pub object_needs_from : Linking → ℕ → List (List ℕ) → List Need
-object_needs_from l o [] = []
-object_needs_from l o (b ∷ more) = object_needs l o b ++ object_needs_from l (o + 1) more
-
 -- ** the table
 
+-- the sites of each object, and then its other code
 unfoldable pub needs : Linking → List Need
-needs l = site_needs_from l 0 l.sites ++ object_needs_from l 0 l.objects
+needs l = flat_map_from (λ o. flat_map (site_needs l o)) 0 l.sites ++ flat_map_from (object_needs l) 0 l.objects
 
 -- the entries of the table
 unfoldable pub entries : Linking → List Need

@@ -7,7 +7,7 @@ use Rattle.relax_sites.specs.declared.choices.Choice.{Choice}
 use Rattle.link_needs.specs.declared.needs.AbsoluteField.{AbsoluteField}
 use Rattle.link_needs.specs.declared.needs.OwnWanted.{OwnWanted}
 use Rattle.link_needs.specs.Given.{FitsTable, IsGiven}
-use Rattle.link_needs.specs.Linking.{Linking, choices_from, choices_in, address, object, offset, sites_at}
+use Rattle.link_needs.specs.Linking.{Linking, choices_from, address, object, offset, sites_at}
 use Rattle.link_needs.specs.Needs.{absolutes, got_start, has_stub, object_absolutes, object_needs, site_needs, stub_start}
 use Rattle.link_needs.specs.Needs.{table}
 use Rattle.link_needs.specs.declared.symbol_values.SymbolValue.{SymbolValue}
@@ -24,6 +24,7 @@ use Rattle.link_needs.specs.declared.symbol_values.SymbolValue.TheVariants.{Here
 use Rattle.elf_object.specs.Lent.{section_size}
 use Rattle.relax_sites.specs.Rows.{form_length}
 use Rattle.sequence_forms.specs.declared.places.Site.{Site}
+use Rattle.link_needs.specs.Linking.{choice}
 
 -- a site is in its section, its symbol is one of its object, and it has the bytes and a register of its form
 pub record IsUsable (b : List ℕ) (site : Site) : Type 0 where
@@ -41,7 +42,7 @@ pub record AreOwn (l : Linking) (o : ℕ) (own : OwnWanted) : Type 0 where
   pub sites_are : own.sites.items ≡ flat_map (site_needs l o) (sites_at l o)
   pub fields_are : own.fields.items ≡ object_needs l o (object l o)
   pub absolutes_are : own.absolutes.items ≡ object_absolutes l o (object l o)
-  pub choices_are : own.choices.items ≡ choices_in l o (sites_at l o)
+  pub choices_are : own.choices.items ≡ map (choice l o) (sites_at l o)
 
 -- ** what a symbol is bound to
 

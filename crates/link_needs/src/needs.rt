@@ -6,11 +6,12 @@ ghost use Rattle.std.specs.List.{All, AllZip, flat_map, range_with_len};
 ghost use Rattle.elf_object.specs.Parts.{symbol_count};
 ghost use Rattle.tls_symbols.specs.Bindings.{IsBindingWithin, object_at};
 ghost use Rattle.link_needs.specs.Linking.{choice, choices_from};
-ghost use Rattle.link_needs.specs.Needs.{absolutes, address_fields, address_need, as_list, calls, calls_stub, is_kept};
+ghost use Rattle.link_needs.specs.Needs.{absolutes, address_fields, address_need, calls, calls_stub, is_kept};
 ghost use Rattle.link_needs.specs.Needs.{need_by, needs, new_relocation, object_absolutes, object_needs};
 ghost use Rattle.link_needs.specs.Needs.{reaching, relocation_need, section_absolutes, section_needs, site_needs};
 ghost use Rattle.link_needs.specs.Needs.{target_by};
 ghost use Rattle.link_needs.specs.Plans.{AreOwn, IsUsable};
+ghost use Rattle.std.specs.Prelude.{option_to_list};
 
 use crate::inputs::Inputs;
 use elf_object::{Relocation, RelocationKind, relocation_count};
@@ -75,7 +76,7 @@ pub fn is_kept(choice: Choice) -> bool
 
 /// The run time's word, if a sequence that calls through it is kept.
 fn word_of_call<'a>(form: Form, choice: Choice) -> Option<Need<'a>>
-    ensures { as_list result ≡ (if is_kept choice && calls form then Need.RuntimeWord ∷ [] else []) }
+    ensures { option_to_list result ≡ (if is_kept choice && calls form then Need.RuntimeWord ∷ [] else []) }
 {
     if is_kept(choice) && calls(form) {
         Some(Need::RuntimeWord)
@@ -86,7 +87,7 @@ fn word_of_call<'a>(form: Form, choice: Choice) -> Option<Need<'a>>
 
 /// Adds a need, if there is one.
 fn push_some<'a>(need: Option<Need<'a>>, needs: &mut Vec<Need<'a>>) -> Result<(), AllocError>
-    ensures { OnOk result (needs.new.items ≡ needs.old.items ++ as_list need.entry) }
+    ensures { OnOk result (needs.new.items ≡ needs.old.items ++ option_to_list need.entry) }
 {
     if let Some(need) = need {
         needs.push(need)?;

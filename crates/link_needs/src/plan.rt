@@ -11,7 +11,7 @@ ghost use Rattle.tls_relocs.specs.Fields.{width_of};
 ghost use Rattle.tls_symbols.specs.Bindings.{object_at};
 ghost use Rattle.link_needs.specs.Given.{FitsTable, IsGiven};
 ghost use Rattle.link_needs.specs.Plans.{goes_by, number_by, value_of};
-ghost use Rattle.link_needs.specs.Linking.{choice, choices_from, choices_in, place as place_of, sites_at};
+ghost use Rattle.link_needs.specs.Linking.{choice, choices_from, place as place_of, sites_at};
 ghost use Rattle.link_needs.specs.Needs.{calls_stub, has_stub, is_kept, is_stub_call, need_address, relocation_need};
 ghost use Rattle.link_needs.specs.Values.{other_number, counts_from_thread_pointer, field, is_local, is_rewriting};
 
@@ -111,7 +111,7 @@ impl<'l, 's, 'a> Inputs<'l, 's, 'a> {
 
     /// Whether an object calls the stub, by the sequences that take the places of its sites.
     fn calls_stub_in(&self, object: usize, own: &[Site], choices: &[Choice]) -> bool
-        requires { choices.now ≡ choices_in self.now object own.now }
+        requires { choices.now ≡ map (choice self.now object) own.now }
         ensures { result ≡ list_any (is_stub_call self.now object) own.now }
     {
         for (number, site) in own.iter().enumerate() {

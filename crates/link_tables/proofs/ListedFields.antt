@@ -24,9 +24,10 @@ use Rattle.link_needs.specs.Linking.{Linking, object}
 use Rattle.link_needs.specs.Needs.{absolutes, absolutes_from, fields_among, object_absolutes, section_absolutes, sorted_by}
 use Rattle.link_needs.proofs.Reached.{both}
 use Rattle.tls_symbols.proofs.Within.{dropped_is}
-use Rattle.link_tables.specs.Dynamic.{field_relocations, is_absolute, object_relocations, object_relocations_from}
+use Rattle.link_tables.specs.Dynamic.{field_relocations, is_absolute, object_relocations}
 use Rattle.link_tables.specs.Dynamic.{relative_of, relatives, section_relocations}
 use Rattle.link_tables.proofs.RelativesTables.{placed_section}
+use Rattle.tls_symbols.specs.Definitions.{flat_map_from}
 
 some_of : {X : Type 0} (xs : List X) (x : X) → Contains xs x → 0 < length xs
 some_of xs x is = omega (arith, is.1)
@@ -121,7 +122,7 @@ module _ (l : Linking) where
         ∙ ap (λ xs. section_relocations l o b t ++ xs) (from_sections o b ts)
 
     from_objects : (o : ℕ) (bs : List (List ℕ))
-        → map (relative_of l) (absolutes_from l o bs) ≡ object_relocations_from l o bs
+        → map (relative_of l) (absolutes_from l o bs) ≡ flat_map_from (object_relocations l) o bs
     unfolding object_absolutes object_relocations
     from_objects o [] = refl
     from_objects o (b ∷ more) =
@@ -141,6 +142,6 @@ module _ (l : Linking) where
       none (x ∷ xs) all still = absurd (let moved = (all 0 x (omega arith)).moved in cc)
 
       of_test : (t : Bool) → is_moved l.kind ≡ t
-          → sorted ≡ (if t then sorted_by (λ r. r.place) (object_relocations_from l 0 l.objects) else [])
+          → sorted ≡ (if t then sorted_by (λ r. r.place) (flat_map_from (object_relocations l) 0 l.objects) else [])
       of_test true moved = rw (order, made, from_objects moved 0 l.objects) refl
       of_test false still = rw (order, made, none (absolutes l) are_listed still) refl

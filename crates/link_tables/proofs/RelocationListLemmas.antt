@@ -6,7 +6,6 @@ use Rattle.std.specs.List.{flat_map, position_from, slice_get}
 use Rattle.std.specs.Str.{bytes_eq}
 use Rattle.std.proofs.lemmas.List.Sums.{sum_by-cons}
 use Rattle.link_faults.specs.declared.image_kind.ImageKind.{ImageKind}
-use Rattle.link_faults.specs.declared.image_kind.ImageKind.TheVariants.{Exe, Pie, Start, Late}
 use Rattle.link_faults.specs.ImageKinds.{base_of}
 use Rattle.tls_layout.specs.Places.{room, zero_data}
 use Rattle.tls_layout.proofs.Together.{page_limit}
@@ -17,7 +16,7 @@ use Rattle.got_pairs.specs.declared.need.Need.{Need}
 use Rattle.got_pairs.specs.declared.need.Need.TheVariants.{ModulePair, SymbolPair, Descriptor, SymbolWord}
 use Rattle.got_pairs.specs.declared.need.Need.TheVariants.{AddressWord, RuntimeWord}
 use Rattle.got_pairs.specs.declared.need.Target.TheVariants.{Here, Import}
-use Rattle.got_pairs.specs.Entries.{by_kind, entry_of, words}
+use Rattle.got_pairs.specs.Entries.{entry_of, words}
 use Rattle.got_pairs.specs.Needs.{size_of, total_size}
 use Rattle.got_pairs.specs.Plans.{starts_from}
 use Rattle.link_needs.specs.Linking.{Linking, block_offset, layout}
@@ -69,23 +68,16 @@ pub record Steps (l : Linking) (p k : ℕ) (entry : Entry) : Type 0 where
   pub size : total_size (drop k (entries l)) ≡ 8 * length (words entry) + total_size (drop (k + 1) (entries l))
 
 -- an entry has as many bytes as its need asks for
-kinds_size : (kind : ImageKind) (x y z : Entry) (n : ℕ) → 8 * length (words x) ≡ n → 8 * length (words y) ≡ n
-    → 8 * length (words z) ≡ n → 8 * length (words (by_kind kind x y z)) ≡ n
-kinds_size Exe x y z n p q r = p
-kinds_size Pie x y z n p q r = q
-kinds_size Start x y z n p q r = r
-kinds_size Late x y z n p q r = r
-
 words_size : (kind : ImageKind) (block : ℕ) (need : Need)
     → 8 * length (words (entry_of kind block need)) ≡ size_of need
-words_size kind block ModulePair = kinds_size kind _ _ _ 16 refl refl refl
-words_size kind block (SymbolPair (Here s o)) = kinds_size kind _ _ _ 16 refl refl refl
+words_size kind block ModulePair = refl
+words_size kind block (SymbolPair (Here s o)) = refl
 words_size kind block (SymbolPair (Import n)) = refl
 words_size kind block (Descriptor (Here s o)) = refl
 words_size kind block (Descriptor (Import n)) = refl
-words_size kind block (SymbolWord (Here s o)) = kinds_size kind _ _ _ 8 refl refl refl
+words_size kind block (SymbolWord (Here s o)) = refl
 words_size kind block (SymbolWord (Import n)) = refl
-words_size kind block (AddressWord s p) = kinds_size kind _ _ _ 8 refl refl refl
+words_size kind block (AddressWord s p) = refl
 words_size kind block RuntimeWord = refl
 
 -- the entry of number k stands in front of those behind it

@@ -10,7 +10,6 @@ use Rattle.elf_object.specs.declared.relocation.Relocation.{Relocation}
 use Rattle.elf_records.specs.declared.symbol.SymbolBinding.TheVariants.{Global}
 use Rattle.elf_records.specs.declared.symbol.SymbolType.{SymbolType}
 use Rattle.elf_records.specs.declared.symbol.SymbolType.TheVariants.{NoType, Tls}
-use Rattle.elf_records.specs.declared.symbol.Visibility.TheVariants.{Default}
 use Rattle.elf_object.specs.Lent.{relocations, symbol_binding, symbol_size, symbol_type, symbol_visibility}
 use Rattle.elf_object.specs.Object.{section_count}
 use Rattle.dynamic_symbols.specs.Names.{defined_symbols, imports as imports_of, name_of}
@@ -28,12 +27,14 @@ use Rattle.image_faults.specs.declared.loader_kind.LoaderKind.{LoaderKind}
 use Rattle.image_faults.specs.declared.loader_kind.LoaderKind.TheVariants as loader
 use Rattle.image_file.specs.declared.relocation.ImageRelocation.{ImageRelocation}
 use Rattle.image_file.specs.declared.symbol.ImageSymbol.{ImageSymbol}
+use Rattle.image_writer.specs.Contents.{undefined_symbol}
 use Rattle.link_faults.specs.ImageKinds.{is_moved, is_module}
 use Rattle.sequence_forms.specs.declared.places.Site.{Site}
 use Rattle.sequence_forms.specs.Forms.{is_initial}
 use Rattle.tls_relocs.specs.Values.{modulo}
 use Rattle.link_faults.specs.declared.symbol_ref.SymbolRef.{SymbolRef}
 use Rattle.tls_symbols.specs.Bindings.{is_tls_symbol}
+use Rattle.tls_symbols.specs.Definitions.{flat_map_from}
 use Rattle.elf_records.specs.Symbols.{get_address}
 use Rattle.link_needs.specs.declared.needs.AbsoluteField.{AbsoluteField}
 use Rattle.link_needs.specs.Linking.{Linking, address, binding, block_offset, object, offset, place}
@@ -58,14 +59,7 @@ defined l found =
 
 -- a symbol of another image
 abbrev pub foreign : SymbolType → ImageSymbol
-foreign kind = record {
-  binding = Global;
-  kind = kind;
-  visibility = Default;
-  is_defined = false;
-  value = 0;
-  size = 0;
-}
+foreign kind = undefined_symbol Global kind
 
 abbrev pub own_symbols : Linking → List SymbolRef
 own_symbols l = defined_symbols l.objects
@@ -153,13 +147,9 @@ section_relocations l o b t = flat_map (field_relocations l o t) (relocations b 
 unfoldable pub object_relocations : Linking → ℕ → List ℕ → List ImageRelocation
 object_relocations l o b = flat_map (section_relocations l o b) (range_with_len 0 (section_count b))
 
-abbrev pub object_relocations_from : Linking → ℕ → List (List ℕ) → List ImageRelocation
-object_relocations_from l o [] = []
-object_relocations_from l o (b ∷ more) = object_relocations l o b ++ object_relocations_from l (o + 1) more
-
 unfoldable pub relatives : Linking → List ImageRelocation
 relatives l =
-    if is_moved l.kind then sorted_by (λ r. r.place) (object_relocations_from l 0 l.objects) else []
+    if is_moved l.kind then sorted_by (λ r. r.place) (flat_map_from (object_relocations l) 0 l.objects) else []
 
 -- all relocations, in the order of their places: the offset table comes after all sections
 unfoldable pub image_relocations : Linking → List ImageRelocation

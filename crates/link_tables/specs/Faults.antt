@@ -9,13 +9,13 @@ use Rattle.dynamic_symbols.specs.Names.{name_size}
 use Rattle.link_faults.specs.declared.fault.LinkFault.{LinkFault}
 use Rattle.link_faults.specs.declared.fault.LinkFault.TheVariants.{OutOfMemory, At}
 use Rattle.link_faults.specs.declared.fault.LinkFaultKind.TheVariants as fault
-use Rattle.link_needs.specs.Refusals.{FitsKind, FitsStorage, IsKindFault, IsStorageFault}
+use Rattle.link_needs.specs.Refusals.{by_storage, by_type, FitsKind, FitsStorage, IsStorageFault}
 use Rattle.elf_object.specs.Counts.{relocation_count}
 use Rattle.tls_layout.specs.Places.{span, tls_size, IsLawful}
 use Rattle.link_faults.specs.declared.image_kind.ImageKind.{ImageKind}
 use Rattle.link_faults.specs.declared.symbol_ref.SymbolRef.{SymbolRef}
 use Rattle.tls_symbols.specs.Definitions.{IsWithin}
-use Rattle.tls_symbols.specs.Faults.{held_in, AreResolved, Earlier, IsFirst}
+use Rattle.tls_symbols.specs.Faults.{held_in, AreResolved, Earlier, IsFirst, IsFirstCharged, NoneCharged}
 use Rattle.link_needs.specs.Given.{IsGiven}
 use Rattle.link_needs.specs.Linking.{Linking, layout, object}
 use Rattle.link_needs.specs.Values.{field, is_replaced}
@@ -80,7 +80,7 @@ pub record IsSound (l : Linking) : Type 0 where
 -- the objects can be linked
 pub record Links (l : Linking) : Type 0 where
   pub sound : IsSound l
-  pub fits : IsToldOverflow l None
+  pub fits : (o s e : ℕ) → Overflows l o s e → ⊥
 
 -- a fault of the image as a whole names no object
 abbrev pub IsOfWhole : Option ℕ → ℕ → ℕ → Type 0
@@ -88,19 +88,21 @@ IsOfWhole object s e = (object ≡ None) × (s ≡ 0) × (e ≡ 0)
 
 -- a fault of an image whose names are resolved
 abbrev pub IsLaterFault : Linking → LinkFault → Type 0
-IsLaterFault l (At fault.LocalExecInModule object s e) =
-    IsKindFault l.objects l.kind (At fault.LocalExecInModule object s e)
-IsLaterFault l (At fault.NarrowInModule object s e) =
-    IsKindFault l.objects l.kind (At fault.NarrowInModule object s e)
+IsLaterFault l (At fault.LocalExecInModule (Some o) s e) =
+    IsFirstCharged (by_type fault.LocalExecInModule l.kind) l.objects o s e
+IsLaterFault l (At fault.NarrowInModule (Some o) s e) =
+    NoneCharged (by_type fault.LocalExecInModule l.kind) l.objects
+    × IsFirstCharged (by_type fault.NarrowInModule l.kind) l.objects o s e
 IsLaterFault l (At fault.TlsTooLarge object s e) =
     IsOfWhole object s e × FitsKind l.objects l.kind × (2 ^ 20 < tls_size (layout l).sections)
 IsLaterFault l (At fault.ImageTooLarge object s e) =
     IsOfWhole object s e × FitsKind l.objects l.kind × (tls_size (layout l).sections ≤ 2 ^ 20)
     × ((2 ^ 24 < span l.kind (layout l).sections) ⊎ IsCrowded l)
-IsLaterFault l (At fault.NoTls object s e) =
+IsLaterFault l (At fault.NoTls (Some o) s e) =
     FitsKind l.objects l.kind × FitsLimits l
-    × IsStorageFault l.objects l.startup l.kind (tls_size (layout l).sections) (At fault.NoTls object s e)
-IsLaterFault l (At fault.Overflow (Some o) s e) = IsSound l × IsFirstOverflow l (At fault.Overflow (Some o) s e)
+    × IsFirstCharged (by_storage l.objects l.startup l.kind (tls_size (layout l).sections)) l.objects o s e
+IsLaterFault l (At fault.Overflow (Some o) s e) =
+    IsSound l × Overflows l o s e × ((p t f : ℕ) → Earlier p t f o s e → Overflows l p t f → ⊥)
 IsLaterFault l told = ⊥
 
 -- a refusal reports the first fault: in the order of the kinds, and Overflow last; of OutOfMemory nothing is said

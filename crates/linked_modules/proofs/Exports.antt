@@ -13,7 +13,7 @@ use Rattle.elf_object.specs.declared.symbol.SymbolPlace.TheVariants.{Undefined, 
 use Rattle.elf_object.specs.Lent.{symbol_binding, symbol_name, symbol_place, symbol_visibility}
 use Rattle.elf_object.specs.Parts.{symbol_count}
 use Rattle.link_faults.specs.declared.symbol_ref.SymbolRef.{SymbolRef}
-use Rattle.tls_symbols.specs.Bindings.{exported_at, exported_from, exported_in, exported_names, is_exported, is_symbol}
+use Rattle.tls_symbols.specs.Bindings.{exported_at, exported_in, exported_names, is_exported, is_symbol}
 use Rattle.tls_symbols.specs.Bindings.{is_its_definition, is_tls_symbol, object_at}
 use Rattle.elf_object.specs.Lent.{is_tls_place}
 use Rattle.elf_records.specs.Symbols.{is_visible}
@@ -22,6 +22,7 @@ use Rattle.tls_symbols.proofs.Within.{dropped_is}
 use Rattle.dynamic_symbols.specs.Names.{defined_at, defined_in, defined_names, defined_symbols, is_definition}
 use Rattle.dynamic_symbols.proofs.Lists.{all_append, all_cons, all_flat_range, all_nil}
 use Rattle.linked_modules.proofs.Listed.{any_bound, any_distinct, any_flat, both}
+use Rattle.tls_symbols.specs.Definitions.{flat_map_from}
 
 -- ** what holds of the name of each symbol that is exported holds of all exports
 
@@ -43,11 +44,12 @@ module _ (objects : List (List ℕ)) (P : List ℕ → Type 0)
       all_flat_range P (exported_at objects o (object_at objects o)) 1 (symbol_count (object_at objects o) - 1)
       (λ e low high. at_symbol o e within low (omega (arith, low, high)))
 
-  from_object : (more : List (List ℕ)) (o : ℕ) → drop o objects ≡ more → All P (exported_from objects o more)
+  from_object : (more : List (List ℕ)) (o : ℕ) → drop o objects ≡ more → All P
+      (flat_map_from (exported_in objects) o more)
   from_object [] o left = all_nil P
   from_object (b ∷ more) o left =
       let at = dropped_is objects o [] b more left in
-      all_append P (exported_in objects o b) (exported_from objects (o + 1) more)
+      all_append P (exported_in objects o b) (flat_map_from (exported_in objects) (o + 1) more)
       (subst (λ c. All P (exported_in objects o c)) at.here (in_object o at.within)) (from_object more (o + 1) at.rest)
 
   pub all_exported : All P (exported_names objects)

@@ -1,7 +1,7 @@
 -- A late image that is not flagged wants no offset from the thread pointer.
 use Rattle.std.proofs.Common.{◌≡◌, ◌≢◌, ◌+◌, ◌&&◌, ◌||◌, ◌∙◌, ℕ, Bool, true, false, not, List, [], ◌∷◌, Option}
 use Rattle.std.proofs.Common.{Some, None, filter, refl, sym, ap, subst}
-use Rattle.std.specs.Prelude.{option_and_then, option_map, if◌then◌else◌}
+use Rattle.std.specs.Prelude.{nat_eq, option_and_then, option_map, if◌then◌else◌}
 use Rattle.std.specs.List.{All, flat_map, list_any, range_with_len}
 use Rattle.std.proofs.lemmas.List.Elements.{All-append, All-cons, All-filter, All-head, All-nil, All-tail}
 use Rattle.elf_object.specs.declared.relocation.Relocation.{Relocation}
@@ -25,21 +25,23 @@ use Rattle.got_pairs.specs.declared.need.Need.TheVariants.{AddressWord, RuntimeW
 use Rattle.got_pairs.specs.declared.need.Target.{Target}
 use Rattle.got_pairs.specs.declared.need.Target.TheVariants as target
 use Rattle.got_pairs.specs.Entries.{entry_of}
-use Rattle.got_pairs.specs.Needs.{by_group, distinct, entries as entries_of, group_of, groups, of_group, same_group}
+use Rattle.got_pairs.specs.Needs.{by_group, distinct, entries as entries_of, group_of, of_group}
 use Rattle.got_pairs.specs.Needs.{same_need}
 use Rattle.relax_sites.specs.declared.choices.Choice.TheVariants.{Keep}
 use Rattle.relax_sites.specs.Choices.{choice_of}
 use Rattle.dynamic_symbols.proofs.Lists.{all_flat}
 use Rattle.link_needs.specs.Linking.{Linking, address, binding, block_offset, choice, chosen, place}
-use Rattle.link_needs.specs.Needs.{address_fields, address_needs, as_list, calls, entries, got_start, is_kept, need_by}
-use Rattle.link_needs.specs.Needs.{needs, object_needs, object_needs_from, own_word, reaching, relocation_need}
-use Rattle.link_needs.specs.Needs.{section_needs, site_needs, site_needs_from, target_by, sorted_by}
+use Rattle.link_needs.specs.Needs.{address_fields, address_needs, calls, entries, got_start, is_kept, need_by}
+use Rattle.link_needs.specs.Needs.{needs, object_needs, own_word, reaching, relocation_need}
+use Rattle.link_needs.specs.Needs.{section_needs, site_needs, target_by, sorted_by}
 use Rattle.link_core.specs.Dynamic.{entry_relocations, field_relocations, got_relocations, image_relocations}
 use Rattle.link_core.specs.Dynamic.{is_absolute, is_flagged, need_relocations, object_relocations}
-use Rattle.link_core.specs.Dynamic.{object_relocations_from, relative, relatives, section_relocations, sum_of}
+use Rattle.link_core.specs.Dynamic.{relative, relatives, section_relocations, sum_of}
 use Rattle.link_core.proofs.GotRelocationsRows.{all_rows}
 use Rattle.link_core.proofs.RelativesApart.{all_sorted}
 use Rattle.loaded_modules.specs.Images.{is_late}
+use Rattle.tls_symbols.specs.Definitions.{flat_map_from}
+use Rattle.std.specs.Prelude.{option_to_list}
 
 late_is : (kind : ImageKind) → is_late kind ≡ true → kind ≡ Late
 late_is Exe is = absurd (cc)
@@ -63,7 +65,7 @@ one need is = All-cons IsOther need [] is (All-nil IsOther)
 
 module _ (l : Linking) (o : ℕ) where
   made : (f : Target → Need) → ((x : Target) → IsOther (f x)) → (e : ℕ) (bound : Option Binding)
-      → All IsOther (as_list (option_map f (target_by l o e bound)))
+      → All IsOther (option_to_list (option_map f (target_by l o e bound)))
   made f other e None = All-nil IsOther
   made f other e (Some Runtime) = All-nil IsOther
   made f other e (Some (Startup image)) = one (f _) (other _)
@@ -71,7 +73,7 @@ module _ (l : Linking) (o : ℕ) where
 
   -- what a sequence needs that is no initial executable one
   kept_other : (form : Form) (e : ℕ) (bound : Option Binding) → is_initial form ≡ false
-      → All IsOther (as_list (need_by l o e bound (row form).first))
+      → All IsOther (option_to_list (need_by l o e bound (row form).first))
   unfolding row
   kept_other Gd e bound other = made SymbolPair (λ x. tt) e bound
   kept_other GdInd e bound other = made SymbolPair (λ x. tt) e bound
@@ -100,16 +102,17 @@ module _ (l : Linking) (o : ℕ) where
         of_bound None = refl
         of_bound (Some bound) = ap (λ kind. choice_of site.form bound kind l.relax) late ∙ of_relax bound l.relax
 
-    reached : All IsOther (as_list (option_and_then (relocation_need l o) (reaching site Keep)))
+    reached : All IsOther (option_to_list (option_and_then (relocation_need l o) (reaching site Keep)))
     unfolding relocation_need
     reached = kept_other site.form site.symbol (binding l o (first_of site)) other
 
     site_other : All IsOther (site_needs l o site)
     unfolding site_needs
     site_other =
-        All-append IsOther (as_list (option_and_then (relocation_need l o) (reaching site (choice l o site))))
+        All-append IsOther (option_to_list (option_and_then (relocation_need l o) (reaching site (choice l o site))))
         (if is_kept (choice l o site) && calls site.form then RuntimeWord ∷ [] else [])
-        (subst (λ c. All IsOther (as_list (option_and_then (relocation_need l o) (reaching site c)))) (sym keeps) reached)
+        (subst (λ c. All IsOther (option_to_list (option_and_then (relocation_need l o) (reaching site c))))
+            (sym keeps) reached)
         (called (is_kept (choice l o site) && calls site.form))
 
 abbrev initial_in : List Site → Bool
@@ -124,11 +127,12 @@ module _ (l : Linking) (late : l.kind ≡ Late) where
       (own_other o own parts.1)
 
   sites_other : (o : ℕ) (sites : List (List Site)) → list_any initial_in sites ≡ false
-      → All IsOther (site_needs_from l o sites)
+      → All IsOther (flat_map_from (λ o. flat_map (site_needs l o)) o sites)
   sites_other o [] none = All-nil IsOther
   sites_other o (own ∷ more) none =
       let parts = neither (initial_in own) (list_any initial_in more) none in
-      All-append IsOther (flat_map (site_needs l o) own) (site_needs_from l (o + 1) more) (own_other o own parts.0)
+      All-append IsOther (flat_map (site_needs l o) own) (flat_map_from (λ o. flat_map (site_needs l o)) (o + 1) more)
+          (own_other o own parts.0)
       (sites_other (o + 1) more parts.1)
 
 word_other : (l : Linking) (bound : Option Binding) → All IsOther (own_word l bound)
@@ -143,16 +147,17 @@ object_other l o b =
     all_flat IsOther (section_needs l o b) (range_with_len 0 (section_count b))
     (λ t. all_flat IsOther (address_needs l o) (address_fields b t) (λ r. word_other l (binding l o r)))
 
-objects_other : (l : Linking) (o : ℕ) (objects : List (List ℕ)) → All IsOther (object_needs_from l o objects)
+objects_other : (l : Linking) (o : ℕ) (objects : List (List ℕ)) → All IsOther (flat_map_from (object_needs l) o objects)
 objects_other l o [] = All-nil IsOther
 objects_other l o (b ∷ more) =
-    All-append IsOther (object_needs l o b) (object_needs_from l (o + 1) more) (object_other l o b)
+    All-append IsOther (object_needs l o b) (flat_map_from (object_needs l) (o + 1) more) (object_other l o b)
     (objects_other l (o + 1) more)
 
 needs_other : (l : Linking) → l.kind ≡ Late → list_any initial_in l.sites ≡ false → All IsOther (needs l)
 unfolding needs
 needs_other l late none =
-    All-append IsOther (site_needs_from l 0 l.sites) (object_needs_from l 0 l.objects) (sites_other l late 0 l.sites none)
+    All-append IsOther (flat_map_from (λ o. flat_map (site_needs l o)) 0 l.sites)
+        (flat_map_from (object_needs l) 0 l.objects) (sites_other l late 0 l.sites none)
     (objects_other l 0 l.objects)
 
 -- ** entries
@@ -167,7 +172,8 @@ entries_other : (xs : List Need) → All IsOther xs → All IsOther (entries_of 
 unfolding entries_of
 entries_other xs all =
     distinct_other (by_group xs)
-    (all_flat IsOther (λ g. of_group g xs) groups (λ g. All-filter (λ need. same_group g (group_of need)) IsOther xs all))
+    (all_flat IsOther (λ g. of_group g xs) (range_with_len 0 6)
+        (λ g. All-filter (λ need. nat_eq (group_of need) g) IsOther xs all))
 
 -- ** relocations
 
@@ -219,10 +225,10 @@ module _ (l : Linking) where
       all_flat IsFree (section_relocations l o b) (range_with_len 0 (section_count b))
       (λ t. all_flat IsFree (field_relocations l o t) (relocations b t) (field_free o t))
 
-  objects_free : (o : ℕ) (objects : List (List ℕ)) → All IsFree (object_relocations_from l o objects)
+  objects_free : (o : ℕ) (objects : List (List ℕ)) → All IsFree (flat_map_from (object_relocations l) o objects)
   objects_free o [] = All-nil IsFree
   objects_free o (b ∷ more) =
-      All-append IsFree (object_relocations l o b) (object_relocations_from l (o + 1) more) (object_free o b)
+      All-append IsFree (object_relocations l o b) (flat_map_from (object_relocations l) (o + 1) more) (object_free o b)
       (objects_free (o + 1) more)
 
   relatives_free : All IsFree (relatives l)
@@ -230,8 +236,9 @@ module _ (l : Linking) where
   relatives_free = of_test (is_moved l.kind)
     where
       of_test : (t : Bool)
-          → All IsFree (if t then sorted_by (λ r. r.place) (object_relocations_from l 0 l.objects) else [])
-      of_test true = all_sorted (λ r. r.place) IsFree (object_relocations_from l 0 l.objects) (objects_free 0 l.objects)
+          → All IsFree (if t then sorted_by (λ r. r.place) (flat_map_from (object_relocations l) 0 l.objects) else [])
+      of_test true = all_sorted (λ r. r.place) IsFree (flat_map_from (object_relocations l) 0 l.objects)
+          (objects_free 0 l.objects)
       of_test false = All-nil IsFree
 
   -- a late image that is not flagged has no initial executable sequence

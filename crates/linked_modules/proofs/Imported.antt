@@ -14,9 +14,10 @@ use Rattle.tls_symbols.specs.Bindings.{binding_of, bound_to, first_export, here_
 use Rattle.elf_records.specs.Symbols.{get_address}
 use Rattle.tls_symbols.specs.Bindings.{object_at, of_startup}
 use Rattle.tls_symbols.specs.Definitions.{definition_of, same_binding}
-use Rattle.dynamic_symbols.specs.Names.{imported_at, imported_from, imported_in, imports, is_import, is_startup}
+use Rattle.dynamic_symbols.specs.Names.{imported_at, imported_in, imports, is_import, is_startup}
 use Rattle.dynamic_symbols.proofs.Lists.{all_append, all_cons, all_distinct, all_flat, all_nil}
 use Rattle.linked_modules.proofs.Listed.{IsAmong}
+use Rattle.tls_symbols.specs.Definitions.{flat_map_from}
 
 first_found : (name : List ℕ) (k : ℕ) (startup : List (List (List ℕ)))
     → is_startup (of_startup (first_export name k startup)) ≡ true → IsAmong startup name
@@ -81,13 +82,15 @@ module _ (objects : List (List ℕ)) (startup : List (List (List ℕ))) where
   unfolding imported_in
   all_in o sites = all_flat (IsAmong startup) (imported_at objects startup o) sites (all_at o)
 
-  all_from : (o : ℕ) (sites : List (List Site)) → All (IsAmong startup) (imported_from objects startup o sites)
+  all_from : (o : ℕ) (sites : List (List Site)) → All (IsAmong startup)
+      (flat_map_from (imported_in objects startup) o sites)
   all_from o [] = all_nil (IsAmong startup)
   all_from o (own ∷ more) =
-      all_append (IsAmong startup) (imported_in objects startup o own) (imported_from objects startup (o + 1) more)
+      all_append (IsAmong startup) (imported_in objects startup o own)
+          (flat_map_from (imported_in objects startup) (o + 1) more)
       (all_in o own) (all_from (o + 1) more)
 
   pub imports_among : (sites : List (List Site)) → All (IsAmong startup) (imports objects startup sites)
   unfolding imports
   imports_among sites =
-      all_distinct (IsAmong startup) (imported_from objects startup 0 sites) (all_from 0 sites)
+      all_distinct (IsAmong startup) (flat_map_from (imported_in objects startup) 0 sites) (all_from 0 sites)

@@ -11,12 +11,13 @@ use Rattle.elf_object.specs.Lent.{relocations}
 use Rattle.elf_object.specs.Object.{section_count}
 use Rattle.image_file.specs.declared.relocation.ImageRelocation.{ImageRelocation}
 use Rattle.link_core.proofs.RelativesApart.{all_sorted}
-use Rattle.link_core.specs.Dynamic.{field_relocations, is_absolute, object_relocations, object_relocations_from, relative}
+use Rattle.link_core.specs.Dynamic.{field_relocations, is_absolute, object_relocations, relative}
 use Rattle.link_core.specs.Dynamic.{relatives, section_relocations, sum_of}
 use Rattle.link_faults.specs.ImageKinds.{is_moved}
 use Rattle.link_needs.proofs.Reached.{contains_flat, contains_sorted}
 use Rattle.link_needs.specs.Linking.{Linking, object, place}
 use Rattle.link_needs.specs.Needs.{inserted, sorted_by}
+use Rattle.tls_symbols.specs.Definitions.{flat_map_from}
 
 -- ** where each is from
 
@@ -66,12 +67,12 @@ module _ (l : Linking) where
 
   of_objects : (o : ℕ) (bs : List (List ℕ)) → o + length bs ≡ length l.objects
       → ((k : ℕ) → k < length bs → object l (o + k) ≡ slice_index_or bs k [])
-      → All (Origin l) (object_relocations_from l o bs)
+      → All (Origin l) (flat_map_from (object_relocations l) o bs)
   of_objects o [] all each = All-nil (Origin l)
   of_objects o (b ∷ more) all each =
       let same : o ≡ o + 0 = omega arith in
       let here : object l o ≡ b = ap (object l) same ∙ each 0 (omega arith) in
-      All-append (Origin l) (object_relocations l o b) (object_relocations_from l (o + 1) more)
+      All-append (Origin l) (object_relocations l o b) (flat_map_from (object_relocations l) (o + 1) more)
       (subst (λ (x : List ℕ). All (Origin l) (object_relocations l o x)) here (of_one o (omega (arith, all))))
       (of_objects (o + 1) more (omega (arith, all)) (λ k below.
       let next : o + 1 + k ≡ o + suc k = omega arith in ap (object l) next ∙ each (suc k) (omega (arith, below))))
@@ -81,9 +82,10 @@ module _ (l : Linking) where
   all_origins = of_test (is_moved l.kind)
     where
       of_test : (t : Bool)
-          → All (Origin l) (if t then sorted_by (λ r. r.place) (object_relocations_from l 0 l.objects) else [])
+          → All (Origin l) (if t then sorted_by (λ r. r.place)
+              (flat_map_from (object_relocations l) 0 l.objects) else [])
       of_test true =
-          all_sorted (λ r. r.place) (Origin l) (object_relocations_from l 0 l.objects)
+          all_sorted (λ r. r.place) (Origin l) (flat_map_from (object_relocations l) 0 l.objects)
           (of_objects 0 l.objects (omega arith) (λ k below. let same : 0 + k ≡ k = omega arith in ap (object l) same))
       of_test false = All-nil (Origin l)
 
@@ -113,7 +115,7 @@ module _ (l : Linking) (o t : ℕ) (r : Relocation) (within : t < section_count 
 
   in_objects : (i : ℕ) (bs : List (List ℕ)) → i ≤ o → o < i + length bs
       → ((k : ℕ) → k < length bs → object l (i + k) ≡ slice_index_or bs k [])
-      → Contains (object_relocations_from l i bs) (relative (place l o t r.offset) (sum_of l o r))
+      → Contains (flat_map_from (object_relocations l) i bs) (relative (place l o t r.offset) (sum_of l o r))
   in_objects i [] low high each = absurd (omega (arith, low, high))
   in_objects i (b ∷ more) low high each =
       of_index (o - i) (omega (arith, low)) (λ later.
@@ -121,27 +123,28 @@ module _ (l : Linking) (o t : ℕ) (r : Relocation) (within : t < section_count 
       let next : i + 1 + k ≡ i + suc k = omega arith in ap (object l) next ∙ each (suc k) (omega (arith, below))))
     where
       of_index : (d : ℕ) → i + d ≡ o
-          → (i + 1 ≤ o → Contains (object_relocations_from l (i + 1) more) (relative (place l o t r.offset) (sum_of l o r)))
-          → Contains (object_relocations l i b ++ object_relocations_from l (i + 1) more)
+          → (i + 1 ≤ o → Contains (flat_map_from (object_relocations l) (i + 1) more)
+              (relative (place l o t r.offset) (sum_of l o r)))
+          → Contains (object_relocations l i b ++ flat_map_from (object_relocations l) (i + 1) more)
           (relative (place l o t r.offset) (sum_of l o r))
       of_index zero far rest =
           let same : o ≡ i = omega (arith, far) in
           let first : i ≡ i + 0 = omega arith in
           let here : object l o ≡ b = ap (object l) (same ∙ first) ∙ each 0 (omega arith) in
-          Contains-append_left (object_relocations l i b) (object_relocations_from l (i + 1) more)
+          Contains-append_left (object_relocations l i b) (flat_map_from (object_relocations l) (i + 1) more)
           (relative (place l o t r.offset) (sum_of l o r))
           (subst (λ (n : ℕ). Contains (object_relocations l n b) (relative (place l o t r.offset) (sum_of l o r))) same
           (subst (λ (x : List ℕ). Contains (object_relocations l o x) (relative (place l o t r.offset) (sum_of l o r))) here
           in_object))
       of_index (suc d) far rest =
-          Contains-append_right (object_relocations l i b) (object_relocations_from l (i + 1) more)
+          Contains-append_right (object_relocations l i b) (flat_map_from (object_relocations l) (i + 1) more)
           (relative (place l o t r.offset) (sum_of l o r)) (rest (omega (arith, far)))
 
   pub has_relative : is_moved l.kind ≡ true → o < length l.objects
       → Contains (relatives l) (relative (place l o t r.offset) (sum_of l o r))
   unfolding relatives
   has_relative moved there =
-      rw moved (contains_sorted (λ x. x.place) (object_relocations_from l 0 l.objects)
+      rw moved (contains_sorted (λ x. x.place) (flat_map_from (object_relocations l) 0 l.objects)
       (relative (place l o t r.offset) (sum_of l o r))
       (in_objects 0 l.objects (omega arith) (omega (arith, there)) (λ k below.
       let same : 0 + k ≡ k = omega arith in ap (object l) same)))

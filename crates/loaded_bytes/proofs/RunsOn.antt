@@ -25,7 +25,7 @@ use Rattle.link_faults.specs.ImageKinds.{base_of}
 use Rattle.link_needs.proofs.Reached.{stubs_have_their_word, table_some}
 use Rattle.link_needs.specs.Linking.{Linking, layout}
 use Rattle.link_needs.specs.Needs.{any_stub_call, calls, calls_stub, entries, got_size, got_start, has_stub, is_kept}
-use Rattle.link_needs.specs.Needs.{is_stub_call, needs, object_needs_from, site_needs, site_needs_from, stub_start}
+use Rattle.link_needs.specs.Needs.{is_stub_call, needs, site_needs, stub_start}
 use Rattle.loaded_modules.specs.declared.instance.Instance.{Instance}
 use Rattle.object_faults.specs.declared.class.SectionClass.TheVariants.{Executable}
 use Rattle.sequence_forms.specs.declared.forms.Form.{Form}

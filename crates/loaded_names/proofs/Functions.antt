@@ -20,7 +20,7 @@ use Rattle.link_core.specs.Faults.{Links}
 use Rattle.link_core.specs.Images.{image_of}
 use Rattle.link_faults.specs.declared.symbol_ref.SymbolRef.{SymbolRef}
 use Rattle.link_needs.specs.Given.{IsGiven}
-use Rattle.link_needs.specs.Linking.{Linking, address, address_in, layout, object, offset}
+use Rattle.link_needs.specs.Linking.{Linking, address, layout, object, offset}
 use Rattle.loaded_bytes.proofs.Biases.{image_bias}
 use Rattle.loaded_names.proofs.Images.{image_is}
 use Rattle.loaded_modules.specs.Loader.{bias}
@@ -40,6 +40,7 @@ use Rattle.loaded_names.proofs.Defined.{definition_shared}
 use Rattle.loaded_names.proofs.Named.{Reads, read_named}
 use Rattle.loaded_names.proofs.Runs.{code_runs}
 use Rattle.loaded_names.proofs.Symbols.{IsPlacedIn, placed_in}
+use Rattle.link_needs.specs.Linking.{placed_value}
 
 -- what does not begin before an end is behind it
 none_before : (start end at : ℕ) → end ≤ at → (nat_le start at && nat_lt at end) ≡ false
@@ -152,8 +153,8 @@ module _ (l : Linking) (given : IsGiven l) (links : Links l) (found : SymbolRef)
 
   -- a definition lies in a section that linking keeps
   of_place : (place : SymbolPlace) → symbol_place b e ≡ place
-      → shown (is_tls_place b place) (address_in (layout l) o place (symbol_value b e))
-      ≡ meant place (address_in (layout l) o place (symbol_value b e))
+      → shown (is_tls_place b place) (placed_value (address_of (layout l) o) place (symbol_value b e))
+      ≡ meant place (placed_value (address_of (layout l) o) place (symbol_value b e))
   of_place Undefined at = absurd (is.defined at)
   of_place Absolute at = absurd (is.relative at)
   of_place (InSection s) at = in_section s at (section_class b s) refl (is.kept s at)

@@ -21,7 +21,7 @@ use Rattle.link_faults.specs.declared.binding.Binding.TheVariants.{Here, Runtime
 use Rattle.link_faults.specs.declared.symbol_ref.SymbolRef.{SymbolRef}
 use Rattle.link_needs.proofs.InputsLemmas.{address_small}
 use Rattle.link_needs.specs.Given.{IsGiven}
-use Rattle.link_needs.specs.Linking.{Linking, address, address_in, binding, layout, object}
+use Rattle.link_needs.specs.Linking.{Linking, address, binding, layout, object}
 use Rattle.loaded_names.proofs.Defined.{definition_shared}
 use Rattle.loaded_names.proofs.Symbols.{placed_in}
 use Rattle.object_rules.specs.declared.fault.FaultKind.TheVariants.{SymbolSection}
@@ -30,6 +30,7 @@ use Rattle.tls_symbols.specs.Bindings.{binding_of, bound_to, first_export, here_
 use Rattle.elf_records.specs.Symbols.{get_address}
 use Rattle.tls_symbols.specs.Definitions.{definition_of, same_binding}
 use Rattle.link_core.proofs.GotRelocationsSites.{has_value}
+use Rattle.link_needs.specs.Linking.{placed_value}
 
 -- ** a LOCAL symbol is defined
 
@@ -99,7 +100,8 @@ module _ (l : Linking) (given : IsGiven l) (limits : IsWithinLimits (layout l)) 
   address_low found is = of_place (symbol_place (object l found.object) found.symbol) refl
     where
       of_place : (place : SymbolPlace) → symbol_place (object l found.object) found.symbol ≡ place
-          → address_in (layout l) found.object place (symbol_value (object l found.object) found.symbol) < 2 ^ 64
+          → placed_value (address_of (layout l) found.object) place
+              (symbol_value (object l found.object) found.symbol) < 2 ^ 64
       of_place Undefined at = absurd (is.defined at)
       of_place Absolute at = absurd (is.relative at)
       of_place (InSection s) at =

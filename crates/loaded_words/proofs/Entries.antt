@@ -11,7 +11,7 @@ use Rattle.got_pairs.specs.declared.need.Need.{Need}
 use Rattle.got_pairs.specs.declared.need.Need.TheVariants.{ModulePair, SymbolPair, Descriptor, SymbolWord}
 use Rattle.got_pairs.specs.declared.need.Need.TheVariants.{AddressWord, RuntimeWord}
 use Rattle.got_pairs.specs.declared.need.Target.TheVariants.{Here, Import}
-use Rattle.got_pairs.specs.Entries.{entry_of, filled, held, less, loaded}
+use Rattle.got_pairs.specs.Entries.{entry_of, held, less, loaded}
 use Rattle.guest_arithmetic.specs.Values.{digit}
 use Rattle.link_core.specs.Dynamic.{entry_relocations, number_of, relocation_of}
 use Rattle.link_core.specs.Images.{image_of}
@@ -62,7 +62,7 @@ module _ (m : JobImages) (l : Linking) (x : Instance) where
 
   -- ** pairs
 
-  own_pair : (at o : ℕ) → IsRow at (Two (filled dynamic.DtpMod64 Image 0) (held o)) (x.id ∷ o ∷ [])
+  own_pair : (at o : ℕ) → IsRow at (Two (loaded 0 dynamic.DtpMod64 Image 0) (held o)) (x.id ∷ o ∷ [])
   own_pair at o = (
     λ i below. hit m l x (own m l x at dynamic.DtpMod64 0) [] i (digit 0 i) below
         ∙ own_written m l x at dynamic.DtpMod64 0 i ∙ front x.id _ i below,
@@ -87,7 +87,7 @@ module _ (m : JobImages) (l : Linking) (x : Instance) where
   -- ** descriptors
 
   own_descriptor : (at o : ℕ) → o < 2 ^ 64
-      → IsRow at (Two (filled dynamic.TlsDesc Image o) (held 0)) (0x1800 ∷ (x.id * 2 ^ 32 + o) ∷ [])
+      → IsRow at (Two (loaded 0 dynamic.TlsDesc Image o) (held 0)) (0x1800 ∷ (x.id * 2 ^ 32 + o) ∷ [])
   own_descriptor at o small = (
     λ i below. hit m l x (own m l x at dynamic.TlsDesc o) [] i (digit 0 i) (omega (arith, below))
         ∙ own_written m l x at dynamic.TlsDesc o i ∙ front 0x1800 _ i below,
@@ -116,7 +116,7 @@ module _ (m : JobImages) (l : Linking) (x : Instance) where
   -- ** distances
 
   own_distance : (at o : ℕ) → o < 2 ^ 64
-      → IsRow at (One (filled dynamic.TpOff64 Image o)) (less o (unwrap_or x.offset 0) ∷ [])
+      → IsRow at (One (loaded 0 dynamic.TpOff64 Image o)) (less o (unwrap_or x.offset 0) ∷ [])
   own_distance at o small = λ i below.
       hit m l x (own m l x at dynamic.TpOff64 o) [] i (digit 0 i) below
       ∙ own_written m l x at dynamic.TpOff64 o i ∙ front _ _ i below

@@ -1,7 +1,7 @@
 -- What the entries of a table have in them: the name of an import is listed, and an address is one of 64 bits.
 use Rattle.std.proofs.Common.{◌≡◌, ◌≢◌, ◌∙◌, ◌+◌, ◌<◌, ◌^◌, ◌&&◌, ℕ, zero, suc, Bool, true, false, List}
 use Rattle.std.proofs.Common.{[], ◌∷◌, Option, Some, None, length, filter, refl, sym, ap, subst, arith}
-use Rattle.std.specs.Prelude.{option_and_then, option_map, slice_index_or, if◌then◌else◌}
+use Rattle.std.specs.Prelude.{nat_eq, option_and_then, option_map, slice_index_or, if◌then◌else◌}
 use Rattle.std.specs.List.{All, Contains, flat_map, list_any, range_with_len}
 use Rattle.std.specs.Str.{bytes_eq}
 use Rattle.std.proofs.lemmas.Bool.{or_left, or_right}
@@ -10,7 +10,7 @@ use Rattle.std.proofs.lemmas.List.Elements.{All-nil, All-tail, filter_passes}
 use Rattle.std.proofs.lemmas.List.Folds.{list_any-append}
 use Rattle.std.proofs.lemmas.Slice.Eq.{bytes_eq-Decides}
 use Rattle.dynamic_symbols.proofs.Lists.{all_flat}
-use Rattle.dynamic_symbols.specs.Names.{imported_at, imported_from, imported_in, imports as imports_of, is_import, is_startup}
+use Rattle.dynamic_symbols.specs.Names.{imported_at, imported_in, imports as imports_of, is_import, is_startup}
 use Rattle.elf_object.specs.declared.relocation.Relocation.{Relocation}
 use Rattle.elf_object.specs.Lawful.{IsLawful}
 use Rattle.elf_object.specs.LawsOfRelocations.{lawful}
@@ -24,7 +24,7 @@ use Rattle.got_pairs.specs.declared.need.Need.TheVariants.{ModulePair, SymbolPai
 use Rattle.got_pairs.specs.declared.need.Need.TheVariants.{AddressWord, RuntimeWord}
 use Rattle.got_pairs.specs.declared.need.Target.{Target}
 use Rattle.got_pairs.specs.declared.need.Target.TheVariants as target
-use Rattle.got_pairs.specs.Needs.{by_group, entries as entries_of, group_of, groups, of_group, same_group}
+use Rattle.got_pairs.specs.Needs.{by_group, entries as entries_of, group_of, of_group}
 use Rattle.link_core.proofs.RelativesApart.{all_sorted}
 use Rattle.link_core.specs.Dynamic.{imports}
 use Rattle.link_faults.specs.declared.binding.Binding.{Binding}
@@ -32,9 +32,9 @@ use Rattle.link_faults.specs.declared.binding.Binding.TheVariants.{Here, Startup
 use Rattle.link_faults.specs.declared.symbol_ref.SymbolRef.{SymbolRef}
 use Rattle.link_needs.specs.Given.{IsGiven}
 use Rattle.link_needs.specs.Linking.{Linking, address, binding, choice, layout, object, offset, sites_at}
-use Rattle.link_needs.specs.Needs.{address_fields, address_needs, as_list, calls, entries, is_address_kind, is_kept}
-use Rattle.link_needs.specs.Needs.{need_by, needs, new_relocation, object_needs, object_needs_from, own_word, reaching}
-use Rattle.link_needs.specs.Needs.{relocation_need, section_needs, site_needs, site_needs_from, target_by}
+use Rattle.link_needs.specs.Needs.{address_fields, address_needs, calls, entries, is_address_kind, is_kept}
+use Rattle.link_needs.specs.Needs.{need_by, needs, new_relocation, object_needs, own_word, reaching}
+use Rattle.link_needs.specs.Needs.{relocation_need, section_needs, site_needs, target_by}
 use Rattle.loaded_names.proofs.Defined.{any_distinct, any_flat}
 use Rattle.relax_sites.specs.declared.choices.Choice.{Choice}
 use Rattle.relax_sites.specs.declared.choices.Choice.TheVariants.{Keep, GdLe, GdIe, IeLe, DescLe, DescIe}
@@ -50,6 +50,8 @@ use Rattle.tls_symbols.proofs.BoundAlike.{bound_alike}
 use Rattle.tls_symbols.specs.Bindings.{may_import}
 use Rattle.loaded_words.proofs.Addresses.{bound_low}
 use Rattle.link_core.proofs.GotRelocationsNeeds.{distinct_suits as distinct_read}
+use Rattle.tls_symbols.specs.Definitions.{flat_map_from}
+use Rattle.std.specs.Prelude.{option_to_list}
 
 -- ** what is read of an entry
 
@@ -73,19 +75,21 @@ IsRead l RuntimeWord = Unit {0}
 module _ (l : Linking) (name : List ℕ) where
   listed_from : (n : ℕ) (sites : List (List Site)) (o : ℕ) → o < length sites
       → list_any (bytes_eq name) (imported_in l.objects l.startup (n + o) (slice_index_or sites o [])) ≡ true
-      → list_any (bytes_eq name) (imported_from l.objects l.startup n sites) ≡ true
+      → list_any (bytes_eq name) (flat_map_from (imported_in l.objects l.startup) n sites) ≡ true
   listed_from n [] o below is = absurd (omega (arith, below))
   listed_from n (own ∷ more) zero below is =
       let at : n + 0 ≡ n = omega arith in
-      list_any-append (bytes_eq name) (imported_in l.objects l.startup n own) (imported_from l.objects l.startup (n + 1) more)
+      list_any-append (bytes_eq name) (imported_in l.objects l.startup n own)
+          (flat_map_from (imported_in l.objects l.startup) (n + 1) more)
       ∙ or_left (list_any (bytes_eq name) (imported_in l.objects l.startup n own))
-      (list_any (bytes_eq name) (imported_from l.objects l.startup (n + 1) more))
+      (list_any (bytes_eq name) (flat_map_from (imported_in l.objects l.startup) (n + 1) more))
       (ap (λ m. list_any (bytes_eq name) (imported_in l.objects l.startup m own)) (sym at) ∙ is)
   listed_from n (own ∷ more) (suc o) below is =
       let at : n + 1 + o ≡ n + suc o = omega arith in
-      list_any-append (bytes_eq name) (imported_in l.objects l.startup n own) (imported_from l.objects l.startup (n + 1) more)
+      list_any-append (bytes_eq name) (imported_in l.objects l.startup n own)
+          (flat_map_from (imported_in l.objects l.startup) (n + 1) more)
       ∙ or_right (list_any (bytes_eq name) (imported_in l.objects l.startup n own))
-      (list_any (bytes_eq name) (imported_from l.objects l.startup (n + 1) more))
+      (list_any (bytes_eq name) (flat_map_from (imported_in l.objects l.startup) (n + 1) more))
       (listed_from (n + 1) more o (omega (arith, below))
       (ap (λ m. list_any (bytes_eq name) (imported_in l.objects l.startup m (slice_index_or more o []))) at ∙ is))
 
@@ -102,7 +106,7 @@ module _ (l : Linking) (o : ℕ) (site : Site) (there : o < length l.sites) (amo
       let own : list_any (bytes_eq name) (imported_in l.objects l.startup o (sites_at l o)) ≡ true =
       any_flat (bytes_eq name) (imported_at l.objects l.startup o) (sites_at l o) among.0 site among.1
       (ap (λ (s : Site). list_any (bytes_eq name) (imported_at l.objects l.startup o s)) among.2 ∙ here) in
-      any_distinct name (imported_from l.objects l.startup 0 l.sites)
+      any_distinct name (flat_map_from (imported_in l.objects l.startup) 0 l.sites)
       (listed_from l name 0 l.sites o there
       (ap (λ m. list_any (bytes_eq name) (imported_in l.objects l.startup m (sites_at l o))) (sym start) ∙ own))
 
@@ -118,7 +122,7 @@ module _ (l : Linking) where
   -- an entry that is made of a variable
   made : (f : Target → Need) → ((x : Target) → TargetIsRead l x → R (f x)) → (o e : ℕ) (bound : Option Binding)
       → (is_startup bound ≡ true → IsListed l (symbol_name (object l o) e))
-      → All R (as_list (option_map f (target_by l o e bound)))
+      → All R (option_to_list (option_map f (target_by l o e bound)))
   made f reads o e None import = All-nil R
   made f reads o e (Some Runtime) import = All-nil R
   made f reads o e (Some (Startup image)) import =
@@ -129,7 +133,7 @@ module _ (l : Linking) where
   -- that of a field whose type is none of an address
   field_read : (kind : RelocationKind) → is_address_kind kind ≡ false → (o e : ℕ) (bound : Option Binding)
       → (may_import kind ≡ true → is_startup bound ≡ true → IsListed l (symbol_name (object l o) e))
-      → All R (as_list (need_by l o e bound kind))
+      → All R (option_to_list (need_by l o e bound kind))
   field_read TlsGd other o e bound import = made SymbolPair (λ x reads. reads) o e bound (import refl)
   field_read TlsLd other o e bound import = one ModulePair tt
   field_read GotTpOff other o e bound import = made SymbolWord (λ x reads. reads) o e bound (import refl)
@@ -172,7 +176,7 @@ module _ (l : Linking) (o : ℕ) (site : Site) (there : o < length l.sites) (amo
   bound = binding l o (first_of site)
 
   new_read : (f : Option NewField) → IsNew site.form f
-      → All (R l) (as_list (option_and_then (relocation_need l o) (option_map (new_relocation site) f)))
+      → All (R l) (option_to_list (option_and_then (relocation_need l o) (option_map (new_relocation site) f)))
   unfolding relocation_need
   new_read None is = All-nil (R l)
   new_read (Some f) is =
@@ -181,7 +185,7 @@ module _ (l : Linking) (o : ℕ) (site : Site) (there : o < length l.sites) (amo
       (ap is_startup (bound_alike l.objects l.startup o (first_of site) (new_relocation site f) refl (is.1 ∙ sym may))
       ∙ other))
 
-  reached_read : (c : Choice) → All (R l) (as_list (option_and_then (relocation_need l o) (reaching site c)))
+  reached_read : (c : Choice) → All (R l) (option_to_list (option_and_then (relocation_need l o) (reaching site c)))
   unfolding relocation_need
   reached_read Keep =
       field_read l (row site.form).first (first_kind site.form) o site.symbol bound
@@ -195,7 +199,7 @@ module _ (l : Linking) (o : ℕ) (site : Site) (there : o < length l.sites) (amo
   site_read : All (R l) (site_needs l o site)
   unfolding site_needs
   site_read =
-      All-append (R l) (as_list (option_and_then (relocation_need l o) (reaching site (choice l o site))))
+      All-append (R l) (option_to_list (option_and_then (relocation_need l o) (reaching site (choice l o site))))
       (if is_kept (choice l o site) && calls site.form then RuntimeWord ∷ [] else []) (reached_read (choice l o site))
       (called_read (is_kept (choice l o site) && calls site.form))
 
@@ -209,12 +213,12 @@ read_flat l Q f each (x ∷ xs) all =
 
 sites_read : (l : Linking) (n : ℕ) (sites : List (List Site))
     → ((o : ℕ) → o < length sites → All (R l) (flat_map (site_needs l (n + o)) (slice_index_or sites o [])))
-    → All (R l) (site_needs_from l n sites)
+    → All (R l) (flat_map_from (λ o. flat_map (site_needs l o)) n sites)
 sites_read l n [] each = All-nil (R l)
 sites_read l n (own ∷ more) each =
     let P : ℕ → Type 0 = λ m. All (R l) (flat_map (site_needs l m) own) in
     let at : n + 0 ≡ n = omega arith in
-    All-append (R l) (flat_map (site_needs l n) own) (site_needs_from l (n + 1) more)
+    All-append (R l) (flat_map (site_needs l n) own) (flat_map_from (λ o. flat_map (site_needs l o)) (n + 1) more)
     (subst P at (each 0 (omega arith)))
     (sites_read l (n + 1) more (λ o below.
     let Q : ℕ → Type 0 = λ m. All (R l) (flat_map (site_needs l m) (slice_index_or more o [])) in
@@ -223,12 +227,13 @@ sites_read l n (own ∷ more) each =
 
 objects_read : (l : Linking) (n : ℕ) (objects : List (List ℕ))
     → ((o : ℕ) → o < length objects → All (R l) (object_needs l (n + o) (slice_index_or objects o [])))
-    → All (R l) (object_needs_from l n objects)
+    → All (R l) (flat_map_from (object_needs l) n objects)
 objects_read l n [] each = All-nil (R l)
 objects_read l n (b ∷ more) each =
     let P : ℕ → Type 0 = λ m. All (R l) (object_needs l m b) in
     let at : n + 0 ≡ n = omega arith in
-    All-append (R l) (object_needs l n b) (object_needs_from l (n + 1) more) (subst P at (each 0 (omega arith)))
+    All-append (R l) (object_needs l n b) (flat_map_from (object_needs l) (n + 1) more)
+        (subst P at (each 0 (omega arith)))
     (objects_read l (n + 1) more (λ o below.
     let Q : ℕ → Type 0 = λ m. All (R l) (object_needs l m (slice_index_or more o [])) in
     let next : n + suc o ≡ n + 1 + o = omega arith in
@@ -271,7 +276,8 @@ module _ (l : Linking) (given : IsGiven l) (limits : IsWithinLimits (layout l)) 
 needs_read : (l : Linking) → IsGiven l → IsWithinLimits (layout l) → All (R l) (needs l)
 unfolding needs
 needs_read l given limits =
-    All-append (R l) (site_needs_from l 0 l.sites) (object_needs_from l 0 l.objects) (sites_read l 0 l.sites each_site)
+    All-append (R l) (flat_map_from (λ o. flat_map (site_needs l o)) 0 l.sites)
+        (flat_map_from (object_needs l) 0 l.objects) (sites_read l 0 l.sites each_site)
     (objects_read l 0 l.objects each_object)
   where
     start : (o : ℕ) → 0 + o ≡ o
@@ -294,7 +300,7 @@ entries_all : (P : Need → Type 0) (xs : List Need) → All P xs → All P (ent
 unfolding entries_of
 entries_all P xs all =
     distinct_read P (by_group xs)
-    (all_flat P (λ g. of_group g xs) groups (λ g. All-filter (λ need. same_group g (group_of need)) P xs all))
+    (all_flat P (λ g. of_group g xs) (range_with_len 0 6) (λ g. All-filter (λ need. nat_eq (group_of need) g) P xs all))
 
 pub entries_read : (l : Linking) → IsGiven l → IsWithinLimits (layout l) → All (IsRead l) (entries l)
 unfolding entries

@@ -21,7 +21,7 @@ use Rattle.sequence_forms.specs.declared.places.Site.{Site}
 use Rattle.sequence_match.specs.Sites.{Covers}
 use Rattle.tls_relocs.specs.declared.fields.Field.{Field}
 use Rattle.tls_relocs.specs.Fields.{field_bytes}
-use Rattle.standing_sequences.specs.Bytes.{IsFilled, IsKept, IsPlain, IsSectionAt, byte_at}
+use Rattle.standing_sequences.specs.Bytes.{IsFilled, IsUnreplaced, IsPlain, IsSectionAt, byte_at}
 use Rattle.standing_sequences.specs.Images.{HoldsTheTable}
 use Rattle.standing_sequences.specs.Laws.{ImagesWithTheTableAgree, IsLinked}
 use Rattle.standing_sequences.specs.Table.{IsSequence, Matches}
@@ -93,14 +93,14 @@ module _ (l : Linking) (linked : IsLinked l) (image other : Spelled) (this : Hol
       ∙ ap (byte_at other) place
 
   -- in a field
-  in_field : (r : Relocation) → Contains (relocations (object l o) t) r → Covers r k → IsKept l o t k → Agree
+  in_field : (r : Relocation) → Contains (relocations (object l o) t) r → Covers r k → IsUnreplaced l o t k → Agree
   in_field r has over kept =
       let x = this.values o t address k r at has over kept in
       let y = that.values o t address k r at has over kept in
       let same = same_Some x.0 y.0 (sym x.1 ∙ y.1) in
       x.2 ∙ ap (λ (v : Field). slice_get (field_bytes v) (k - r.offset)) same ∙ sym y.2
 
-  elsewhere : IsKept l o t k → Agree
+  elsewhere : IsUnreplaced l o t k → Agree
   elsewhere kept = elim (finds (covers k) (relocations (object l o) t)) [
     | inl (r, has, passes) ↦
         in_field r has (covers_is_so r.offset k (r.offset + field_width r.kind) passes) kept

@@ -4,6 +4,7 @@ use Rattle.link_faults.specs.declared.binding.Binding.{Binding}
 use Rattle.link_faults.specs.declared.binding.Binding.TheVariants.{Here, Startup}
 use Rattle.link_faults.specs.declared.image_kind.ImageKind.{ImageKind}
 use Rattle.link_faults.specs.declared.image_kind.ImageKind.TheVariants.{Exe, Pie, Start, Late}
+use Rattle.link_faults.specs.ImageKinds.{is_module}
 use Rattle.link_needs.specs.Linking.{Linking, binding, choice, chosen}
 use Rattle.link_needs.specs.Needs.{is_kept}
 use Rattle.relax_sites.specs.declared.choices.Choice.{Choice}
@@ -14,7 +15,7 @@ use Rattle.sequence_forms.specs.declared.forms.Form.TheVariants.{Gd, Ld, IeMov, 
 use Rattle.sequence_forms.specs.declared.places.Site.{Site}
 use Rattle.sequence_match.specs.Sites.{first_of}
 use Rattle.standing_sequences.specs.Laws.{ChoicesAreTheTables}
-use Rattle.standing_sequences.specs.Table.{IsInTable, IsProgram, Matches}
+use Rattle.standing_sequences.specs.Table.{IsInTable, Matches}
 
 -- ** one row
 
@@ -84,22 +85,22 @@ taken_listed form bound e = absurd (cc)
 
 -- ** kinds and settings
 
-in_program : (form : Form) (bound : Binding) (kind : ImageKind) → IsProgram kind
+in_program : (form : Form) (bound : Binding) (kind : ImageKind) → is_module kind ≡ false
     → choice_of form bound kind true ≡ program_choice form bound
 in_program form bound Exe h = refl
 in_program form bound Pie h = refl
-in_program form bound Start h = absurd h
-in_program form bound Late h = absurd h
+in_program form bound Start h = absurd (cc)
+in_program form bound Late h = absurd (cc)
 
 record Asked (form : Form) (bound : Binding) (kind : ImageKind) (relax : Bool) : Type 0 where
   asked : relax ≡ true
-  program : IsProgram kind
+  program : is_module kind ≡ false
   listed : IsInTable form bound (choice_of form bound kind relax)
 
 asked_of : (form : Form) (bound : Binding) (kind : ImageKind) (relax : Bool)
     → is_kept (choice_of form bound kind relax) ≡ false → Asked form bound kind relax
-asked_of form bound Exe true e = record { asked = refl; program = tt; listed = taken_listed form bound e }
-asked_of form bound Pie true e = record { asked = refl; program = tt; listed = taken_listed form bound e }
+asked_of form bound Exe true e = record { asked = refl; program = refl; listed = taken_listed form bound e }
+asked_of form bound Pie true e = record { asked = refl; program = refl; listed = taken_listed form bound e }
 asked_of form bound kind false e = absurd (cc)
 asked_of form bound Start true e = absurd (cc)
 asked_of form bound Late true e = absurd (cc)

@@ -24,7 +24,7 @@ use Rattle.sequence_match.proofs.Sections.{fields_apart}
 use Rattle.sequence_match.specs.Code.{AreApart}
 use Rattle.sequence_match.specs.Faults.{IsSite}
 use Rattle.sequence_match.specs.Sites.{Covers, IsEntry}
-use Rattle.standing_sequences.specs.Bytes.{IsKept, IsPlain}
+use Rattle.standing_sequences.specs.Bytes.{IsUnreplaced, IsPlain}
 use Rattle.standing_sequences.specs.Laws.{IsLinked}
 use Rattle.standing_sequences.specs.Table.{IsSequence}
 use Rattle.standing_sequences.proofs.Choosing.{matches}
@@ -98,7 +98,7 @@ module _ (l : Linking) (given : IsGiven l) (o t : ℕ) (there : o < length l.obj
       let h = covers_is y.section t y.start k (y.start + y.len) (is_kept (choice l o y)) again in
       one_sequence y site k (sequence_of y has h.0) is h.1 h.2 low high)
 
-  pub none_rewritten : (k : ℕ) → IsKept l o t k → find (is_in_rewritten l o t k) (sites_at l o) ≡ None
+  pub none_rewritten : (k : ℕ) → IsUnreplaced l o t k → find (is_in_rewritten l o t k) (sites_at l o) ≡ None
   none_rewritten k kept =
       none_found (is_in_rewritten l o t k) (sites_at l o) (λ y has passes.
       let h = covers_is y.section t y.start k (y.start + y.len) (is_kept (choice l o y)) passes in
@@ -126,7 +126,7 @@ module _ (l : Linking) (given : IsGiven l) (o t : ℕ) (there : o < length l.obj
 
 -- the field of a relocation that covers a byte outside all rewritten sequences is there
 pub field_stays : (l : Linking) → IsLinked l → (o t : ℕ) → o < length l.objects → (r : Relocation) (k : ℕ)
-    → Contains (relocations (object l o) t) r → Covers r k → IsKept l o t k → is_replaced l o r ≡ false
+    → Contains (relocations (object l o) t) r → Covers r k → IsUnreplaced l o t k → is_replaced l o r ≡ false
 field_stays l linked o t there r k has covers kept = of_test (is_replaced l o r) refl
   where
     of_test : (x : Bool) → is_replaced l o r ≡ x → is_replaced l o r ≡ false

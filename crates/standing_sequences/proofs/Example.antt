@@ -38,12 +38,12 @@ unfolding linked program object
 example_stands = record {
   own = record {
     asked = refl;
-    program = tt;
+    program = refl;
     bound = Here (record { object = 0; symbol = 1 });
     bound_is = refl;
     listed = tt;
   };
-  theirs = record { asked = refl; program = tt; bound = Startup 2; bound_is = refl; listed = tt };
+  theirs = record { asked = refl; program = refl; bound = Startup 2; bound_is = refl; listed = tt };
   reads_already = none_for_y;
   rewritten = rewritten_has;
   not_asked = λ site choice m. let e = m.asked in cc;

@@ -21,7 +21,7 @@ use Rattle.tls_layout.proofs.LawsOfSections.{finds_sections}
 use Rattle.tls_relocs.specs.declared.fields.Field.{Field}
 use Rattle.tls_relocs.specs.declared.fields.Field.TheVariants.{Empty}
 use Rattle.tls_relocs.specs.Fields.{field_bytes}
-use Rattle.standing_sequences.specs.Bytes.{IsKept, IsPlain, IsSectionAt, byte_at, own_byte}
+use Rattle.standing_sequences.specs.Bytes.{IsUnreplaced, IsPlain, IsSectionAt, byte_at, own_byte}
 use Rattle.standing_sequences.specs.Laws.{FieldsStand, IsLinked, OwnBytesStand}
 use Rattle.standing_sequences.proofs.Covering.{field_found, field_stays, none_field, none_rewritten}
 use Rattle.standing_sequences.proofs.Parts.{part_byte}
@@ -46,7 +46,7 @@ module _ (l : Linking) (linked : IsLinked l) (o t address : ℕ) (at : IsSection
       (byte_stands l linked.given linked.links o t k address at.there at.address_is below)
 
   -- where no rewritten sequence has it
-  module _ (k : ℕ) (kept : IsKept l o t k) where
+  module _ (k : ℕ) (kept : IsUnreplaced l o t k) where
     abbrev own : ℕ
     own = slice_index_or (section_bytes (object l o) t) k 0
 

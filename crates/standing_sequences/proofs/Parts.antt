@@ -1,7 +1,7 @@
 -- Each class of sections is one part of the image, and the image has the file's bytes at its addresses.
 use Rattle.std.proofs.Common.{◌≡◌, ◌+◌, ◌-◌, ◌<◌, ◌≤◌, ◌&&◌, ◌∙◌, ℕ, Bool, true, false, List, [], ◌∷◌, ◌++◌, Some}
 use Rattle.std.proofs.Common.{length, map, drop, refl, ap, arith, if◌then◌else◌}
-use Rattle.std.specs.Prelude.{nat_le, nat_lt, slice_get}
+use Rattle.std.specs.Prelude.{nat_le, nat_lt, option_and_then, Option, slice_get}
 use Rattle.std.specs.List.{find}
 use Rattle.std.proofs.lemmas.Bool.{lt-ltb}
 use Rattle.std.proofs.lemmas.Bool.Decides.{nat_tests}
@@ -29,7 +29,11 @@ use Rattle.tls_layout.specs.declared.extent.Extent.{Extent}
 use Rattle.tls_layout.specs.Laws.{ClassesFollow, extent_for}
 use Rattle.tls_layout.specs.Places.{executable, read_only, tls_image, writable}
 use Rattle.tls_relocs.specs.Elements.{slice_get-drop, slice_get-take}
-use Rattle.standing_sequences.specs.Bytes.{byte_at, byte_of, holds}
+use Rattle.standing_sequences.specs.Bytes.{byte_at, holds}
+
+-- the byte of the part that was found
+abbrev byte_of : ℕ → Option Part → Option ℕ
+byte_of address = option_and_then (λ (part : Part). slice_get part.bytes (address - part.address))
 
 within : (start n a : ℕ) → start ≤ a → a < start + n → (nat_le start a && nat_lt a (start + n)) ≡ true
 within start n a low high = grind (arith, nat_tests)

@@ -24,7 +24,7 @@ use Rattle.tls_relocs.specs.declared.fields.Field.{Field}
 use Rattle.tls_relocs.specs.declared.fields.Field.TheVariants.{Empty}
 use Rattle.tls_relocs.specs.Elements.{slice_get-splice_after, slice_get-splice_before}
 use Rattle.tls_relocs.specs.Fields.{field_bytes}
-use Rattle.standing_sequences.specs.Bytes.{AreOfForm, HasForm, IsFilled, IsOutside, IsSectionAt, Stand}
+use Rattle.standing_sequences.specs.Bytes.{HasForm, IsFilled, IsOutside, IsSectionAt, Stand}
 use Rattle.standing_sequences.specs.Bytes.{byte_at}
 use Rattle.standing_sequences.specs.Laws.{IsLinked, RewrittenFormsStand}
 use Rattle.standing_sequences.specs.Table.{IsSequence, Matches}
@@ -109,7 +109,7 @@ module _ (l : Linking) (linked : IsLinked l) (o t address : ℕ) (at : IsSection
       of_new None = refl
       of_new (Some new) = refl
 
-  pub are_of_form : AreOfForm l o site c bytes
+  pub are_of_form : IsFilled l o site (new_bytes site.form c site.reg) (new_field site.form c) bytes
   unfolding bytes
   are_of_form = filled_is (new_field site.form c) refl
 

@@ -1,6 +1,6 @@
 -- Which bytes stand in an image, before a loader moves it, and which in the sections of its objects.
 use Rattle.std.specs.Prelude.{◌≡◌, ◌+◌, ◌-◌, ◌<◌, ◌≤◌, ◌⊎◌, ◌&&◌, ℕ, Bool, List, Option, Some, None, length}
-use Rattle.std.specs.Prelude.{nat_le, nat_lt, slice_get}
+use Rattle.std.specs.Prelude.{nat_le, nat_lt, option_and_then, slice_get}
 use Rattle.std.specs.List.{find}
 use Rattle.elf_object.specs.Lent.{relocations}
 use Rattle.elf_records.specs.Fields.{splice}
@@ -25,14 +25,11 @@ use Rattle.standing_sequences.specs.Table.{IsSequence, Matches}
 abbrev pub holds : ℕ → Part → Bool
 holds address part = nat_le part.address address && nat_lt address (part.address + length part.bytes)
 
-abbrev pub byte_of : ℕ → Option Part → Option ℕ
-byte_of address None = None
-byte_of address (Some part) = slice_get part.bytes (address - part.address)
-
 -- the byte at an address of an image: that of the part that holds the address; none if no part does
 -- (gABI, "Program Loading")
 unfoldable pub byte_at : Spelled → ℕ → Option ℕ
-byte_at image address = byte_of address (find (holds address) image.parts)
+byte_at image address =
+    option_and_then (λ (part : Part). slice_get part.bytes (address - part.address)) (find (holds address) image.parts)
 
 -- these bytes stand in the image from the address on, one after another
 abbrev pub Stand : Spelled → ℕ → List ℕ → Type 0
@@ -54,8 +51,8 @@ abbrev pub IsPlain : Linking → ℕ → ℕ → ℕ → Type 0
 IsPlain l o t k = IsBare (relocations (object l o) t) k
 
 -- no sequence with another form in the table has the byte
-abbrev pub IsKept : Linking → ℕ → ℕ → ℕ → Type 0
-IsKept l o t k =
+abbrev pub IsUnreplaced : Linking → ℕ → ℕ → ℕ → Type 0
+IsUnreplaced l o t k =
     (site : Site) (choice : Choice) → IsSequence l o t site → Matches l o site choice → site.start ≤ k
     → k < site.start + site.len → ⊥
 
@@ -68,11 +65,6 @@ IsFilled l o site row None bytes = bytes ≡ row
 IsFilled l o site row (Some new) bytes =
     (value : Field) × (field l o site.section (new_relocation site new) ≡ Some value)
     × (bytes ≡ splice new.at (field_bytes value) row)
-
--- these are the bytes of a rewritten form in the place of the sequence
-abbrev pub AreOfForm : Linking → ℕ → Site → Choice → List ℕ → Type 0
-AreOfForm l o site choice bytes =
-    IsFilled l o site (new_bytes site.form choice site.reg) (new_field site.form choice) bytes
 
 -- byte k of a row is not of its field
 abbrev pub IsOutside : Option NewField → ℕ → Type 0

@@ -9,11 +9,12 @@ use Rattle.link_needs.specs.Linking.{Linking, object}
 use Rattle.link_needs.specs.Values.{field}
 use Rattle.object_faults.specs.declared.class.SectionClass.TheVariants.{Executable}
 use Rattle.relax_sites.specs.declared.choices.Choice.{Choice}
+use Rattle.relax_sites.specs.Rows.{new_bytes, new_field}
 use Rattle.sequence_forms.specs.declared.places.Site.{Site}
 use Rattle.sequence_match.specs.Sites.{Covers}
 use Rattle.tls_relocs.specs.declared.fields.Field.{Field}
 use Rattle.tls_relocs.specs.Fields.{field_bytes}
-use Rattle.standing_sequences.specs.Bytes.{AreOfForm, HasForm, HasOwnForm, IsKept, IsPlain, IsSectionAt, Stand}
+use Rattle.standing_sequences.specs.Bytes.{HasForm, HasOwnForm, IsFilled, IsUnreplaced, IsPlain, IsSectionAt, Stand}
 use Rattle.standing_sequences.specs.Bytes.{byte_at, own_byte}
 use Rattle.standing_sequences.specs.Table.{IsDue, IsSequence, Matches, MayReplace}
 
@@ -41,18 +42,18 @@ module _ (l : Linking) (image : Spelled) where
   abbrev pub FormsStand : Type 0
   FormsStand = (o t address : ℕ) (site : Site) (choice : Choice) → IsSectionAt l o t address → IsSequence l o t site
       → Matches l o site choice
-      → (bytes : List ℕ) × AreOfForm l o site choice bytes × (length bytes ≡ site.len)
-      × Stand image (address + site.start) bytes
+      → (bytes : List ℕ) × IsFilled l o site (new_bytes site.form choice site.reg) (new_field site.form choice) bytes
+      × (length bytes ≡ site.len) × Stand image (address + site.start) bytes
 
   -- everywhere else the object's own bytes stand,
   abbrev pub OwnStand : Type 0
   OwnStand = (o t address k : ℕ) → IsSectionAt l o t address → k < section_size (object l o) t
-      → IsKept l o t k → IsPlain l o t k → byte_at image (address + k) ≡ own_byte l o t k
+      → IsUnreplaced l o t k → IsPlain l o t k → byte_at image (address + k) ≡ own_byte l o t k
 
   -- except in fields, which hold the values of their relocations, and these fit
   abbrev pub ValuesStand : Type 0
   ValuesStand = (o t address k : ℕ) (r : Relocation) → IsSectionAt l o t address
-      → Contains (relocations (object l o) t) r → Covers r k → IsKept l o t k
+      → Contains (relocations (object l o) t) r → Covers r k → IsUnreplaced l o t k
       → (value : Field) × (field l o t r ≡ Some value)
       × (byte_at image (address + k) ≡ slice_get (field_bytes value) (k - r.offset))
 

@@ -1,10 +1,9 @@
 -- What identifies a sequence in code, and the table by which a linker writes another form in its place ("ELF Handling
 -- For Thread-Local Storage", section 5, "Linker Relaxations"; psABI, "Thread-Local Storage").
-use Rattle.std.specs.Prelude.{◌≡◌, ℕ, true, Some}
+use Rattle.std.specs.Prelude.{◌≡◌, ℕ, true, false, Some}
 use Rattle.link_faults.specs.declared.binding.Binding.{Binding}
 use Rattle.link_faults.specs.declared.binding.Binding.TheVariants.{Here, Startup}
-use Rattle.link_faults.specs.declared.image_kind.ImageKind.{ImageKind}
-use Rattle.link_faults.specs.declared.image_kind.ImageKind.TheVariants.{Exe, Pie, Start, Late}
+use Rattle.link_faults.specs.ImageKinds.{is_module}
 use Rattle.link_needs.specs.Linking.{Linking, binding, object}
 use Rattle.relax_sites.specs.declared.choices.Choice.{Choice}
 use Rattle.relax_sites.specs.declared.choices.Choice.TheVariants.{GdLe, GdIe, LdLe, IeLe, DescLe, DescIe}
@@ -40,19 +39,11 @@ IsInTable DescCall (Here variable) DescLe = Unit {0}
 IsInTable DescCall (Startup image) DescIe = Unit {0}
 IsInTable form bound choice = ⊥
 
--- a program: its block is at a fixed offset from the thread pointer; a module may be opened late, and then
--- its block may be anywhere
-abbrev pub IsProgram : ImageKind → Type 0
-IsProgram Exe = Unit {0}
-IsProgram Pie = Unit {0}
-IsProgram Start = ⊥
-IsProgram Late = ⊥
-
 -- the table gives a sequence of object o this form: a program is linked, with rewriting, and the row is that of the
--- sequence's form and its symbol's binding
+-- sequence's form and its symbol's binding; a module may be opened late, and then its block may be anywhere
 pub record Matches (l : Linking) (o : ℕ) (site : Site) (choice : Choice) : Type 0 where
   pub asked : l.relax ≡ true
-  pub program : IsProgram l.kind
+  pub program : is_module l.kind ≡ false
   pub bound : Binding
   pub bound_is : binding l o (first_of site) ≡ Some bound
   pub listed : IsInTable site.form bound choice

@@ -18,7 +18,7 @@ use Rattle.link_needs.proofs.Reached.{called_entry, sites_reach_entries}
 use Rattle.link_needs.specs.Laws.{HasEntry, ReachesEntries}
 use Rattle.link_needs.specs.Given.{IsGiven}
 use Rattle.link_needs.specs.Linking.{Linking, binding, choice, sites_at}
-use Rattle.link_needs.specs.Needs.{as_list, calls, is_kept, need_by, new_relocation, reaching}
+use Rattle.link_needs.specs.Needs.{calls, is_kept, need_by, new_relocation, reaching}
 use Rattle.link_needs.specs.Needs.{relocation_need, site_needs, target_by}
 use Rattle.link_needs.specs.Values.{is_rewriting}
 use Rattle.relax_sites.specs.declared.rows.NewField.{NewField}
@@ -27,6 +27,7 @@ use Rattle.sequence_forms.specs.declared.forms.Form.{Form}
 use Rattle.sequence_forms.specs.declared.places.Site.{Site}
 use Rattle.sequence_forms.specs.Forms.{row}
 use Rattle.sequence_match.specs.Sites.{first_of}
+use Rattle.std.specs.Prelude.{option_to_list}
 
 -- ** where programs are rewritten
 

@@ -13,11 +13,13 @@ use Rattle.elf_records.specs.declared.symbol.SymbolBinding.TheVariants.{Local, G
 use Rattle.elf_object.specs.Lent.{symbol_binding, symbol_name, symbol_place, symbol_visibility}
 use Rattle.elf_object.specs.Parts.{symbol_count}
 use Rattle.link_faults.specs.declared.symbol_ref.SymbolRef.{SymbolRef}
-use Rattle.tls_symbols.specs.Bindings.{exported_at, exported_from, exported_in, exported_names, is_exported, is_symbol, is_tls_symbol, object_at}
+use Rattle.tls_symbols.specs.Bindings.{exported_at, exported_in, exported_names, is_exported, is_symbol, is_tls_symbol}
+use Rattle.tls_symbols.specs.Bindings.{object_at}
 use Rattle.elf_records.specs.Symbols.{is_visible}
 use Rattle.tls_symbols.specs.Definitions.{defines, definition_of, first_from, first_in, found_or, is_defined, or_weak, same_binding}
 use Rattle.tls_symbols.specs.Laws.{is_exported_by, ExportsAreByName}
 use Rattle.tls_symbols.proofs.Within.{Dropped, dropped_is, find_found}
+use Rattle.tls_symbols.specs.Definitions.{flat_map_from}
 
 -- ** tests
 
@@ -152,32 +154,37 @@ module _ (objects : List (List ℕ)) (name : List ℕ) where
   unfolding exported_in
   lists_object o b e low high is = lists_some o b 1 (symbol_count b - 1) e low (omega (arith, low, high)) is
 
-  any_listed : (more : List (List ℕ)) (o : ℕ) → drop o objects ≡ more → list_any (bytes_eq name) (exported_from objects o more) ≡ true → (q e : ℕ) × Lists q e (object_at objects q)
+  any_listed : (more : List (List ℕ)) (o : ℕ) → drop o objects ≡ more → list_any (bytes_eq name)
+      (flat_map_from (exported_in objects) o more) ≡ true → (q e : ℕ) × Lists q e (object_at objects q)
   any_listed [] o d is = absurd (cc)
   any_listed (b ∷ more) o d is =
       let at = dropped_is objects o [] b more d in
-      elim (either (list_any (bytes_eq name) (exported_in objects o b)) (list_any (bytes_eq name) (exported_from objects (o + 1) more))
-      (sym (list_any-append (bytes_eq name) (exported_in objects o b) (exported_from objects (o + 1) more)) ∙ is)) [
+      elim (either (list_any (bytes_eq name) (exported_in objects o b))
+          (list_any (bytes_eq name) (flat_map_from (exported_in objects) (o + 1) more))
+      (sym (list_any-append (bytes_eq name) (exported_in objects o b)
+          (flat_map_from (exported_in objects) (o + 1) more)) ∙ is)) [
         | inl here ↦ let found = object_listed o b here in (o, found.0, subst (Lists o found.0) (sym at.here) found.1)
         | inr later ↦ any_listed more (o + 1) at.rest later
       ]
 
   lists_any : (more : List (List ℕ)) (o q e : ℕ) → drop o objects ≡ more → o ≤ q → q < length objects → 1 ≤ e → e < symbol_count (object_at objects q)
-      → Lists q e (object_at objects q) → list_any (bytes_eq name) (exported_from objects o more) ≡ true
+      → Lists q e (object_at objects q) → list_any (bytes_eq name) (flat_map_from (exported_in objects) o more) ≡ true
   lists_any [] o q e d low high above below is = absurd (omega (arith, low, high, none_left objects o d))
     where
       none_left : (xs : List (List ℕ)) (n : ℕ) → drop n xs ≡ [] → length xs ≤ n
       none_left xs n e = let none : length (drop n xs) ≡ 0 = ap length e in omega (arith, none, length-drop n xs)
   lists_any (b ∷ more) o q e d low high above below is =
       let at = dropped_is objects o [] b more d in
-      list_any-append (bytes_eq name) (exported_in objects o b) (exported_from objects (o + 1) more)
+      list_any-append (bytes_eq name) (exported_in objects o b) (flat_map_from (exported_in objects) (o + 1) more)
       ∙ elim (cases_lt o q) [
-        | inl later ↦ or_right (list_any (bytes_eq name) (exported_in objects o b)) (list_any (bytes_eq name) (exported_from objects (o + 1) more))
+        | inl later ↦ or_right (list_any (bytes_eq name) (exported_in objects o b))
+            (list_any (bytes_eq name) (flat_map_from (exported_in objects) (o + 1) more))
             (lists_any more (o + 1) q e at.rest (omega (arith, later)) high above below is)
         | inr same ↦ let is_o : q ≡ o = omega (arith, low, same) in
             let P : ℕ → Type 0 = λ m. Lists m e (object_at objects m) in
             let Q : ℕ → Type 0 = λ m. e < symbol_count (object_at objects m) in
-            or_left (list_any (bytes_eq name) (exported_in objects o b)) (list_any (bytes_eq name) (exported_from objects (o + 1) more))
+            or_left (list_any (bytes_eq name) (exported_in objects o b))
+                (list_any (bytes_eq name) (flat_map_from (exported_in objects) (o + 1) more))
             (lists_object o b e above (subst (λ c. e < symbol_count c) at.here (subst Q is_o below)) (subst (Lists o e) at.here (subst P is_o is)))
       ]
 
@@ -210,7 +217,8 @@ module _ (objects : List (List ℕ)) (name : List ℕ) where
       let found : definition_of objects name ≡ Some (record { object = o; symbol = e }) = ap (definition_of objects) named ∙ is_symbol_some (definition_of objects (symbol_name b e)) o e its.1 in
       ap (is_exported_by objects) found ∙ tests.1
 
-  from_definition : (found : Option SymbolRef) → definition_of objects name ≡ found → is_exported_by objects found ≡ true → list_any (bytes_eq name) (exported_from objects 0 objects) ≡ true
+  from_definition : (found : Option SymbolRef) → definition_of objects name ≡ found → is_exported_by objects found
+      ≡ true → list_any (bytes_eq name) (flat_map_from (exported_in objects) 0 objects) ≡ true
   from_definition None is h = cc
   from_definition (Some x) is h =
       let b = object_at objects x.object in
@@ -224,6 +232,7 @@ module _ (objects : List (List ℕ)) (name : List ℕ) where
 pub exports_by_name : ExportsAreByName
 unfolding exported_names
 exports_by_name objects name =
-    same_test (list_any (bytes_eq name) (exported_from objects 0 objects)) (is_exported_by objects (definition_of objects name))
+    same_test (list_any (bytes_eq name) (flat_map_from (exported_in objects) 0 objects))
+        (is_exported_by objects (definition_of objects name))
     (λ h. (let found = any_listed objects name objects 0 refl h in to_definition objects name found.0 found.1 found.2))
     (λ h. from_definition objects name (definition_of objects name) refl h)

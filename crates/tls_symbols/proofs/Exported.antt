@@ -13,7 +13,7 @@ use Rattle.elf_object.proofs.Ranges.{range_first}
 use Rattle.elf_records.specs.declared.symbol.SymbolBinding.TheVariants.{Local, Global, Weak}
 use Rattle.elf_records.specs.Symbols.{is_visible}
 use Rattle.link_faults.specs.declared.symbol_ref.SymbolRef.{SymbolRef}
-use Rattle.tls_symbols.specs.Bindings.{exported_at, exported_from, exported_in, exported_names, is_symbol, is_tls_symbol}
+use Rattle.tls_symbols.specs.Bindings.{exported_at, exported_in, exported_names, is_symbol, is_tls_symbol}
 use Rattle.tls_symbols.specs.Bindings.{object_at}
 use Rattle.tls_symbols.specs.Definitions.{definition_of, first_from, same_binding}
 use Rattle.tls_symbols.specs.declared.exporting.Offer.{Offer}
@@ -21,6 +21,7 @@ use Rattle.tls_symbols.specs.Numbers.{Names, at_number, Grows}
 use Rattle.tls_symbols.specs.Offers.{is_offered, name_at, offered_at, offered_from, offered_in, IsOffer, TellsAmong}
 use Rattle.tls_symbols.proofs.KnownNames.{or_else_weak}
 use Rattle.tls_symbols.proofs.Within.{dropped_is}
+use Rattle.tls_symbols.specs.Definitions.{flat_map_from}
 
 module _ (o : ℕ) (b : List ℕ) (seen : List SymbolRef) (a : ℕ) (below : a < symbol_count b) where
   pub offer_here : is_offered b a ≡ true
@@ -83,7 +84,7 @@ module _ (objects : List (List ℕ)) where
       ∙ sym (flat_map-cons (exported_at objects o b) e es)
 
   exported_of_objects : (o : ℕ) (left : List (List ℕ)) → drop o objects ≡ left
-      → flat_map (bound_name objects) (offered_from o left) ≡ exported_from objects o left
+      → flat_map (bound_name objects) (offered_from o left) ≡ flat_map_from (exported_in objects) o left
   unfolding offered_in exported_in
   exported_of_objects o [] are = refl
   exported_of_objects o (b ∷ more) are =

@@ -16,7 +16,7 @@ use Rattle.link_faults.specs.declared.binding.Binding.TheVariants.{Here, Startup
 use Rattle.link_faults.specs.declared.symbol_ref.SymbolRef.{SymbolRef}
 use Rattle.tls_symbols.specs.declared.imports.Imports.{Imports}
 use Rattle.tls_symbols.specs.declared.imports.Imports.TheVariants.{Yes, No}
-use Rattle.tls_symbols.specs.Definitions.{definition_of, same_binding, IsWithin}
+use Rattle.tls_symbols.specs.Definitions.{definition_of, flat_map_from, same_binding, IsWithin}
 
 -- the bytes of object o
 abbrev pub object_at : List (List ℕ) → ℕ → List ℕ
@@ -54,14 +54,9 @@ exported_at objects o b e = if is_exported objects o b e then symbol_name b e �
 unfoldable pub exported_in : List (List ℕ) → ℕ → List ℕ → List (List ℕ)
 exported_in objects o b = flat_map (exported_at objects o b) (range_with_len 1 (symbol_count b - 1))
 
--- the names that symbols of the objects from number o on export
-abbrev pub exported_from : List (List ℕ) → ℕ → List (List ℕ) → List (List ℕ)
-exported_from objects o [] = []
-exported_from objects o (b ∷ more) = exported_in objects o b ++ exported_from objects (o + 1) more
-
 -- the names that an image of these objects exports, in the order of their definitions
 unfoldable pub exported_names : List (List ℕ) → List (List ℕ)
-exported_names objects = exported_from objects 0 objects
+exported_names objects = flat_map_from (exported_in objects) 0 objects
 
 -- ** what a symbol is bound to
 

@@ -1,6 +1,7 @@
 -- The symbol that a name binds to in an image (gABI, "Symbol Table": a GLOBAL definition takes precedence over a WEAK
 -- one).
-use Rattle.std.specs.Prelude.{◌+◌, ◌-◌, ◌&&◌, ℕ, List, [], ◌∷◌, Bool, true, false, Option, Some, None, ◌<◌, length}
+use Rattle.std.specs.Prelude.{◌+◌, ◌-◌, ◌&&◌, ◌++◌, ℕ, List, [], ◌∷◌, Bool, true, false, Option, Some, None, ◌<◌}
+use Rattle.std.specs.Prelude.{length}
 use Rattle.std.specs.Prelude.{slice_index_or}
 use Rattle.std.specs.List.{find, range_with_len}
 use Rattle.std.specs.Str.{bytes_eq}
@@ -11,6 +12,11 @@ use Rattle.elf_object.specs.declared.symbol.SymbolPlace.TheVariants.{Undefined, 
 use Rattle.elf_object.specs.Lent.{symbol_name, symbol_binding, symbol_place}
 use Rattle.elf_object.specs.Parts.{symbol_count}
 use Rattle.link_faults.specs.declared.symbol_ref.SymbolRef.{SymbolRef}
+
+-- what is made of each element by its number, one after another; the first has number n
+abbrev pub flat_map_from : {X A : Type 0} → (ℕ → X → List A) → ℕ → List X → List A
+flat_map_from made n [] = []
+flat_map_from made n (x ∷ more) = made n x ++ flat_map_from made (n + 1) more
 
 abbrev pub same_binding : SymbolBinding → SymbolBinding → Bool
 same_binding Local Local = true

@@ -3,7 +3,7 @@ use Rattle.std.specs.Global.{Vec}
 use Rattle.std.specs.Prelude.{slice_index_or}
 use Rattle.sequence_forms.specs.declared.places.Site.{Site}
 use Rattle.tls_symbols.specs.Bindings.{object_at}
-use Rattle.dynamic_symbols.specs.Names.{distinct, imported_from, imported_in, imports}
+use Rattle.dynamic_symbols.specs.Names.{distinct, imported_in, imports}
 use Rattle.dynamic_symbols.specs.Found.{with_names}
 use Rattle.sequence_match.specs.Sites.{HaveSymbols}
 use Rattle.dynamic_symbols.proofs.Adding.{added, ended_from, object_is, walk_from}
@@ -11,6 +11,7 @@ use Rattle.dynamic_symbols.proofs.Unasked.{nothing_imported}
 use Rattle.sequence_match.proofs.OwnSites.{own_sites, drop_here}
 use Rattle.dynamic_symbols.proofs.importing.imports.Goals as goal
 use Rattle.dynamic_symbols.proofs.importing.imports.Goals.{then-may_import+in_ok-add_imported, else-may_import}
+use Rattle.tls_symbols.specs.Definitions.{flat_map_from}
 
 -- the symbols of an object's sites are its own
 own_symbols : (objects : List (List ℕ)) (sites : List (Vec Site)) (i : ℕ) (b : List ℕ) (own : Vec Site)
@@ -37,7 +38,7 @@ loop-index-preserved c =
     let own = c.index-sites-index.result in
     let b = c.index-objects-index.result in
     let seen = map (λ name. name.now) c.loop-index.names.keys in
-    let rest = imported_from objects startup (i + 1) (map (λ v. v.items) (drop (i + 1) sites)) in
+    let rest = flat_map_from (imported_in objects startup) (i + 1) (map (λ v. v.items) (drop (i + 1) sites)) in
     let symbols =
     own_symbols c.args.objects.now sites i b own c.requires.symbols c.requires.each c.index-objects-index.is c.index-sites-index.is c.loop-index-test.true in
     let each : map (λ name. name.now) c.if-may_import.names.keys ≡ with_names seen (imported_in objects startup i own.items) =
@@ -62,5 +63,5 @@ returns c =
     let listed = map (λ own. own.items) sites in
     ended_from objects startup (map (λ name. name.now) c.loop-index.names.keys) sites c.loop-index.index c.loop-index-test.false
     ∙ c.loop-index.invariant
-    ∙ added (imported_from objects startup 0 listed)
-    ∙ ap (λ os. distinct (imported_from os startup 0 listed)) (sym c.requires.objects)
+    ∙ added (flat_map_from (imported_in objects startup) 0 listed)
+    ∙ ap (λ os. distinct (flat_map_from (imported_in os startup) 0 listed)) (sym c.requires.objects)

@@ -4,7 +4,7 @@ use Rattle.std.proofs.lemmas.List.{map-append}
 use Rattle.std.proofs.lemmas.List.Elements.{All-push}
 use Rattle.job_text.specs.declared.images.Image.{Image}
 use Rattle.link_faults.specs.declared.image_kind.ImageKind.{ImageKind}
-use Rattle.job_link.specs.Given.{Given, IsGiven}
+use Rattle.job_link.specs.Given.{Given, IsGivenImage}
 use Rattle.job_link.specs.Reads.{kinds_of}
 use Rattle.job_link.proofs.Unseen.{one_more}
 use Rattle.job_link.proofs.reading.empty_images.Goals as goal
@@ -27,8 +27,9 @@ loop-image-preserved c =
           ∙ sym (map-append (λ (image : Image). image.kind) (take i items) (image ∷ []))
           ∙ ap (map (λ (image : Image). image.kind)) (sym more);
       given =
-          subst (λ (images : List Given). All IsGiven images) (sym c.in_ok-push.ensures.items)
-          (All-push IsGiven c.loop-image.images.items c.new.result c.loop-image.invariant.given c.new.ensures.given);
+          subst (λ (images : List Given). All IsGivenImage images) (sym c.in_ok-push.ensures.items)
+          (All-push IsGivenImage c.loop-image.images.items c.new.result c.loop-image.invariant.given
+          c.new.ensures.given);
       empty =
           subst (λ (images : List Given). All (λ (g : Given). g.objects ≡ []) images) (sym c.in_ok-push.ensures.items)
           (All-push (λ (g : Given). g.objects ≡ []) c.loop-image.images.items c.new.result c.loop-image.invariant.empty

@@ -3,7 +3,7 @@ use Rattle.std.specs.List.{All}
 use Rattle.std.proofs.lemmas.List.{length_push, map-append, take_more}
 use Rattle.std.proofs.lemmas.List.Elements.{All-push}
 use Rattle.sequence_match.specs.Faults.{AreSites}
-use Rattle.job_link.specs.Given.{Allows, IsSound, IsTaken}
+use Rattle.job_link.specs.Given.{Allows, IsSoundObject, IsTaken}
 use Rattle.job_link.specs.Mentions.{bytes_in}
 use Rattle.job_link.specs.Reads.{IsReading}
 use Rattle.job_link.proofs.Filled.{allowed_of, refused_at}
@@ -16,7 +16,7 @@ push-requires-clause-sound g c =
     let read = next_of (IsReading c.args.writable bytes) c.args.image.now.objects c.into_iter-reading-iterator.result c.loop-reading.reading-iterator
     c.next.new.self c.loop-reading.yielded c.in-Some.reading [] (search rules) c.loop-reading.yielded_by c.in-Some.ensures.steps.0 in
     let its = subst (IsReading c.args.writable bytes (get_or c.args.image.now.objects (length c.loop-reading.yielded) [])) c.in-Ok.is read.1 in
-    subst (λ (b : List ℕ). IsSound b) (sym its.0) its.2.sound
+    subst (λ (b : List ℕ). IsSoundObject b) (sym its.0) its.2.sound
 
 pub push-requires-clause-sites : goal.push-requires-clause-sites
 push-requires-clause-sites g c =

@@ -1,11 +1,12 @@
 use Rattle.std.proofs.Common.{◌∙◌, sym, ap}
 use Rattle.std.specs.List.{list_any}
-use Rattle.link_needs.specs.Linking.{choices_in}
 use Rattle.link_needs.specs.Needs.{has_stub, is_stub_call}
 use Rattle.link_needs.proofs.ChoiceLemmas.{choices_there, own_choices}
 use Rattle.link_needs.proofs.NeedsLemmas.{stub_here, stub_later, stub_none}
 use Rattle.link_needs.proofs.PlanLemmas.{none_left, own_are, own_left, sites_there}
 use Rattle.link_needs.proofs.inputs.Inputs.has_stub.Goals as goal
+use Rattle.link_needs.specs.Linking.{choice}
+use Rattle.std.specs.Prelude.{map}
 
 pub bounds-choices-object : goal.bounds-choices-object
 bounds-choices-object c =
@@ -23,7 +24,7 @@ calls_stub_in-requires c =
     let are = own_are l c.self.inside.sites.now same i c.own-item.result c.own-item.is c.loop-object-test.true in
     c.as_slice-choices.ensures.value
     ∙ own_choices l c.args.choices.now i c.requires there c.index-choices-object.result c.index-choices-object.is
-    ∙ ap (choices_in l i) (are ∙ sym c.as_slice.ensures.value)
+    ∙ ap (map (choice l i)) (are ∙ sym c.as_slice.ensures.value)
 
 pub returns-then-calls_stub_in : goal.returns-then-calls_stub_in
 unfolding has_stub

@@ -1,9 +1,11 @@
 use Rattle.std.proofs.Common.{◌∙◌, ◌++◌, ap}
 use Rattle.std.specs.List.{flat_map}
 use Rattle.std.proofs.lemmas.Result.{IfOk-weaker}
-use Rattle.link_needs.specs.Needs.{needs, site_needs_from}
+use Rattle.link_needs.specs.Needs.{needs}
 use Rattle.link_needs.proofs.NeedsLemmas.{absolutes_found, choices_found, fields_found, sites_found}
 use Rattle.link_needs.proofs.inputs.Inputs.wanted.Goals as goal
+use Rattle.link_needs.specs.Needs.{site_needs}
+use Rattle.tls_symbols.specs.Definitions.{flat_map_from}
 
 pub returns-clause-needs : goal.returns-clause-needs
 unfolding needs
@@ -13,7 +15,8 @@ returns-clause-needs g c =
     let of_sites = sites_found l all c.in_ok-all.ensures c.is_given.ensures.each in
     let of_fields = fields_found l all c.in_ok-all.ensures in
     IfOk-weaker c.joined.result _ _
-    (λ wanted are. are ∙ ap (λ xs. xs ++ flat_map (λ own. own.fields.items) all) of_sites ∙ ap (λ xs. site_needs_from l 0 l.sites ++ xs) of_fields)
+    (λ wanted are. are ∙ ap (λ xs. xs ++ flat_map (λ own. own.fields.items) all) of_sites ∙ ap
+        (λ xs. flat_map_from (λ o. flat_map (site_needs l o)) 0 l.sites ++ xs) of_fields)
     c.joined.ensures.needs
 
 pub returns-clause-absolutes : goal.returns-clause-absolutes
