@@ -11,16 +11,14 @@ unfoldable pub use Rattle.elf_records.specs.Strings.{text_at}
 use Rattle.elf_records.specs.Records.{rela_symbol, rela_kind, symbol_binding, symbol_kind, symbol_visibility}
 use Rattle.elf_records.specs.declared.program_header.TheConstants.{PF_X, PF_R}
 use Rattle.elf_records.specs.declared.symbol.TheConstants.{SHN_UNDEF}
-use Rattle.elf_records.specs.declared.dynamic.TheConstants.{DT_FLAGS}
 use Rattle.elf_records.specs.Symbols.{binding_numbered, type_numbered, visibility_numbered}
 use Rattle.image_rules.specs.declared.places.FileKind.{FileKind}
 use Rattle.image_faults.specs.declared.loader_kind.LoaderKind.TheVariants.{Relative}
 use Rattle.image_faults.specs.Parts.{segment, loads, tls}
 use Rattle.image_faults.specs.Array.{array_size, symbol_count, relocation_count, strings_place, strings_size}
-use Rattle.image_faults.specs.Array.{flags_entry, has_tag}
 use Rattle.image_faults.specs.Symbols.{symbol}
 use Rattle.image_faults.specs.Relocations.{rela, loader_kind}
-use Rattle.image_faults.specs.Places.{file_kind, got}
+use Rattle.image_faults.specs.Places.{file_kind, got, is_flagged}
 use Rattle.image_file.specs.declared.part.PartClass.{PartClass}
 use Rattle.image_file.specs.declared.part.PartClass.TheVariants.{Executable, ReadOnly, Writable}
 use Rattle.image_file.specs.declared.part.ImagePart.{ImagePart}
@@ -107,8 +105,7 @@ relocation_of r = record {
   addend = r.addend;
 }
 
--- the image that the bytes spell; names are a list of their own, since each is found only when asked for; it uses
--- static TLS if it has FLAGS
+-- the image that the bytes spell; names are a list of their own, since each is found only when asked for
 abbrev pub spelled : List ℕ → Spelled
 spelled b = record {
   kind = file_kind b;
@@ -119,5 +116,5 @@ spelled b = record {
   symbols = tabled (λ k. symbol_of (symbol b k)) (symbol_count b);
   names = tabled (name b) (symbol_count b);
   relocations = tabled (λ k. relocation_of (rela b k)) (relocation_count b);
-  is_flagged = has_tag b (flags_entry b) DT_FLAGS;
+  is_flagged = is_flagged b;
 }
