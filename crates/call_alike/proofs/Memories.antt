@@ -9,7 +9,7 @@ use Rattle.guest_operands.specs.declared.space.Access.{Access}
 use Rattle.guest_operands.specs.declared.space.Access.TheVariants.{Read, Write}
 use Rattle.guest_machine.specs.Access.{Accesses}
 use Rattle.guest_operands.specs.Closed.{closed}
-use Rattle.guest_machine.specs.Follow.{Alike, IsKept, Reaches}
+use Rattle.guest_machine.specs.Follow.{Alike, StayRelated, Reaches}
 use Rattle.guest_machine.specs.Ranges.{Range, byte_in, grants, with_byte}
 use Rattle.guest_machine.specs.Run.{is_look}
 use Rattle.job_meaning.specs.declared.values.Byte.{Byte}
@@ -174,7 +174,7 @@ module _ (g : Setting) (m : Meaning) (q : Loads ℕ) (history : List Event) (thr
           ) tt)
 
       -- with what is fixed at these events, whatever a memory has seen
-      whole_kept : IsKept (alike g)
+      whole_kept : StayRelated (alike g)
           (closed (λ space place. if is_look place then true else in_rooms place)
           (space_accesses ops (stack_start thread) (λ (e : List Event). meant_fixed)))
           (space_accesses plain_operations (stack_start thread) (λ (e : List Event). real_fixed))
@@ -215,7 +215,7 @@ module _ (g : Setting) (m : Meaning) (q : Loads ℕ) (history : List Event) (thr
       front_of : (s : Memory) (s' : Space Event ℕ) → Same s s' → IsFront s.seen history
       front_of s s' h = subst (λ (e : List Event). IsFront e history) (sym h.events) front
 
-      pub memory_kept : IsKept (alike g) Mine (thread_accesses q thread) Same
+      pub memory_kept : StayRelated (alike g) Mine (thread_accesses q thread) Same
       unfolding meant_accesses thread_accesses space_accesses fixed_at
       memory_kept = record {
         byte = λ s s' h place.

@@ -23,7 +23,8 @@ use Rattle.thread_blocks.specs.Turns.{Said, at_number}
 use Rattle.transcript_text.specs.declared.outcomes.Line.{Line as ShownLine}
 use Rattle.transcript_text.specs.Texts.{Shown}
 use Rattle.whole_meaning.specs.Jobs.{meant_world, verdict_of}
-use Rattle.whole_meaning.specs.Loads.{has_data, meaning_of}
+use Rattle.whole_meaning.specs.Loads.{meaning_of}
+use Rattle.link_needs.specs.Linking.{has_writable_data}
 use Rattle.commands.specs.Checks.{verdict}
 
 -- ** the images
@@ -92,7 +93,7 @@ pub record HasRun (job : JobParts) (ls : List Linking) (transcript : Shown) : Ty
   -- and if the job is clean, for which `check` prints `clean`, the transcript is the job's meaning
   pub meant_is : verdict job (as_checked ls) ≡ None → Tells (meaning_of_job job ls) transcript
   -- and if no image has data that threads write, the same holds of each thread that is clean by itself
-  pub thread_is : All (λ (l : Linking). has_data l ≡ false) ls
+  pub thread_is : All (λ (l : Linking). has_writable_data l ≡ false) ls
       → (thread : ℕ) (own : List ThreadLine) (printed : List ShownLine) → at_number job.lines thread ≡ Some own
       → at_number transcript.threads thread ≡ Some printed
       → IsMeant printed (meant_lines job ls transcript thread own printed)

@@ -58,8 +58,8 @@ is_far Unsigned32 (pos n) = not (nat_lt n (2 ^ 30))
 is_far Unsigned32 (negsuc n) = true
 is_far form a = false
 
-abbrev pub is_wide : Relocation → Bool
-is_wide r = is_far (row r.kind).form r.addend
+abbrev pub has_far_addend : Relocation → Bool
+has_far_addend r = is_far (row r.kind).form r.addend
 
 abbrev pub is_in_module : Refused → Bool
 is_in_module InModule = true
@@ -82,7 +82,7 @@ traits_of all = record {
   in_module = list_any (λ (r : Relocation). is_in_module (row r.kind).refused) all;
   where_moved = list_any (λ (r : Relocation). is_where_moved (row r.kind).refused) all;
   reaches_storage = list_any (λ (r : Relocation). reaches_storage (row r.kind).entry) all;
-  is_wide = list_any is_wide all;
+  is_wide = list_any has_far_addend all;
 }
 
 -- ** one relocation more
@@ -99,7 +99,7 @@ with_traits traits r = record {
   in_module = traits.in_module || is_in_module (row r.kind).refused;
   where_moved = traits.where_moved || is_where_moved (row r.kind).refused;
   reaches_storage = traits.reaches_storage || reaches_storage (row r.kind).entry;
-  is_wide = traits.is_wide || is_wide r;
+  is_wide = traits.is_wide || has_far_addend r;
 }
 
 -- ** what the reader keeps

@@ -3,7 +3,7 @@
 
 ghost use Rattle.std.specs.Prelude.{◌≡◌, ◌++◌, ◌∷◌, ℕ, [], List, IfOk, length};
 ghost use Rattle.elf_object.specs.Lent.{relocations};
-ghost use Rattle.elf_object.specs.Noted.{all_relocations, is_wide, reaches_storage, with_role, with_traits};
+ghost use Rattle.elf_object.specs.Noted.{all_relocations, has_far_addend, reaches_storage, with_role, with_traits};
 ghost use Rattle.elf_object.specs.Noted.{AreNoted, AreRoles};
 ghost use Rattle.elf_object.specs.Parts.{symbol_count};
 ghost use Rattle.elf_object.specs.Tables.{AreTargets};
@@ -52,9 +52,9 @@ pub struct Notes {
 const FAR: i64 = 1 << 30;
 
 /// Whether the addend may be too far from zero for its field, wherever the symbol and the field are.
-#[tactic(auto, unfolding(crate::specs::Noted::is_wide))]
+#[tactic(auto, unfolding(crate::specs::Noted::has_far_addend))]
 fn is_wide(relocation: &Relocation) -> bool
-    ensures { result ≡ is_wide relocation.now }
+    ensures { result ≡ has_far_addend relocation.now }
 {
     let addend = relocation.addend;
     match relocation.kind.row().form {

@@ -1,7 +1,7 @@
 -- Loads and stores of related memories, by their bytes.
 use Rattle.std.proofs.Common.{◌≡◌, ℕ, zero, suc, ◌+◌, ◌≤◌, List, [], ◌∷◌, length, Result, Ok, Err, refl, ap, ◌∙◌, inl, inr, arith}
 use Rattle.guest_operands.specs.Access.{Refusal, Refused, Shut, Accesses, IsSize, next_place, both_reached, reached, bytes_from, bytes_at, all_write, put_all, load_of, store_of}
-use Rattle.guest_machine.specs.Follow.{Reaches, All2, Alike, IsFollowed, IsKept}
+use Rattle.guest_machine.specs.Follow.{Reaches, All2, Alike, IsFollowed, StayRelated}
 use Rattle.guest_arithmetic.specs.Values.{Operations}
 
 reaches-reached : {A A' C C' : Type 0} (R : A → A' → Type 0) (Q : C → C' → Type 0) (f : A → C) (g : A' → C') (r : Result A Refusal) (r' : Result A' Refusal)
@@ -42,7 +42,7 @@ size_within size (inr (inl four)) = omega arith
 size_within size (inr (inr eight)) = omega arith
 
 module _ {W F B W' F' B' : Type 0} (same : Alike W F B W' F' B') {M M' : Type 0} (acc : Accesses M B) (acc' : Accesses M' B') (Same : M → M' → Type 0)
-    (kept : IsKept same acc acc' Same) where
+    (kept : StayRelated same acc acc' Same) where
   abbrev IsRead : ℕ → List B → List B' → Type 0
   IsRead size bs bs' = All2 same.byte bs bs' × (length bs ≡ size)
 

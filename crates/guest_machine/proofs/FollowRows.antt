@@ -34,7 +34,7 @@ use Rattle.guest_operands.specs.declared.stop.Stop.TheVariants.{Address, Code}
 use Rattle.guest_operands.specs.Access.{Refusal, Refused, Shut, Accesses, IsSize, load_of}
 use Rattle.guest_arithmetic.specs.Arithmetic.{low, differ, bits_of, sum_effect, compute_effect, product_effect, shift_effect, each_flag}
 use Rattle.guest_arithmetic.specs.Flags.{changed, with_changes, is_less, is_less_or_equal, is_below_or_equal, condition_of}
-use Rattle.guest_machine.specs.Follow.{Uses, Reaches, Follows, Alike, IsFollowed, IsKept, SameFlags, SameState, SameFrame, SameAfter}
+use Rattle.guest_machine.specs.Follow.{Uses, Reaches, Follows, Alike, IsFollowed, StayRelated, SameFlags, SameState, SameFrame, SameAfter}
 use Rattle.guest_arithmetic.specs.Cause.{used, both}
 use Rattle.guest_operands.specs.Operand.{size_of, charged, address_of, number_at, carried, weighed, taken_at, taken, put}
 use Rattle.guest_operands.specs.State.{register_of}
@@ -154,7 +154,7 @@ module _ {W F B W' F' B' : Type 0} (same : Alike W F B W' F' B') (ops : Operatio
   nop-uses f f' s s' None None None none g h = tt
 
 module _ {W F B W' F' B' : Type 0} (same : Alike W F B W' F' B') (ops : Operations W F B) (ops' : Operations W' F' B') (followed : IsFollowed same ops ops')
-    {M M' : Type 0} (acc : Accesses M B) (acc' : Accesses M' B') (Same : M → M' → Type 0) (kept : IsKept same acc acc' Same) where
+    {M M' : Type 0} (acc : Accesses M B) (acc' : Accesses M' B') (Same : M → M' → Type 0) (kept : StayRelated same acc acc' Same) where
   abbrev Then : After W F M → After W' F' M' → Type 0
   Then = SameAfter same Same
 

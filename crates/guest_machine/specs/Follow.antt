@@ -82,7 +82,7 @@ module _ {W F B W' F' B' : Type 0} (same : Alike W F B W' F' B') where
     pub byte_of : (w : W) (w' : W') → same.word w w' → (k : ℕ) → k < 8 → same.byte (ops.byte_of w k) (ops'.byte_of w' k)
 
   -- two memories, related byte by byte, stay so under writes
-  pub record IsKept {M M' : Type 0} (acc : Accesses M B) (acc' : Accesses M' B') (Same : M → M' → Type 0) : Type 0 where
+  pub record StayRelated {M M' : Type 0} (acc : Accesses M B) (acc' : Accesses M' B') (Same : M → M' → Type 0) : Type 0 where
     pub byte : (m : M) (m' : M') → Same m m' → (place : ℕ) → Reaches same.byte (acc.byte m place) (acc'.byte m' place)
     pub writes : (m : M) (m' : M') → Same m m' → (place : ℕ)
         → Reaches (λ a b. Unit {0}) (acc.writes m place) (acc'.writes m' place)

@@ -65,7 +65,7 @@ IsUndefined Unsettled = Unit {0}
 IsUndefined Kept = ⊥
 
 -- the instruction does not touch it
-abbrev pub IsKept : Change → Type 0
-IsKept (Set truth) = ⊥
-IsKept Unsettled = ⊥
-IsKept Kept = Unit {0}
+abbrev pub IsUntouched : Change → Type 0
+IsUntouched (Set truth) = ⊥
+IsUntouched Unsettled = ⊥
+IsUntouched Kept = Unit {0}

@@ -5,7 +5,7 @@ use Rattle.elf_records.specs.RelocationRows.{row}
 use Rattle.elf_object.specs.declared.relocation.Relocation.{Relocation}
 use Rattle.elf_object.specs.Lent.{relocations}
 use Rattle.elf_object.specs.LawsOfNotes.{each_fails, every_relocation}
-use Rattle.elf_object.specs.Noted.{all_relocations, is_wide, traits_of}
+use Rattle.elf_object.specs.Noted.{all_relocations, has_far_addend, traits_of}
 use Rattle.link_needs.specs.Given.{IsGiven}
 use Rattle.link_needs.specs.Linking.{Linking, binding, object, place}
 use Rattle.link_needs.specs.Values.{field, other_number, own_number}
@@ -17,7 +17,7 @@ use Rattle.link_core.proofs.NarrowNumbers.{numbers_small}
 use Rattle.link_core.proofs.NarrowSums.{narrow_fits, unsigned_address}
 
 pub narrow_fields_fit : (l : Linking) (o t : ℕ) (r : Relocation) → IsGiven l → IsSound l → o < length l.objects
-    → Contains (relocations (object l o) t) r → is_wide r ≡ false → IsOverflow l o t r → ⊥
+    → Contains (relocations (object l o) t) r → has_far_addend r ≡ false → IsOverflow l o t r → ⊥
 unfolding field
 narrow_fields_fit l o t r given sound there has narrow over =
     narrow_fits (row r.kind).form (row r.kind).value (own_number l r.kind (binding l o r)) r.addend
@@ -35,5 +35,5 @@ narrow_object_fits l o b given sound there here narrow u is over =
     let own = every_relocation b u.section r is.own in
     narrow_fields_fit l o u.section r given sound there
     (subst (λ b. Contains (relocations b u.section) r) here is.own)
-    (each_fails is_wide (all_relocations b) r narrow own)
+    (each_fails has_far_addend (all_relocations b) r narrow own)
     (subst (λ o. IsOverflow l o u.section r) is.object over)

@@ -1,11 +1,12 @@
 -- All that an image depends on: its kind, its objects with their sequences, what the startup images export, and whether
 -- sequences may be rewritten.
-use Rattle.std.specs.Prelude.{◌+◌, ℕ, Bool, List, [], ◌∷◌, Option, Some, None, map, slice_index_or, unwrap_or}
+use Rattle.std.specs.Prelude.{◌+◌, ℕ, Bool, true, List, [], ◌∷◌, Option, Some, None, map, nat_lt, slice_index_or, unwrap_or}
 use Rattle.std.specs.Global.{Vec}
 use Rattle.elf_object.specs.declared.relocation.Relocation.{Relocation}
 use Rattle.elf_object.specs.declared.symbol.SymbolPlace.{SymbolPlace}
 use Rattle.elf_object.specs.declared.symbol.SymbolPlace.TheVariants.{InSection}
 use Rattle.elf_object.specs.Lent.{symbol_place, symbol_value}
+use Rattle.object_faults.specs.declared.class.SectionClass.TheVariants.{Writable}
 use Rattle.sequence_match.specs.Sites.{first_of}
 use Rattle.link_faults.specs.declared.image_kind.ImageKind.{ImageKind}
 use Rattle.relax_sites.specs.declared.choices.Choice.{Choice}
@@ -13,6 +14,7 @@ use Rattle.relax_sites.specs.declared.choices.Choice.TheVariants.{Keep}
 use Rattle.relax_sites.specs.Choices.{choice_of}
 use Rattle.sequence_forms.specs.declared.forms.Form.{Form}
 use Rattle.sequence_forms.specs.declared.places.Site.{Site}
+use Rattle.tls_layout.specs.Laws.{extent_for}
 use Rattle.tls_layout.specs.Places.{address_of, tls_offset_of, tls_size, tls_alignment}
 use Rattle.tls_layout.specs.Rounding.{round_up}
 use Rattle.tls_layout.specs.Sections.{Layout, layout_of}
@@ -48,6 +50,10 @@ sites_at l o = slice_index_or l.sites o []
 -- where the sections of a link go
 abbrev pub layout : Linking → Layout
 layout l = layout_of l.kind l.objects
+
+-- whether the image's class of sections that programs write has bytes, in the file or in memory
+abbrev pub has_writable_data : Linking → Bool
+has_writable_data l = let extent = extent_for (Writable true) (layout l) in nat_lt extent.start extent.end
 
 -- how far below the thread pointer the block of a program begins (Drepper, section 3: tlsoffset of module 1)
 unfoldable pub block_offset : Linking → ℕ

@@ -18,7 +18,8 @@ use Rattle.thread_blocks.specs.Instances.{Loads, fixed_at, instances, instances_
 use Rattle.thread_blocks.specs.JobLoads.{job_loads}
 use Rattle.thread_blocks.specs.Spaces.{SameRange}
 use Rattle.thread_blocks.specs.Turns.{at_number}
-use Rattle.whole_meaning.specs.Loads.{data_ranges, has_data, loads_of, meaning_of}
+use Rattle.whole_meaning.specs.Loads.{data_ranges, loads_of, meaning_of}
+use Rattle.link_needs.specs.Linking.{has_writable_data}
 use Rattle.whole_meaning.specs.Meanings.{Meaning}
 use Rattle.whole_meaning.specs.Spots.{bias_of}
 use Rattle.shared_data.specs.Places.{IsDataRange, LiesLow}
@@ -80,7 +81,7 @@ module _ (range : Range Byte) where
   HasRights = (range.readable ≡ true) × (range.writable ≡ true)
 
   rights_of : (l : Linking) (bias : ℕ) → data_ranges l bias ≡ Some range → HasRights
-  rights_of l bias e = of_test _ (has_data l) e refl refl
+  rights_of l bias e = of_test _ (has_writable_data l) e refl refl
     where
       of_test : (own : Range Byte) (b : Bool) → (if b then Some own else None) ≡ Some range → own.readable ≡ true
           → own.writable ≡ true → HasRights

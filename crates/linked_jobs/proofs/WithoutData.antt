@@ -16,7 +16,7 @@ use Rattle.std.specs.Prelude.{option_map}
 use Rattle.thread_blocks.specs.JobLoads.{job_loads, parts_from}
 use Rattle.thread_blocks.specs.JobStatements.{HasNoData}
 use Rattle.thread_blocks.specs.Turns.{at_number}
-use Rattle.whole_meaning.specs.Loads.{has_data}
+use Rattle.link_needs.specs.Linking.{has_writable_data}
 use Rattle.whole_meaning.specs.Spots.{bias_of}
 use Rattle.linked_jobs.specs.Ready.{AreReady}
 use Rattle.std.specs.Option.{option_map_or}
@@ -39,7 +39,7 @@ unfolding image_at
 no_image ls zero e = refl
 no_image ls (suc i) e = slice_get-map image_of ls i ∙ ap (option_map image_of) e
 
-module _ (ls : List Linking) (ready : AreReady ls) (none : All (λ (l : Linking). has_data l ≡ false) ls) where
+module _ (ls : List Linking) (ready : AreReady ls) (none : All (λ (l : Linking). has_writable_data l ≡ false) ls) where
   of_link : (x : Instance) (l : Linking) → at_number ls x.image ≡ Some l
       → (job_loads (images_of ls)).shared x ≡ None
   of_link x l at =
@@ -49,8 +49,8 @@ module _ (ls : List Linking) (ready : AreReady ls) (none : All (λ (l : Linking)
         links = one_of Links ls x.image l ready.together.links at;
         stray = one_of HasNoStray ls x.image l ready.stray at;
       } in
-      none_of l (bias_of l.kind x.number) (has_data l) ((job_loads (images_of ls)).shared x)
-      (one_of (λ (m : Linking). has_data m ≡ false) ls x.image l none at) (data_loaded ls l x is)
+      none_of l (bias_of l.kind x.number) (has_writable_data l) ((job_loads (images_of ls)).shared x)
+      (one_of (λ (m : Linking). has_writable_data m ≡ false) ls x.image l none at) (data_loaded ls l x is)
 
   pub shares_none : HasNoData (job_loads (images_of ls))
   unfolding job_loads

@@ -13,7 +13,8 @@ use Rattle.thread_blocks.specs.Turns.{at_number}
 use Rattle.transcript_text.specs.declared.outcomes.Line.{Line as ShownLine}
 use Rattle.transcript_text.specs.Texts.{Shown}
 use Rattle.whole_meaning.specs.Jobs.{lines_of, meant_world, verdict_of}
-use Rattle.whole_meaning.specs.Loads.{has_data, meaning_of}
+use Rattle.whole_meaning.specs.Loads.{meaning_of}
+use Rattle.link_needs.specs.Linking.{has_writable_data}
 use Rattle.lawful_points.specs.Printed.{printed_points}
 use Rattle.tied_fields.specs.Settings.{setting_of}
 use Rattle.tied_meaning.specs.Ties.{AreTied}
@@ -50,7 +51,7 @@ LinkedThreadsPrint = (ls : List Linking) (history : List Event) → AreReady ls
 -- they print, if that is clean, whatever the other threads did
 abbrev pub TranscriptsTellTheirThreads : Type 0
 TranscriptsTellTheirThreads = (ls : List Linking) (fuel : ℕ) (lines : List (List ThreadLine)) (order : List ℕ)
-    (transcript : Shown) → AreJob ls → length lines ≤ 64 → All (λ (l : Linking). has_data l ≡ false) ls
+    (transcript : Shown) → AreJob ls → length lines ≤ 64 → All (λ (l : Linking). has_writable_data l ≡ false) ls
     → Tells (job_world (job_loads (images_of ls)) fuel lines order) transcript
     → (thread : ℕ) (own : List ThreadLine) (said : List ShownLine) → at_number lines thread ≡ Some own
     → at_number transcript.threads thread ≡ Some said

@@ -20,7 +20,8 @@ use Rattle.link_needs.specs.Needs.{got_size, got_start, has_stub, stub_start}
 use Rattle.module_data.specs.Parts.{data_part}
 use Rattle.tls_layout.specs.declared.extent.Extent.{Extent}
 use Rattle.tls_layout.specs.Places.{executable, read_only, tls_image, writable}
-use Rattle.linked_modules.specs.Dataless.{DatalessObjectsShareNoData, IsOfDataless, has_writable}
+use Rattle.linked_modules.specs.Dataless.{DatalessObjectsShareNoData, IsOfDataless}
+use Rattle.link_needs.specs.Linking.{has_writable_data}
 use Rattle.linked_modules.proofs.DataParts.{IsStill, still_parts, table_part}
 use Rattle.linked_modules.proofs.Unwritten.{empty}
 
@@ -57,7 +58,7 @@ stub_still l = of_test (has_stub l)
     of_test true = All-cons IsStillPlace place [] refl (All-nil IsStillPlace)
     of_test false = All-nil IsStillPlace
 
-module _ (l : Linking) (none : has_writable l ≡ false) where
+module _ (l : Linking) (none : has_writable_data l ≡ false) where
   abbrev made : PartPlace → Part
   made = part_in (file_kind l.kind) (file l)
 
@@ -124,13 +125,13 @@ module _ (l : Linking) (none : has_writable l ≡ false) where
 
 -- ** all images of a job
 
-unwritten : (l : Linking) → IsOfDataless l → has_writable l ≡ false
+unwritten : (l : Linking) → IsOfDataless l → has_writable_data l ≡ false
 unwritten l none = empty l.kind l.objects none
 
 -- the law
 pub share_no_data : DatalessObjectsShareNoData
 share_no_data ls none = record {
-  classes = All-weaker IsOfDataless (λ (l : Linking). has_writable l ≡ false) unwritten ls none;
+  classes = All-weaker IsOfDataless (λ (l : Linking). has_writable_data l ≡ false) unwritten ls none;
   parts =
       list_any_none (λ (image : Spelled). is_some (data_part image)) (map image_of ls)
       (All-map (λ (image : Spelled). is_some (data_part image) ≡ false) image_of ls

@@ -28,7 +28,7 @@ use Rattle.thread_blocks.specs.JobLoads.{instance_part, job_loads, parts_from}
 use Rattle.tls_layout.specs.declared.extent.Extent.{Extent}
 use Rattle.tls_layout.specs.Laws.{extent_for}
 use Rattle.tls_layout.specs.Places.{executable, read_only, tls_image, writable}
-use Rattle.whole_meaning.specs.Loads.{has_data}
+use Rattle.link_needs.specs.Linking.{has_writable_data}
 use Rattle.whole_meaning.specs.Spots.{bias_of}
 use Rattle.loaded_bytes.specs.Laws.{DataIsLoaded, IsData, IsDataOf, IsInstanceOf, images_of}
 use Rattle.loaded_bytes.proofs.Biases.{image_bias}
@@ -225,9 +225,9 @@ module _ (ls : List Linking) (l : Linking) (x : Instance) where
           runnable = refl;
         }
 
-    data_is : IsData l (bias_of l.kind x.number) (has_data l) (Found 0 (image_of l).parts)
+    data_is : IsData l (bias_of l.kind x.number) (has_writable_data l) (Found 0 (image_of l).parts)
     data_is =
-        subst (IsData l (bias_of l.kind x.number) (has_data l)) (sym behind)
+        subst (IsData l (bias_of l.kind x.number) (has_writable_data l)) (sym behind)
         (of_test (nat_lt (extent_for (class.Writable true) (layout l)).start
         (extent_for (class.Writable true) (layout l)).end) refl
         places_long)
@@ -270,7 +270,7 @@ module _ (ls : List Linking) (l : Linking) (x : Instance) where
 pub data_loaded : DataIsLoaded
 unfolding job_loads
 data_loaded ls l x is =
-    subst (IsData l (bias_of l.kind x.number) (has_data l))
+    subst (IsData l (bias_of l.kind x.number) (has_writable_data l))
     (sym (ap (λ image. find (λ (range : Range ℕ). range.writable) (option_map_or (λ (own : Spelled). parts_from (images_of ls) own x 0 own.parts) image []))
     (image_is ls l x is.image)))
     (data_is ls l x is)

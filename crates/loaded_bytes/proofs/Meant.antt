@@ -23,7 +23,8 @@ use Rattle.tls_layout.specs.Laws.{extent_for}
 use Rattle.tls_layout.specs.Places.{initial_tls, tls_size}
 use Rattle.tls_relocs.specs.Elements.{slice_get-append, slice_get-append_behind, slice_get-replicate}
 use Rattle.whole_meaning.specs.Bytes.{block_bytes, byte_of, class_bytes}
-use Rattle.whole_meaning.specs.Loads.{has_data, still_ranges, class_range}
+use Rattle.whole_meaning.specs.Loads.{still_ranges, class_range}
+use Rattle.link_needs.specs.Linking.{has_writable_data}
 use Rattle.whole_meaning.specs.Spots.{bias_of, in_room, spot_in}
 use Rattle.loaded_bytes.specs.Bytes.{byte_at}
 use Rattle.loaded_bytes.specs.Laws.{IsBlockOf, IsData, IsDataOf, IsIn, IsInstanceOf, images_of}
@@ -274,7 +275,7 @@ pub reads_meant : ReadsAreMeant
 reads_meant ls l x place is out = reads ls l x is place out
 
 pub data_meant : DataIsMeant
-data_meant ls l x is = data_either ls l x is (has_data l) ((job_loads (images_of ls)).shared x) (data_loaded ls l x is)
+data_meant ls l x is = data_either ls l x is (has_writable_data l) ((job_loads (images_of ls)).shared x) (data_loaded ls l x is)
 
 pub blocks_meant : BlocksAreMeant
 blocks_meant ls l x is = blocks ls l x is ((job_loads (images_of ls)).block x) (blocks_loaded ls l x is)

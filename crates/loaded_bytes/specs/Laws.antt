@@ -16,7 +16,7 @@ use Rattle.thread_blocks.specs.JobLoads.{job_loads}
 use Rattle.thread_blocks.specs.Turns.{at_number}
 use Rattle.tls_layout.specs.Laws.{extent_for}
 use Rattle.tls_layout.specs.Places.{initial_tls, tls_size}
-use Rattle.whole_meaning.specs.Loads.{has_data}
+use Rattle.link_needs.specs.Linking.{has_writable_data}
 use Rattle.whole_meaning.specs.Bytes.{byte_of}
 use Rattle.whole_meaning.specs.Spots.{bias_of, spot_in}
 use Rattle.loaded_bytes.specs.Bytes.{byte_at}
@@ -78,7 +78,7 @@ IsData l bias false (Some range) = ⊥
 
 abbrev pub DataIsLoaded : Type 0
 DataIsLoaded = (ls : List Linking) (l : Linking) (x : Instance) → IsInstanceOf ls l x
-    → IsData l (bias_of l.kind x.number) (has_data l) ((job_loads (images_of ls)).shared x)
+    → IsData l (bias_of l.kind x.number) (has_writable_data l) ((job_loads (images_of ls)).shared x)
 
 -- ** blocks
 

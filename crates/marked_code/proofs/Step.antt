@@ -18,7 +18,7 @@ use Rattle.guest_operands.specs.Closed.{closed}
 use Rattle.guest_operands.specs.Frame.{field_at, frame_of}
 use Rattle.guest_operands.specs.Operand.{address_of}
 use Rattle.guest_operands.specs.Use.{plus, After}
-use Rattle.guest_machine.specs.Follow.{Follows, Alike, IsFollowed, IsKept, SameState, SameFrame, SameAfter}
+use Rattle.guest_machine.specs.Follow.{Follows, Alike, IsFollowed, StayRelated, SameState, SameFrame, SameAfter}
 use Rattle.guest_machine.specs.Step.{act, act_if, step_of}
 use Rattle.guest_machine.specs.Touch.{touched, touches_of}
 use Rattle.guest_machine.proofs.FollowMemory.{store-reach}
@@ -47,7 +47,7 @@ use Rattle.marked_code.proofs.Rows.{read_follows}
 module _ {W F B W' F' B' : Type 0} (same : Alike W F B W' F' B') (ops : Operations W F B) (ops' : Operations W' F' B')
     (followed : IsFollowed same ops ops')
     {M M' : Type 0} (acc : Accesses M B) (acc' : Accesses M' B') (Same : M → M' → Type 0) (shut : M → ℕ → Bool)
-    (kept : IsKept same (closed shut acc) acc' Same)
+    (kept : StayRelated same (closed shut acc) acc' Same)
     (plain : (n : ℕ) → same.field None None n n) where
   module _ (mark : ℕ → Mark) (s : State W F) (s' : State W' F') (m : M) (m' : M') (h : SameState same s s') (k : Same m m')
       (code : SameCode same ops ops' mark (shut m) acc acc' m m') (low : (j : ℕ) → j < 8 → shut m j ≡ false)

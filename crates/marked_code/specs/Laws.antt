@@ -11,7 +11,7 @@ use Rattle.guest_operands.specs.declared.state.State.{State}
 use Rattle.guest_operands.specs.Operand.{address_of}
 use Rattle.guest_machine.specs.Access.{Accesses, load_of, store_of}
 use Rattle.guest_operands.specs.Closed.{closed}
-use Rattle.guest_machine.specs.Follow.{Follows, IsKept, Reaches, SameAfter, SameState}
+use Rattle.guest_machine.specs.Follow.{Follows, StayRelated, Reaches, SameAfter, SameState}
 use Rattle.guest_machine.specs.Step.{act, step_of}
 use Rattle.job_meaning.specs.declared.values.Byte.{Byte}
 use Rattle.job_meaning.specs.declared.values.Flag.{Flag}
@@ -31,7 +31,7 @@ module _ {M M' : Type 0} (Same : M → M' → Type 0) where
   -- first eight, where the word of an address field is lent
   abbrev pub StepsFollow : Type 0
   StepsFollow = (g : Setting) (acc : Accesses M Byte) (acc' : Accesses M' ℕ) (shut : M → ℕ → Bool) (mark : M → ℕ → Mark)
-      → IsKept (alike g) (closed shut acc) acc' Same
+      → StayRelated (alike g) (closed shut acc) acc' Same
       → (s : State Word Flag) (s' : State ℕ Bool) (m : M) (m' : M')
       → SameState (alike g) s s' → Same m m' → ((k : ℕ) → k < 8 → shut m k ≡ false)
       → SameCode (alike g) ops plain_operations (mark m) (shut m) acc acc' m m'

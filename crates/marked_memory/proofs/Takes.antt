@@ -16,7 +16,8 @@ use Rattle.loaded_modules.specs.declared.instance.Instance.{Instance}
 use Rattle.thread_blocks.specs.Held.{Block, Data, Kind, Owned, Owner, block_after, block_with, data_after, data_bytes, data_with, fresh_data, fresh_if, held_of, is_block_of, is_data_of}
 use Rattle.thread_blocks.specs.Instances.{Loads}
 use Rattle.thread_blocks.specs.Turns.{at_number}
-use Rattle.whole_meaning.specs.Loads.{data_ranges, has_data, loads_of}
+use Rattle.whole_meaning.specs.Loads.{data_ranges, loads_of}
+use Rattle.link_needs.specs.Linking.{has_writable_data}
 use Rattle.marked_memory.specs.declared.owned.Written.{Written}
 use Rattle.marked_memory.specs.declared.owned.Written.TheVariants as written
 use Rattle.marked_memory.specs.declared.space.Wanted.{Wanted}
@@ -166,7 +167,7 @@ module _ (x : Instance) (bytes : List Byte) (start : ℕ) where
       → data_there ∷ [] ≡ data_with x (option_map_or (λ (own : Linking). data_ranges own (bias_of own.kind x.number)) image None)
       (option_or (fresh_data (option_map_or (λ (own : Linking). data_ranges own (bias_of own.kind x.number)) image None) false) (Some bytes))
   by-image None e = absurd (none-some start e)
-  by-image (Some l) e = by-class _ (has_data l) e refl refl refl
+  by-image (Some l) e = by-class _ (has_writable_data l) e refl refl refl
 
   pub data_kept : (ls : List Linking) (wanted : Instance → Bool) (pool : List (Owned Byte)) → wanted x ≡ false
       → data_bytes x.number pool ≡ Some bytes → option_map (λ (r : Range Byte). r.start) ((loads_of ls).shared x) ≡ Some start

@@ -9,7 +9,8 @@ use Rattle.thread_blocks.specs.JobWorlds.{numbered_lines, thread_ready}
 use Rattle.thread_blocks.specs.Turns.{at_number, ready, turns}
 use Rattle.thread_blocks.specs.TurnsAlike.{AllFronts, IsFront, Rises}
 use Rattle.whole_meaning.specs.Jobs.{lines_of, meant_world, verdict_of}
-use Rattle.whole_meaning.specs.Loads.{has_data, meaning_of}
+use Rattle.whole_meaning.specs.Loads.{meaning_of}
+use Rattle.link_needs.specs.Linking.{has_writable_data}
 use Rattle.whole_meaning.specs.Meanings.{Meaning}
 use Rattle.whole_meaning.specs.Threads.{meant_turns, ops}
 
@@ -29,7 +30,7 @@ ThreadsMeanTheirOwn = (m : Meaning) (fuel : ℕ) (lines : List (List ThreadLine)
 
 -- images whose objects have no byte in a writable section have no such data
 abbrev pub ImagesWithoutDataShareNone : Type 0
-ImagesWithoutDataShareNone = (ls : List Linking) → All (λ l. has_data l ≡ false) ls → HasNoData (meaning_of ls)
+ImagesWithoutDataShareNone = (ls : List Linking) → All (λ l. has_writable_data l ≡ false) ls → HasNoData (meaning_of ls)
 
 -- the links of a job, if sequences may be rewritten, or must be kept
 abbrev pub set_to : Bool → List Linking → List Linking

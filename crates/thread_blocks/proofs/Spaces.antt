@@ -4,7 +4,7 @@ use Rattle.std.specs.Prelude.{if◌then◌else◌, ◌&&◌, nat_le, nat_lt, sli
 use Rattle.guest_operands.specs.declared.space.Access.{Access}
 use Rattle.guest_operands.specs.declared.space.Access.TheVariants.{Read, Write, Run}
 use Rattle.guest_machine.specs.Access.{Refused, reached}
-use Rattle.guest_machine.specs.Follow.{All2, Reaches, Alike, IsKept}
+use Rattle.guest_machine.specs.Follow.{All2, Reaches, Alike, StayRelated}
 use Rattle.guest_machine.specs.Ranges.{Range, grants, byte_in, with_byte, range_accesses, is_field_of}
 use Rattle.guest_machine.specs.Run.{run, machine, machine_of}
 use Rattle.guest_machine.specs.Use.{After}
@@ -260,7 +260,7 @@ module _ {W F E B W' F' B' : Type 0} (same : Alike W F B W' F' B') (ops : Operat
 
   -- the law: spaces that are related part by part are related under reads and writes, where what no thread writes is alike at each place that is not the
   -- linker's own
-  pub spaces_kept : IsKept same (closed (λ (space : Space E B). shut space.seen) (space_accesses ops start fixed)) (space_accesses ops' start fixed') (SameSpace {E = E} same.byte)
+  pub spaces_kept : StayRelated same (closed (λ (space : Space E B). shut space.seen) (space_accesses ops start fixed)) (space_accesses ops' start fixed') (SameSpace {E = E} same.byte)
   unfolding space_accesses
   spaces_kept = record {
     byte = λ space space' h place. reach-byte same.byte (shut space.seen place) _ _ (λ other. found-same Read space space' place h (reads space.seen place other));

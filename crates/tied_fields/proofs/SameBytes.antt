@@ -32,7 +32,8 @@ use Rattle.tied_meaning.specs.Numbers.{SameByte, Setting}
 use Rattle.tied_meaning.specs.Ties.{SameShared}
 use Rattle.tls_layout.specs.Laws.{extent_for}
 use Rattle.tls_layout.specs.Places.{initial_tls}
-use Rattle.whole_meaning.specs.Loads.{has_data, loads_of, meaning_of}
+use Rattle.whole_meaning.specs.Loads.{loads_of, meaning_of}
+use Rattle.link_needs.specs.Linking.{has_writable_data}
 use Rattle.whole_meaning.specs.Spots.{bias_of, in_room}
 use Rattle.tied_fields.proofs.CodeBytes.{fixed_meant, room_is}
 
@@ -150,7 +151,7 @@ module _ (g : Setting) (ls : List Linking) (l : Linking) (x : Instance) (is : Is
   shared =
       let meant : (meaning_of ls).loads.shared x ≡ option_map valued ((job_loads (images_of ls)).shared x) =
       rw is.image (sym (data_meant ls l x is)) in
-      rw meant (of_data (has_data l) ((job_loads (images_of ls)).shared x) (data_loaded ls l x is))
+      rw meant (of_data (has_writable_data l) ((job_loads (images_of ls)).shared x) (data_loaded ls l x is))
 
 -- ** what no thread writes
 

@@ -44,7 +44,8 @@ use Rattle.tls_layout.specs.Laws.{extent_for}
 use Rattle.tls_layout.specs.Places.{tls_size}
 use Rattle.tls_relocs.specs.Elements.{slice_get-append, slice_get-append_behind, slice_get-replicate}
 use Rattle.whole_meaning.specs.Bytes.{block_bytes, class_bytes}
-use Rattle.whole_meaning.specs.Loads.{has_data, info_of, loads_of}
+use Rattle.whole_meaning.specs.Loads.{info_of, loads_of}
+use Rattle.link_needs.specs.Linking.{has_writable_data}
 use Rattle.whole_meaning.specs.Spots.{bias_of}
 use Rattle.whole_meaning.specs.Threads.{ops}
 use Rattle.tls_map_laws.specs.Initial.{initial_image, initial_meant}
@@ -146,7 +147,7 @@ module _ (ls : List Linking) (together : AreTogether ls) (stray : All HasNoStray
         let last = own_low l x.number place number (own place (rw (from, to) refl)) in
         (omega (arith, last, some), omega (arith, last, some))
 
-    data_low_of : (has : Bool) (o : Option (Range ℕ)) → has_data l ≡ has → IsData l (bias_of l.kind x.number) has o
+    data_low_of : (has : Bool) (o : Option (Range ℕ)) → has_writable_data l ≡ has → IsData l (bias_of l.kind x.number) has o
         → IfSome o (IsApart l (bias_of l.kind x.number) (q.fixed x)) → IfSome o IsLow
     data_low_of true None e are apart = tt
     data_low_of false None e are apart = tt
@@ -159,7 +160,7 @@ module _ (ls : List Linking) (together : AreTogether ls) (stray : All HasNoStray
 
     data_low : IfSome (q.shared x) IsLow
     data_low =
-        data_low_of (has_data l) (q.shared x) refl (data_loaded ls l x is) (places_own ls l x is).shared
+        data_low_of (has_writable_data l) (q.shared x) refl (data_loaded ls l x is) (places_own ls l x is).shared
 
     valued_low : (o : Option (Range ℕ)) → IfSome o IsLow → IfSome (option_map valued o) IsLow
     valued_low None low = tt

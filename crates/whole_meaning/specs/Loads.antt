@@ -1,12 +1,12 @@
 -- What is loaded of a job's images in the meaning, made of their objects: each section of a live instance at its
 -- address. There is no table that a linker makes, no module id, and nothing that a loader would write.
-use Rattle.std.specs.Prelude.{ℕ, ◌+◌, ◌&&◌, Bool, true, false, not, List, [], ◌∷◌, Option, Some, None, map, nat_lt, option_and_then, option_map, if◌then◌else◌}
+use Rattle.std.specs.Prelude.{ℕ, ◌+◌, ◌&&◌, Bool, true, false, not, List, [], ◌∷◌, Option, Some, None, map, option_and_then, option_map, if◌then◌else◌}
 use Rattle.std.specs.List.{list_any}
 use Rattle.guest_machine.specs.Ranges.{Range}
 use Rattle.job_meaning.specs.declared.values.Byte.{Byte}
 use Rattle.job_meaning.specs.declared.values.Byte.TheVariants.{Value}
 use Rattle.link_faults.specs.ImageKinds.{is_late, is_module}
-use Rattle.link_needs.specs.Linking.{Linking, layout}
+use Rattle.link_needs.specs.Linking.{Linking, has_writable_data, layout}
 use Rattle.loaded_modules.specs.declared.instance.Instance.{Instance}
 use Rattle.module_table.specs.declared.modules.ImageInfo.{ImageInfo}
 use Rattle.module_table.specs.Laws.{startup_end}
@@ -58,11 +58,8 @@ abbrev pub still_ranges : Linking → ℕ → List (Range Byte)
 still_ranges l bias =
     class_range l bias Executable ∷ class_range l bias ReadOnly ∷ class_range l bias (Tls true) ∷ []
 
-abbrev pub has_data : Linking → Bool
-has_data l = let extent = extent_for (Writable true) (layout l) in nat_lt extent.start extent.end
-
 abbrev pub data_ranges : Linking → ℕ → Option (Range Byte)
-data_ranges l bias = if has_data l then Some (class_range l bias (Writable true)) else None
+data_ranges l bias = if has_writable_data l then Some (class_range l bias (Writable true)) else None
 
 -- for an instance's image, if there is one
 abbrev pub of_image : {A : Type 0} → List Linking → A → (Linking → ℕ → A) → Instance → A
