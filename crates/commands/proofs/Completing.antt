@@ -73,8 +73,8 @@ module _ (image : Option (List ℕ)) (E : Ending) (relax : Bool) (w : WritableSe
   fine object i =
       faultless (bytes_at fs object)
       (sound_at (file_at fs object)
-          (of_all (λ other. HasFile (file_at fs other) IsSoundObject)
-          (distinct (mentions_of good.job)) object good.objects
+      (of_all (λ other. HasFile (file_at fs other) IsSoundObject)
+      (distinct (mentions_of good.job)) object good.objects
       (in_once (mentions_of good.job) object i)))
 
   all_link : (images : List Given) → AreGiven (bytes_at fs) good.job images → AllLink images relax

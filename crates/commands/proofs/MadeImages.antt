@@ -31,7 +31,7 @@ LinksIn images g = Links (link_in images true g)
 
 both_link : GeneratedObjectsLink → (n : ℕ) → 1 ≤ n → n ≤ 1000 → (images : List Given) → map (λ (g : Given). g.kind) images ≡ Exe ∷ Late ∷ []
     → map (λ (g : Given). g.objects) images ≡ program_objects n ∷ (object_bytes module_shape ∷ []) ∷ []
-        → All IsGivenImage images → AllLink images true
+    → All IsGivenImage images → AllLink images true
 unfolding link_in
 both_link laws n some few [] kinds objects given = cc
 both_link laws n some few (app ∷ []) kinds objects given = cc

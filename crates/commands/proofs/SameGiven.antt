@@ -74,7 +74,7 @@ module _ (g h : Given) (kinds : g.kind ≡ h.kind) (objects : g.objects ≡ h.ob
 
 same_all : (gs hs : List Given) → map (λ (g : Given). g.kind) gs ≡ map (λ (g : Given). g.kind) hs
     → map (λ (g : Given). g.objects) gs ≡ map (λ (g : Given). g.objects) hs → All IsGivenImage gs → All IsGivenImage hs
-        → gs ≡ hs
+    → gs ≡ hs
 same_all [] [] kinds objects own other = refl
 same_all [] (h ∷ hs) kinds objects own other = cc
 same_all (g ∷ gs) [] kinds objects own other = cc
@@ -85,7 +85,7 @@ same_all (g ∷ gs) (h ∷ hs) kinds objects own other =
     let more_bytes : map (λ (g : Given). g.objects) gs ≡ map (λ (g : Given). g.objects) hs = cc in
     let heads : g ≡ h = same_image g h kind bytes (All-head IsGivenImage g gs own) (All-head IsGivenImage h hs other) in
     let tails : gs ≡ hs = same_all gs hs more_kinds more_bytes (All-tail IsGivenImage g gs own)
-        (All-tail IsGivenImage h hs other) in
+    (All-tail IsGivenImage h hs other) in
     cc
 
 pub same_images : (bytes : List ℕ → List ℕ) (job : JobParts) (gs hs : List Given) → AreGiven bytes job gs → AreGiven bytes job hs → gs ≡ hs

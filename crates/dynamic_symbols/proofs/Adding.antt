@@ -155,11 +155,11 @@ ended f seen xs i past = sym (ap (λ ys. with_names seen (flat_map f ys)) (drop_
 module _ (objects : List (List ℕ)) (startup : List (List (List ℕ))) (seen : List (List ℕ)) (sites : List (Vec Site)) (i : ℕ) where
   pub walk_from : (own : Vec Site) → drop i sites ≡ own ∷ drop (i + 1) sites
       → with_names (with_names seen (imported_in objects startup i own.items))
-          (flat_map_from (imported_in objects startup) (i + 1) (map (λ v. v.items) (drop (i + 1) sites)))
+      (flat_map_from (imported_in objects startup) (i + 1) (map (λ v. v.items) (drop (i + 1) sites)))
       ≡ with_names seen (flat_map_from (imported_in objects startup) i (map (λ v. v.items) (drop i sites)))
   walk_from own here =
       sym (with_names-append seen (imported_in objects startup i own.items)
-          (flat_map_from (imported_in objects startup) (i + 1) (map (λ v. v.items) (drop (i + 1) sites))))
+      (flat_map_from (imported_in objects startup) (i + 1) (map (λ v. v.items) (drop (i + 1) sites))))
       ∙ ap (λ vs. with_names seen (flat_map_from (imported_in objects startup) i (map (λ v. v.items) vs))) (sym here)
 
   pub ended_from : length sites ≤ i → seen ≡ with_names seen

@@ -1,6 +1,6 @@
 -- Which symbols the dynamic symbol table of an image has, and in which order (gABI, "Symbol Table" and "Dynamic
 -- Section"; the order is this project's own).
-use Rattle.std.specs.Prelude.{◌+◌, ◌-◌, ◌&&◌, ◌++◌, ℕ, Bool, true, false, not, List, [], ◌∷◌, Option, Some}
+use Rattle.std.specs.Prelude.{◌+◌, ◌-◌, ◌&&◌, ℕ, Bool, true, false, not, List, [], ◌∷◌, Option, Some}
 use Rattle.std.specs.Prelude.{filter, length, sum_by, if◌then◌else◌}
 use Rattle.std.specs.List.{filter_map, flat_map, range_with_len}
 use Rattle.std.specs.Str.{bytes_eq}

@@ -51,7 +51,7 @@ module _ (n : Need) where
       (of_group g xs) n ≡ true
   among_of_group g xs own e =
       any-filter_same (same_need n) (λ y. nat_eq (group_of y) g) true
-          (λ k s. ap (λ h. nat_eq h g) (sym (same_sort n k s).0) ∙ own) xs ∙ e
+      (λ k s. ap (λ h. nat_eq h g) (sym (same_sort n k s).0) ∙ own) xs ∙ e
 
   among_distinct : (xs : List Need) → is_among xs n ≡ true → is_among (distinct xs) n ≡ true
   among_distinct [] e = e
@@ -80,12 +80,12 @@ among_groups n xs (g ∷ gs) own e = by (nat_eq (group_of n) g) refl (among_grou
   where
     by : (b : Bool) → nat_eq (group_of n) g ≡ b
         → (list_any (λ h. nat_eq (group_of n) h) gs ≡ true → is_among xs n ≡ true → is_among
-            (flat_map (λ h. of_group h xs) gs) n ≡ true)
+        (flat_map (λ h. of_group h xs) gs) n ≡ true)
         → is_among (of_group g xs ++ flat_map (λ h. of_group h xs) gs) n ≡ true
     by true here more = among_left n (of_group g xs) (flat_map (λ h. of_group h xs) gs) (among_of_group n g xs here e)
     by false here more =
         let later : list_any (λ h. nat_eq (group_of n) h) gs ≡ true = ap
-            (λ b. b || list_any (λ h. nat_eq (group_of n) h) gs) (sym here) ∙ own in
+        (λ b. b || list_any (λ h. nat_eq (group_of n) h) gs) (sym here) ∙ own in
         among_right n (of_group g xs) (flat_map (λ h. of_group h xs) gs) (more later e)
 
 own_group : (n : Need) → list_any (λ g. nat_eq (group_of n) g) (range_with_len 0 6) ≡ true
@@ -102,8 +102,8 @@ unfolding entries
 served needs = λ k d h.
     let n = slice_index_or needs k d in
     start_among n 0 (entries needs)
-        (among_distinct n (by_group needs)
-        (among_groups n needs (range_with_len 0 6) (own_group n) (among_at needs k d h)))
+    (among_distinct n (by_group needs)
+    (among_groups n needs (range_with_len 0 6) (own_group n) (among_at needs k d h)))
 
 -- ** an entry lies in the table
 

@@ -1,6 +1,6 @@
 -- Where the dynamic tables lie, how many bytes each has, and what putting them one behind the other leaves.
 use Rattle.std.proofs.Common.{ℕ, ◌+◌, ◌-◌, ◌*◌, ◌≤◌, ◌≡◌, Bool, true, false, List, [], ◌∷◌, ◌++◌, length, replicate, refl, subst, sym, ap, ◌∙◌, arith, length-append}
-use Rattle.std.specs.Prelude.{◌||◌, if◌then◌else◌}
+use Rattle.std.specs.Prelude.{if◌then◌else◌}
 use Rattle.std.specs.Int.{next_multiple_of}
 use Rattle.std.specs.List.{flat_map}
 use Rattle.std.proofs.lemmas.List.{append-nil, length-map, length-replicate}
@@ -9,8 +9,6 @@ use Rattle.elf_records.specs.Fields.{bytes_of, splice}
 use Rattle.elf_records.specs.Records.{dynamic_bytes, symbol_bytes, rela_bytes}
 use Rattle.elf_records.specs.RecordLaws.{length-dynamic_bytes, length-rela_bytes}
 use Rattle.elf_records.specs.declared.dynamic.DynamicEntry.{DynamicEntry}
-use Rattle.image_rules.specs.declared.places.FileKind.{FileKind}
-use Rattle.image_rules.specs.declared.places.FileKind.TheVariants.{Exe, Pie, Module}
 use Rattle.image_file.specs.declared.relocation.ImageRelocation.{ImageRelocation}
 use Rattle.image_writer.specs.declared.draft.NamedSymbol.{NamedSymbol}
 use Rattle.image_writer.specs.declared.draft.Draft.{Draft}

@@ -17,7 +17,6 @@ use Rattle.image_writer.specs.Loadable.{IsLoadable, IsRightPart}
 use Rattle.image_writer.specs.Files.{IsFileOf}
 use Rattle.image_writer.proofs.Headed.{IsHeaded}
 use Rattle.image_writer.proofs.TableSeen.{IsSeen}
-use Rattle.image_writer.proofs.FileHeader.{file_header}
 
 -- it has one part more than the contents
 pub part_count : (c : Contents) → length (outline_of (finished c)).parts ≡ length c.parts + 1

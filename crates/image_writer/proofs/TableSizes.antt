@@ -8,8 +8,6 @@ use Rattle.elf_records.specs.Fields.{bytes_of}
 use Rattle.elf_records.specs.Laws.{length-bytes_of}
 use Rattle.elf_records.specs.Records.{dynamic_bytes, symbol_bytes, rela_bytes}
 use Rattle.elf_records.specs.RecordLaws.{length-dynamic_bytes, length-symbol_bytes, length-rela_bytes}
-use Rattle.image_rules.specs.declared.places.FileKind.{FileKind}
-use Rattle.image_rules.specs.declared.places.FileKind.TheVariants.{Exe, Pie, Module}
 use Rattle.image_file.specs.Tabled.{length-tabled}
 use Rattle.image_writer.specs.Contents.{Contents}
 use Rattle.image_writer.specs.Tables.{array, array_entry, array_size, chain, flags_entries, has_relocations, hash_size}

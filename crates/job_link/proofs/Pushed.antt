@@ -20,7 +20,7 @@ below_or_at k n h = grind arith
 pub pushed : (kind : ImageKind) (objects : List (List ℕ)) (sites : List (Vec Site)) (object : List ℕ) (own : Vec Site)
     → IsGivenImage (given kind objects sites)
     → IsSoundObject object → AreSites object own.items → IsGivenImage
-        (given kind (objects ++ object ∷ []) (sites ++ own ∷ []))
+    (given kind (objects ++ object ∷ []) (sites ++ own ∷ []))
 pushed kind objects sites object own before sound are = record {
   sound = All-push IsSoundObject objects object before.sound sound;
   each = rw all (omega (arith, length_push all_sites own.items, length_push objects object, before.each));

@@ -91,7 +91,7 @@ module _ (l : Linking) where
   of_objects : (o : ℕ) (all : List (List Site)) (objects : List (List ℕ)) → length all ≡ length objects
       → ((k : ℕ) → k < length objects → AreSites (get_or objects k []) (get_or all k []))
       → sum_by length all +
-          (length (flat_map_from (object_needs l) o objects) + length (flat_map_from (object_relocations l) o objects))
+      (length (flat_map_from (object_needs l) o objects) + length (flat_map_from (object_relocations l) o objects))
       ≤ relocation_count objects
   of_objects o [] [] same are = omega arith
   of_objects o [] (b ∷ objects) same are = absurd (omega arith)
@@ -145,7 +145,7 @@ module _ (l : Linking) where
   of_needs : (length (needs l) ≡ length (flat_map_from (λ o. flat_map (site_needs l o)) 0 l.sites) + length
       (flat_map_from (object_needs l) 0 l.objects))
       × (others (needs l) ≡ others (flat_map_from (λ o. flat_map (site_needs l o)) 0 l.sites) + others
-          (flat_map_from (object_needs l) 0 l.objects))
+      (flat_map_from (object_needs l) 0 l.objects))
   unfolding needs
   of_needs = (
     length-append (flat_map_from (λ o. flat_map (site_needs l o)) 0 l.sites)

@@ -263,7 +263,7 @@ needs_suit : (l : Linking) → IsGiven l → IsSound l → All (S l) (needs l)
 unfolding needs
 needs_suit l given sound =
     All-append (S l) (flat_map_from (λ o. flat_map (site_needs l o)) 0 l.sites)
-        (flat_map_from (object_needs l) 0 l.objects) (sites_suit l 0 l.sites each)
+    (flat_map_from (object_needs l) 0 l.objects) (sites_suit l 0 l.sites each)
     (objects_suit l 0 l.objects)
   where
     each : (o : ℕ) → o < length l.sites → All (S l) (flat_map (site_needs l (0 + o)) (sites_at l o))

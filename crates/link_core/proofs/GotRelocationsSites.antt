@@ -134,7 +134,7 @@ module _ (l : Linking) (given : IsGiven l) (lawful : IsLawful (layout l)) where
       by : (place : SymbolPlace) → symbol_place (object l found.object) found.symbol ≡ place
           → is_tls_place (object l found.object) place ≡ true
           → placed_value (tls_offset_of (layout l) found.object) place
-              (symbol_value (object l found.object) found.symbol) ≤ segment l
+          (symbol_value (object l found.object) found.symbol) ≤ segment l
       by Undefined at h = absurd (cc)
       by Absolute at h = absurd (cc)
       by (InSection s) at h = in_section found within s at h
@@ -169,14 +169,14 @@ module _ (objects : List (List ℕ)) (startup : List (List (List ℕ))) where
       let here = some_flat (imported_at objects startup n) own there.0 site there.1 there.2
       (one_name n site (ap (λ m. is_import objects startup m site) (sym at) ∙ is)) in
       let both = length-append (imported_in objects startup n own)
-          (flat_map_from (imported_in objects startup) (n + 1) more) in
+      (flat_map_from (imported_in objects startup) (n + 1) more) in
       omega (arith, both, here)
   some_from n (own ∷ more) (suc o) site h there is =
       let at : n + 1 + o ≡ n + suc o = omega arith in
       let here = ap (λ m. is_import objects startup m site) at ∙ is in
       let rest = some_from (n + 1) more o site (omega arith) there here in
       let both = length-append (imported_in objects startup n own)
-          (flat_map_from (imported_in objects startup) (n + 1) more) in
+      (flat_map_from (imported_in objects startup) (n + 1) more) in
       omega (arith, both, rest)
 
 pub has_import : (l : Linking) (o : ℕ) (site : Site) → o < length l.sites → Contains (sites_at l o) site

@@ -67,7 +67,7 @@ module _ (l : Linking) (given : IsGiven l) (limits : FitsTable l) (o e : ℕ)
   in_segment : (s : ℕ) → symbol_place (object l o) e ≡ InSection s
       → is_tls_class (section_class (object l o) s) ≡ true
       → placed_value (tls_offset_of (layout l) o) (InSection s) (symbol_value (object l o) e) ≤ tls_size
-          (layout l).sections
+      (layout l).sections
   in_segment s at tls =
       in_section l given limits.lawful (record { object = o; symbol = e }) found.within s at tls
 
@@ -85,7 +85,7 @@ module _ (l : Linking) (given : IsGiven l) (limits : FitsTable l) (o e : ℕ)
       by : (t : Bool) → is_tls_class (section_class (object l o) s) ≡ t
           → (if t then Tls else symbol_type (object l o) e) ≡ Tls
           → (if t then placed_value (tls_offset_of (layout l) o) (InSection s)
-              (symbol_value (object l o) e) else address)
+          (symbol_value (object l o) e) else address)
           ≤ tls_size (layout l).sections
       by true is shows = in_segment s at is
       by false is shows =

@@ -1,6 +1,6 @@
 -- The bytes of an image's file, without its headers and its dynamic tables: the sections at their places, each with its
 -- fields and its new sequences, the global offset table and the stub.
-use Rattle.std.specs.Prelude.{◌+◌, ◌-◌, ◌==◌, ◌∷◌, ◌++◌, ℕ, negsuc, List, [], Option, Some, None, fold, length}
+use Rattle.std.specs.Prelude.{◌+◌, ◌-◌, ◌==◌, ◌∷◌, ◌++◌, ℕ, negsuc, List, Option, Some, None, fold, length}
 use Rattle.std.specs.Prelude.{unwrap_or, if◌then◌else◌}
 use Rattle.std.specs.List.{filter, flat_map}
 use Rattle.elf_records.specs.Fields.{bytes_of, splice}

@@ -73,7 +73,7 @@ module _ (l : Linking) (zs : List OwnWanted) (are : AllZip (AreOwn l) (range_wit
     pub sites_found : flat_map (λ own. own.sites.items) zs ≡ flat_map_from (λ o. flat_map (site_needs l o)) 0 l.sites
     sites_found =
         all_found (flat_map_from (λ o. flat_map (site_needs l o))) (λ o own. flat_map (site_needs l o) own) l.sites []
-            (λ o. refl)
+        (λ o. refl)
         (λ o x ys. refl) (λ own. own.sites.items) (AreOwn l) (λ o z own. own.sites_are) 0 (length l.objects) zs
         (omega (arith, each)) are
 

@@ -162,11 +162,11 @@ module _ (l : Linking) where
   from_site n (first ∷ more) o zero site need number below own has =
       let same : o ≡ n = omega arith in
       Contains-append_left (flat_map (site_needs l n) first)
-          (flat_map_from (λ o. flat_map (site_needs l o)) (n + 1) more) need
+      (flat_map_from (λ o. flat_map (site_needs l o)) (n + 1) more) need
       (contains_flat (site_needs l n) first site need own (subst (λ m. Contains (site_needs l m site) need) same has))
   from_site n (first ∷ more) o (suc i) site need number below own has =
       Contains-append_right (flat_map (site_needs l n) first)
-          (flat_map_from (λ o. flat_map (site_needs l o)) (n + 1) more) need
+      (flat_map_from (λ o. flat_map (site_needs l o)) (n + 1) more) need
       (from_site (n + 1) more o i site need (omega arith) (omega (arith, below)) own has)
 
   calls_from : (n : ℕ) (sites : List (List Site)) (o i : ℕ) (site : Site) → o ≡ n + i → i < length sites
@@ -192,7 +192,7 @@ module _ (l : Linking) where
   unfolding site_needs
   reached o site r need reach e =
       let listed : option_to_list (option_and_then (relocation_need l o) (reaching site (choice l o site)))
-          ≡ need ∷ [] =
+      ≡ need ∷ [] =
       ap (λ found. option_to_list (option_and_then (relocation_need l o) found)) reach ∙ ap option_to_list e in
       Contains-append_left (option_to_list (option_and_then (relocation_need l o) (reaching site (choice l o site))))
       (if is_kept (choice l o site) && calls site.form then RuntimeWord ∷ [] else []) need
@@ -215,7 +215,7 @@ module _ (l : Linking) where
     of_site need has =
         entry_has l need
         (Contains-append_left (flat_map_from (λ o. flat_map (site_needs l o)) 0 l.sites)
-            (flat_map_from (object_needs l) 0 l.objects) need
+        (flat_map_from (object_needs l) 0 l.objects) need
         (from_site 0 l.sites o o site need (omega arith) (omega (arith, given.each, there)) own has))
 
     pub stub_there : is_stub_call l o site ≡ true → has_stub l ≡ true
@@ -303,23 +303,23 @@ module _ (l : Linking) where
       of_test : (t : Bool) → list_any (is_stub_call l o) own ≡ t
           → (if t then true else any_stub_call l (o + 1) more) ≡ true
           → (any_stub_call l (o + 1) more ≡ true → Contains
-              (flat_map_from (λ o. flat_map (site_needs l o)) (o + 1) more) RuntimeWord)
+          (flat_map_from (λ o. flat_map (site_needs l o)) (o + 1) more) RuntimeWord)
           → Contains (flat_map (site_needs l o) own ++ flat_map_from (λ o. flat_map (site_needs l o))
-              (o + 1) more) RuntimeWord
+          (o + 1) more) RuntimeWord
       of_test true here e later =
           Contains-append_left (flat_map (site_needs l o) own)
-              (flat_map_from (λ o. flat_map (site_needs l o)) (o + 1) more) RuntimeWord
+          (flat_map_from (λ o. flat_map (site_needs l o)) (o + 1) more) RuntimeWord
           (in_sites o own here)
       of_test false here e later =
           Contains-append_right (flat_map (site_needs l o) own)
-              (flat_map_from (λ o. flat_map (site_needs l o)) (o + 1) more) RuntimeWord (later e)
+          (flat_map_from (λ o. flat_map (site_needs l o)) (o + 1) more) RuntimeWord (later e)
 
 pub stubs_have_their_word : StubsHaveTheirWord
 unfolding has_stub needs
 stubs_have_their_word l e =
     entry_has l RuntimeWord
     (Contains-append_left (flat_map_from (λ o. flat_map (site_needs l o)) 0 l.sites)
-        (flat_map_from (object_needs l) 0 l.objects) RuntimeWord (in_all l 0 l.sites e))
+    (flat_map_from (object_needs l) 0 l.objects) RuntimeWord (in_all l 0 l.sites e))
 
 -- ** address fields
 
@@ -360,12 +360,12 @@ module _ (l : Linking) (o t : ℕ) (r : Relocation) (v : SymbolRef) (inside : t 
           let first : i ≡ i + 0 = omega arith in
           let here : object l o ≡ b = ap (object l) (same ∙ first) ∙ each 0 (omega arith) in
           Contains-append_left (object_needs l i b) (flat_map_from (object_needs l) (i + 1) more)
-              (AddressWord v (address l v))
+          (AddressWord v (address l v))
           (subst (λ (n : ℕ). Contains (object_needs l n b) (AddressWord v (address l v))) same
           (subst (λ (x : List ℕ). Contains (object_needs l o x) (AddressWord v (address l v))) here in_object))
       of_index (suc d) far rest =
           Contains-append_right (object_needs l i b) (flat_map_from (object_needs l) (i + 1) more)
-              (AddressWord v (address l v))
+          (AddressWord v (address l v))
           (rest (omega (arith, far)))
 
 pub fields_reach_entries : FieldsReachEntries
@@ -373,6 +373,6 @@ unfolding needs
 fields_reach_entries l o t r v there inside has kind bound =
     entry_has l (AddressWord v (address l v))
     (Contains-append_right (flat_map_from (λ o. flat_map (site_needs l o)) 0 l.sites)
-        (flat_map_from (object_needs l) 0 l.objects) (AddressWord v (address l v))
+    (flat_map_from (object_needs l) 0 l.objects) (AddressWord v (address l v))
     (in_objects l o t r v inside has kind bound 0 l.objects (omega arith) (omega (arith, there)) (λ k below.
     let same : 0 + k ≡ k = omega arith in ap (object l) same)))

@@ -1,6 +1,6 @@
 -- The symbols and the relocations by which a loader connects an image with others (gABI, "Symbol Table", "Relocation";
 -- psABI, "Relocation Types").
-use Rattle.std.specs.Prelude.{◌+◌, ◌^◌, ◌&&◌, ◌++◌, ℕ, ℤ, pos, ◌+ℤ◌, Bool, true, false, List, [], ◌∷◌, length}
+use Rattle.std.specs.Prelude.{◌+◌, ◌^◌, ◌&&◌, ◌++◌, ℕ, ℤ, pos, ◌+ℤ◌, Bool, true, List, [], ◌∷◌, length}
 use Rattle.std.specs.Prelude.{Option, Some, None, map, unwrap_or, if◌then◌else◌}
 use Rattle.std.specs.Int.{w64, cast_signed}
 use Rattle.std.specs.List.{flat_map, list_any, position_from, range_with_len}

@@ -112,7 +112,7 @@ module _ (l : Linking) (o : ℕ) where
         All-append IsOther (option_to_list (option_and_then (relocation_need l o) (reaching site (choice l o site))))
         (if is_kept (choice l o site) && calls site.form then RuntimeWord ∷ [] else [])
         (subst (λ c. All IsOther (option_to_list (option_and_then (relocation_need l o) (reaching site c))))
-            (sym keeps) reached)
+        (sym keeps) reached)
         (called (is_kept (choice l o site) && calls site.form))
 
 abbrev initial_in : List Site → Bool
@@ -132,7 +132,7 @@ module _ (l : Linking) (late : l.kind ≡ Late) where
   sites_other o (own ∷ more) none =
       let parts = neither (initial_in own) (list_any initial_in more) none in
       All-append IsOther (flat_map (site_needs l o) own) (flat_map_from (λ o. flat_map (site_needs l o)) (o + 1) more)
-          (own_other o own parts.0)
+      (own_other o own parts.0)
       (sites_other (o + 1) more parts.1)
 
 word_other : (l : Linking) (bound : Option Binding) → All IsOther (own_word l bound)
@@ -157,7 +157,7 @@ needs_other : (l : Linking) → l.kind ≡ Late → list_any initial_in l.sites 
 unfolding needs
 needs_other l late none =
     All-append IsOther (flat_map_from (λ o. flat_map (site_needs l o)) 0 l.sites)
-        (flat_map_from (object_needs l) 0 l.objects) (sites_other l late 0 l.sites none)
+    (flat_map_from (object_needs l) 0 l.objects) (sites_other l late 0 l.sites none)
     (objects_other l 0 l.objects)
 
 -- ** entries
@@ -173,7 +173,7 @@ unfolding entries_of
 entries_other xs all =
     distinct_other (by_group xs)
     (all_flat IsOther (λ g. of_group g xs) (range_with_len 0 6)
-        (λ g. All-filter (λ need. nat_eq (group_of need) g) IsOther xs all))
+    (λ g. All-filter (λ need. nat_eq (group_of need) g) IsOther xs all))
 
 -- ** relocations
 

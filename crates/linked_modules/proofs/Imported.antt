@@ -87,7 +87,7 @@ module _ (objects : List (List ℕ)) (startup : List (List (List ℕ))) where
   all_from o [] = all_nil (IsAmong startup)
   all_from o (own ∷ more) =
       all_append (IsAmong startup) (imported_in objects startup o own)
-          (flat_map_from (imported_in objects startup) (o + 1) more)
+      (flat_map_from (imported_in objects startup) (o + 1) more)
       (all_in o own) (all_from (o + 1) more)
 
   pub imports_among : (sites : List (List Site)) → All (IsAmong startup) (imports objects startup sites)

@@ -83,7 +83,7 @@ module _ (l : Linking) where
     where
       of_test : (t : Bool)
           → All (Origin l) (if t then sorted_by (λ r. r.place)
-              (flat_map_from (object_relocations l) 0 l.objects) else [])
+          (flat_map_from (object_relocations l) 0 l.objects) else [])
       of_test true =
           all_sorted (λ r. r.place) (Origin l) (flat_map_from (object_relocations l) 0 l.objects)
           (of_objects 0 l.objects (omega arith) (λ k below. let same : 0 + k ≡ k = omega arith in ap (object l) same))
@@ -124,7 +124,7 @@ module _ (l : Linking) (o t : ℕ) (r : Relocation) (within : t < section_count 
     where
       of_index : (d : ℕ) → i + d ≡ o
           → (i + 1 ≤ o → Contains (flat_map_from (object_relocations l) (i + 1) more)
-              (relative (place l o t r.offset) (sum_of l o r)))
+          (relative (place l o t r.offset) (sum_of l o r)))
           → Contains (object_relocations l i b ++ flat_map_from (object_relocations l) (i + 1) more)
           (relative (place l o t r.offset) (sum_of l o r))
       of_index zero far rest =

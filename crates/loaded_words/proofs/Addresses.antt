@@ -101,7 +101,7 @@ module _ (l : Linking) (given : IsGiven l) (limits : IsWithinLimits (layout l)) 
     where
       of_place : (place : SymbolPlace) → symbol_place (object l found.object) found.symbol ≡ place
           → placed_value (address_of (layout l) found.object) place
-              (symbol_value (object l found.object) found.symbol) < 2 ^ 64
+          (symbol_value (object l found.object) found.symbol) < 2 ^ 64
       of_place Undefined at = absurd (is.defined at)
       of_place Absolute at = absurd (is.relative at)
       of_place (InSection s) at =

@@ -80,14 +80,14 @@ module _ (l : Linking) (name : List ℕ) where
   listed_from n (own ∷ more) zero below is =
       let at : n + 0 ≡ n = omega arith in
       list_any-append (bytes_eq name) (imported_in l.objects l.startup n own)
-          (flat_map_from (imported_in l.objects l.startup) (n + 1) more)
+      (flat_map_from (imported_in l.objects l.startup) (n + 1) more)
       ∙ or_left (list_any (bytes_eq name) (imported_in l.objects l.startup n own))
       (list_any (bytes_eq name) (flat_map_from (imported_in l.objects l.startup) (n + 1) more))
       (ap (λ m. list_any (bytes_eq name) (imported_in l.objects l.startup m own)) (sym at) ∙ is)
   listed_from n (own ∷ more) (suc o) below is =
       let at : n + 1 + o ≡ n + suc o = omega arith in
       list_any-append (bytes_eq name) (imported_in l.objects l.startup n own)
-          (flat_map_from (imported_in l.objects l.startup) (n + 1) more)
+      (flat_map_from (imported_in l.objects l.startup) (n + 1) more)
       ∙ or_right (list_any (bytes_eq name) (imported_in l.objects l.startup n own))
       (list_any (bytes_eq name) (flat_map_from (imported_in l.objects l.startup) (n + 1) more))
       (listed_from (n + 1) more o (omega (arith, below))
@@ -233,7 +233,7 @@ objects_read l n (b ∷ more) each =
     let P : ℕ → Type 0 = λ m. All (R l) (object_needs l m b) in
     let at : n + 0 ≡ n = omega arith in
     All-append (R l) (object_needs l n b) (flat_map_from (object_needs l) (n + 1) more)
-        (subst P at (each 0 (omega arith)))
+    (subst P at (each 0 (omega arith)))
     (objects_read l (n + 1) more (λ o below.
     let Q : ℕ → Type 0 = λ m. All (R l) (object_needs l m (slice_index_or more o [])) in
     let next : n + suc o ≡ n + 1 + o = omega arith in
@@ -277,7 +277,7 @@ needs_read : (l : Linking) → IsGiven l → IsWithinLimits (layout l) → All (
 unfolding needs
 needs_read l given limits =
     All-append (R l) (flat_map_from (λ o. flat_map (site_needs l o)) 0 l.sites)
-        (flat_map_from (object_needs l) 0 l.objects) (sites_read l 0 l.sites each_site)
+    (flat_map_from (object_needs l) 0 l.objects) (sites_read l 0 l.sites each_site)
     (objects_read l 0 l.objects each_object)
   where
     start : (o : ℕ) → 0 + o ≡ o

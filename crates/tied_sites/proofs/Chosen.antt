@@ -27,7 +27,6 @@ use Rattle.sequence_forms.specs.declared.forms.Form.{Form}
 use Rattle.sequence_forms.specs.declared.places.Site.{Site}
 use Rattle.sequence_forms.specs.Forms.{row}
 use Rattle.sequence_match.specs.Sites.{first_of}
-use Rattle.std.specs.Prelude.{option_to_list}
 
 -- ** where programs are rewritten
 

@@ -160,9 +160,9 @@ module _ (objects : List (List ℕ)) (name : List ℕ) where
   any_listed (b ∷ more) o d is =
       let at = dropped_is objects o [] b more d in
       elim (either (list_any (bytes_eq name) (exported_in objects o b))
-          (list_any (bytes_eq name) (flat_map_from (exported_in objects) (o + 1) more))
+      (list_any (bytes_eq name) (flat_map_from (exported_in objects) (o + 1) more))
       (sym (list_any-append (bytes_eq name) (exported_in objects o b)
-          (flat_map_from (exported_in objects) (o + 1) more)) ∙ is)) [
+      (flat_map_from (exported_in objects) (o + 1) more)) ∙ is)) [
         | inl here ↦ let found = object_listed o b here in (o, found.0, subst (Lists o found.0) (sym at.here) found.1)
         | inr later ↦ any_listed more (o + 1) at.rest later
       ]
@@ -184,7 +184,7 @@ module _ (objects : List (List ℕ)) (name : List ℕ) where
             let P : ℕ → Type 0 = λ m. Lists m e (object_at objects m) in
             let Q : ℕ → Type 0 = λ m. e < symbol_count (object_at objects m) in
             or_left (list_any (bytes_eq name) (exported_in objects o b))
-                (list_any (bytes_eq name) (flat_map_from (exported_in objects) (o + 1) more))
+            (list_any (bytes_eq name) (flat_map_from (exported_in objects) (o + 1) more))
             (lists_object o b e above (subst (λ c. e < symbol_count c) at.here (subst Q is_o below)) (subst (Lists o e) at.here (subst P is_o is)))
       ]
 
@@ -233,6 +233,6 @@ pub exports_by_name : ExportsAreByName
 unfolding exported_names
 exports_by_name objects name =
     same_test (list_any (bytes_eq name) (flat_map_from (exported_in objects) 0 objects))
-        (is_exported_by objects (definition_of objects name))
+    (is_exported_by objects (definition_of objects name))
     (λ h. (let found = any_listed objects name objects 0 refl h in to_definition objects name found.0 found.1 found.2))
     (λ h. from_definition objects name (definition_of objects name) refl h)

@@ -8,7 +8,7 @@ use Rattle.tls_symbols.specs.Definitions.{flat_map_from}
 abbrev pub invariant-loop-index : goal.invariant-loop-index
 invariant-loop-index l =
     with_names (map (λ name. name.now) l.names.keys)
-        (flat_map_from (imported_in l.bindings.objects l.bindings.startup) l.index
-        (map (λ own. own.items) (drop l.index l.sites)))
+    (flat_map_from (imported_in l.bindings.objects l.bindings.startup) l.index
+    (map (λ own. own.items) (drop l.index l.sites)))
     ≡ with_names [] (flat_map_from (imported_in l.bindings.objects l.bindings.startup) 0
-        (map (λ own. own.items) l.sites))
+    (map (λ own. own.items) l.sites))

@@ -14,7 +14,7 @@ invariant_of-self-2 c =
     subst (λ (xs : List (List ℕ)). IsGivenImage (given c.self.inside.kind xs c.push-2.new.self.items)) (sym objects)
     (subst (λ (ys : List (Vec Site)).
     IsGivenImage (given c.self.inside.kind (c.self.inside.objects.items ++ c.args.read.object ∷ []) ys))
-        (sym sites) all)
+    (sym sites) all)
 
 pub returns-clause-given : goal.returns-clause-given
 returns-clause-given c =
@@ -25,4 +25,4 @@ returns-clause-given c =
     subst (λ (xs : List (List ℕ)). IsGivenImage (given c.self.inside.kind xs c.push-2.new.self.items)) (sym objects)
     (subst (λ (ys : List (Vec Site)).
     IsGivenImage (given c.self.inside.kind (c.self.inside.objects.items ++ c.args.read.object ∷ []) ys))
-        (sym sites) all)
+    (sym sites) all)

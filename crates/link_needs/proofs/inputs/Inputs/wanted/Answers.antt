@@ -16,7 +16,7 @@ returns-clause-needs g c =
     let of_fields = fields_found l all c.in_ok-all.ensures in
     IfOk-weaker c.joined.result _ _
     (λ wanted are. are ∙ ap (λ xs. xs ++ flat_map (λ own. own.fields.items) all) of_sites ∙ ap
-        (λ xs. flat_map_from (λ o. flat_map (site_needs l o)) 0 l.sites ++ xs) of_fields)
+    (λ xs. flat_map_from (λ o. flat_map (site_needs l o)) 0 l.sites ++ xs) of_fields)
     c.joined.ensures.needs
 
 pub returns-clause-absolutes : goal.returns-clause-absolutes
