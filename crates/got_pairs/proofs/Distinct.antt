@@ -1,12 +1,12 @@
 -- Needs that are added one by one, and the entries that they come to.
-use Rattle.std.proofs.Common.{◌≡◌, ◌∙◌, ◌&&◌, ◌||◌, ℕ, Bool, true, false, not, cond, List, [], ◌∷◌, ◌++◌, filter}
-use Rattle.std.proofs.Common.{if◌then◌else◌, refl, sym, ap, subst, append_assoc, append-nil}
+use Rattle.std.proofs.Common.{◌≡◌, ◌∙◌, ◌&&◌, ◌||◌, Bool, true, false, not, cond, List, [], ◌∷◌, ◌++◌, filter, if◌then◌else◌, refl, sym, ap, subst, append_assoc, append-nil}
 use Rattle.std.proofs.lemmas.List.Folds.{list_any-append}
 use Rattle.std.specs.Cmp.{IsEquivalence}
-use Rattle.std.specs.List.{flat_map, list_any, range_with_len}
+use Rattle.std.specs.List.{flat_map, list_any}
+use Rattle.got_pairs.specs.declared.need.Group.{Group}
 use Rattle.got_pairs.specs.declared.need.Need.{Need}
 use Rattle.got_pairs.specs.contracts.need.NeedEq.TheImpl.Laws.{laws-law}
-use Rattle.got_pairs.specs.Needs.{by_group, distinct, entries, of_group, same_need}
+use Rattle.got_pairs.specs.Needs.{by_group, distinct, entries, groups, of_group, same_need}
 use Rattle.got_pairs.specs.Plans.{is_among, with_need, with_needs}
 use Rattle.got_pairs.proofs.Starts.{eq_same}
 
@@ -80,18 +80,16 @@ with_needs-distinct seen (x ∷ xs) = by (is_among seen x) refl (λ s. with_need
         ∙ ap (λ r. seen ++ x ∷ r) (unseen-one_more seen x (distinct xs))
 
 -- the needs of each group, added group by group
-abbrev pub with_groups : List Need → List ℕ → List Need → List Need
+abbrev pub with_groups : List Need → List Group → List Need → List Need
 with_groups entries [] needs = entries
 with_groups entries (g ∷ gs) needs = with_groups (with_needs entries (of_group g needs)) gs needs
 
-with_groups-flat : (entries : List Need) (gs : List ℕ) (needs : List Need) → with_needs entries
-    (flat_map (λ g. of_group g needs) gs) ≡ with_groups entries gs needs
+with_groups-flat : (entries : List Need) (gs : List Group) (needs : List Need) → with_needs entries (flat_map (λ g. of_group g needs) gs) ≡ with_groups entries gs needs
 with_groups-flat entries [] needs = refl
 with_groups-flat entries (g ∷ gs) needs =
     with_needs-append entries (of_group g needs) (flat_map (λ h. of_group h needs) gs) ∙ with_groups-flat (with_needs entries (of_group g needs)) gs needs
 
 -- so the groups, one after another, give the entries
-pub group_by_group : (needs : List Need) → with_groups [] (range_with_len 0 6) needs ≡ entries needs
+pub group_by_group : (needs : List Need) → with_groups [] groups needs ≡ entries needs
 unfolding entries
-group_by_group needs = sym (with_groups-flat [] (range_with_len 0 6) needs) ∙ with_needs-distinct [] (by_group needs)
-    ∙ filter_all (distinct (by_group needs))
+group_by_group needs = sym (with_groups-flat [] groups needs) ∙ with_needs-distinct [] (by_group needs) ∙ filter_all (distinct (by_group needs))

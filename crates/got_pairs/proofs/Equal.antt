@@ -18,7 +18,7 @@ both_true true true e = (refl, refl)
 both_true true false e = absurd (cc)
 both_true false t e = absurd (cc)
 
-pub same_number : (m n : ℕ) → nat_eq m n ≡ true → m ≡ n
+same_number : (m n : ℕ) → nat_eq m n ≡ true → m ≡ n
 same_number m n e = grind (arith, nat_tests)
 
 symbol_is : (s t : SymbolRef) → same_symbol s t ≡ true → s ≡ t

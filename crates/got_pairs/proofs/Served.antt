@@ -1,16 +1,15 @@
 -- Each need has an entry, which lies in the table; and the table is small.
-use Rattle.std.proofs.Common.{◌≡◌, ◌∙◌, ◌+◌, ◌*◌, ◌<◌, ◌≤◌, ◌||◌, ℕ, zero, suc, Bool, true, false, not, cond, nat_eq}
-use Rattle.std.proofs.Common.{List, [], ◌∷◌, ◌++◌, Option, Some, None, filter, length, if◌then◌else◌, refl, sym, ap}
-use Rattle.std.proofs.Common.{arith}
+use Rattle.std.proofs.Common.{◌≡◌, ◌∙◌, ◌+◌, ◌*◌, ◌<◌, ◌≤◌, ◌||◌, ℕ, zero, suc, Bool, true, false, not, cond, List, [], ◌∷◌, ◌++◌, Option, Some, None, filter, length, if◌then◌else◌, refl, sym, ap, arith}
 use Rattle.std.proofs.lemmas.List.Folds.{list_any-append}
 use Rattle.std.proofs.lemmas.Map.Views.{any-filter_same}
-use Rattle.std.specs.List.{All, flat_map, list_any, range_with_len, slice_index_or}
+use Rattle.std.specs.List.{All, flat_map, list_any, slice_index_or}
 use Rattle.std.specs.Option.{IfSome, IsSome}
+use Rattle.got_pairs.specs.declared.need.Group.{Group}
+use Rattle.got_pairs.specs.declared.need.Group.TheVariants as group
 use Rattle.got_pairs.specs.declared.need.Need.{Need}
 use Rattle.got_pairs.specs.declared.need.Need.TheVariants.{ModulePair, SymbolPair, Descriptor, SymbolWord}
 use Rattle.got_pairs.specs.declared.need.Need.TheVariants.{AddressWord, RuntimeWord}
-use Rattle.got_pairs.specs.Needs.{by_group, distinct, entries, group_of, of_group, same_need, size_of, start_from}
-use Rattle.got_pairs.specs.Needs.{start_of, total_size}
+use Rattle.got_pairs.specs.Needs.{by_group, distinct, entries, group_of, groups, of_group, same_group, same_need, size_of, start_from, start_of, total_size}
 use Rattle.got_pairs.specs.Plans.{is_among}
 use Rattle.got_pairs.proofs.Distinct.{equivalence}
 
@@ -47,11 +46,9 @@ module _ (n : Need) where
       either true b e = refl
       either false b e = e
 
-  among_of_group : (g : ℕ) (xs : List Need) → nat_eq (group_of n) g ≡ true → is_among xs n ≡ true → is_among
-      (of_group g xs) n ≡ true
+  among_of_group : (g : Group) (xs : List Need) → same_group g (group_of n) ≡ true → is_among xs n ≡ true → is_among (of_group g xs) n ≡ true
   among_of_group g xs own e =
-      any-filter_same (same_need n) (λ y. nat_eq (group_of y) g) true
-      (λ k s. ap (λ h. nat_eq h g) (sym (same_sort n k s).0) ∙ own) xs ∙ e
+      any-filter_same (same_need n) (λ y. same_group g (group_of y)) true (λ k s. ap (same_group g) (sym (same_sort n k s).0) ∙ own) xs ∙ e
 
   among_distinct : (xs : List Need) → is_among xs n ≡ true → is_among (distinct xs) n ≡ true
   among_distinct [] e = e
@@ -73,22 +70,19 @@ module _ (n : Need) where
       by false same rest = rest (ap (λ b. b || is_among ks n) (sym same) ∙ e)
 
 -- the groups leave no need out
-among_groups : (n : Need) (xs : List Need) (gs : List ℕ) → list_any (λ g. nat_eq (group_of n) g) gs ≡ true
-    → is_among xs n ≡ true → is_among (flat_map (λ g. of_group g xs) gs) n ≡ true
+among_groups : (n : Need) (xs : List Need) (gs : List Group) → list_any (λ g. same_group g (group_of n)) gs ≡ true → is_among xs n ≡ true → is_among (flat_map (λ g. of_group g xs) gs) n ≡ true
 among_groups n xs [] own e = own
-among_groups n xs (g ∷ gs) own e = by (nat_eq (group_of n) g) refl (among_groups n xs gs)
+among_groups n xs (g ∷ gs) own e = by (same_group g (group_of n)) refl (among_groups n xs gs)
   where
-    by : (b : Bool) → nat_eq (group_of n) g ≡ b
-        → (list_any (λ h. nat_eq (group_of n) h) gs ≡ true → is_among xs n ≡ true → is_among
-        (flat_map (λ h. of_group h xs) gs) n ≡ true)
+    by : (b : Bool) → same_group g (group_of n) ≡ b
+        → (list_any (λ h. same_group h (group_of n)) gs ≡ true → is_among xs n ≡ true → is_among (flat_map (λ h. of_group h xs) gs) n ≡ true)
         → is_among (of_group g xs ++ flat_map (λ h. of_group h xs) gs) n ≡ true
     by true here more = among_left n (of_group g xs) (flat_map (λ h. of_group h xs) gs) (among_of_group n g xs here e)
     by false here more =
-        let later : list_any (λ h. nat_eq (group_of n) h) gs ≡ true = ap
-        (λ b. b || list_any (λ h. nat_eq (group_of n) h) gs) (sym here) ∙ own in
+        let later : list_any (λ h. same_group h (group_of n)) gs ≡ true = ap (λ b. b || list_any (λ h. same_group h (group_of n)) gs) (sym here) ∙ own in
         among_right n (of_group g xs) (flat_map (λ h. of_group h xs) gs) (more later e)
 
-own_group : (n : Need) → list_any (λ g. nat_eq (group_of n) g) (range_with_len 0 6) ≡ true
+own_group : (n : Need) → list_any (λ g. same_group g (group_of n)) groups ≡ true
 own_group ModulePair = refl
 own_group n = refl
 
@@ -101,9 +95,7 @@ pub served : (needs : List Need) → All (λ need. IsSome (start_of (entries nee
 unfolding entries
 served needs = λ k d h.
     let n = slice_index_or needs k d in
-    start_among n 0 (entries needs)
-    (among_distinct n (by_group needs)
-    (among_groups n needs (range_with_len 0 6) (own_group n) (among_at needs k d h)))
+    start_among n 0 (entries needs) (among_distinct n (by_group needs) (among_groups n needs groups (own_group n) (among_at needs k d h)))
 
 -- ** an entry lies in the table
 
@@ -144,8 +136,8 @@ total-distinct (x ∷ xs) = omega (arith, total-distinct xs, total-filter (λ y.
 
 six : List Need → ℕ
 six xs =
-    total_size (of_group 0 xs) + total_size (of_group 1 xs) + total_size (of_group 2 xs)
-    + total_size (of_group 3 xs) + total_size (of_group 4 xs) + total_size (of_group 5 xs)
+    total_size (of_group group.ModulePair xs) + total_size (of_group group.SymbolPairs xs) + total_size (of_group group.Descriptors xs)
+    + total_size (of_group group.SymbolWords xs) + total_size (of_group group.AddressWords xs) + total_size (of_group group.RuntimeWord xs)
 
 six-total : (xs : List Need) → six xs ≡ total_size xs
 unfolding six

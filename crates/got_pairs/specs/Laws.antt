@@ -1,10 +1,10 @@
 -- What holds of the table for any needs.
 use Rattle.std.specs.Prelude.{◌≡◌, ◌≢◌, ◌≤◌, ℕ, List, Some}
 use Rattle.std.specs.List.{AllPairs, Contains}
+use Rattle.got_pairs.specs.declared.need.Group.{Group}
+use Rattle.got_pairs.specs.declared.need.Group.TheVariants as group
 use Rattle.got_pairs.specs.declared.need.Need.{Need}
-use Rattle.got_pairs.specs.declared.need.Need.TheVariants.{ModulePair, SymbolPair, Descriptor, SymbolWord}
-use Rattle.got_pairs.specs.declared.need.Need.TheVariants.{AddressWord, RuntimeWord}
-use Rattle.got_pairs.specs.Needs.{entries, start_of}
+use Rattle.got_pairs.specs.Needs.{entries, group_of, start_of}
 
 -- each need has an entry, at some byte of the table
 abbrev pub NeedsHaveEntries : Type 0
@@ -19,15 +19,15 @@ EntriesAreNeeded = (needs : List Need) (entry : Need) → Contains (entries need
 abbrev pub EntriesDiffer : Type 0
 EntriesDiffer = (needs : List Need) → AllPairs (λ x y. x ≢ y) (entries needs)
 
--- the place of an entry's group in the order
-abbrev pub rank : Need → ℕ
-rank ModulePair = 0
-rank (SymbolPair x) = 1
-rank (Descriptor x) = 2
-rank (SymbolWord x) = 3
-rank (AddressWord s p) = 4
-rank RuntimeWord = 5
+-- the place of a group in the order
+abbrev pub rank : Group → ℕ
+rank group.ModulePair = 0
+rank group.SymbolPairs = 1
+rank group.Descriptors = 2
+rank group.SymbolWords = 3
+rank group.AddressWords = 4
+rank group.RuntimeWord = 5
 
 -- no entry comes after one of a later group
 abbrev pub GroupsStandInOrder : Type 0
-GroupsStandInOrder = (needs : List Need) → AllPairs (λ x y. rank x ≤ rank y) (entries needs)
+GroupsStandInOrder = (needs : List Need) → AllPairs (λ x y. rank (group_of x) ≤ rank (group_of y)) (entries needs)

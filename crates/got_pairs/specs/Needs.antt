@@ -1,10 +1,12 @@
 -- What code needs from the global offset table, and the order of the entries (Drepper, "ELF Handling For Thread-Local
 -- Storage", section 4; psABI, "Relocation Types").
-use Rattle.std.specs.Prelude.{◌+◌, ◌&&◌, ◌==◌, ℕ, Bool, true, false, not, nat_eq, if◌then◌else◌}
+use Rattle.std.specs.Prelude.{◌+◌, ◌&&◌, ℕ, Bool, true, false, not, nat_eq, if◌then◌else◌}
 use Rattle.std.specs.Prelude.{List, [], ◌∷◌, Option, Some, None, filter}
-use Rattle.std.specs.List.{flat_map, range_with_len}
+use Rattle.std.specs.List.{flat_map}
 use Rattle.std.specs.Str.{bytes_eq}
 use Rattle.link_faults.specs.declared.symbol_ref.SymbolRef.{SymbolRef}
+use Rattle.got_pairs.specs.declared.need.Group.{Group}
+use Rattle.got_pairs.specs.declared.need.Group.TheVariants as group
 use Rattle.got_pairs.specs.declared.need.Need.{Need}
 use Rattle.got_pairs.specs.declared.need.Need.TheVariants.{ModulePair, SymbolPair, Descriptor, SymbolWord}
 use Rattle.got_pairs.specs.declared.need.Need.TheVariants.{AddressWord, RuntimeWord}
@@ -33,14 +35,13 @@ same_need x y = false
 
 -- ** the order of the entries
 
--- the table's entries stand in six groups, each of one kind; the number of an entry's group
-abbrev pub group_of : Need → ℕ
-group_of ModulePair = 0
-group_of (SymbolPair x) = 1
-group_of (Descriptor x) = 2
-group_of (SymbolWord x) = 3
-group_of (AddressWord s p) = 4
-group_of RuntimeWord = 5
+abbrev pub group_of : Need → Group
+group_of ModulePair = group.ModulePair
+group_of (SymbolPair x) = group.SymbolPairs
+group_of (Descriptor x) = group.Descriptors
+group_of (SymbolWord x) = group.SymbolWords
+group_of (AddressWord s p) = group.AddressWords
+group_of RuntimeWord = group.RuntimeWord
 
 -- how many bytes an entry has: a pair and a descriptor have two words
 abbrev pub size_of : Need → ℕ
@@ -51,13 +52,28 @@ size_of (SymbolWord x) = 8
 size_of (AddressWord s p) = 8
 size_of RuntimeWord = 8
 
--- the needs of group g, in their order
-abbrev pub of_group : ℕ → List Need → List Need
-of_group g needs = filter (λ need. group_of need == g) needs
+abbrev pub same_group : Group → Group → Bool
+same_group group.ModulePair group.ModulePair = true
+same_group group.SymbolPairs group.SymbolPairs = true
+same_group group.Descriptors group.Descriptors = true
+same_group group.SymbolWords group.SymbolWords = true
+same_group group.AddressWords group.AddressWords = true
+same_group group.RuntimeWord group.RuntimeWord = true
+same_group x y = false
+
+-- the needs of one group, in their order
+abbrev pub of_group : Group → List Need → List Need
+of_group g needs = filter (λ need. same_group g (group_of need)) needs
+
+-- the groups in the order of the table
+abbrev pub groups : List Group
+groups =
+    group.ModulePair ∷ group.SymbolPairs ∷ group.Descriptors ∷ group.SymbolWords ∷ group.AddressWords
+    ∷ group.RuntimeWord ∷ []
 
 -- all needs, group by group
 abbrev pub by_group : List Need → List Need
-by_group needs = flat_map (λ g. of_group g needs) (range_with_len 0 6)
+by_group needs = flat_map (λ g. of_group g needs) groups
 
 -- each of these needs once, at its first occurrence
 abbrev pub distinct : List Need → List Need

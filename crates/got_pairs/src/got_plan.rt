@@ -7,7 +7,7 @@ ghost use Rattle.got_pairs.specs.Needs.{entries, of_group, size_of, start_of, to
 ghost use Rattle.got_pairs.specs.Plans.{with_need, with_needs};
 
 use crate::entry::{Entry, entry_of};
-use crate::need::Need;
+use crate::need::{Group, Need};
 use indexmap::IndexMap;
 use link_faults::ImageKind;
 use std::alloc::{AllocError, Global};
@@ -55,12 +55,12 @@ pub fn plan<'a>(
     ensures small { IfOk result (λ plan. total_size plan.entries ≤ 16 * length needs.now) }
 {
     let mut plan = GotPlan::empty(alloc, kind, block_offset);
-    plan.add_group(0, needs)?;
-    plan.add_group(1, needs)?;
-    plan.add_group(2, needs)?;
-    plan.add_group(3, needs)?;
-    plan.add_group(4, needs)?;
-    plan.add_group(5, needs)?;
+    plan.add_group(Group::ModulePair, needs)?;
+    plan.add_group(Group::SymbolPairs, needs)?;
+    plan.add_group(Group::Descriptors, needs)?;
+    plan.add_group(Group::SymbolWords, needs)?;
+    plan.add_group(Group::AddressWords, needs)?;
+    plan.add_group(Group::RuntimeWord, needs)?;
     Ok(plan)
 }
 
@@ -77,7 +77,7 @@ impl<'a> GotPlan<'a> {
     }
 
     /// Adds the entries for a group's needs.
-    fn add_group(&mut self, group: u8, needs: &[Need<'a>]) -> Result<(), AllocError>
+    fn add_group(&mut self, group: Group, needs: &[Need<'a>]) -> Result<(), AllocError>
         ensures { OnOk result (self.new
             ≡ record self.old { entries = with_needs self.old.entries (of_group group needs.now) }) }
     {

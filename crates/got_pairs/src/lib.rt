@@ -42,4 +42,4 @@ mod need;
 pub use entry::{DynamicKind, DynamicRelocation, DynamicSymbol, Entry, Word, entry_of};
 pub use got_plan::{GotPlan, plan};
 pub use name::Name;
-pub use need::{Need, Target};
+pub use need::{Group, Need, Target};

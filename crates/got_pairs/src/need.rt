@@ -32,6 +32,17 @@ pub enum Need<'a> {
     RuntimeWord,
 }
 
+/// The kinds of entry, in the order of the table; entries of one kind stand together.
+#[derive(Clone, Copy, PartialEq, Eq, Debug)]
+pub enum Group {
+    ModulePair,
+    SymbolPairs,
+    Descriptors,
+    SymbolWords,
+    AddressWords,
+    RuntimeWord,
+}
+
 impl<'a> Target<'a> {
     /// The same target, with its name borrowed again.
     pub fn again(&self) -> Target<'a>
@@ -48,17 +59,16 @@ impl<'a> Target<'a> {
 }
 
 impl<'a> Need<'a> {
-    /// The number of its group: the table's entries stand in six groups.
-    pub fn group(&self) -> u8
+    pub fn group(&self) -> Group
         ensures { result ≡ group_of self.now }
     {
         match self {
-            Need::ModulePair => 0,
-            Need::SymbolPair(_) => 1,
-            Need::Descriptor(_) => 2,
-            Need::SymbolWord(_) => 3,
-            Need::AddressWord { .. } => 4,
-            Need::RuntimeWord => 5,
+            Need::ModulePair => Group::ModulePair,
+            Need::SymbolPair(_) => Group::SymbolPairs,
+            Need::Descriptor(_) => Group::Descriptors,
+            Need::SymbolWord(_) => Group::SymbolWords,
+            Need::AddressWord { .. } => Group::AddressWords,
+            Need::RuntimeWord => Group::RuntimeWord,
         }
     }
 

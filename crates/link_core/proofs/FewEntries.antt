@@ -2,6 +2,7 @@
 use Rattle.std.proofs.Common.{◌≡◌, ◌+◌, ◌*◌, ◌≤◌, ℕ, Bool, true, false, cond, not, List, [], ◌∷◌, ◌++◌, filter, length}
 use Rattle.std.proofs.Common.{◌∙◌, ap, length-append, refl, arith}
 use Rattle.std.proofs.lemmas.List.Elements.{filter-append}
+use Rattle.got_pairs.specs.declared.need.Group.TheVariants as group
 use Rattle.got_pairs.specs.declared.need.Need.{Need}
 use Rattle.got_pairs.specs.declared.need.Need.TheVariants.{RuntimeWord}
 use Rattle.got_pairs.specs.Needs.{by_group, distinct, entries, of_group, same_need, total_size}
@@ -64,9 +65,9 @@ length-distinct (x ∷ xs) = one_more x xs refl (length-distinct xs)
 -- counted group by group
 unfoldable six : List Need → ℕ
 six xs =
-    others (of_group 0 xs) + others (of_group 1 xs)
-    + others (of_group 2 xs) + others (of_group 3 xs)
-    + others (of_group 4 xs) + others (of_group 5 xs)
+    others (of_group group.ModulePair xs) + others (of_group group.SymbolPairs xs)
+    + others (of_group group.Descriptors xs) + others (of_group group.SymbolWords xs)
+    + others (of_group group.AddressWords xs) + others (of_group group.RuntimeWord xs)
 
 six-others : (xs : List Need) → six xs ≡ others xs
 unfolding six

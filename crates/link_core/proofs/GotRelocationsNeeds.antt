@@ -1,7 +1,7 @@
 -- What a loader may rely on of the entries of the table.
 use Rattle.std.proofs.Common.{◌≡◌, ◌∙◌, ◌+◌, ◌<◌, ◌≤◌, ◌⊎◌, ◌&&◌, ℕ, zero, suc, Bool, true, false, not, List, [], ◌∷◌}
 use Rattle.std.proofs.Common.{length, filter, Option, Some, None, inl, inr, refl, sym, ap, subst, arith}
-use Rattle.std.specs.Prelude.{is_some, nat_eq, option_and_then, option_map, slice_index_or, if◌then◌else◌}
+use Rattle.std.specs.Prelude.{is_some, option_and_then, option_map, slice_index_or, if◌then◌else◌}
 use Rattle.std.specs.List.{All, Contains, flat_map, range_with_len}
 use Rattle.std.proofs.lemmas.List.Elements.{All-append, All-cons, All-contains, All-contains_itself, All-filter}
 use Rattle.std.proofs.lemmas.List.Elements.{All-head, All-nil, All-tail}
@@ -35,7 +35,7 @@ use Rattle.got_pairs.specs.declared.need.Need.TheVariants.{ModulePair, SymbolPai
 use Rattle.got_pairs.specs.declared.need.Need.TheVariants.{AddressWord, RuntimeWord}
 use Rattle.got_pairs.specs.declared.need.Target.{Target}
 use Rattle.got_pairs.specs.declared.need.Target.TheVariants as target
-use Rattle.got_pairs.specs.Needs.{by_group, distinct, entries as entries_of, group_of, of_group}
+use Rattle.got_pairs.specs.Needs.{by_group, distinct, entries as entries_of, group_of, groups, of_group, same_group}
 use Rattle.got_pairs.specs.Needs.{same_need, size_of, start_from}
 use Rattle.link_needs.specs.Refusals.{asks_storage}
 use Rattle.link_faults.specs.ImageKinds.{is_module}
@@ -291,7 +291,7 @@ entries_all : (P : Need → Type 0) (xs : List Need) → All P xs → All P (ent
 unfolding entries_of
 entries_all P xs all =
     distinct_suits P (by_group xs)
-    (all_flat P (λ g. of_group g xs) (range_with_len 0 6) (λ g. All-filter (λ need. nat_eq (group_of need) g) P xs all))
+    (all_flat P (λ g. of_group g xs) groups (λ g. All-filter (λ need. same_group g (group_of need)) P xs all))
 
 -- where the run time's word is one of them its function is used
 word_starts : (at : ℕ) (ks : List Need) (k : ℕ) (d : Need) → k < length ks → slice_index_or ks k d ≡ RuntimeWord

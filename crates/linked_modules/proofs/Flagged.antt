@@ -1,7 +1,7 @@
 -- A late image that is not flagged wants no offset from the thread pointer.
 use Rattle.std.proofs.Common.{◌≡◌, ◌≢◌, ◌+◌, ◌&&◌, ◌||◌, ◌∙◌, ℕ, Bool, true, false, not, List, [], ◌∷◌, Option}
 use Rattle.std.proofs.Common.{Some, None, filter, refl, sym, ap, subst}
-use Rattle.std.specs.Prelude.{nat_eq, option_and_then, option_map, if◌then◌else◌}
+use Rattle.std.specs.Prelude.{option_and_then, option_map, if◌then◌else◌}
 use Rattle.std.specs.List.{All, flat_map, list_any, range_with_len}
 use Rattle.std.proofs.lemmas.List.Elements.{All-append, All-cons, All-filter, All-head, All-nil, All-tail}
 use Rattle.elf_object.specs.declared.relocation.Relocation.{Relocation}
@@ -25,7 +25,7 @@ use Rattle.got_pairs.specs.declared.need.Need.TheVariants.{AddressWord, RuntimeW
 use Rattle.got_pairs.specs.declared.need.Target.{Target}
 use Rattle.got_pairs.specs.declared.need.Target.TheVariants as target
 use Rattle.got_pairs.specs.Entries.{entry_of}
-use Rattle.got_pairs.specs.Needs.{by_group, distinct, entries as entries_of, group_of, of_group}
+use Rattle.got_pairs.specs.Needs.{by_group, distinct, entries as entries_of, group_of, groups, of_group, same_group}
 use Rattle.got_pairs.specs.Needs.{same_need}
 use Rattle.relax_sites.specs.declared.choices.Choice.TheVariants.{Keep}
 use Rattle.relax_sites.specs.Choices.{choice_of}
@@ -172,8 +172,8 @@ entries_other : (xs : List Need) → All IsOther xs → All IsOther (entries_of 
 unfolding entries_of
 entries_other xs all =
     distinct_other (by_group xs)
-    (all_flat IsOther (λ g. of_group g xs) (range_with_len 0 6)
-    (λ g. All-filter (λ need. nat_eq (group_of need) g) IsOther xs all))
+    (all_flat IsOther (λ g. of_group g xs) groups
+    (λ g. All-filter (λ need. same_group g (group_of need)) IsOther xs all))
 
 -- ** relocations
 

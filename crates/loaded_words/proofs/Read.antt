@@ -1,7 +1,7 @@
 -- What the entries of a table have in them: the name of an import is listed, and an address is one of 64 bits.
 use Rattle.std.proofs.Common.{◌≡◌, ◌≢◌, ◌∙◌, ◌+◌, ◌<◌, ◌^◌, ◌&&◌, ℕ, zero, suc, Bool, true, false, List}
 use Rattle.std.proofs.Common.{[], ◌∷◌, Option, Some, None, length, filter, refl, sym, ap, subst, arith}
-use Rattle.std.specs.Prelude.{nat_eq, option_and_then, option_map, slice_index_or, if◌then◌else◌}
+use Rattle.std.specs.Prelude.{option_and_then, option_map, slice_index_or, if◌then◌else◌}
 use Rattle.std.specs.List.{All, Contains, flat_map, list_any, range_with_len}
 use Rattle.std.specs.Str.{bytes_eq}
 use Rattle.std.proofs.lemmas.Bool.{or_left, or_right}
@@ -24,7 +24,7 @@ use Rattle.got_pairs.specs.declared.need.Need.TheVariants.{ModulePair, SymbolPai
 use Rattle.got_pairs.specs.declared.need.Need.TheVariants.{AddressWord, RuntimeWord}
 use Rattle.got_pairs.specs.declared.need.Target.{Target}
 use Rattle.got_pairs.specs.declared.need.Target.TheVariants as target
-use Rattle.got_pairs.specs.Needs.{by_group, entries as entries_of, group_of, of_group}
+use Rattle.got_pairs.specs.Needs.{by_group, entries as entries_of, group_of, groups, of_group, same_group}
 use Rattle.link_core.proofs.RelativesApart.{all_sorted}
 use Rattle.link_core.specs.Dynamic.{imports}
 use Rattle.link_faults.specs.declared.binding.Binding.{Binding}
@@ -300,7 +300,7 @@ entries_all : (P : Need → Type 0) (xs : List Need) → All P xs → All P (ent
 unfolding entries_of
 entries_all P xs all =
     distinct_read P (by_group xs)
-    (all_flat P (λ g. of_group g xs) (range_with_len 0 6) (λ g. All-filter (λ need. nat_eq (group_of need) g) P xs all))
+    (all_flat P (λ g. of_group g xs) groups (λ g. All-filter (λ need. same_group g (group_of need)) P xs all))
 
 pub entries_read : (l : Linking) → IsGiven l → IsWithinLimits (layout l) → All (IsRead l) (entries l)
 unfolding entries
