@@ -114,7 +114,7 @@ module _ {W F B M : Type 0} (ops : Operations W F B) (acc : Accesses M B) where
     word ← there state.place (load_of ops acc memory place 1)
     Ok (left (at_place (with_word state to word) frame.next) memory)
 
-  -- movslq r, r/m
+  -- movslq r, r/m: the lower half, sign-extended to 64 bits
   unfoldable pub extend_long : Frame → State W F → M → Register → Operand → Result (After W F M) Stop
   extend_long frame state memory to from = do
     word ← carried ops acc Long frame state memory from
@@ -137,7 +137,7 @@ module _ {W F B M : Type 0} (ops : Operations W F B) (acc : Accesses M B) where
         it ← taken ops acc width frame state memory from (number_at ops width (register_of state.registers to))
         concluded arithmetic width (OfSlot to) (compute_effect arithmetic width it.other it.number) frame state memory)
 
-  -- an offset field is added to a base
+  -- an offset field is added to a base; each flag is left undefined
   unfoldable pub add_field : Frame → State W F → M → Register → ℕ → Result (After W F M) Stop
   add_field frame state memory to at = do
     number ← clean state.place (charged (Some at) (ops.moved (register_of state.registers to) frame.immediate at))
