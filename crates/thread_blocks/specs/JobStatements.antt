@@ -49,4 +49,5 @@ ThreadsTakeTheirOwnTurns = (l : Loads ℕ) (fuel : ℕ) (lines : List (List Thre
     → (points : List (List Event)) × Rises IsFront [] points
     × AllFronts points (job_world l fuel lines order).events
     × (at_number (job_world l fuel lines order).threads thread
-    ≡ Some (turns (thread_turns l thread fuel) (ready (thread_ready plain_operations l thread) (numbered_lines 1 own)) points))
+    ≡ Some (turns (thread_turns l thread fuel)
+    (ready (thread_ready plain_operations l thread) (numbered_lines 1 own)) points))

@@ -85,7 +85,8 @@ module _ {W F B : Type 0} (ops : Operations W F B) (l : Loads B) (show : List B 
       let all = with_last seen (event_at thread line.number true line.told.image) in
       let x = instance_at l all line.told.image in
       let was = is_loaded (module_of (left_by l seen) line.told.image) in
-      Says (Answered (Opened (option_map_or (λ (x : Instance). x.number) x 0))) (with_load was x (looked l thread all h))
+      Says (Answered (Opened (option_map_or (λ (x : Instance). x.number) x 0)))
+      (with_load was x (looked l thread all h))
 
   abbrev pub begun_close : Line → List Event → Held W F B → Option CloseRefusal → Begun (Held W F B)
   begun_close line seen h (Some refusal) = refused (refused_close refusal) h

@@ -34,7 +34,8 @@ module _ (m : JobImages) (image : Spelled) (x : Instance) (i : ℕ) where
   -- the byte at an address in part i, if the part allows the access and no thread writes it
   abbrev pub byte_of_part : Access → ℕ → Option Part → Option ℕ
   byte_of_part access place None = None
-  byte_of_part access place (Some part) = if allows_fixed access part.class (option_map_or (λ (own : ℕ). own == i) image.got false)
+  byte_of_part access place (Some part) =
+      if allows_fixed access part.class (option_map_or (λ (own : ℕ). own == i) image.got false)
       then option_and_then (slice_get (part_bytes m image x part))
       (behind (part.address + bias image.kind x.number) place)
       else None
