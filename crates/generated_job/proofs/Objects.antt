@@ -12,19 +12,15 @@ use Rattle.generated_job.specs.declared.access.Access.TheVariants as access
 use Rattle.generated_job.specs.Accesses.{access_of, calls_of, code_of, entries_of, shape_with}
 use Rattle.generated_job.specs.Drafts.{IsShort}
 use Rattle.generated_job.specs.Generated.{function_name, general_shape, generated_files, initial_executable_shape, local_shape}
-use Rattle.generated_job.specs.Generated.{module_shape, object_name, shape_of, value_of, variable_name}
+use Rattle.generated_job.specs.Generated.{module_shape, object_name, shape_by, shape_of, value_of, variable_name}
 use Rattle.generated_job.specs.Shapes.{object_bytes}
 
 -- the form of an object, by what its number leaves
-by_form : (n i : ℕ) (one two : Bool) → record {
-  function = function_name i;
-  variable = variable_name i;
-  code = code_of (cond one access.GeneralDynamic (cond two access.InitialExecutable access.LocalDynamic));
-  relocations = entries_of (cond one access.GeneralDynamic (cond two access.InitialExecutable access.LocalDynamic));
-  initial = bytes_of 4 (value_of n i);
-  zeros = 0;
-  calls = calls_of (cond one access.GeneralDynamic (cond two access.InitialExecutable access.LocalDynamic));
-} ≡ cond one (general_shape n i) (cond two (initial_executable_shape n i) (local_shape n i))
+by_form : (n i : ℕ) (one two : Bool)
+    → shape_by (code_of (cond one access.GeneralDynamic (cond two access.InitialExecutable access.LocalDynamic)))
+    (entries_of (cond one access.GeneralDynamic (cond two access.InitialExecutable access.LocalDynamic)))
+    (calls_of (cond one access.GeneralDynamic (cond two access.InitialExecutable access.LocalDynamic))) i (value_of n i)
+    ≡ cond one (general_shape n i) (cond two (initial_executable_shape n i) (local_shape n i))
 by_form n i true two = refl
 by_form n i false true = refl
 by_form n i false false = refl

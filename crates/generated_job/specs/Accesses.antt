@@ -1,10 +1,9 @@
 -- The code of an object, by the sequence that reaches its variable.
 use Rattle.std.specs.Prelude.{ℕ, ◌%◌, ◌==◌, Bool, true, false, List, if◌then◌else◌}
-use Rattle.elf_records.specs.Fields.{bytes_of}
 use Rattle.elf_records.specs.declared.relocation.Rela.{Rela}
 use Rattle.generated_job.specs.declared.access.Access.{Access}
 use Rattle.generated_job.specs.declared.access.Access.TheVariants as access
-use Rattle.generated_job.specs.Generated.{function_name, variable_name}
+use Rattle.generated_job.specs.Generated.{shape_by}
 use Rattle.generated_job.specs.Generated.{general_code, general_entries, initial_executable_code, initial_executable_entries}
 use Rattle.generated_job.specs.Generated.{local_code, local_entries, module_code, module_entries}
 use Rattle.generated_job.specs.Shapes.{Shape}
@@ -33,12 +32,4 @@ calls_of _ = true
 
 -- object i of a program, whose variable has the initial value v
 abbrev pub shape_with : ℕ → ℕ → Shape
-shape_with i v = record {
-  function = function_name i;
-  variable = variable_name i;
-  code = code_of (access_of i);
-  relocations = entries_of (access_of i);
-  initial = bytes_of 4 v;
-  zeros = 0;
-  calls = calls_of (access_of i);
-}
+shape_with i v = shape_by (code_of (access_of i)) (entries_of (access_of i)) (calls_of (access_of i)) i v

@@ -1,6 +1,6 @@
 -- The job that `gen N` makes, and its objects.
 use Rattle.std.specs.Prelude.{ℕ, ℤ, zero, suc, negsuc, pos, ◌+◌, ◌*◌, ◌%◌, ◌^◌, ◌==◌, List, [], ◌∷◌, ◌++◌, codes, map}
-use Rattle.std.specs.Prelude.{true, false, if◌then◌else◌}
+use Rattle.std.specs.Prelude.{Bool, true, false, if◌then◌else◌}
 use Rattle.std.specs.Fmt.{decimal}
 use Rattle.std.specs.List.{flat_map, range_with_len}
 use Rattle.elf_records.specs.Fields.{bytes_of}
@@ -72,38 +72,27 @@ module_entries = entry_to_end 5 19 2 ∷ entry_to_end 13 4 3 ∷ []
 
 -- ** objects
 
-abbrev pub general_shape : ℕ → ℕ → Shape
-general_shape n i = record {
+-- object i of a program, by its code, the relocations of this, whether it calls, and its variable's initial value
+abbrev pub shape_by : List ℕ → List Rela → Bool → ℕ → ℕ → Shape
+shape_by code relocations calls i value = record {
   function = function_name i;
   variable = variable_name i;
-  code = general_code;
-  relocations = general_entries;
-  initial = bytes_of 4 (value_of n i);
+  code = code;
+  relocations = relocations;
+  initial = bytes_of 4 value;
   zeros = 0;
-  calls = true;
+  calls = calls;
 }
+
+abbrev pub general_shape : ℕ → ℕ → Shape
+general_shape n i = shape_by general_code general_entries true i (value_of n i)
 
 abbrev pub initial_executable_shape : ℕ → ℕ → Shape
-initial_executable_shape n i = record {
-  function = function_name i;
-  variable = variable_name i;
-  code = initial_executable_code;
-  relocations = initial_executable_entries;
-  initial = bytes_of 4 (value_of n i);
-  zeros = 0;
-  calls = false;
-}
+initial_executable_shape n i =
+    shape_by initial_executable_code initial_executable_entries false i (value_of n i)
 
 abbrev pub local_shape : ℕ → ℕ → Shape
-local_shape n i = record {
-  function = function_name i;
-  variable = variable_name i;
-  code = local_code;
-  relocations = local_entries;
-  initial = bytes_of 4 (value_of n i);
-  zeros = 0;
-  calls = true;
-}
+local_shape n i = shape_by local_code local_entries true i (value_of n i)
 
 -- object i of n reads its variable by a General Dynamic, an Initial Exec or a Local Dynamic sequence, in turns
 unfoldable pub shape_of : ℕ → ℕ → Shape
