@@ -1,5 +1,6 @@
 -- The commands of the linker, as values that say what `clap` reads: a subcommand for each command.
-use Rattle.std.specs.Prelude.{true, Some, codes}
+use Rattle.std.specs.Prelude.{true, List, [], ◌∷◌, Some, codes, map}
+use Rattle.std.specs.List.{fold}
 use Rattle.clap.specs.Walk.{Rule, Text}
 use Rattle.clap.specs.Simple.{App, Shape, new_app, new_rule, on_top, with_rule, with_subcommand}
 use Rattle.clap.specs.declared.builder.action.ArgAction.TheVariants.{SetTrue}
@@ -15,58 +16,29 @@ no_relax_rule = record (new_rule (codes "no-relax")) {
   action = Some SetTrue;
 }
 
--- run JOB [--no-relax]
-abbrev pub run_app : App
-run_app = with_rule (with_rule (new_app (codes "run")) (text_rule (codes "JOB"))) no_relax_rule
+-- a command with these required words
+abbrev pub command_with : Text → List Text → App
+command_with name words = fold with_rule (new_app name) (map text_rule words)
 
--- race JOB [--no-relax]
-abbrev pub race_app : App
-race_app = with_rule (with_rule (new_app (codes "race")) (text_rule (codes "JOB"))) no_relax_rule
-
--- link JOB IMAGE OUT [--no-relax]
-abbrev pub link_app : App
-link_app =
-    with_rule
-    (with_rule
-    (with_rule (with_rule (new_app (codes "link")) (text_rule (codes "JOB"))) (text_rule (codes "IMAGE")))
-    (text_rule (codes "OUT")))
-    no_relax_rule
-
--- sites JOB IMAGE
-abbrev pub sites_app : App
-sites_app = with_rule (with_rule (new_app (codes "sites")) (text_rule (codes "JOB"))) (text_rule (codes "IMAGE"))
-
--- show FILE
-abbrev pub show_app : App
-show_app = with_rule (new_app (codes "show")) (text_rule (codes "FILE"))
-
--- check JOB
-abbrev pub check_app : App
-check_app = with_rule (new_app (codes "check")) (text_rule (codes "JOB"))
-
--- gen N
-abbrev pub gen_app : App
-gen_app = with_rule (new_app (codes "gen")) (text_rule (codes "N"))
+-- the commands
+abbrev pub commands : List App
+commands =
+    with_rule (command_with (codes "run") (codes "JOB" ∷ [])) no_relax_rule
+    ∷ with_rule (command_with (codes "race") (codes "JOB" ∷ [])) no_relax_rule
+    ∷ with_rule (command_with (codes "link") (codes "JOB" ∷ codes "IMAGE" ∷ codes "OUT" ∷ [])) no_relax_rule
+    ∷ command_with (codes "sites") (codes "JOB" ∷ codes "IMAGE" ∷ [])
+    ∷ command_with (codes "show") (codes "FILE" ∷ [])
+    ∷ command_with (codes "check") (codes "JOB" ∷ [])
+    ∷ command_with (codes "gen") (codes "N" ∷ [])
+    ∷ []
 
 -- the words begin with a command, and there is no command `help`
 abbrev pub top_settings : Shape → Shape
 top_settings s = record s { no_binary_name = true; subcommand_required = true; disable_help_subcommand = true }
 
-abbrev pub bare_tool : App
-bare_tool = on_top top_settings (new_app (codes "tlsld"))
+-- a tool with these commands
+abbrev pub tool_of : List App → App
+tool_of = fold (λ tool command. with_subcommand tool command.top) (on_top top_settings (new_app (codes "tlsld")))
 
--- the commands that run a job's threads
-abbrev pub running_tool : App
-running_tool = with_subcommand (with_subcommand bare_tool run_app.top) race_app.top
-
--- the commands that link images: after those the one that writes an image
-abbrev pub linking_tool : App
-linking_tool = with_subcommand running_tool link_app.top
-
--- the commands that read files: after those the ones that print what is in an image
-abbrev pub reading_tool : App
-reading_tool = with_subcommand (with_subcommand linking_tool sites_app.top) show_app.top
-
--- all the commands: after those the one that checks a job, and the one that generates a job
 abbrev pub tool_app : App
-tool_app = with_subcommand (with_subcommand reading_tool check_app.top) gen_app.top
+tool_app = tool_of commands

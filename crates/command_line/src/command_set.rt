@@ -1,10 +1,9 @@
 //! The commands, as `clap` reads them: a subcommand for each.
-ghost use Rattle.std.specs.Prelude.{◌≡◌, false, IfOk};
+ghost use Rattle.std.specs.Prelude.{◌≡◌, false, [], ◌∷◌, codes, take, IfOk};
 ghost use Rattle.clap.specs.Walk.{rule_of};
-ghost use Rattle.clap.specs.Simple.{app_of};
+ghost use Rattle.clap.specs.Simple.{app_of, with_rule};
 ghost use Rattle.clap.specs.declared.builder.command.Command.TheViews.{out-Command};
-ghost use Rattle.command_line.specs.CommandSet.{text_rule, no_relax_rule, run_app, race_app, link_app, sites_app, show_app, check_app, gen_app};
-ghost use Rattle.command_line.specs.CommandSet.{bare_tool, running_tool, linking_tool, reading_tool, tool_app};
+ghost use Rattle.command_line.specs.CommandSet.{command_with, commands, no_relax_rule, text_rule, tool_app, tool_of};
 
 use clap::{Arg, ArgAction, Command};
 use std::alloc::{AllocError, Global};
@@ -29,7 +28,8 @@ fn no_relax_flag<'a>(alloc: Global) -> Arg<'a>
 
 /// `run JOB [--no-relax]`.
 fn run_command<'a>(alloc: Global) -> Result<Command<'a>, AllocError>
-    ensures app { IfOk result (λ command. app_of command ≡ run_app) }
+    ensures app { IfOk result (λ command. app_of command
+        ≡ with_rule (command_with (codes "run") (codes "JOB" ∷ [])) no_relax_rule) }
     ensures local { IfOk result (λ command. (out-Command command).has_globals ≡ false) }
 {
     Command::new(alloc, "run")
@@ -39,7 +39,8 @@ fn run_command<'a>(alloc: Global) -> Result<Command<'a>, AllocError>
 
 /// `race JOB [--no-relax]`.
 fn race_command<'a>(alloc: Global) -> Result<Command<'a>, AllocError>
-    ensures app { IfOk result (λ command. app_of command ≡ race_app) }
+    ensures app { IfOk result (λ command. app_of command
+        ≡ with_rule (command_with (codes "race") (codes "JOB" ∷ [])) no_relax_rule) }
     ensures local { IfOk result (λ command. (out-Command command).has_globals ≡ false) }
 {
     Command::new(alloc, "race")
@@ -49,7 +50,8 @@ fn race_command<'a>(alloc: Global) -> Result<Command<'a>, AllocError>
 
 /// `link JOB IMAGE OUT [--no-relax]`.
 fn link_command<'a>(alloc: Global) -> Result<Command<'a>, AllocError>
-    ensures app { IfOk result (λ command. app_of command ≡ link_app) }
+    ensures app { IfOk result (λ command. app_of command
+        ≡ with_rule (command_with (codes "link") (codes "JOB" ∷ codes "IMAGE" ∷ codes "OUT" ∷ [])) no_relax_rule) }
     ensures local { IfOk result (λ command. (out-Command command).has_globals ≡ false) }
 {
     Command::new(alloc, "link")
@@ -61,7 +63,8 @@ fn link_command<'a>(alloc: Global) -> Result<Command<'a>, AllocError>
 
 /// `sites JOB IMAGE`.
 fn sites_command<'a>(alloc: Global) -> Result<Command<'a>, AllocError>
-    ensures app { IfOk result (λ command. app_of command ≡ sites_app) }
+    ensures app { IfOk result (λ command. app_of command
+        ≡ command_with (codes "sites") (codes "JOB" ∷ codes "IMAGE" ∷ [])) }
     ensures local { IfOk result (λ command. (out-Command command).has_globals ≡ false) }
 {
     Command::new(alloc, "sites")
@@ -71,7 +74,7 @@ fn sites_command<'a>(alloc: Global) -> Result<Command<'a>, AllocError>
 
 /// `show FILE`.
 fn show_command<'a>(alloc: Global) -> Result<Command<'a>, AllocError>
-    ensures app { IfOk result (λ command. app_of command ≡ show_app) }
+    ensures app { IfOk result (λ command. app_of command ≡ command_with (codes "show") (codes "FILE" ∷ [])) }
     ensures local { IfOk result (λ command. (out-Command command).has_globals ≡ false) }
 {
     Command::new(alloc, "show").arg(text_argument(alloc, "FILE"))
@@ -79,7 +82,7 @@ fn show_command<'a>(alloc: Global) -> Result<Command<'a>, AllocError>
 
 /// `check JOB`.
 fn check_command<'a>(alloc: Global) -> Result<Command<'a>, AllocError>
-    ensures app { IfOk result (λ command. app_of command ≡ check_app) }
+    ensures app { IfOk result (λ command. app_of command ≡ command_with (codes "check") (codes "JOB" ∷ [])) }
     ensures local { IfOk result (λ command. (out-Command command).has_globals ≡ false) }
 {
     Command::new(alloc, "check").arg(text_argument(alloc, "JOB"))
@@ -87,7 +90,7 @@ fn check_command<'a>(alloc: Global) -> Result<Command<'a>, AllocError>
 
 /// `gen N`.
 fn gen_command<'a>(alloc: Global) -> Result<Command<'a>, AllocError>
-    ensures app { IfOk result (λ command. app_of command ≡ gen_app) }
+    ensures app { IfOk result (λ command. app_of command ≡ command_with (codes "gen") (codes "N" ∷ [])) }
     ensures local { IfOk result (λ command. (out-Command command).has_globals ≡ false) }
 {
     Command::new(alloc, "gen").arg(text_argument(alloc, "N"))
@@ -95,7 +98,7 @@ fn gen_command<'a>(alloc: Global) -> Result<Command<'a>, AllocError>
 
 /// The linker's command line without its commands: the first word is one.
 fn bare_command<'a>(alloc: Global) -> Command<'a>
-    ensures { app_of result ≡ bare_tool }
+    ensures { app_of result ≡ tool_of [] }
 {
     Command::new(alloc, "tlsld")
         .no_binary_name(true)
@@ -105,7 +108,7 @@ fn bare_command<'a>(alloc: Global) -> Command<'a>
 
 /// The linker's command line with the commands that run a job's threads.
 fn running_command<'a>(alloc: Global) -> Result<Command<'a>, AllocError>
-    ensures { IfOk result (λ command. app_of command ≡ running_tool) }
+    ensures { IfOk result (λ command. app_of command ≡ tool_of (take 2 commands)) }
 {
     bare_command(alloc)
         .subcommand(run_command(alloc)?)?
@@ -114,14 +117,14 @@ fn running_command<'a>(alloc: Global) -> Result<Command<'a>, AllocError>
 
 /// The linker's command line with the commands that link images.
 fn linking_command<'a>(alloc: Global) -> Result<Command<'a>, AllocError>
-    ensures { IfOk result (λ command. app_of command ≡ linking_tool) }
+    ensures { IfOk result (λ command. app_of command ≡ tool_of (take 3 commands)) }
 {
     running_command(alloc)?.subcommand(link_command(alloc)?)
 }
 
 /// The linker's command line with the commands that read files.
 fn reading_command<'a>(alloc: Global) -> Result<Command<'a>, AllocError>
-    ensures { IfOk result (λ command. app_of command ≡ reading_tool) }
+    ensures { IfOk result (λ command. app_of command ≡ tool_of (take 5 commands)) }
 {
     linking_command(alloc)?
         .subcommand(sites_command(alloc)?)?

@@ -41,11 +41,10 @@
 //! threads of a `race` wait for one another, so it is a [`Command`] of its own.
 //!
 //! **The rule that the crate keeps.** The words are read as one simple command of `clap`, with a subcommand for each
-//! row of the table, and the contract says so in `clap`'s own definitions: `takes_words` says which words are
-//! accepted, and `asked` which command they give. For `clap` all values are texts. This crate itself reads the number
-//! of `gen`, since usual readers of numbers accept `05` and `+5` too. [`read_words`] returns `Ok` only for words that
-//! are accepted, with the command that they ask for, and `Usage` only for words that are not. Any call may return
-//! `OutOfMemory` instead.
+//! row of the table, and the contract says so in `clap`'s own definitions: `asked` says which command words give, if they
+//! give one. For `clap` all values are texts. This crate itself reads the number of `gen`, since usual readers of numbers
+//! accept `05` and `+5` too. [`read_words`] returns `Ok` only for words that give a command, with that command, and
+//! `Usage` only for words that give none. Any call may return `OutOfMemory` instead.
 //!
 //! No other crate uses `clap`: those above see a [`Command`], whose texts have a type of their own, [`Text`], which
 //! contracts read as bytes.

@@ -1,11 +1,11 @@
 //! From words to a command.
-ghost use Rattle.std.specs.Prelude.{◌≡◌, true, false, Some, None, map, string_bytes, IfOk, OnOk, IsErrOf};
-ghost use Rattle.std.specs.Option.{option_and_then};
+ghost use Rattle.std.specs.Prelude.{◌≡◌, true, false, Some, None, codes, is_some, map, string_bytes, IfOk, OnOk, IsErrOf};
+ghost use Rattle.std.specs.Option.{option_and_then, option_map};
 ghost use Rattle.clap.specs.Matches.{found_of};
 ghost use Rattle.clap.specs.Walk.{rows_of};
 ghost use Rattle.clap.specs.Simple.{subcommand_rows_of};
-ghost use Rattle.command_line.specs.Words.{takes_words, asked, command_of, text_at, rewriting_at};
-ghost use Rattle.command_line.specs.Words.{run_task, race_command, link_task, sites_task, show_task, check_task, gen_task, IsInLimits, IsWithinLimits};
+ghost use Rattle.command_line.specs.Counts.{count_of as count_in};
+ghost use Rattle.command_line.specs.Words.{asked, command_of, text_at, rewriting_at, IsInLimits, IsWithinLimits};
 
 use crate::command_set::tool_command;
 use crate::counts::count_of;
@@ -44,7 +44,8 @@ fn rewriting_of(matches: &ArgMatches<'_>) -> Rewriting
 }
 
 fn run_of(alloc: Global, matches: &ArgMatches<'_>) -> Result<Task, AllocError>
-    ensures { IfOk result (λ task. task ≡ run_task (rows_of (found_of matches.now))) }
+    ensures { IfOk result (λ task. task ≡ Task.Run
+        (text_at (codes "JOB") (rows_of (found_of matches.now))) (rewriting_at (rows_of (found_of matches.now)))) }
 {
     Ok(Task::Run {
         job: Text::copy_of(alloc, text_of(matches, "JOB"))?,
@@ -53,7 +54,8 @@ fn run_of(alloc: Global, matches: &ArgMatches<'_>) -> Result<Task, AllocError>
 }
 
 fn race_of(alloc: Global, matches: &ArgMatches<'_>) -> Result<Command, AllocError>
-    ensures { IfOk result (λ command. command ≡ race_command (rows_of (found_of matches.now))) }
+    ensures { IfOk result (λ command. command ≡ Command.Race
+        (text_at (codes "JOB") (rows_of (found_of matches.now))) (rewriting_at (rows_of (found_of matches.now)))) }
 {
     Ok(Command::Race {
         job: Text::copy_of(alloc, text_of(matches, "JOB"))?,
@@ -62,7 +64,10 @@ fn race_of(alloc: Global, matches: &ArgMatches<'_>) -> Result<Command, AllocErro
 }
 
 fn link_of(alloc: Global, matches: &ArgMatches<'_>) -> Result<Task, AllocError>
-    ensures { IfOk result (λ task. task ≡ link_task (rows_of (found_of matches.now))) }
+    ensures { IfOk result (λ task. task ≡ Task.Link
+        (text_at (codes "JOB") (rows_of (found_of matches.now)))
+        (text_at (codes "IMAGE") (rows_of (found_of matches.now)))
+        (text_at (codes "OUT") (rows_of (found_of matches.now))) (rewriting_at (rows_of (found_of matches.now)))) }
 {
     Ok(Task::Link {
         job: Text::copy_of(alloc, text_of(matches, "JOB"))?,
@@ -73,7 +78,9 @@ fn link_of(alloc: Global, matches: &ArgMatches<'_>) -> Result<Task, AllocError>
 }
 
 fn sites_of(alloc: Global, matches: &ArgMatches<'_>) -> Result<Task, AllocError>
-    ensures { IfOk result (λ task. task ≡ sites_task (rows_of (found_of matches.now))) }
+    ensures { IfOk result (λ task. task ≡ Task.Sites
+        (text_at (codes "JOB") (rows_of (found_of matches.now)))
+        (text_at (codes "IMAGE") (rows_of (found_of matches.now)))) }
 {
     Ok(Task::Sites {
         job: Text::copy_of(alloc, text_of(matches, "JOB"))?,
@@ -82,7 +89,7 @@ fn sites_of(alloc: Global, matches: &ArgMatches<'_>) -> Result<Task, AllocError>
 }
 
 fn show_of(alloc: Global, matches: &ArgMatches<'_>) -> Result<Task, AllocError>
-    ensures { IfOk result (λ task. task ≡ show_task (rows_of (found_of matches.now))) }
+    ensures { IfOk result (λ task. task ≡ Task.Show (text_at (codes "FILE") (rows_of (found_of matches.now)))) }
 {
     Ok(Task::Show {
         file: Text::copy_of(alloc, text_of(matches, "FILE"))?,
@@ -90,7 +97,7 @@ fn show_of(alloc: Global, matches: &ArgMatches<'_>) -> Result<Task, AllocError>
 }
 
 fn check_of(alloc: Global, matches: &ArgMatches<'_>) -> Result<Task, AllocError>
-    ensures { IfOk result (λ task. task ≡ check_task (rows_of (found_of matches.now))) }
+    ensures { IfOk result (λ task. task ≡ Task.Check (text_at (codes "JOB") (rows_of (found_of matches.now)))) }
 {
     Ok(Task::Check {
         job: Text::copy_of(alloc, text_of(matches, "JOB"))?,
@@ -98,9 +105,11 @@ fn check_of(alloc: Global, matches: &ArgMatches<'_>) -> Result<Task, AllocError>
 }
 
 fn gen_of(matches: &ArgMatches<'_>) -> Result<Task, WordsFault>
-    ensures ok { IfOk result (λ task. gen_task (rows_of (found_of matches.now)) ≡ Some task) }
+    ensures ok { IfOk result (λ task.
+        option_map Task.Gen (count_in (text_at (codes "N") (rows_of (found_of matches.now)))) ≡ Some task) }
     ensures within { IfOk result IsInLimits }
-    ensures usage { IsErrOf result WordsFault.Usage → gen_task (rows_of (found_of matches.now)) ≡ None }
+    ensures usage { IsErrOf result WordsFault.Usage
+        → option_map Task.Gen (count_in (text_at (codes "N") (rows_of (found_of matches.now)))) ≡ None }
 {
     match count_of(text_of(matches, "N")) {
         Some(count) => Ok(Task::Gen { count }),
@@ -131,8 +140,8 @@ fn command_of_matches(alloc: Global, matches: &ArgMatches<'_>) -> Result<Command
 pub fn read_words(alloc: Global, words: &[String]) -> Result<Command, WordsFault>
     ensures ok { IfOk result (λ command. asked (map string_bytes words.now) ≡ Some command) }
     ensures within { IfOk result IsWithinLimits }
-    ensures taken { OnOk result (takes_words (map string_bytes words.now) ≡ true) }
-    ensures usage { IsErrOf result WordsFault.Usage → takes_words (map string_bytes words.now) ≡ false }
+    ensures taken { OnOk result (is_some (asked (map string_bytes words.now)) ≡ true) }
+    ensures usage { IsErrOf result WordsFault.Usage → is_some (asked (map string_bytes words.now)) ≡ false }
 {
     let command = tool_command(alloc)?;
     match command.try_get_matches_from(words) {

@@ -11,7 +11,7 @@ use Rattle.command_line.specs.declared.tasks.Command.TheVariants.{Plain, Race}
 use Rattle.command_line.specs.declared.tasks.Task.{Task}
 use Rattle.command_line.specs.declared.tasks.Task.TheVariants.{Run, Check, Link, Sites, Show, Gen}
 use Rattle.command_line.specs.Rewritings.{is_allowed}
-use Rattle.command_line.specs.Words.{asked, takes_words}
+use Rattle.command_line.specs.Words.{asked}
 use Rattle.command_replies.specs.declared.fault.CommandFault.{CommandFault}
 use Rattle.command_replies.specs.declared.fault.CommandFault.TheVariants as fault
 use Rattle.command_replies.specs.Delivery.{Delivered, Delivers, Says, memory_line}
@@ -234,7 +234,7 @@ abbrev Words : Option Files → Option Command → ℕ → ℕ → ℕ → ℕ �
 Words files command before now old new code =
     IfSome command (λ own. DidNotFail before now → DidNotFail old new → Completes files own code)
 
-pub usage_completes : (files : Option Files) (words : List (List ℕ)) (before now old new code : ℕ) → takes_words words ≡ false → Words files (asked words) before now old new code
+pub usage_completes : (files : Option Files) (words : List (List ℕ)) (before now old new code : ℕ) → is_some (asked words) ≡ false → Words files (asked words) before now old new code
 usage_completes files words before now old new code other = rw (not_asked words other) tt
 
 late : (files : Option Files) (command : Command) (old new code : ℕ) → IsLate code → SinkShown old new code → DidNotFail old new → Completes files command code

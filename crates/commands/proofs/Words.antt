@@ -1,8 +1,8 @@
 -- What is shown of words.
-use Rattle.std.proofs.Common.{◌≡◌, inl, inr, ℕ, List, Option, Some, None, false, refl}
+use Rattle.std.proofs.Common.{◌≡◌, inl, inr, ℕ, List, Option, Some, None, false, is_some, refl}
 use Rattle.command_line.specs.declared.tasks.Command.{Command}
 use Rattle.command_line.specs.declared.tasks.Command.TheVariants.{Plain, Race}
-use Rattle.command_line.specs.Words.{asked, takes_words}
+use Rattle.command_line.specs.Words.{asked}
 use Rattle.ports.specs.Files.{Files, untold_files}
 use Rattle.ports.specs.Sinks.{SinkView}
 use Rattle.command_line.specs.declared.tasks.Task.TheVariants.{Run, Check, Link, Sites, Show, Gen}
@@ -24,20 +24,23 @@ pub asked_late : (files : Option Files) (command : Option Command) (old : Option
 asked_late None command old code late = (map.empty, late_words map.empty command old code late)
 asked_late (Some fs) command old code late = late_words fs command old code late
 
-pub not_asked : (words : List (List ℕ)) → takes_words words ≡ false → asked words ≡ None
-unfolding asked
-not_asked words other = rw other refl
+pub not_asked : (words : List (List ℕ)) → is_some (asked words) ≡ false → asked words ≡ None
+not_asked words = by (asked words)
+  where
+    by : (found : Option Command) → is_some found ≡ false → found ≡ None
+    by None other = refl
+    by (Some command) other = absurd (cc other)
 
-pub shows_usage : (files after : Option Files) (words : List (List ℕ)) (old new : SinkView) (code : ℕ) → takes_words words ≡ false → ShowsWords untold_files untold_files None old new code
+pub shows_usage : (files after : Option Files) (words : List (List ℕ)) (old new : SinkView) (code : ℕ) → is_some (asked words) ≡ false → ShowsWords untold_files untold_files None old new code
     → ShowsWords files after (asked words) old new code
 shows_usage files after words old new code other shown = rw (not_asked words other) shown
 
-pub asked_usage : (files : Option Files) (words : List (List ℕ)) (old : Option Names) (code : ℕ) → takes_words words ≡ false → Over files (λ fs. AskedWords fs (asked words) old old code)
+pub asked_usage : (files : Option Files) (words : List (List ℕ)) (old : Option Names) (code : ℕ) → is_some (asked words) ≡ false → Over files (λ fs. AskedWords fs (asked words) old old code)
 asked_usage None words old code other = (map.empty, rw (not_asked words other) refl)
 asked_usage (Some fs) words old code other = rw (not_asked words other) refl
 
 -- the files after words
-pub leave_usage : (files : Option Files) (words : List (List ℕ)) → takes_words words ≡ false → WordsLeave files files (asked words)
+pub leave_usage : (files : Option Files) (words : List (List ℕ)) → is_some (asked words) ≡ false → WordsLeave files files (asked words)
 leave_usage files words other = rw (not_asked words other) refl
 
 unchanged : (files : Option Files) (Says : Files → ℕ → List ℕ → Type 0) → Leaves files files Says

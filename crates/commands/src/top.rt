@@ -1,6 +1,6 @@
 //! The top calls, which `main` makes.
-ghost use Rattle.std.specs.Prelude.{◌≡◌, ◌≢◌, IfSome, None, false, map, string_bytes};
-ghost use Rattle.command_line.specs.Words.{IsInLimits, asked, takes_words};
+ghost use Rattle.std.specs.Prelude.{◌≡◌, ◌≢◌, IfSome, None, false, is_some, map, string_bytes};
+ghost use Rattle.command_line.specs.Words.{IsInLimits, asked};
 ghost use Rattle.command_replies.specs.Statuses.{FilesShown, UsageShown, StoreShown, SinkShown};
 ghost use Rattle.ports.specs.Files.{untold_files};
 ghost use Rattle.commands.specs.Completes.{Completes, DidNotFail};
@@ -27,7 +27,7 @@ pub fn tlsld<R: Threads + Wait + Sync, S: Store, K: Sink>(
     store: &mut S,
     out: &mut K,
 ) -> u8
-    ensures usage { UsageShown (takes_words (map string_bytes words.now)) result }
+    ensures usage { UsageShown (is_some (asked (map string_bytes words.now))) result }
     ensures store { StoreShown (S.faults store.old) (S.faults store.new) result }
     ensures sink { SinkShown (K.view out.old).faults (K.view out.new).faults result }
     ensures kept { FilesShown (S.files store.old) (S.files store.new) result }

@@ -1,6 +1,6 @@
-use Rattle.std.proofs.Common.{◌≡◌, rules, Some, false, inr, map, string_bytes, sym}
+use Rattle.std.proofs.Common.{◌≡◌, rules, Some, false, inr, is_some, map, string_bytes, sym}
 use Rattle.command_line.specs.declared.tasks.Command.TheVariants.{Plain, Race}
-use Rattle.command_line.specs.Words.{asked, takes_words}
+use Rattle.command_line.specs.Words.{asked}
 use Rattle.commands.proofs.Asked.{asked_by}
 use Rattle.commands.proofs.Completing.{output_completes, usage_completes}
 use Rattle.commands.proofs.Shown.{output_shows}
@@ -59,17 +59,17 @@ returns-in-Ok-Race-clause-completes g c =
 
 pub returns-in-Err-Usage-clause-shows : goal.returns-in-Err-Usage-clause-shows
 returns-in-Err-Usage-clause-shows g c =
-    let other : takes_words (map string_bytes c.args.words.now) ≡ false = search rules in
+    let other : is_some (asked (map string_bytes c.args.words.now)) ≡ false = search rules in
     shows_usage (g.S.Store.files c.args.store.now) (g.S.Store.files c.args.store.now) (map string_bytes c.args.words.now) (g.K.Sink.view c.args.out.now) _ c.say_usage.result other c.say_usage.ensures.shows
 
 pub returns-in-Err-Usage-clause-completes : goal.returns-in-Err-Usage-clause-completes
 returns-in-Err-Usage-clause-completes g c =
-    let other : takes_words (map string_bytes c.args.words.now) ≡ false = search rules in
+    let other : is_some (asked (map string_bytes c.args.words.now)) ≡ false = search rules in
     usage_completes (g.S.Store.files c.args.store.now) (map string_bytes c.args.words.now) _ _ _ _ c.say_usage.result other
 
 pub returns-in-Err-Usage-clause-asked : goal.returns-in-Err-Usage-clause-asked
 returns-in-Err-Usage-clause-asked g c =
-    let other : takes_words (map string_bytes c.args.words.now) ≡ false = search rules in
+    let other : is_some (asked (map string_bytes c.args.words.now)) ≡ false = search rules in
     asked_usage (g.S.Store.files c.args.store.now) (map string_bytes c.args.words.now) (g.S.Store.asked c.args.store.now) c.say_usage.result other
 
 pub returns-in-Err-OutOfMemory-clause-asked : goal.returns-in-Err-OutOfMemory-clause-asked
