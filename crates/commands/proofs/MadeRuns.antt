@@ -11,6 +11,7 @@ use Rattle.job_link.specs.Mentions.{bytes_in}
 use Rattle.job_text.specs.Jobs.{job_of}
 use Rattle.commands.specs.GeneratedRuns.{GenSays, MadeSays}
 use Rattle.commands.specs.RunJobs.{IsRun}
+use Rattle.commands.specs.Runs.{HasRun}
 use Rattle.commands.specs.declared.telling.Telling.TheVariants.{Summary}
 use Rattle.commands.proofs.MadeImages.{made_link}
 use Rattle.commands.proofs.MadeObjects.{mentioned_faultless}
@@ -21,7 +22,7 @@ module _ (texts : GeneratedTextsAreJobs) (objects : GeneratedObjectsAreFaultless
   gen_says : (status : ℕ) (text : List ℕ) → MadeSays n (job_of (generated_text n)) status text → GenSays n status text
   gen_says status text says =
       let own =
-      never_refused (IsRun (Summary n)) true Kept (bytes_in (generated_files n)) (generated_parts n) status text (mentioned_faultless objects n few) (λ name there. tt)
+      never_refused (IsRun HasRun (Summary n)) true Kept (bytes_in (generated_files n)) (generated_parts n) status text (mentioned_faultless objects n few) (λ name there. tt)
       (made_link link n some few) (subst (λ job. MadeSays n job status text) (texts n some few) says)
       in
       record { images = own.images; given = own.given; ran = own.linked }

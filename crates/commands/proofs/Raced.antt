@@ -31,7 +31,9 @@ use Rattle.transcript_text.specs.Texts.{Shown, transcript_text}
 use Rattle.whole_meaning.specs.Loads.{meaning_of}
 use Rattle.whole_meaning.specs.Threads.{Meant}
 use Rattle.commands.specs.InOrder.{AreLinks}
-use Rattle.commands.specs.Races.{AreRaced, HasRace, IsRaceTold}
+use Rattle.commands.specs.Races.{AreRaced, HasRace}
+use Rattle.commands.specs.RunJobs.{IsTold}
+use Rattle.commands.specs.declared.telling.Telling.TheVariants.{Transcript}
 use Rattle.commands.specs.Runs.{AreModulesBack, IsMeant, meant_lines}
 use Rattle.linked_jobs.proofs.Telling.{alone_clean, few_threads, second_of, some_thread}
 use Rattle.commands.proofs.Transcribed.{images_are, images_hold, modules_are, modules_linked}
@@ -85,7 +87,7 @@ raced threads fronts print hold job few all m made (Err e) ran = tt
 
 -- and their text
 pub race_told : {E : Type 0} (job : JobParts) (ls : List Linking) (transcript : Shown) → HasRace job ls transcript → (r : Result (Vec ℕ Global) E)
-    → IfOk r (λ text. text.items ≡ transcript_text job.images transcript) → IfOk r (λ text. IsRaceTold job ls text.items)
+    → IfOk r (λ text. text.items ≡ transcript_text job.images transcript) → IfOk r (λ text. IsTold HasRace Transcript job ls text.items)
 race_told job ls transcript ran (Ok text) is = record { transcript = transcript; ran = ran; told_is = is }
 race_told job ls transcript ran (Err e) is = tt
 

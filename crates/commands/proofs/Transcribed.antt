@@ -127,7 +127,7 @@ ran jobs threads settings hold job few all m made (Err e) printed = tt
 -- what is told of it
 pub is_told : {E : Type 0} (telling : Telling) (job : JobParts) (ls : List Linking) (all : List LinkedImage) → all ≡ map linked_of ls
     → (counts : SiteCounts) → counts ≡ counts_of all → (transcript : Shown) → HasRun job ls transcript → (r : Result (Vec ℕ Global) E)
-    → IfOk r (λ text. text.items ≡ told telling job.images counts transcript) → IfOk r (λ text. IsTold telling job ls text.items)
+    → IfOk r (λ text. text.items ≡ told telling job.images counts transcript) → IfOk r (λ text. IsTold HasRun telling job ls text.items)
 is_told telling job ls all all_is counts counts_are transcript ran (Ok text) text_is = record {
   transcript = transcript;
   ran = ran;

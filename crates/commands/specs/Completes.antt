@@ -57,19 +57,10 @@ IsGood (Some fs) (Race job rewriting) = IsGoodRace fs (is_allowed rewriting) job
 
 -- ---- completion
 
--- the status of a task that completed
-abbrev pub IsDoneTask : Task → ℕ → Type 0
-IsDoneTask (Run job rewriting) code = code ≡ 0
-IsDoneTask (Check job) code = (code ≡ 0) ⊎ (code ≡ 9)
-IsDoneTask (Link job image out rewriting) code = code ≡ 0
-IsDoneTask (Sites job image) code = code ≡ 0
-IsDoneTask (Show file) code = code ≡ 0
-IsDoneTask (Gen count) code = code ≡ 0
-
 -- the status of a command that completed
 abbrev pub IsDone : Command → ℕ → Type 0
-IsDone (Plain task) code = IsDoneTask task code
-IsDone (Race job rewriting) code = code ≡ 0
+IsDone (Plain (Check job)) code = (code ≡ 0) ⊎ (code ≡ 9)
+IsDone command code = code ≡ 0
 
 -- a port did not fail: its count of faults did not rise
 abbrev pub DidNotFail : ℕ → ℕ → Type 0

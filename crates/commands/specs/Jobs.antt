@@ -1,7 +1,7 @@
 -- What a command about a job says over the files of a store: how the job is refused, in which order; and, if all its
 -- images link, what the command's own last step says.
 use Rattle.std.specs.Prelude.{◌≡◌, ◌⊎◌, ℕ, Bool, true, false, List, [], ◌∷◌, map, slice_get}
-use Rattle.std.specs.Prelude.{Option, Some, None, IsSome, Result, Ok, Err, is_some}
+use Rattle.std.specs.Prelude.{Option, Some, None, IsSome, Result, Ok, Err, is_some, if◌then◌else◌}
 use Rattle.std.specs.List.{All}
 use Rattle.std.specs.Option.{option_map_or}
 use Rattle.command_replies.specs.Says.{HasFile, Is, IsLinkLine, IsObjectLine, JobFaultSays, job_fault_text}
@@ -101,18 +101,10 @@ module _ (image : Option (List ℕ)) where
 -- ---- the names asked for
 
 -- the objects of all images of the job, if it has the image
-abbrev pub named_objects : JobParts → Bool → List (List ℕ)
-named_objects job true = object_names job
-named_objects job false = []
-
 abbrev pub job_names : Option (List ℕ) → Result JobParts JobFault → List (List ℕ)
-job_names image (Ok job) = named_objects job (has job image)
+job_names image (Ok job) = if has job image then object_names job else []
 job_names image (Err fault) = []
-
-abbrev pub file_names : Option (List ℕ) → Option (List ℕ) → List (List ℕ)
-file_names image None = []
-file_names image (Some bytes) = job_names image (job_of bytes)
 
 -- the job, and then its objects
 abbrev pub asked_names : Files → List ℕ → Option (List ℕ) → List (List ℕ)
-asked_names fs name image = name ∷ file_names image (file_at fs name)
+asked_names fs name image = name ∷ option_map_or (λ bytes. job_names image (job_of bytes)) (file_at fs name) []

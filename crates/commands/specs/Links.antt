@@ -21,7 +21,7 @@ use Rattle.sequence_forms.specs.declared.places.Site.{Site}
 use Rattle.sequence_match.specs.Sites.{HaveSymbols}
 use Rattle.site_text.specs.Lines.{site_lines}
 use Rattle.standing_sequences.specs.Images.{HoldsTheTable}
-use Rattle.commands.specs.Jobs.{FileSays, asked_names, objects_of}
+use Rattle.commands.specs.Jobs.{FileSays, objects_of}
 
 -- ---- the texts
 
@@ -93,10 +93,6 @@ abbrev pub FilesAfter : {T : Type 0} → Option (List ℕ) → Option Files → 
 FilesAfter None before after result = after ≡ before
 FilesAfter (Some out) before after (Ok x) = (bytes : List ℕ) × (after ≡ with_file out bytes before)
 FilesAfter (Some out) before after (Err fault) = after ≡ before
-
--- ---- the names asked for: the job, and then its objects, if it has the image
-abbrev pub image_names : Files → List ℕ → List ℕ → List (List ℕ)
-image_names fs job image = asked_names fs job (Some image)
 
 -- ** on the way
 

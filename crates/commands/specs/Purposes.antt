@@ -17,7 +17,10 @@ use Rattle.commands.specs.declared.purpose.Purpose.TheVariants.{Run, Check, File
 use Rattle.commands.specs.Checks.{VerdictSays}
 use Rattle.commands.specs.Jobs.{FileSays, JobSays, objects_of}
 use Rattle.commands.specs.Links.{AreLines, IsPut, OfImage, OfLink}
+use Rattle.commands.specs.Races.{HasRace}
 use Rattle.commands.specs.RunJobs.{IsRun}
+use Rattle.commands.specs.Runs.{HasRun}
+use Rattle.commands.specs.declared.telling.Telling.TheVariants.{Transcript}
 
 -- the name of the image that a command is about
 abbrev pub wanted_by : Purpose → Option (List ℕ)
@@ -40,12 +43,16 @@ Judges purpose = ⊥
 
 -- what is said if all images link, with the files before and after
 abbrev pub Tells : Purpose → Option Files → Option Files → JobParts → List Linking → ℕ → List ℕ → Type 0
-Tells (Run telling) before after job ls status text = IsRun telling job ls status text
+Tells (Run telling) before after job ls status text = IsRun HasRun telling job ls status text
 Tells Check before after job ls status text = VerdictSays job ls status text
 Tells (File put) before after job ls status text =
     OfImage put.image.now (λ own number. IsPut before after put.image.now put.out.now) job ls status text
 Tells (Sites image) before after job ls status text =
     OfImage image.now (λ own number. AreLines (objects_of own number)) job ls status text
+
+-- what `race` says
+abbrev pub IsRace : JobParts → List Linking → ℕ → List ℕ → Type 0
+IsRace = IsRun HasRace Transcript
 
 -- the second files are those after the command
 abbrev pub JobTold : Purpose → Rewriting → Files → Option Files → Result JobParts JobFault → ℕ → List ℕ → Type 0
@@ -90,7 +97,7 @@ JudgesAt found.Check = Unit {0}
 JudgesAt ending = ⊥
 
 abbrev pub Makes : Placed → Option Files → Option Files → JobParts → List Linking → ℕ → List ℕ → Type 0
-Makes (found.Run telling) before after job ls status text = IsRun telling job ls status text
+Makes (found.Run telling) before after job ls status text = IsRun HasRun telling job ls status text
 Makes found.Check before after job ls status text = VerdictSays job ls status text
 Makes (found.File place put) before after job ls status text =
     OfLink place (IsPut before after put.image.now put.out.now) ls status text

@@ -1,20 +1,15 @@
--- What `race` prints for a job whose images all link, and what it says over the files of a store.
-use Rattle.std.specs.Prelude.{◌≡◌, ℕ, List, Some, None}
-use Rattle.command_line.specs.declared.tasks.Rewriting.{Rewriting}
-use Rattle.command_line.specs.Rewritings.{is_allowed}
-use Rattle.job_link.specs.declared.writable.WritableSections.TheVariants.{Refused}
+-- What `race` prints for a job whose images all link.
+use Rattle.std.specs.Prelude.{◌≡◌, ℕ, List, Some}
 use Rattle.job_text.specs.declared.thread_lines.ThreadLine.{ThreadLine}
 use Rattle.job_text.specs.Jobs.{JobParts}
 use Rattle.lawful_points.specs.Raced.{IsRaced}
 use Rattle.link_needs.specs.Linking.{Linking}
 use Rattle.loaded_modules.specs.Images.{JobImages}
 use Rattle.module_table.specs.History.{IsLegal}
-use Rattle.ports.specs.Files.{Files}
 use Rattle.thread_blocks.specs.JobLoads.{job_loads}
 use Rattle.thread_blocks.specs.Turns.{at_number}
 use Rattle.transcript_text.specs.declared.outcomes.Line.{Line as ShownLine}
-use Rattle.transcript_text.specs.Texts.{Shown, transcript_text}
-use Rattle.commands.specs.Jobs.{FileSays}
+use Rattle.transcript_text.specs.Texts.{Shown}
 use Rattle.commands.specs.Runs.{ImagesHoldTheTable, IsMeant, meant_lines, modules_of}
 
 -- ** what ran
@@ -37,20 +32,3 @@ pub record HasRace (job : JobParts) (ls : List Linking) (transcript : Shown) : T
       → IsMeant printed (meant_lines job ls transcript thread own printed)
   -- sequences were rewritten by the table, in each image that was loaded
   pub images_hold : ImagesHoldTheTable ls
-
--- ** the output
-
--- they ran, and this is the text of their transcript
-pub record IsRaceTold (job : JobParts) (ls : List Linking) (text : List ℕ) : Type 0 where
-  pub transcript : Shown
-  pub ran : HasRace job ls transcript
-  pub told_is : text ≡ transcript_text job.images transcript
-
--- 0, and that text
-abbrev pub IsRace : JobParts → List Linking → ℕ → List ℕ → Type 0
-IsRace job ls status text = (status ≡ 0) × IsRaceTold job ls text
-
--- `race JOB [--no-relax]`: refused like `run`, and also for an object that has data for programs to write
-abbrev pub RaceSays : Files → List ℕ → Rewriting → ℕ → List ℕ → Type 0
-RaceSays fs name rewriting status text =
-    FileSays None IsRace (is_allowed rewriting) Refused fs name status text

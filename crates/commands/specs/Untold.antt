@@ -3,9 +3,8 @@
 -- store.
 use Rattle.std.specs.Prelude.{◌≡◌, ◌≤◌, ◌⊎◌, ℕ, List, Option, None, Some}
 use Rattle.command_line.specs.declared.tasks.Command.{Command}
-use Rattle.command_line.specs.declared.tasks.Command.TheVariants.{Plain, Race}
-use Rattle.command_line.specs.declared.tasks.Task.{Task}
-use Rattle.command_line.specs.declared.tasks.Task.TheVariants.{Run, Check, Link, Sites, Show, Gen}
+use Rattle.command_line.specs.declared.tasks.Command.TheVariants.{Plain}
+use Rattle.command_line.specs.declared.tasks.Task.TheVariants.{Check, Show, Gen}
 use Rattle.ports.specs.Files.{Files}
 use Rattle.commands.specs.GeneratedRuns.{GenSays}
 
@@ -23,15 +22,9 @@ HasJobStatus Judges own = ((own ≡ 0) ⊎ ((5 ≤ own) × (own ≤ 7))) ⊎ (Ju
 abbrev pub HasImageStatus : ℕ → Type 0
 HasImageStatus own = (own ≡ 0) ⊎ (own ≡ 8)
 
--- what a task may say, whatever the files
-abbrev pub TaskMaySay : Task → ℕ → List ℕ → Type 0
-TaskMaySay (Run job rewriting) own text = HasJobStatus ⊥ own
-TaskMaySay (Check job) own text = HasJobStatus (Unit {0}) own
-TaskMaySay (Link job image out rewriting) own text = HasJobStatus ⊥ own
-TaskMaySay (Sites job image) own text = HasJobStatus ⊥ own
-TaskMaySay (Show file) own text = HasImageStatus own
-TaskMaySay (Gen count) own text = GenSays count own text
-
+-- what a command may say, whatever the files
 abbrev pub UntoldSays : Command → ℕ → List ℕ → Type 0
-UntoldSays (Plain task) own text = TaskMaySay task own text
-UntoldSays (Race job rewriting) own text = HasJobStatus ⊥ own
+UntoldSays (Plain (Check job)) own text = HasJobStatus (Unit {0}) own
+UntoldSays (Plain (Show file)) own text = HasImageStatus own
+UntoldSays (Plain (Gen count)) own text = GenSays count own text
+UntoldSays command own text = HasJobStatus ⊥ own

@@ -1,13 +1,17 @@
 //! The commands: the steps of each, from its words to its output, in the order in which their faults come.
-ghost use Rattle.std.specs.Prelude.{◌≡◌, [], ◌∷◌, IfOk, IfSome, OnErr};
+ghost use Rattle.std.specs.Prelude.{◌≡◌, [], ◌∷◌, Some, IfOk, IfSome, OnErr};
 ghost use Rattle.command_line.specs.Words.{IsInLimits};
+ghost use Rattle.command_line.specs.declared.tasks.Command.TheVariants.{Plain};
 ghost use Rattle.command_replies.specs.Faults.{StoreCounts, NoStoreFault};
+ghost use Rattle.command_replies.specs.Says.{HasFile};
 ghost use Rattle.command_replies.specs.Steps.{Asks, Comes};
 ghost use Rattle.image_text.specs.Shown.{shown};
-ghost use Rattle.commands.specs.Links.{SitesSays, image_names};
+ghost use Rattle.ports.specs.Files.{file_at};
+ghost use Rattle.commands.specs.Jobs.{asked_names};
+ghost use Rattle.commands.specs.Links.{SitesSays};
 ghost use Rattle.commands.specs.Listings.{ListingSays};
-ghost use Rattle.commands.specs.Tasks.{ShowSays, TaskLeaves, TaskSays, task_names};
-ghost use Rattle.commands.specs.Untold.{HasImageStatus, HasJobStatus, Over, TaskMaySay};
+ghost use Rattle.commands.specs.Tasks.{TaskLeaves, TaskSays, task_names};
+ghost use Rattle.commands.specs.Untold.{HasImageStatus, HasJobStatus, Over, UntoldSays};
 
 use crate::generated::generated;
 use crate::links::link;
@@ -36,7 +40,7 @@ pub fn output<R: Threads + Sync, S: Store>(
     ensures cause { StoreCounts (S.faults store.old) (S.faults store.new) result }
     ensures says { IfSome (S.files store.old) (λ fs. Comes (λ text. text.items)
         (TaskSays fs (S.files store.new) task.now) result) }
-    ensures may { Comes (λ text. text.items) (TaskMaySay task.now) result }
+    ensures may { Comes (λ text. text.items) (UntoldSays (Plain task.now)) result }
     ensures asks { Over (S.files store.old) (λ fs. Asks (task_names fs task.now)
         (S.asked store.old) (S.asked store.new) result) }
     ensures out { S.out store.new ≡ S.out store.old }
@@ -81,7 +85,7 @@ fn sites<R: Threads + Sync, S: Store>(
     ensures says { IfSome (S.files store.old) (λ fs. Comes (λ text. text.items)
         (SitesSays fs job.now image.now) result) }
     ensures own { Comes (λ text. text.items) (λ own text. HasJobStatus ⊥ own) result }
-    ensures asks { Over (S.files store.old) (λ fs. Asks (image_names fs job.now image.now)
+    ensures asks { Over (S.files store.old) (λ fs. Asks (asked_names fs job.now (Some image.now))
         (S.asked store.old) (S.asked store.new) result) }
     ensures out { S.out store.new ≡ S.out store.old }
 {
@@ -93,7 +97,8 @@ fn sites<R: Threads + Sync, S: Store>(
 fn show<S: Store>(alloc: Global, store: &mut S, name: &str) -> Result<Vec<u8>, CommandFault>
     ensures files { S.files store.new ≡ S.files store.old }
     ensures cause { StoreCounts (S.faults store.old) (S.faults store.new) result }
-    ensures says { IfSome (S.files store.old) (λ fs. Comes (λ text. text.items) (ShowSays fs name.now) result) }
+    ensures says { IfSome (S.files store.old) (λ fs. Comes (λ text. text.items)
+        (λ own text. HasFile (file_at fs name.now) (λ bytes. ListingSays bytes own text)) result) }
     ensures own { Comes (λ text. text.items) (λ own text. HasImageStatus own) result }
     ensures asks { Asks (name.now ∷ []) (S.asked store.old) (S.asked store.new) result }
     ensures out { S.out store.new ≡ S.out store.old }

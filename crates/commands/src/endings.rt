@@ -9,6 +9,7 @@ ghost use Rattle.commands.specs.InOrder.{AreLinked};
 ghost use Rattle.commands.specs.Links.{FilesAfter, IsPut, linked_text};
 ghost use Rattle.commands.specs.Purposes.{IsWithin, Makes, puts};
 ghost use Rattle.commands.specs.RunJobs.{IsRun};
+ghost use Rattle.commands.specs.Runs.{HasRun};
 ghost use Rattle.standing_sequences.specs.Laws.{IsLinked};
 
 use crate::checks::verdict_line;
@@ -70,7 +71,7 @@ fn run<R: Threads + Sync>(
     telling: Telling,
 ) -> Result<Vec<u8>, CommandFault>
     requires { AreLinked job.now images.now ready.items }
-    ensures says { Comes (λ text. text.items) (IsRun telling job.now ready.entry.items) result }
+    ensures says { Comes (λ text. text.items) (IsRun HasRun telling job.now ready.entry.items) result }
     ensures cause { NoStoreFault result }
 {
     if are_of_few(images) {

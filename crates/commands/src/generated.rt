@@ -12,6 +12,7 @@ ghost use Rattle.commands.specs.InOrder.{AreInOrder};
 ghost use Rattle.commands.specs.GeneratedRuns.{GenSays};
 ghost use Rattle.commands.specs.Jobs.{BytesSay};
 ghost use Rattle.commands.specs.RunJobs.{IsRun};
+ghost use Rattle.commands.specs.Runs.{HasRun};
 
 use crate::laws::images_are_in_order;
 use crate::purpose::{Course, Ending};
@@ -69,7 +70,7 @@ fn run_generated<R: Threads + Sync, S: Store>(
     ensures files { S.files store.new ≡ S.files store.old }
     ensures cause { StoreCounts (S.faults store.old) (S.faults store.new) result }
     ensures says { Comes (λ text. text.items)
-        (BytesSay (IsRun (Telling.Summary count)) true Kept (bytes_in (generated_files count)) job.now) result }
+        (BytesSay (IsRun HasRun (Telling.Summary count)) true Kept (bytes_in (generated_files count)) job.now) result }
     ensures asked { S.asked store.new ≡ S.asked store.old }
     ensures out { S.out store.new ≡ S.out store.old }
 {

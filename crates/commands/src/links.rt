@@ -2,7 +2,8 @@
 ghost use Rattle.std.specs.Prelude.{◌≡◌, IfSome, OnErr};
 ghost use Rattle.command_replies.specs.Faults.{StoreCounts};
 ghost use Rattle.command_replies.specs.Steps.{Asks, Comes};
-ghost use Rattle.commands.specs.Links.{Leaves, LinkSays, image_names};
+ghost use Rattle.commands.specs.Jobs.{asked_names};
+ghost use Rattle.commands.specs.Links.{Leaves, LinkSays};
 ghost use Rattle.commands.specs.Untold.{HasJobStatus, Over};
 
 use crate::purpose::{Purpose, Put};
@@ -29,7 +30,7 @@ pub fn link<R: Threads + Sync, S: Store>(
     ensures says { IfSome (S.files store.old) (λ fs. Comes (λ text. text.items)
         (LinkSays fs (S.files store.new) job.now put.entry.image.now put.entry.out.now rewriting) result) }
     ensures own { Comes (λ text. text.items) (λ own text. HasJobStatus ⊥ own) result }
-    ensures asks { Over (S.files store.old) (λ fs. Asks (image_names fs job.now put.entry.image.now)
+    ensures asks { Over (S.files store.old) (λ fs. Asks (asked_names fs job.now (Some put.entry.image.now))
         (S.asked store.old) (S.asked store.new) result) }
     ensures out { S.out store.new ≡ S.out store.old }
 {

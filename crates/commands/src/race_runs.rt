@@ -9,7 +9,9 @@
 //! objects mean. No clause says that a thread makes progress: threads wait for one another.
 ghost use Rattle.std.specs.Prelude.{◌≡◌, List, [], All, IfOk, false, map};
 ghost use Rattle.commands.specs.InOrder.{AreLinks};
-ghost use Rattle.commands.specs.Races.{AreRaced, HasRace, IsRaceTold};
+ghost use Rattle.commands.specs.Races.{AreRaced, HasRace};
+ghost use Rattle.commands.specs.RunJobs.{IsTold};
+ghost use Rattle.commands.specs.declared.telling.Telling.TheVariants.{Transcript as TheTranscript};
 ghost use Rattle.job_turns.specs.Alone.{has_data};
 ghost use Rattle.link_core.specs.Images.{linked_of};
 ghost use Rattle.link_needs.specs.Linking.{Linking};
@@ -46,7 +48,7 @@ pub fn told_race<R: Threads + Wait + Sync>(
 ) -> Result<Vec<u8>, AllocError>
     requires links { AreLinks job.now ready.items }
     requires dataless { All IsOfDataless ready.items }
-    ensures { IfOk result (λ text. IsRaceTold job.now ready.entry.items text.items) }
+    ensures { IfOk result (λ text. IsTold HasRace TheTranscript job.now ready.entry.items text.items) }
 {
     let all = write_images(rt, alloc, ready)?;
     let transcript = race_linked(rt, alloc, job, all)?;

@@ -9,8 +9,8 @@ ghost use Rattle.command_line.specs.Rewritings.{is_allowed};
 ghost use Rattle.command_replies.specs.Faults.{NoStoreFault, StoreCounts};
 ghost use Rattle.command_replies.specs.Steps.{Asks, Comes};
 ghost use Rattle.commands.specs.InOrder.{AreInOrder, AreLinked};
-ghost use Rattle.commands.specs.Jobs.{BytesSay, ImagesSay, JobSays, asked_names, job_names};
-ghost use Rattle.commands.specs.Races.{IsRace, RaceSays};
+ghost use Rattle.commands.specs.Jobs.{BytesSay, FileSays, ImagesSay, JobSays, asked_names, job_names};
+ghost use Rattle.commands.specs.Purposes.{IsRace};
 ghost use Rattle.commands.specs.Untold.{HasJobStatus, Over};
 ghost use Rattle.job_link.specs.declared.writable.WritableSections.TheVariants.{Refused};
 ghost use Rattle.job_link.specs.Given.{Allows, AreGiven};
@@ -45,7 +45,7 @@ pub fn raced<R: Threads + Wait + Sync, S: Store>(
     ensures files { S.files store.new ≡ S.files store.old }
     ensures cause { StoreCounts (S.faults store.old) (S.faults store.new) result }
     ensures says { IfSome (S.files store.old) (λ fs. Comes (λ text. text.items)
-        (RaceSays fs name.now rewriting) result) }
+        (FileSays None IsRace (is_allowed rewriting) Refused fs name.now) result) }
     ensures own { Comes (λ text. text.items) (λ own text. HasJobStatus ⊥ own) result }
     ensures asks { Over (S.files store.old) (λ fs. Asks (asked_names fs name.now None)
         (S.asked store.old) (S.asked store.new) result) }

@@ -44,7 +44,7 @@ pub fn told_run<R: Threads + Sync>(
     telling: Telling,
 ) -> Result<Vec<u8>, AllocError>
     requires { AreLinks job.now ready.items }
-    ensures { IfOk result (λ text. IsTold telling job.now ready.entry.items text.items) }
+    ensures { IfOk result (λ text. IsTold HasRun telling job.now ready.entry.items text.items) }
 {
     let all = write_images(rt, alloc, ready)?;
     let counts = SiteCounts::of(all.as_slice())?;

@@ -1,6 +1,6 @@
 use Rattle.std.proofs.Common.{arith}
 use Rattle.command_line.specs.Rewritings.{is_allowed}
-use Rattle.commands.specs.Races.{IsRace}
+use Rattle.commands.specs.Purposes.{IsRace}
 use Rattle.commands.proofs.Fetched.{count_is, linked_say, names_image}
 use Rattle.commands.proofs.races.raced_of_images.Goals as goal
 

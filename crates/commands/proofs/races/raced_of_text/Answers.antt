@@ -2,7 +2,7 @@ use Rattle.std.proofs.Common.{inl}
 use Rattle.command_line.specs.Rewritings.{is_allowed}
 use Rattle.job_link.specs.declared.writable.WritableSections.TheVariants.{Refused}
 use Rattle.job_link.specs.Mentions.{bytes_in, object_names}
-use Rattle.commands.specs.Races.{IsRace}
+use Rattle.commands.specs.Purposes.{IsRace}
 use Rattle.commands.proofs.Asked.{asks_whole}
 use Rattle.commands.proofs.Fetched.{files_say}
 use Rattle.commands.proofs.Untold.{comes_of_bytes}
