@@ -9,7 +9,7 @@ use Rattle.command_replies.specs.Faults.{StoreCounts}
 use Rattle.command_replies.specs.Steps.{Comes}
 use Rattle.ports.specs.Files.{Files}
 use Rattle.ports.specs.Sinks.{SinkView}
-use Rattle.commands.specs.Replies.{MaySay, Shows}
+use Rattle.commands.specs.Replies.{MaySay}
 use Rattle.commands.specs.Commands.{CommandSays}
 use Rattle.commands.specs.Untold.{UntoldSays}
 use Rattle.commands.proofs.Saying.{Text, items}
@@ -32,6 +32,6 @@ output_may (Some fs) after command (Err (fault.Refused reply)) before now own te
 
 pub output_shows : (files after : Option Files) (command : Command) (r : Result Text CommandFault) (before now : ℕ) (old new : SinkView) (code : ℕ) → StoreCounts before now r
     → IfSome files (λ fs. Comes items (CommandSays fs after command) r) → Comes items (UntoldSays command) r → Delivered (IsOwn items r) old new code
-    → Shows files after command old new code
+    → Delivered (MaySay files after command) old new code
 output_shows files after command r before now old new code counts says may delivered =
     delivered_weaker (IsOwn items r) (MaySay files after command) old new code (λ own text is. output_may files after command r before now own text counts says may is) delivered

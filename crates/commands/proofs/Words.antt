@@ -6,9 +6,10 @@ use Rattle.command_line.specs.Words.{asked}
 use Rattle.ports.specs.Files.{Files, untold_files}
 use Rattle.ports.specs.Sinks.{SinkView}
 use Rattle.command_line.specs.declared.tasks.Task.TheVariants.{Run, Check, Link, Sites, Show, Gen}
+use Rattle.command_replies.specs.Delivery.{Delivered}
 use Rattle.command_replies.specs.Statuses.{IsLate}
 use Rattle.commands.specs.Links.{LinkSays, Leaves}
-use Rattle.commands.specs.Replies.{ShowsWords, AskedWords, WordsLeave}
+use Rattle.commands.specs.Replies.{AskedWords, WordsLeave, WordsMaySay}
 use Rattle.commands.specs.Untold.{Over}
 use Rattle.std.specs.FinMap as map
 use Rattle.commands.proofs.Asked.{answered, asked_none}
@@ -31,8 +32,8 @@ not_asked words = by (asked words)
     by None other = refl
     by (Some command) other = absurd (cc other)
 
-pub shows_usage : (files after : Option Files) (words : List (List ℕ)) (old new : SinkView) (code : ℕ) → is_some (asked words) ≡ false → ShowsWords untold_files untold_files None old new code
-    → ShowsWords files after (asked words) old new code
+pub shows_usage : (files after : Option Files) (words : List (List ℕ)) (old new : SinkView) (code : ℕ) → is_some (asked words) ≡ false → Delivered (WordsMaySay untold_files untold_files None) old new code
+    → Delivered (WordsMaySay files after (asked words)) old new code
 shows_usage files after words old new code other shown = rw (not_asked words other) shown
 
 pub asked_usage : (files : Option Files) (words : List (List ℕ)) (old : Option Names) (code : ℕ) → is_some (asked words) ≡ false → Over files (λ fs. AskedWords fs (asked words) old old code)

@@ -2,9 +2,8 @@
 use Rattle.std.specs.Prelude.{◌≡◌, ◌≤◌, ℕ, ◌⊎◌, List, Option, Some, None}
 use Rattle.command_line.specs.declared.tasks.Command.{Command}
 use Rattle.command_replies.specs.Steps.{AsksFront, with_names}
-use Rattle.command_replies.specs.Delivery.{Delivered, store_line, usage_line}
+use Rattle.command_replies.specs.Delivery.{store_line, usage_line}
 use Rattle.ports.specs.Files.{Files}
-use Rattle.ports.specs.Sinks.{SinkView}
 use Rattle.commands.specs.Commands.{CommandLeaves, CommandSays, command_names}
 use Rattle.commands.specs.Untold.{UntoldSays}
 
@@ -15,11 +14,6 @@ use Rattle.commands.specs.Untold.{UntoldSays}
 abbrev pub MaySay : Option Files → Option Files → Command → ℕ → List ℕ → Type 0
 MaySay None after asked own text = ((own ≡ 3) × (text ≡ store_line)) ⊎ UntoldSays asked own text
 MaySay (Some fs) after asked own text = ((own ≡ 3) × (text ≡ store_line)) ⊎ CommandSays fs after asked own text
-
--- what is shown: 1 means out of memory, and comes after a prefix of another text only if the sink ran out of memory for
--- that text; 4 means that the sink failed; every other status comes with the whole of its text
-abbrev pub Shows : Option Files → Option Files → Command → SinkView → SinkView → ℕ → Type 0
-Shows files after asked old new code = Delivered (MaySay files after asked) old new code
 
 -- the names asked for: a prefix of the command's names, and all of them if it ended with a status of its own
 pub record Asked (fs : Files) (asked : Command) (old new : Option (List (List ℕ))) (code : ℕ) : Type 0 where
@@ -32,9 +26,6 @@ pub record Asked (fs : Files) (asked : Command) (old new : Option (List (List �
 abbrev pub WordsMaySay : Option Files → Option Files → Option Command → ℕ → List ℕ → Type 0
 WordsMaySay files after None own text = (own ≡ 2) × (text ≡ usage_line)
 WordsMaySay files after (Some asked) own text = MaySay files after asked own text
-
-abbrev pub ShowsWords : Option Files → Option Files → Option Command → SinkView → SinkView → ℕ → Type 0
-ShowsWords files after asked old new code = Delivered (WordsMaySay files after asked) old new code
 
 -- the files after the command of some words: as before, unless it put a whole image
 abbrev pub WordsLeave : Option Files → Option Files → Option Command → Type 0

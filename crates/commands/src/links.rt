@@ -1,5 +1,5 @@
 //! `link`: puts an image into a file.
-ghost use Rattle.std.specs.Prelude.{◌≡◌, IfSome, OnErr};
+ghost use Rattle.std.specs.Prelude.{◌≡◌, Some, IfSome, OnErr};
 ghost use Rattle.command_replies.specs.Faults.{StoreCounts};
 ghost use Rattle.command_replies.specs.Steps.{Asks, Comes};
 ghost use Rattle.commands.specs.Jobs.{asked_names};

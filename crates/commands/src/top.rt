@@ -1,10 +1,11 @@
 //! The top calls, which `main` makes.
 ghost use Rattle.std.specs.Prelude.{◌≡◌, ◌≢◌, IfSome, None, false, is_some, map, string_bytes};
 ghost use Rattle.command_line.specs.Words.{IsInLimits, asked};
+ghost use Rattle.command_replies.specs.Delivery.{Delivered};
 ghost use Rattle.command_replies.specs.Statuses.{FilesShown, UsageShown, StoreShown, SinkShown};
 ghost use Rattle.ports.specs.Files.{untold_files};
 ghost use Rattle.commands.specs.Completes.{Completes, DidNotFail};
-ghost use Rattle.commands.specs.Replies.{Asked, AskedWords, Shows, ShowsWords, WordsLeave};
+ghost use Rattle.commands.specs.Replies.{Asked, AskedWords, MaySay, WordsLeave, WordsMaySay};
 ghost use Rattle.commands.specs.Commands.{CommandLeaves};
 ghost use Rattle.commands.specs.Untold.{Over};
 
@@ -32,7 +33,7 @@ pub fn tlsld<R: Threads + Wait + Sync, S: Store, K: Sink>(
     ensures sink { SinkShown (K.view out.old).faults (K.view out.new).faults result }
     ensures kept { FilesShown (S.files store.old) (S.files store.new) result }
     ensures files { WordsLeave (S.files store.old) (S.files store.new) (asked (map string_bytes words.now)) }
-    ensures shows { ShowsWords (S.files store.old) (S.files store.new) (asked (map string_bytes words.now))
+    ensures shows { Delivered (WordsMaySay (S.files store.old) (S.files store.new) (asked (map string_bytes words.now)))
         (K.view out.old) (K.view out.new) result }
     ensures asked { Over (S.files store.old) (λ fs. AskedWords fs (asked (map string_bytes words.now))
         (S.asked store.old) (S.asked store.new) result) }
@@ -68,7 +69,7 @@ pub fn tlsld_plain<R: Threads + Sync, S: Store, K: Sink>(
     ensures sink { SinkShown (K.view out.old).faults (K.view out.new).faults result }
     ensures kept { FilesShown (S.files store.old) (S.files store.new) result }
     ensures files { CommandLeaves (S.files store.old) (S.files store.new) (Command.Plain task.now) }
-    ensures shows { Shows (S.files store.old) (S.files store.new) (Command.Plain task.now)
+    ensures shows { Delivered (MaySay (S.files store.old) (S.files store.new) (Command.Plain task.now))
         (K.view out.old) (K.view out.new) result }
     ensures asked { Over (S.files store.old)
         (λ fs. Asked fs (Command.Plain task.now) (S.asked store.old) (S.asked store.new) result) }
@@ -84,7 +85,7 @@ pub fn tlsld_plain<R: Threads + Sync, S: Store, K: Sink>(
 /// Puts the line for words that are not accepted.
 fn say_usage<K: Sink>(out: &mut K) -> u8
     ensures usage { UsageShown false result }
-    ensures shows { ShowsWords untold_files untold_files None (K.view out.old) (K.view out.new) result }
+    ensures shows { Delivered (WordsMaySay untold_files untold_files None) (K.view out.old) (K.view out.new) result }
     ensures sink { SinkShown (K.view out.old).faults (K.view out.new).faults result }
 {
     say(out, Status::Usage, b"usage\n")
