@@ -38,12 +38,11 @@ use Rattle.ports.specs.Files.{Files, file_at}
 use Rattle.ports.specs.Sinks.{SinkView}
 use Rattle.whole_meaning.specs.declared.unclean.UncleanStep.{UncleanStep}
 use Rattle.commands.specs.Checks.{SaysOf, VerdictSays}
-use Rattle.commands.specs.Completes.{Completes, DidNotFail, IsDone, IsGood, IsGoodJob, IsGoodRace, IsGoodTask}
+use Rattle.commands.specs.Completes.{Completes, DidNotFail, IsDone, IsGood, IsGoodJob, IsGoodRace}
 use Rattle.commands.specs.Jobs.{Ending, FileSays, JobSays, NamedSays, ObjectsSay, has, objects_of}
 use Rattle.commands.specs.Links.{AreLines, IsPut, OfImage}
 use Rattle.commands.specs.Listings.{ListingSays}
 use Rattle.commands.specs.RunJobs.{IsRun}
-use Rattle.commands.specs.Tasks.{TaskSays}
 use Rattle.commands.specs.Commands.{CommandSays}
 use Rattle.commands.specs.Purposes.{IsRace}
 use Rattle.commands.specs.Runs.{HasRun}
@@ -136,7 +135,7 @@ shown_done (Some b) status text is (inr none) = absurd (no_fault b none.fault is
 
 -- ** the law: what a command says of what it is given, where nothing is wrong with it
 
-pub task_done : (fs : Files) (after : Option Files) (task : Task) (status : ℕ) (text : List ℕ) → IsGoodTask fs task → TaskSays fs after task status text → IsDone (Plain task) status
+pub task_done : (fs : Files) (after : Option Files) (task : Task) (status : ℕ) (text : List ℕ) → IsGood (Some fs) (Plain task) → CommandSays fs after (Plain task) status text → IsDone (Plain task) status
 task_done fs after (Run job rewriting) status text good says =
     let own = ends None (IsRun HasRun Transcript) (is_allowed rewriting) Kept fs job good refl (λ name there. tt) status text says in own.linked.says.0
 task_done fs after (Check job) status text good says =

@@ -5,7 +5,6 @@ use Rattle.std.specs.List.{All}
 use Rattle.command_line.specs.Rewritings.{is_allowed}
 use Rattle.command_line.specs.declared.tasks.Command.{Command}
 use Rattle.command_line.specs.declared.tasks.Command.TheVariants.{Plain, Race}
-use Rattle.command_line.specs.declared.tasks.Task.{Task}
 use Rattle.command_line.specs.declared.tasks.Task.TheVariants.{Run, Check, Link, Sites, Show, Gen}
 use Rattle.command_replies.specs.Says.{HasFile}
 use Rattle.image_faults.specs.Faults.{IsImage}
@@ -39,21 +38,18 @@ pub record IsGoodRace (fs : Files) (relax : Bool) (name : List ℕ) : Type 0 whe
   pub good : IsGoodJob fs relax name
   pub dataless : All (λ object. HasFile (file_at fs object) (Allows Refused)) (object_names good.job)
 
--- for `show`, the file is an image; the job that `gen` makes is always good
-abbrev pub IsGoodTask : Files → Task → Type 0
-IsGoodTask fs (Run job rewriting) = IsGoodJob fs (is_allowed rewriting) job
-IsGoodTask fs (Check job) = IsGoodJob fs true job
-IsGoodTask fs (Link job image out rewriting) = HasGoodImage fs (is_allowed rewriting) job image
-IsGoodTask fs (Sites job image) = HasGoodImage fs true job image
-IsGoodTask fs (Show file) = HasFile (file_at fs file) IsImage
-IsGoodTask fs (Gen count) = Unit {0}
-
--- over a store that does not show its files, `gen` alone is known to be given nothing wrong: it reads none
+-- for `show`, the file is an image; the job that `gen` makes is always good. Over a store that does not show its files,
+-- `gen` alone is known to be given nothing wrong: it reads none
 abbrev pub IsGood : Option Files → Command → Type 0
 IsGood None (Plain (Gen count)) = Unit {0}
 IsGood None command = ⊥
-IsGood (Some fs) (Plain task) = IsGoodTask fs task
+IsGood (Some fs) (Plain (Run job rewriting)) = IsGoodJob fs (is_allowed rewriting) job
 IsGood (Some fs) (Race job rewriting) = IsGoodRace fs (is_allowed rewriting) job
+IsGood (Some fs) (Plain (Check job)) = IsGoodJob fs true job
+IsGood (Some fs) (Plain (Link job image out rewriting)) = HasGoodImage fs (is_allowed rewriting) job image
+IsGood (Some fs) (Plain (Sites job image)) = HasGoodImage fs true job image
+IsGood (Some fs) (Plain (Show file)) = HasFile (file_at fs file) IsImage
+IsGood (Some fs) (Plain (Gen count)) = Unit {0}
 
 -- ---- completion
 

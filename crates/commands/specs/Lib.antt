@@ -12,5 +12,4 @@ pub mod Races
 pub mod Replies
 pub mod RunJobs
 pub mod Runs
-pub mod Tasks
 pub mod Untold

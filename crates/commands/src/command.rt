@@ -7,10 +7,10 @@ ghost use Rattle.command_replies.specs.Says.{HasFile};
 ghost use Rattle.command_replies.specs.Steps.{Asks, Comes};
 ghost use Rattle.image_text.specs.Shown.{shown};
 ghost use Rattle.ports.specs.Files.{file_at};
+ghost use Rattle.commands.specs.Commands.{CommandLeaves, CommandSays, command_names};
 ghost use Rattle.commands.specs.Jobs.{asked_names};
 ghost use Rattle.commands.specs.Links.{SitesSays};
 ghost use Rattle.commands.specs.Listings.{ListingSays};
-ghost use Rattle.commands.specs.Tasks.{TaskLeaves, TaskSays, task_names};
 ghost use Rattle.commands.specs.Untold.{HasImageStatus, HasJobStatus, Over, UntoldSays};
 
 use crate::generated::generated;
@@ -35,13 +35,13 @@ pub fn output<R: Threads + Sync, S: Store>(
     store: &mut S,
 ) -> Result<Vec<u8>, CommandFault>
     requires { IsInLimits task.now }
-    ensures files { TaskLeaves (S.files store.old) (S.files store.new) task.now }
+    ensures files { CommandLeaves (S.files store.old) (S.files store.new) (Plain task.now) }
     ensures kept { OnErr result (S.files store.new ≡ S.files store.old) }
     ensures cause { StoreCounts (S.faults store.old) (S.faults store.new) result }
     ensures says { IfSome (S.files store.old) (λ fs. Comes (λ text. text.items)
-        (TaskSays fs (S.files store.new) task.now) result) }
+        (CommandSays fs (S.files store.new) (Plain task.now)) result) }
     ensures may { Comes (λ text. text.items) (UntoldSays (Plain task.now)) result }
-    ensures asks { Over (S.files store.old) (λ fs. Asks (task_names fs task.now)
+    ensures asks { Over (S.files store.old) (λ fs. Asks (command_names fs (Plain task.now))
         (S.asked store.old) (S.asked store.new) result) }
     ensures out { S.out store.new ≡ S.out store.old }
 {
