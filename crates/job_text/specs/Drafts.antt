@@ -44,7 +44,16 @@ declared program starts lates mentions has_threads fuel order lines =
 
 -- before the first line there is one thread
 abbrev pub nothing_declared : Declared
-nothing_declared = declared None [] [] [] false None None ([] ∷ [])
+nothing_declared = record {
+  program = None;
+  starts = [];
+  lates = [];
+  mentions = [];
+  has_threads = false;
+  fuel = None;
+  order = None;
+  lines = [] ∷ [];
+}
 
 -- how many images there are
 abbrev pub image_count : Declared → ℕ

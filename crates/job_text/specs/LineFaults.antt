@@ -29,49 +29,34 @@ is_program image.Late = false
 -- whether the line is an image's
 abbrev pub is_image : Heading → Bool
 is_image (heading.Image kind) = true
-is_image heading.Threads = false
-is_image heading.Fuel = false
-is_image heading.Order = false
-is_image (heading.Thread verb) = false
-is_image heading.Short = false
+is_image heading = false
 
 -- Count: a wrong number of words, a 65th image, or a line past the 65,536th
 abbrev pub is_miscounted : Declared → ℕ → Heading → ℕ → Bool
 is_miscounted d number heading count =
     not (has_its_words heading count) || (is_image heading && (image_count d == 64)) || nat_lt 65536 number
 
--- the arguments of a call, its words 4, 5 and 6
-abbrev pub has_bad_argument : List (List ℕ) → Bool
-has_bad_argument words =
-    is_none (number (word_at 4 words)) || is_none (number (word_at 5 words)) || is_none (number (word_at 6 words))
-
--- the numbers after a verb
+-- the numbers after a verb: the arguments of a call are its words 4, 5 and 6
 abbrev pub has_bad_operand : Verb → List (List ℕ) → Bool
-has_bad_operand verb.Call words = has_bad_argument words
-has_bad_operand verb.Open words = false
-has_bad_operand verb.Close words = false
+has_bad_operand verb.Call words =
+    is_none (number (word_at 4 words)) || is_none (number (word_at 5 words)) || is_none (number (word_at 6 words))
 has_bad_operand verb.Peek words = is_none (number_within 0 4096 (word_at 4 words))
+has_bad_operand verb words = false
 
 -- Number: one that is malformed or out of its range
 abbrev pub has_bad_number : Declared → Heading → List (List ℕ) → Bool
-has_bad_number d (heading.Image kind) words = false
 has_bad_number d heading.Threads words = is_none (number_within 1 64 (word_at 1 words))
 has_bad_number d heading.Fuel words = is_none (number_within 1 4294967295 (word_at 1 words))
 has_bad_number d heading.Order words = list_any (λ word. is_none (thread_named d word)) (drop 1 words)
 has_bad_number d (heading.Thread verb) words =
     is_none (thread_named d (word_at 0 words)) || has_bad_operand verb words
-has_bad_number d heading.Short words = false
+has_bad_number d heading words = false
 
--- whether the line of a thread names a symbol, its word 3
-abbrev pub has_symbol : Verb → Bool
-has_symbol verb.Call = true
-has_symbol verb.Open = false
-has_symbol verb.Close = false
-has_symbol verb.Peek = true
-
--- a symbol that is too long
+-- a symbol that is too long, word 3 of the line of a thread; an open and a close have none
 abbrev pub has_long_symbol : Verb → List (List ℕ) → Bool
-has_long_symbol verb words = has_symbol verb && not (is_short_name (word_at 3 words))
+has_long_symbol verb.Open words = false
+has_long_symbol verb.Close words = false
+has_long_symbol verb words = not (is_short_name (word_at 3 words))
 
 -- the names of an image's objects, from its word 3 on
 abbrev pub has_long_object : List (List ℕ) → Bool
@@ -80,11 +65,8 @@ has_long_object words = list_any (λ word. not (is_short_name word)) (drop 3 wor
 -- Name: one that is malformed or too long, or an image that no earlier line declares
 abbrev pub has_bad_name : Declared → Heading → List (List ℕ) → Bool
 has_bad_name d (heading.Image kind) words = not (is_image_name (word_at 1 words)) || has_long_object words
-has_bad_name d heading.Threads words = false
-has_bad_name d heading.Fuel words = false
-has_bad_name d heading.Order words = false
 has_bad_name d (heading.Thread verb) words = has_long_symbol verb words || is_none (slot_of d (word_at 2 words))
-has_bad_name d heading.Short words = false
+has_bad_name d heading words = false
 
 -- Twice: a second image of the name, a second program, or a second `threads`, `fuel` or `order`
 abbrev pub is_second : Declared → Heading → List (List ℕ) → Bool
@@ -93,8 +75,7 @@ is_second d (heading.Image kind) words =
 is_second d heading.Threads words = d.has_threads
 is_second d heading.Fuel words = is_some d.fuel
 is_second d heading.Order words = is_some d.order
-is_second d (heading.Thread verb) words = false
-is_second d heading.Short words = false
+is_second d heading words = false
 
 -- the last three kinds, in their order
 abbrev pub fault_in_words : Declared → Heading → List (List ℕ) → Option JobFaultKind

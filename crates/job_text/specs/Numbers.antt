@@ -1,6 +1,6 @@
 -- The numbers that words write.
 use Rattle.std.specs.Prelude.{ℕ, ◌^◌, Bool, not, ◌&&◌, ◌==◌, nat_lt, nat_le, List, length, drop, slice_index, codes}
-use Rattle.std.specs.Prelude.{nat_eq, Option, Some, None, if◌then◌else◌}
+use Rattle.std.specs.Prelude.{nat_eq, option_and_then, Option, Some, None, if◌then◌else◌}
 use Rattle.std.specs.Char.{digit_value}
 use Rattle.std.specs.List.{list_all, starts_with}
 use Rattle.std.specs.Str.Parse.{digits_value}
@@ -26,11 +26,7 @@ number word =
     else if has_leading_zero word then None
     else numeral 10 word
 
--- a number, if it lies between two bounds
-abbrev pub if_within : ℕ → ℕ → Option ℕ → Option ℕ
-if_within low high None = None
-if_within low high (Some value) = if nat_le low value && nat_le value high then Some value else None
-
 -- the number that a word writes, if it lies between two bounds
 abbrev pub number_within : ℕ → ℕ → List ℕ → Option ℕ
-number_within low high word = if_within low high (number word)
+number_within low high word =
+    option_and_then (λ value. if nat_le low value && nat_le value high then Some value else None) (number word)
