@@ -1,8 +1,10 @@
 //! The refusals of faults: the status and the line of each. Want of memory is no refusal.
-ghost use Rattle.std.specs.Prelude.{◌≡◌, ◌<◌, IfOk, length, slice_get};
+ghost use Rattle.std.specs.Prelude.{◌≡◌, ◌<◌, ◌++◌, IfOk, codes, length, slice_get};
+ghost use Rattle.std.specs.Fmt.{decimal};
 ghost use Rattle.command_replies.specs.Says.{IsImageLine, IsJobLine, IsLinkLine, IsObjectLine};
-ghost use Rattle.command_replies.specs.Says.{fault_text, image_fault_text, job_fault_text, link_line, shown_object};
+ghost use Rattle.command_replies.specs.Says.{fault_text, shown_object};
 ghost use Rattle.command_replies.specs.Statuses.{code_of};
+ghost use Rattle.link_faults.specs.FaultNames.{kind_name};
 
 use crate::replies::Reply;
 use crate::statuses::Status;
@@ -88,7 +90,7 @@ pub fn image_refusal(alloc: Global, fault: ImageFault) -> Result<Reply, AllocErr
 }
 
 fn job_line(alloc: Global, line: u64, kind: JobFaultKind) -> Result<Vec<u8>, AllocError>
-    ensures { IfOk result (λ text. text.items ≡ job_fault_text line kind) }
+    ensures { IfOk result (λ text. IsJobLine (JobFault.At line kind) text.items) }
 {
     Ok(format!(in alloc; "job {line} {kind}\n")?.into_bytes())
 }
@@ -113,7 +115,8 @@ fn link_line(
     section: u64,
     entry: u64,
 ) -> Result<Vec<u8>, AllocError>
-    ensures { IfOk result (λ text. text.items ≡ link_line image.now kind object.now section entry) }
+    ensures { IfOk result (λ text. text.items ≡ codes "link " ++ image.now ++ codes " " ++ kind_name kind ++ codes " "
+        ++ object.now ++ codes " section " ++ decimal section ++ codes " entry " ++ decimal entry ++ codes "\n") }
 {
     let mut text = format!(in alloc; "link {image} {kind} {object}")?.into_bytes();
     let place = format!(in alloc; " section {section} entry {entry}\n")?;
@@ -126,7 +129,7 @@ fn image_line(
     offset: u64,
     kind: image_rules::FaultKind,
 ) -> Result<Vec<u8>, AllocError>
-    ensures { IfOk result (λ text. text.items ≡ image_fault_text offset kind) }
+    ensures { IfOk result (λ text. IsImageLine (ImageFault.At offset kind) text.items) }
 {
     Ok(format!(in alloc; "image {offset} {kind}\n")?.into_bytes())
 }

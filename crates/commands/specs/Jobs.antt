@@ -4,12 +4,13 @@ use Rattle.std.specs.Prelude.{◌≡◌, ◌⊎◌, ℕ, Bool, true, false, List
 use Rattle.std.specs.Prelude.{Option, Some, None, IsSome, Result, Ok, Err, is_some, if◌then◌else◌}
 use Rattle.std.specs.List.{All}
 use Rattle.std.specs.Option.{option_map_or}
-use Rattle.command_replies.specs.Says.{HasFile, Is, IsLinkLine, IsObjectLine, JobFaultSays, job_fault_text}
+use Rattle.command_replies.specs.Says.{HasFile, IsLinkLine, IsObjectLine, JobFaultSays}
 use Rattle.job_link.specs.declared.writable.WritableSections.{WritableSections}
 use Rattle.job_link.specs.Given.{Given, AreGiven, IsFirstFaulty}
 use Rattle.job_link.specs.Linked.{AllLink, IsFirstUnlinked, link_in}
 use Rattle.job_link.specs.Mentions.{bytes_at, mentions_of, object_names}
 use Rattle.job_text.specs.declared.fault.JobFault.{JobFault}
+use Rattle.job_text.specs.declared.fault.JobFault.TheVariants.{At}
 use Rattle.job_text.specs.declared.fault.JobFaultKind.TheVariants.{Name}
 use Rattle.job_text.specs.Images.{image_number}
 use Rattle.job_text.specs.Jobs.{JobParts, job_of}
@@ -80,7 +81,7 @@ module _ (E : Ending) (relax : Bool) where
     -- the job has the image that the command names, or not
     abbrev pub NamedSays : Files → JobParts → Bool → ℕ → List ℕ → Type 0
     NamedSays fs job true status text = ObjectsSay fs job status text
-    NamedSays fs job false status text = Is 5 (job_fault_text 0 Name) status text
+    NamedSays fs job false status text = JobFaultSays (At 0 Name) status text
 
 -- the job has an image of that name, if the command names one
 abbrev pub has : JobParts → Option (List ℕ) → Bool
