@@ -1,5 +1,5 @@
 -- The steps of a command: the result of each, and which names it asks for.
-use Rattle.std.specs.Prelude.{◌≡◌, ℕ, List, take, Option, Some, None, Result, Ok, Err}
+use Rattle.std.specs.Prelude.{◌≡◌, ℕ, List, Option, Some, None, Result, Ok, Err}
 use Rattle.job_text.specs.declared.fault.JobFault.{JobFault}
 use Rattle.job_text.specs.declared.fault.JobFault.TheVariants.{At}
 use Rattle.job_text.specs.declared.fault.JobFaultKind.TheVariants.{Name}
@@ -8,7 +8,7 @@ use Rattle.command_replies.specs.declared.fault.CommandFault.{CommandFault}
 use Rattle.command_replies.specs.declared.fault.CommandFault.TheVariants as fault
 use Rattle.command_replies.specs.Says.{JobFaultSays}
 use Rattle.command_replies.specs.Statuses.{code_of}
-pub use Rattle.ports.specs.Files.{with_names}
+pub use Rattle.ports.specs.Files.{AsksFront, with_names}
 
 -- a step's result is as `says` has it, or the store fails, or memory runs out
 abbrev pub Comes : {T : Type 0} → (T → List ℕ) → (ℕ → List ℕ → Type 0) → Result T CommandFault → Type 0
@@ -18,10 +18,6 @@ Comes text_of Says (Err fault.OutOfMemory) = Unit {0}
 Comes text_of Says (Err (fault.Refused reply)) = Says (code_of reply.status) reply.text.items
 
 -- ---- the names asked for
-
--- a prefix of these names
-abbrev pub AsksFront : List (List ℕ) → Option (List (List ℕ)) → Option (List (List ℕ)) → Type 0
-AsksFront names old new = (k : ℕ) × (new ≡ with_names (take k names) old)
 
 -- all of them, if the step got to its own result
 abbrev pub Asks : {T : Type 0} → List (List ℕ) → Option (List (List ℕ)) → Option (List (List ℕ))

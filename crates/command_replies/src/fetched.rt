@@ -1,6 +1,6 @@
 //! Fetches files of the store.
-ghost use Rattle.std.specs.Prelude.{◌≡◌, IfOk, IfErr, IfSome, Some};
-ghost use Rattle.ports.specs.Files.{file_at, with_name};
+ghost use Rattle.std.specs.Prelude.{◌≡◌, [], ◌∷◌, IfOk, IfErr, IfSome, Some};
+ghost use Rattle.ports.specs.Files.{file_at, with_names};
 ghost use Rattle.command_replies.specs.Faults.{IsFetchFault, StoreCounts};
 
 use crate::fault::CommandFault;
@@ -14,7 +14,7 @@ pub fn whole_file<S: Store>(
     name: &str,
 ) -> Result<Vec<u8>, CommandFault>
     ensures files { S.files store.new ≡ S.files store.old }
-    ensures asked { S.asked store.new ≡ with_name name.now (S.asked store.old) }
+    ensures asked { S.asked store.new ≡ with_names (name.now ∷ []) (S.asked store.old) }
     ensures cause { StoreCounts (S.faults store.old) (S.faults store.new) result }
     ensures refused { IfErr result IsFetchFault }
     ensures bytes { IfSome (S.files store.old) (λ fs. IfOk result (λ bytes. file_at fs name.now ≡ Some bytes.items)) }

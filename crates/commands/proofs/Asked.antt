@@ -16,13 +16,13 @@ use Rattle.command_replies.specs.Steps.{Asks, AsksFront, with_names}
 use Rattle.command_replies.specs.declared.fault.CommandFault.{CommandFault}
 use Rattle.command_replies.specs.declared.fault.CommandFault.TheVariants as fault
 use Rattle.job_text.specs.Jobs.{job_of}
-use Rattle.ports.specs.Files.{Files, file_at, with_name}
+use Rattle.ports.specs.Files.{Files, file_at}
 use Rattle.commands.specs.Jobs.{asked_names, job_names}
 
 abbrev Names : Type 0
 Names = List (List ℕ)
 
-one_more : (name : List ℕ) (names : Names) (old : Option Names) → with_names names (with_name name old) ≡ with_names (name ∷ names) old
+one_more : (name : List ℕ) (names : Names) (old : Option Names) → with_names names (with_names (name ∷ []) old) ≡ with_names (name ∷ names) old
 one_more name names None = refl
 one_more name names (Some before) = ap (λ (ns : Names). Some ns) (append_assoc before (name ∷ []) names)
 
@@ -30,10 +30,10 @@ one_more name names (Some before) = ap (λ (ns : Names). Some ns) (append_assoc 
 pub asks_all : (names : Names) (old new : Option Names) → new ≡ with_names names old → AsksFront names old new
 asks_all names old new e = (length names, e ∙ ap (λ ns. with_names ns old) (sym (take-length names)))
 
-more_front : (name : List ℕ) (names : Names) (old mid new : Option Names) → mid ≡ with_name name old → AsksFront names mid new → AsksFront (name ∷ names) old new
+more_front : (name : List ℕ) (names : Names) (old mid new : Option Names) → mid ≡ with_names (name ∷ []) old → AsksFront names mid new → AsksFront (name ∷ names) old new
 more_front name names old mid new first (k, e) = (suc k, e ∙ ap (with_names (take k names)) first ∙ one_more name (take k names) old)
 
-more : {T : Type 0} (name : List ℕ) (names : Names) (old mid new : Option Names) (r : Result T CommandFault) → mid ≡ with_name name old → Asks names mid new r → Asks (name ∷ names) old new r
+more : {T : Type 0} (name : List ℕ) (names : Names) (old mid new : Option Names) (r : Result T CommandFault) → mid ≡ with_names (name ∷ []) old → Asks names mid new r → Asks (name ∷ names) old new r
 more name names old mid new (Ok x) first e = e ∙ ap (with_names names) first ∙ one_more name names old
 more name names old mid new (Err fault.Store) first h = more_front name names old mid new first h
 more name names old mid new (Err fault.OutOfMemory) first h = more_front name names old mid new first h
@@ -56,19 +56,19 @@ pub asks_any : {T : Type 0} (files : Option Files) (names : Names) (old new : Op
 asks_any None names old new r h = (map.empty, h)
 asks_any (Some fs) names old new r h = h
 
-first_alone : (T : Type 0) (name : List ℕ) (names : Names) (old new : Option Names) (f : CommandFault) → IsFetchFault f → new ≡ with_name name old → Asks {T = T} (name ∷ names) old new (Err f)
+first_alone : (T : Type 0) (name : List ℕ) (names : Names) (old new : Option Names) (f : CommandFault) → IsFetchFault f → new ≡ with_names (name ∷ []) old → Asks {T = T} (name ∷ names) old new (Err f)
 first_alone T name names old new fault.Store is e = (1, e)
 first_alone T name names old new fault.OutOfMemory is e = (1, e)
 first_alone T name names old new (fault.Refused reply) is e = absurd is
 
 -- the job, which could not be fetched
-pub asks_job : (T : Type 0) (files : Option Files) (name : List ℕ) (image : Option (List ℕ)) (old new : Option Names) (f : CommandFault) → IsFetchFault f → new ≡ with_name name old
+pub asks_job : (T : Type 0) (files : Option Files) (name : List ℕ) (image : Option (List ℕ)) (old new : Option Names) (f : CommandFault) → IsFetchFault f → new ≡ with_names (name ∷ []) old
     → Over files (λ fs. Asks {T = T} (asked_names fs name image) old new (Err f))
 asks_job T None name image old new f is e = (map.empty, first_alone T name _ old new f is e)
 asks_job T (Some fs) name image old new f is e = first_alone T name _ old new f is e
 
 -- the job, and then what it asks for
-pub asks_after : {T : Type 0} (files : Option Files) (name text seen : List ℕ) (image : Option (List ℕ)) (old mid new : Option Names) (r : Result T CommandFault) → mid ≡ with_name name old
+pub asks_after : {T : Type 0} (files : Option Files) (name text seen : List ℕ) (image : Option (List ℕ)) (old mid new : Option Names) (r : Result T CommandFault) → mid ≡ with_names (name ∷ []) old
     → IfSome files (λ fs. file_at fs name ≡ Some text) → seen ≡ text → Asks (job_names image (job_of seen)) mid new r → Over files (λ fs. Asks (asked_names fs name image) old new r)
 asks_after None name text seen image old mid new r first there same h =
     (only name text, rw (only_is_there name text) (more name (job_names image (job_of text)) old mid new r first (subst (λ (s : List ℕ). Asks (job_names image (job_of s)) mid new r) same h)))

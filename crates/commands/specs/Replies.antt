@@ -1,9 +1,8 @@
 -- What the top calls promise.
 use Rattle.std.specs.Prelude.{◌≡◌, ◌≤◌, ℕ, ◌⊎◌, List, Option, Some, None}
 use Rattle.command_line.specs.declared.tasks.Command.{Command}
-use Rattle.command_replies.specs.Steps.{AsksFront, with_names}
 use Rattle.command_replies.specs.Delivery.{store_line, usage_line}
-use Rattle.ports.specs.Files.{Files}
+use Rattle.ports.specs.Files.{AsksFront, Files, with_names}
 use Rattle.commands.specs.Commands.{CommandLeaves, CommandSays, command_names}
 use Rattle.commands.specs.Untold.{UntoldSays}
 

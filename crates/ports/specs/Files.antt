@@ -1,5 +1,5 @@
 -- What a store holds, which names it was asked for, and how a call changes both.
-use Rattle.std.specs.Prelude.{◌≡◌, ℕ, List, [], ◌∷◌, ◌++◌, Option, None, Some, IfSome, Result, Ok, Err, take}
+use Rattle.std.specs.Prelude.{◌≡◌, ℕ, List, ◌++◌, Option, None, Some, IfSome, Result, Ok, Err, take}
 use Rattle.std.specs.Option.{option_map}
 use Rattle.std.specs.Ordering.{nat_cmp}
 use Rattle.std.specs.Cmp.Lexicographic.{slice_cmp}
@@ -30,16 +30,16 @@ with_file name bytes = option_map (λ files. map.insert files name bytes)
 abbrev pub untold_names : Option (List (List ℕ))
 untold_names = None
 
--- the names asked for, and one more
-abbrev pub with_name : List ℕ → Option (List (List ℕ)) → Option (List (List ℕ))
-with_name name = option_map (λ names. names ++ name ∷ [])
-
 -- the names asked for, and these
 abbrev pub with_names : List (List ℕ) → Option (List (List ℕ)) → Option (List (List ℕ))
 with_names names = option_map (λ before. before ++ names)
+
+-- a prefix of these names is asked for
+abbrev pub AsksFront : List (List ℕ) → Option (List (List ℕ)) → Option (List (List ℕ)) → Type 0
+AsksFront names old new = (k : ℕ) × (new ≡ with_names (take k names) old)
 
 -- all of these names if they were fetched, else a prefix of them
 abbrev pub Fetches : {T : Type 0} → List (List ℕ) → Option (List (List ℕ)) → Option (List (List ℕ))
     → Result T FetchFault → Type 0
 Fetches names old new (Ok x) = new ≡ with_names names old
-Fetches names old new (Err fault) = (k : ℕ) × (new ≡ with_names (take k names) old)
+Fetches names old new (Err fault) = AsksFront names old new

@@ -1,10 +1,10 @@
 //! Files by name.
-ghost use Rattle.std.specs.Prelude.{◌≡◌, ℕ, List, ◌++◌, length, take};
+ghost use Rattle.std.specs.Prelude.{◌≡◌, ℕ, List, [], ◌∷◌, ◌++◌, length, take};
 ghost use Rattle.std.specs.Prelude.{Option, IsErr, OnOk, OnErr, IfOk, IfSome, MatchOption};
 ghost use Rattle.std.specs.List.{All, AllZip};
 ghost use Rattle.ports.specs.Claims.{Brings, IsFileOf, IsFor, IsFresh, IsRead, fewer, more, texts};
 ghost use Rattle.ports.specs.Counts.{FetchCounts, PutCounts};
-ghost use Rattle.ports.specs.Files.{Files, file_at, with_file, with_name, with_names};
+ghost use Rattle.ports.specs.Files.{Files, file_at, with_file, with_names};
 ghost use Rattle.file_bytes.specs.Pieces.{whole};
 
 use crate::{Claim, FetchFault, PutFault};
@@ -44,7 +44,7 @@ pub trait Store: Sync {
         ensures appends { take (length into.old.items) into.new.items ≡ into.old.items }
         ensures kept { OnErr result (into.new.items ≡ into.old.items) }
         ensures cause { FetchCounts (faults self.old) (faults self.new) result }
-        ensures asked { asked self.new ≡ with_name name.now (asked self.old) }
+        ensures asked { asked self.new ≡ with_names (name.now ∷ []) (asked self.old) }
         ensures out { out self.new ≡ out self.old };
 
     /// Asks for the files of these names: gives out a claim to each, in their order, or none.

@@ -1,10 +1,10 @@
 //! The host's file system as a store.
-ghost use Rattle.std.specs.Prelude.{◌≡◌, ◌≢◌, ◌+◌, ◌-◌, ◌++◌, ◌≤◌, length, take};
+ghost use Rattle.std.specs.Prelude.{◌≡◌, ◌≢◌, ◌+◌, ◌-◌, [], ◌∷◌, ◌++◌, ◌≤◌, length, take};
 ghost use Rattle.std.specs.Prelude.{IsErr, IsErrOf, OnOk, OnErr, IfOk, IfSome, MatchOption};
 ghost use Rattle.std.specs.List.{All, AllZip};
 ghost use Rattle.ports.specs.Claims.{Brings, IsFileOf, IsFresh, IsRead, Settles, fewer, never, untold_count};
 ghost use Rattle.ports.specs.Counts.{counted, Counted, FetchCounts, PutCounts, faults_after_fetch, faults_after_put};
-ghost use Rattle.ports.specs.Files.{file_at, with_file, with_name, IsFile};
+ghost use Rattle.ports.specs.Files.{file_at, with_file, with_names, IsFile};
 ghost use Rattle.file_bytes.specs.Pieces.{whole, EachFits};
 
 use crate::claims::claims_to;
@@ -143,7 +143,7 @@ impl<'a, R: Files + Sync> Store for HostStore<'a, R> {
         ensures appends { take (length into.old.items) into.new.items ≡ into.old.items }
         ensures kept { OnErr result (into.new.items ≡ into.old.items) }
         ensures cause { FetchCounts self.old self.new result }
-        ensures asked { untold_names ≡ with_name name.now untold_names }
+        ensures asked { untold_names ≡ with_names (name.now ∷ []) untold_names }
         ensures out { untold_count ≡ untold_count }
 
         ensures fits { OnOk result (length into.new.items ≤ length into.old.items + LARGEST_FILE) }

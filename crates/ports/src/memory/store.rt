@@ -1,5 +1,5 @@
 //! Files in memory.
-ghost use Rattle.std.specs.Prelude.{◌≡◌, ◌≢◌, ◌-◌, ◌⊎◌, ◌↔◌, ◌++◌, length, take};
+ghost use Rattle.std.specs.Prelude.{◌≡◌, ◌≢◌, ◌-◌, ◌⊎◌, ◌↔◌, [], ◌∷◌, ◌++◌, length, take};
 ghost use Rattle.std.specs.Prelude.{None, Some, IsErr, OnOk, OnErr, IsErrOf, IfOk, IfSome, MatchOption};
 ghost use Rattle.std.specs.Option.{option_copied};
 ghost use Rattle.std.specs.List.{All, AllZip};
@@ -7,7 +7,7 @@ ghost use Rattle.ports.specs.Claims.{Brings, IsFileOf, IsFor, IsFresh, IsRead, S
 ghost use Rattle.ports.specs.Claims.{untold_count};
 ghost use Rattle.std.specs.FinMap as map;
 ghost use Rattle.ports.specs.Counts.{FetchCounts, PutCounts, faults_after_fetch, faults_after_put};
-ghost use Rattle.ports.specs.Files.{file_at, with_file, with_name, with_names, IsFile};
+ghost use Rattle.ports.specs.Files.{file_at, with_file, with_names, IsFile};
 ghost use Rattle.file_bytes.specs.Pieces.{whole};
 
 use super::plan::FaultPlan;
@@ -139,7 +139,7 @@ impl Store for MemoryStore {
         ensures appends { take (length into.old.items) into.new.items ≡ into.old.items }
         ensures kept { OnErr result (into.new.items ≡ into.old.items) }
         ensures cause { FetchCounts self.old.faults self.new.faults result }
-        ensures asked { untold_names ≡ with_name name.now untold_names }
+        ensures asked { untold_names ≡ with_names (name.now ∷ []) untold_names }
         ensures out { untold_count ≡ untold_count }
 
         ensures fails { IsErrOf result FetchFault.Failed ↔ ((self.old.fails_in ≡ 1)
