@@ -1,37 +1,27 @@
 -- The images of a job are linked together.
-use Rattle.std.proofs.Common.{◌≡◌, ◌∙◌, Bool, true, false, not, List, [], ◌∷◌, filter, map, refl, ap}
+use Rattle.std.proofs.Common.{◌≡◌, Bool, true, false, not, List, [], ◌∷◌, filter, map, refl, ap}
 use Rattle.std.specs.Prelude.{cond, slice_index_or}
 use Rattle.std.specs.List.{All}
 use Rattle.std.proofs.lemmas.List.Elements.{All-map}
 use Rattle.link_core.specs.Faults.{Links}
-use Rattle.link_faults.specs.declared.image_kind.ImageKind.{ImageKind}
-use Rattle.link_faults.specs.declared.image_kind.ImageKind.TheVariants.{Exe, Pie, Start, Late}
 use Rattle.link_needs.specs.Given.{IsGiven}
 use Rattle.link_needs.specs.Linking.{Linking}
 use Rattle.tls_symbols.specs.Bindings.{exported_names}
 use Rattle.loaded_modules.specs.Images.{is_late}
 use Rattle.job_link.specs.Given.{Given}
-use Rattle.job_link.specs.Linked.{AllLink, exports_of, is_startup, link_in}
+use Rattle.job_link.specs.Linked.{AllLink, exports_of, link_in}
 use Rattle.linked_modules.specs.Together.{AreTogether, exports_among}
-
-startup_is : (kind : ImageKind) → is_startup kind ≡ not (is_late kind)
-startup_is Exe = refl
-startup_is Pie = refl
-startup_is Start = refl
-startup_is Late = refl
 
 module _ (images : List Given) (relax : Bool) where
   same_from : (gs : List Given)
-      → map (λ (g : Given). exported_names g.objects) (filter (λ (g : Given). is_startup g.kind) gs)
+      → map (λ (g : Given). exported_names g.objects) (filter (λ (g : Given). not (is_late g.kind)) gs)
       ≡ exports_among (map (link_in images relax) gs)
   unfolding link_in
   same_from [] = refl
-  same_from (g ∷ gs) =
-      ap (λ t. map (λ (x : Given). exported_names x.objects) (cond t (g ∷ kept) kept)) (startup_is g.kind)
-      ∙ of_late (not (is_late g.kind)) (same_from gs)
+  same_from (g ∷ gs) = of_late (not (is_late g.kind)) (same_from gs)
     where
       kept : List Given
-      kept = filter (λ (x : Given). is_startup x.kind) gs
+      kept = filter (λ (x : Given). not (is_late x.kind)) gs
 
       links : List Linking
       links = filter (λ (l : Linking). not (is_late l.kind)) (map (link_in images relax) gs)

@@ -2,7 +2,7 @@
 use Rattle.std.proofs.Common.{◌≡◌, ◌∙◌, ◌+◌, ◌<◌, ◌≤◌, inl, inr, ℕ, Bool, true, false, cond, List, [], ◌∷◌, ◌++◌}
 use Rattle.std.proofs.Common.{Some}
 use Rattle.std.proofs.Common.{filter, map, refl, sym, ap, subst, append_assoc, length, take, drop, get_or, arith}
-use Rattle.std.specs.Prelude.{if◌then◌else◌, slice_get, slice_index_or}
+use Rattle.std.specs.Prelude.{if◌then◌else◌, not, slice_get, slice_index_or}
 use Rattle.std.specs.Global.{Vec}
 use Rattle.std.proofs.lemmas.List.{map-append, take_more}
 use Rattle.std.proofs.lemmas.Option.{slice_get-get_or}
@@ -10,12 +10,13 @@ use Rattle.link_core.specs.Faults.{IsLinkFault, Links}
 use Rattle.link_needs.specs.Linking.{link_of, Linking}
 use Rattle.link_faults.specs.declared.fault.LinkFault.{LinkFault}
 use Rattle.link_faults.specs.declared.image_kind.ImageKind.{ImageKind}
+use Rattle.link_faults.specs.ImageKinds.{is_late}
 use Rattle.sequence_forms.specs.declared.places.Site.{Site}
 use Rattle.sequence_match.specs.Faults.{AreSites}
 use Rattle.tls_symbols.specs.Bindings.{exported_names}
 use Rattle.job_link.specs.Beside.{link_beside}
 use Rattle.job_link.specs.Given.{Given, IsGiven}
-use Rattle.job_link.specs.Linked.{exports_of, is_startup, link_in, AllLink, IsFirstUnlinked}
+use Rattle.job_link.specs.Linked.{exports_of, link_in, AllLink, IsFirstUnlinked}
 use Rattle.job_link.proofs.Pushed.{below_or_at}
 
 -- the link that code makes of an image
@@ -58,13 +59,13 @@ beside images startup relax g e =
 -- an image first
 pub exports-cons : (g : Given) (images : List Given)
     → exports_of (g ∷ images)
-    ≡ (if is_startup g.kind then exported_names g.objects ∷ exports_of images else exports_of images)
+    ≡ (if not (is_late g.kind) then exported_names g.objects ∷ exports_of images else exports_of images)
 unfolding exports_of
 exports-cons g images =
-    elim (is_startup g.kind) as (λ b.
+    elim (not (is_late g.kind)) as (λ b.
     map (λ (g : Given). exported_names g.objects)
-    (cond b (g ∷ filter (λ (g : Given). is_startup g.kind) images)
-    (filter (λ (g : Given). is_startup g.kind) images))
+    (cond b (g ∷ filter (λ (g : Given). not (is_late g.kind)) images)
+    (filter (λ (g : Given). not (is_late g.kind)) images))
     ≡ (if b then exported_names g.objects ∷ exports_of images else exports_of images)) [ true ↦ refl | false ↦ refl ]
 
 -- no image
@@ -75,7 +76,7 @@ exports-nil = refl
 -- what is left to export, after an image
 module _ (seen : List (List (List ℕ))) (images : List Given) (i : ℕ) (g : Given)
     (rest : drop i images ≡ g ∷ drop (i + 1) images) where
-  pub exports_one : is_startup g.kind ≡ true
+  pub exports_one : not (is_late g.kind) ≡ true
       → (seen ++ exported_names g.objects ∷ []) ++ exports_of (drop (i + 1) images) ≡ seen ++ exports_of (drop i images)
   exports_one e =
       append_assoc seen (exported_names g.objects ∷ []) (exports_of (drop (i + 1) images))
@@ -83,7 +84,7 @@ module _ (seen : List (List (List ℕ))) (images : List Given) (i : ℕ) (g : Gi
       (drop (i + 1) images))) (sym e)
       ∙ ap (λ r. seen ++ r) (sym (exports-cons g (drop (i + 1) images)) ∙ ap exports_of (sym rest))
 
-  pub exports_none : is_startup g.kind ≡ false
+  pub exports_none : not (is_late g.kind) ≡ false
       → seen ++ exports_of (drop (i + 1) images) ≡ seen ++ exports_of (drop i images)
   exports_none e =
       ap (λ b. seen ++ (if b then exported_names g.objects ∷ exports_of (drop (i + 1) images) else exports_of

@@ -1,14 +1,15 @@
 -- What holds of the links of a job's images.
-use Rattle.std.proofs.Common.{◌≡◌, ◌≤◌, Bool, true, false, cond, List, [], ◌∷◌, length, map, refl, ap, arith}
+use Rattle.std.proofs.Common.{◌≡◌, ◌≤◌, Bool, true, false, not, cond, List, [], ◌∷◌, length, map, refl, ap, arith}
 use Rattle.std.specs.Prelude.{filter}
 use Rattle.std.proofs.lemmas.List.{length-map}
 use Rattle.std.proofs.lemmas.List.Elements.{All-weaker}
 use Rattle.elf_object.specs.Faults.{IsObject}
+use Rattle.link_faults.specs.ImageKinds.{is_late}
 use Rattle.link_needs.specs.Given.{IsGiven as IsGivenLink}
 use Rattle.link_needs.specs.Linking.{Linking}
 use Rattle.tls_symbols.specs.Bindings.{exported_names}
 use Rattle.job_link.specs.Given.{Given, IsGiven, IsSound}
-use Rattle.job_link.specs.Linked.{exports_of, is_startup, link_in}
+use Rattle.job_link.specs.Linked.{exports_of, link_in}
 
 -- ** what the startup images export
 
@@ -25,8 +26,9 @@ fewer t (x ∷ xs) = kept (t x) (fewer t xs)
 pub exports_few : (images : List Given) → length (exports_of images) ≤ length images
 unfolding exports_of
 exports_few images =
-    let all = length-map (filter (λ (g : Given). is_startup g.kind) images) (λ (g : Given). exported_names g.objects) in
-    let some = fewer (λ (g : Given). is_startup g.kind) images in
+    let all =
+    length-map (filter (λ (g : Given). not (is_late g.kind)) images) (λ (g : Given). exported_names g.objects) in
+    let some = fewer (λ (g : Given). not (is_late g.kind)) images in
     omega (arith, all, some)
 
 -- ** the links

@@ -1,24 +1,17 @@
 -- The images of a job, linked in image order, and the first that does not link.
-use Rattle.std.specs.Prelude.{◌≡◌, ◌<◌, ℕ, Bool, true, false, List, Some, filter, map, slice_get}
+use Rattle.std.specs.Prelude.{◌≡◌, ◌<◌, ℕ, Bool, not, List, Some, filter, map, slice_get}
 use Rattle.std.specs.List.{All}
 use Rattle.link_core.specs.Faults.{IsLinkFault, Links}
 use Rattle.link_needs.specs.Linking.{Linking}
 use Rattle.link_faults.specs.declared.fault.LinkFault.{LinkFault}
-use Rattle.link_faults.specs.declared.image_kind.ImageKind.{ImageKind}
-use Rattle.link_faults.specs.declared.image_kind.ImageKind.TheVariants.{Exe, Pie, Start, Late}
+use Rattle.link_faults.specs.ImageKinds.{is_late}
 use Rattle.tls_symbols.specs.Bindings.{exported_names}
 use Rattle.job_link.specs.Given.{Given}
 
--- whether an image is the program, or a module that starts with it
-abbrev pub is_startup : ImageKind → Bool
-is_startup Exe = true
-is_startup Pie = true
-is_startup Start = true
-is_startup Late = false
-
--- what each startup image exports
+-- what each startup image exports: the program, and the modules that start with it
 unfoldable pub exports_of : List Given → List (List (List ℕ))
-exports_of images = map (λ (g : Given). exported_names g.objects) (filter (λ (g : Given). is_startup g.kind) images)
+exports_of images =
+    map (λ (g : Given). exported_names g.objects) (filter (λ (g : Given). not (is_late g.kind)) images)
 
 -- the link of an image of the job
 unfoldable pub link_in : List Given → Bool → Given → Linking

@@ -2,10 +2,11 @@
 //!
 //! A caller that needs what a job means, or one of its images, needs no file of the others.
 
-ghost use Rattle.std.specs.Prelude.{◌≡◌, ◌≤◌, ◌<◌, ◌-◌, ◌^◌, All, IfErr, IfOk, OnOk, length, map};
+ghost use Rattle.std.specs.Prelude.{◌≡◌, ◌≤◌, ◌<◌, ◌-◌, ◌^◌, All, IfErr, IfOk, OnOk, length, map, not};
 ghost use Rattle.link_core.specs.Faults.{IsLinkFault, IsSound, Links};
 ghost use Rattle.link_core.specs.Images.{linked_of};
-ghost use Rattle.job_link.specs.Linked.{exports_of, is_startup as starts, link_in, AllLink, IsFirstUnlinked};
+ghost use Rattle.link_faults.specs.ImageKinds.{is_late};
+ghost use Rattle.job_link.specs.Linked.{exports_of, link_in, AllLink, IsFirstUnlinked};
 ghost use Rattle.job_link.specs.Beside.{link_beside};
 
 use crate::images::ImageObjects;
@@ -26,7 +27,7 @@ pub struct ImageRefusal {
 
 /// Whether an image is the program, or a module that starts with it.
 fn is_startup(kind: ImageKind) -> bool
-    ensures { result ≡ starts kind }
+    ensures { result ≡ not (is_late kind) }
 {
     match kind {
         ImageKind::Exe | ImageKind::Pie | ImageKind::Start => true,
