@@ -5,8 +5,8 @@
 use Rattle.std.specs.Prelude.{ℕ, List, [], ◌∷◌, take, Option, Some, None}
 use Rattle.image_file.specs.declared.part.TlsPart.{TlsPart}
 use Rattle.image_file.specs.Spelled.{Spelled}
-pub use Rattle.job_text.specs.LateImages.{is_late}
 use Rattle.job_text.specs.Numbering.{at_number}
+pub use Rattle.link_faults.specs.ImageKinds.{is_late}
 use Rattle.link_faults.specs.declared.image_kind.ImageKind.{ImageKind}
 use Rattle.module_table.specs.declared.modules.ImageInfo.{ImageInfo}
 use Rattle.module_table.specs.Laws.{startup_end}

@@ -5,8 +5,7 @@ use Rattle.std.specs.List.{list_any}
 use Rattle.guest_machine.specs.Ranges.{Range}
 use Rattle.job_meaning.specs.declared.values.Byte.{Byte}
 use Rattle.job_meaning.specs.declared.values.Byte.TheVariants.{Value}
-use Rattle.job_text.specs.LateImages.{is_late}
-use Rattle.link_faults.specs.ImageKinds.{is_module}
+use Rattle.link_faults.specs.ImageKinds.{is_late, is_module}
 use Rattle.link_needs.specs.Linking.{Linking, layout}
 use Rattle.loaded_modules.specs.declared.instance.Instance.{Instance}
 use Rattle.module_table.specs.declared.modules.ImageInfo.{ImageInfo}
