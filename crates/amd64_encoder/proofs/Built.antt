@@ -1,5 +1,6 @@
 -- A form's bytes are the parts of a spelling.
-use Rattle.std.proofs.Common.{◌≡◌, ℕ, ◌/◌, ◌%◌, ◌≤◌, Bool, true, false, eqb, List, [], ◌∷◌, ◌++◌, length, Option, Some, None, refl, sym, ap, subst, ◌∙◌, arith, length-append}
+use Rattle.std.proofs.Common.{◌≡◌, ℕ, ◌/◌, ◌%◌, ◌≤◌, Bool, true, false, eqb, List, [], ◌∷◌, ◌++◌, length, Option, Some}
+use Rattle.std.proofs.Common.{None, refl, sym, ap, subst, ◌∙◌, arith, length-append}
 use Rattle.std.specs.Prelude.{slice_index, IfSome}
 use Rattle.std.specs.Option.{option_map, option_to_list}
 use Rattle.std.specs.List.{list_all}
@@ -15,7 +16,8 @@ use Rattle.amd64_subset.specs.Prefix.{rex_of, no_bits, bits_of}
 use Rattle.amd64_subset.specs.Row.{takes, action_of}
 use Rattle.amd64_subset.specs.Selectors.{allowed}
 use Rattle.amd64_subset.specs.Spelling.{AreMarks, prefixes_of, named, HasBody, HasParts}
-use Rattle.amd64_encoder.specs.Writing.{has_segment, rex_bits, rex_byte, when, rex_in, mark_in, selectors_in, selector_bytes, opcode_bytes, number_bytes, form_bytes}
+use Rattle.amd64_encoder.specs.Writing.{has_segment, rex_bits, rex_byte, when, rex_in, mark_in, selectors_in}
+use Rattle.amd64_encoder.specs.Writing.{selector_bytes, opcode_bytes, number_bytes, form_bytes}
 use Rattle.amd64_encoder.specs.Canonical.{AreAmong, bits_read, AsksForRex, HasNoRedundant}
 use Rattle.amd64_encoder.proofs.Digits.{bits, rex_back, rex_is_rex, is_needed, needed_bits}
 
@@ -25,28 +27,44 @@ segment_in other = false
 
 -- the prefixes of a form
 abbrev pub prefixes_in : Form → Prefixes
-prefixes_in form = record { thread_pointer = segment_in form.fields; operand_size = false; code_segment = false; rex = option_map rex_of (rex_in form) }
+prefixes_in form = record {
+  thread_pointer = segment_in form.fields;
+  operand_size = false;
+  code_segment = false;
+  rex = option_map rex_of (rex_in form);
+}
 
 pub bits_again : (form : Form) → bits_of (prefixes_in form) ≡ rex_bits form
 unfolding rex_in
-bits_again form = needed_bits form.low_byte (rex_bits form).wide (rex_bits form).register (rex_bits form).index (rex_bits form).base
+bits_again form = needed_bits form.low_byte (rex_bits form).wide (rex_bits form).register (rex_bits form).index
+    (rex_bits form).base
 
 -- the bytes of the prefixes before REX
 pub record AreIts (fields : Fields) (marks : List ℕ) : Type 0 where
   pub are_marks : AreMarks marks
   pub only_fs : list_all (λ byte. eqb byte 0x64) marks ≡ true
-  pub is : (rex : Option ℕ) → prefixes_of marks rex ≡ record { thread_pointer = segment_in fields; operand_size = false; code_segment = false; rex = option_map rex_of rex }
+  pub is : (rex : Option ℕ)
+      → prefixes_of marks rex
+      ≡ record {
+        thread_pointer = segment_in fields;
+        operand_size = false;
+        code_segment = false;
+        rex = option_map rex_of rex;
+      }
   pub few : length marks ≤ 1
 
 pub marks_are : (fields : Fields) → AreIts fields (option_to_list (mark_in fields))
 unfolding mark_in
 marks_are fields.Bare = record { are_marks = (refl, omega arith); only_fs = refl; is = λ rex. refl; few = omega arith }
-marks_are (fields.Low r) = record { are_marks = (refl, omega arith); only_fs = refl; is = λ rex. refl; few = omega arith }
+marks_are (fields.Low r) =
+    record { are_marks = (refl, omega arith); only_fs = refl; is = λ rex. refl; few = omega arith }
 marks_are (fields.Selected f o) = go (has_segment o) refl
   where
     go : (b : Bool) → has_segment o ≡ b → AreIts (fields.Selected f o) (option_to_list (when (has_segment o) 0x64))
-    go true e = rw (e) (record { are_marks = (refl, omega arith); only_fs = refl; is = λ rex. rw (e) refl; few = omega arith })
-    go false e = rw (e) (record { are_marks = (refl, omega arith); only_fs = refl; is = λ rex. rw (e) refl; few = omega arith })
+    go true e = rw (e) (record
+        { are_marks = (refl, omega arith); only_fs = refl; is = λ rex. rw (e) refl; few = omega arith })
+    go false e = rw (e) (record
+        { are_marks = (refl, omega arith); only_fs = refl; is = λ rex. rw (e) refl; few = omega arith })
 
 -- A form's row, and what stands behind the opcode.
 pub record IsBuilt (form : Form) (d : ℕ) (instr : Instr) : Type 0 where
@@ -60,7 +78,9 @@ pub record IsBuilt (form : Form) (d : ℕ) (instr : Instr) : Type 0 where
   pub instr-is : body.instr ≡ instr
   pub among : AreAmong (rex_bits form) (bits_read row rest)
   pub asks : form.low_byte ≡ true → rex_bits form ≡ no_bits → IfSome (action_of row ((slice_index rest 0 / 8) % 8))
-      (λ action. allowed action (record { thread_pointer = segment_in form.fields; operand_size = false; code_segment = false; rex = None }) (slice_index rest 0) ≡ false)
+      (λ action. allowed action
+      (record { thread_pointer = segment_in form.fields; operand_size = false; code_segment = false; rex = None })
+      (slice_index rest 0) ≡ false)
   pub short : length rest ≤ 11
 
 -- ---- the whole
@@ -74,8 +94,10 @@ pub record HasSpelling (form : Form) (d : ℕ) (instr : Instr) : Type 0 where
   pub short : length (form_bytes form d) ≤ 15
   pub row-is : named (rex_bits form) (opcode_bytes form) ≡ Some parts.row
 
-rex_needed : (low w r x b : Bool) (all : Rex) (Asks : Type 0) → AreAmong (bits w r x b) all → (low ≡ true → bits w r x b ≡ no_bits → Asks)
-    → IfSome (when (is_needed low w r x b) (rex_byte (bits w r x b))) (λ byte. AreAmong (rex_of byte) all × (rex_of byte ≡ no_bits → Asks))
+rex_needed : (low w r x b : Bool) (all : Rex) (Asks : Type 0) → AreAmong (bits w r x b) all
+    → (low ≡ true → bits w r x b ≡ no_bits → Asks)
+    → IfSome (when (is_needed low w r x b) (rex_byte (bits w r x b)))
+    (λ byte. AreAmong (rex_of byte) all × (rex_of byte ≡ no_bits → Asks))
 rex_needed low w r x b all Asks among asks = go (is_needed low w r x b) refl
   where
     low_is : (l : Bool) → is_needed l w r x b ≡ true → bits w r x b ≡ no_bits → l ≡ true
@@ -87,9 +109,15 @@ rex_needed low w r x b all Asks among asks = go (is_needed low w r x b) refl
         let eb = ap (λ (y : Rex). y.base) n in
         absurd (let f : is_needed false w r x b ≡ false = rw (ew, er, ex, eb) refl in cc)
 
-    go : (c : Bool) → is_needed low w r x b ≡ c → IfSome (when c (rex_byte (bits w r x b))) (λ byte. AreAmong (rex_of byte) all × (rex_of byte ≡ no_bits → Asks))
+    go : (c : Bool) → is_needed low w r x b ≡ c
+        → IfSome (when c (rex_byte (bits w r x b)))
+        (λ byte. AreAmong (rex_of byte) all × (rex_of byte ≡ no_bits → Asks))
     go false e = tt
-    go true e = (subst (λ (y : Rex). AreAmong y all) (sym (rex_back w r x b)) among, λ n. let same = sym (rex_back w r x b) ∙ n in asks (low_is low e same) same)
+    go true e = (
+      subst (λ (y : Rex). AreAmong y all) (sym (rex_back w r x b)) among,
+      λ n. let same =
+          sym (rex_back w r x b) ∙ n in asks (low_is low e same) same,
+    )
 
 rex_some : (c w r x b : Bool) → IfSome (when c (rex_byte (bits w r x b))) (λ byte. byte / 16 ≡ 4)
 rex_some true w r x b = rex_is_rex w r x b
@@ -126,7 +154,8 @@ spelling_from form d instr built =
       instr-is = built.instr-is;
       no_redundant = record {
         marks = its.only_fs;
-        rex = rex_needed form.low_byte all.wide all.register all.index all.base (bits_read built.row built.rest) (AsksForRex marks built.row built.rest) built.among
+        rex = rex_needed form.low_byte all.wide all.register all.index all.base (bits_read built.row built.rest)
+            (AsksForRex marks built.row built.rest) built.among
             (λ low n. subst (λ (q : Prefixes). IfSome (action_of built.row ((slice_index built.rest 0 / 8) % 8))
             (λ action. allowed action q (slice_index built.rest 0) ≡ false)) (sym none) (built.asks low n));
       };
@@ -135,7 +164,8 @@ spelling_from form d instr built =
           let b = when_few (is_needed form.low_byte all.wide all.register all.index all.base) (rex_byte all) in
           let c = when_few form.escaped 0x0f in
           let r = built.short in
-          let s = ap (λ (t : List ℕ). length (marks ++ (option_to_list (rex_in form) ++ (opcode_bytes form ++ t)))) built.rest-is in
+          let s = ap (λ (t : List ℕ). length
+          (marks ++ (option_to_list (rex_in form) ++ (opcode_bytes form ++ t)))) built.rest-is in
           let l1 = length-append marks (option_to_list (rex_in form) ++ (opcode_bytes form ++ built.rest)) in
           let l2 = length-append (option_to_list (rex_in form)) (opcode_bytes form ++ built.rest) in
           let l3 = length-append (opcode_bytes form) built.rest in

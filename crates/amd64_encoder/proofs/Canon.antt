@@ -1,5 +1,6 @@
 -- Every spelling against the form of its instruction, and the spelling that is written.
-use Rattle.std.proofs.Common.{◌≡◌, ℕ, ◌+◌, ◌/◌, ◌%◌, ◌≤◌, Bool, true, false, cond, eqb, List, [], ◌∷◌, ◌++◌, length, Option, Some, None, refl, sym, ap, subst, arith, inl, inr, ◌⊎◌}
+use Rattle.std.proofs.Common.{◌≡◌, ℕ, ◌+◌, ◌/◌, ◌%◌, ◌≤◌, Bool, true, false, cond, eqb, List, [], ◌∷◌, ◌++◌, length}
+use Rattle.std.proofs.Common.{Option, Some, None, refl, sym, ap, subst, arith, inl, inr, ◌⊎◌}
 use Rattle.std.specs.Prelude.{is_some, slice_index}
 use Rattle.std.specs.Option.{option_map, option_to_list}
 use Rattle.amd64_subset.specs.declared.instr.Arithmetic.{Arithmetic}
@@ -39,8 +40,10 @@ use Rattle.amd64_subset.proofs.Steps.{chosen}
 use Rattle.amd64_encoder.proofs.Digits.{long-lt}
 use Rattle.amd64_encoder.proofs.Costs.{signed_byte_fits, signed_long_fits}
 use Rattle.amd64_encoder.proofs.Listed.{is_short, is_long, listed}
-use Rattle.amd64_encoder.proofs.Shortest.{BeatsIn, Around, Spelt, tail_of, operand-lt, fits_of, wide_of, opcode_size, register_beats}
-use Rattle.amd64_encoder.proofs.Groups.{move_to, compute_short, compute_to, shift_once, shift_to, target_to, padding_to, moved_long, moved_quad, computed_rax, called, jumped_short, jumped_long}
+use Rattle.amd64_encoder.proofs.Shortest.{BeatsIn, Around, Spelt, tail_of, operand-lt, fits_of, wide_of, opcode_size}
+use Rattle.amd64_encoder.proofs.Shortest.{register_beats}
+use Rattle.amd64_encoder.proofs.Groups.{move_to, compute_short, compute_to, shift_once, shift_to, target_to, padding_to}
+use Rattle.amd64_encoder.proofs.Groups.{moved_long, moved_quad, computed_rax, called, jumped_short, jumped_long}
 use Rattle.amd64_encoder.proofs.Groups.{jumped_if_short, jumped_if_long, alone_beats, nop_beats, branch_beats}
 use Rattle.amd64_encoder.proofs.Built.{spelling_from}
 use Rattle.amd64_encoder.proofs.Spelled.{made, built}
@@ -51,7 +54,8 @@ Beats instr r size = BeatsIn (form_of instr.operation instr.immediate) instr.dis
 
 -- which rows there are
 abbrev pub Listed : Rex → Row → ℕ → Type 0
-Listed rex r few = ((is_short rex r ≡ true) × (few ≡ 1)) ⊎ (((is_long r ≡ true) × (few ≡ 2)) ⊎ ((r ≡ row.EndBranch) × (few ≡ 4)))
+Listed rex r few = ((is_short rex r ≡ true) × (few ≡ 1))
+    ⊎ (((is_long r ≡ true) × (few ≡ 2)) ⊎ ((r ≡ row.EndBranch) × (few ≡ 4)))
 
 -- ---- /r
 
@@ -69,8 +73,10 @@ cond_none : (b : Bool) → ◌≡◌ {A = ℕ} (cond b 0 0) 0
 cond_none true = refl
 cond_none false = refl
 
-register_case : (a : Action) (p : Prefixes) (s : Selectors) (rex : Option ℕ) (marks few total : ℕ) (bytes : List ℕ) (body : Body) → Around p rex marks → is_some s.sib ≡ has_sib s.modrm
-    → body ≡ operand_body a p s size.Zero (record { displacement = signed_of (displacement_size s) bytes; immediate = 0 })
+register_case : (a : Action) (p : Prefixes) (s : Selectors) (rex : Option ℕ) (marks few total : ℕ) (bytes : List ℕ)
+    (body : Body) → Around p rex marks → is_some s.sib ≡ has_sib s.modrm
+    → body ≡ operand_body a p s size.Zero
+    (record { displacement = signed_of (displacement_size s) bytes; immediate = 0 })
     → allowed a p s.modrm ≡ true → IsSpellable body.instr → Listed (bits_of p) (row.Register a) few
     → marks + (length (option_to_list rex) + (few + ((1 + tail_of s) + 0))) ≤ total
     → Beats body.instr (row.Register a) total
@@ -87,12 +93,17 @@ register_case a p s rex marks few total bytes body h sib is allows ok way room =
 
     with_size : opcode_size a ≤ few → (is_short (bits_of p) (row.Register a) ≡ true) ⊎ (is_long (row.Register a) ≡ true)
         → IsOperation (operation_of a p s 0) (signed_of (displacement_size s) bytes) (cond (takes_immediate a) 0 0)
-        → BeatsIn (form_of (operation_of a p s 0) (cond (takes_immediate a) 0 0)) (signed_of (displacement_size s) bytes) (row.Register a) total
+        → BeatsIn (form_of (operation_of a p s 0) (cond (takes_immediate a) 0 0))
+        (signed_of (displacement_size s) bytes) (row.Register a) total
     with_size le one ok = let ok' = rw (cond_none (takes_immediate a)) at ok in
-        rw (cond_none (takes_immediate a)) (register_beats a p s rex marks bytes (signed_of (displacement_size s) bytes) total spelt allows ok' (omega arith) one)
+        rw (cond_none (takes_immediate a))
+        (register_beats a p s rex marks bytes (signed_of (displacement_size s) bytes) total spelt allows ok'
+        (omega arith) one)
 
-    go : Listed (bits_of p) (row.Register a) few → IsOperation (operation_of a p s 0) (signed_of (displacement_size s) bytes) (cond (takes_immediate a) 0 0)
-        → BeatsIn (form_of (operation_of a p s 0) (cond (takes_immediate a) 0 0)) (signed_of (displacement_size s) bytes) (row.Register a) total
+    go : Listed (bits_of p) (row.Register a) few
+        → IsOperation (operation_of a p s 0) (signed_of (displacement_size s) bytes) (cond (takes_immediate a) 0 0)
+        → BeatsIn (form_of (operation_of a p s 0) (cond (takes_immediate a) 0 0))
+        (signed_of (displacement_size s) bytes) (row.Register a) total
     go (inl e) ok = let n = e.1 in with_size (let t = size_short (bits_of p) a e.0 in omega arith) (inl e.0) ok
     go (inr (inl e)) ok = let n = e.1 in with_size (let t = size_most a in omega arith) (inr e.0) ok
     go (inr (inr e)) ok = absurd (let t = e.0 in cc)
@@ -103,102 +114,143 @@ pub some_is : {A : Type 0} (b : Bool) (x y : A) → cond b (Some x) None ≡ Som
 some_is true x y e = cc
 some_is false x y e = absurd cc
 
-pub mapped_is : {A : Type 0} (f : A → Action) (o : Option A) (y : Action) → option_map f o ≡ Some y → (x : A) × (f x ≡ y)
+pub mapped_is : {A : Type 0} (f : A → Action) (o : Option A) (y : Action) → option_map f o ≡ Some y
+    → (x : A) × (f x ≡ y)
 mapped_is f None y e = absurd cc
 mapped_is f (Some x) y e = (x, let t = e in cc)
 
 -- a spelling with ModRM whose action is known
 abbrev pub BodyIs : Action → Prefixes → Selectors → Size → List ℕ → List ℕ → Body → Type 0
-BodyIs a p s size bytes four body = body ≡ operand_body a p s size (record { displacement = signed_of (displacement_size s) bytes; immediate = signed_of size four })
+BodyIs a p s size bytes four body =
+    body ≡ operand_body a p s size
+    (record { displacement = signed_of (displacement_size s) bytes; immediate = signed_of size four })
 
-move_case : (p : Prefixes) (s : Selectors) (rex : Option ℕ) (marks total : ℕ) (bytes four : List ℕ) (body : Body) → Around p rex marks → is_some s.sib ≡ has_sib s.modrm
+move_case : (p : Prefixes) (s : Selectors) (rex : Option ℕ) (marks total : ℕ) (bytes four : List ℕ) (body : Body)
+    → Around p rex marks → is_some s.sib ≡ has_sib s.modrm
     → BodyIs (action.MoveImmediate) p s size.Four bytes four body → IsSpellable body.instr
-    → marks + (length (option_to_list rex) + (1 + ((1 + tail_of s) + 4))) ≤ total → Beats body.instr (row.Group group.Move size.Four) total
+    → marks + (length (option_to_list rex) + (1 + ((1 + tail_of s) + 4))) ≤ total
+    → Beats body.instr (row.Group group.Move size.Four) total
 unfolding operand_body operation_of form_of IsSpellable signed_of
 move_case p s rex marks total bytes four body h sib is ok room =
     let P : Body → Type 0 = λ b. IsSpellable b.instr → Beats b.instr (row.Group group.Move size.Four) total in
-    let spelt : Spelt p s rex marks bytes (signed_of (displacement_size s) bytes) = record { around = h; sib-is = sib; number = refl } in
-    subst P (sym is) (λ ok'. move_to (width_of p) (operand_in p s) (signed_of size.Four four) (signed_of (displacement_size s) bytes) rex marks
+    let spelt : Spelt p s rex marks bytes (signed_of (displacement_size s) bytes) =
+    record { around = h; sib-is = sib; number = refl } in
+    subst P (sym is) (λ ok'. move_to (width_of p) (operand_in p s) (signed_of size.Four four)
+    (signed_of (displacement_size s) bytes) rex marks
     (tail_of s) total (fits_of p s rex marks bytes (signed_of (displacement_size s) bytes) spelt
-    (operand-lt (operand_in p s) (signed_of (displacement_size s) bytes) ok'.0)) (wide_of p rex marks h) (signed_long_fits (from_le_bytes w32 four)) room) ok
+    (operand-lt (operand_in p s) (signed_of (displacement_size s) bytes) ok'.0)) (wide_of p rex marks h)
+    (signed_long_fits (from_le_bytes w32 four)) room) ok
 
-short_case : (a : Arithmetic) (p : Prefixes) (s : Selectors) (rex : Option ℕ) (marks total : ℕ) (bytes four : List ℕ) (body : Body) → Around p rex marks → is_some s.sib ≡ has_sib s.modrm
+short_case : (a : Arithmetic) (p : Prefixes) (s : Selectors) (rex : Option ℕ) (marks total : ℕ) (bytes four : List ℕ)
+    (body : Body) → Around p rex marks → is_some s.sib ≡ has_sib s.modrm
     → BodyIs (action.ComputeImmediate a) p s size.One bytes four body → IsSpellable body.instr
-    → marks + (length (option_to_list rex) + (1 + ((1 + tail_of s) + 1))) ≤ total → Beats body.instr (row.Group group.Arithmetic size.One) total
+    → marks + (length (option_to_list rex) + (1 + ((1 + tail_of s) + 1))) ≤ total
+    → Beats body.instr (row.Group group.Arithmetic size.One) total
 unfolding operand_body operation_of form_of IsSpellable signed_of
 short_case a p s rex marks total bytes four body h sib is ok room =
     let P : Body → Type 0 = λ b. IsSpellable b.instr → Beats b.instr (row.Group group.Arithmetic size.One) total in
-    let spelt : Spelt p s rex marks bytes (signed_of (displacement_size s) bytes) = record { around = h; sib-is = sib; number = refl } in
-    subst P (sym is) (λ ok'. compute_short a (width_of p) (operand_in p s) (signed_of size.One four) (signed_of (displacement_size s) bytes) rex marks
+    let spelt : Spelt p s rex marks bytes (signed_of (displacement_size s) bytes) =
+    record { around = h; sib-is = sib; number = refl } in
+    subst P (sym is) (λ ok'. compute_short a (width_of p) (operand_in p s) (signed_of size.One four)
+    (signed_of (displacement_size s) bytes) rex marks
     (tail_of s) total (fits_of p s rex marks bytes (signed_of (displacement_size s) bytes) spelt
     (operand-lt (operand_in p s) (signed_of (displacement_size s) bytes) ok'.0)) (wide_of p rex marks h)
     (signed_byte_fits (slice_index four 0) (long-lt (signed_of size.One four) ok'.1)) room) ok
 
-long_case : (a : Arithmetic) (p : Prefixes) (s : Selectors) (rex : Option ℕ) (marks total : ℕ) (bytes four : List ℕ) (body : Body) → Around p rex marks → is_some s.sib ≡ has_sib s.modrm
+long_case : (a : Arithmetic) (p : Prefixes) (s : Selectors) (rex : Option ℕ) (marks total : ℕ) (bytes four : List ℕ)
+    (body : Body) → Around p rex marks → is_some s.sib ≡ has_sib s.modrm
     → BodyIs (action.ComputeImmediate a) p s size.Four bytes four body → IsSpellable body.instr
-    → marks + (length (option_to_list rex) + (1 + ((1 + tail_of s) + 4))) ≤ total → Beats body.instr (row.Group group.Arithmetic size.Four) total
+    → marks + (length (option_to_list rex) + (1 + ((1 + tail_of s) + 4))) ≤ total
+    → Beats body.instr (row.Group group.Arithmetic size.Four) total
 unfolding operand_body operation_of form_of IsSpellable signed_of
 long_case a p s rex marks total bytes four body h sib is ok room =
     let P : Body → Type 0 = λ b. IsSpellable b.instr → Beats b.instr (row.Group group.Arithmetic size.Four) total in
-    let spelt : Spelt p s rex marks bytes (signed_of (displacement_size s) bytes) = record { around = h; sib-is = sib; number = refl } in
-    subst P (sym is) (λ ok'. compute_to a (width_of p) (operand_in p s) (signed_of size.Four four) (signed_of (displacement_size s) bytes) rex marks
+    let spelt : Spelt p s rex marks bytes (signed_of (displacement_size s) bytes) =
+    record { around = h; sib-is = sib; number = refl } in
+    subst P (sym is) (λ ok'. compute_to a (width_of p) (operand_in p s) (signed_of size.Four four)
+    (signed_of (displacement_size s) bytes) rex marks
     (tail_of s) total (fits_of p s rex marks bytes (signed_of (displacement_size s) bytes) spelt
     (operand-lt (operand_in p s) (signed_of (displacement_size s) bytes) ok'.0)) (wide_of p rex marks h) room) ok
 
-shift_case : (sh : Shift) (p : Prefixes) (s : Selectors) (rex : Option ℕ) (marks total : ℕ) (bytes four : List ℕ) (body : Body) → Around p rex marks → is_some s.sib ≡ has_sib s.modrm
+shift_case : (sh : Shift) (p : Prefixes) (s : Selectors) (rex : Option ℕ) (marks total : ℕ) (bytes four : List ℕ)
+    (body : Body) → Around p rex marks → is_some s.sib ≡ has_sib s.modrm
     → BodyIs (action.ShiftBy sh) p s size.One bytes four body → IsSpellable body.instr
-    → marks + (length (option_to_list rex) + (1 + ((1 + tail_of s) + 1))) ≤ total → Beats body.instr (row.Group group.Shift size.One) total
+    → marks + (length (option_to_list rex) + (1 + ((1 + tail_of s) + 1))) ≤ total
+    → Beats body.instr (row.Group group.Shift size.One) total
 unfolding operand_body operation_of form_of IsSpellable signed_of
 shift_case sh p s rex marks total bytes four body h sib is ok room =
     let P : Body → Type 0 = λ b. IsSpellable b.instr → Beats b.instr (row.Group group.Shift size.One) total in
-    let spelt : Spelt p s rex marks bytes (signed_of (displacement_size s) bytes) = record { around = h; sib-is = sib; number = refl } in
-    subst P (sym is) (λ ok'. shift_to sh (width_of p) (operand_in p s) (signed_of size.One four % 256) (signed_of (displacement_size s) bytes) rex marks
+    let spelt : Spelt p s rex marks bytes (signed_of (displacement_size s) bytes) =
+    record { around = h; sib-is = sib; number = refl } in
+    subst P (sym is) (λ ok'. shift_to sh (width_of p) (operand_in p s) (signed_of size.One four % 256)
+    (signed_of (displacement_size s) bytes) rex marks
     (tail_of s) total (fits_of p s rex marks bytes (signed_of (displacement_size s) bytes) spelt
     (operand-lt (operand_in p s) (signed_of (displacement_size s) bytes) ok'.0)) (wide_of p rex marks h) room) ok
 
-once_case : (sh : Shift) (p : Prefixes) (s : Selectors) (rex : Option ℕ) (marks total : ℕ) (bytes four : List ℕ) (body : Body) → Around p rex marks → is_some s.sib ≡ has_sib s.modrm
+once_case : (sh : Shift) (p : Prefixes) (s : Selectors) (rex : Option ℕ) (marks total : ℕ) (bytes four : List ℕ)
+    (body : Body) → Around p rex marks → is_some s.sib ≡ has_sib s.modrm
     → BodyIs (action.ShiftOnce sh) p s size.Zero bytes four body → IsSpellable body.instr
-    → marks + (length (option_to_list rex) + (1 + ((1 + tail_of s) + 0))) ≤ total → Beats body.instr (row.Group group.ShiftOnce size.Zero) total
+    → marks + (length (option_to_list rex) + (1 + ((1 + tail_of s) + 0))) ≤ total
+    → Beats body.instr (row.Group group.ShiftOnce size.Zero) total
 unfolding operand_body operation_of form_of IsSpellable signed_of
 once_case sh p s rex marks total bytes four body h sib is ok room =
     let P : Body → Type 0 = λ b. IsSpellable b.instr → Beats b.instr (row.Group group.ShiftOnce size.Zero) total in
-    let spelt : Spelt p s rex marks bytes (signed_of (displacement_size s) bytes) = record { around = h; sib-is = sib; number = refl } in
-    subst P (sym is) (λ ok'. shift_once sh (width_of p) (operand_in p s) (signed_of (displacement_size s) bytes) rex marks (tail_of s) total
-    (fits_of p s rex marks bytes (signed_of (displacement_size s) bytes) spelt (operand-lt (operand_in p s) (signed_of (displacement_size s) bytes) ok'.0))
+    let spelt : Spelt p s rex marks bytes (signed_of (displacement_size s) bytes) =
+    record { around = h; sib-is = sib; number = refl } in
+    subst P (sym is) (λ ok'. shift_once sh (width_of p) (operand_in p s)
+    (signed_of (displacement_size s) bytes) rex marks (tail_of s) total
+    (fits_of p s rex marks bytes (signed_of (displacement_size s) bytes) spelt
+    (operand-lt (operand_in p s) (signed_of (displacement_size s) bytes) ok'.0))
     (wide_of p rex marks h) room) ok
 
-call_case : (p : Prefixes) (s : Selectors) (rex : Option ℕ) (marks total : ℕ) (bytes four : List ℕ) (body : Body) → Around p rex marks → is_some s.sib ≡ has_sib s.modrm
+call_case : (p : Prefixes) (s : Selectors) (rex : Option ℕ) (marks total : ℕ) (bytes four : List ℕ) (body : Body)
+    → Around p rex marks → is_some s.sib ≡ has_sib s.modrm
     → BodyIs (action.CallTarget) p s size.Zero bytes four body → IsSpellable body.instr
-    → marks + (length (option_to_list rex) + (1 + ((1 + tail_of s) + 0))) ≤ total → Beats body.instr (row.Group group.Target size.Zero) total
+    → marks + (length (option_to_list rex) + (1 + ((1 + tail_of s) + 0))) ≤ total
+    → Beats body.instr (row.Group group.Target size.Zero) total
 unfolding operand_body operation_of form_of IsSpellable signed_of
 call_case p s rex marks total bytes four body h sib is ok room =
     let P : Body → Type 0 = λ b. IsSpellable b.instr → Beats b.instr (row.Group group.Target size.Zero) total in
-    let spelt : Spelt p s rex marks bytes (signed_of (displacement_size s) bytes) = record { around = h; sib-is = sib; number = refl } in
-    subst P (sym is) (λ ok'. target_to 2 (operand_in p s) (signed_of (displacement_size s) bytes) rex marks (tail_of s) total
-    (fits_of p s rex marks bytes (signed_of (displacement_size s) bytes) spelt (operand-lt (operand_in p s) (signed_of (displacement_size s) bytes) ok'.0)) refl room) ok
+    let spelt : Spelt p s rex marks bytes (signed_of (displacement_size s) bytes) =
+    record { around = h; sib-is = sib; number = refl } in
+    subst P (sym is) (λ ok'. target_to 2 (operand_in p s) (signed_of (displacement_size s) bytes) rex marks
+    (tail_of s) total
+    (fits_of p s rex marks bytes (signed_of (displacement_size s) bytes) spelt
+    (operand-lt (operand_in p s) (signed_of (displacement_size s) bytes) ok'.0)) refl room) ok
 
-jump_case : (p : Prefixes) (s : Selectors) (rex : Option ℕ) (marks total : ℕ) (bytes four : List ℕ) (body : Body) → Around p rex marks → is_some s.sib ≡ has_sib s.modrm
+jump_case : (p : Prefixes) (s : Selectors) (rex : Option ℕ) (marks total : ℕ) (bytes four : List ℕ) (body : Body)
+    → Around p rex marks → is_some s.sib ≡ has_sib s.modrm
     → BodyIs (action.JumpTarget) p s size.Zero bytes four body → IsSpellable body.instr
-    → marks + (length (option_to_list rex) + (1 + ((1 + tail_of s) + 0))) ≤ total → Beats body.instr (row.Group group.Target size.Zero) total
+    → marks + (length (option_to_list rex) + (1 + ((1 + tail_of s) + 0))) ≤ total
+    → Beats body.instr (row.Group group.Target size.Zero) total
 unfolding operand_body operation_of form_of IsSpellable signed_of
 jump_case p s rex marks total bytes four body h sib is ok room =
     let P : Body → Type 0 = λ b. IsSpellable b.instr → Beats b.instr (row.Group group.Target size.Zero) total in
-    let spelt : Spelt p s rex marks bytes (signed_of (displacement_size s) bytes) = record { around = h; sib-is = sib; number = refl } in
-    subst P (sym is) (λ ok'. target_to 4 (operand_in p s) (signed_of (displacement_size s) bytes) rex marks (tail_of s) total
-    (fits_of p s rex marks bytes (signed_of (displacement_size s) bytes) spelt (operand-lt (operand_in p s) (signed_of (displacement_size s) bytes) ok'.0)) refl room) ok
+    let spelt : Spelt p s rex marks bytes (signed_of (displacement_size s) bytes) =
+    record { around = h; sib-is = sib; number = refl } in
+    subst P (sym is) (λ ok'. target_to 4 (operand_in p s) (signed_of (displacement_size s) bytes) rex marks
+    (tail_of s) total
+    (fits_of p s rex marks bytes (signed_of (displacement_size s) bytes) spelt
+    (operand-lt (operand_in p s) (signed_of (displacement_size s) bytes) ok'.0)) refl room) ok
 
-padding_case : (p : Prefixes) (s : Selectors) (rex : Option ℕ) (marks total : ℕ) (bytes four : List ℕ) (body : Body) → Around p rex marks → is_some s.sib ≡ has_sib s.modrm
+padding_case : (p : Prefixes) (s : Selectors) (rex : Option ℕ) (marks total : ℕ) (bytes four : List ℕ) (body : Body)
+    → Around p rex marks → is_some s.sib ≡ has_sib s.modrm
     → BodyIs (action.Padding) p s size.Zero bytes four body → IsSpellable body.instr
-    → marks + (length (option_to_list rex) + (2 + ((1 + tail_of s) + 0))) ≤ total → Beats body.instr (row.Group group.Nop size.Zero) total
+    → marks + (length (option_to_list rex) + (2 + ((1 + tail_of s) + 0))) ≤ total
+    → Beats body.instr (row.Group group.Nop size.Zero) total
 unfolding operand_body operation_of form_of IsSpellable signed_of
 padding_case p s rex marks total bytes four body h sib is ok room =
     let P : Body → Type 0 = λ b. IsSpellable b.instr → Beats b.instr (row.Group group.Nop size.Zero) total in
-    let spelt : Spelt p s rex marks bytes (signed_of (displacement_size s) bytes) = record { around = h; sib-is = sib; number = refl } in
-    subst P (sym is) (λ ok'. padding_to (operand_in p s) (signed_of (displacement_size s) bytes) rex marks (tail_of s) total
-    (fits_of p s rex marks bytes (signed_of (displacement_size s) bytes) spelt (operand-lt (operand_in p s) (signed_of (displacement_size s) bytes) ok'.0)) room) ok
+    let spelt : Spelt p s rex marks bytes (signed_of (displacement_size s) bytes) =
+    record { around = h; sib-is = sib; number = refl } in
+    subst P (sym is) (λ ok'. padding_to (operand_in p s) (signed_of (displacement_size s) bytes) rex marks
+    (tail_of s) total
+    (fits_of p s rex marks bytes (signed_of (displacement_size s) bytes) spelt
+    (operand-lt (operand_in p s) (signed_of (displacement_size s) bytes) ok'.0)) room) ok
 
 -- the parts behind an opcode with ModRM
-operated_length : (p : Prefixes) (r : Row) (size : Size) (rest : List ℕ) (body : Body) (q : IsOperated p r size rest body)
+operated_length : (p : Prefixes) (r : Row) (size : Size) (rest : List ℕ) (body : Body)
+    (q : IsOperated p r size rest body)
     → length rest ≡ (1 + tail_of (record { modrm = q.modrm; sib = q.sib })) + count_of size
 operated_length p r size rest body q =
     let w = ap (λ (t : List ℕ). length t) q.whole in
@@ -208,12 +260,15 @@ operated_length p r size rest body q =
     let b = q.immediate-length in
     omega arith
 
-pub moved_body : (a b : Action) (p : Prefixes) (s : Selectors) (size : Size) (bytes four : List ℕ) (body : Body) → a ≡ b → BodyIs b p s size bytes four body → BodyIs a p s size bytes four body
+pub moved_body : (a b : Action) (p : Prefixes) (s : Selectors) (size : Size) (bytes four : List ℕ) (body : Body) → a ≡ b
+    → BodyIs b p s size bytes four body → BodyIs a p s size bytes four body
 moved_body a b p s size bytes four body e h = subst (λ (x : Action). BodyIs x p s size bytes four body) (sym e) h
 
-group_case : (g : Group) (size : Size) (p : Prefixes) (rex : Option ℕ) (marks few total : ℕ) (rest : List ℕ) (body : Body) → Around p rex marks
+group_case : (g : Group) (size : Size) (p : Prefixes) (rex : Option ℕ) (marks few total : ℕ) (rest : List ℕ)
+    (body : Body) → Around p rex marks
     → IsOperated p (row.Group g size) size rest body → IsSpellable body.instr
-    → Listed (bits_of p) (row.Group g size) few → marks + (length (option_to_list rex) + (few + length rest)) ≤ total → Beats body.instr (row.Group g size) total
+    → Listed (bits_of p) (row.Group g size) few → marks + (length (option_to_list rex) + (few + length rest)) ≤ total
+    → Beats body.instr (row.Group g size) total
 unfolding group_action
 group_case group.Move size.Zero p rex marks few total rest body h q ok (inl e) room = absurd (let t = e.0 in cc)
 group_case group.Move size.Zero p rex marks few total rest body h q ok (inr (inl e)) room = absurd (let t = e.0 in cc)
@@ -224,38 +279,58 @@ group_case group.Move size.One p rex marks few total rest body h q ok (inr (inr 
 group_case group.Move size.Four p rex marks few total rest body h q ok (inl e) room = let l =
     operated_length p (row.Group group.Move size.Four) size.Four rest body q in let n = e.1 in
     move_case p (record { modrm = q.modrm; sib = q.sib }) rex marks total q.displacement q.immediate body h q.has_sib
-    (moved_body action.MoveImmediate q.action p (record { modrm = q.modrm; sib = q.sib }) size.Four q.displacement q.immediate body (some_is _ _ _ q.action-is) q.body-is) ok (omega arith)
+    (moved_body action.MoveImmediate q.action p
+    (record { modrm = q.modrm; sib = q.sib }) size.Four q.displacement q.immediate body
+    (some_is _ _ _ q.action-is) q.body-is) ok (omega arith)
 group_case group.Move size.Four p rex marks few total rest body h q ok (inr (inl e)) room = absurd (let t = e.0 in cc)
 group_case group.Move size.Four p rex marks few total rest body h q ok (inr (inr e)) room = absurd (let t = e.0 in cc)
 group_case group.Move size.Eight p rex marks few total rest body h q ok (inl e) room = absurd (let t = e.0 in cc)
 group_case group.Move size.Eight p rex marks few total rest body h q ok (inr (inl e)) room = absurd (let t = e.0 in cc)
 group_case group.Move size.Eight p rex marks few total rest body h q ok (inr (inr e)) room = absurd (let t = e.0 in cc)
 group_case group.Arithmetic size.Zero p rex marks few total rest body h q ok (inl e) room = absurd (let t = e.0 in cc)
-group_case group.Arithmetic size.Zero p rex marks few total rest body h q ok (inr (inl e)) room = absurd (let t = e.0 in cc)
-group_case group.Arithmetic size.Zero p rex marks few total rest body h q ok (inr (inr e)) room = absurd (let t = e.0 in cc)
+group_case group.Arithmetic size.Zero p rex marks few total rest body h q ok (inr (inl e)) room =
+    absurd (let t = e.0 in cc)
+group_case group.Arithmetic size.Zero p rex marks few total rest body h q ok (inr (inr e)) room =
+    absurd (let t = e.0 in cc)
 group_case group.Arithmetic size.One p rex marks few total rest body h q ok (inl e) room = let l =
-    operated_length p (row.Group group.Arithmetic size.One) size.One rest body q in let n = e.1 in let x = mapped_is action.ComputeImmediate _ _ q.action-is in
-    short_case x.0 p (record { modrm = q.modrm; sib = q.sib }) rex marks total q.displacement q.immediate body h q.has_sib
-    (moved_body (action.ComputeImmediate x.0) q.action p (record { modrm = q.modrm; sib = q.sib }) size.One q.displacement q.immediate body (x.1) q.body-is) ok (omega arith)
-group_case group.Arithmetic size.One p rex marks few total rest body h q ok (inr (inl e)) room = absurd (let t = e.0 in cc)
-group_case group.Arithmetic size.One p rex marks few total rest body h q ok (inr (inr e)) room = absurd (let t = e.0 in cc)
+    operated_length p (row.Group group.Arithmetic size.One) size.One rest body q in let n = e.1 in
+    let x = mapped_is action.ComputeImmediate _ _ q.action-is in
+    short_case x.0 p (record
+    { modrm = q.modrm; sib = q.sib }) rex marks total q.displacement q.immediate body h q.has_sib
+    (moved_body (action.ComputeImmediate x.0) q.action p
+    (record { modrm = q.modrm; sib = q.sib }) size.One q.displacement q.immediate body (x.1) q.body-is) ok
+    (omega arith)
+group_case group.Arithmetic size.One p rex marks few total rest body h q ok (inr (inl e)) room =
+    absurd (let t = e.0 in cc)
+group_case group.Arithmetic size.One p rex marks few total rest body h q ok (inr (inr e)) room =
+    absurd (let t = e.0 in cc)
 group_case group.Arithmetic size.Four p rex marks few total rest body h q ok (inl e) room = let l =
     operated_length p (row.Group group.Arithmetic size.Four) size.Four rest body q in let n = e.1 in
     let x = mapped_is action.ComputeImmediate _ _ q.action-is in long_case x.0 p
     (record { modrm = q.modrm; sib = q.sib }) rex marks total q.displacement q.immediate body h q.has_sib
-    (moved_body (action.ComputeImmediate x.0) q.action p (record { modrm = q.modrm; sib = q.sib }) size.Four q.displacement q.immediate body (x.1) q.body-is) ok (omega arith)
-group_case group.Arithmetic size.Four p rex marks few total rest body h q ok (inr (inl e)) room = absurd (let t = e.0 in cc)
-group_case group.Arithmetic size.Four p rex marks few total rest body h q ok (inr (inr e)) room = absurd (let t = e.0 in cc)
+    (moved_body (action.ComputeImmediate x.0) q.action p
+    (record { modrm = q.modrm; sib = q.sib }) size.Four q.displacement q.immediate body (x.1) q.body-is) ok
+    (omega arith)
+group_case group.Arithmetic size.Four p rex marks few total rest body h q ok (inr (inl e)) room =
+    absurd (let t = e.0 in cc)
+group_case group.Arithmetic size.Four p rex marks few total rest body h q ok (inr (inr e)) room =
+    absurd (let t = e.0 in cc)
 group_case group.Arithmetic size.Eight p rex marks few total rest body h q ok (inl e) room = absurd (let t = e.0 in cc)
-group_case group.Arithmetic size.Eight p rex marks few total rest body h q ok (inr (inl e)) room = absurd (let t = e.0 in cc)
-group_case group.Arithmetic size.Eight p rex marks few total rest body h q ok (inr (inr e)) room = absurd (let t = e.0 in cc)
+group_case group.Arithmetic size.Eight p rex marks few total rest body h q ok (inr (inl e)) room =
+    absurd (let t = e.0 in cc)
+group_case group.Arithmetic size.Eight p rex marks few total rest body h q ok (inr (inr e)) room =
+    absurd (let t = e.0 in cc)
 group_case group.Shift size.Zero p rex marks few total rest body h q ok (inl e) room = absurd (let t = e.0 in cc)
 group_case group.Shift size.Zero p rex marks few total rest body h q ok (inr (inl e)) room = absurd (let t = e.0 in cc)
 group_case group.Shift size.Zero p rex marks few total rest body h q ok (inr (inr e)) room = absurd (let t = e.0 in cc)
 group_case group.Shift size.One p rex marks few total rest body h q ok (inl e) room = let l =
-    operated_length p (row.Group group.Shift size.One) size.One rest body q in let n = e.1 in let x = mapped_is action.ShiftBy _ _ q.action-is in
-    shift_case x.0 p (record { modrm = q.modrm; sib = q.sib }) rex marks total q.displacement q.immediate body h q.has_sib
-    (moved_body (action.ShiftBy x.0) q.action p (record { modrm = q.modrm; sib = q.sib }) size.One q.displacement q.immediate body (x.1) q.body-is) ok (omega arith)
+    operated_length p (row.Group group.Shift size.One) size.One rest body q in let n = e.1 in
+    let x = mapped_is action.ShiftBy _ _ q.action-is in
+    shift_case x.0 p (record
+    { modrm = q.modrm; sib = q.sib }) rex marks total q.displacement q.immediate body h q.has_sib
+    (moved_body (action.ShiftBy x.0) q.action p
+    (record { modrm = q.modrm; sib = q.sib }) size.One q.displacement q.immediate body (x.1) q.body-is) ok
+    (omega arith)
 group_case group.Shift size.One p rex marks few total rest body h q ok (inr (inl e)) room = absurd (let t = e.0 in cc)
 group_case group.Shift size.One p rex marks few total rest body h q ok (inr (inr e)) room = absurd (let t = e.0 in cc)
 group_case group.Shift size.Four p rex marks few total rest body h q ok (inl e) room = absurd (let t = e.0 in cc)
@@ -265,29 +340,46 @@ group_case group.Shift size.Eight p rex marks few total rest body h q ok (inl e)
 group_case group.Shift size.Eight p rex marks few total rest body h q ok (inr (inl e)) room = absurd (let t = e.0 in cc)
 group_case group.Shift size.Eight p rex marks few total rest body h q ok (inr (inr e)) room = absurd (let t = e.0 in cc)
 group_case group.ShiftOnce size.Zero p rex marks few total rest body h q ok (inl e) room = let l =
-    operated_length p (row.Group group.ShiftOnce size.Zero) size.Zero rest body q in let n = e.1 in let x = mapped_is action.ShiftOnce _ _ q.action-is in
-    once_case x.0 p (record { modrm = q.modrm; sib = q.sib }) rex marks total q.displacement q.immediate body h q.has_sib
-    (moved_body (action.ShiftOnce x.0) q.action p (record { modrm = q.modrm; sib = q.sib }) size.Zero q.displacement q.immediate body (x.1) q.body-is) ok (omega arith)
-group_case group.ShiftOnce size.Zero p rex marks few total rest body h q ok (inr (inl e)) room = absurd (let t = e.0 in cc)
-group_case group.ShiftOnce size.Zero p rex marks few total rest body h q ok (inr (inr e)) room = absurd (let t = e.0 in cc)
+    operated_length p (row.Group group.ShiftOnce size.Zero) size.Zero rest body q in let n = e.1 in
+    let x = mapped_is action.ShiftOnce _ _ q.action-is in
+    once_case x.0 p (record
+    { modrm = q.modrm; sib = q.sib }) rex marks total q.displacement q.immediate body h q.has_sib
+    (moved_body (action.ShiftOnce x.0) q.action p
+    (record { modrm = q.modrm; sib = q.sib }) size.Zero q.displacement q.immediate body (x.1) q.body-is) ok
+    (omega arith)
+group_case group.ShiftOnce size.Zero p rex marks few total rest body h q ok (inr (inl e)) room =
+    absurd (let t = e.0 in cc)
+group_case group.ShiftOnce size.Zero p rex marks few total rest body h q ok (inr (inr e)) room =
+    absurd (let t = e.0 in cc)
 group_case group.ShiftOnce size.One p rex marks few total rest body h q ok (inl e) room = absurd (let t = e.0 in cc)
-group_case group.ShiftOnce size.One p rex marks few total rest body h q ok (inr (inl e)) room = absurd (let t = e.0 in cc)
-group_case group.ShiftOnce size.One p rex marks few total rest body h q ok (inr (inr e)) room = absurd (let t = e.0 in cc)
+group_case group.ShiftOnce size.One p rex marks few total rest body h q ok (inr (inl e)) room =
+    absurd (let t = e.0 in cc)
+group_case group.ShiftOnce size.One p rex marks few total rest body h q ok (inr (inr e)) room =
+    absurd (let t = e.0 in cc)
 group_case group.ShiftOnce size.Four p rex marks few total rest body h q ok (inl e) room = absurd (let t = e.0 in cc)
-group_case group.ShiftOnce size.Four p rex marks few total rest body h q ok (inr (inl e)) room = absurd (let t = e.0 in cc)
-group_case group.ShiftOnce size.Four p rex marks few total rest body h q ok (inr (inr e)) room = absurd (let t = e.0 in cc)
+group_case group.ShiftOnce size.Four p rex marks few total rest body h q ok (inr (inl e)) room =
+    absurd (let t = e.0 in cc)
+group_case group.ShiftOnce size.Four p rex marks few total rest body h q ok (inr (inr e)) room =
+    absurd (let t = e.0 in cc)
 group_case group.ShiftOnce size.Eight p rex marks few total rest body h q ok (inl e) room = absurd (let t = e.0 in cc)
-group_case group.ShiftOnce size.Eight p rex marks few total rest body h q ok (inr (inl e)) room = absurd (let t = e.0 in cc)
-group_case group.ShiftOnce size.Eight p rex marks few total rest body h q ok (inr (inr e)) room = absurd (let t = e.0 in cc)
+group_case group.ShiftOnce size.Eight p rex marks few total rest body h q ok (inr (inl e)) room =
+    absurd (let t = e.0 in cc)
+group_case group.ShiftOnce size.Eight p rex marks few total rest body h q ok (inr (inr e)) room =
+    absurd (let t = e.0 in cc)
 group_case group.Target size.Zero p rex marks few total rest body h q ok (inl e) room = let l =
     operated_length p (row.Group group.Target size.Zero) size.Zero rest body q in let n = e.1 in
     elim (chosen (eqb ((q.modrm / 8) % 8) 2) _ _ _ q.action-is) [
       | inl t ↦ call_case p
           (record { modrm = q.modrm; sib = q.sib }) rex marks total q.displacement q.immediate body h q.has_sib
-          (moved_body action.CallTarget q.action p (record { modrm = q.modrm; sib = q.sib }) size.Zero q.displacement q.immediate body (let u = t.1 in cc) q.body-is)
+          (moved_body action.CallTarget q.action p
+          (record { modrm = q.modrm; sib = q.sib }) size.Zero q.displacement q.immediate body
+          (let u = t.1 in cc) q.body-is)
           ok (omega arith)
-      | inr t ↦ jump_case p (record { modrm = q.modrm; sib = q.sib }) rex marks total q.displacement q.immediate body h q.has_sib
-          (moved_body action.JumpTarget q.action p (record { modrm = q.modrm; sib = q.sib }) size.Zero q.displacement q.immediate body (some_is _ _ _ t.1) q.body-is) ok (omega arith)
+      | inr t ↦ jump_case p (record
+          { modrm = q.modrm; sib = q.sib }) rex marks total q.displacement q.immediate body h q.has_sib
+          (moved_body action.JumpTarget q.action p
+          (record { modrm = q.modrm; sib = q.sib }) size.Zero q.displacement q.immediate body
+          (some_is _ _ _ t.1) q.body-is) ok (omega arith)
     ]
 group_case group.Target size.Zero p rex marks few total rest body h q ok (inr (inl e)) room = absurd (let t = e.0 in cc)
 group_case group.Target size.Zero p rex marks few total rest body h q ok (inr (inr e)) room = absurd (let t = e.0 in cc)
@@ -298,13 +390,17 @@ group_case group.Target size.Four p rex marks few total rest body h q ok (inl e)
 group_case group.Target size.Four p rex marks few total rest body h q ok (inr (inl e)) room = absurd (let t = e.0 in cc)
 group_case group.Target size.Four p rex marks few total rest body h q ok (inr (inr e)) room = absurd (let t = e.0 in cc)
 group_case group.Target size.Eight p rex marks few total rest body h q ok (inl e) room = absurd (let t = e.0 in cc)
-group_case group.Target size.Eight p rex marks few total rest body h q ok (inr (inl e)) room = absurd (let t = e.0 in cc)
-group_case group.Target size.Eight p rex marks few total rest body h q ok (inr (inr e)) room = absurd (let t = e.0 in cc)
+group_case group.Target size.Eight p rex marks few total rest body h q ok (inr (inl e)) room =
+    absurd (let t = e.0 in cc)
+group_case group.Target size.Eight p rex marks few total rest body h q ok (inr (inr e)) room =
+    absurd (let t = e.0 in cc)
 group_case group.Nop size.Zero p rex marks few total rest body h q ok (inl e) room = absurd (let t = e.0 in cc)
 group_case group.Nop size.Zero p rex marks few total rest body h q ok (inr (inl e)) room = let l =
     operated_length p (row.Group group.Nop size.Zero) size.Zero rest body q in let n = e.1 in
     padding_case p (record { modrm = q.modrm; sib = q.sib }) rex marks total q.displacement q.immediate body h q.has_sib
-    (moved_body action.Padding q.action p (record { modrm = q.modrm; sib = q.sib }) size.Zero q.displacement q.immediate body (some_is _ _ _ q.action-is) q.body-is) ok (omega arith)
+    (moved_body action.Padding q.action p
+    (record { modrm = q.modrm; sib = q.sib }) size.Zero q.displacement q.immediate body
+    (some_is _ _ _ q.action-is) q.body-is) ok (omega arith)
 group_case group.Nop size.Zero p rex marks few total rest body h q ok (inr (inr e)) room = absurd (let t = e.0 in cc)
 group_case group.Nop size.One p rex marks few total rest body h q ok (inl e) room = absurd (let t = e.0 in cc)
 group_case group.Nop size.One p rex marks few total rest body h q ok (inr (inl e)) room = absurd (let t = e.0 in cc)
@@ -318,7 +414,8 @@ group_case group.Nop size.Eight p rex marks few total rest body h q ok (inr (inr
 
 -- ---- a number alone
 
-number_case : (a : Numbered) (size : Size) (p : Prefixes) (rex : Option ℕ) (marks few total : ℕ) (rest : List ℕ) → Around p rex marks
+number_case : (a : Numbered) (size : Size) (p : Prefixes) (rex : Option ℕ) (marks few total : ℕ) (rest : List ℕ)
+    → Around p rex marks
     → IsSpellable (numbered_body a (width_of p) size (signed_of size rest)).instr
     → Listed (bits_of p) (row.Number a size) few → marks + (length (option_to_list rex) + (few + count_of size)) ≤ total
     → Beats (numbered_body a (width_of p) size (signed_of size rest)).instr (row.Number a size) total
@@ -329,7 +426,8 @@ number_case (numbered.Call) size.Zero p rex marks few total rest h ok (inr (inr 
 number_case (numbered.Call) size.One p rex marks few total rest h ok (inl e) room = absurd (let t = e.0 in cc)
 number_case (numbered.Call) size.One p rex marks few total rest h ok (inr (inl e)) room = absurd (let t = e.0 in cc)
 number_case (numbered.Call) size.One p rex marks few total rest h ok (inr (inr e)) room = absurd (let t = e.0 in cc)
-number_case (numbered.Call) size.Four p rex marks few total rest h ok (inl e) room = let n = e.1 in called (signed_long_of (from_le_bytes w32 rest)) 0 0 rex marks total (omega arith)
+number_case (numbered.Call) size.Four p rex marks few total rest h ok (inl e) room = let n = e.1 in
+    called (signed_long_of (from_le_bytes w32 rest)) 0 0 rex marks total (omega arith)
 number_case (numbered.Call) size.Four p rex marks few total rest h ok (inr (inl e)) room = absurd (let t = e.0 in cc)
 number_case (numbered.Call) size.Four p rex marks few total rest h ok (inr (inr e)) room = absurd (let t = e.0 in cc)
 number_case (numbered.Call) size.Eight p rex marks few total rest h ok (inl e) room = absurd (let t = e.0 in cc)
@@ -339,55 +437,75 @@ number_case (numbered.Jump) size.Zero p rex marks few total rest h ok (inl e) ro
 number_case (numbered.Jump) size.Zero p rex marks few total rest h ok (inr (inl e)) room = absurd (let t = e.0 in cc)
 number_case (numbered.Jump) size.Zero p rex marks few total rest h ok (inr (inr e)) room = absurd (let t = e.0 in cc)
 number_case (numbered.Jump) size.One p rex marks few total rest h ok (inl e) room = let n = e.1 in
-    jumped_short (signed_byte_of (slice_index rest 0)) 0 0 rex marks total (signed_byte_fits (slice_index rest 0) (long-lt (signed_byte_of (slice_index rest 0)) ok.1)) (omega arith)
+    jumped_short (signed_byte_of (slice_index rest 0)) 0 0 rex marks total
+    (signed_byte_fits (slice_index rest 0) (long-lt (signed_byte_of (slice_index rest 0)) ok.1)) (omega arith)
 number_case (numbered.Jump) size.One p rex marks few total rest h ok (inr (inl e)) room = absurd (let t = e.0 in cc)
 number_case (numbered.Jump) size.One p rex marks few total rest h ok (inr (inr e)) room = absurd (let t = e.0 in cc)
-number_case (numbered.Jump) size.Four p rex marks few total rest h ok (inl e) room = let n = e.1 in jumped_long (signed_long_of (from_le_bytes w32 rest)) 0 0 rex marks total (omega arith)
+number_case (numbered.Jump) size.Four p rex marks few total rest h ok (inl e) room = let n = e.1 in
+    jumped_long (signed_long_of (from_le_bytes w32 rest)) 0 0 rex marks total (omega arith)
 number_case (numbered.Jump) size.Four p rex marks few total rest h ok (inr (inl e)) room = absurd (let t = e.0 in cc)
 number_case (numbered.Jump) size.Four p rex marks few total rest h ok (inr (inr e)) room = absurd (let t = e.0 in cc)
 number_case (numbered.Jump) size.Eight p rex marks few total rest h ok (inl e) room = absurd (let t = e.0 in cc)
 number_case (numbered.Jump) size.Eight p rex marks few total rest h ok (inr (inl e)) room = absurd (let t = e.0 in cc)
 number_case (numbered.Jump) size.Eight p rex marks few total rest h ok (inr (inr e)) room = absurd (let t = e.0 in cc)
 number_case (numbered.JumpIf c) size.Zero p rex marks few total rest h ok (inl e) room = absurd (let t = e.0 in cc)
-number_case (numbered.JumpIf c) size.Zero p rex marks few total rest h ok (inr (inl e)) room = absurd (let t = e.0 in cc)
-number_case (numbered.JumpIf c) size.Zero p rex marks few total rest h ok (inr (inr e)) room = absurd (let t = e.0 in cc)
+number_case (numbered.JumpIf c) size.Zero p rex marks few total rest h ok (inr (inl e)) room =
+    absurd (let t = e.0 in cc)
+number_case (numbered.JumpIf c) size.Zero p rex marks few total rest h ok (inr (inr e)) room =
+    absurd (let t = e.0 in cc)
 number_case (numbered.JumpIf c) size.One p rex marks few total rest h ok (inl e) room = let n = e.1 in
-    jumped_if_short c (signed_byte_of (slice_index rest 0)) 0 0 rex marks total (signed_byte_fits (slice_index rest 0) (long-lt (signed_byte_of (slice_index rest 0)) ok.1)) (omega arith)
+    jumped_if_short c (signed_byte_of (slice_index rest 0)) 0 0 rex marks total
+    (signed_byte_fits (slice_index rest 0) (long-lt (signed_byte_of (slice_index rest 0)) ok.1)) (omega arith)
 number_case (numbered.JumpIf c) size.One p rex marks few total rest h ok (inr (inl e)) room = absurd (let t = e.0 in cc)
 number_case (numbered.JumpIf c) size.One p rex marks few total rest h ok (inr (inr e)) room = absurd (let t = e.0 in cc)
 number_case (numbered.JumpIf c) size.Four p rex marks few total rest h ok (inl e) room = absurd (let t = e.0 in cc)
 number_case (numbered.JumpIf c) size.Four p rex marks few total rest h ok (inr (inl e)) room = let n = e.1 in
     jumped_if_long c (signed_long_of (from_le_bytes w32 rest)) 0 0 rex marks total (omega arith)
-number_case (numbered.JumpIf c) size.Four p rex marks few total rest h ok (inr (inr e)) room = absurd (let t = e.0 in cc)
+number_case (numbered.JumpIf c) size.Four p rex marks few total rest h ok (inr (inr e)) room =
+    absurd (let t = e.0 in cc)
 number_case (numbered.JumpIf c) size.Eight p rex marks few total rest h ok (inl e) room = absurd (let t = e.0 in cc)
-number_case (numbered.JumpIf c) size.Eight p rex marks few total rest h ok (inr (inl e)) room = absurd (let t = e.0 in cc)
-number_case (numbered.JumpIf c) size.Eight p rex marks few total rest h ok (inr (inr e)) room = absurd (let t = e.0 in cc)
+number_case (numbered.JumpIf c) size.Eight p rex marks few total rest h ok (inr (inl e)) room =
+    absurd (let t = e.0 in cc)
+number_case (numbered.JumpIf c) size.Eight p rex marks few total rest h ok (inr (inr e)) room =
+    absurd (let t = e.0 in cc)
 number_case (numbered.Move r) size.Zero p rex marks few total rest h ok (inl e) room = absurd (let t = e.0 in cc)
 number_case (numbered.Move r) size.Zero p rex marks few total rest h ok (inr (inl e)) room = absurd (let t = e.0 in cc)
 number_case (numbered.Move r) size.Zero p rex marks few total rest h ok (inr (inr e)) room = absurd (let t = e.0 in cc)
 number_case (numbered.Move r) size.One p rex marks few total rest h ok (inl e) room = absurd (let t = e.0 in cc)
 number_case (numbered.Move r) size.One p rex marks few total rest h ok (inr (inl e)) room = absurd (let t = e.0 in cc)
 number_case (numbered.Move r) size.One p rex marks few total rest h ok (inr (inr e)) room = absurd (let t = e.0 in cc)
-number_case (numbered.Move r) size.Four p rex marks few total rest h ok (inl e) room = let n = e.1 in moved_long p rex marks r (signed_long_of (from_le_bytes w32 rest)) total h e.0 (omega arith)
+number_case (numbered.Move r) size.Four p rex marks few total rest h ok (inl e) room = let n = e.1 in
+    moved_long p rex marks r (signed_long_of (from_le_bytes w32 rest)) total h e.0 (omega arith)
 number_case (numbered.Move r) size.Four p rex marks few total rest h ok (inr (inl e)) room = absurd (let t = e.0 in cc)
 number_case (numbered.Move r) size.Four p rex marks few total rest h ok (inr (inr e)) room = absurd (let t = e.0 in cc)
-number_case (numbered.Move r) size.Eight p rex marks few total rest h ok (inl e) room = let n = e.1 in moved_quad p rex marks r (from_le_bytes w64 rest) total h e.0 (omega arith)
+number_case (numbered.Move r) size.Eight p rex marks few total rest h ok (inl e) room = let n = e.1 in
+    moved_quad p rex marks r (from_le_bytes w64 rest) total h e.0 (omega arith)
 number_case (numbered.Move r) size.Eight p rex marks few total rest h ok (inr (inl e)) room = absurd (let t = e.0 in cc)
 number_case (numbered.Move r) size.Eight p rex marks few total rest h ok (inr (inr e)) room = absurd (let t = e.0 in cc)
 number_case (numbered.Compute a) size.Zero p rex marks few total rest h ok (inl e) room = absurd (let t = e.0 in cc)
-number_case (numbered.Compute a) size.Zero p rex marks few total rest h ok (inr (inl e)) room = absurd (let t = e.0 in cc)
-number_case (numbered.Compute a) size.Zero p rex marks few total rest h ok (inr (inr e)) room = absurd (let t = e.0 in cc)
+number_case (numbered.Compute a) size.Zero p rex marks few total rest h ok (inr (inl e)) room =
+    absurd (let t = e.0 in cc)
+number_case (numbered.Compute a) size.Zero p rex marks few total rest h ok (inr (inr e)) room =
+    absurd (let t = e.0 in cc)
 number_case (numbered.Compute a) size.One p rex marks few total rest h ok (inl e) room = absurd (let t = e.0 in cc)
-number_case (numbered.Compute a) size.One p rex marks few total rest h ok (inr (inl e)) room = absurd (let t = e.0 in cc)
-number_case (numbered.Compute a) size.One p rex marks few total rest h ok (inr (inr e)) room = absurd (let t = e.0 in cc)
-number_case (numbered.Compute a) size.Four p rex marks few total rest h ok (inl e) room = let n = e.1 in computed_rax p rex marks a (signed_long_of (from_le_bytes w32 rest)) total h (omega arith)
-number_case (numbered.Compute a) size.Four p rex marks few total rest h ok (inr (inl e)) room = absurd (let t = e.0 in cc)
-number_case (numbered.Compute a) size.Four p rex marks few total rest h ok (inr (inr e)) room = absurd (let t = e.0 in cc)
+number_case (numbered.Compute a) size.One p rex marks few total rest h ok (inr (inl e)) room =
+    absurd (let t = e.0 in cc)
+number_case (numbered.Compute a) size.One p rex marks few total rest h ok (inr (inr e)) room =
+    absurd (let t = e.0 in cc)
+number_case (numbered.Compute a) size.Four p rex marks few total rest h ok (inl e) room = let n = e.1 in
+    computed_rax p rex marks a (signed_long_of (from_le_bytes w32 rest)) total h (omega arith)
+number_case (numbered.Compute a) size.Four p rex marks few total rest h ok (inr (inl e)) room =
+    absurd (let t = e.0 in cc)
+number_case (numbered.Compute a) size.Four p rex marks few total rest h ok (inr (inr e)) room =
+    absurd (let t = e.0 in cc)
 number_case (numbered.Compute a) size.Eight p rex marks few total rest h ok (inl e) room = absurd (let t = e.0 in cc)
-number_case (numbered.Compute a) size.Eight p rex marks few total rest h ok (inr (inl e)) room = absurd (let t = e.0 in cc)
-number_case (numbered.Compute a) size.Eight p rex marks few total rest h ok (inr (inr e)) room = absurd (let t = e.0 in cc)
+number_case (numbered.Compute a) size.Eight p rex marks few total rest h ok (inr (inl e)) room =
+    absurd (let t = e.0 in cc)
+number_case (numbered.Compute a) size.Eight p rex marks few total rest h ok (inr (inr e)) room =
+    absurd (let t = e.0 in cc)
 
-alone_case : (op : Operation) (p : Prefixes) (rex : Option ℕ) (marks few total : ℕ) → Around p rex marks → Listed (bits_of p) (row.Alone op) few
+alone_case : (op : Operation) (p : Prefixes) (rex : Option ℕ) (marks few total : ℕ) → Around p rex marks
+    → Listed (bits_of p) (row.Alone op) few
     → marks + (length (option_to_list rex) + few) ≤ total → BeatsIn (form_of op 0) 0 (row.Alone op) total
 alone_case op p rex marks few total h (inl e) room = alone_beats op p rex marks few 0 0 total h (inl e) room
 alone_case op p rex marks few total h (inr (inl e)) room = alone_beats op p rex marks few 0 0 total h (inr e) room
@@ -403,34 +521,46 @@ branch_few rex few (inl e) = absurd (let t = e.0 in cc)
 branch_few rex few (inr (inl e)) = absurd (let t = e.0 in cc)
 branch_few rex few (inr (inr e)) = e.1
 
-zero_number : (a : Action) (p : Prefixes) (s : Selectors) (bytes none : List ℕ) (body : Body) → BodyIs a p s size.Zero bytes none body
-    → body ≡ operand_body a p s size.Zero (record { displacement = signed_of (displacement_size s) bytes; immediate = 0 })
+zero_number : (a : Action) (p : Prefixes) (s : Selectors) (bytes none : List ℕ) (body : Body)
+    → BodyIs a p s size.Zero bytes none body
+    → body ≡ operand_body a p s size.Zero
+    (record { displacement = signed_of (displacement_size s) bytes; immediate = 0 })
 unfolding signed_of
 zero_number a p s bytes none body h = h
 
 -- any row
-body_beats : (r : Row) (p : Prefixes) (rex : Option ℕ) (marks few total : ℕ) (rest : List ℕ) (body : Body) → Around p rex marks → HasBody p r rest body → IsSpellable body.instr
-    → Listed (bits_of p) r few → marks + (length (option_to_list rex) + (few + length rest)) ≤ total → Beats body.instr r total
-body_beats (row.Alone op) p rex marks few total rest body h is ok way room = rw (is.1) (alone_case op p rex marks few total h way (omega arith))
-body_beats row.Nop p rex marks few total rest body h is ok way room = rw (is.1) (let n = nop_few (bits_of p) few way in nop_beats 0 0 rex marks total (omega arith))
-body_beats row.EndBranch p rex marks few total rest body h is ok way room = rw (is.1) (let n = branch_few (bits_of p) few way in branch_beats 0 0 rex marks total (omega arith))
+body_beats : (r : Row) (p : Prefixes) (rex : Option ℕ) (marks few total : ℕ) (rest : List ℕ) (body : Body)
+    → Around p rex marks → HasBody p r rest body → IsSpellable body.instr
+    → Listed (bits_of p) r few → marks + (length (option_to_list rex) + (few + length rest)) ≤ total
+    → Beats body.instr r total
+body_beats (row.Alone op) p rex marks few total rest body h is ok way room =
+    rw (is.1) (alone_case op p rex marks few total h way (omega arith))
+body_beats row.Nop p rex marks few total rest body h is ok way room =
+    rw (is.1) (let n = nop_few (bits_of p) few way in nop_beats 0 0 rex marks total (omega arith))
+body_beats row.EndBranch p rex marks few total rest body h is ok way room =
+    rw (is.1) (let n = branch_few (bits_of p) few way in branch_beats 0 0 rex marks total (omega arith))
 body_beats (row.Number a size) p rex marks few total rest body h is ok way room =
     let P : Body → Type 0 = λ b. IsSpellable b.instr → Beats b.instr (row.Number a size) total in
     let n = is.0 in
     subst P (sym is.1) (λ ok'. number_case a size p rex marks few total rest h ok' way (omega arith)) ok
-body_beats (row.Register a) p rex marks few total rest body h q ok way room = register_operated a p rex marks few total rest body h q ok way room
+body_beats (row.Register a) p rex marks few total rest body h q ok way room =
+    register_operated a p rex marks few total rest body h q ok way room
   where
-    register_operated : (a : Action) (p : Prefixes) (rex : Option ℕ) (marks few total : ℕ) (rest : List ℕ) (body : Body) → Around p rex marks
+    register_operated : (a : Action) (p : Prefixes) (rex : Option ℕ) (marks few total : ℕ) (rest : List ℕ) (body : Body)
+        → Around p rex marks
         → IsOperated p (row.Register a) size.Zero rest body → IsSpellable body.instr
-        → Listed (bits_of p) (row.Register a) few → marks + (length (option_to_list rex) + (few + length rest)) ≤ total → Beats body.instr (row.Register a) total
+        → Listed (bits_of p) (row.Register a) few → marks + (length (option_to_list rex) + (few + length rest)) ≤ total
+        → Beats body.instr (row.Register a) total
     register_operated a p rex marks few total rest body h q ok way room =
         let s : Selectors = record { modrm = q.modrm; sib = q.sib } in
         let e : a ≡ q.action = let t = q.action-is in cc in
         let l = operated_length p (row.Register a) size.Zero rest body q in
         register_case a p s rex marks few total q.displacement body h q.has_sib
-        (zero_number a p s q.displacement q.immediate body (moved_body a q.action p s size.Zero q.displacement q.immediate body e q.body-is))
+        (zero_number a p s q.displacement q.immediate body
+        (moved_body a q.action p s size.Zero q.displacement q.immediate body e q.body-is))
         (subst (λ (x : Action). allowed x p q.modrm ≡ true) (sym e) q.allows) ok way (omega arith)
-body_beats (row.Group g size) p rex marks few total rest body h q ok way room = group_case g size p rex marks few total rest body h q ok way room
+body_beats (row.Group g size) p rex marks few total rest body h q ok way room =
+    group_case g size p rex marks few total rest body h q ok way room
 
 -- ---- the whole
 
@@ -442,7 +572,8 @@ around : (marks : List ℕ) (rex : Option ℕ) → Around (prefixes_of marks rex
 around marks rex = record { fs = fs_some marks; none = λ n. rw (n) refl; no_rex = λ n. rw (n) refl }
 
 -- no spelling is shorter than the form, and one as short has no earlier line
-pub spelled_beats : (other : List ℕ) (d : Decoded) (h : Spells other d) → IsSpellable d.instr → Beats d.instr h.parts.row (length other)
+pub spelled_beats : (other : List ℕ) (d : Decoded) (h : Spells other d) → IsSpellable d.instr
+    → Beats d.instr h.parts.row (length other)
 spelled_beats other d h ok =
     let q = h.parts in
     let way = listed (bits_of (prefixes_of q.marks q.rex)) q.opcode q.row q.row-is in
@@ -452,7 +583,8 @@ spelled_beats other d h ok =
     let l3 = length-append q.opcode q.rest in
     let same : d.instr ≡ h.body.instr = ap (λ (x : Decoded). x.instr) h.decoded-is in
     let ok' : IsSpellable h.body.instr = subst IsSpellable same ok in
-    let b = body_beats q.row (prefixes_of q.marks q.rex) q.rex (length q.marks) (length q.opcode) (length other) q.rest h.body (around q.marks q.rex) q.has_body ok' way (omega arith) in
+    let b = body_beats q.row (prefixes_of q.marks q.rex) q.rex (length q.marks) (length q.opcode)
+    (length other) q.rest h.body (around q.marks q.rex) q.has_body ok' way (omega arith) in
     subst (λ (x : Instr). Beats x q.row (length other)) (sym same) b
 
 -- the form of an instruction is its canonical spelling
@@ -460,9 +592,12 @@ pub canonical : (instr : Instr) → IsSpellable instr → IsCanonical instr (spe
 unfolding spelling_of IsSpellable
 canonical instr ok =
     let form = form_of instr.operation instr.immediate in
-    let sp = spelling_from form instr.displacement (made instr.operation instr.displacement instr.immediate) (built instr.operation instr.displacement instr.immediate ok) in
-    let beats : (other : List ℕ) (d : Decoded) (h : Spells other d) → d.instr ≡ instr → Beats instr h.parts.row (length other) =
-    λ other d h e. subst (λ (x : Instr). Beats x h.parts.row (length other)) e (spelled_beats other d h (subst IsSpellable (sym e) ok)) in
+    let sp = spelling_from form instr.displacement (made instr.operation instr.displacement instr.immediate)
+    (built instr.operation instr.displacement instr.immediate ok) in
+    let beats : (other : List ℕ) (d : Decoded) (h : Spells other d) → d.instr ≡ instr
+    → Beats instr h.parts.row (length other) =
+    λ other d h e. subst (λ (x : Instr). Beats x h.parts.row (length other)) e
+    (spelled_beats other d h (subst IsSpellable (sym e) ok)) in
     record {
       body = sp.body;
       parts = sp.parts;

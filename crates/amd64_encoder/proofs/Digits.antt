@@ -1,12 +1,14 @@
 -- Numbers, registers and bits in bytes: what is packed into a byte is found in it again.
-use Rattle.std.proofs.Common.{◌≡◌, ◌≢◌, ℕ, zero, suc, ◌+◌, ◌/◌, ◌%◌, ◌^◌, ◌<◌, ◌≤◌, Bool, true, false, cond, eqb, ltb, leb, take, refl, sym, arith, inl, inr}
+use Rattle.std.proofs.Common.{◌≡◌, ◌≢◌, ℕ, zero, suc, ◌+◌, ◌/◌, ◌%◌, ◌^◌, ◌<◌, ◌≤◌, Bool, true, false, cond, eqb, ltb}
+use Rattle.std.proofs.Common.{leb, take, refl, sym, arith, inl, inr}
 use Rattle.std.specs.Prelude.{not, ◌&&◌, ◌||◌, unwrap_or}
 use Rattle.std.specs.Option.{option_map}
 use Rattle.std.specs.Int.{w32, w64, from_le_bytes, to_le_bytes}
 use Rattle.std.proofs.lemmas.Nat.{from_le_bytes-to_le_bytes_8}
 use Rattle.std.proofs.lemmas.Bool.{ltb-true, leb-true}
 use Rattle.amd64_words.specs.declared.register.Register.{Register}
-use Rattle.amd64_words.specs.declared.register.Register.TheVariants.{Rax, Rcx, Rdx, Rbx, Rsp, Rbp, Rsi, Rdi, R8, R9, R10, R11, R12, R13, R14, R15}
+use Rattle.amd64_words.specs.declared.register.Register.TheVariants.{Rax, Rcx, Rdx, Rbx, Rsp, Rbp, Rsi, Rdi, R8, R9}
+use Rattle.amd64_words.specs.declared.register.Register.TheVariants.{R10, R11, R12, R13, R14, R15}
 use Rattle.amd64_subset.specs.declared.operand.Scale.{Scale}
 use Rattle.amd64_subset.specs.declared.operand.Scale.TheVariants as scale
 use Rattle.amd64_subset.specs.declared.prefix.Rex.{Rex}
@@ -89,7 +91,8 @@ number_back (suc (suc (suc (suc (suc (suc (suc (suc (suc (suc (suc (suc zero))))
 number_back (suc (suc (suc (suc (suc (suc (suc (suc (suc (suc (suc (suc (suc zero))))))))))))) h = refl
 number_back (suc (suc (suc (suc (suc (suc (suc (suc (suc (suc (suc (suc (suc (suc zero)))))))))))))) h = refl
 number_back (suc (suc (suc (suc (suc (suc (suc (suc (suc (suc (suc (suc (suc (suc (suc zero))))))))))))))) h = refl
-number_back (suc (suc (suc (suc (suc (suc (suc (suc (suc (suc (suc (suc (suc (suc (suc (suc n)))))))))))))))) h = absurd (omega arith)
+number_back (suc (suc (suc (suc (suc (suc (suc (suc (suc (suc (suc (suc (suc (suc (suc (suc n)))))))))))))))) h =
+    absurd (omega arith)
 
 pub extended-number : (low : ℕ) (high : Bool) → low < 8 → number_of (extended low high) ≡ low + cond high 8 0
 extended-number low true h = number_back (low + 8) (omega arith)
@@ -146,7 +149,8 @@ abbrev pub is_needed : Bool → Bool → Bool → Bool → Bool → Bool
 is_needed low w r x b = (((low || w) || r) || x) || b
 
 -- where no REX stands, no bit is needed
-pub needed_bits : (low w r x b : Bool) → unwrap_or (option_map rex_of (when (is_needed low w r x b) (rex_byte (bits w r x b)))) no_bits ≡ bits w r x b
+pub needed_bits : (low w r x b : Bool)
+    → unwrap_or (option_map rex_of (when (is_needed low w r x b) (rex_byte (bits w r x b)))) no_bits ≡ bits w r x b
 needed_bits true w r x b = rex_back w r x b
 needed_bits false true r x b = rex_back true r x b
 needed_bits false false true x b = rex_back false true x b
@@ -177,7 +181,8 @@ byte_again_above n h k =
 pub byte_again : (n : ℕ) → fits_byte n ≡ true → n < 2 ^ 64 → signed_of size.One (number_bytes size.One n) ≡ n
 byte_again n h k = go (ltb n 0x80) refl h
   where
-    go : (b : Bool) → ltb n 0x80 ≡ b → (b || leb 0xffff_ffff_ffff_ff80 n) ≡ true → signed_of size.One (number_bytes size.One n) ≡ n
+    go : (b : Bool) → ltb n 0x80 ≡ b → (b || leb 0xffff_ffff_ffff_ff80 n) ≡ true
+        → signed_of size.One (number_bytes size.One n) ≡ n
     go true e f = byte_again_below n (ltb-true _ _ e)
     go false e f = byte_again_above n (leb-true _ _ f) k
 

@@ -1,5 +1,6 @@
 -- The rows that there are: what each asks of REX, by the length of its opcode.
-use Rattle.std.proofs.Common.{◌≡◌, ℕ, ◌/◌, ◌%◌, ◌<◌, Bool, true, false, cond, eqb, List, [], ◌∷◌, length, Option, Some, None, refl, subst, arith, inl, inr, ◌⊎◌}
+use Rattle.std.proofs.Common.{◌≡◌, ℕ, ◌/◌, ◌%◌, ◌<◌, Bool, true, false, cond, eqb, List, [], ◌∷◌, length, Option, Some}
+use Rattle.std.proofs.Common.{None, refl, subst, arith, inl, inr, ◌⊎◌}
 use Rattle.std.specs.Prelude.{not, ◌&&◌, ◌||◌}
 use Rattle.std.specs.Option.{option_map}
 use Rattle.amd64_words.specs.declared.register.Register.{Register}
@@ -72,19 +73,24 @@ abbrev if_some : (Row → Bool) → Option Row → Bool
 if_some test None = true
 if_some test (Some r) = test r
 
-either : (test : Row → Bool) (b : Bool) (x y : Option Row) → if_some test x ≡ true → if_some test y ≡ true → if_some test (cond b x y) ≡ true
+either : (test : Row → Bool) (b : Bool) (x y : Option Row) → if_some test x ≡ true → if_some test y ≡ true
+    → if_some test (cond b x y) ≡ true
 either test true x y p q = p
 either test false x y p q = q
 
-mapped : (test : Row → Bool) (f : Condition → Row) (o : Option Condition) → ((c : Condition) → test (f c) ≡ true) → if_some test (option_map f o) ≡ true
+mapped : (test : Row → Bool) (f : Condition → Row) (o : Option Condition) → ((c : Condition) → test (f c) ≡ true)
+    → if_some test (option_map f o) ≡ true
 mapped test f None h = refl
 mapped test f (Some c) h = h c
 
-wide_only : (w r x b : Bool) → if_some (is_short (record { wide = w; register = r; index = x; base = b })) (cond w (Some (row.Register action.ExtendLong)) None) ≡ true
+wide_only : (w r x b : Bool)
+    → if_some (is_short (record { wide = w; register = r; index = x; base = b }))
+    (cond w (Some (row.Register action.ExtendLong)) None) ≡ true
 wide_only true r x b = refl
 wide_only false r x b = refl
 
-low_reaches : (low : ℕ) (w r x b : Bool) → low < 8 → reaches (record { wide = w; register = r; index = x; base = b }) (extended low b) ≡ true
+low_reaches : (low : ℕ) (w r x b : Bool) → low < 8
+    → reaches (record { wide = w; register = r; index = x; base = b }) (extended low b) ≡ true
 low_reaches low w r x true h = or_true (not (is_high (extended low true)))
   where
     or_true : (a : Bool) → (a || true) ≡ true
@@ -95,12 +101,15 @@ low_reaches low w r x false h =
     let t : is_high (extended low false) ≡ false = grind arith in
     rw (t) refl
 
-move_size : (w : Bool) (r x b : Bool) (register : Register) → reaches (record { wide = w; register = r; index = x; base = b }) register ≡ true
-    → is_short (record { wide = w; register = r; index = x; base = b }) (row.Number (numbered.Move register) (cond w size.Eight size.Four)) ≡ true
+move_size : (w : Bool) (r x b : Bool) (register : Register)
+    → reaches (record { wide = w; register = r; index = x; base = b }) register ≡ true
+    → is_short (record { wide = w; register = r; index = x; base = b })
+    (row.Number (numbered.Move register) (cond w size.Eight size.Four)) ≡ true
 move_size true r x b register h = h
 move_size false r x b register h = h
 
-fixed_short : (w r x b : Bool) (opcode : ℕ) → if_some (is_short (record { wide = w; register = r; index = x; base = b })) (fixed_row_of w opcode) ≡ true
+fixed_short : (w r x b : Bool) (opcode : ℕ)
+    → if_some (is_short (record { wide = w; register = r; index = x; base = b })) (fixed_row_of w opcode) ≡ true
 unfolding fixed_row_of
 fixed_short w r x b opcode =
     let t : Row → Bool = is_short (record { wide = w; register = r; index = x; base = b }) in
@@ -150,14 +159,19 @@ short_row rex opcode =
     either (is_short rex) (eqb (opcode / 16) 0x4) _ _ refl
     (either (is_short rex) (eqb (opcode / 8) 0xa) _ _ reach
     (either (is_short rex) (eqb (opcode / 8) 0xb) _ _ reach
-    (either (is_short rex) (eqb (opcode / 8) 0x17) _ _ (move_size rex.wide rex.register rex.index rex.base (extended (opcode % 8) rex.base) reach)
-    (either (is_short rex) (eqb (opcode / 16) 0x7) _ _ (mapped (is_short rex) (λ condition. row.Number (numbered.JumpIf condition) size.One) (condition_of (opcode % 16)) (λ c. refl))
+    (either (is_short rex) (eqb (opcode / 8) 0x17) _ _
+    (move_size rex.wide rex.register rex.index rex.base (extended (opcode % 8) rex.base) reach)
+    (either (is_short rex) (eqb (opcode / 16) 0x7) _ _
+    (mapped (is_short rex) (λ condition. row.Number (numbered.JumpIf condition) size.One)
+    (condition_of (opcode % 16)) (λ c. refl))
     (fixed_short rex.wide rex.register rex.index rex.base opcode)))))
 
 long_row : (opcode : ℕ) → if_some is_long (escaped_row_of opcode) ≡ true
 unfolding escaped_row_of
 long_row opcode =
-    either is_long (eqb (opcode / 16) 0x8) _ _ (mapped is_long (λ condition. row.Number (numbered.JumpIf condition) size.Four) (condition_of (opcode % 16)) (λ c. refl))
+    either is_long (eqb (opcode / 16) 0x8) _ _
+    (mapped is_long (λ condition. row.Number (numbered.JumpIf condition) size.Four) (condition_of (opcode % 16))
+    (λ c. refl))
     (either is_long (eqb opcode 0xb6) _ _ refl
     (either is_long (eqb opcode 0xaf) _ _ refl
     (either is_long (eqb opcode 0x1f) _ _ refl
@@ -169,7 +183,8 @@ found test (Some x) r e h = let same : x ≡ r = cc in subst (λ (y : Row). test
 
 -- which rows an opcode names, by its length
 pub listed : (rex : Rex) (opcode : List ℕ) (r : Row) → named rex opcode ≡ Some r
-    → ((is_short rex r ≡ true) × (length opcode ≡ 1)) ⊎ (((is_long r ≡ true) × (length opcode ≡ 2)) ⊎ ((r ≡ row.EndBranch) × (length opcode ≡ 4)))
+    → ((is_short rex r ≡ true) × (length opcode ≡ 1))
+    ⊎ (((is_long r ≡ true) × (length opcode ≡ 2)) ⊎ ((r ≡ row.EndBranch) × (length opcode ≡ 4)))
 unfolding named
 listed rex [] r e = absurd cc
 listed rex (a ∷ []) r e = inl (found (is_short rex) (row_of rex a) r e (short_row rex a), refl)

@@ -1,7 +1,8 @@
 -- Which rows the opcodes of the forms name.
 use Rattle.std.proofs.Common.{◌≡◌, ◌+◌, ◌*◌, ◌%◌, ◌<◌, Bool, true, false, [], ◌∷◌, Some, refl, arith}
 use Rattle.amd64_words.specs.declared.register.Register.{Register}
-use Rattle.amd64_words.specs.declared.register.Register.TheVariants.{Rax, Rcx, Rdx, Rbx, Rsp, Rbp, Rsi, Rdi, R8, R9, R10, R11, R12, R13, R14, R15}
+use Rattle.amd64_words.specs.declared.register.Register.TheVariants.{Rax, Rcx, Rdx, Rbx, Rsp, Rbp, Rsi, Rdi, R8, R9}
+use Rattle.amd64_words.specs.declared.register.Register.TheVariants.{R10, R11, R12, R13, R14, R15}
 use Rattle.amd64_subset.specs.declared.instr.Arithmetic.{Arithmetic}
 use Rattle.amd64_subset.specs.declared.instr.Arithmetic.TheVariants.{Add, Or, And, Sub, Xor, Compare}
 use Rattle.amd64_subset.specs.declared.instr.Shift.{Shift}
@@ -21,7 +22,9 @@ use Rattle.amd64_encoder.specs.Form.{arithmetic_number, shift_number, condition_
 use Rattle.amd64_encoder.specs.Writing.{is_high}
 use Rattle.amd64_encoder.proofs.Digits.{bits}
 
-pub push_row : (w r x : Bool) (register : Register) → named (bits w r x (is_high register)) ((0x50 + low_bits register) ∷ []) ≡ Some (row.Alone (operation.Push register))
+pub push_row : (w r x : Bool) (register : Register)
+    → named (bits w r x (is_high register)) ((0x50 + low_bits register) ∷ [])
+    ≡ Some (row.Alone (operation.Push register))
 unfolding named row_of fixed_row_of escaped_row_of register_of number_of
 push_row w r x Rax = refl
 push_row w r x Rcx = refl
@@ -40,7 +43,9 @@ push_row w r x R13 = refl
 push_row w r x R14 = refl
 push_row w r x R15 = refl
 
-pub pop_row : (w r x : Bool) (register : Register) → named (bits w r x (is_high register)) ((0x58 + low_bits register) ∷ []) ≡ Some (row.Alone (operation.Pop register))
+pub pop_row : (w r x : Bool) (register : Register)
+    → named (bits w r x (is_high register)) ((0x58 + low_bits register) ∷ [])
+    ≡ Some (row.Alone (operation.Pop register))
 unfolding named row_of fixed_row_of escaped_row_of register_of number_of
 pop_row w r x Rax = refl
 pop_row w r x Rcx = refl
@@ -59,7 +64,9 @@ pop_row w r x R13 = refl
 pop_row w r x R14 = refl
 pop_row w r x R15 = refl
 
-pub move_long_row : (r x : Bool) (register : Register) → named (bits false r x (is_high register)) ((0xb8 + low_bits register) ∷ []) ≡ Some (row.Number (numbered.Move register) size.Four)
+pub move_long_row : (r x : Bool) (register : Register)
+    → named (bits false r x (is_high register)) ((0xb8 + low_bits register) ∷ [])
+    ≡ Some (row.Number (numbered.Move register) size.Four)
 unfolding named row_of fixed_row_of escaped_row_of register_of number_of
 move_long_row r x Rax = refl
 move_long_row r x Rcx = refl
@@ -78,7 +85,9 @@ move_long_row r x R13 = refl
 move_long_row r x R14 = refl
 move_long_row r x R15 = refl
 
-pub move_quad_row : (r x : Bool) (register : Register) → named (bits true r x (is_high register)) ((0xb8 + low_bits register) ∷ []) ≡ Some (row.Number (numbered.Move register) size.Eight)
+pub move_quad_row : (r x : Bool) (register : Register)
+    → named (bits true r x (is_high register)) ((0xb8 + low_bits register) ∷ [])
+    ≡ Some (row.Number (numbered.Move register) size.Eight)
 unfolding named row_of fixed_row_of escaped_row_of register_of number_of
 move_quad_row r x Rax = refl
 move_quad_row r x Rcx = refl
@@ -97,7 +106,8 @@ move_quad_row r x R13 = refl
 move_quad_row r x R14 = refl
 move_quad_row r x R15 = refl
 
-pub into_row : (rex : Rex) (arithmetic : Arithmetic) → named rex ((8 * arithmetic_number arithmetic + 1) ∷ []) ≡ Some (row.Register (action.ComputeInto arithmetic))
+pub into_row : (rex : Rex) (arithmetic : Arithmetic)
+    → named rex ((8 * arithmetic_number arithmetic + 1) ∷ []) ≡ Some (row.Register (action.ComputeInto arithmetic))
 unfolding named row_of fixed_row_of escaped_row_of
 into_row rex Add = refl
 into_row rex Or = refl
@@ -106,7 +116,8 @@ into_row rex Sub = refl
 into_row rex Xor = refl
 into_row rex Compare = refl
 
-pub from_row : (rex : Rex) (arithmetic : Arithmetic) → named rex ((8 * arithmetic_number arithmetic + 3) ∷ []) ≡ Some (row.Register (action.ComputeFrom arithmetic))
+pub from_row : (rex : Rex) (arithmetic : Arithmetic)
+    → named rex ((8 * arithmetic_number arithmetic + 3) ∷ []) ≡ Some (row.Register (action.ComputeFrom arithmetic))
 unfolding named row_of fixed_row_of escaped_row_of
 from_row rex Add = refl
 from_row rex Or = refl
@@ -115,7 +126,9 @@ from_row rex Sub = refl
 from_row rex Xor = refl
 from_row rex Compare = refl
 
-pub rax_row : (rex : Rex) (arithmetic : Arithmetic) → named rex ((8 * arithmetic_number arithmetic + 5) ∷ []) ≡ Some (row.Number (numbered.Compute arithmetic) size.Four)
+pub rax_row : (rex : Rex) (arithmetic : Arithmetic)
+    → named rex ((8 * arithmetic_number arithmetic + 5) ∷ [])
+    ≡ Some (row.Number (numbered.Compute arithmetic) size.Four)
 unfolding named row_of fixed_row_of escaped_row_of
 rax_row rex Add = refl
 rax_row rex Or = refl
@@ -124,7 +137,8 @@ rax_row rex Sub = refl
 rax_row rex Xor = refl
 rax_row rex Compare = refl
 
-pub short_jump_row : (rex : Rex) (condition : Condition) → named rex ((0x70 + condition_number condition) ∷ []) ≡ Some (row.Number (numbered.JumpIf condition) size.One)
+pub short_jump_row : (rex : Rex) (condition : Condition)
+    → named rex ((0x70 + condition_number condition) ∷ []) ≡ Some (row.Number (numbered.JumpIf condition) size.One)
 unfolding named row_of fixed_row_of escaped_row_of condition_of
 short_jump_row rex condition.Overflow = refl
 short_jump_row rex condition.NotOverflow = refl
@@ -141,7 +155,9 @@ short_jump_row rex condition.NotLess = refl
 short_jump_row rex condition.LessOrEqual = refl
 short_jump_row rex condition.Greater = refl
 
-pub long_jump_row : (rex : Rex) (condition : Condition) → named rex (0x0f ∷ (0x80 + condition_number condition) ∷ []) ≡ Some (row.Number (numbered.JumpIf condition) size.Four)
+pub long_jump_row : (rex : Rex) (condition : Condition)
+    → named rex (0x0f ∷ (0x80 + condition_number condition) ∷ [])
+    ≡ Some (row.Number (numbered.JumpIf condition) size.Four)
 unfolding named row_of fixed_row_of escaped_row_of condition_of
 long_jump_row rex condition.Overflow = refl
 long_jump_row rex condition.NotOverflow = refl

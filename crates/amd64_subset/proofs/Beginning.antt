@@ -1,5 +1,6 @@
 -- Bytes begin a spelling exactly where some are missing and there is room for them.
-use Rattle.std.proofs.Common.{◌≡◌, ℕ, ◌+◌, ◌-◌, ◌<◌, ◌≤◌, ◌↔◌, Bool, true, false, cond, ltb, List, [], ◌∷◌, ◌++◌, length, take, drop, Option, Some, None, Ok, Err, refl, sym, ap, subst, ◌∙◌}
+use Rattle.std.proofs.Common.{◌≡◌, ℕ, ◌+◌, ◌-◌, ◌<◌, ◌≤◌, ◌↔◌, Bool, true, false, cond, ltb, List, [], ◌∷◌, ◌++◌}
+use Rattle.std.proofs.Common.{length, take, drop, Option, Some, None, Ok, Err, refl, sym, ap, subst, ◌∙◌}
 use Rattle.std.proofs.Common.{append-nil, arith, inl, inr}
 use Rattle.std.proofs.lemmas.Bool.{lt-ltb, le-leb, leb-true, cases_lt}
 use Rattle.std.proofs.lemmas.List.{length-append, take-append-le, take-append-drop}
@@ -10,20 +11,25 @@ use Rattle.amd64_subset.specs.declared.meaning.Body.{Body}
 use Rattle.amd64_subset.specs.Reading.{Read}
 use Rattle.amd64_subset.specs.Decoding.{placed, instruction_at, decoded}
 use Rattle.amd64_subset.specs.Spelling.{HasParts, Spells}
-use Rattle.amd64_subset.specs.Beginning.{BeginsSpelling, has_room, begins_of}
+use Rattle.amd64_subset.specs.Beginning.{has_room, begins_of}
+use Rattle.amd64_subset.specs.BeginningLaws.{BeginsSpelling}
 use Rattle.amd64_subset.proofs.Whole.{instruction_takes, instruction_again, decoded_found, decoded_again}
 use Rattle.amd64_subset.proofs.MissingStart.{instruction_cuts, instruction_completes}
 
 -- what spells with more bytes behind it has room for them
-pub spelling_begins : (bytes more : List ℕ) (d : Decoded) → 0 < length more → Spells (bytes ++ more) d → begins_of bytes ≡ true
+pub spelling_begins : (bytes more : List ℕ) (d : Decoded) → 0 < length more → Spells (bytes ++ more) d
+    → begins_of bytes ≡ true
 unfolding begins_of
 spelling_begins bytes more d some h =
-    let read : instruction_at (bytes ++ more) ≡ Ok (h.body, []) = ap instruction_at (sym (append-nil (bytes ++ more))) ∙ instruction_again (bytes ++ more) h.body [] h.parts in
+    let read : instruction_at (bytes ++ more) ≡ Ok (h.body, []) = ap instruction_at (sym (append-nil (bytes ++ more)))
+    ∙ instruction_again (bytes ++ more) h.body [] h.parts in
     let lacks = instruction_cuts bytes more h.body [] read some in
     let short : length bytes < 15 = omega (arith, h.short, length-append bytes more) in
-    rw (lt-ltb (length bytes) 15 short, lacks.is) (le-leb _ _ (omega (arith, h.short, length-append bytes more, lacks.bound)))
+    rw (lt-ltb (length bytes) 15 short, lacks.is)
+    (le-leb _ _ (omega (arith, h.short, length-append bytes more, lacks.bound)))
 
-room_left : (bytes : List ℕ) (r : Read Body) → instruction_at bytes ≡ r → has_room (length bytes) r ≡ true → (n : ℕ) × (instruction_at bytes ≡ Err (Short n)) × (length bytes + n ≤ 15)
+room_left : (bytes : List ℕ) (r : Read Body) → instruction_at bytes ≡ r → has_room (length bytes) r ≡ true
+    → (n : ℕ) × (instruction_at bytes ≡ Err (Short n)) × (length bytes + n ≤ 15)
 room_left bytes (Err (Short n)) is e = (n, is, leb-true _ _ e)
 room_left bytes (Err Wrong) is e = absurd cc
 room_left bytes (Ok read) is e = absurd cc
@@ -32,8 +38,10 @@ short_room : (b : Bool) (x : Bool) → cond b x false ≡ true → x ≡ true
 short_room true x e = e
 short_room false x e = absurd cc
 
-some_missing : (bytes tail : List ℕ) (x : Body) (n : ℕ) → instruction_at bytes ≡ Err (Short n) → instruction_at (bytes ++ tail) ≡ Ok (x, []) → 0 < length tail
-some_missing bytes [] x n short whole = absurd (let e : instruction_at bytes ≡ Ok (x, []) = ap instruction_at (sym (append-nil bytes)) ∙ whole in cc)
+some_missing : (bytes tail : List ℕ) (x : Body) (n : ℕ) → instruction_at bytes ≡ Err (Short n)
+    → instruction_at (bytes ++ tail) ≡ Ok (x, []) → 0 < length tail
+some_missing bytes [] x n short whole =
+    absurd (let e : instruction_at bytes ≡ Ok (x, []) = ap instruction_at (sym (append-nil bytes)) ∙ whole in cc)
 some_missing bytes (b ∷ tail) x n short whole = omega arith
 
 pub begins_spelling : (bytes : List ℕ) → begins_of bytes ≡ true → BeginsSpelling bytes
@@ -72,14 +80,17 @@ none_lem bytes tail none no_more = go (decoded (bytes ++ tail)) refl
           | inl longer ↦
               let k : ℕ = d.len - length bytes in
               let n : d.len ≡ length bytes + k = omega arith in
-              let front : take d.len (bytes ++ tail) ≡ bytes ++ take k tail = ap (λ (m : ℕ). take m (bytes ++ tail)) n ∙ take-append-add bytes tail k in
+              let front : take d.len (bytes ++ tail) ≡ bytes ++ take k tail = ap (λ (m : ℕ). take m (bytes ++ tail)) n
+              ∙ take-append-add bytes tail k in
               let spells : Spells (bytes ++ take k tail) d = subst (λ (x : List ℕ). Spells x d) front found.spells in
-              let some : 0 < length (take k tail) = omega (arith, ap length front, length-append bytes (take k tail), found.len-length) in
+              let some : 0 < length (take k tail) =
+              omega (arith, ap length front, length-append bytes (take k tail), found.len-length) in
               let begins = spelling_begins bytes (take k tail) d some spells in
               cc
           | inr within ↦
               let front : take d.len (bytes ++ tail) ≡ take d.len bytes = take-append-le d.len bytes tail within in
               let spells : Spells (take d.len bytes) d = subst (λ (x : List ℕ). Spells x d) front found.spells in
-              let read : decoded bytes ≡ Some d = ap decoded (sym (take-append-drop d.len bytes)) ∙ decoded_again (take d.len bytes) d (drop d.len bytes) spells in
+              let read : decoded bytes ≡ Some d = ap decoded (sym (take-append-drop d.len bytes))
+              ∙ decoded_again (take d.len bytes) d (drop d.len bytes) spells in
               cc
         ])

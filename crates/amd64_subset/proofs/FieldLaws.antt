@@ -1,5 +1,6 @@
 -- What another number in a field's place changes.
-use Rattle.std.proofs.Common.{◌≡◌, ℕ, ◌+◌, ◌-◌, ◌%◌, ◌≤◌, Bool, true, false, cond, List, [], ◌∷◌, ◌++◌, length, take, drop, Option, Some, None, refl, sym, ap, ◌∙◌, append_assoc, append-nil, arith}
+use Rattle.std.proofs.Common.{◌≡◌, ℕ, ◌+◌, ◌-◌, ◌%◌, ◌≤◌, Bool, true, false, cond, List, [], ◌∷◌, ◌++◌, length, take}
+use Rattle.std.proofs.Common.{drop, Option, Some, None, refl, sym, ap, ◌∙◌, append_assoc, append-nil, arith}
 use Rattle.std.specs.Option.{option_to_list}
 use Rattle.std.proofs.lemmas.List.{length-append, take_at, drop_at, take-append-drop}
 use Rattle.std.proofs.lemmas.Bool.{cond-true}
@@ -19,9 +20,11 @@ use Rattle.amd64_subset.specs.declared.selectors.Selectors.{Selectors}
 use Rattle.amd64_subset.specs.declared.meaning.Body.{Body}
 use Rattle.amd64_subset.specs.Number.{count_of, signed_of}
 use Rattle.amd64_subset.specs.Selectors.{displacement_size}
-use Rattle.amd64_subset.specs.Meaning.{width_of, from_end, is_immediate, takes_immediate, numbered_body, operation_of, operand_body}
+use Rattle.amd64_subset.specs.Meaning.{width_of, from_end, is_immediate, takes_immediate, numbered_body, operation_of}
+use Rattle.amd64_subset.specs.Meaning.{operand_body}
 use Rattle.amd64_subset.specs.Decoding.{before, placed, decoded}
-use Rattle.amd64_subset.specs.Spelling.{prefixes_of, IsOperated, HasBody, HasParts, Spells, field_of, with_displacement, with_immediate}
+use Rattle.amd64_subset.specs.Spelling.{prefixes_of, IsOperated, HasBody, HasParts, Spells, field_of, with_displacement}
+use Rattle.amd64_subset.specs.Spelling.{with_immediate}
 use Rattle.amd64_subset.proofs.Whole.{decoded_found, decoded_again}
 
 -- two splittings of one list at one place
@@ -34,21 +37,25 @@ same_split a b x y e len = (
 pub spells_len : (bytes : List ℕ) (d : Decoded) → Spells bytes d → d.len ≡ length bytes
 spells_len bytes d h = ap (λ (x : Decoded). x.len) h.decoded-is
 
-pub one_spelling_lem : (a b x y : List ℕ) (d e : Decoded) → Spells a d → Spells b e → a ++ x ≡ b ++ y → (a ≡ b) × (d ≡ e)
+pub one_spelling_lem : (a b x y : List ℕ) (d e : Decoded) → Spells a d → Spells b e → a ++ x ≡ b ++ y
+    → (a ≡ b) × (d ≡ e)
 one_spelling_lem a b x y d e first second same =
     let one : decoded (a ++ x) ≡ Some d = decoded_again a d x first in
     let two : decoded (a ++ x) ≡ Some e = ap decoded same ∙ decoded_again b e y second in
     let equal : d ≡ e = cc in
-    let len : length a ≡ length b = sym (spells_len a d first) ∙ ap (λ (z : Decoded). z.len) equal ∙ spells_len b e second in
+    let len : length a ≡ length b = sym (spells_len a d first) ∙ ap (λ (z : Decoded). z.len) equal
+    ∙ spells_len b e second in
     ((same_split a b x y same len).0, equal)
 
-pub front_lem : (bytes tail : List ℕ) (d : Decoded) → decoded bytes ≡ Some d → decoded (take d.len bytes ++ tail) ≡ Some d
+pub front_lem : (bytes tail : List ℕ) (d : Decoded) → decoded bytes ≡ Some d
+    → decoded (take d.len bytes ++ tail) ≡ Some d
 front_lem bytes tail d e = decoded_again (take d.len bytes) d tail (decoded_found bytes d e).spells
 
 -- ---- what stands behind an opcode, with a field in it
 
 -- With any other four bytes between these two parts, the body is the same but for this change.
-pub record HasGap (prefixes : Prefixes) (r : Row) (rest : List ℕ) (change : ℕ → Body → Body) (back : ℕ) (body : Body) (number : ℕ) : Type 0 where
+pub record HasGap (prefixes : Prefixes) (r : Row) (rest : List ℕ) (change : ℕ → Body → Body) (back : ℕ) (body : Body)
+    (number : ℕ) : Type 0 where
   pub left : List ℕ
   pub four : List ℕ
   pub right : List ℕ
@@ -70,12 +77,15 @@ four_back size.One behind back e = absurd cc
 four_back size.Four behind back e = (refl, cc)
 four_back size.Eight behind back e = absurd cc
 
-operated_displaced : (prefixes : Prefixes) (r : Row) (s : Size) (rest : List ℕ) (body : Body) (back : ℕ) → IsOperated prefixes r s rest body
-    → ((o : List ℕ) (b : Body) → IsOperated prefixes r s o b → HasBody prefixes r o b) → body.disp ≡ Some back → HasGap prefixes r rest displaced back body body.instr.displacement
+operated_displaced : (prefixes : Prefixes) (r : Row) (s : Size) (rest : List ℕ) (body : Body) (back : ℕ)
+    → IsOperated prefixes r s rest body
+    → ((o : List ℕ) (b : Body) → IsOperated prefixes r s o b → HasBody prefixes r o b) → body.disp ≡ Some back
+    → HasGap prefixes r rest displaced back body body.instr.displacement
 unfolding operand_body
 operated_displaced prefixes r s rest body back h as_body e =
     let selectors : Selectors = record { modrm = h.modrm; sib = h.sib } in
-    let place : from_end (displacement_size selectors) (count_of s) ≡ Some back = ap (λ (b : Body). b.disp) (sym h.body-is) ∙ e in
+    let place : from_end (displacement_size selectors) (count_of s) ≡ Some back =
+    ap (λ (b : Body). b.disp) (sym h.body-is) ∙ e in
     let size-is = four_back (displacement_size selectors) (count_of s) back place in
     let four-is : displacement_size selectors ≡ size.Four = size-is.0 in
     record {
@@ -85,26 +95,30 @@ operated_displaced prefixes r s rest body back h as_body e =
       whole = h.whole;
       four-length = h.displacement-length ∙ ap count_of four-is;
       right-length = size-is.1 ∙ ap (λ (n : ℕ). n + 4) (sym h.immediate-length);
-      number-is = ap (λ (b : Body). b.instr.displacement) h.body-is ∙ ap (λ (x : Size). signed_of x h.displacement) four-is;
-      other = λ o len. as_body (h.modrm ∷ (option_to_list h.sib ++ (o ++ h.immediate))) (displaced (field_of o) body) (record {
-        modrm = h.modrm;
-        sib = h.sib;
-        displacement = o;
-        immediate = h.immediate;
-        action = h.action;
-        whole = refl;
-        action-is = h.action-is;
-        allows = h.allows;
-        has_sib = h.has_sib;
-        displacement-length = len ∙ ap count_of (sym four-is);
-        immediate-length = h.immediate-length;
-        body-is = ap (λ (b : Body). displaced (field_of o) b) h.body-is
-            ∙ ap (λ (x : Size). operand_body h.action prefixes selectors s (record { displacement = signed_of x o; immediate = signed_of s h.immediate })) (sym four-is);
-      });
+      number-is = ap (λ (b : Body). b.instr.displacement) h.body-is
+          ∙ ap (λ (x : Size). signed_of x h.displacement) four-is;
+      other = λ o len. as_body (h.modrm ∷ (option_to_list h.sib ++ (o ++ h.immediate))) (displaced (field_of o) body)
+          (record {
+            modrm = h.modrm;
+            sib = h.sib;
+            displacement = o;
+            immediate = h.immediate;
+            action = h.action;
+            whole = refl;
+            action-is = h.action-is;
+            allows = h.allows;
+            has_sib = h.has_sib;
+            displacement-length = len ∙ ap count_of (sym four-is);
+            immediate-length = h.immediate-length;
+            body-is = ap (λ (b : Body). displaced (field_of o) b) h.body-is
+                ∙ ap (λ (x : Size). operand_body h.action prefixes selectors s
+                (record { displacement = signed_of x o; immediate = signed_of s h.immediate })) (sym four-is);
+          });
     }
 
 -- what has an immediate is no shift, so its operation does not depend on a count
-same_operation : (a : Action) (prefixes : Prefixes) (selectors : Selectors) (m n : ℕ) → takes_immediate a ≡ true → operation_of a prefixes selectors m ≡ operation_of a prefixes selectors n
+same_operation : (a : Action) (prefixes : Prefixes) (selectors : Selectors) (m n : ℕ) → takes_immediate a ≡ true
+    → operation_of a prefixes selectors m ≡ operation_of a prefixes selectors n
 unfolding operation_of
 same_operation action.MoveImmediate prefixes selectors m n e = refl
 same_operation (action.ComputeImmediate arithmetic) prefixes selectors m n e = refl
@@ -119,15 +133,19 @@ some_if : (b : Bool) (o : Option ℕ) (back : ℕ) → cond b o None ≡ Some ba
 some_if true o back e = (refl, e)
 some_if false o back e = absurd cc
 
-operated_immediate : (prefixes : Prefixes) (r : Row) (s : Size) (rest : List ℕ) (body : Body) (back : ℕ) → IsOperated prefixes r s rest body
-    → ((o : List ℕ) (b : Body) → IsOperated prefixes r s o b → HasBody prefixes r o b) → body.imm ≡ Some back → HasGap prefixes r rest immediately back body body.instr.immediate
+operated_immediate : (prefixes : Prefixes) (r : Row) (s : Size) (rest : List ℕ) (body : Body) (back : ℕ)
+    → IsOperated prefixes r s rest body
+    → ((o : List ℕ) (b : Body) → IsOperated prefixes r s o b → HasBody prefixes r o b) → body.imm ≡ Some back
+    → HasGap prefixes r rest immediately back body body.instr.immediate
 unfolding operand_body
 operated_immediate prefixes r s rest body back h as_body e =
     let selectors : Selectors = record { modrm = h.modrm; sib = h.sib } in
-    let imm : cond (takes_immediate h.action) (from_end s 0) None ≡ Some back = ap (λ (b : Body). b.imm) (sym h.body-is) ∙ e in
+    let imm : cond (takes_immediate h.action) (from_end s 0) None ≡ Some back = ap (λ (b : Body). b.imm) (sym h.body-is)
+    ∙ e in
     let takes = some_if (takes_immediate h.action) (from_end s 0) back imm in
     let size-is = four_back s 0 back takes.1 in
-    let number : cond (takes_immediate h.action) (signed_of s h.immediate) 0 ≡ signed_of s h.immediate = rw (takes.0) refl in
+    let number : cond (takes_immediate h.action) (signed_of s h.immediate) 0 ≡ signed_of s h.immediate =
+    rw (takes.0) refl in
     record {
       left = h.modrm ∷ (option_to_list h.sib ++ h.displacement);
       four = h.immediate;
@@ -135,10 +153,13 @@ operated_immediate prefixes r s rest body back h as_body e =
       whole = h.whole ∙ simp (append_assoc, append-nil);
       four-length = h.immediate-length ∙ ap count_of size-is.0;
       right-length = omega (arith, size-is.1);
-      number-is = ap (λ (b : Body). b.instr.immediate) h.body-is ∙ number ∙ ap (λ (x : Size). signed_of x h.immediate) size-is.0;
-      other = λ o len. let number_of : field_of o ≡ cond (takes_immediate h.action) (signed_of s o) 0 = ap (λ (x : Size). signed_of x o) (sym size-is.0)
+      number-is = ap (λ (b : Body). b.instr.immediate) h.body-is ∙ number
+          ∙ ap (λ (x : Size). signed_of x h.immediate) size-is.0;
+      other = λ o len. let number_of : field_of o ≡ cond (takes_immediate h.action) (signed_of s o) 0 =
+          ap (λ (x : Size). signed_of x o) (sym size-is.0)
           ∙ sym (cond-true (takes_immediate h.action) (signed_of s o) 0 takes.0) in
-          as_body ((h.modrm ∷ (option_to_list h.sib ++ h.displacement)) ++ (o ++ [])) (immediately (field_of o) body) (record {
+          as_body ((h.modrm ∷ (option_to_list h.sib ++ h.displacement)) ++ (o ++ [])) (immediately (field_of o) body)
+          (record {
             modrm = h.modrm;
             sib = h.sib;
             displacement = h.displacement;
@@ -151,11 +172,14 @@ operated_immediate prefixes r s rest body back h as_body e =
             displacement-length = h.displacement-length;
             immediate-length = len ∙ ap count_of (sym size-is.0);
             body-is = ap (λ (b : Body). immediately (field_of o) b) h.body-is
-                ∙ rebuilt _ _ _ _ _ _ _ (same_operation h.action prefixes selectors (signed_of s h.immediate % 256) (signed_of s o % 256) takes.0) number_of;
+                ∙ rebuilt _ _ _ _ _ _ _
+                (same_operation h.action prefixes selectors (signed_of s h.immediate % 256)
+                (signed_of s o % 256) takes.0) number_of;
           });
     }
 
-is_immediate_imm : (action : Numbered) (w : Width) (s : Size) (n back : ℕ) → (numbered_body action w s n).imm ≡ Some back → (is_immediate action ≡ true) × (from_end s 0 ≡ Some back)
+is_immediate_imm : (action : Numbered) (w : Width) (s : Size) (n back : ℕ)
+    → (numbered_body action w s n).imm ≡ Some back → (is_immediate action ≡ true) × (from_end s 0 ≡ Some back)
 unfolding numbered_body
 is_immediate_imm numbered.Call w s n back e = absurd cc
 is_immediate_imm numbered.Jump w s n back e = absurd cc
@@ -163,13 +187,15 @@ is_immediate_imm (numbered.JumpIf c) w s n back e = absurd cc
 is_immediate_imm (numbered.Move r) w s n back e = (refl, e)
 is_immediate_imm (numbered.Compute a) w s n back e = (refl, e)
 
-immediate_of : (action : Numbered) (w : Width) (s : Size) (n : ℕ) → is_immediate action ≡ true → (numbered_body action w s n).instr.immediate ≡ n
+immediate_of : (action : Numbered) (w : Width) (s : Size) (n : ℕ) → is_immediate action ≡ true
+    → (numbered_body action w s n).instr.immediate ≡ n
 unfolding numbered_body
 immediate_of (numbered.Move r) w s n e = refl
 immediate_of (numbered.Compute a) w s n e = refl
 immediate_of action w s n e = absurd cc
 
-other_immediate : (action : Numbered) (w : Width) (s : Size) (m n : ℕ) → is_immediate action ≡ true → immediately n (numbered_body action w s m) ≡ numbered_body action w s n
+other_immediate : (action : Numbered) (w : Width) (s : Size) (m n : ℕ) → is_immediate action ≡ true
+    → immediately n (numbered_body action w s m) ≡ numbered_body action w s n
 unfolding numbered_body
 other_immediate (numbered.Move r) w s m n e = refl
 other_immediate (numbered.Compute a) w s m n e = refl
@@ -185,9 +211,11 @@ numbered_disp (numbered.Compute a) w s n = refl
 
 -- a number alone
 numbered_immediate : (action : Numbered) (s : Size) (prefixes : Prefixes) (rest : List ℕ) (body : Body) (back : ℕ)
-    → HasBody prefixes (row.Number action s) rest body → body.imm ≡ Some back → HasGap prefixes (row.Number action s) rest immediately back body body.instr.immediate
+    → HasBody prefixes (row.Number action s) rest body → body.imm ≡ Some back
+    → HasGap prefixes (row.Number action s) rest immediately back body body.instr.immediate
 numbered_immediate action s prefixes rest body back h e =
-    let imm : (numbered_body action (width_of prefixes) s (signed_of s rest)).imm ≡ Some back = ap (λ (b : Body). b.imm) (sym h.1) ∙ e in
+    let imm : (numbered_body action (width_of prefixes) s (signed_of s rest)).imm ≡ Some back =
+    ap (λ (b : Body). b.imm) (sym h.1) ∙ e in
     let is = is_immediate_imm action (width_of prefixes) s (signed_of s rest) back imm in
     let size-is = four_back s 0 back is.1 in
     record {
@@ -197,40 +225,60 @@ numbered_immediate action s prefixes rest body back h e =
       whole = sym (append-nil rest);
       four-length = h.0 ∙ ap count_of size-is.0;
       right-length = size-is.1;
-      number-is = ap (λ (b : Body). b.instr.immediate) h.1 ∙ immediate_of action (width_of prefixes) s (signed_of s rest) is.0 ∙ ap (λ (x : Size). signed_of x rest) size-is.0;
+      number-is = ap (λ (b : Body). b.instr.immediate) h.1
+          ∙ immediate_of action (width_of prefixes) s (signed_of s rest) is.0
+          ∙ ap (λ (x : Size). signed_of x rest) size-is.0;
       other = λ o len. (
         ap length (append-nil o) ∙ len ∙ ap count_of (sym size-is.0),
         ap (λ (b : Body). immediately (field_of o) b) h.1
             ∙ other_immediate action (width_of prefixes) s (signed_of s rest) (field_of o) is.0
-            ∙ ap (λ (n : ℕ). numbered_body action (width_of prefixes) s n) (ap (λ (x : Size). signed_of x o) (sym size-is.0) ∙ ap (λ (l : List ℕ). signed_of s l) (sym (append-nil o))),
+            ∙ ap (λ (n : ℕ). numbered_body action (width_of prefixes) s n)
+            (ap (λ (x : Size). signed_of x o) (sym size-is.0)
+            ∙ ap (λ (l : List ℕ). signed_of s l) (sym (append-nil o))),
       );
     }
 
-no_displacement : (prefixes : Prefixes) (r : Row) (rest : List ℕ) (body : Body) (back : ℕ) → body.disp ≡ None → body.disp ≡ Some back
+no_displacement : (prefixes : Prefixes) (r : Row) (rest : List ℕ) (body : Body) (back : ℕ) → body.disp ≡ None
+    → body.disp ≡ Some back
     → HasGap prefixes r rest displaced back body body.instr.displacement
 no_displacement prefixes r rest body back none some = absurd cc
 
-pub body_displaced : (prefixes : Prefixes) (r : Row) (rest : List ℕ) (body : Body) (back : ℕ) → HasBody prefixes r rest body → body.disp ≡ Some back
+pub body_displaced : (prefixes : Prefixes) (r : Row) (rest : List ℕ) (body : Body) (back : ℕ)
+    → HasBody prefixes r rest body → body.disp ≡ Some back
     → HasGap prefixes r rest displaced back body body.instr.displacement
-body_displaced prefixes (row.Alone operation) rest body back h e = no_displacement prefixes (row.Alone operation) rest body back (ap (λ (b : Body). b.disp) h.1) e
-body_displaced prefixes row.Nop rest body back h e = no_displacement prefixes row.Nop rest body back (ap (λ (b : Body). b.disp) h.1) e
-body_displaced prefixes row.EndBranch rest body back h e = no_displacement prefixes row.EndBranch rest body back (ap (λ (b : Body). b.disp) h.1) e
-body_displaced prefixes (row.Number action s) rest body back h e = no_displacement prefixes (row.Number action s) rest body back
+body_displaced prefixes (row.Alone operation) rest body back h e =
+    no_displacement prefixes (row.Alone operation) rest body back (ap (λ (b : Body). b.disp) h.1) e
+body_displaced prefixes row.Nop rest body back h e =
+    no_displacement prefixes row.Nop rest body back (ap (λ (b : Body). b.disp) h.1) e
+body_displaced prefixes row.EndBranch rest body back h e =
+    no_displacement prefixes row.EndBranch rest body back (ap (λ (b : Body). b.disp) h.1) e
+body_displaced prefixes (row.Number action s) rest body back h e =
+    no_displacement prefixes (row.Number action s) rest body back
     (ap (λ (b : Body). b.disp) h.1 ∙ numbered_disp action (width_of prefixes) s (signed_of s rest)) e
-body_displaced prefixes (row.Register action) rest body back h e = operated_displaced prefixes (row.Register action) size.Zero rest body back h (λ o b x. x) e
-body_displaced prefixes (row.Group group s) rest body back h e = operated_displaced prefixes (row.Group group s) s rest body back h (λ o b x. x) e
+body_displaced prefixes (row.Register action) rest body back h e =
+    operated_displaced prefixes (row.Register action) size.Zero rest body back h (λ o b x. x) e
+body_displaced prefixes (row.Group group s) rest body back h e =
+    operated_displaced prefixes (row.Group group s) s rest body back h (λ o b x. x) e
 
-no_immediate : (prefixes : Prefixes) (r : Row) (rest : List ℕ) (body : Body) (back : ℕ) → body.imm ≡ None → body.imm ≡ Some back → HasGap prefixes r rest immediately back body body.instr.immediate
+no_immediate : (prefixes : Prefixes) (r : Row) (rest : List ℕ) (body : Body) (back : ℕ) → body.imm ≡ None
+    → body.imm ≡ Some back → HasGap prefixes r rest immediately back body body.instr.immediate
 no_immediate prefixes r rest body back none some = absurd cc
 
-pub body_immediate : (prefixes : Prefixes) (r : Row) (rest : List ℕ) (body : Body) (back : ℕ) → HasBody prefixes r rest body → body.imm ≡ Some back
+pub body_immediate : (prefixes : Prefixes) (r : Row) (rest : List ℕ) (body : Body) (back : ℕ)
+    → HasBody prefixes r rest body → body.imm ≡ Some back
     → HasGap prefixes r rest immediately back body body.instr.immediate
-body_immediate prefixes (row.Alone operation) rest body back h e = no_immediate prefixes (row.Alone operation) rest body back (ap (λ (b : Body). b.imm) h.1) e
-body_immediate prefixes row.Nop rest body back h e = no_immediate prefixes row.Nop rest body back (ap (λ (b : Body). b.imm) h.1) e
-body_immediate prefixes row.EndBranch rest body back h e = no_immediate prefixes row.EndBranch rest body back (ap (λ (b : Body). b.imm) h.1) e
-body_immediate prefixes (row.Number action s) rest body back h e = numbered_immediate action s prefixes rest body back h e
-body_immediate prefixes (row.Register action) rest body back h e = operated_immediate prefixes (row.Register action) size.Zero rest body back h (λ o b x. x) e
-body_immediate prefixes (row.Group group s) rest body back h e = operated_immediate prefixes (row.Group group s) s rest body back h (λ o b x. x) e
+body_immediate prefixes (row.Alone operation) rest body back h e =
+    no_immediate prefixes (row.Alone operation) rest body back (ap (λ (b : Body). b.imm) h.1) e
+body_immediate prefixes row.Nop rest body back h e =
+    no_immediate prefixes row.Nop rest body back (ap (λ (b : Body). b.imm) h.1) e
+body_immediate prefixes row.EndBranch rest body back h e =
+    no_immediate prefixes row.EndBranch rest body back (ap (λ (b : Body). b.imm) h.1) e
+body_immediate prefixes (row.Number action s) rest body back h e =
+    numbered_immediate action s prefixes rest body back h e
+body_immediate prefixes (row.Register action) rest body back h e =
+    operated_immediate prefixes (row.Register action) size.Zero rest body back h (λ o b x. x) e
+body_immediate prefixes (row.Group group s) rest body back h e =
+    operated_immediate prefixes (row.Group group s) s rest body back h (λ o b x. x) e
 
 -- ---- the whole instruction
 
@@ -239,24 +287,41 @@ before_some None len n e = absurd cc
 before_some (Some back) len n e = (back, refl, cc)
 
 -- the field of an instruction that was read, and what another number there gives
-pub record Around (bytes four tail : List ℕ) (body : Body) (len : ℕ) (change : ℕ → Body → Body) (number : ℕ) : Type 0 where
-  pub number-is : number ≡ field_of four
-  pub other : (o : List ℕ) → length o ≡ 4 → decoded (bytes ++ (o ++ tail)) ≡ Some (placed len (change (field_of o) body))
+pub record Around (bytes four tail : List ℕ) (body : Body) (len : ℕ) (change : ℕ → Body → Body) (number : ℕ) : Type 0
+  where
+    pub number-is : number ≡ field_of four
+    pub other : (o : List ℕ) → length o ≡ 4
+        → decoded (bytes ++ (o ++ tail)) ≡ Some (placed len (change (field_of o) body))
 
-regrouped : (left four right rest whole : List ℕ) → whole ≡ left ++ (four ++ right) → left ++ (four ++ (right ++ rest)) ≡ whole ++ rest
+regrouped : (left four right rest whole : List ℕ) → whole ≡ left ++ (four ++ right)
+    → left ++ (four ++ (right ++ rest)) ≡ whole ++ rest
 regrouped left four right rest whole parts = rw (parts) (simp append_assoc)
 
-new_whole : (left o right rest bytes tail : List ℕ) → left ≡ bytes → right ++ rest ≡ tail → (left ++ (o ++ right)) ++ rest ≡ bytes ++ (o ++ tail)
+new_whole : (left o right rest bytes tail : List ℕ) → left ≡ bytes → right ++ rest ≡ tail
+    → (left ++ (o ++ right)) ++ rest ≡ bytes ++ (o ++ tail)
 new_whole left o right rest bytes tail same end = rw (← same, ← end) (simp append_assoc)
 
-around : (bytes four tail whole rest : List ℕ) (body : Body) (change : ℕ → Body → Body) (number back : ℕ) (p : HasParts whole body) → length whole ≤ 15
-    → whole ++ rest ≡ bytes ++ (four ++ tail) → length four ≡ 4 → HasGap (prefixes_of p.marks p.rex) p.row p.rest change back body number
+around : (bytes four tail whole rest : List ℕ) (body : Body) (change : ℕ → Body → Body) (number back : ℕ)
+    (p : HasParts whole body) → length whole ≤ 15
+    → whole ++ rest ≡ bytes ++ (four ++ tail) → length four ≡ 4
+    → HasGap (prefixes_of p.marks p.rex) p.row p.rest change back body number
     → length whole - back ≡ length bytes → Around bytes four tail body (length whole) change number
 around bytes four tail whole rest body change number back p short same four-length gap at =
     let left = p.marks ++ (option_to_list p.rex ++ (p.opcode ++ gap.left)) in
-    let parts : whole ≡ left ++ (gap.four ++ gap.right) = p.whole ∙ ap (λ (t : List ℕ). p.marks ++ (option_to_list p.rex ++ (p.opcode ++ t))) gap.whole ∙ simp append_assoc in
-    let len : length left ≡ length bytes = omega (arith, at, ap length parts, length-append left (gap.four ++ gap.right), length-append gap.four gap.right, gap.right-length, gap.four-length) in
-    let grouped : left ++ (gap.four ++ (gap.right ++ rest)) ≡ bytes ++ (four ++ tail) = regrouped left gap.four gap.right rest whole parts ∙ same in
+    let parts : whole ≡ left ++ (gap.four ++ gap.right) = p.whole
+    ∙ ap (λ (t : List ℕ). p.marks ++ (option_to_list p.rex ++ (p.opcode ++ t))) gap.whole ∙ simp append_assoc in
+    let len : length left ≡ length bytes =
+    omega (
+      arith,
+      at,
+      ap length parts,
+      length-append left (gap.four ++ gap.right),
+      length-append gap.four gap.right,
+      gap.right-length,
+      gap.four-length,
+    ) in
+    let grouped : left ++ (gap.four ++ (gap.right ++ rest)) ≡ bytes ++ (four ++ tail) =
+    regrouped left gap.four gap.right rest whole parts ∙ same in
     let first = same_split left bytes (gap.four ++ (gap.right ++ rest)) (four ++ tail) grouped len in
     let second = same_split gap.four four (gap.right ++ rest) tail first.1 (gap.four-length ∙ sym four-length) in
     record {
@@ -287,34 +352,51 @@ around bytes four tail whole rest body change number back p short same four-leng
             has_body = gap.other o o-length;
           } in
           let spells : Spells new (placed (length whole) (change (field_of o) body)) =
-          record { body = change (field_of o) body; short = omega arith; parts = new-parts; decoded-is = ap (λ (n : ℕ). placed n (change (field_of o) body)) (sym new-length) } in
-          ap decoded (sym (new_whole left o gap.right rest bytes tail first.0 second.1)) ∙ decoded_again new (placed (length whole) (change (field_of o) body)) rest spells;
+          record {
+            body = change (field_of o) body;
+            short = omega arith;
+            parts = new-parts;
+            decoded-is = ap (λ (n : ℕ). placed n (change (field_of o) body)) (sym new-length);
+          } in
+          ap decoded (sym (new_whole left o gap.right rest bytes tail first.0 second.1))
+          ∙ decoded_again new (placed (length whole) (change (field_of o) body)) rest spells;
     }
 
-pub displacement_around : (bytes four tail : List ℕ) (d : Decoded) → length four ≡ 4 → decoded (bytes ++ (four ++ tail)) ≡ Some d
-    → d.disp ≡ Some (length bytes) → (d.instr.displacement ≡ field_of four) × ((o : List ℕ) → length o ≡ 4 → decoded (bytes ++ (o ++ tail)) ≡ Some (with_displacement (field_of o) d))
+pub displacement_around : (bytes four tail : List ℕ) (d : Decoded) → length four ≡ 4
+    → decoded (bytes ++ (four ++ tail)) ≡ Some d
+    → d.disp ≡ Some (length bytes)
+    → (d.instr.displacement ≡ field_of four)
+    × ((o : List ℕ) → length o ≡ 4 → decoded (bytes ++ (o ++ tail)) ≡ Some (with_displacement (field_of o) d))
 displacement_around bytes four tail d four-length e at =
     let whole = bytes ++ (four ++ tail) in
     let spells = (decoded_found whole d e).spells in
     let front = take d.len whole in
-    let place = before_some spells.body.disp (length front) (length bytes) (ap (λ (x : Decoded). x.disp) (sym spells.decoded-is) ∙ at) in
+    let place = before_some spells.body.disp (length front) (length bytes)
+    (ap (λ (x : Decoded). x.disp) (sym spells.decoded-is) ∙ at) in
     let p = spells.parts in
     let gap = body_displaced (prefixes_of p.marks p.rex) p.row p.rest spells.body place.0 p.has_body place.1 in
-    let a = around bytes four tail front (drop d.len whole) spells.body displaced spells.body.instr.displacement place.0 p spells.short (take-append-drop d.len whole) four-length gap place.2 in (
+    let a = around bytes four tail front
+    (drop d.len whole) spells.body displaced spells.body.instr.displacement place.0 p spells.short
+    (take-append-drop d.len whole) four-length gap place.2 in (
       ap (λ (x : Decoded). x.instr.displacement) spells.decoded-is ∙ a.number-is,
       λ o len. a.other o len ∙ ap (λ (x : Decoded). Some (with_displacement (field_of o) x)) (sym spells.decoded-is),
     )
 
-pub immediate_around : (bytes four tail : List ℕ) (d : Decoded) → length four ≡ 4 → decoded (bytes ++ (four ++ tail)) ≡ Some d → d.imm ≡ Some (length bytes)
-    → (d.instr.immediate ≡ field_of four) × ((o : List ℕ) → length o ≡ 4 → decoded (bytes ++ (o ++ tail)) ≡ Some (with_immediate (field_of o) d))
+pub immediate_around : (bytes four tail : List ℕ) (d : Decoded) → length four ≡ 4
+    → decoded (bytes ++ (four ++ tail)) ≡ Some d → d.imm ≡ Some (length bytes)
+    → (d.instr.immediate ≡ field_of four)
+    × ((o : List ℕ) → length o ≡ 4 → decoded (bytes ++ (o ++ tail)) ≡ Some (with_immediate (field_of o) d))
 immediate_around bytes four tail d four-length e at =
     let whole = bytes ++ (four ++ tail) in
     let spells = (decoded_found whole d e).spells in
     let front = take d.len whole in
-    let place = before_some spells.body.imm (length front) (length bytes) (ap (λ (x : Decoded). x.imm) (sym spells.decoded-is) ∙ at) in
+    let place = before_some spells.body.imm (length front) (length bytes)
+    (ap (λ (x : Decoded). x.imm) (sym spells.decoded-is) ∙ at) in
     let p = spells.parts in
     let gap = body_immediate (prefixes_of p.marks p.rex) p.row p.rest spells.body place.0 p.has_body place.1 in
-    let a = around bytes four tail front (drop d.len whole) spells.body immediately spells.body.instr.immediate place.0 p spells.short (take-append-drop d.len whole) four-length gap place.2 in (
+    let a = around bytes four tail front
+    (drop d.len whole) spells.body immediately spells.body.instr.immediate place.0 p spells.short
+    (take-append-drop d.len whole) four-length gap place.2 in (
       ap (λ (x : Decoded). x.instr.immediate) spells.decoded-is ∙ a.number-is,
       λ o len. a.other o len ∙ ap (λ (x : Decoded). Some (with_immediate (field_of o) x)) (sym spells.decoded-is),
     )

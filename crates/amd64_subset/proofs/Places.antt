@@ -1,5 +1,6 @@
 -- Where an instruction's fields lie.
-use Rattle.std.proofs.Common.{◌≡◌, ℕ, ◌+◌, ◌<◌, ◌≤◌, Bool, true, false, cond, List, ◌++◌, length, take, Option, Some, None, sym, ap, arith}
+use Rattle.std.proofs.Common.{◌≡◌, ℕ, ◌+◌, ◌<◌, ◌≤◌, Bool, true, false, cond, List, ◌++◌, length, take, Option, Some}
+use Rattle.std.proofs.Common.{None, sym, ap, arith}
 use Rattle.std.specs.Prelude.{IfSome}
 use Rattle.std.specs.Option.{option_to_list}
 use Rattle.std.proofs.lemmas.List.{length-append, length-take}
@@ -41,7 +42,8 @@ if_back : (b : Bool) (o : Option ℕ) (len : ℕ) → IfSome o (IsBack len) → 
 if_back true o len h = h
 if_back false o len h = tt
 
-operated_back : (prefixes : Prefixes) (r : Row) (s : Size) (bytes : List ℕ) (body : Body) → IsOperated prefixes r s bytes body → HasBack (length bytes) body
+operated_back : (prefixes : Prefixes) (r : Row) (s : Size) (bytes : List ℕ) (body : Body)
+    → IsOperated prefixes r s bytes body → HasBack (length bytes) body
 unfolding operand_body
 operated_back prefixes r s bytes body h =
     let selectors : Selectors = record { modrm = h.modrm; sib = h.sib } in
@@ -56,7 +58,8 @@ operated_back prefixes r s bytes body h =
     )) in
     rw (h.body-is) (record {
       disp = place_back (displacement_size selectors) (count_of s) (length bytes) len;
-      imm = if_back (takes_immediate h.action) (from_end s 0) (length bytes) (place_back s 0 (length bytes) (omega arith));
+      imm = if_back (takes_immediate h.action) (from_end s 0) (length bytes)
+          (place_back s 0 (length bytes) (omega arith));
     })
 
 numbered_back : (action : Numbered) (prefixes : Prefixes) (s : Size) (bytes : List ℕ) → length bytes ≡ count_of s
@@ -65,15 +68,19 @@ unfolding numbered_body
 numbered_back numbered.Call prefixes s bytes len = record { disp = tt; imm = tt }
 numbered_back numbered.Jump prefixes s bytes len = record { disp = tt; imm = tt }
 numbered_back (numbered.JumpIf c) prefixes s bytes len = record { disp = tt; imm = tt }
-numbered_back (numbered.Move r) prefixes s bytes len = record { disp = tt; imm = place_back s 0 (length bytes) (omega arith) }
-numbered_back (numbered.Compute a) prefixes s bytes len = record { disp = tt; imm = place_back s 0 (length bytes) (omega arith) }
+numbered_back (numbered.Move r) prefixes s bytes len =
+    record { disp = tt; imm = place_back s 0 (length bytes) (omega arith) }
+numbered_back (numbered.Compute a) prefixes s bytes len =
+    record { disp = tt; imm = place_back s 0 (length bytes) (omega arith) }
 
-pub body_back : (prefixes : Prefixes) (r : Row) (bytes : List ℕ) (body : Body) → HasBody prefixes r bytes body → HasBack (length bytes) body
+pub body_back : (prefixes : Prefixes) (r : Row) (bytes : List ℕ) (body : Body) → HasBody prefixes r bytes body
+    → HasBack (length bytes) body
 body_back prefixes (row.Alone operation) bytes body h = rw (h.1) (record { disp = tt; imm = tt })
 body_back prefixes row.Nop bytes body h = rw (h.1) (record { disp = tt; imm = tt })
 body_back prefixes row.EndBranch bytes body h = rw (h.1) (record { disp = tt; imm = tt })
 body_back prefixes (row.Number action s) bytes body h = rw (h.1) (numbered_back action prefixes s bytes h.0)
-body_back prefixes (row.Register action) bytes body h = operated_back prefixes (row.Register action) size.Zero bytes body h
+body_back prefixes (row.Register action) bytes body h =
+    operated_back prefixes (row.Register action) size.Zero bytes body h
 body_back prefixes (row.Group group s) bytes body h = operated_back prefixes (row.Group group s) s bytes body h
 
 field_at : (o : Option ℕ) (len rest : ℕ) → rest < len → IfSome o (IsBack rest) → IfSome (before len o) (HasField len)
@@ -102,7 +109,8 @@ spells_placed bytes d h =
 
 -- ---- decode
 
-pub decoded_spells : (bytes : List ℕ) (o : Option Decoded) → o ≡ decoded bytes → IfSome o (λ d. Spells (take d.len bytes) d)
+pub decoded_spells : (bytes : List ℕ) (o : Option Decoded) → o ≡ decoded bytes
+    → IfSome o (λ d. Spells (take d.len bytes) d)
 decoded_spells bytes None e = tt
 decoded_spells bytes (Some d) e = (decoded_found bytes d (sym e)).spells
 

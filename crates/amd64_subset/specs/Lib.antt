@@ -1,6 +1,7 @@
 pub use Rattle.amd64_words.specs.Number
 pub use Rattle.amd64_words.specs.Register
 pub mod Beginning
+pub mod BeginningLaws
 pub mod Decoding
 pub mod Meaning
 pub mod Prefix

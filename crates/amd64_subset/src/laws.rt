@@ -4,7 +4,8 @@
 
 ghost use Rattle.std.specs.Prelude.{◌≡◌, ◌≤◌, ◌++◌, ◌↔◌, ℕ, true, false, List, Some, None, length, take};
 ghost use Rattle.amd64_subset.specs.declared.instr.Decoded.{Decoded};
-ghost use Rattle.amd64_subset.specs.Beginning.{BeginsSpelling, begins_of};
+ghost use Rattle.amd64_subset.specs.Beginning.{begins_of};
+ghost use Rattle.amd64_subset.specs.BeginningLaws.{BeginsSpelling};
 ghost use Rattle.amd64_subset.specs.Decoding.{decoded};
 ghost use Rattle.amd64_subset.specs.Spelling.{Spells, IsPlaced, field_of, with_displacement, with_immediate};
 

@@ -3,7 +3,8 @@
 ghost use Rattle.std.specs.Prelude.{◌≡◌, ◌≤◌, ◌↔◌, ℕ, Some, IfSome, IsTrue, take, length};
 ghost use Rattle.amd64_subset.specs.Reading.{Gives};
 ghost use Rattle.amd64_subset.specs.declared.instr.Decoded.{Decoded};
-ghost use Rattle.amd64_subset.specs.Beginning.{BeginsSpelling, begins_of};
+ghost use Rattle.amd64_subset.specs.Beginning.{begins_of};
+ghost use Rattle.amd64_subset.specs.BeginningLaws.{BeginsSpelling};
 ghost use Rattle.amd64_subset.specs.Spelling.{Spells, IsPlaced};
 ghost use Rattle.amd64_subset.specs.Decoding.{accepted_at, end_branch_at, escaped_at, row_at, operated_at, body_at};
 ghost use Rattle.amd64_subset.specs.Decoding.{instruction_at, before, decoded};

@@ -12,7 +12,7 @@ use Rattle.thread_blocks.specs.Instances.{Loads, instance_at}
 use Rattle.thread_blocks.specs.Lines.{Line, begin_line, begun_by, begun_in, event_at, event_by, unless_refused}
 use Rattle.thread_blocks.specs.RunTime.{Runs, shows}
 use Rattle.thread_blocks.specs.Turns.{Begun, Ending, with_event}
-use Rattle.thread_blocks.specs.TurnsAlike.{IsFront}
+use Rattle.thread_blocks.specs.Turns.{IsFront}
 use Rattle.whole_meaning.specs.Meanings.{Meaning}
 use Rattle.whole_meaning.specs.Threads.{Meant, begin_meant, meant_show, ops}
 use Rattle.tied_meaning.specs.Numbers.{Setting}

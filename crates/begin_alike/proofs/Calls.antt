@@ -1,5 +1,6 @@
 -- A call begins alike on both sides: with the same arguments and a fresh stack, at the same place.
-use Rattle.std.proofs.Common.{◌≡◌, ◌∙◌, ℕ, ◌+◌, ◌-◌, List, ◌++◌, All, length, replicate, Option, Some, None, refl, sym, ap, subst, inr, arith}
+use Rattle.std.proofs.Common.{◌≡◌, ◌∙◌, ℕ, ◌+◌, ◌-◌, List, ◌++◌, All, length, replicate, Option, Some, None, refl, sym}
+use Rattle.std.proofs.Common.{ap, subst, inr, arith}
 use Rattle.std.proofs.lemmas.List.{length-append, length-replicate}
 use Rattle.address_map.specs.Map.{return_place, stack_size}
 use Rattle.guest_arithmetic.specs.Plain.{plain_operations}

@@ -1,5 +1,6 @@
 -- The first states of threads, and the data before the first turn, are related.
-use Rattle.std.proofs.Common.{◌≡◌, ◌≤◌, ℕ, zero, suc, ◌+◌, true, false, List, [], ◌∷◌, ◌++◌, All, length, Option, Some, None, refl, sym, ap, subst, inr, arith}
+use Rattle.std.proofs.Common.{◌≡◌, ◌≤◌, ℕ, zero, suc, ◌+◌, true, false, List, [], ◌∷◌, ◌++◌, All, length, Option, Some}
+use Rattle.std.proofs.Common.{None, refl, sym, ap, subst, inr, arith}
 use Rattle.std.specs.Prelude.{Bool, slice_get}
 use Rattle.std.specs.List.{flat_map}
 use Rattle.std.specs.Option.{option_or}
@@ -13,14 +14,15 @@ use Rattle.job_meaning.specs.declared.values.Byte.{Byte}
 use Rattle.job_text.specs.declared.thread_lines.ThreadLine.{ThreadLine}
 use Rattle.loaded_modules.specs.declared.instance.Instance.{Instance}
 use Rattle.module_table.specs.declared.events.Event.{Event}
-use Rattle.thread_blocks.specs.Held.{Owned, block_after, data_after, data_bytes, data_with, fresh_data, held_of, is_block}
+use Rattle.thread_blocks.specs.Held.{Owned, block_after, data_after, data_bytes, data_with, fresh_data, held_of}
+use Rattle.thread_blocks.specs.Held.{is_block}
 use Rattle.thread_blocks.specs.Instances.{Loads, instances}
 use Rattle.thread_blocks.specs.JobWorlds.{numbered_lines, thread_ready, ready_from, first_data, job_start}
 use Rattle.thread_blocks.specs.Lines.{Line}
 use Rattle.thread_blocks.specs.RunTime.{Runs}
-use Rattle.thread_blocks.specs.Spaces.{FoundAlike}
+use Rattle.thread_blocks.specs.SpaceLaws.{FoundAlike}
 use Rattle.thread_blocks.specs.Turns.{Thread, ready}
-use Rattle.thread_blocks.specs.TurnsAlike.{IsFront}
+use Rattle.thread_blocks.specs.Turns.{IsFront}
 use Rattle.whole_meaning.specs.Meanings.{Meaning}
 use Rattle.whole_meaning.specs.Threads.{Meant, ops}
 use Rattle.order_laws.specs.Alike.{SameOne}
@@ -64,16 +66,19 @@ module _ (g : Setting) (m : Meaning) (q : Loads ℕ) (history : List Event) (tie
 
   -- ** threads
 
-  pub ready_rests : (thread : ℕ) → Rest thread (thread_ready ops m.loads thread) (thread_ready plain_operations q thread)
+  pub ready_rests : (thread : ℕ)
+      → Rest thread (thread_ready ops m.loads thread) (thread_ready plain_operations q thread)
   ready_rests thread =
       look_rests g m q history thread tied [] none_seen
       (record {
-        after = left (start_of ops 0 0 (ops.word 0) (ops.word 0) (ops.word 0)) (record { seen = []; stack = []; own = [] });
+        after = left (start_of ops 0 0 (ops.word 0) (ops.word 0) (ops.word 0))
+            (record { seen = []; stack = []; own = [] });
         owners = [];
         asked = None;
       })
       (record {
-        after = left (start_of plain_operations 0 0 (plain_operations.word 0) (plain_operations.word 0) (plain_operations.word 0)) (record { seen = []; stack = []; own = [] });
+        after = left (start_of plain_operations 0 0 (plain_operations.word 0) (plain_operations.word 0)
+            (plain_operations.word 0)) (record { seen = []; stack = []; own = [] });
         owners = [];
         asked = None;
       })
@@ -96,8 +101,10 @@ module _ (g : Setting) (m : Meaning) (q : Loads ℕ) (history : List Event) (tie
   first_held =
       let live : List Instance = instances q [] in
       let ours : List (Owned Byte) = flat_map (data_after m.loads (λ x. true) []) live in
-      let held : Same (held_of m.loads 1 (λ x. false) (λ x. true) live []) (held_of q 1 (λ x. false) (λ x. true) live []) =
-      held_of_alike g m q 1 (λ x. false) (λ x. true) live (tied.each [] none_seen) [] [] (tt, All-nil (IsPlaced g q 1)) in
+      let held : Same (held_of m.loads 1 (λ x. false) (λ x. true) live [])
+      (held_of q 1 (λ x. false) (λ x. true) live []) =
+      held_of_alike g m q 1 (λ x. false) (λ x. true) live (tied.each [] none_seen) [] []
+      (tt, All-nil (IsPlaced g q 1)) in
       subst (λ (ys : List (Owned ℕ)). Same ours (ys ++ first_data q)) (no_blocks q 1 live)
       (subst (λ (xs : List (Owned Byte)). Same (xs ++ ours)
       (flat_map (block_after q 1 (λ x. false) []) live ++ first_data q)) (no_blocks m.loads 1 live) held)
@@ -115,7 +122,8 @@ module _ (g : Setting) (m : Meaning) (q : Loads ℕ) (history : List Event) (tie
   One i = SameOne (Waiting g m q history i) (Rest i)
 
   threads_alike : (from : ℕ) (lines : List (List ThreadLine)) (i : ℕ)
-      → FoundAlike (One (from + i)) (slice_get (ready_from ops m.loads from lines) i) (slice_get (ready_from plain_operations q from lines) i)
+      → FoundAlike (One (from + i)) (slice_get (ready_from ops m.loads from lines) i)
+      (slice_get (ready_from plain_operations q from lines) i)
   threads_alike from [] zero = tt
   threads_alike from [] (suc i) = tt
   threads_alike from (own ∷ lines) zero =
@@ -128,7 +136,8 @@ module _ (g : Setting) (m : Meaning) (q : Loads ℕ) (history : List Event) (tie
       subst (λ (n : ℕ). FoundAlike (One n) (slice_get (ready_from ops m.loads (suc from) lines) i)
       (slice_get (ready_from plain_operations q (suc from) lines) i)) same (threads_alike (suc from) lines i)
 
-  as_many_threads : (from : ℕ) (lines : List (List ThreadLine)) → length (ready_from ops m.loads from lines) ≡ length lines
+  as_many_threads : (from : ℕ) (lines : List (List ThreadLine))
+      → length (ready_from ops m.loads from lines) ≡ length lines
   as_many_threads from [] = refl
   as_many_threads from (own ∷ lines) = ap suc (as_many_threads (suc from) lines)
 
@@ -140,7 +149,8 @@ module _ (g : Setting) (m : Meaning) (q : Loads ℕ) (history : List Event) (tie
     each = λ i. let same : 1 + i ≡ suc i = omega arith in
         subst (λ (n : ℕ). FoundAlike (One n) (slice_get (ready_from ops m.loads 1 lines) i)
         (slice_get (ready_from plain_operations q 1 lines) i)) same (threads_alike 1 lines i);
-    within = λ i t e. omega (arith, slice_get_within (ready_from ops m.loads 1 lines) i t e, as_many_threads 1 lines, few);
+    within = λ i t e. omega
+        (arith, slice_get_within (ready_from ops m.loads 1 lines) i t e, as_many_threads 1 lines, few);
   }
 
 -- the law

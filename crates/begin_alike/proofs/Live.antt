@@ -8,7 +8,7 @@ use Rattle.module_table.specs.declared.modules.ImageInfo.{ImageInfo}
 use Rattle.module_table.specs.declared.modules.Module.{Module}
 use Rattle.module_table.specs.Modules.{no_module}
 use Rattle.thread_blocks.specs.Instances.{Loads, instance_at, instances_from, instances_in, left_by, loaded_instance}
-use Rattle.thread_blocks.specs.TurnsAlike.{IsFront}
+use Rattle.thread_blocks.specs.Turns.{IsFront}
 use Rattle.whole_meaning.specs.Meanings.{Meaning}
 use Rattle.tied_meaning.specs.Numbers.{Setting}
 use Rattle.tied_meaning.specs.Ties.{AreTied, IsTied}

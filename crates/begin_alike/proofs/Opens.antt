@@ -14,7 +14,7 @@ use Rattle.thread_blocks.specs.Instances.{Loads, instance_at, left_by}
 use Rattle.thread_blocks.specs.Lines.{Line, begun_close, begun_open, event_at, unless_refused, with_load}
 use Rattle.thread_blocks.specs.RunTime.{Runs, shows}
 use Rattle.thread_blocks.specs.Turns.{Answered, Begun, Ending, Says, with_event, with_last}
-use Rattle.thread_blocks.specs.TurnsAlike.{IsFront}
+use Rattle.thread_blocks.specs.Turns.{IsFront}
 use Rattle.whole_meaning.specs.Meanings.{Meaning}
 use Rattle.whole_meaning.specs.Threads.{Meant, meant_show, ops}
 use Rattle.tied_meaning.specs.Numbers.{Setting}
@@ -55,7 +55,8 @@ module _ (g : Setting) (m : Meaning) (q : Loads ℕ) (history : List Event) (thr
   -- x: the instance that was opened; was: it was there before
   abbrev OpenedAlike : Meant → Runs → Option Instance → Option Instance → Bool → Bool → Type 0
   OpenedAlike h h' x x' was was' =
-      Begins (Says (Answered (Opened (option_map_or (λ (x : Instance). x.number) x 0))) (with_load ops m.loads show thread was x h))
+      Begins (Says (Answered (Opened (option_map_or (λ (x : Instance). x.number) x 0)))
+      (with_load ops m.loads show thread was x h))
       (Says (Answered (Opened (option_map_or (λ (x : Instance). x.number) x' 0)))
       (with_load plain_operations q show' thread was' x' h'))
 

@@ -4,7 +4,7 @@ use Rattle.std.specs.Prelude.{slice_get}
 use Rattle.std.specs.Option.{option_or}
 use Rattle.guest_operands.specs.declared.stop.Stop.TheVariants.{Returned, Look, Address, Code, Unclean, Steps}
 use Rattle.module_table.specs.declared.events.Event.{Event}
-use Rattle.thread_blocks.specs.Spaces.{FoundAlike}
+use Rattle.thread_blocks.specs.SpaceLaws.{FoundAlike}
 use Rattle.thread_blocks.specs.Turns.{Answered, Ending, Said, Stopped, Thread}
 use Rattle.thread_blocks.specs.TurnsAlike.{HasUnclean, IsUncleanEnding}
 use Rattle.whole_meaning.specs.Jobs.{first_from, first_in, unclean_ending, verdict_of}

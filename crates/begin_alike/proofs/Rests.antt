@@ -4,12 +4,13 @@ use Rattle.guest_arithmetic.specs.Plain.{plain_operations}
 use Rattle.job_meaning.specs.declared.values.Byte.{Byte}
 use Rattle.loaded_modules.specs.declared.instance.Instance.{Instance}
 use Rattle.module_table.specs.declared.events.Event.{Event}
-use Rattle.thread_blocks.specs.Held.{Owned, looked, looked_at, loaded, loaded_at, owned_by, reached, reached_at, with_owned}
+use Rattle.thread_blocks.specs.Held.{Owned, looked, looked_at, loaded, loaded_at, owned_by, reached, reached_at}
+use Rattle.thread_blocks.specs.Held.{with_owned}
 use Rattle.thread_blocks.specs.Instances.{Loads, instance_at, left_by}
 use Rattle.thread_blocks.specs.Lines.{with_load}
 use Rattle.thread_blocks.specs.RunTime.{Runs}
 use Rattle.thread_blocks.specs.Turns.{Ending}
-use Rattle.thread_blocks.specs.TurnsAlike.{IsFront}
+use Rattle.thread_blocks.specs.Turns.{IsFront}
 use Rattle.whole_meaning.specs.Meanings.{Meaning}
 use Rattle.whole_meaning.specs.Threads.{Meant, ops}
 use Rattle.tied_meaning.specs.Numbers.{Setting}
@@ -56,26 +57,31 @@ module _ (g : Setting) (m : Meaning) (q : Loads ℕ) (history : List Event) (thr
       }
 
   -- a change of what is held, of which it is known where these events were seen
-  changed_rests : (change : List (Owned Byte) → List (Owned Byte)) (change' : List Event → List (Owned ℕ) → List (Owned ℕ))
+  changed_rests : (change : List (Owned Byte) → List (Owned Byte))
+      (change' : List Event → List (Owned ℕ) → List (Owned ℕ))
       → (h : Meant) (h' : Runs) → Rest h h'
       → SameHeld g q thread (change (owned_by h)) (change' h.after.memory.seen (owned_by h'))
       → Rest (with_owned h (change (owned_by h))) (with_owned h' (change' h'.after.memory.seen (owned_by h')))
   changed_rests change change' h h' r now =
-      subst (λ (seen : List Event). Rest (with_owned h (change (owned_by h))) (with_owned h' (change' seen (owned_by h'))))
+      subst (λ (seen : List Event). Rest (with_owned h (change (owned_by h)))
+      (with_owned h' (change' seen (owned_by h'))))
       (sym r.seen)
-      (rest_with g m q history thread h h' r (change (owned_by h)) (change' h.after.memory.seen (owned_by h')) now.0 now.1)
+      (rest_with g m q history thread h h' r (change (owned_by h))
+      (change' h.after.memory.seen (owned_by h')) now.0 now.1)
 
   pub reach_rests : (x : Instance) (h : Meant) (h' : Runs) → Rest h h'
       → Rest (reached m.loads thread x h) (reached q thread x h')
   reach_rests x h h' r =
       changed_rests (reached_at m.loads thread h.after.memory.seen x) (λ seen. reached_at q thread seen x) h h' r
-      (reached_alike g m q thread history tied h.after.memory.seen r.front x (owned_by h) (owned_by h') (in_hands h h' r))
+      (reached_alike g m q thread history tied h.after.memory.seen r.front x (owned_by h) (owned_by h')
+      (in_hands h h' r))
 
   load_rests : (x : Instance) (h : Meant) (h' : Runs) → Rest h h'
       → Rest (loaded m.loads thread x h) (loaded q thread x h')
   load_rests x h h' r =
       changed_rests (loaded_at m.loads thread h.after.memory.seen x) (λ seen. loaded_at q thread seen x) h h' r
-      (loaded_alike g m q thread history tied h.after.memory.seen r.front x (owned_by h) (owned_by h') (in_hands h h' r))
+      (loaded_alike g m q thread history tied h.after.memory.seen r.front x (owned_by h) (owned_by h')
+      (in_hands h h' r))
 
   -- an open loads data where the instance was not there before
   pub with_load_rests : (show : List Byte → Ending) (show' : List ℕ → Ending) (was : Bool) (x : Option Instance)

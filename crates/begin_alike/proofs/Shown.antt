@@ -19,10 +19,11 @@ use Rattle.thread_blocks.specs.Held.{Owned, block_bytes, is_block_of, owned_by, 
 use Rattle.thread_blocks.specs.Instances.{Loads, instance_at}
 use Rattle.thread_blocks.specs.Lines.{Line, begun_peek, refused, shown_from, shown_in}
 use Rattle.thread_blocks.specs.RunTime.{Runs, shows}
-use Rattle.thread_blocks.specs.Spaces.{FoundAlike}
+use Rattle.thread_blocks.specs.SpaceLaws.{FoundAlike}
 use Rattle.thread_blocks.specs.Turns.{Answered, Begun, Ending, Says}
 use Rattle.whole_meaning.specs.Meanings.{Meaning}
-use Rattle.whole_meaning.specs.Threads.{Meant, byte_cause, is_for, meant_show, ops, shown_as, shown_at, unclean_bytes, unclean_for}
+use Rattle.whole_meaning.specs.Threads.{Meant, byte_cause, is_for, meant_show, ops, shown_as, shown_at, unclean_bytes}
+use Rattle.whole_meaning.specs.Threads.{unclean_for}
 use Rattle.tied_meaning.specs.Numbers.{Setting, SameByte}
 use Rattle.tied_meaning.specs.Ties.{AreTied}
 use Rattle.tied_meaning.specs.Threads.{AtRest, SameOwned}
@@ -136,7 +137,8 @@ module _ (g : Setting) (m : Meaning) (q : Loads ℕ) (history : List Event) (thr
   peek_as symbol size h h' r (Some x) =
       let ours : Meant = reached m.loads thread x h in
       let theirs : Runs = reached q thread x h' in
-      subst (λ (offset : Option ℕ). Begins (shown_from ops m.loads show thread ours size x (m.loads.variable image symbol))
+      subst (λ (offset : Option ℕ). Begins
+      (shown_from ops m.loads show thread ours size x (m.loads.variable image symbol))
       (shown_from plain_operations q show' thread theirs size x offset)) (sym (tied.variable image symbol))
       (from_alike ours theirs (reach_rests g m q history thread tied x h h' r) size x (m.loads.variable image symbol))
 

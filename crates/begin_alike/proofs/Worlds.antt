@@ -8,7 +8,8 @@ use Rattle.thread_blocks.specs.JobWorlds.{job_world, numbered_lines, job_start, 
 use Rattle.thread_blocks.specs.Lines.{event_by}
 use Rattle.thread_blocks.specs.RunTime.{Runs, thread_turns}
 use Rattle.thread_blocks.specs.Turns.{ready, whole_order, with_event}
-use Rattle.thread_blocks.specs.TurnsAlike.{HasUnclean, IsFront}
+use Rattle.thread_blocks.specs.TurnsAlike.{HasUnclean}
+use Rattle.thread_blocks.specs.Turns.{IsFront}
 use Rattle.thread_blocks.proofs.Orders.{front-trans}
 use Rattle.whole_meaning.specs.Jobs.{lines_of, meant_world, verdict_of}
 use Rattle.whole_meaning.specs.Meanings.{Meaning}
@@ -24,7 +25,8 @@ use Rattle.tied_meaning.specs.Ties.{AreTied}
 use Rattle.tied_meaning.specs.Threads.{AtRest, InCall, SameData, Waiting}
 use Rattle.held_alike.proofs.Lent.{each_lent}
 use Rattle.begin_alike.specs.Begun.{CallsAreAlike}
-use Rattle.begin_alike.specs.Laws.{CleanJobsPrint, CleanThreadsPrint, EndsIn, JobsStayAlike, SameJob, all_said, meant_thread}
+use Rattle.begin_alike.specs.Laws.{CleanJobsPrint, CleanThreadsPrint, EndsIn, JobsStayAlike, SameJob, all_said}
+use Rattle.begin_alike.specs.Laws.{meant_thread}
 use Rattle.begin_alike.proofs.Begins.{begin_alike, event_same}
 use Rattle.begin_alike.proofs.Firsts.{ready_rests, start_alike}
 use Rattle.begin_alike.proofs.Printed.{lines_same, verdict_clean}
@@ -99,7 +101,8 @@ module _ (g : Setting) (m : Meaning) (q : Loads ℕ) (history : List Event) (tie
 
   -- ** one thread at any points that its own events are at
 
-  pub thread_printed : (fuel thread : ℕ) → 1 ≤ thread → thread ≤ 64 → (own : List ThreadLine) (points : List (List Event))
+  pub thread_printed : (fuel thread : ℕ) → 1 ≤ thread → thread ≤ 64
+      → (own : List ThreadLine) (points : List (List Event))
       → AtFronts (thread_turns q thread fuel) (event_by q thread) history (first_of q thread own) points
       → HasUnclean (meant_thread m fuel thread own points).said
       ⊎ ((raced_of q fuel thread own points).said ≡ (meant_thread m fuel thread own points).said)
@@ -119,10 +122,12 @@ module _ (g : Setting) (m : Meaning) (q : Loads ℕ) (history : List Event) (tie
 -- ** the laws
 
 pub jobs_stay : JobsStayAlike
-jobs_stay g m q history tied calls fuel lines order few ends = world_alike g m q history tied calls fuel lines order few ends
+jobs_stay g m q history tied calls fuel lines order few ends =
+    world_alike g m q history tied calls fuel lines order few ends
 
 pub jobs_print : CleanJobsPrint
-jobs_print g m q history tied calls fuel lines order few ends = job_printed g m q history tied calls fuel lines order few ends
+jobs_print g m q history tied calls fuel lines order few ends =
+    job_printed g m q history tied calls fuel lines order few ends
 
 pub threads_print : CleanThreadsPrint
 threads_print g m q history tied calls = thread_printed g m q history tied calls

@@ -5,7 +5,8 @@ use Rattle.module_table.specs.declared.events.Event.{Event}
 use Rattle.thread_blocks.specs.Instances.{Loads}
 use Rattle.thread_blocks.specs.RunTime.{Runs, resume_line, thread_steps}
 use Rattle.thread_blocks.specs.Turns.{Begun}
-use Rattle.thread_blocks.specs.TurnsAlike.{IsFront, SameBegun}
+use Rattle.thread_blocks.specs.TurnsAlike.{SameBegun}
+use Rattle.thread_blocks.specs.Turns.{IsFront}
 use Rattle.whole_meaning.specs.Meanings.{Meaning}
 use Rattle.whole_meaning.specs.Threads.{Meant, meant_steps, resume_meant}
 use Rattle.tied_meaning.specs.Numbers.{Setting}

@@ -11,7 +11,8 @@ use Rattle.thread_blocks.specs.JobWorlds.{Shared, job_world, numbered_lines, job
 use Rattle.thread_blocks.specs.Lines.{Line, begin_line, event_by}
 use Rattle.thread_blocks.specs.RunTime.{Runs, shows, thread_turns}
 use Rattle.thread_blocks.specs.Turns.{Said, Thread, ready, turns, with_event}
-use Rattle.thread_blocks.specs.TurnsAlike.{HasUnclean, IsFront}
+use Rattle.thread_blocks.specs.TurnsAlike.{HasUnclean}
+use Rattle.thread_blocks.specs.Turns.{IsFront}
 use Rattle.whole_meaning.specs.Jobs.{lines_of, meant_world, verdict_of}
 use Rattle.whole_meaning.specs.Meanings.{Meaning}
 use Rattle.whole_meaning.specs.Threads.{Meant, begin_meant, meant_turns, ops}

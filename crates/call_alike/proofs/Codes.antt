@@ -1,5 +1,6 @@
 -- The code of two memories is alike, where it is the code of live instances that are tied.
-use Rattle.std.proofs.Common.{◌≡◌, ◌∙◌, ◌+◌, ◌-◌, ◌%◌, ◌^◌, ◌<◌, ◌≤◌, ℕ, zero, suc, Bool, true, false, List, All, length, Option, Some, None, Ok, refl, sym, ap, arith}
+use Rattle.std.proofs.Common.{◌≡◌, ◌∙◌, ◌+◌, ◌-◌, ◌%◌, ◌^◌, ◌<◌, ◌≤◌, ℕ, zero, suc, Bool, true, false, List, All}
+use Rattle.std.proofs.Common.{length, Option, Some, None, Ok, refl, sym, ap, arith}
 use Rattle.std.specs.Prelude.{slice_get, ℤ}
 use Rattle.std.specs.List.{find, list_any}
 use Rattle.address_map.specs.Map.{owner_at}
@@ -27,7 +28,9 @@ use Rattle.tied_meaning.specs.Sites.{HasWord}
 use Rattle.tied_meaning.specs.Ties.{HasFourBytes, IsTied}
 use Rattle.tied_memory.proofs.Bytes.{digits_spell_word}
 use Rattle.call_alike.proofs.Found.{is_number, of_owner}
-use Rattle.call_alike.proofs.Marks.{HasField, address_mark, code_low, field_at, field_begins, mark_at, meant_code, offset_mark, owner, owner_outside, owner_tied, real_code, real_found, same_at, same_owner}
+use Rattle.call_alike.proofs.Marks.{HasField, address_mark, code_low, field_at, field_begins, mark_at, meant_code}
+use Rattle.call_alike.proofs.Marks.{offset_mark, owner, owner_outside, owner_tied, real_code, real_found, same_at}
+use Rattle.call_alike.proofs.Marks.{same_owner}
 
 -- below all threads no place is past the last one
 exact_place : (here k : ℕ) → here < 2 ^ 39 → k < 15 → place_at here k ≡ here + k

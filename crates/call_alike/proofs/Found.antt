@@ -1,5 +1,6 @@
 -- What is fixed of live instances: at a place of one it is that one's alone, and it is read alike on both sides.
-use Rattle.std.proofs.Common.{if◌then◌else◌, ◌≡◌, ◌∙◌, ◌==◌, ℕ, zero, suc, Bool, true, false, List, [], ◌∷◌, All, Option, Some, None, refl, sym, arith}
+use Rattle.std.proofs.Common.{if◌then◌else◌, ◌≡◌, ◌∙◌, ◌==◌, ℕ, zero, suc, Bool, true, false, List, [], ◌∷◌, All}
+use Rattle.std.proofs.Common.{Option, Some, None, refl, sym, arith}
 use Rattle.std.specs.List.{find, flat_map, list_any}
 use Rattle.std.specs.Option.{option_or}
 use Rattle.std.proofs.lemmas.Bool.{eq-eqb, eqb-true, or_parts}
@@ -9,7 +10,7 @@ use Rattle.guest_operands.specs.declared.space.Access.TheVariants.{Read}
 use Rattle.guest_machine.specs.Ranges.{Range, byte_in}
 use Rattle.loaded_modules.specs.declared.instance.Instance.{Instance}
 use Rattle.thread_blocks.specs.Instances.{Loads}
-use Rattle.thread_blocks.specs.Spaces.{FoundAlike}
+use Rattle.thread_blocks.specs.SpaceLaws.{FoundAlike}
 use Rattle.whole_meaning.specs.Meanings.{Meaning}
 use Rattle.tied_meaning.specs.Numbers.{Setting, SameByte}
 use Rattle.tied_meaning.specs.Ties.{IsTied}

@@ -1,5 +1,6 @@
 -- Places of code of live instances: what the meaning marks there, and what the machine has.
-use Rattle.std.proofs.Common.{◌≡◌, ◌∙◌, ◌-◌, ◌^◌, ◌<◌, ℕ, Bool, true, false, List, All, Option, Some, None, refl, sym, ap, subst}
+use Rattle.std.proofs.Common.{◌≡◌, ◌∙◌, ◌-◌, ◌^◌, ◌<◌, ℕ, Bool, true, false, List, All, Option, Some, None, refl, sym}
+use Rattle.std.proofs.Common.{ap, subst}
 use Rattle.std.specs.Prelude.{option_and_then, ℤ}
 use Rattle.std.specs.List.{find, flat_map, list_any}
 use Rattle.std.proofs.lemmas.Bool.{eqb-true}
@@ -96,7 +97,8 @@ module _ (g : Setting) (m : Meaning) (thread : ℕ) (q : Loads ℕ) (live : List
       → SameCodeByte (mark_at place) (meant_code place) (real_code place)
   same_at place out = rw (meant_found place, real_found place) (by_owner (owner place) refl)
     where
-      by_owner : (o : Option Instance) → owner place ≡ o → SameCodeByte (option_map_or (λ (x : Instance). m.mark x place) o Usual)
+      by_owner : (o : Option Instance) → owner place ≡ o
+          → SameCodeByte (option_map_or (λ (x : Instance). m.mark x place) o Usual)
           (option_and_then code_byte (of_owner Run m.loads.fixed place o)) (of_owner Run q.fixed place o)
       by_owner None e = refl
       by_owner (Some x) e = by_room (m.room x place) refl
@@ -140,7 +142,8 @@ module _ (g : Setting) (m : Meaning) (thread : ℕ) (q : Loads ℕ) (live : List
   pub field_at : (place : ℕ) (mark : Mark) → IsFieldMark mark → mark_at place ≡ mark → HasField g m q live place mark
   field_at place mark field e = by_owner (owner place) refl e
     where
-      by_owner : (o : Option Instance) → owner place ≡ o → option_map_or (λ (x : Instance). m.mark x place) o Usual ≡ mark
+      by_owner : (o : Option Instance) → owner place ≡ o
+          → option_map_or (λ (x : Instance). m.mark x place) o Usual ≡ mark
           → HasField g m q live place mark
       by_owner None f h = absurd (field.0 (sym h))
       by_owner (Some x) f h =

@@ -1,5 +1,6 @@
 -- The memories of a thread in a call stay alike under reads and writes, where the linker's own places are closed.
-use Rattle.std.proofs.Common.{if◌then◌else◌, ◌≡◌, ◌∙◌, ◌-◌, ◌++◌, ℕ, zero, suc, Bool, true, false, List, [], ◌∷◌, All, length, Option, Some, None, refl, sym, ap, subst, arith}
+use Rattle.std.proofs.Common.{if◌then◌else◌, ◌≡◌, ◌∙◌, ◌-◌, ◌++◌, ℕ, zero, suc, Bool, true, false, List, [], ◌∷◌, All}
+use Rattle.std.proofs.Common.{length, Option, Some, None, refl, sym, ap, subst, arith}
 use Rattle.std.specs.Prelude.{slice_set}
 use Rattle.std.specs.List.{flat_map, list_any}
 use Rattle.std.proofs.lemmas.List.{length-set}
@@ -22,8 +23,9 @@ use Rattle.thread_blocks.specs.Held.{Kind, Block, Data, Owner, owned}
 use Rattle.thread_blocks.specs.Instances.{Loads, fixed_at, instances}
 use Rattle.thread_blocks.specs.MachineTurns.{pointer_word}
 use Rattle.thread_blocks.specs.RunTime.{thread_accesses}
-use Rattle.thread_blocks.specs.Spaces.{FoundAlike, NoneWritable, SameRange, SameSpace, Space, space_accesses, stack_range}
-use Rattle.thread_blocks.specs.TurnsAlike.{IsFront}
+use Rattle.thread_blocks.specs.Spaces.{Space, space_accesses, stack_range}
+use Rattle.thread_blocks.specs.SpaceLaws.{FoundAlike, NoneWritable, SameRange, SameSpace}
+use Rattle.thread_blocks.specs.Turns.{IsFront}
 use Rattle.thread_blocks.proofs.Begin.{pointer_word_alike}
 use Rattle.thread_blocks.proofs.Spaces.{byte_in-front, spaces_kept}
 use Rattle.whole_meaning.specs.Meanings.{Meaning}

@@ -1,5 +1,6 @@
 -- One step in a call, where no sequence begins.
-use Rattle.std.proofs.Common.{if◌then◌else◌, ◌≡◌, ◌∙◌, ◌≤◌, inl, inr, ℕ, Bool, true, false, List, All, length, Option, Some, None, Result, Ok, Err, refl, sym, ap, subst, arith}
+use Rattle.std.proofs.Common.{if◌then◌else◌, ◌≡◌, ◌∙◌, ◌≤◌, inl, inr, ℕ, Bool, true, false, List, All, length, Option}
+use Rattle.std.proofs.Common.{Some, None, Result, Ok, Err, refl, sym, ap, subst, arith}
 use Rattle.std.specs.List.{list_any}
 use Rattle.amd64_subset.specs.declared.instr.Decoded.{Decoded}
 use Rattle.amd64_subset.specs.Decoding.{decoded}
@@ -24,7 +25,7 @@ use Rattle.thread_blocks.specs.Held.{Owner, owned}
 use Rattle.thread_blocks.specs.Instances.{Loads, instances}
 use Rattle.thread_blocks.specs.RunTime.{Runs, thread_accesses, thread_next, thread_steps}
 use Rattle.thread_blocks.specs.Spaces.{Space}
-use Rattle.thread_blocks.specs.TurnsAlike.{IsFront}
+use Rattle.thread_blocks.specs.Turns.{IsFront}
 use Rattle.whole_meaning.specs.declared.marks.Mark.{Mark}
 use Rattle.whole_meaning.specs.Fields.{address_at, lent, lent_frame, marked_frame}
 use Rattle.whole_meaning.specs.Meanings.{Meaning}

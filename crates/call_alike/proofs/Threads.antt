@@ -1,5 +1,6 @@
 -- Two threads in a call: their code is alike; and the first places are nobody's.
-use Rattle.std.proofs.Common.{if◌then◌else◌, ◌≡◌, ◌∙◌, ◌^◌, ◌<◌, ◌≤◌, ◌++◌, ◌||◌, ◌==◌, ℕ, zero, suc, Bool, true, false, List, [], ◌∷◌, All, length, Option, Some, None, Ok, refl, sym, ap, subst, arith}
+use Rattle.std.proofs.Common.{if◌then◌else◌, ◌≡◌, ◌∙◌, ◌^◌, ◌<◌, ◌≤◌, ◌++◌, ◌||◌, ◌==◌, ℕ, zero, suc, Bool, true, false}
+use Rattle.std.proofs.Common.{List, [], ◌∷◌, All, length, Option, Some, None, Ok, refl, sym, ap, subst, arith}
 use Rattle.std.specs.Prelude.{option_and_then, IfSome}
 use Rattle.std.specs.List.{find, flat_map, list_any}
 use Rattle.std.proofs.lemmas.Bool.{eqb-true}
@@ -18,7 +19,8 @@ use Rattle.thread_blocks.specs.Held.{Kind, Block, Data, Owner, owned}
 use Rattle.thread_blocks.specs.Instances.{Loads, fixed_at, instances, numbered_instance}
 use Rattle.thread_blocks.specs.MachineTurns.{pointer_word}
 use Rattle.thread_blocks.specs.RunTime.{Runs, thread_accesses}
-use Rattle.thread_blocks.specs.Spaces.{NoneRunnable, SameRange, space_accesses}
+use Rattle.thread_blocks.specs.Spaces.{space_accesses}
+use Rattle.thread_blocks.specs.SpaceLaws.{NoneRunnable, SameRange}
 use Rattle.whole_meaning.specs.Meanings.{Meaning}
 use Rattle.whole_meaning.specs.Threads.{Meant, meant_accesses, meant_mark, meant_shut, ops}
 use Rattle.tied_meaning.specs.Codes.{SameCode}

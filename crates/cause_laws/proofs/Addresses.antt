@@ -1,5 +1,6 @@
 -- The address of an operand over marked values is the sum that the table has, and its cause that of the words in it.
-use Rattle.std.proofs.Common.{◌≡◌, ℕ, ◌+◌, ◌*◌, ◌%◌, ◌^◌, ◌==◌, true, false, List, [], ◌∷◌, ◌++◌, Option, Some, None, Result, Ok, Err, refl, sym, subst, ◌∙◌, arith}
+use Rattle.std.proofs.Common.{◌≡◌, ℕ, ◌+◌, ◌*◌, ◌%◌, ◌^◌, ◌==◌, true, false, List, [], ◌∷◌, ◌++◌, Option, Some, None}
+use Rattle.std.proofs.Common.{Result, Ok, Err, refl, sym, subst, ◌∙◌, arith}
 use Rattle.std.specs.Prelude.{if◌then◌else◌, option_map}
 use Rattle.address_map.specs.Map.{owner_at}
 use Rattle.amd64_subset.specs.declared.instr.Decoded.{Decoded}
@@ -27,7 +28,8 @@ use Rattle.whole_meaning.specs.declared.marks.Mark.TheVariants.{Usual, Offset, A
 use Rattle.whole_meaning.specs.Fields.{field_number, marked_frame, number_in as field_number_in, starts_offset}
 use Rattle.whole_meaning.specs.Threads.{ops}
 use Rattle.cause_laws.specs.Operands as operands
-use Rattle.cause_laws.specs.Operands.{block_of, factor, first_mark, number_in, offset_of, operand_address, sum_of, value_of, words_by}
+use Rattle.cause_laws.specs.Operands.{block_of, factor, first_mark, number_in, offset_of, operand_address, sum_of}
+use Rattle.cause_laws.specs.Operands.{value_of, words_by}
 use Rattle.cause_laws.proofs.Picks.{earlier, word_cause, pick-append}
 
 -- a use of a number, the number that the table has, and its cause

@@ -1,5 +1,6 @@
 -- A cause is answered exactly where it is the first whose row holds.
-use Rattle.std.proofs.Common.{◌≡◌, ◌⊎◌, inl, inr, ℕ, ◌==◌, Bool, true, false, List, Option, Some, None, Err, refl, sym, ap, subst}
+use Rattle.std.proofs.Common.{◌≡◌, ◌⊎◌, inl, inr, ℕ, ◌==◌, Bool, true, false, List, Option, Some, None, Err, refl, sym}
+use Rattle.std.proofs.Common.{ap, subst}
 use Rattle.std.specs.Prelude.{if◌then◌else◌, ◌||◌, is_none, not, ok_or}
 use Rattle.std.specs.List.{list_any}
 use Rattle.std.proofs.lemmas.Bool.{or_cases}
@@ -26,14 +27,18 @@ use Rattle.whole_meaning.specs.declared.marks.Mark.{Mark}
 use Rattle.whole_meaning.specs.Meanings.{Meaning}
 use Rattle.whole_meaning.specs.Reading.{done, hindrance, marked_step, own_touches, plain_step, reaches_linker}
 use Rattle.whole_meaning.specs.Running.{asked, meaning}
-use Rattle.whole_meaning.specs.Threads.{Meant, Memory as Space, held_next, meant_accesses, meant_mark, meant_shut, meant_steps, ops}
+use Rattle.whole_meaning.specs.Threads.{Meant, Memory as Space, held_next, meant_accesses, meant_mark, meant_shut}
+use Rattle.whole_meaning.specs.Threads.{meant_steps, ops}
 use Rattle.cause_laws.specs.Laws.{CausesAreAnswered, IsAnswered, RowOf}
 use Rattle.cause_laws.specs.Operands.{number_in}
-use Rattle.cause_laws.specs.Rows.{RowIf, Stands, StandsOver, fetched, is_base, is_descriptor, is_undefined, is_undefined_flag, order}
+use Rattle.cause_laws.specs.Rows.{RowIf, Stands, StandsOver, fetched, is_base, is_descriptor, is_undefined}
+use Rattle.cause_laws.specs.Rows.{is_undefined_flag, order}
 use Rattle.step_laws.specs.Steps.{StartsNoSequence}
 use Rattle.cause_laws.specs.Steps.{next_with, places_of, used_flags, words_of}
 use Rattle.cause_laws.proofs.Clean.{touched-are}
-use Rattle.cause_laws.proofs.Order.{Decides, TellsNext, asked-tells, beside-linker, field-first, first_by, first-found, first-only, inside-first, is_field, is_inside, linker-then, next-answers, next-tells, next-told, test_of, unless_left, uses-then}
+use Rattle.cause_laws.proofs.Order.{Decides, TellsNext, asked-tells, beside-linker, field-first, first_by, first-found}
+use Rattle.cause_laws.proofs.Order.{first-only, inside-first, is_field, is_inside, linker-then, next-answers}
+use Rattle.cause_laws.proofs.Order.{next-tells, next-told, test_of, unless_left, uses-then}
 use Rattle.cause_laws.proofs.Picks.{pick}
 use Rattle.cause_laws.proofs.Reading.{ReadingIs, reading}
 use Rattle.cause_laws.proofs.Told.{step-told}

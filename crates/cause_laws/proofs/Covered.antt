@@ -1,5 +1,6 @@
 -- Where nothing stops the reading, an instruction's fields are allowed.
-use Rattle.std.proofs.Common.{◌≡◌, ℕ, ◌-◌, ◌<◌, ◌≤◌, inl, inr, ◌==◌, Bool, true, false, ◌&&◌, List, length, take, Option, Some, None, refl, sym, ap, subst, ◌∙◌, arith}
+use Rattle.std.proofs.Common.{◌≡◌, ℕ, ◌-◌, ◌<◌, ◌≤◌, inl, inr, ◌==◌, Bool, true, false, ◌&&◌, List, length, take}
+use Rattle.std.proofs.Common.{Option, Some, None, refl, sym, ap, subst, ◌∙◌, arith}
 use Rattle.std.specs.Prelude.{if◌then◌else◌, nat_le, replicate}
 use Rattle.std.proofs.lemmas.Bool.{and_parts, eqb-true, or_cases}
 use Rattle.amd64_subset.specs.declared.instr.Decoded.{Decoded}
@@ -19,7 +20,8 @@ use Rattle.whole_meaning.specs.declared.marks.Mark.TheVariants.{Usual, Offset, A
 use Rattle.whole_meaning.specs.Reading.{hindrance}
 use Rattle.whole_meaning.specs.Threads.{ops}
 use Rattle.cause_laws.specs.Instructions.{operand_of, read_operand}
-use Rattle.cause_laws.specs.Operands.{address_of, adds_to_base, allows_address, allows_offset, begins_at, first_mark, is_minus, is_next_operand, is_placed, offset_of}
+use Rattle.cause_laws.specs.Operands.{address_of, adds_to_base, allows_address, allows_offset, begins_at, first_mark}
+use Rattle.cause_laws.specs.Operands.{is_minus, is_next_operand, is_placed, offset_of}
 use Rattle.cause_laws.specs.Rows.{is_covered, may_cover}
 use Rattle.cause_laws.proofs.Apart.{fields-apart}
 use Rattle.cause_laws.proofs.Fields.{blocked}

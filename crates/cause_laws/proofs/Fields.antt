@@ -1,13 +1,16 @@
 -- What a field allows: the meaning's question and the table's are one.
 use Rattle.std.proofs.lemmas.Bool.{eqb-true}
-use Rattle.std.proofs.Common.{◌≡◌, ℕ, suc, ◌+◌, ◌-◌, ◌==◌, Bool, true, false, ◌&&◌, List, Option, Some, None, Result, Ok, Err, refl, sym, ap, ◌∙◌, arith}
+use Rattle.std.proofs.Common.{◌≡◌, ℕ, suc, ◌+◌, ◌-◌, ◌==◌, Bool, true, false, ◌&&◌, List, Option, Some, None, Result}
+use Rattle.std.proofs.Common.{Ok, Err, refl, sym, ap, ◌∙◌, arith}
 use Rattle.std.specs.Prelude.{if◌then◌else◌, ℤ, pos, negsuc, is_some, nat_le, not, is_ok}
 use Rattle.address_map.specs.Map.{owner_at}
 use Rattle.amd64_subset.specs.declared.instr.Arithmetic.{Arithmetic}
 use Rattle.amd64_subset.specs.declared.instr.Arithmetic.TheVariants.{Add, Or, And, Sub, Xor, Compare}
 use Rattle.amd64_subset.specs.declared.instr.Decoded.{Decoded}
 use Rattle.amd64_subset.specs.declared.instr.Operation.{Operation}
-use Rattle.amd64_subset.specs.declared.instr.Operation.TheVariants.{Move, StoreByte, ExtendByte, ExtendLong, LoadAddress, Compute, Test, Multiply, Shift, Push, Pop, Leave, Call, Jump}
+use Rattle.amd64_subset.specs.declared.instr.Operation.TheVariants.{Move, StoreByte, ExtendByte, ExtendLong}
+use Rattle.amd64_subset.specs.declared.instr.Operation.TheVariants.{LoadAddress, Compute, Test, Multiply, Shift, Push}
+use Rattle.amd64_subset.specs.declared.instr.Operation.TheVariants.{Pop, Leave, Call, Jump}
 use Rattle.amd64_subset.specs.declared.instr.Operation.TheVariants.{JumpIf, Return, Nop, Undefined}
 use Rattle.amd64_subset.specs.declared.instr.Target.TheVariants.{Relative, Indirect}
 use Rattle.amd64_subset.specs.declared.instr.Width.TheVariants.{Long, Quad}
@@ -30,12 +33,14 @@ use Rattle.job_meaning.specs.Reading.{is_at}
 use Rattle.whole_meaning.specs.declared.marks.Mark.{Mark}
 use Rattle.whole_meaning.specs.declared.marks.Mark.TheVariants.{Usual, Offset, Address, Inside}
 use Rattle.whole_meaning.specs.Fields as fields
-use Rattle.whole_meaning.specs.Fields.{marked_frame, memory_in, operand_in, read_in, reads_next, takes_address, takes_offset}
+use Rattle.whole_meaning.specs.Fields.{marked_frame, memory_in, operand_in, read_in, reads_next, takes_address}
+use Rattle.whole_meaning.specs.Fields.{takes_offset}
 use Rattle.whole_meaning.specs.Reading.{hindrance_of}
 use Rattle.whole_meaning.specs.Threads.{ops}
 use Rattle.cause_laws.specs.Instructions.{memory_of, operand_of, read_operand}
 use Rattle.cause_laws.specs.Operands as operands
-use Rattle.cause_laws.specs.Operands.{allows, allows_address, allows_offset, begins_at, block_of, is_next_operand, operand_address}
+use Rattle.cause_laws.specs.Operands.{allows, allows_address, allows_offset, begins_at, block_of, is_next_operand}
+use Rattle.cause_laws.specs.Operands.{operand_address}
 use Rattle.cause_laws.specs.Rows.{is_covered}
 use Rattle.cause_laws.proofs.Addresses.{AddsField, SaysBy, address-says, block-adds}
 

@@ -1,5 +1,6 @@
 -- A step that nothing hinders is the machine's step over marked values, with the operand that a field gives.
-use Rattle.std.proofs.Common.{◌≡◌, ℕ, zero, suc, ◌+◌, ◌-◌, ◌%◌, ◌^◌, ◌<◌, Bool, true, false, ◌&&◌, Option, Some, None, Result, Ok, Err, refl, sym, ap, ◌∙◌, arith}
+use Rattle.std.proofs.Common.{◌≡◌, ℕ, zero, suc, ◌+◌, ◌-◌, ◌%◌, ◌^◌, ◌<◌, Bool, true, false, ◌&&◌, Option, Some, None}
+use Rattle.std.proofs.Common.{Result, Ok, Err, refl, sym, ap, ◌∙◌, arith}
 use Rattle.std.specs.Prelude.{is_some, nat_lt, not, option_map}
 use Rattle.std.proofs.lemmas.Bool.{and_parts, lt-ltb}
 use Rattle.address_map.specs.Map.{owner_at}
@@ -18,7 +19,8 @@ use Rattle.guest_arithmetic.specs.declared.cause.Cause.{Cause}
 use Rattle.guest_arithmetic.specs.Flags.{with_changes}
 use Rattle.guest_operands.specs.declared.frame.Frame.{Frame}
 use Rattle.guest_operands.specs.declared.state.State.{State}
-use Rattle.guest_operands.specs.Access.{Accesses, bytes_at, bytes_from, fetch_of, load_of, next_place, reached, store_of}
+use Rattle.guest_operands.specs.Access.{Accesses, bytes_at, bytes_from, fetch_of, load_of, next_place, reached}
+use Rattle.guest_operands.specs.Access.{store_of}
 use Rattle.guest_operands.specs.Frame.{field_at, frame_of}
 use Rattle.guest_operands.specs.Operand.{address_of, base_of, index_of, put}
 use Rattle.guest_operands.specs.State.{register_of, with_word}
@@ -41,7 +43,8 @@ use Rattle.whole_meaning.specs.Threads.{ops}
 use Rattle.cause_laws.specs.Instructions.{operand_of, read_operand}
 use Rattle.cause_laws.specs.Laws.{IsDone, IsGeneric, absolute, bare_frame, displaced, with_number_at}
 use Rattle.cause_laws.specs.Operands as operands
-use Rattle.cause_laws.specs.Operands.{adds_to_base, block_of, first_mark, is_from_next, is_next_operand, is_placed, offset_of, operand_address}
+use Rattle.cause_laws.specs.Operands.{adds_to_base, block_of, first_mark, is_from_next, is_next_operand, is_placed}
+use Rattle.cause_laws.specs.Operands.{offset_of, operand_address}
 use Rattle.cause_laws.proofs.Addresses.{AddsField, Given, address-says, block-adds, given}
 use Rattle.cause_laws.proofs.Covered.{added-field, placed-field, supplied-field}
 use Rattle.cause_laws.proofs.Fields.{base-next, read-is}

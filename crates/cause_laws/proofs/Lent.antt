@@ -1,10 +1,13 @@
 -- An instruction whose operand an address field supplies has the first cause of the table's words and flags.
-use Rattle.std.proofs.Common.{◌≡◌, ℕ, Bool, true, false, List, [], ◌∷◌, ◌++◌, map, Option, Some, None, Ok, refl, sym, ap, subst, ◌∙◌, append-nil}
+use Rattle.std.proofs.Common.{◌≡◌, ℕ, Bool, true, false, List, [], ◌∷◌, ◌++◌, map, Option, Some, None, Ok, refl, sym}
+use Rattle.std.proofs.Common.{ap, subst, ◌∙◌, append-nil}
 use Rattle.std.specs.Prelude.{if◌then◌else◌}
 use Rattle.amd64_subset.specs.declared.instr.Arithmetic.TheVariants.{Add, Or, And, Sub, Xor, Compare}
 use Rattle.amd64_subset.specs.declared.instr.Decoded.{Decoded}
 use Rattle.amd64_subset.specs.declared.instr.Operation.{Operation}
-use Rattle.amd64_subset.specs.declared.instr.Operation.TheVariants.{Move, StoreByte, ExtendByte, ExtendLong, LoadAddress, Compute, Test, Multiply, Shift as ShiftBy, Push, Pop, Leave, Call, Jump}
+use Rattle.amd64_subset.specs.declared.instr.Operation.TheVariants.{Move, StoreByte, ExtendByte, ExtendLong}
+use Rattle.amd64_subset.specs.declared.instr.Operation.TheVariants.{LoadAddress, Compute, Test, Multiply}
+use Rattle.amd64_subset.specs.declared.instr.Operation.TheVariants.{Shift as ShiftBy, Push, Pop, Leave, Call, Jump}
 use Rattle.amd64_subset.specs.declared.instr.Operation.TheVariants.{JumpIf, Return, Nop, Undefined}
 use Rattle.amd64_subset.specs.declared.instr.Target.TheVariants.{Relative, Indirect}
 use Rattle.amd64_subset.specs.declared.instr.Width.TheVariants.{Long as LongWidth, Quad as QuadWidth}
@@ -32,7 +35,8 @@ use Rattle.cause_laws.specs.Instructions.{is_nop, memory_of, operand_of, read_op
 use Rattle.cause_laws.specs.Operands as operands
 use Rattle.cause_laws.specs.Operands.{first_mark, is_from_next, offset_of}
 use Rattle.cause_laws.specs.Steps as steps
-use Rattle.cause_laws.specs.Steps.{accesses_of, first_loaded, load_at, operand_words, store_at, used_flags, word_in, words_of}
+use Rattle.cause_laws.specs.Steps.{accesses_of, first_loaded, load_at, operand_words, store_at, used_flags, word_in}
+use Rattle.cause_laws.specs.Steps.{words_of}
 use Rattle.cause_laws.proofs.Picks.{earlier, earlier-none, pick, pick-append, word_cause}
 use Rattle.cause_laws.proofs.Uses.{FitsAll, FitsNop, NotShut, Tells, act-tells, aw_if, loaded_by, loaded_of}
 

@@ -4,7 +4,9 @@ use Rattle.amd64_words.specs.declared.register.Register.{Register}
 use Rattle.amd64_subset.specs.declared.instr.Arithmetic.{Arithmetic}
 use Rattle.amd64_subset.specs.declared.instr.Arithmetic.TheVariants.{Add, Or, And, Sub, Xor, Compare}
 use Rattle.amd64_subset.specs.declared.instr.Operation.{Operation}
-use Rattle.amd64_subset.specs.declared.instr.Operation.TheVariants.{Move, StoreByte, ExtendByte, ExtendLong, LoadAddress, Compute, Test, Multiply, Shift as ShiftBy, Push, Pop, Leave, Call, Jump}
+use Rattle.amd64_subset.specs.declared.instr.Operation.TheVariants.{Move, StoreByte, ExtendByte, ExtendLong}
+use Rattle.amd64_subset.specs.declared.instr.Operation.TheVariants.{LoadAddress, Compute, Test, Multiply}
+use Rattle.amd64_subset.specs.declared.instr.Operation.TheVariants.{Shift as ShiftBy, Push, Pop, Leave, Call, Jump}
 use Rattle.amd64_subset.specs.declared.instr.Operation.TheVariants.{JumpIf, Return, Nop, Undefined}
 use Rattle.amd64_subset.specs.declared.instr.Target.TheVariants.{Relative, Indirect}
 use Rattle.amd64_subset.specs.declared.instr.Width.TheVariants.{Long as LongWidth, Quad as QuadWidth}
@@ -26,7 +28,8 @@ use Rattle.guest_operands.specs.Access.{Accesses, Refusal, load_of, store_of}
 use Rattle.guest_operands.specs.Operand.{address_of, carried, number_at, put, taken, taken_at, weighed}
 use Rattle.guest_operands.specs.Use.{◌>>=◌, clean, plus}
 use Rattle.guest_machine.specs.Step.{immediate_of, finished, concluded, move_in, move_of}
-use Rattle.guest_machine.specs.Step.{compute_in, compute_plain, compute_number, compute_of, test_of, multiply_of, pushed, call_of, jump_of, act}
+use Rattle.guest_machine.specs.Step.{compute_in, compute_plain, compute_number, compute_of, test_of, multiply_of}
+use Rattle.guest_machine.specs.Step.{pushed, call_of, jump_of, act}
 use Rattle.cause_laws.specs.Instructions.{read_operand}
 use Rattle.cause_laws.specs.Laws.{absolute, with_absolute}
 use Rattle.cause_laws.proofs.Moved.{is_memory, not-cleared}

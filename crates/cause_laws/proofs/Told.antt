@@ -1,12 +1,15 @@
 -- A step that nothing hinders is unclean for the first cause of its words and flags, whatever fields it has.
-use Rattle.std.proofs.Common.{◌≡◌, ℕ, zero, suc, true, false, ◌&&◌, List, [], ◌∷◌, ◌++◌, Option, Some, None, Result, Ok, Err, refl, sym, ap, ◌∙◌, arith}
+use Rattle.std.proofs.Common.{◌≡◌, ℕ, zero, suc, true, false, ◌&&◌, List, [], ◌∷◌, ◌++◌, Option, Some, None, Result, Ok}
+use Rattle.std.proofs.Common.{Err, refl, sym, ap, ◌∙◌, arith}
 use Rattle.std.specs.Prelude.{if◌then◌else◌, not, nat_lt}
 use Rattle.std.proofs.lemmas.Bool.{and_parts}
 use Rattle.amd64_words.specs.declared.register.Register.{Register}
 use Rattle.amd64_subset.specs.declared.instr.Arithmetic.TheVariants.{Add}
 use Rattle.amd64_subset.specs.declared.instr.Decoded.{Decoded}
 use Rattle.amd64_subset.specs.declared.instr.Operation.{Operation}
-use Rattle.amd64_subset.specs.declared.instr.Operation.TheVariants.{Move, StoreByte, ExtendByte, ExtendLong, LoadAddress, Compute, Test, Multiply, Shift as ShiftBy, Push, Pop, Leave, Call, Jump}
+use Rattle.amd64_subset.specs.declared.instr.Operation.TheVariants.{Move, StoreByte, ExtendByte, ExtendLong}
+use Rattle.amd64_subset.specs.declared.instr.Operation.TheVariants.{LoadAddress, Compute, Test, Multiply}
+use Rattle.amd64_subset.specs.declared.instr.Operation.TheVariants.{Shift as ShiftBy, Push, Pop, Leave, Call, Jump}
 use Rattle.amd64_subset.specs.declared.instr.Operation.TheVariants.{JumpIf, Return, Nop, Undefined}
 use Rattle.amd64_subset.specs.declared.instr.Width.TheVariants.{Quad}
 use Rattle.amd64_subset.specs.declared.operand.Memory.{Memory}
@@ -17,7 +20,8 @@ use Rattle.guest_arithmetic.specs.declared.cause.Cause.{Cause}
 use Rattle.guest_operands.specs.declared.frame.Frame.{Frame}
 use Rattle.guest_operands.specs.declared.state.State.{State}
 use Rattle.guest_operands.specs.declared.stop.Stop.{Stop}
-use Rattle.guest_operands.specs.Access.{Accesses, Refusal, Refused, Shut, all_write, both_reached, bytes_at, fetch_of, load_of, next_place, reached, store_of}
+use Rattle.guest_operands.specs.Access.{Accesses, Refusal, Refused, Shut, all_write, both_reached, bytes_at, fetch_of}
+use Rattle.guest_operands.specs.Access.{load_of, next_place, reached, store_of}
 use Rattle.guest_operands.specs.Frame.{frame_of}
 use Rattle.guest_operands.specs.Operand.{address_of}
 use Rattle.guest_operands.specs.Use.{After}
@@ -40,7 +44,9 @@ use Rattle.cause_laws.specs.Steps.{accesses_of, first_loaded, operand_words, use
 use Rattle.cause_laws.proofs.Addresses.{address-says, given}
 use Rattle.cause_laws.proofs.Covered.{added-field, placed-field, supplied-field}
 use Rattle.cause_laws.proofs.Fields.{read-is}
-use Rattle.cause_laws.proofs.Generic.{adds-none, disp-there, is-there, lacks-immediate, next-base, next-operand, no-field, no-immediate, no-number, no-operand, no-read, only-offset, placed-operand, summed-step}
+use Rattle.cause_laws.proofs.Generic.{adds-none, disp-there, is-there, lacks-immediate, next-base, next-operand}
+use Rattle.cause_laws.proofs.Generic.{no-field, no-immediate, no-number, no-operand, no-read, only-offset}
+use Rattle.cause_laws.proofs.Generic.{placed-operand, summed-step}
 use Rattle.cause_laws.proofs.Lent.{lent-tells}
 use Rattle.cause_laws.proofs.Picks.{pick}
 use Rattle.cause_laws.proofs.Touches.{address-same, same-by}

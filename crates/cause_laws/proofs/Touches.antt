@@ -1,10 +1,13 @@
 -- The bytes that a step is said to touch are those of the table of accesses.
-use Rattle.std.proofs.Common.{◌≡◌, ℕ, zero, suc, ◌-◌, ◌^◌, List, [], ◌∷◌, ◌++◌, Option, Some, None, Result, Ok, Err, refl, ap, ◌∙◌}
+use Rattle.std.proofs.Common.{◌≡◌, ℕ, zero, suc, ◌-◌, ◌^◌, List, [], ◌∷◌, ◌++◌, Option, Some, None, Result, Ok, Err}
+use Rattle.std.proofs.Common.{refl, ap, ◌∙◌}
 use Rattle.std.specs.Prelude.{option_map}
 use Rattle.amd64_subset.specs.declared.instr.Arithmetic.TheVariants.{Add, Or, And, Sub, Xor, Compare}
 use Rattle.amd64_subset.specs.declared.instr.Decoded.{Decoded}
 use Rattle.amd64_subset.specs.declared.instr.Operation.{Operation}
-use Rattle.amd64_subset.specs.declared.instr.Operation.TheVariants.{Move, StoreByte, ExtendByte, ExtendLong, LoadAddress, Compute, Test, Multiply, Shift, Push, Pop, Leave, Call, Jump}
+use Rattle.amd64_subset.specs.declared.instr.Operation.TheVariants.{Move, StoreByte, ExtendByte, ExtendLong}
+use Rattle.amd64_subset.specs.declared.instr.Operation.TheVariants.{LoadAddress, Compute, Test, Multiply, Shift, Push}
+use Rattle.amd64_subset.specs.declared.instr.Operation.TheVariants.{Pop, Leave, Call, Jump}
 use Rattle.amd64_subset.specs.declared.instr.Operation.TheVariants.{JumpIf, Return, Nop, Undefined}
 use Rattle.amd64_subset.specs.declared.instr.Target.TheVariants.{Relative, Indirect}
 use Rattle.amd64_subset.specs.declared.instr.Width.{Width}
@@ -40,7 +43,8 @@ use Rattle.cause_laws.specs.Instructions.{read_operand}
 use Rattle.cause_laws.specs.Operands as operands
 use Rattle.cause_laws.specs.Operands.{first_mark, number_in, operand_address}
 use Rattle.cause_laws.specs.Steps as steps
-use Rattle.cause_laws.specs.Steps.{Access, Load, Store, accesses_of, bytes_of, load_at, places_from, store_at, touched_by}
+use Rattle.cause_laws.specs.Steps.{Access, Load, Store, accesses_of, bytes_of, load_at, places_from, store_at}
+use Rattle.cause_laws.specs.Steps.{touched_by}
 use Rattle.cause_laws.proofs.Addresses.{SaysBy, address-says}
 
 -- a number that is there on both sides or on none

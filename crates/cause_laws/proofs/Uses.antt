@@ -1,5 +1,6 @@
 -- The cause of an instruction is the first one of the words and flags that it computes with.
-use Rattle.std.proofs.Common.{◌≡◌, ℕ, Bool, true, false, List, [], ◌∷◌, ◌++◌, map, Option, Some, None, Result, Ok, Err, refl, sym, ap, subst, ◌∙◌, append-nil}
+use Rattle.std.proofs.Common.{◌≡◌, ℕ, Bool, true, false, List, [], ◌∷◌, ◌++◌, map, Option, Some, None, Result, Ok, Err}
+use Rattle.std.proofs.Common.{refl, sym, ap, subst, ◌∙◌, append-nil}
 use Rattle.std.specs.Prelude.{if◌then◌else◌, ◌||◌}
 use Rattle.std.specs.List.{list_any}
 use Rattle.std.proofs.lemmas.List.Folds.{list_any-append}
@@ -9,7 +10,9 @@ use Rattle.amd64_subset.specs.declared.instr.Arithmetic.TheVariants.{Add, Or, An
 use Rattle.amd64_subset.specs.declared.instr.Condition.{Condition}
 use Rattle.amd64_subset.specs.declared.instr.Condition.TheVariants as condition
 use Rattle.amd64_subset.specs.declared.instr.Operation.{Operation}
-use Rattle.amd64_subset.specs.declared.instr.Operation.TheVariants.{Move, StoreByte, ExtendByte, ExtendLong, LoadAddress, Compute, Test, Multiply, Shift as ShiftBy, Push, Pop, Leave, Call, Jump}
+use Rattle.amd64_subset.specs.declared.instr.Operation.TheVariants.{Move, StoreByte, ExtendByte, ExtendLong}
+use Rattle.amd64_subset.specs.declared.instr.Operation.TheVariants.{LoadAddress, Compute, Test, Multiply}
+use Rattle.amd64_subset.specs.declared.instr.Operation.TheVariants.{Shift as ShiftBy, Push, Pop, Leave, Call, Jump}
 use Rattle.amd64_subset.specs.declared.instr.Operation.TheVariants.{JumpIf, Return, Nop, Undefined}
 use Rattle.amd64_subset.specs.declared.instr.Target.TheVariants.{Relative, Indirect}
 use Rattle.amd64_subset.specs.declared.instr.Width.{Width}
@@ -33,8 +36,11 @@ use Rattle.guest_operands.specs.Access.{Accesses, Refusal, Refused, Shut, load_o
 use Rattle.guest_operands.specs.Operand.{address_of, carried, number_at, put, size_of, taken, taken_at, weighed}
 use Rattle.guest_operands.specs.State.{at_place, register_of, with_stack}
 use Rattle.guest_operands.specs.Use.{◌>>=◌, clean, left, plus, refused_with, there}
-use Rattle.guest_machine.specs.Step.{immediate_of, finished, concluded, move_in, stored, store_byte, move_number, move_of, extend_byte, extend_long, load_address, is_cleared}
-use Rattle.guest_machine.specs.Step.{compute_in, compute_plain, compute_number, compute_of, test_of, multiply_of, shift_of, pushed, push_of, pop_of, leave_of, return_of, call_of, jump_of, jump_if, nop_of, nop_use, act}
+use Rattle.guest_machine.specs.Step.{immediate_of, finished, concluded, move_in, stored, store_byte, move_number}
+use Rattle.guest_machine.specs.Step.{move_of, extend_byte, extend_long, load_address, is_cleared}
+use Rattle.guest_machine.specs.Step.{compute_in, compute_plain, compute_number, compute_of, test_of, multiply_of}
+use Rattle.guest_machine.specs.Step.{shift_of, pushed, push_of, pop_of, leave_of, return_of, call_of, jump_of, jump_if}
+use Rattle.guest_machine.specs.Step.{nop_of, nop_use, act}
 use Rattle.job_meaning.specs.declared.values.Byte.{Byte}
 use Rattle.job_meaning.specs.declared.values.Flag.{Flag}
 use Rattle.job_meaning.specs.declared.values.Flag.TheVariants.{Truth, Unsettled}
@@ -44,7 +50,8 @@ use Rattle.job_meaning.specs.declared.values.Word.TheVariants.{Number, Undefined
 use Rattle.job_meaning.specs.Marked.{marked_operations, used_number, used_truth}
 use Rattle.whole_meaning.specs.Threads.{ops}
 use Rattle.step_laws.specs.Reads.{flags_read, in_condition}
-use Rattle.cause_laws.specs.Instructions.{is_nop, is_zeroing, memory_if, memory_of, operand_of, registers_in, registers_used}
+use Rattle.cause_laws.specs.Instructions.{is_nop, is_zeroing, memory_if, memory_of, operand_of, registers_in}
+use Rattle.cause_laws.specs.Instructions.{registers_used}
 use Rattle.cause_laws.specs.Rows.{is_base, is_descriptor, is_undefined}
 use Rattle.cause_laws.specs.Steps.{word_in}
 use Rattle.cause_laws.proofs.Picks.{earlier, earlier-none, pick, pick-append, word_cause}

@@ -1,10 +1,13 @@
 -- A step that nothing hinders is unclean for the first cause of the words and flags of the table.
-use Rattle.std.proofs.Common.{◌≡◌, ℕ, Bool, true, false, List, [], ◌++◌, Option, Some, None, Result, Ok, Err, refl, sym, ap, subst, ◌∙◌}
+use Rattle.std.proofs.Common.{◌≡◌, ℕ, Bool, true, false, List, [], ◌++◌, Option, Some, None, Result, Ok, Err, refl, sym}
+use Rattle.std.proofs.Common.{ap, subst, ◌∙◌}
 use Rattle.std.specs.Prelude.{if◌then◌else◌}
 use Rattle.amd64_subset.specs.declared.instr.Arithmetic.TheVariants.{Add, Or, And, Sub, Xor, Compare}
 use Rattle.amd64_subset.specs.declared.instr.Decoded.{Decoded}
 use Rattle.amd64_subset.specs.declared.instr.Operation.{Operation}
-use Rattle.amd64_subset.specs.declared.instr.Operation.TheVariants.{Move, StoreByte, ExtendByte, ExtendLong, LoadAddress, Compute, Test, Multiply, Shift as ShiftBy, Push, Pop, Leave, Call, Jump}
+use Rattle.amd64_subset.specs.declared.instr.Operation.TheVariants.{Move, StoreByte, ExtendByte, ExtendLong}
+use Rattle.amd64_subset.specs.declared.instr.Operation.TheVariants.{LoadAddress, Compute, Test, Multiply}
+use Rattle.amd64_subset.specs.declared.instr.Operation.TheVariants.{Shift as ShiftBy, Push, Pop, Leave, Call, Jump}
 use Rattle.amd64_subset.specs.declared.instr.Operation.TheVariants.{JumpIf, Return, Nop, Undefined}
 use Rattle.amd64_subset.specs.declared.instr.Target.TheVariants.{Relative, Indirect}
 use Rattle.amd64_subset.specs.declared.instr.Width.{Width}
@@ -29,11 +32,13 @@ use Rattle.cause_laws.specs.Instructions.{is_nop, memory_if, operand_of, uses_lo
 use Rattle.cause_laws.specs.Operands as operands
 use Rattle.cause_laws.specs.Operands.{address_words, first_mark, number_in, offset_of, operand_address, words_by}
 use Rattle.cause_laws.specs.Steps as steps
-use Rattle.cause_laws.specs.Steps.{accesses_of, bytes_of, first_loaded, load_at, loaded_words, register_words, operand_words, store_at, used_flags, word_in, words_of}
+use Rattle.cause_laws.specs.Steps.{accesses_of, bytes_of, first_loaded, load_at, loaded_words, register_words}
+use Rattle.cause_laws.specs.Steps.{operand_words, store_at, used_flags, word_in, words_of}
 use Rattle.cause_laws.proofs.Addresses.{SaysBy, address-says}
 use Rattle.cause_laws.proofs.Picks.{pick, word_cause}
 use Rattle.cause_laws.proofs.Touches.{Same, same-by, same-word}
-use Rattle.cause_laws.proofs.Uses.{FitsAll, aw_if, FitsNop, NotShut, Tells, act-tells, all_words, at_address, cause_of, loaded_by, loaded_of}
+use Rattle.cause_laws.proofs.Uses.{FitsAll, aw_if, FitsNop, NotShut, Tells, act-tells, all_words, at_address, cause_of}
+use Rattle.cause_laws.proofs.Uses.{loaded_by, loaded_of}
 
 size-is : (width : Width) → size_of width ≡ bytes_of width
 size-is LongWidth = refl

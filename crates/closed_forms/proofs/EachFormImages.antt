@@ -1,7 +1,8 @@
 -- The program that reaches a variable in each way: its images, as the linker writes them.
 use Rattle.std.proofs.Common.{false, [], ◌∷◌, Some}
 use Rattle.std.specs.Prelude.{codes, pos}
-use Rattle.image_faults.specs.declared.loader_kind.LoaderKind.TheVariants.{JumpSlot, Module, ModuleOffset, ThreadOffset, Descriptor}
+use Rattle.image_faults.specs.declared.loader_kind.LoaderKind.TheVariants.{JumpSlot, Module, ModuleOffset, ThreadOffset}
+use Rattle.image_faults.specs.declared.loader_kind.LoaderKind.TheVariants.{Descriptor}
 use Rattle.image_file.specs.Spelled.{Spelled}
 use Rattle.image_file.specs.declared.part.PartClass.TheVariants.{Executable, ReadOnly, Writable}
 use Rattle.elf_records.specs.declared.symbol.SymbolType.TheVariants.{NoType, Func, Tls}

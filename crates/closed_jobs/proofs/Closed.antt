@@ -1,6 +1,7 @@
 -- What is loaded of images, with all that it is computed by open; and instructions and words of it, from one list of
 -- bytes.
-use Rattle.std.proofs.Common.{◌≡◌, ◌<◌, ◌+◌, ◌⊎◌, ℕ, zero, suc, List, [], ◌∷◌, length, Some, inl, inr, arith, eq-or-lt_of_le}
+use Rattle.std.proofs.Common.{◌≡◌, ◌<◌, ◌+◌, ◌⊎◌, ℕ, zero, suc, List, [], ◌∷◌, length, Some, inl, inr, arith}
+use Rattle.std.proofs.Common.{eq-or-lt_of_le}
 use Rattle.std.specs.Prelude.{slice_get}
 use Rattle.amd64_subset.specs.declared.instr.Decoded.{Decoded}
 use Rattle.guest_arithmetic.specs.Values.{digit}
@@ -11,16 +12,19 @@ use Rattle.tied_meaning.specs.Sites.{HasInstruction, HasWord}
 use Rattle.image_file.specs.Spelled.{Spelled}
 use Rattle.link_faults.specs.declared.image_kind.ImageKind.{ImageKind}
 use Rattle.amd64_subset.specs.Beginning.{begins_of}
-use Rattle.amd64_subset.specs.Decoding.{end_branch_at, escaped_at, row_at, operated_at, body_at, instruction_at, decoded}
+use Rattle.amd64_subset.specs.Decoding.{end_branch_at, escaped_at, row_at, operated_at, body_at, instruction_at}
+use Rattle.amd64_subset.specs.Decoding.{decoded}
 use Rattle.amd64_subset.specs.Meaning.{numbered_body, operation_of, operand_body}
 use Rattle.amd64_subset.specs.Number.{signed_of}
 use Rattle.amd64_subset.specs.Prefix.{rex_at, prefixes_at}
 use Rattle.amd64_subset.specs.Reading.{numbers_at}
 use Rattle.amd64_subset.specs.Register.{register_of as named_register, number_of}
-use Rattle.amd64_subset.specs.Row.{condition_of as encoded_condition, fixed_row_of, row_of, escaped_row_of, arithmetic_of, shift_of, group_action, takes}
+use Rattle.amd64_subset.specs.Row.{condition_of as encoded_condition, fixed_row_of, row_of, escaped_row_of}
+use Rattle.amd64_subset.specs.Row.{arithmetic_of, shift_of, group_action, takes}
 use Rattle.amd64_subset.specs.Selectors.{allowed, displacement_size, memory_in, sib_at, selectors_at}
 use Rattle.elf_records.specs.Fields.{bytes_of, splice}
-use Rattle.module_table.specs.Past.{start, open_refusal, close_refusal, least_free, loaded, retained, released, opened, after_one, past}
+use Rattle.module_table.specs.Past.{start, open_refusal, close_refusal, least_free, loaded, retained, released, opened}
+use Rattle.module_table.specs.Past.{after_one, past}
 use Rattle.loaded_modules.specs.Images.{infos, last_offset, static_offset, image_at}
 use Rattle.loaded_modules.specs.Loader.{bias, export_of, target_of, relocation_bytes, part_bytes, fresh_block}
 use Rattle.image_names.specs.Functions.{entry_in}

@@ -14,7 +14,8 @@ use Rattle.link_core.proofs.Computed.{linked}
 use Rattle.closed_jobs.proofs.Opened.{meant}
 use Rattle.closed_jobs.proofs.Ran.{ran}
 
-pub ran-is : (kinds : List ImageKind) (images : List Spelled) (fuel : ℕ) (lines : List (List ThreadLine)) (order : List ℕ)
+pub ran-is : (kinds : List ImageKind) (images : List Spelled) (fuel : ℕ) (lines : List (List ThreadLine))
+    (order : List ℕ)
     → job_world (job_loads (record { kinds = kinds; images = images })) fuel lines order
     ≡ ran kinds images fuel lines order
 unfolding ran

@@ -1,6 +1,7 @@
 -- The offset field of the program with local dynamic code and a descriptor, rewritten and kept: what stands there leads
 -- from each thread's base to one address.
-use Rattle.std.proofs.Common.{◌≡◌, ◌∙◌, ◌+◌, ◌-◌, ◌%◌, ◌^◌, ◌==◌, ℕ, Bool, true, false, List, Some, None, refl, ap, arith}
+use Rattle.std.proofs.Common.{◌≡◌, ◌∙◌, ◌+◌, ◌-◌, ◌%◌, ◌^◌, ◌==◌, ℕ, Bool, true, false, List, Some, None, refl, ap}
+use Rattle.std.proofs.Common.{arith}
 use Rattle.std.specs.Prelude.{codes, if◌then◌else◌}
 use Rattle.address_map.specs.Map.{pointer_of}
 use Rattle.amd64_subset.specs.Spelling.{field_of}

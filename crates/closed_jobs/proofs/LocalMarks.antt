@@ -1,8 +1,10 @@
 -- The program with local dynamic code and a descriptor, in both settings: what each place of it is, and that what is
 -- loaded there is what is meant. Of the 29 places of its code each is computed, and of 8 bytes of its initial image.
-use Rattle.std.proofs.Common.{◌≡◌, ◌∙◌, ◌+◌, ◌-◌, ◌&&◌, ◌||◌, ◌==◌, ◌⊎◌, ℕ, ℤ, Bool, true, false, Option, Some, None, refl, sym, ap, inl, inr, arith}
+use Rattle.std.proofs.Common.{◌≡◌, ◌∙◌, ◌+◌, ◌-◌, ◌&&◌, ◌||◌, ◌==◌, ◌⊎◌, ℕ, ℤ, Bool, true, false, Option, Some, None}
+use Rattle.std.proofs.Common.{refl, sym, ap, inl, inr, arith}
 use Rattle.std.specs.Prelude.{is_none, nat_lt, option_and_then}
-use Rattle.std.proofs.lemmas.Bool.{agree_below, agree_below_at, and_parts, cases_Bool, eqb-true, le-ltb, ltb-true, or_cases}
+use Rattle.std.proofs.lemmas.Bool.{agree_below, agree_below_at, and_parts, cases_Bool, eqb-true, le-ltb, ltb-true}
+use Rattle.std.proofs.lemmas.Bool.{or_cases}
 use Rattle.guest_machine.specs.Ranges.{byte_in}
 use Rattle.guest_operands.specs.declared.space.Access.TheVariants.{Read, Run}
 use Rattle.job_meaning.specs.declared.values.Byte.{Byte}
@@ -11,7 +13,7 @@ use Rattle.job_meaning.specs.Marked.{code_byte}
 use Rattle.link_needs.specs.Linking.{Linking}
 use Rattle.object_faults.specs.declared.class.SectionClass.{SectionClass}
 use Rattle.object_faults.specs.declared.class.SectionClass.TheVariants.{Executable}
-use Rattle.thread_blocks.specs.Spaces.{FoundAlike}
+use Rattle.thread_blocks.specs.SpaceLaws.{FoundAlike}
 use Rattle.tied_meaning.specs.Codes.{AreBothThere, SameCodeByte}
 use Rattle.tied_meaning.specs.Numbers.{SameByte}
 use Rattle.whole_meaning.specs.declared.marks.Mark.{Mark}

@@ -1,7 +1,8 @@
 -- The program with local dynamic code and a descriptor, in both settings: where all that is loaded of it lies. Its code
 -- is the 29 bytes from 0x400000 on, its initial image of thread-local storage the 8 from 0x401000 on, and from 0x402000
 -- on is the linker's room.
-use Rattle.std.proofs.Common.{◌≡◌, ◌∙◌, ◌+◌, ◌<◌, ◌≤◌, ◌^◌, ◌&&◌, ◌⊎◌, ℕ, Bool, true, false, List, [], ◌∷◌, All, Option, Some, None, refl, sym, inl, inr, arith}
+use Rattle.std.proofs.Common.{◌≡◌, ◌∙◌, ◌+◌, ◌<◌, ◌≤◌, ◌^◌, ◌&&◌, ◌⊎◌, ℕ, Bool, true, false, List, [], ◌∷◌, All, Option}
+use Rattle.std.proofs.Common.{Some, None, refl, sym, inl, inr, arith}
 use Rattle.std.specs.List.{list_all}
 use Rattle.std.proofs.lemmas.Bool.{and_parts}
 use Rattle.std.proofs.lemmas.List.Elements.{All-cons, All-nil}
@@ -11,11 +12,12 @@ use Rattle.guest_machine.specs.Ranges.{Range, byte_in, holds}
 use Rattle.guest_operands.specs.declared.space.Access.{Access}
 use Rattle.guest_operands.specs.declared.space.Access.TheVariants.{Read, Run}
 use Rattle.job_meaning.specs.declared.values.Byte.{Byte}
-use Rattle.thread_blocks.specs.Spaces.{NoneWritable}
+use Rattle.thread_blocks.specs.SpaceLaws.{NoneWritable}
 use Rattle.tied_meaning.specs.Ties.{IsPlaceOf}
 use Rattle.closed_jobs.specs.LocalSites.{app}
 use Rattle.closed_jobs.proofs.LocalLoads.{m, q}
-use Rattle.closed_jobs.proofs.Ranges.{between, found_within, held_within, is_between, lies_apart, lies_within, none_found, not_between}
+use Rattle.closed_jobs.proofs.Ranges.{between, found_within, held_within, is_between, lies_apart, lies_within}
+use Rattle.closed_jobs.proofs.Ranges.{none_found, not_between}
 
 abbrev pub in_code : ℕ → Bool
 in_code place = is_between 0x400000 0x40001d place

@@ -1,6 +1,7 @@
 -- The program with local dynamic code and a descriptor, rewritten and kept: all that is loaded of it is tied to all
 -- that is meant. Its job has no events.
-use Rattle.std.proofs.Common.{◌≡◌, ◌∙◌, ◌+◌, ◌-◌, ◌<◌, ◌≤◌, ◌%◌, ◌^◌, ◌==◌, ℕ, Bool, true, false, List, [], ◌∷◌, All, Some, None, length, refl, sym, ap, subst, inl, inr, arith}
+use Rattle.std.proofs.Common.{◌≡◌, ◌∙◌, ◌+◌, ◌-◌, ◌<◌, ◌≤◌, ◌%◌, ◌^◌, ◌==◌, ℕ, Bool, true, false, List, [], ◌∷◌, All}
+use Rattle.std.proofs.Common.{Some, None, length, refl, sym, ap, subst, inl, inr, arith}
 use Rattle.std.specs.Prelude.{map, nat_lt}
 use Rattle.std.specs.List.{list_all}
 use Rattle.std.proofs.lemmas.Bool.{and_parts, cases_Bool, eqb-true, ltb-true}
@@ -13,8 +14,9 @@ use Rattle.job_meaning.specs.declared.values.Token.TheVariants.{Base}
 use Rattle.loaded_modules.specs.declared.instance.Instance.{Instance}
 use Rattle.module_table.specs.declared.events.Event.{Event}
 use Rattle.module_table.specs.Past.{startup_count}
-use Rattle.thread_blocks.specs.Instances.{Loads, instances, instances_in, instance_with_id, is_startup_id, numbered_instance}
-use Rattle.thread_blocks.specs.TurnsAlike.{IsFront}
+use Rattle.thread_blocks.specs.Instances.{Loads, instances, instances_in, instance_with_id, is_startup_id}
+use Rattle.thread_blocks.specs.Instances.{numbered_instance}
+use Rattle.thread_blocks.specs.Turns.{IsFront}
 use Rattle.tied_meaning.specs.Numbers.{Setting, IsMade, SameByte, base_number}
 use Rattle.tied_meaning.specs.Sites.{Stands}
 use Rattle.tied_meaning.specs.Ties.{AreTied, HasFourBytes, IsTied}

@@ -4,40 +4,54 @@ use Rattle.address_map.specs.Map.{owner_at}
 use Rattle.job_text.specs.declared.thread_lines.ThreadLine.{ThreadLine}
 use Rattle.link_needs.specs.Linking.{Linking}
 use Rattle.amd64_subset.specs.Beginning.{begins_of}
-use Rattle.amd64_subset.specs.Decoding.{end_branch_at, escaped_at, row_at, operated_at, body_at, instruction_at, decoded}
+use Rattle.amd64_subset.specs.Decoding.{end_branch_at, escaped_at, row_at, operated_at, body_at, instruction_at}
+use Rattle.amd64_subset.specs.Decoding.{decoded}
 use Rattle.amd64_subset.specs.Meaning.{numbered_body, operation_of, operand_body}
 use Rattle.amd64_subset.specs.Number.{signed_of}
 use Rattle.amd64_subset.specs.Prefix.{rex_at, prefixes_at}
 use Rattle.amd64_subset.specs.Reading.{numbers_at}
 use Rattle.amd64_subset.specs.Register.{register_of as named_register, number_of}
-use Rattle.amd64_subset.specs.Row.{condition_of as encoded_condition, fixed_row_of, row_of, escaped_row_of, arithmetic_of, shift_of as encoded_shift, group_action, takes}
+use Rattle.amd64_subset.specs.Row.{condition_of as encoded_condition, fixed_row_of, row_of, escaped_row_of}
+use Rattle.amd64_subset.specs.Row.{arithmetic_of, shift_of as encoded_shift, group_action, takes}
 use Rattle.amd64_subset.specs.Selectors.{allowed, displacement_size, memory_in as encoded_memory, sib_at, selectors_at}
-use Rattle.elf_object.specs.Lent.{section_bytes, section_class, section_size, section_alignment, symbol_name, symbol_binding, symbol_visibility, symbol_place, symbol_value, relocation_at, relocations_from, kept_relocation_table, relocations_in}
+use Rattle.elf_object.specs.Lent.{section_bytes, section_class, section_size, section_alignment, symbol_name}
+use Rattle.elf_object.specs.Lent.{symbol_binding, symbol_visibility, symbol_place, symbol_value, relocation_at}
+use Rattle.elf_object.specs.Lent.{relocations_from, kept_relocation_table, relocations_in}
 use Rattle.elf_records.specs.Fields.{number_at, part_at, bytes_of}
 use Rattle.elf_records.specs.Records.{header_at, section_at, symbol_at, rela_at}
 use Rattle.elf_records.specs.Strings.{text_at}
 use Rattle.object_faults.specs.Classes.{class_of, kept_class}
 use Rattle.object_faults.specs.Firsts.{first_below}
 use Rattle.object_faults.specs.Parts.{header, section, symbol_table, symbol, rela, relocation_table}
-use Rattle.guest_arithmetic.specs.Arithmetic.{sum_overflows, difference_overflows, sum_effect, difference_effect, logic_effect, compute_effect, product_fits, product_effect, shifted, bit_out, shift_overflows, shift_effect}
+use Rattle.guest_arithmetic.specs.Arithmetic.{sum_overflows, difference_overflows, sum_effect, difference_effect}
+use Rattle.guest_arithmetic.specs.Arithmetic.{logic_effect, compute_effect, product_fits, product_effect, shifted}
+use Rattle.guest_arithmetic.specs.Arithmetic.{bit_out, shift_overflows, shift_effect}
 use Rattle.guest_arithmetic.specs.Flags.{with_changes, is_less, is_less_or_equal, is_below_or_equal, condition_of}
 use Rattle.guest_operands.specs.Access.{fetch_of, load_of, store_of}
 use Rattle.guest_operands.specs.Frame.{frame_of}
-use Rattle.guest_operands.specs.Operand.{base_of, index_of, address_of, kept, kept_byte, number_at as operand_number, carried, taken_at, taken, put}
+use Rattle.guest_operands.specs.Operand.{base_of, index_of, address_of, kept, kept_byte, number_at as operand_number}
+use Rattle.guest_operands.specs.Operand.{carried, taken_at, taken, put}
 use Rattle.guest_operands.specs.State.{register_of, with_register, start_of}
-use Rattle.guest_machine.specs.Step.{is_cleared, immediate_of, finished, concluded, move_in, stored, store_byte, move_number, move_of, extend_byte, extend_long, load_address, compute_in, add_field, compute_plain, compute_number, compute_of, test_of, multiply_of, shift_of, pushed, push_of, pop_of, leave_of, return_of, call_of, jump_of, jump_if, nop_of, act}
+use Rattle.guest_machine.specs.Step.{is_cleared, immediate_of, finished, concluded, move_in, stored, store_byte}
+use Rattle.guest_machine.specs.Step.{move_number, move_of, extend_byte, extend_long, load_address, compute_in}
+use Rattle.guest_machine.specs.Step.{add_field, compute_plain, compute_number, compute_of, test_of, multiply_of}
+use Rattle.guest_machine.specs.Step.{shift_of, pushed, push_of, pop_of, leave_of, return_of, call_of, jump_of, jump_if}
+use Rattle.guest_machine.specs.Step.{nop_of, act}
 use Rattle.guest_machine.specs.Touch.{touches_of, touched}
 use Rattle.job_meaning.specs.Marked.{marked_operations}
 use Rattle.job_meaning.specs.Reading.{completed}
 use Rattle.link_needs.specs.Linking.{block_offset, address, offset}
-use Rattle.module_table.specs.Past.{start, open_refusal, close_refusal, least_free, loaded, retained, released, opened, after_one, past}
+use Rattle.module_table.specs.Past.{start, open_refusal, close_refusal, least_free, loaded, retained, released, opened}
+use Rattle.module_table.specs.Past.{after_one, past}
 use Rattle.sequence_forms.specs.Forms.{row}
 use Rattle.thread_blocks.specs.Held.{looked_at, reached_at, loaded_at}
 use Rattle.thread_blocks.specs.Instances.{instances_in, instance_at, fixed_at}
 use Rattle.thread_blocks.specs.Lines.{begin_line}
 use Rattle.thread_blocks.specs.MachineTurns.{zeros}
 use Rattle.thread_blocks.specs.Spaces.{space_accesses}
-use Rattle.tls_layout.specs.Places.{end_of, place_in, executable, read_only, tls_image, initial_data, zero_data, room, address_at, initial_tls, zero_tls, greatest_alignment, tls_alignment, offset_at, address_of as placed_at, tls_offset_of}
+use Rattle.tls_layout.specs.Places.{end_of, place_in, executable, read_only, tls_image, initial_data, zero_data, room}
+use Rattle.tls_layout.specs.Places.{address_at, initial_tls, zero_tls, greatest_alignment, tls_alignment, offset_at}
+use Rattle.tls_layout.specs.Places.{address_of as placed_at, tls_offset_of}
 use Rattle.tls_layout.specs.Rounding.{round_up, page_up}
 use Rattle.tls_layout.specs.Sections.{section_of, sections_of, all_sections, section_counts, position}
 use Rattle.tls_symbols.specs.Bindings.{bound_to}

@@ -1,9 +1,11 @@
 -- Where ranges are, as tests that compute: what is found in some ranges lies where they all do, and nothing is found
 -- where none of them is.
-use Rattle.std.proofs.Common.{◌≡◌, ◌+◌, ◌-◌, ◌<◌, ◌≤◌, ◌&&◌, ◌||◌, ◌⊎◌, ℕ, Bool, true, false, not, List, [], ◌∷◌, Some, None, length, refl, inl, inr, arith}
+use Rattle.std.proofs.Common.{◌≡◌, ◌+◌, ◌-◌, ◌<◌, ◌≤◌, ◌&&◌, ◌||◌, ◌⊎◌, ℕ, Bool, true, false, not, List, [], ◌∷◌, Some}
+use Rattle.std.proofs.Common.{None, length, refl, inl, inr, arith}
 use Rattle.std.specs.Prelude.{nat_le, nat_lt}
 use Rattle.std.specs.List.{list_all}
-use Rattle.std.proofs.lemmas.Bool.{and_cases, and_parts, and_right, cases_Bool, false_from_ne_true, le-ltb, leb-false, leb-true, ltb-false, ltb-true, or_cases, not-true}
+use Rattle.std.proofs.lemmas.Bool.{and_cases, and_parts, and_right, cases_Bool, false_from_ne_true, le-ltb, leb-false}
+use Rattle.std.proofs.lemmas.Bool.{leb-true, ltb-false, ltb-true, or_cases, not-true}
 use Rattle.guest_operands.specs.declared.space.Access.{Access}
 use Rattle.guest_machine.specs.Ranges.{Range, allows, byte_in, grants, holds}
 

@@ -5,7 +5,8 @@ use Rattle.closed_jobs.specs.LocalCode as local
 use Rattle.closed_jobs.specs.Reopened as reopened
 use Rattle.closed_jobs.specs.LocalSites.{AreTiedSites, setting}
 use Rattle.tied_meaning.specs.Ties.{AreTied}
-use Rattle.closed_jobs.specs.Tables.{HasTable, app, app_words, lib, lib_words, of_app, of_lib, of_plug, plug, plug_words}
+use Rattle.closed_jobs.specs.Tables.{HasTable, app, app_words, lib, lib_words, of_app, of_lib, of_plug, plug}
+use Rattle.closed_jobs.specs.Tables.{plug_words}
 use Rattle.whole_meaning.specs.Loads.{meaning_of}
 
 abbrev pub LocalCodeSaysTheSame : Type 0

@@ -1,5 +1,6 @@
 -- What std's reading of digits says of a count.
-use Rattle.std.proofs.Common.{◌≡◌, ℕ, ◌<◌, ◌≤◌, ◌^◌, Bool, true, false, ◌&&◌, ◌==◌, nat_lt, cond, List, [], ◌∷◌, length, Some, None, Result, Ok, Err, slice_index, not, subst, arith, refl, sym, ap, ◌∙◌}
+use Rattle.std.proofs.Common.{◌≡◌, ℕ, ◌<◌, ◌≤◌, ◌^◌, Bool, true, false, ◌&&◌, ◌==◌, nat_lt, cond, List, [], ◌∷◌, length}
+use Rattle.std.proofs.Common.{Some, None, Result, Ok, Err, slice_index, not, subst, arith, refl, sym, ap, ◌∙◌}
 use Rattle.std.proofs.lemmas.Bool.Decides.{nat_tests}
 use Rattle.std.proofs.lemmas.Str.Parse.{digit_at, without_leading_plus_none}
 use Rattle.std.specs.Int.{IsInRange}
@@ -24,7 +25,8 @@ is_digit c = nat_lt (digit_value c) 10
 
 digits_tested : (ds : List ℕ) → AllDigits 10 ds → list_all is_digit ds ≡ true
 digits_tested [] h = refl
-digits_tested (c ∷ cs) h = together (is_digit c) (list_all is_digit cs) (grind (arith, nat_tests, h.0)) (digits_tested cs h.1)
+digits_tested (c ∷ cs) h =
+    together (is_digit c) (list_all is_digit cs) (grind (arith, nat_tests, h.0)) (digits_tested cs h.1)
 
 digits_meant : (ds : List ℕ) → list_all is_digit ds ≡ true → AllDigits 10 ds
 digits_meant [] e = tt
@@ -48,7 +50,8 @@ no_zero c h = grind (arith, nat_tests)
 numeral_tested : (ds : List ℕ) → Begins ds → IsNumeral 10 ds → is_numeral ds ≡ true
 numeral_tested ds b h =
     together (not (length ds == 0) && not (slice_index ds 0 == 48)) (list_all is_digit ds)
-    (together (not (length ds == 0)) (not (slice_index ds 0 == 48)) (some_bytes ds h.0) (no_zero (slice_index ds 0) b.0))
+    (together (not (length ds == 0)) (not (slice_index ds 0 == 48)) (some_bytes ds h.0)
+    (no_zero (slice_index ds 0) b.0))
     (digits_tested ds h.1)
 
 numeral_meant : (ds : List ℕ) → is_numeral ds ≡ true → IsNumeral 10 ds
@@ -81,10 +84,12 @@ unfolding count_of
 count_read ds r x b h e =
     let parts = subst (Reads ds) e (read ds r b h) in
     ap (λ n. cond (is_count n) (Some n) None) parts.1
-    ∙ ap (λ t. cond (t && is_count (digits_value 10 ds)) (Some (digits_value 10 ds)) None) (sym (numeral_tested ds b parts.0.0))
+    ∙ ap (λ t. cond (t && is_count (digits_value 10 ds)) (Some (digits_value 10 ds)) None)
+    (sym (numeral_tested ds b parts.0.0))
 
 -- where it gives none, the word writes no count
-pub count_not_read : {E : Type 0} (ds : List ℕ) (r : Result ℕ E) (f : E) → Begins ds → ParsesUnsigned 32 10 ds r → r ≡ Err f
+pub count_not_read : {E : Type 0} (ds : List ℕ) (r : Result ℕ E) (f : E) → Begins ds → ParsesUnsigned 32 10 ds r
+    → r ≡ Err f
     → None ≡ count_of ds
 unfolding count_of
 count_not_read ds r f b h e =

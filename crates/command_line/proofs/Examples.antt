@@ -15,12 +15,14 @@ unfolding asked clap_on_literals
 a_run = refl
 
 -- run --no-relax job
-a_run_without_rewriting : asked (codes "run" ∷ codes "--no-relax" ∷ codes "job" ∷ []) ≡ Some (Plain (task.Run (codes "job") Off))
+a_run_without_rewriting : asked (codes "run" ∷ codes "--no-relax" ∷ codes "job" ∷ [])
+    ≡ Some (Plain (task.Run (codes "job") Off))
 unfolding asked clap_on_literals
 a_run_without_rewriting = refl
 
 -- run -- --no-relax
-a_job_like_an_option : asked (codes "run" ∷ codes "--" ∷ codes "--no-relax" ∷ []) ≡ Some (Plain (task.Run (codes "--no-relax") Allowed))
+a_job_like_an_option : asked (codes "run" ∷ codes "--" ∷ codes "--no-relax" ∷ [])
+    ≡ Some (Plain (task.Run (codes "--no-relax") Allowed))
 unfolding asked clap_on_literals
 a_job_like_an_option = refl
 
@@ -50,7 +52,8 @@ unfolding asked clap_on_literals
 two_jobs = refl
 
 -- link job app out
-a_link : asked (codes "link" ∷ codes "job" ∷ codes "app" ∷ codes "out" ∷ []) ≡ Some (Plain (task.Link (codes "job") (codes "app") (codes "out") Allowed))
+a_link : asked (codes "link" ∷ codes "job" ∷ codes "app" ∷ codes "out" ∷ [])
+    ≡ Some (Plain (task.Link (codes "job") (codes "app") (codes "out") Allowed))
 unfolding asked clap_on_literals
 a_link = refl
 
@@ -66,7 +69,8 @@ unfolding asked clap_on_literals
 no_out = refl
 
 -- sites job app
-some_sites : asked (codes "sites" ∷ codes "job" ∷ codes "app" ∷ []) ≡ Some (Plain (task.Sites (codes "job") (codes "app")))
+some_sites : asked (codes "sites" ∷ codes "job" ∷ codes "app" ∷ [])
+    ≡ Some (Plain (task.Sites (codes "job") (codes "app")))
 unfolding asked clap_on_literals
 some_sites = refl
 
@@ -136,12 +140,14 @@ unfolding asked clap_on_literals
 any_race job = refl
 
 -- link -- JOB IMAGE OUT, whatever these texts are
-any_link : (job image out : Text) → asked (codes "link" ∷ codes "--" ∷ job ∷ image ∷ out ∷ []) ≡ Some (Plain (task.Link job image out Allowed))
+any_link : (job image out : Text)
+    → asked (codes "link" ∷ codes "--" ∷ job ∷ image ∷ out ∷ []) ≡ Some (Plain (task.Link job image out Allowed))
 unfolding asked clap_on_literals
 any_link job image out = refl
 
 -- sites -- JOB IMAGE
-any_sites : (job image : Text) → asked (codes "sites" ∷ codes "--" ∷ job ∷ image ∷ []) ≡ Some (Plain (task.Sites job image))
+any_sites : (job image : Text)
+    → asked (codes "sites" ∷ codes "--" ∷ job ∷ image ∷ []) ≡ Some (Plain (task.Sites job image))
 unfolding asked clap_on_literals
 any_sites job image = refl
 
@@ -151,6 +157,7 @@ unfolding asked clap_on_literals
 any_check job = refl
 
 -- run --no-relax -- JOB
-any_job_without_rewriting : (job : Text) → asked (codes "run" ∷ codes "--no-relax" ∷ codes "--" ∷ job ∷ []) ≡ Some (Plain (task.Run job Off))
+any_job_without_rewriting : (job : Text)
+    → asked (codes "run" ∷ codes "--no-relax" ∷ codes "--" ∷ job ∷ []) ≡ Some (Plain (task.Run job Off))
 unfolding asked clap_on_literals
 any_job_without_rewriting job = refl

@@ -31,7 +31,7 @@ command_of command =
     then Some (Race (text_at (codes "JOB") command.1) (rewriting_at command.1)) else
     if bytes_eq command.0 (codes "link")
     then Some (Plain (task.Link (text_at (codes "JOB") command.1) (text_at (codes "IMAGE") command.1)
-        (text_at (codes "OUT") command.1) (rewriting_at command.1))) else
+    (text_at (codes "OUT") command.1) (rewriting_at command.1))) else
     if bytes_eq command.0 (codes "sites")
     then Some (Plain (task.Sites (text_at (codes "JOB") command.1) (text_at (codes "IMAGE") command.1))) else
     if bytes_eq command.0 (codes "show") then Some (Plain (task.Show (text_at (codes "FILE") command.1))) else

@@ -3,7 +3,8 @@ use Rattle.std.specs.Prelude.{◌≡◌, ℕ, ◌<◌, ◌≤◌, ◌⊎◌, Boo
 use Rattle.ports.specs.Files.{Files}
 use Rattle.ports.specs.Counts.{Rose}
 use Rattle.command_replies.specs.declared.statuses.Status.{Status}
-use Rattle.command_replies.specs.declared.statuses.Status.TheVariants.{Done, Usage, Store, Job, Object, Link, Image, Unclean}
+use Rattle.command_replies.specs.declared.statuses.Status.TheVariants.{Done, Usage, Store, Job, Object, Link, Image}
+use Rattle.command_replies.specs.declared.statuses.Status.TheVariants.{Unclean}
 
 -- the number of a status that a command itself gives; 1 and 4 come from writing its text
 abbrev pub code_of : Status → ℕ

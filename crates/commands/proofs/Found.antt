@@ -13,7 +13,8 @@ use Rattle.commands.specs.declared.purpose.Put.{Put}
 use Rattle.commands.specs.Links.{IsPut, OfLink}
 use Rattle.commands.specs.Purposes.{Finds, Makes, Tells, put_by, puts, wanted_by}
 
-pub has_found : (purpose : Purpose) (job : JobParts) (ending : Ending) → Finds purpose job ending → has job (wanted_by purpose) ≡ true
+pub has_found : (purpose : Purpose) (job : JobParts) (ending : Ending) → Finds purpose job ending
+    → has job (wanted_by purpose) ≡ true
 has_found (Run telling) job ending is = refl
 has_found Check job ending is = refl
 has_found (File put) job (found.File place own) is = ap is_some is.1
@@ -21,7 +22,8 @@ has_found (File put) job ending never = absurd never
 has_found (Sites image) job (found.Sites place) is = ap is_some is
 has_found (Sites image) job ending never = absurd never
 
-pub puts_found : (purpose : Purpose) (job : JobParts) (ending : Ending) → Finds purpose job ending → puts ending ≡ put_by purpose
+pub puts_found : (purpose : Purpose) (job : JobParts) (ending : Ending) → Finds purpose job ending
+    → puts ending ≡ put_by purpose
 puts_found (Run telling) job ending is = ap puts is
 puts_found Check job ending is = ap puts is
 puts_found (File put) job (found.File place own) is = ap (λ (p : Put). Some p.out.now) is.0
@@ -31,11 +33,19 @@ puts_found (Sites image) job ending never = absurd never
 
 module _ (before after : Option Files) where
   pub tells_found : (purpose : Purpose) (job : JobParts) (ending : Ending) → Finds purpose job ending
-      → (ls : List Linking) (status : ℕ) (text : List ℕ) → Makes ending before after job ls status text → Tells purpose before after job ls status text
-  tells_found (Run telling) job ending is ls status text made = subst (λ (e : Ending). Makes e before after job ls status text) is made
-  tells_found Check job ending is ls status text made = subst (λ (e : Ending). Makes e before after job ls status text) is made
+      → (ls : List Linking) (status : ℕ) (text : List ℕ) → Makes ending before after job ls status text
+      → Tells purpose before after job ls status text
+  tells_found (Run telling) job ending is ls status text made =
+      subst (λ (e : Ending). Makes e before after job ls status text) is made
+  tells_found Check job ending is ls status text made =
+      subst (λ (e : Ending). Makes e before after job ls status text) is made
   tells_found (File put) job (found.File place own) is ls status text made =
-      record { number = place; named = is.1; says = subst (λ (p : Put). OfLink place (IsPut before after p.image.now p.out.now) ls status text) is.0 made }
+      record {
+        number = place;
+        named = is.1;
+        says = subst (λ (p : Put). OfLink place (IsPut before after p.image.now p.out.now) ls status text) is.0 made;
+      }
   tells_found (File put) job ending never ls status text made = absurd never
-  tells_found (Sites image) job (found.Sites place) is ls status text made = record { number = place; named = is; says = made }
+  tells_found (Sites image) job (found.Sites place) is ls status text made =
+      record { number = place; named = is; says = made }
   tells_found (Sites image) job ending never ls status text made = absurd never

@@ -1,5 +1,6 @@
 -- Files that are held as if they were fetched: the first of each name.
-use Rattle.std.proofs.Common.{◌≡◌, ◌∙◌, ◌+◌, ◌<◌, ◌≤◌, ◌||◌, ℕ, get_or, length, take, take_all, Bool, true, false, cond, List, [], ◌∷◌, ◌++◌, Option, Some, None, is_some, inl, inr, refl, sym, ap, subst}
+use Rattle.std.proofs.Common.{◌≡◌, ◌∙◌, ◌+◌, ◌<◌, ◌≤◌, ◌||◌, ℕ, get_or, length, take, take_all, Bool, true, false, cond}
+use Rattle.std.proofs.Common.{List, [], ◌∷◌, ◌++◌, Option, Some, None, is_some, inl, inr, refl, sym, ap, subst}
 use Rattle.std.specs.Prelude.{◌⊎◌, unwrap_or, if◌then◌else◌}
 use Rattle.std.specs.List.{find}
 use Rattle.std.specs.Option.{option_map, option_or}
@@ -49,7 +50,8 @@ find_more files others name bytes alike x = by (is_among (names_of files) name) 
         ≡ option_or (look x others) (cond (bytes_eq x name) (Some (name, bytes)) None)
     behind = find-append (λ (file : File). bytes_eq x file.0) others ((name, bytes) ∷ [])
 
-    hidden : is_some (look name files) ≡ true → (b : Bool) → bytes_eq x name ≡ b → (is_some (look x others) ≡ true) ⊎ (b ≡ false)
+    hidden : is_some (look name files) ≡ true → (b : Bool) → bytes_eq x name ≡ b
+        → (is_some (look x others) ≡ true) ⊎ (b ≡ false)
     hidden some true e =
         let same : x ≡ name = (bytes_eq-Decides x name).0 e in
         inl (ap is_some (sym (alike x)) ∙ ap (λ (n : List ℕ). is_some (look n files)) same ∙ some)
@@ -59,7 +61,8 @@ find_more files others name bytes alike x = by (is_among (names_of files) name) 
         → look x (if b then files else files ++ (name, bytes) ∷ []) ≡ look x (others ++ (name, bytes) ∷ [])
     by true e =
         let some : is_some (look name files) ≡ true = sym (among_found files name) ∙ e in
-        alike x ∙ first_found (look x others) (bytes_eq x name) (name, bytes) (hidden some (bytes_eq x name) refl) ∙ sym behind
+        alike x ∙ first_found (look x others) (bytes_eq x name) (name, bytes) (hidden some (bytes_eq x name) refl)
+        ∙ sym behind
     by false e =
         find-append (λ (file : File). bytes_eq x file.0) files ((name, bytes) ∷ [])
         ∙ ap (λ (f : Option File). option_or f (cond (bytes_eq x name) (Some (name, bytes)) None)) (alike x)
@@ -71,12 +74,14 @@ bytes_alike files others alike =
     fun_ext (λ name. ap (λ (f : Option File). unwrap_or (option_map (λ (file : File). file.1) f) []) (alike name))
 
 -- all of some files
-pub all_alike : (files others : Fetched) (i : ℕ) → FindAlike files (take i others) → length others ≤ i → bytes_in files ≡ bytes_in others
+pub all_alike : (files others : Fetched) (i : ℕ) → FindAlike files (take i others) → length others ≤ i
+    → bytes_in files ≡ bytes_in others
 all_alike files others i alike past =
     bytes_alike files others (subst (λ (fs : Fetched). FindAlike files fs) (take_all i others past) alike)
 
 -- the next of them
-pub next_alike : (files after others : Fetched) (i : ℕ) (file : File) (name bytes : List ℕ) → FindAlike files (take i others)
+pub next_alike : (files after others : Fetched) (i : ℕ) (file : File) (name bytes : List ℕ)
+    → FindAlike files (take i others)
     → after ≡ with_unseen files name bytes → name ≡ file.0 → bytes ≡ file.1 → i < length others
     → file ≡ get_or others i file → FindAlike after (take (i + 1) others)
 next_alike files after others i file name bytes alike is n b below here =
@@ -84,4 +89,5 @@ next_alike files after others i file name bytes alike is n b below here =
     let last : take (i + 1) others ≡ take i others ++ (name, bytes) ∷ [] =
     take_more others i file below ∙ ap (λ (f : File). take i others ++ f ∷ []) (sym here ∙ pair) in
     subst (λ (fs : Fetched). FindAlike fs (take (i + 1) others)) (sym is)
-    (subst (λ (fs : Fetched). FindAlike (with_unseen files name bytes) fs) (sym last) (find_more files (take i others) name bytes alike))
+    (subst (λ (fs : Fetched). FindAlike (with_unseen files name bytes) fs) (sym last)
+    (find_more files (take i others) name bytes alike))

@@ -14,11 +14,13 @@ use Rattle.link_core.specs.Faults.{Links}
 use Rattle.link_faults.specs.declared.image_kind.ImageKind.TheVariants.{Exe, Late}
 use Rattle.commands.proofs.MadeObjects.{late_bytes, program_mapped}
 
-kinds_are : (n : ℕ) (images : List Given) → AreGiven (bytes_in (generated_files n)) (generated_parts n) images → map (λ (g : Given). g.kind) images ≡ Exe ∷ Late ∷ []
+kinds_are : (n : ℕ) (images : List Given) → AreGiven (bytes_in (generated_files n)) (generated_parts n) images
+    → map (λ (g : Given). g.kind) images ≡ Exe ∷ Late ∷ []
 unfolding generated_parts
 kinds_are n images are = are.kinds
 
-objects_are : (n : ℕ) (images : List Given) → n ≤ 1000 → AreGiven (bytes_in (generated_files n)) (generated_parts n) images
+objects_are : (n : ℕ) (images : List Given) → n ≤ 1000
+    → AreGiven (bytes_in (generated_files n)) (generated_parts n) images
     → map (λ (g : Given). g.objects) images ≡ program_objects n ∷ (object_bytes module_shape ∷ []) ∷ []
 unfolding generated_parts
 objects_are n images few are =
@@ -29,7 +31,8 @@ objects_are n images few are =
 abbrev LinksIn : List Given → Given → Type 0
 LinksIn images g = Links (link_in images true g)
 
-both_link : GeneratedObjectsLink → (n : ℕ) → 1 ≤ n → n ≤ 1000 → (images : List Given) → map (λ (g : Given). g.kind) images ≡ Exe ∷ Late ∷ []
+both_link : GeneratedObjectsLink → (n : ℕ) → 1 ≤ n → n ≤ 1000 → (images : List Given)
+    → map (λ (g : Given). g.kind) images ≡ Exe ∷ Late ∷ []
     → map (λ (g : Given). g.objects) images ≡ program_objects n ∷ (object_bytes module_shape ∷ []) ∷ []
     → All IsGivenImage images → AllLink images true
 unfolding link_in
@@ -42,10 +45,14 @@ both_link laws n some few (app ∷ plug ∷ []) kinds objects given =
     let its : app.objects ≡ program_objects n = cc in
     let own : plug.objects ≡ object_bytes module_shape ∷ [] = cc in
     All-cons (LinksIn two) app (plug ∷ [])
-    (laws.program n some few (link_in two true app) (is_given two true app (omega arith) (given 0 app (omega arith))) refl is_exe its)
+    (laws.program n some few (link_in two true app)
+    (is_given two true app (omega arith) (given 0 app (omega arith))) refl is_exe its)
     (All-cons (LinksIn two) plug []
-    (laws.late (link_in two true plug) (is_given two true plug (omega arith) (given 1 plug (omega arith))) refl is_late own) (All-nil (LinksIn two)))
+    (laws.late (link_in two true plug)
+    (is_given two true plug (omega arith) (given 1 plug (omega arith))) refl is_late own) (All-nil (LinksIn two)))
 both_link laws n some few (app ∷ plug ∷ other ∷ more) kinds objects given = cc
 
-pub made_link : GeneratedObjectsLink → (n : ℕ) → 1 ≤ n → n ≤ 1000 → (images : List Given) → AreGiven (bytes_in (generated_files n)) (generated_parts n) images → AllLink images true
-made_link laws n some few images are = both_link laws n some few images (kinds_are n images are) (objects_are n images few are) are.given
+pub made_link : GeneratedObjectsLink → (n : ℕ) → 1 ≤ n → n ≤ 1000 → (images : List Given)
+    → AreGiven (bytes_in (generated_files n)) (generated_parts n) images → AllLink images true
+made_link laws n some few images are =
+    both_link laws n some few images (kinds_are n images are) (objects_are n images few are) are.given

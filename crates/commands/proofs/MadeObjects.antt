@@ -1,5 +1,6 @@
 -- The objects that are made, by their names.
-use Rattle.std.proofs.Common.{◌≡◌, ◌≢◌, ◌+◌, ◌≤◌, ◌<◌, ℕ, zero, suc, true, false, List, [], ◌∷◌, ◌++◌, map, ◌⊎◌, inl, inr, refl, sym, ap, subst, arith}
+use Rattle.std.proofs.Common.{◌≡◌, ◌≢◌, ◌+◌, ◌≤◌, ◌<◌, ℕ, zero, suc, true, false, List, [], ◌∷◌, ◌++◌, map, ◌⊎◌, inl}
+use Rattle.std.proofs.Common.{inr, refl, sym, ap, subst, arith}
 use Rattle.std.specs.Prelude.{codes, get_or}
 use Rattle.std.specs.Fmt.{decimal}
 use Rattle.std.specs.List.{range_with_len}
@@ -24,8 +25,10 @@ late_name = codes "p.o"
 names_apart : (i j : ℕ) → i ≤ 1000 → j ≤ 1000 → object_name i ≡ object_name j → i ≡ j
 unfolding object_name
 names_apart i j low high e =
-    let tails : decimal i ++ codes ".o" ≡ decimal j ++ codes ".o" = append_cancel_left (codes "g") (decimal i ++ codes ".o") (decimal j ++ codes ".o") e in
-    decimal_injective i j (omega (arith, low)) (omega (arith, high)) (append_cancel_right (decimal i) (decimal j) (codes ".o") tails)
+    let tails : decimal i ++ codes ".o" ≡ decimal j ++ codes ".o" =
+    append_cancel_left (codes "g") (decimal i ++ codes ".o") (decimal j ++ codes ".o") e in
+    decimal_injective i j (omega (arith, low)) (omega (arith, high))
+    (append_cancel_right (decimal i) (decimal j) (codes ".o") tails)
 
 -- they differ in their first bytes
 late_apart : (i : ℕ) → late_name ≢ object_name i
@@ -48,20 +51,31 @@ module _ (n : ℕ) where
   program_at : (rest : Fetched) (a k i : ℕ) → a ≤ i → i < a + k → i ≤ 1000
       → bytes_in (map file_of (range_with_len a k) ++ rest) (object_name i) ≡ object_bytes (shape_of n i)
   program_at rest a zero i low high few = absurd (omega (arith, low, high))
-  program_at rest a (suc k) i low high few = by (cases_eq i a) (λ other. program_at rest (a + 1) k i (omega (arith, low, other)) (omega (arith, high)) few)
+  program_at rest a (suc k) i low high few =
+      by (cases_eq i a) (λ other. program_at rest (a + 1) k i (omega (arith, low, other)) (omega (arith, high)) few)
     where
-      by : (i ≡ a) ⊎ (i ≢ a) → (i ≢ a → bytes_in (map file_of (range_with_len (a + 1) k) ++ rest) (object_name i) ≡ object_bytes (shape_of n i))
-          → bytes_in (file_of a ∷ (map file_of (range_with_len (a + 1) k) ++ rest)) (object_name i) ≡ object_bytes (shape_of n i)
-      by (inl e) later = rw (same (object_name i) (object_name a) (ap object_name e)) (ap (λ j. object_bytes (shape_of n j)) (sym e))
-      by (inr other) later = rw (differs (object_name i) (object_name a) (λ e. other (names_apart i a few (omega (arith, low, few)) e))) (later other)
+      by : (i ≡ a) ⊎ (i ≢ a) →
+          (i ≢ a → bytes_in (map file_of (range_with_len (a + 1) k) ++ rest) (object_name i)
+          ≡ object_bytes (shape_of n i))
+          → bytes_in (file_of a ∷ (map file_of (range_with_len (a + 1) k) ++ rest)) (object_name i)
+          ≡ object_bytes (shape_of n i)
+      by (inl e) later = rw (same (object_name i) (object_name a) (ap object_name e))
+          (ap (λ j. object_bytes (shape_of n j)) (sym e))
+      by (inr other) later = rw
+          (differs (object_name i) (object_name a) (λ e. other (names_apart i a few (omega (arith, low, few)) e)))
+          (later other)
 
-  late_at : (rest : Fetched) (a k : ℕ) → bytes_in (map file_of (range_with_len a k) ++ rest) late_name ≡ bytes_in rest late_name
+  late_at : (rest : Fetched) (a k : ℕ)
+      → bytes_in (map file_of (range_with_len a k) ++ rest) late_name ≡ bytes_in rest late_name
   late_at rest a zero = refl
   late_at rest a (suc k) = rw (differs late_name (object_name a) (late_apart a)) (late_at rest (a + 1) k)
 
-  pub program_bytes : (i : ℕ) → n ≤ 1000 → 1 ≤ i → i ≤ n → bytes_in (generated_files n) (object_name i) ≡ object_bytes (shape_of n i)
+  pub program_bytes : (i : ℕ) → n ≤ 1000 → 1 ≤ i → i ≤ n
+      → bytes_in (generated_files n) (object_name i) ≡ object_bytes (shape_of n i)
   unfolding generated_files
-  program_bytes i few low high = program_at ((late_name, object_bytes module_shape) ∷ []) 1 n i low (omega (arith, high)) (omega (arith, high, few))
+  program_bytes i few low high =
+      program_at ((late_name, object_bytes module_shape) ∷ []) 1 n i low (omega (arith, high))
+      (omega (arith, high, few))
 
   pub late_bytes : bytes_in (generated_files n) late_name ≡ object_bytes module_shape
   unfolding generated_files
@@ -69,7 +83,8 @@ module _ (n : ℕ) where
 
   -- ** of all names
 
-  mapped : (f : List ℕ → List ℕ) (a k : ℕ) → ((i : ℕ) → a ≤ i → i < a + k → f (object_name i) ≡ object_bytes (shape_of n i))
+  mapped : (f : List ℕ → List ℕ) (a k : ℕ)
+      → ((i : ℕ) → a ≤ i → i < a + k → f (object_name i) ≡ object_bytes (shape_of n i))
       → map f (map object_name (range_with_len a k)) ≡ map (λ i. object_bytes (shape_of n i)) (range_with_len a k)
   mapped f a zero each = refl
   mapped f a (suc k) each =
@@ -77,12 +92,15 @@ module _ (n : ℕ) where
       let others = mapped f (a + 1) k (λ i low high. each i (omega (arith, low)) (omega (arith, high))) in
       cc
 
-  pub program_mapped : n ≤ 1000 → map (bytes_in (generated_files n)) (map object_name (range_with_len 1 n)) ≡ program_objects n
-  program_mapped few = mapped (bytes_in (generated_files n)) 1 n (λ i low high. program_bytes i few low (omega (arith, high)))
+  pub program_mapped : n ≤ 1000
+      → map (bytes_in (generated_files n)) (map object_name (range_with_len 1 n)) ≡ program_objects n
+  program_mapped few = mapped (bytes_in (generated_files n)) 1 n
+      (λ i low high. program_bytes i few low (omega (arith, high)))
 
 -- ** mentions
 
-each_name : (P : List ℕ → Type 0) (rest : List (List ℕ)) (a k : ℕ) → ((i : ℕ) → a ≤ i → i < a + k → P (object_name i)) → ((name : List ℕ) → In rest name → P name)
+each_name : (P : List ℕ → Type 0) (rest : List (List ℕ)) (a k : ℕ) → ((i : ℕ) → a ≤ i → i < a + k → P (object_name i))
+    → ((name : List ℕ) → In rest name → P name)
     → (name : List ℕ) → In (map object_name (range_with_len a k) ++ rest) name → P name
 each_name P rest a zero own others name there = others name there
 each_name P rest a (suc k) own others name (inl e) = subst P e (own a (omega arith) (omega arith))
@@ -96,10 +114,12 @@ mentions_are n = refl
 abbrev IsMadeFaultless : ℕ → List ℕ → Type 0
 IsMadeFaultless n name = IsFaultless (bytes_in (generated_files n) name)
 
-pub mentioned_faultless : GeneratedObjectsAreFaultless → (n : ℕ) → n ≤ 1000 → (name : List ℕ) → In (mentions_of (generated_parts n)) name
+pub mentioned_faultless : GeneratedObjectsAreFaultless → (n : ℕ) → n ≤ 1000 → (name : List ℕ)
+    → In (mentions_of (generated_parts n)) name
     → IsFaultless (bytes_in (generated_files n) name)
 mentioned_faultless objects n few name there =
-    each_name (IsMadeFaultless n) (late_name ∷ []) 1 n own late name (subst (λ names. In names name) (mentions_are n) there)
+    each_name (IsMadeFaultless n) (late_name ∷ []) 1 n own late name
+    (subst (λ names. In names name) (mentions_are n) there)
   where
     own : (i : ℕ) → 1 ≤ i → i < 1 + n → IsMadeFaultless n (object_name i)
     own i low high =

@@ -1,5 +1,6 @@
 -- What stands in a list.
-use Rattle.std.proofs.Common.{◌≡◌, ◌∙◌, ℕ, zero, suc, Bool, true, false, cond, List, All, [], ◌∷◌, ◌++◌, map, Option, Some, None, ◌⊎◌, inl, inr, refl, sym, ap, subst, arith}
+use Rattle.std.proofs.Common.{◌≡◌, ◌∙◌, ℕ, zero, suc, Bool, true, false, cond, List, All, [], ◌∷◌, ◌++◌, map, Option}
+use Rattle.std.proofs.Common.{Some, None, ◌⊎◌, inl, inr, refl, sym, ap, subst, arith}
 use Rattle.std.specs.Prelude.{slice_get}
 use Rattle.std.proofs.lemmas.List.Elements.{All-head, All-tail}
 use Rattle.std.specs.List.{Contains, filter, filter_map, flat_map, cons_option}
@@ -37,7 +38,8 @@ in_right : {X : Type 0} (xs ys : List X) (x : X) → In ys x → In (xs ++ ys) x
 in_right [] ys x i = i
 in_right (z ∷ zs) ys x i = inr (in_right zs ys x i)
 
-pub in_flat : {X Y : Type 0} (f : X → List Y) (xs : List X) (x : X) (y : Y) → In xs x → In (f x) y → In (flat_map f xs) y
+pub in_flat : {X Y : Type 0} (f : X → List Y) (xs : List X) (x : X) (y : Y) → In xs x → In (f x) y
+    → In (flat_map f xs) y
 in_flat f [] x y i h = absurd i
 in_flat f (z ∷ zs) x y (inl e) h = in_left (f z) (flat_map f zs) y (subst (λ v. In (f v) y) (sym e) h)
 in_flat f (z ∷ zs) x y (inr i) h = in_right (f z) (flat_map f zs) y (in_flat f zs x y i h)
@@ -46,9 +48,11 @@ in_cons : {X : Type 0} (o : Option X) (xs : List X) (x : X) → In xs x → In (
 in_cons None xs x i = i
 in_cons (Some y) xs x i = inr i
 
-pub in_filter_map : {X Y : Type 0} (h : X → Option Y) (xs : List X) (x : X) (y : Y) → In xs x → h x ≡ Some y → In (filter_map h xs) y
+pub in_filter_map : {X Y : Type 0} (h : X → Option Y) (xs : List X) (x : X) (y : Y) → In xs x → h x ≡ Some y
+    → In (filter_map h xs) y
 in_filter_map h [] x y i s = absurd i
-in_filter_map h (z ∷ zs) x y (inl e) s = subst (λ o. In (cons_option o (filter_map h zs)) y) (sym (ap h e ∙ s)) (inl refl)
+in_filter_map h (z ∷ zs) x y (inl e) s =
+    subst (λ o. In (cons_option o (filter_map h zs)) y) (sym (ap h e ∙ s)) (inl refl)
 in_filter_map h (z ∷ zs) x y (inr i) s = in_cons (h z) (filter_map h zs) y (in_filter_map h zs x y i s)
 
 skip : {X : Type 0} (b : Bool) (z : X) (zs : List X) (x : X) → In zs x → In (cond b (z ∷ zs) zs) x

@@ -1,5 +1,6 @@
 -- The files that a job's images name are those that were fetched.
-use Rattle.std.proofs.Common.{◌≡◌, ◌∙◌, ◌+◌, ◌-◌, ◌<◌, ◌≤◌, ℕ, Bool, true, false, not, List, [], ◌∷◌, length, map, Some, ◌⊎◌, inl, inr, refl, sym, ap, subst, arith}
+use Rattle.std.proofs.Common.{◌≡◌, ◌∙◌, ◌+◌, ◌-◌, ◌<◌, ◌≤◌, ℕ, Bool, true, false, not, List, [], ◌∷◌, length, map, Some}
+use Rattle.std.proofs.Common.{◌⊎◌, inl, inr, refl, sym, ap, subst, arith}
 use Rattle.std.specs.Prelude.{slice_get}
 use Rattle.std.specs.List.{Contains}
 use Rattle.std.specs.Str.{bytes_eq}
@@ -35,11 +36,13 @@ in_once (n ∷ ns) x (inr i) = by_test (bytes_eq n x) refl (in_once ns x i)
     by_test false e later = inr (in_filter (λ other. not (bytes_eq n other)) (distinct ns) x later (ap not e))
 
 -- the bytes of a fetched name
-found : (fs : Files) (names : List Name) (name : Name) → In names name → bytes_in (map (λ n. (n, bytes_at fs n)) names) name ≡ bytes_at fs name
+found : (fs : Files) (names : List Name) (name : Name) → In names name
+    → bytes_in (map (λ n. (n, bytes_at fs n)) names) name ≡ bytes_at fs name
 found fs [] name i = absurd i
 found fs (n ∷ ns) name i = by_test (bytes_eq name n) refl i (found fs ns name)
   where
-    by_test : (b : Bool) → bytes_eq name n ≡ b → (n ≡ name) ⊎ In ns name → (In ns name → bytes_in (map (λ n. (n, bytes_at fs n)) ns) name ≡ bytes_at fs name)
+    by_test : (b : Bool) → bytes_eq name n ≡ b → (n ≡ name) ⊎ In ns name
+        → (In ns name → bytes_in (map (λ n. (n, bytes_at fs n)) ns) name ≡ bytes_at fs name)
         → bytes_in (map (λ n. (n, bytes_at fs n)) (n ∷ ns)) name ≡ bytes_at fs name
     by_test true e i later = rw e (ap (bytes_at fs) (sym (same name n true e refl)))
     by_test false e (inl s) later = absurd (not_same name n e (sym s))
@@ -57,9 +60,11 @@ module _ (fs : Files) (job : JobParts) (files : Fetched) (are : AreFilesOf fs (o
       let below : k < length job.images = slice_get_within job.images k image e in
       let back : k + 1 - 1 ≡ k = omega arith in
       in_filter_map (λ (number : ℕ). slice_get job.images (number - 1)) job.mentions (k + 1) image
-      (in_contains job.mentions (k + 1) (every (k + 1) (omega arith) (omega arith))) (ap (slice_get job.images) back ∙ e)
+      (in_contains job.mentions (k + 1) (every (k + 1) (omega arith) (omega arith)))
+      (ap (slice_get job.images) back ∙ e)
 
-  of_image : (image : Image) → In job.images image → map (bytes_in files) image.objects ≡ map (bytes_at fs) image.objects
+  of_image : (image : Image) → In job.images image
+      → map (bytes_in files) image.objects ≡ map (bytes_at fs) image.objects
   unfolding mentions_of
   of_image image i = let (k, e) = at_in job.images image i in
       map_same (bytes_in files) (bytes_at fs) image.objects (λ name within. of_mention name
@@ -68,19 +73,23 @@ module _ (fs : Files) (job : JobParts) (files : Fetched) (are : AreFilesOf fs (o
   pub given_at : (images : List Given) → AreGiven (bytes_in files) job images → AreGiven (bytes_at fs) job images
   given_at images g = record {
     kinds = g.kinds;
-    objects = g.objects ∙ map_same (λ (image : Image). map (bytes_in files) image.objects) (λ (image : Image). map (bytes_at fs) image.objects) job.images of_image;
+    objects = g.objects ∙ map_same (λ (image : Image). map (bytes_in files) image.objects)
+        (λ (image : Image). map (bytes_at fs) image.objects) job.images of_image;
     given = g.given;
   }
 
-  pub unread_at : (w : WritableSections) (status : ℕ) (text : List ℕ) → IsUnread w (bytes_in files) job status text → IsUnread w (bytes_at fs) job status text
+  pub unread_at : (w : WritableSections) (status : ℕ) (text : List ℕ) → IsUnread w (bytes_in files) job status text
+      → IsUnread w (bytes_at fs) job status text
   unread_at w status text un = record {
     name = un.name;
     fault = un.fault;
     first = record {
       at = un.first.at;
       there = un.first.there;
-      here = subst (λ b. IsFileFault w b un.fault) (of_mention un.name (in_at (mentions_of job) un.first.at un.name un.first.there)) un.first.here;
-      before = λ k other h g. subst (IsTaken w) (of_mention other (in_at (mentions_of job) k other g)) (un.first.before k other h g);
+      here = subst (λ b. IsFileFault w b un.fault)
+          (of_mention un.name (in_at (mentions_of job) un.first.at un.name un.first.there)) un.first.here;
+      before = λ k other h g. subst (IsTaken w) (of_mention other (in_at (mentions_of job) k other g))
+          (un.first.before k other h g);
     };
     says = un.says;
   }

@@ -1,5 +1,6 @@
 -- The links of a job whose images all link, as the endings want them.
-use Rattle.std.proofs.Common.{◌≡◌, ◌∙◌, ◌≤◌, ◌<◌, ◌^◌, ℕ, Bool, true, List, All, [], ◌∷◌, get_or, length, map, refl, sym, ap, subst, arith}
+use Rattle.std.proofs.Common.{◌≡◌, ◌∙◌, ◌≤◌, ◌<◌, ◌^◌, ℕ, Bool, true, List, All, [], ◌∷◌, get_or, length, map, refl}
+use Rattle.std.proofs.Common.{sym, ap, subst, arith}
 use Rattle.std.proofs.lemmas.List.{length-map}
 use Rattle.std.proofs.lemmas.List.Elements.{All-cons, All-map, All-nil, All-same, All-weaker}
 use Rattle.job_link.specs.declared.writable.WritableSections.TheVariants.{Refused}
@@ -17,7 +18,7 @@ use Rattle.link_needs.specs.Given.{IsGiven}
 use Rattle.link_needs.specs.Linking.{Linking}
 use Rattle.linked_modules.specs.Dataless.{IsOfDataless}
 use Rattle.linked_modules.specs.Together.{AreTogether}
-use Rattle.elf_records.specs.Fields.{AreBytes}
+use Rattle.elf_records.specs.FieldLaws.{AreBytes}
 use Rattle.meant_images.specs.Images.{AreSound}
 use Rattle.standing_sequences.specs.Laws.{IsLinked}
 use Rattle.commands.specs.InOrder.{AreLinked, AreLinks, IsOfFew}
@@ -34,14 +35,16 @@ none_stray images relax g given o below = let sound = given.sound o [] below in 
 
 -- what all objects of a list of images have, where each list is that of names
 of_names : (bytes : List ℕ → List ℕ) → ((name : List ℕ) → AreBytes (bytes name)) → (gs : List Given) (is : List Image)
-    → map (λ (g : Given). g.objects) gs ≡ map (λ (i : Image). map bytes i.objects) is → All (λ g. All AreBytes g.objects) gs
+    → map (λ (g : Given). g.objects) gs ≡ map (λ (i : Image). map bytes i.objects) is
+    → All (λ g. All AreBytes g.objects) gs
 of_names bytes small [] is same = All-nil (λ g. All AreBytes g.objects)
 of_names bytes small (g ∷ gs) [] same = cc
 of_names bytes small (g ∷ gs) (i ∷ is) same =
     let heads : g.objects ≡ map bytes i.objects = cc in
     let tails : map (λ (g : Given). g.objects) gs ≡ map (λ (i : Image). map bytes i.objects) is = cc in
     All-cons (λ g. All AreBytes g.objects) g gs
-    (All-same AreBytes g.objects (map bytes i.objects) heads (All-map AreBytes bytes i.objects (λ k d below. small (get_or i.objects k d))))
+    (All-same AreBytes g.objects (map bytes i.objects) heads
+    (All-map AreBytes bytes i.objects (λ k d below. small (get_or i.objects k d))))
     (of_names bytes small gs is tails)
 
 module _ (job : JobParts) (images : List Given) (ls : List Linking) (are : AreLinked job images ls) where
@@ -58,7 +61,8 @@ module _ (job : JobParts) (images : List Given) (ls : List Linking) (are : AreLi
   given : All (λ g. IsGiven (link_in images are.relax g)) images
   given =
       let few : length images ≤ 64 = omega (arith, count, are.few) in
-      All-weaker IsGivenImage (λ g. IsGiven (link_in images are.relax g)) (λ g own. is_given images are.relax g few own) images are.given.given
+      All-weaker IsGivenImage (λ g. IsGiven (link_in images are.relax g))
+      (λ g own. is_given images are.relax g few own) images are.given.given
 
   all_given : All IsGiven ls
   all_given = each IsGiven given
@@ -68,14 +72,16 @@ module _ (job : JobParts) (images : List Given) (ls : List Linking) (are : AreLi
 
   stray : All HasNoStray ls
   stray = each HasNoStray
-      (All-weaker IsGivenImage (λ g. HasNoStray (link_in images are.relax g)) (none_stray images are.relax) images are.given.given)
+      (All-weaker IsGivenImage (λ g. HasNoStray (link_in images are.relax g))
+      (none_stray images are.relax) images are.given.given)
 
   pub are_linked : All IsLinked ls
   are_linked = λ k d below. record { given = all_given k d below; links = all_link k d below; stray = stray k d below }
 
   small : All (λ (l : Linking). All AreBytes l.objects) ls
   unfolding link_in
-  small = each (λ (l : Linking). All AreBytes l.objects) (of_names are.bytes are.small images job.images are.given.objects)
+  small = each (λ (l : Linking). All AreBytes l.objects)
+      (of_names are.bytes are.small images job.images are.given.objects)
 
   few : All IsOfFew images → All (λ (l : Linking). length l.objects < 2 ^ 32) ls
   unfolding link_in
@@ -99,13 +105,18 @@ module _ (job : JobParts) (images : List Given) (ls : List Linking) (are : AreLi
   late = subst (λ (kinds : List ImageKind). LateLast kinds) (sym kinds_are) are.order.late
 
   pub are_sound : AreSound ls
-  are_sound = record { given = all_given; sound = All-weaker Links IsSound (λ l own. own.sound) ls all_link; stray = stray }
+  are_sound = record {
+    given = all_given;
+    sound = All-weaker Links IsSound (λ l own. own.sound) ls all_link;
+    stray = stray;
+  }
 
   pub are_links : All IsOfFew images → AreLinks job ls
   are_links of_few = record {
     links = record {
       ready = record {
-        together = subst (λ (all : List Linking). AreTogether all) (sym are.links_are) (together images are.relax given are.links);
+        together = subst (λ (all : List Linking). AreTogether all) (sym are.links_are)
+            (together images are.relax given are.links);
         bytes = small;
         stray = stray;
         few = few of_few;

@@ -1,5 +1,6 @@
 -- The images of a job are one list, as the sequences of an object are: each once, in order.
-use Rattle.std.proofs.Common.{◌≡◌, ◌∙◌, ◌<◌, ℕ, suc, List, All, [], ◌∷◌, length, map, get_or, inl, inr, refl, sym, ap, subst, arith, ext_get_or}
+use Rattle.std.proofs.Common.{◌≡◌, ◌∙◌, ◌<◌, ℕ, suc, List, All, [], ◌∷◌, length, map, get_or, inl, inr, refl, sym, ap}
+use Rattle.std.proofs.Common.{subst, arith, ext_get_or}
 use Rattle.std.specs.List.{AllPairs}
 use Rattle.std.proofs.lemmas.List.Elements.{All-head, All-tail}
 use Rattle.std.proofs.lemmas.Option.{get_or_from_slice_get, slice_get_within}
@@ -27,17 +28,20 @@ first_before x xs rising z i =
 later : (x : Site) (xs : List Site) → AllPairs Before (x ∷ xs) → AllPairs Before xs
 later x xs rising i j d lt within = rising (suc i) (suc j) d (omega arith) (omega arith)
 
-same_head : (x y : Site) (xs ys : List Site) → AllPairs Before (x ∷ xs) → AllPairs Before (y ∷ ys) → In (y ∷ ys) x → In (x ∷ xs) y → x ≡ y
+same_head : (x y : Site) (xs ys : List Site) → AllPairs Before (x ∷ xs) → AllPairs Before (y ∷ ys) → In (y ∷ ys) x
+    → In (x ∷ xs) y → x ≡ y
 same_head x y xs ys r q (inl e) j = sym e
 same_head x y xs ys r q (inr i) (inl e) = e
 same_head x y xs ys r q (inr i) (inr j) = absurd (never_both x y (first_before x xs r y j) (first_before y ys q x i))
 
 in_rest : (x y z : Site) (xs ys : List Site) → x ≡ y → AllPairs Before (x ∷ xs) → In xs z → In (y ∷ ys) z → In ys z
 in_rest x y z xs ys same r i (inl e) =
-    let before : Before z z = subst (λ w. Before w z) (same ∙ e) (first_before x xs r z i) in absurd (never_both z z before before)
+    let before : Before z z = subst (λ w. Before w z) (same ∙ e) (first_before x xs r z i) in
+    absurd (never_both z z before before)
 in_rest x y z xs ys same r i (inr j) = j
 
-same_rising : (xs ys : List Site) → AllPairs Before xs → AllPairs Before ys → ((z : Site) → In xs z → In ys z) → ((z : Site) → In ys z → In xs z) → xs ≡ ys
+same_rising : (xs ys : List Site) → AllPairs Before xs → AllPairs Before ys → ((z : Site) → In xs z → In ys z)
+    → ((z : Site) → In ys z → In xs z) → xs ≡ ys
 same_rising [] [] r q to from = refl
 same_rising [] (y ∷ ys) r q to from = absurd (from y (inl refl))
 same_rising (x ∷ xs) [] r q to from = absurd (to x (inl refl))
@@ -51,7 +55,8 @@ same_rising (x ∷ xs) (y ∷ ys) r q to from =
 
 same_sites : (b : List ℕ) (xs ys : List Site) → AreSites b xs → AreSites b ys → xs ≡ ys
 same_sites b xs ys own other =
-    same_rising xs ys own.rising other.rising (λ z i. in_contains ys z (other.every z (of_all (IsSite b) xs z own.only i)))
+    same_rising xs ys own.rising other.rising
+    (λ z i. in_contains ys z (other.every z (of_all (IsSite b) xs z own.only i)))
     (λ z i. in_contains xs z (own.every z (of_all (IsSite b) ys z other.only i)))
 
 -- ** images
@@ -62,7 +67,8 @@ module _ (g h : Given) (kinds : g.kind ≡ h.kind) (objects : g.objects ≡ h.ob
   sites =
       let lengths : length g.objects ≡ length h.objects = ap length objects in
       ext_get_or [] g.sites h.sites (own.each ∙ lengths ∙ sym other.each)
-      (λ o within. same_sites (get_or g.objects o []) (get_or g.sites o []) (get_or h.sites o []) (own.own o (omega (arith, own.each)))
+      (λ o within. same_sites (get_or g.objects o []) (get_or g.sites o []) (get_or h.sites o [])
+      (own.own o (omega (arith, own.each)))
       (subst (λ (all : List (List ℕ)). AreSites (get_or all o []) (get_or h.sites o [])) (sym objects)
       (other.own o (omega (arith, own.each, lengths)))))
 
@@ -88,6 +94,7 @@ same_all (g ∷ gs) (h ∷ hs) kinds objects own other =
     (All-tail IsGivenImage h hs other) in
     cc
 
-pub same_images : (bytes : List ℕ → List ℕ) (job : JobParts) (gs hs : List Given) → AreGiven bytes job gs → AreGiven bytes job hs → gs ≡ hs
+pub same_images : (bytes : List ℕ → List ℕ) (job : JobParts) (gs hs : List Given) → AreGiven bytes job gs
+    → AreGiven bytes job hs → gs ≡ hs
 same_images bytes job gs hs own other =
     same_all gs hs (own.kinds ∙ sym other.kinds) (own.objects ∙ sym other.objects) own.given other.given

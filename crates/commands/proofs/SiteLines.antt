@@ -22,7 +22,9 @@ module _ (names objects : List (List ℕ)) (sites : List (List Site)) (choices :
   pub none_left : (n : ℕ) → length names ≤ n → left n ≡ []
   none_left n h = rw (range_none n (length names) h) refl
 
-pub same_lines : (name name' b b' : List ℕ) (own own' : List Site) (chosen chosen' : List Choice) → name ≡ name' → b ≡ b' → own ≡ own' → chosen ≡ chosen'
+pub same_lines : (name name' b b' : List ℕ) (own own' : List Site) (chosen chosen' : List Choice) → name ≡ name'
+    → b ≡ b' → own ≡ own' → chosen ≡ chosen'
     → site_lines name b own chosen ≡ site_lines name' b' own' chosen'
 same_lines name name' b b' own own' chosen chosen' e f g h =
-    ap (λ x. site_lines x b own chosen) e ∙ ap (λ x. site_lines name' x own chosen) f ∙ ap (λ x. site_lines name' b' x chosen) g ∙ ap (λ x. site_lines name' b' own' x) h
+    ap (λ x. site_lines x b own chosen) e ∙ ap (λ x. site_lines name' x own chosen) f
+    ∙ ap (λ x. site_lines name' b' x chosen) g ∙ ap (λ x. site_lines name' b' own' x) h

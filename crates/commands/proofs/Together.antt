@@ -26,7 +26,8 @@ module _ (images : List Given) (relax : Bool) where
       links : List Linking
       links = filter (λ (l : Linking). not (is_late l.kind)) (map (link_in images relax) gs)
 
-      of_late : (t : Bool) → map (λ (x : Given). exported_names x.objects) kept ≡ exports_among (map (link_in images relax) gs)
+      of_late : (t : Bool) → map (λ (x : Given). exported_names x.objects) kept
+          ≡ exports_among (map (link_in images relax) gs)
           → map (λ (x : Given). exported_names x.objects) (cond t (g ∷ kept) kept)
           ≡ map (λ (l : Linking). exported_names l.objects) (cond t (link_in images relax g ∷ links) links)
       of_late true rest = ap (λ names. exported_names g.objects ∷ names) rest

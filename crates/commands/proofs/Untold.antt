@@ -45,7 +45,8 @@ of_verdict : (own : ℕ) → (own ≡ 0) ⊎ (own ≡ 9) → HasJobStatus (Unit 
 of_verdict own (inl is) = inl (inl is)
 of_verdict own (inr is) = inr (tt, is)
 
-of_ending : (ending : Placed) (before after : Option Files) (job : JobParts) (ls : List Linking) (own : ℕ) (text : List ℕ)
+of_ending : (ending : Placed) (before after : Option Files) (job : JobParts) (ls : List Linking) (own : ℕ)
+    (text : List ℕ)
     → Makes ending before after job ls own text → HasJobStatus (JudgesAt ending) own
 of_ending (found.Run telling) before after job ls own text made = done _ own made.0
 of_ending found.Check before after job ls own text made = of_verdict own (verdict_done (verdict job ls) own text made)
@@ -53,21 +54,26 @@ of_ending (found.File place put) before after job ls own text made = done _ own 
 of_ending (found.Sites place) before after job ls own text made = done _ own made.says.0
 
 -- a result over the bytes of the objects
-pub comes_of_bytes : (E : Ending) (relax : Bool) (w : WritableSections) (Judged : Type 0) (bytes : List ℕ → List ℕ) (job : JobParts)
-    → ((ls : List Linking) (own : ℕ) (text : List ℕ) → E job ls own text → HasJobStatus Judged own) → (r : Result Text CommandFault)
+pub comes_of_bytes : (E : Ending) (relax : Bool) (w : WritableSections) (Judged : Type 0) (bytes : List ℕ → List ℕ)
+    (job : JobParts)
+    → ((ls : List Linking) (own : ℕ) (text : List ℕ) → E job ls own text → HasJobStatus Judged own)
+    → (r : Result Text CommandFault)
     → Comes items (BytesSay E relax w bytes job) r → Comes items (λ own text. HasJobStatus Judged own) r
 comes_of_bytes E relax w Judged bytes job ends r says =
     comes_by (BytesSay E relax w bytes job) (λ own text. HasJobStatus Judged own) r
     (λ own text said. of_bytes E relax w Judged own text job (λ ls. ends ls own text) bytes said) says
 
-pub comes_of_ending : (ending : Placed) (before after : Option Files) (relax : Bool) (w : WritableSections) (bytes : List ℕ → List ℕ) (job : JobParts)
+pub comes_of_ending : (ending : Placed) (before after : Option Files) (relax : Bool) (w : WritableSections)
+    (bytes : List ℕ → List ℕ) (job : JobParts)
     (r : Result Text CommandFault) → Comes items (BytesSay (Makes ending before after) relax w bytes job) r
     → Comes items (λ own text. HasJobStatus (JudgesAt ending) own) r
 comes_of_ending ending before after relax w bytes job =
-    comes_of_bytes (Makes ending before after) relax w (JudgesAt ending) bytes job (λ ls own text made. of_ending ending before after job ls own text made)
+    comes_of_bytes (Makes ending before after) relax w (JudgesAt ending) bytes job
+    (λ ls own text made. of_ending ending before after job ls own text made)
 
 -- the purpose judges where the ending does
-judges_found : (purpose : Purpose) (job : JobParts) (ending : Placed) → Finds purpose job ending → JudgesAt ending → Judges purpose
+judges_found : (purpose : Purpose) (job : JobParts) (ending : Placed) → Finds purpose job ending → JudgesAt ending
+    → Judges purpose
 judges_found (Run telling) job ending is judges = subst JudgesAt is judges
 judges_found Check job ending is judges = tt
 judges_found (File put) job (found.File place own) is judges = judges
@@ -75,8 +81,10 @@ judges_found (File put) job ending never judges = absurd never
 judges_found (Sites image) job (found.Sites place) is judges = judges
 judges_found (Sites image) job ending never judges = absurd never
 
-pub comes_of_purpose : (purpose : Purpose) (job : JobParts) (ending : Placed) → Finds purpose job ending → (r : Result Text CommandFault)
-    → Comes items (λ own text. HasJobStatus (JudgesAt ending) own) r → Comes items (λ own text. HasJobStatus (Judges purpose) own) r
+pub comes_of_purpose : (purpose : Purpose) (job : JobParts) (ending : Placed) → Finds purpose job ending
+    → (r : Result Text CommandFault)
+    → Comes items (λ own text. HasJobStatus (JudgesAt ending) own) r
+    → Comes items (λ own text. HasJobStatus (Judges purpose) own) r
 comes_of_purpose purpose job ending is r =
     comes_by (λ own text. HasJobStatus (JudgesAt ending) own) (λ own text. HasJobStatus (Judges purpose) own) r
     (λ own text. more (JudgesAt ending) (Judges purpose) own (judges_found purpose job ending is))

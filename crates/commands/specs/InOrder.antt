@@ -8,7 +8,7 @@ use Rattle.job_text.specs.ProgramFirst.{ProgramFirst}
 use Rattle.link_faults.specs.declared.image_kind.ImageKind.{ImageKind}
 use Rattle.link_needs.specs.Linking.{Linking}
 use Rattle.linked_jobs.specs.Ready.{AreJob}
-use Rattle.elf_records.specs.Fields.{AreBytes}
+use Rattle.elf_records.specs.FieldLaws.{AreBytes}
 use Rattle.commands.specs.Jobs.{links_of}
 
 -- the images of a job are in order: the first and no other is the program, and those that a thread opens come last

@@ -5,7 +5,7 @@ use Rattle.job_text.specs.Jobs.{JobParts}
 use Rattle.lawful_points.specs.Raced.{IsRaced}
 use Rattle.link_needs.specs.Linking.{Linking}
 use Rattle.loaded_modules.specs.Images.{JobImages}
-use Rattle.module_table.specs.History.{IsLegal}
+use Rattle.module_table.specs.Past.{IsLegal}
 use Rattle.thread_blocks.specs.JobLoads.{job_loads}
 use Rattle.thread_blocks.specs.Turns.{at_number}
 use Rattle.transcript_text.specs.declared.outcomes.Line.{Line as ShownLine}

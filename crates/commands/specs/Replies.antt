@@ -2,7 +2,8 @@
 use Rattle.std.specs.Prelude.{◌≡◌, ◌≤◌, ℕ, ◌⊎◌, List, Option, Some, None}
 use Rattle.command_line.specs.declared.tasks.Command.{Command}
 use Rattle.command_replies.specs.Delivery.{store_line, usage_line}
-use Rattle.ports.specs.Files.{AsksFront, Files, with_names}
+use Rattle.ports.specs.Files.{AsksFront, Files}
+use Rattle.ports.specs.Files.{with_names}
 use Rattle.commands.specs.Commands.{CommandLeaves, CommandSays, command_names}
 use Rattle.commands.specs.Untold.{UntoldSays}
 

@@ -12,7 +12,7 @@ use Rattle.lawful_points.specs.Printed.{printed_points}
 use Rattle.link_core.specs.Images.{LinkedImage, linked_of}
 use Rattle.link_needs.specs.Linking.{Linking}
 use Rattle.linked_jobs.specs.Threads.{thread_meaning}
-use Rattle.loaded_modules.specs.Given.{of_job}
+use Rattle.loaded_modules.specs.Loader.{of_job}
 use Rattle.loaded_modules.specs.Images.{JobImages}
 use Rattle.standing_sequences.specs.Images.{HoldsTheTable}
 use Rattle.thread_blocks.specs.JobLoads.{job_loads}

@@ -16,7 +16,7 @@ ghost use Rattle.job_link.specs.declared.writable.WritableSections.TheVariants.{
 ghost use Rattle.job_link.specs.Given.{Allows, AreGiven};
 ghost use Rattle.job_link.specs.Mentions.{bytes_in};
 ghost use Rattle.job_text.specs.Jobs.{job_of as job_of_text};
-ghost use Rattle.elf_records.specs.Fields.{AreBytes};
+ghost use Rattle.elf_records.specs.FieldLaws.{AreBytes};
 
 use crate::laws::images_are_in_order;
 use crate::race_runs::told_race;

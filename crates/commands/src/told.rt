@@ -16,7 +16,7 @@ ghost use Rattle.job_link.specs.declared.writable.WritableSections.TheVariants.{
 ghost use Rattle.job_link.specs.Given.{AreGiven};
 ghost use Rattle.job_link.specs.Mentions.{bytes_in, object_names};
 ghost use Rattle.job_text.specs.Jobs.{job_of as job_of_text};
-ghost use Rattle.elf_records.specs.Fields.{AreBytes};
+ghost use Rattle.elf_records.specs.FieldLaws.{AreBytes};
 
 use crate::endings::{LinkedJob, ended};
 use crate::laws::images_are_in_order;

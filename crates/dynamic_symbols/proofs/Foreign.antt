@@ -11,7 +11,8 @@ use Rattle.sequence_forms.specs.declared.places.Site.{Site}
 use Rattle.link_faults.specs.declared.binding.Binding.{Binding}
 use Rattle.link_faults.specs.declared.binding.Binding.TheVariants.{Here, Runtime}
 use Rattle.link_faults.specs.declared.symbol_ref.SymbolRef.{SymbolRef}
-use Rattle.tls_symbols.specs.Bindings.{binding_of, bound_to, first_export, here_or, may_import, name_binding, object_at, of_startup}
+use Rattle.tls_symbols.specs.Bindings.{binding_of, bound_to, first_export, here_or, may_import, name_binding, object_at}
+use Rattle.tls_symbols.specs.Bindings.{of_startup}
 use Rattle.elf_records.specs.Symbols.{get_address}
 use Rattle.tls_symbols.specs.Definitions.{definition_of, same_binding}
 use Rattle.dynamic_symbols.specs.Laws.{BindingsAreByUse, ImportsAreDistinct, ImportsAreForeign, IsForeign}
@@ -22,12 +23,14 @@ use Rattle.tls_symbols.specs.Definitions.{flat_map_from}
 
 module _ (objects : List (List ℕ)) (startup : List (List (List ℕ))) where
   -- a name that is bound to a startup image
-  foreign : (o : ℕ) (r : Relocation) → is_startup (binding_of objects startup o r) ≡ true → IsForeign objects (symbol_name (object_at objects o) r.symbol)
+  foreign : (o : ℕ) (r : Relocation) → is_startup (binding_of objects startup o r) ≡ true
+      → IsForeign objects (symbol_name (object_at objects o) r.symbol)
   unfolding bound_to
   foreign o r is = of_local (same_binding Local (symbol_binding (object_at objects o) r.symbol)) is
     where
       of_definition : (rest : Option Binding) (n : List ℕ) → bytes_eq n get_address ≡ false
-          → (found : Option SymbolRef) → definition_of objects n ≡ found → is_startup (here_or found rest) ≡ true → IsForeign objects n
+          → (found : Option SymbolRef) → definition_of objects n ≡ found → is_startup (here_or found rest) ≡ true
+          → IsForeign objects n
       of_definition rest n other (Some x) found h = cc
       of_definition rest n other None found h = record {
         undefined = found;
@@ -39,19 +42,24 @@ module _ (objects : List (List ℕ)) (startup : List (List (List ℕ))) where
       of_name rest n true e h = cc
       of_name rest n false e h = of_definition rest n e (definition_of objects n) refl h
 
-      of_local : (t : Bool) → is_startup (if t then Some (Here (record { object = o; symbol = r.symbol })) else name_binding objects startup r.kind (symbol_name (object_at objects o) r.symbol)) ≡ true
+      of_local : (t : Bool) → is_startup
+          (if t then Some (Here (record { object = o; symbol = r.symbol }))
+          else name_binding objects startup r.kind (symbol_name (object_at objects o) r.symbol)) ≡ true
           → IsForeign objects (symbol_name (object_at objects o) r.symbol)
       of_local true h = cc
       of_local false h =
           let n = symbol_name (object_at objects o) r.symbol in
-          of_name (if may_import r.kind then of_startup (first_export n 1 startup) else None) n (bytes_eq n get_address) refl h
+          of_name (if may_import r.kind then of_startup (first_export n 1 startup) else None) n
+          (bytes_eq n get_address) refl h
 
   -- the names of a site, of an object's sites and of all
   all_at : (o : ℕ) (site : Site) → All (IsForeign objects) (imported_at objects startup o site)
   all_at o site = by (is_import objects startup o site) refl
     where
-      by : (t : Bool) → is_import objects startup o site ≡ t → All (IsForeign objects) (if t then symbol_name (object_at objects o) site.symbol ∷ [] else [])
-      by true e = all_cons (IsForeign objects) (symbol_name (object_at objects o) site.symbol) [] (foreign o (first_of site) e) (all_nil (IsForeign objects))
+      by : (t : Bool) → is_import objects startup o site ≡ t
+          → All (IsForeign objects) (if t then symbol_name (object_at objects o) site.symbol ∷ [] else [])
+      by true e = all_cons (IsForeign objects) (symbol_name (object_at objects o) site.symbol) []
+          (foreign o (first_of site) e) (all_nil (IsForeign objects))
       by false e = all_nil (IsForeign objects)
 
   all_in : (o : ℕ) (sites : List Site) → All (IsForeign objects) (imported_in objects startup o sites)

@@ -1,5 +1,6 @@
 -- What holds of all elements of lists that are joined, and lists of names that are distinct.
-use Rattle.std.proofs.Common.{◌≡◌, ◌≢◌, ◌+◌, ◌<◌, ◌≤◌, ℕ, zero, suc, true, not, List, [], ◌∷◌, ◌++◌, length, filter, arith}
+use Rattle.std.proofs.Common.{◌≡◌, ◌≢◌, ◌+◌, ◌<◌, ◌≤◌, ℕ, zero, suc, true, not, List, [], ◌∷◌, ◌++◌, length, filter}
+use Rattle.std.proofs.Common.{arith}
 use Rattle.std.specs.Prelude.{slice_index_or}
 use Rattle.std.specs.List.{All, AllPairs, flat_map, range_with_len}
 use Rattle.std.specs.Str.{bytes_eq}
@@ -29,7 +30,8 @@ module _ {X : Type 0} (P : X → Type 0) where
 
   pub all_append : (xs ys : List X) → All P xs → All P ys → All P (xs ++ ys)
   all_append [] ys first next = next
-  all_append (x ∷ xs) ys first next = all_cons x (xs ++ ys) (all_first x xs first) (all_append xs ys (all_rest x xs first) next)
+  all_append (x ∷ xs) ys first next =
+      all_cons x (xs ++ ys) (all_first x xs first) (all_append xs ys (all_rest x xs first) next)
 
   -- of all lists that are joined
   pub all_flat : {Y : Type 0} (f : Y → List X) (ys : List Y) → ((y : Y) → All P (f y)) → All P (flat_map f ys)
@@ -37,12 +39,16 @@ module _ {X : Type 0} (P : X → Type 0) where
   all_flat f (y ∷ ys) each = all_append (f y) (flat_map f ys) (each y) (all_flat f ys each)
 
   -- the same, by their places
-  pub all_flat_at : {Y : Type 0} (f : Y → List X) (ys : List Y) (d : Y) → ((k : ℕ) → k < length ys → All P (f (slice_index_or ys k d))) → All P (flat_map f ys)
+  pub all_flat_at : {Y : Type 0} (f : Y → List X) (ys : List Y) (d : Y)
+      → ((k : ℕ) → k < length ys → All P (f (slice_index_or ys k d))) → All P (flat_map f ys)
   all_flat_at f [] d each = all_nil
-  all_flat_at f (y ∷ ys) d each = all_append (f y) (flat_map f ys) (each 0 (omega arith)) (all_flat_at f ys d (λ k h. each (suc k) (omega (arith, h))))
+  all_flat_at f (y ∷ ys) d each =
+      all_append (f y) (flat_map f ys) (each 0 (omega arith))
+      (all_flat_at f ys d (λ k h. each (suc k) (omega (arith, h))))
 
   -- the same, by numbers that rise
-  pub all_flat_range : (f : ℕ → List X) (a n : ℕ) → ((e : ℕ) → a ≤ e → e < a + n → All P (f e)) → All P (flat_map f (range_with_len a n))
+  pub all_flat_range : (f : ℕ → List X) (a n : ℕ) → ((e : ℕ) → a ≤ e → e < a + n → All P (f e))
+      → All P (flat_map f (range_with_len a n))
   all_flat_range f a zero each = all_nil
   all_flat_range f a (suc n) each =
       all_append (f a) (flat_map f (range_with_len (a + 1) n)) (each a (omega arith) (omega arith))
@@ -63,5 +69,6 @@ pub distinct_names : (xs : List (List ℕ)) → AllPairs (λ x y. x ≢ y) (dist
 distinct_names [] = λ i j d less within. absurd (omega (arith, less, within))
 distinct_names (x ∷ xs) =
     AllPairs-cons (λ y z. y ≢ z) x (filter (λ y. not (bytes_eq x y)) (distinct xs))
-    (λ k d h. differs x (slice_index_or (filter (λ y. not (bytes_eq x y)) (distinct xs)) k d) (filter_passes (λ y. not (bytes_eq x y)) (distinct xs) k d h))
+    (λ k d h. differs x (slice_index_or (filter (λ y. not (bytes_eq x y)) (distinct xs)) k d)
+    (filter_passes (λ y. not (bytes_eq x y)) (distinct xs) k d h))
     (AllPairs-filter (λ y z. y ≢ z) (λ y. not (bytes_eq x y)) (distinct xs) (distinct_names xs))

@@ -1,5 +1,6 @@
 -- An object that has no symbol of a startup image imports nothing.
-use Rattle.std.proofs.Common.{◌≡◌, ◌+◌, ◌<◌, ◌∙◌, ℕ, Bool, true, false, List, [], ◌∷◌, ◌++◌, Option, Some, None, length, refl, sym, ap, arith}
+use Rattle.std.proofs.Common.{◌≡◌, ◌+◌, ◌<◌, ◌∙◌, ℕ, Bool, true, false, List, [], ◌∷◌, ◌++◌, Option, Some, None, length}
+use Rattle.std.proofs.Common.{refl, sym, ap, arith}
 use Rattle.std.specs.Prelude.{if◌then◌else◌}
 use Rattle.std.specs.List.{list_any, range_with_len}
 use Rattle.std.specs.Str.{bytes_eq}
@@ -31,7 +32,8 @@ none_below test n e none below = by (test e) refl
     by true is =
         let place : e < length (range_with_len 0 n) = rw (length-range_with_len 0 n) below in
         let number : 0 + e ≡ e = omega arith in
-        sym (list_any_at test (range_with_len 0 n) e 0 place (ap test (get_or-range_with_len 0 n e 0 below ∙ number) ∙ is)) ∙ none
+        sym (list_any_at test (range_with_len 0 n) e 0 place
+        (ap test (get_or-range_with_len 0 n e 0 below ∙ number) ∙ is)) ∙ none
 
 module _ (objects : List (List ℕ)) (startup : List (List (List ℕ))) (o : ℕ) where
   -- what may be no other image's variable is bound to no startup image
@@ -50,7 +52,8 @@ module _ (objects : List (List ℕ)) (startup : List (List (List ℕ))) (o : ℕ
       of_name true = refl
       of_name false = of_definition (definition_of objects name)
 
-      of_local : (t : Bool) → is_startup (if t then Some (Here (record { object = o; symbol = e })) else name_bound objects startup false name) ≡ false
+      of_local : (t : Bool) → is_startup
+          (if t then Some (Here (record { object = o; symbol = e })) else name_bound objects startup false name) ≡ false
       of_local true = refl
       of_local false = of_name (bytes_eq name get_address)
 
@@ -59,7 +62,8 @@ module _ (objects : List (List ℕ)) (startup : List (List (List ℕ))) (o : ℕ
     no_import site below = by (may_be_elsewhere (row site.form).first)
       where
         by : (t : Bool) → is_startup (bound_to objects startup o site.symbol t) ≡ false
-        by true = none_below (λ e. is_startup (bound_to objects startup o e true)) (symbol_count b) site.symbol none below
+        by true = none_below (λ e. is_startup (bound_to objects startup o e true))
+            (symbol_count b) site.symbol none below
         by false = stays site.symbol
 
     pub nothing_imported : (sites : List Site) → HaveSymbols b sites → imported_in objects startup o sites ≡ []
@@ -67,5 +71,6 @@ module _ (objects : List (List ℕ)) (startup : List (List (List ℕ))) (o : ℕ
     nothing_imported [] symbols = refl
     nothing_imported (site ∷ sites) symbols =
         let IsBelow : Site → Type 0 = λ site. site.symbol < symbol_count b in
-        ap (λ names. names ++ imported_in objects startup o sites) (imports_none objects startup o site (no_import site (all_first IsBelow site sites symbols)))
+        ap (λ names. names ++ imported_in objects startup o sites)
+        (imports_none objects startup o site (no_import site (all_first IsBelow site sites symbols)))
         ∙ nothing_imported sites (all_rest IsBelow site sites symbols)

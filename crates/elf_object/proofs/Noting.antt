@@ -23,7 +23,8 @@ or_false false = refl
 any_more : {X : Type 0} (p : X → Bool) (xs : List X) (x : X) → list_any p (xs ++ x ∷ []) ≡ (list_any p xs || p x)
 any_more p xs x = list_any-append p xs (x ∷ []) ∙ ap (λ t. list_any p xs || t) (or_false (p x))
 
-pub traits_more : (seen : List Relocation) (r : Relocation) → with_traits (traits_of seen) r ≡ traits_of (seen ++ r ∷ [])
+pub traits_more : (seen : List Relocation) (r : Relocation)
+    → with_traits (traits_of seen) r ≡ traits_of (seen ++ r ∷ [])
 unfolding traits_of
 traits_more seen r = rw (any_more _ seen r, any_more _ seen r, any_more _ seen r, any_more _ seen r) refl
 
@@ -31,7 +32,8 @@ traits_more seen r = rw (any_more _ seen r, any_more _ seen r, any_more _ seen r
 named_more : (is_role : SymbolRole → Bool) (e : ℕ) (seen : List Relocation) (r : Relocation) (t : Bool)
     → (r.symbol == e) ≡ t
     → is_named is_role e (seen ++ r ∷ []) ≡ (is_named is_role e seen || (t && is_role (row r.kind).symbol))
-named_more is_role e seen r t same = any_more _ seen r ∙ ap (λ t. is_named is_role e seen || (t && is_role (row r.kind).symbol)) same
+named_more is_role e seen r t same = any_more _ seen r
+    ∙ ap (λ t. is_named is_role e seen || (t && is_role (row r.kind).symbol)) same
 
 roles_here : (seen : List Relocation) (r : Relocation) (e : ℕ) → (r.symbol == e) ≡ true
     → with_role (roles_of seen e) (row r.kind).symbol ≡ roles_of (seen ++ r ∷ []) e
@@ -65,10 +67,12 @@ noted_here seen r roles none new role role_is inside is known e d below =
     let there : e < length roles = omega (arith, below, length-set roles r.symbol new) in
     elim (eqb_tells r.symbol e) [
       | inl same ↦
-          let After : ℕ → Type 0 = λ x. slice_index_or (slice_set roles r.symbol new) x d ≡ roles_of (seen ++ r ∷ []) x in
+          let After : ℕ → Type 0 =
+          λ x. slice_index_or (slice_set roles r.symbol new) x d ≡ roles_of (seen ++ r ∷ []) x in
           let found = subst (λ x. (r.symbol == x) ≡ true) (sym same.1) same.0 in
           subst After same.1
-          (get_or-set_at roles r.symbol r.symbol new d refl inside ∙ is ∙ ap (with_role (slice_index_or roles r.symbol none)) role_is
+          (get_or-set_at roles r.symbol r.symbol new d refl inside ∙ is
+          ∙ ap (with_role (slice_index_or roles r.symbol none)) role_is
           ∙ ap (λ own. with_role own (row r.kind).symbol) (known r.symbol none inside)
           ∙ roles_here seen r r.symbol found)
       | inr other ↦
@@ -102,6 +106,7 @@ unfolding roles_of
 noted_none symbols roles traits roles_are traits_are = record {
   len = ap length roles_are ∙ length-replicate symbols (roles_of [] 0);
   roles_are = λ e d below. ap (λ all. slice_index_or all e d) roles_are
-      ∙ get_or-replicate symbols e (roles_of [] 0) d (omega (arith, below, ap length roles_are, length-replicate symbols (roles_of [] 0)));
+      ∙ get_or-replicate symbols e (roles_of [] 0) d
+      (omega (arith, below, ap length roles_are, length-replicate symbols (roles_of [] 0)));
   traits_are = traits_are;
 }

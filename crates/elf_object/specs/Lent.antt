@@ -1,6 +1,6 @@
 -- What an object lends: names, bytes, symbols and relocations, as functions of the file's bytes (gABI, "Sections",
 -- "Symbol Table", "Relocation"). Number 0 of the sections and of the symbols is reserved, and nothing of it is read.
-use Rattle.std.specs.Prelude.{◌≡◌, ◌+◌, ◌*◌, ◌==◌, ◌&&◌, ℕ, Bool, true, false, not, List, [], map, slice_range}
+use Rattle.std.specs.Prelude.{◌+◌, ◌*◌, ◌==◌, ◌&&◌, ℕ, Bool, true, false, not, List, [], map, slice_range}
 use Rattle.std.specs.Prelude.{Option, Some, None, is_some, nat_lt, unwrap_or, if◌then◌else◌}
 use Rattle.std.specs.List.{range_with_len}
 use Rattle.elf_records.specs.Strings.{text_at}
@@ -21,9 +21,7 @@ use Rattle.elf_object.specs.declared.symbol.SymbolPlace.{SymbolPlace}
 use Rattle.elf_object.specs.declared.symbol.SymbolPlace.TheVariants.{Undefined, Absolute, InSection}
 use Rattle.elf_records.specs.declared.relocation.RelocationKind.TheVariants.{Nothing}
 use Rattle.elf_object.specs.declared.relocation.Relocation.{Relocation}
-use Rattle.elf_object.specs.declared.part.SectionPart.{SectionPart}
-use Rattle.elf_object.specs.declared.part.SymbolPart.{SymbolPart}
-use Rattle.elf_object.specs.Parts.{header, section, is_section, symbol, symbol_table, relocation_table, entry_count}
+use Rattle.elf_object.specs.Parts.{section, is_section, symbol, symbol_table, relocation_table, entry_count}
 use Rattle.elf_object.specs.Classes.{kept_class}
 use Rattle.elf_object.specs.Relocations.{relocation_kind}
 
@@ -36,10 +34,6 @@ unfoldable pub section_bytes : List ℕ → ℕ → List ℕ
 section_bytes b s =
     if is_section b s && (not ((section b s).kind == SHT_NULL) && not ((section b s).kind == SHT_NOBITS))
     then slice_range b (section b s).offset ((section b s).offset + (section b s).size) else []
-
--- the name of section s
-unfoldable pub section_name : List ℕ → ℕ → List ℕ
-section_name b s = if is_section b s then text_at (section_bytes b (header b).e_shstrndx) (section b s).name else []
 
 -- the class that linking keeps section s in
 unfoldable pub section_class : List ℕ → ℕ → Option SectionClass
@@ -57,13 +51,6 @@ section_size b s = if is_section b s then (section b s).size else 0
 -- the alignment of section s; 0 in the file counts as 1
 unfoldable pub section_alignment : List ℕ → ℕ → ℕ
 section_alignment b s = if is_section b s && not ((section b s).addralign == 0) then (section b s).addralign else 1
-
--- section s, as it is lent
-pub record IsSectionPart (b : List ℕ) (s : ℕ) (part : SectionPart) : Type 0 where
-  pub class_is : part.class ≡ section_class b s
-  pub bytes_are : part.bytes.now ≡ section_bytes b s
-  pub size_is : part.size ≡ section_size b s
-  pub alignment_is : part.alignment ≡ section_alignment b s
 
 -- the name of symbol e
 unfoldable pub symbol_name : List ℕ → ℕ → List ℕ
@@ -93,15 +80,6 @@ symbol_size b e = if nat_lt 0 e then (symbol b e).size else 0
 abbrev pub is_tls_place : List ℕ → SymbolPlace → Bool
 is_tls_place b (InSection s) = is_tls_class (section_class b s)
 is_tls_place b place = false
-
--- symbol e, as it is lent
-pub record IsSymbolPart (b : List ℕ) (e : ℕ) (part : SymbolPart) : Type 0 where
-  pub binding_is : part.binding ≡ symbol_binding b e
-  pub kind_is : part.kind ≡ symbol_type b e
-  pub visibility_is : part.visibility ≡ symbol_visibility b e
-  pub place_is : part.place ≡ symbol_place b e
-  pub value_is : part.value ≡ symbol_value b e
-  pub size_is : part.size ≡ symbol_size b e
 
 -- the relocation at an offset of the file
 unfoldable pub relocation_at : ℕ → List ℕ → Relocation

@@ -17,5 +17,6 @@ pub mod LawsOfRelocations
 pub mod LawsOfSections
 pub mod Laws
 pub mod Lent
+pub mod LentLaws
 pub mod Noted
 pub mod Object

@@ -3,9 +3,11 @@
 ghost use Rattle.std.specs.Prelude.{◌≡◌, ◌≢◌, ◌<◌, ◌≤◌, ◌↔◌, ◌^◌, ℕ, length, All, IsNone, IfOk, IfErr, IfSome};
 ghost use Rattle.std.specs.Prelude.{OnSome, MatchOption};
 ghost use Rattle.elf_object.specs.Parts.{symbol_count as count_of_symbols, symbol_table as table_of_symbols};
-ghost use Rattle.elf_object.specs.Lent.{IsSectionPart, IsSymbolPart, relocations as relocations_of};
+ghost use Rattle.elf_object.specs.Lent.{relocations as relocations_of};
+ghost use Rattle.elf_object.specs.LentLaws.{IsSectionPart, IsSymbolPart};
 ghost use Rattle.elf_object.specs.Lent.{kept_relocation_table, relocation_target as target_of_relocations};
-ghost use Rattle.elf_object.specs.Lent.{section_name as name_of_section, symbol_name as name_of_symbol};
+ghost use Rattle.elf_object.specs.Lent.{symbol_name as name_of_symbol};
+ghost use Rattle.elf_object.specs.LentLaws.{section_name as name_of_section};
 ghost use Rattle.elf_object.specs.Firsts.{nonzero};
 ghost use Rattle.elf_object.specs.Lawful.{IsKeptAs, IsLawful, IsPlaced, IsShared};
 ghost use Rattle.elf_object.specs.Object.{section_count as count_of_sections, IsWritable};

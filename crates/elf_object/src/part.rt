@@ -2,7 +2,8 @@
 
 ghost use Rattle.std.specs.Prelude.{◌≡◌, ◌<◌, OnSome};
 ghost use Rattle.elf_object.specs.Parts.{symbol_count, IsSection};
-ghost use Rattle.elf_object.specs.Lent.{IsSectionPart, IsSymbolPart, section_bytes, section_class, section_alignment};
+ghost use Rattle.elf_object.specs.Lent.{section_bytes, section_class, section_alignment};
+ghost use Rattle.elf_object.specs.LentLaws.{IsSectionPart, IsSymbolPart};
 
 use crate::symbol::{SymbolPlace, place_numbered};
 use elf_records::symbol::{binding_numbered, type_numbered, visibility_numbered};

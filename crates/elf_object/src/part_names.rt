@@ -2,14 +2,15 @@
 
 ghost use Rattle.std.specs.Prelude.{◌≡◌, ◌<◌, ◌≤◌, MatchOption, length};
 ghost use Rattle.elf_object.specs.Parts.{section as section_header, symbol_count, symbol_table};
-ghost use Rattle.elf_object.specs.Lent.{section_bytes, section_name, symbol_name};
+ghost use Rattle.elf_object.specs.Lent.{section_bytes, symbol_name};
+ghost use Rattle.elf_object.specs.LentLaws.{section_name};
 
 use crate::part::bytes_of;
 use elf_records::strings::{short_text_at, text_at};
 use object_faults::Tables;
 
 /// The name of a section.
-#[tactic(auto, unfolding(crate::specs::Lent::section_name))]
+#[tactic(auto, unfolding(crate::specs::LentLaws::section_name))]
 pub fn section_name<'a>(tables: &Tables<'a>, number: u64) -> &'a [u8]
     requires { number < tables.now.count }
     ensures { result.now ≡ section_name tables.now.bytes.now number }

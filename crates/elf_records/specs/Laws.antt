@@ -7,7 +7,8 @@ use Rattle.std.proofs.lemmas.List.{drop-append-le, drop-drop, drop-take, get_or-
 use Rattle.std.proofs.lemmas.List.{take-append-le, take_rest, drop_at, take_at}
 use Rattle.byteorder.specs.Endian.{little_from}
 use Rattle.byteorder.specs.Numbers.{length-bytes_low_first, little_from-lt, little_from-take, little_number-reads_back}
-use Rattle.elf_records.specs.Fields.{FitAll, Reads, bytes_of, number_at, part_at, spelled, splice, width}
+use Rattle.elf_records.specs.Fields.{bytes_of, number_at, part_at, spelled, splice}
+use Rattle.elf_records.specs.FieldLaws.{FitAll, Reads, width}
 
 -- a number read after the first i bytes is a number i bytes further on
 pub number_at-drop : (n at i : ℕ) (xs : List ℕ) → number_at n at (drop i xs) ≡ number_at n (i + at) xs

@@ -1,11 +1,14 @@
 pub mod Alignments
 pub mod Digits
 pub mod Fields
+pub mod FieldLaws
 pub mod Firsts
 pub mod Laws
 pub mod RecordLaws
 pub mod Records
+pub mod FittingRecords
 pub mod RelocationRows
+pub mod RowLaws
 pub mod Relocations
 pub mod StringLaws
 pub mod Strings

@@ -11,11 +11,13 @@ use Rattle.elf_records.specs.declared.symbol.SymbolEntry.{SymbolEntry}
 use Rattle.elf_records.specs.declared.relocation.Rela.{Rela}
 use Rattle.elf_records.specs.declared.program_header.Segment.{Segment}
 use Rattle.elf_records.specs.declared.dynamic.DynamicEntry.{DynamicEntry}
-use Rattle.elf_records.specs.Fields.{Reads, number_at, part_at, spelled, splice}
+use Rattle.elf_records.specs.Fields.{number_at, part_at, spelled, splice}
+use Rattle.elf_records.specs.FieldLaws.{Reads}
 use Rattle.elf_records.specs.Laws.{length-spelled, number_at-field, number_at-own, number_at-part, part_again}
 use Rattle.elf_records.specs.Laws.{part_at-own, part_at-part, reads_again, reads-own, reads-part}
-use Rattle.elf_records.specs.Records.{FitsHeader, FitsSectionHeader, FitsSymbolEntry, FitsRela, FitsSegment}
-use Rattle.elf_records.specs.Records.{FitsDynamicEntry, header_at, header_bytes, header_fields, section_at}
+use Rattle.elf_records.specs.FittingRecords.{FitsHeader, FitsSectionHeader, FitsSymbolEntry, FitsRela, FitsSegment}
+use Rattle.elf_records.specs.Records.{header_at, header_bytes, header_fields, section_at}
+use Rattle.elf_records.specs.FittingRecords.{FitsDynamicEntry}
 use Rattle.elf_records.specs.Records.{section_bytes, section_fields, symbol_at, symbol_bytes, symbol_fields, rela_at}
 use Rattle.elf_records.specs.Records.{rela_bytes, rela_fields, segment_at, segment_bytes, segment_fields, dynamic_at}
 use Rattle.elf_records.specs.Records.{dynamic_bytes, dynamic_fields}

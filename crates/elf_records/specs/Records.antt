@@ -1,6 +1,6 @@
 -- The six records of ELF64, each field at its offset in the record (gABI, "ELF Header", "Sections", "Symbol Table",
 -- "Relocation", "Program Header" and "Dynamic Section").
-use Rattle.std.specs.Prelude.{◌≡◌, ◌≢◌, ◌+◌, ◌/◌, ◌%◌, ◌^◌, ℕ, List, [], ◌∷◌, ◌++◌, length, take, FitsSigned}
+use Rattle.std.specs.Prelude.{◌≡◌, ◌≢◌, ◌+◌, ◌/◌, ◌%◌, ◌^◌, ℕ, List, [], ◌∷◌, ◌++◌, take}
 use Rattle.std.specs.Int.{w64, cast_signed, cast_unsigned}
 use Rattle.elf_records.specs.declared.file_header.Header.{Header}
 use Rattle.elf_records.specs.declared.section_header.SectionHeader.{SectionHeader}
@@ -10,7 +10,7 @@ use Rattle.elf_records.specs.declared.program_header.Segment.{Segment}
 use Rattle.elf_records.specs.declared.dynamic.DynamicEntry.{DynamicEntry}
 use Rattle.elf_records.specs.declared.file_header.TheConstants.{ELF_IDENT, EV_CURRENT}
 use Rattle.elf_records.specs.declared.section_header.TheConstants.{SHT_NULL, SHT_NOBITS}
-use Rattle.elf_records.specs.Fields.{FitAll, number_at, part_at, spelled}
+use Rattle.elf_records.specs.Fields.{number_at, part_at, spelled}
 
 -- Elf64_Ehdr
 unfoldable pub header_at : ℕ → List ℕ → Header
@@ -42,10 +42,6 @@ header_fields r =
 unfoldable pub header_bytes : Header → List ℕ
 header_bytes r = r.ident ++ spelled (header_fields r)
 
--- each field is in the range of its type, as in every record that code holds
-abbrev pub FitsHeader : Header → Type 0
-FitsHeader r = (length r.ident ≡ 16) × FitAll (header_fields r)
-
 -- Elf64_Shdr
 unfoldable pub section_at : ℕ → List ℕ → SectionHeader
 section_at at bytes = record {
@@ -71,10 +67,6 @@ section_fields r =
 unfoldable pub section_bytes : SectionHeader → List ℕ
 section_bytes r = spelled (section_fields r)
 
--- each field is in the range of its type, as in every record that code holds
-abbrev pub FitsSectionHeader : SectionHeader → Type 0
-FitsSectionHeader r = FitAll (section_fields r)
-
 -- Elf64_Sym
 unfoldable pub symbol_at : ℕ → List ℕ → SymbolEntry
 symbol_at at bytes = record {
@@ -96,10 +88,6 @@ symbol_fields r =
 unfoldable pub symbol_bytes : SymbolEntry → List ℕ
 symbol_bytes r = spelled (symbol_fields r)
 
--- each field is in the range of its type, as in every record that code holds
-abbrev pub FitsSymbolEntry : SymbolEntry → Type 0
-FitsSymbolEntry r = FitAll (symbol_fields r)
-
 -- Elf64_Rela; the addend is in two's complement
 unfoldable pub rela_at : ℕ → List ℕ → Rela
 rela_at at bytes = record {
@@ -115,10 +103,6 @@ rela_fields r = (8, r.offset) ∷ (8, r.info) ∷ (8, cast_unsigned w64 r.addend
 -- the bytes of the record
 unfoldable pub rela_bytes : Rela → List ℕ
 rela_bytes r = spelled (rela_fields r)
-
--- each field is in the range of its type, as in every record that code holds
-abbrev pub FitsRela : Rela → Type 0
-FitsRela r = FitAll ((8, r.offset) ∷ (8, r.info) ∷ []) × FitsSigned w64 r.addend
 
 -- Elf64_Phdr
 unfoldable pub segment_at : ℕ → List ℕ → Segment
@@ -143,10 +127,6 @@ segment_fields r =
 unfoldable pub segment_bytes : Segment → List ℕ
 segment_bytes r = spelled (segment_fields r)
 
--- each field is in the range of its type, as in every record that code holds
-abbrev pub FitsSegment : Segment → Type 0
-FitsSegment r = FitAll (segment_fields r)
-
 -- Elf64_Dyn
 unfoldable pub dynamic_at : ℕ → List ℕ → DynamicEntry
 dynamic_at at bytes = record {
@@ -161,10 +141,6 @@ dynamic_fields r = (8, r.tag) ∷ (8, r.value) ∷ []
 -- the bytes of the record
 unfoldable pub dynamic_bytes : DynamicEntry → List ℕ
 dynamic_bytes r = spelled (dynamic_fields r)
-
--- each field is in the range of its type, as in every record that code holds
-abbrev pub FitsDynamicEntry : DynamicEntry → Type 0
-FitsDynamicEntry r = FitAll (dynamic_fields r)
 
 -- ELF64_ST_BIND: the high four bits of info
 abbrev pub symbol_binding : SymbolEntry → ℕ

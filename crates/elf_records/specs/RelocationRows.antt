@@ -23,9 +23,11 @@ use Rattle.elf_records.specs.declared.relocation_row.Replaced.TheVariants.{Never
 use Rattle.elf_records.specs.declared.relocation_row.SequencePart.{SequencePart}
 use Rattle.elf_records.specs.declared.relocation_row.SequencePart.TheVariants.{NoPart, First, Second}
 use Rattle.elf_records.specs.declared.relocation_row.SymbolRole.{SymbolRole}
-use Rattle.elf_records.specs.declared.relocation_row.SymbolRole.TheVariants.{NoSymbol, Ordinary, OwnVariable, AnyVariable}
+use Rattle.elf_records.specs.declared.relocation_row.SymbolRole.TheVariants.{NoSymbol, Ordinary, OwnVariable}
+use Rattle.elf_records.specs.declared.relocation_row.SymbolRole.TheVariants.{AnyVariable}
 use Rattle.elf_records.specs.declared.relocation_row.TableEntry.{TableEntry}
-use Rattle.elf_records.specs.declared.relocation_row.TableEntry.TheVariants.{NoEntry, ModulePair, SymbolPair, Descriptor}
+use Rattle.elf_records.specs.declared.relocation_row.TableEntry.TheVariants.{NoEntry, ModulePair, SymbolPair}
+use Rattle.elf_records.specs.declared.relocation_row.TableEntry.TheVariants.{Descriptor}
 use Rattle.elf_records.specs.declared.relocation_row.TableEntry.TheVariants.{SymbolWord, AddressWord}
 
 abbrev pub row_of : FieldValue → FieldForm → SymbolRole → FieldPlace → TableEntry → SequencePart → Replaced → Refused
@@ -94,14 +96,6 @@ is_wide form = false
 abbrev pub is_absolute : RelocationKind → Bool
 is_absolute kind = is_wide (row kind).form
 
--- the types whose field holds the distance from the field to a symbol
-abbrev pub is_place_distance : FieldValue → Bool
-is_place_distance Distance = true
-is_place_distance value = false
-
-abbrev pub is_distance : RelocationKind → Bool
-is_distance kind = is_place_distance (row kind).value
-
 -- the types whose field holds an offset in a TLS segment
 abbrev pub is_tls_offset : FieldValue → Bool
 is_tls_offset SegmentOffset = true
@@ -150,14 +144,6 @@ may_import kind = is_any_variable (row kind).symbol
 
 -- ** the global offset table
 
--- the types whose field reaches an entry of it
-abbrev pub is_entry : TableEntry → Bool
-is_entry NoEntry = false
-is_entry entry = true
-
-abbrev pub reaches_entry : RelocationKind → Bool
-reaches_entry kind = is_entry (row kind).entry
-
 -- the types whose field reaches an entry that holds an address
 abbrev pub is_address_word : TableEntry → Bool
 is_address_word AddressWord = true
@@ -165,13 +151,3 @@ is_address_word entry = false
 
 abbrev pub is_address_kind : RelocationKind → Bool
 is_address_kind kind = is_address_word (row kind).entry
-
--- ** sequences
-
--- the types that stand only in sequences, as the first relocation
-abbrev pub is_first : SequencePart → Bool
-is_first First = true
-is_first part = false
-
-abbrev pub is_of_sequence : RelocationKind → Bool
-is_of_sequence kind = is_first (row kind).part

@@ -1,7 +1,8 @@
 //! Entries of the dynamic array (gABI, "Dynamic Section").
 
 ghost use Rattle.std.specs.Prelude.{◌≡◌, ◌+◌, ◌≤◌, length, take, drop};
-ghost use Rattle.elf_records.specs.Fields.{IsReadAt, splice};
+ghost use Rattle.elf_records.specs.Fields.{splice};
+ghost use Rattle.elf_records.specs.FieldLaws.{IsReadAt};
 ghost use Rattle.elf_records.specs.Records.{dynamic_at, dynamic_bytes};
 
 use crate::field::{fits, put_u64, u64_at};

@@ -1,7 +1,8 @@
 //! The header that every ELF file begins with (gABI, "ELF Header").
 
 ghost use Rattle.std.specs.Prelude.{◌≡◌, ◌+◌, ◌≤◌, ◌↔◌, IsTrue, length, take, drop};
-ghost use Rattle.elf_records.specs.Fields.{IsReadAt, splice};
+ghost use Rattle.elf_records.specs.Fields.{splice};
+ghost use Rattle.elf_records.specs.FieldLaws.{IsReadAt};
 ghost use Rattle.elf_records.specs.Records.{header_at, header_bytes, IsElf};
 
 use crate::field::{fits, put_bytes, put_u16, put_u32, put_u64, u16_at, u32_at, u64_at};

@@ -1,7 +1,8 @@
 //! Program headers (gABI, "Program Header").
 
 ghost use Rattle.std.specs.Prelude.{◌≡◌, ◌+◌, ◌≤◌, length, take, drop};
-ghost use Rattle.elf_records.specs.Fields.{IsReadAt, splice};
+ghost use Rattle.elf_records.specs.Fields.{splice};
+ghost use Rattle.elf_records.specs.FieldLaws.{IsReadAt};
 ghost use Rattle.elf_records.specs.Records.{segment_at, segment_bytes};
 
 use crate::field::{fits, put_u32, put_u64, u32_at, u64_at};

@@ -1,7 +1,8 @@
 //! Relocation entries with an addend (gABI, "Relocation").
 
 ghost use Rattle.std.specs.Prelude.{◌≡◌, ◌+◌, ◌*◌, ◌^◌, ◌≤◌, ◌↔◌, IsTrue, length, take, drop};
-ghost use Rattle.elf_records.specs.Fields.{IsReadAt, splice};
+ghost use Rattle.elf_records.specs.Fields.{splice};
+ghost use Rattle.elf_records.specs.FieldLaws.{IsReadAt};
 ghost use Rattle.elf_records.specs.Records.{rela_at, rela_bytes, rela_kind, rela_symbol};
 ghost use Rattle.elf_records.specs.Relocations.{relocation_kind, width_of};
 

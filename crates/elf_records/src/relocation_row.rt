@@ -2,9 +2,12 @@
 //! Types"; for thread-local storage: Drepper, "ELF Handling For Thread-Local Storage", section 4).
 
 ghost use Rattle.std.specs.Prelude.{◌≡◌, ◌↔◌, IsTrue};
-ghost use Rattle.elf_records.specs.RelocationRows.{row, form_width, is_absolute, is_address_kind, is_distance};
-ghost use Rattle.elf_records.specs.RelocationRows.{is_of_sequence, is_offset, is_tls_kind, has_value, may_import};
-ghost use Rattle.elf_records.specs.RelocationRows.{names_symbol, reaches_entry};
+ghost use Rattle.elf_records.specs.RelocationRows.{row, form_width, is_absolute, is_address_kind};
+ghost use Rattle.elf_records.specs.RowLaws.{is_distance};
+ghost use Rattle.elf_records.specs.RelocationRows.{is_offset, is_tls_kind, has_value, may_import};
+ghost use Rattle.elf_records.specs.RowLaws.{is_of_sequence};
+ghost use Rattle.elf_records.specs.RelocationRows.{names_symbol};
+ghost use Rattle.elf_records.specs.RowLaws.{reaches_entry};
 ghost use Rattle.elf_records.specs.Relocations.{field_width, IsOfCode};
 
 use crate::relocation::RelocationKind;

@@ -1,7 +1,8 @@
 //! Section headers (gABI, "Sections").
 
 ghost use Rattle.std.specs.Prelude.{◌≡◌, ◌+◌, ◌*◌, ◌≤◌, ◌↔◌, IsTrue, length, take, drop};
-ghost use Rattle.elf_records.specs.Fields.{IsReadAt, splice};
+ghost use Rattle.elf_records.specs.Fields.{splice};
+ghost use Rattle.elf_records.specs.FieldLaws.{IsReadAt};
 ghost use Rattle.elf_records.specs.Records.{section_at, section_bytes, HasBytes};
 
 use crate::field::{fits, put_u32, put_u64, u32_at, u64_at};

@@ -1,7 +1,8 @@
 //! Symbol table entries (gABI, "Symbol Table").
 
 ghost use Rattle.std.specs.Prelude.{◌≡◌, ◌+◌, ◌*◌, ◌<◌, ◌≤◌, length, take, drop};
-ghost use Rattle.elf_records.specs.Fields.{IsReadAt, splice};
+ghost use Rattle.elf_records.specs.Fields.{splice};
+ghost use Rattle.elf_records.specs.FieldLaws.{IsReadAt};
 ghost use Rattle.elf_records.specs.Records.{symbol_at, symbol_binding, symbol_bytes, symbol_kind, symbol_visibility};
 ghost use Rattle.elf_records.specs.Symbols.{binding_number, binding_numbered, is_tls, is_visible, type_number};
 ghost use Rattle.elf_records.specs.Symbols.{type_numbered, visibility_number, visibility_numbered};

@@ -10,10 +10,12 @@ range_more a zero = let same : a ≡ a + 0 = omega arith in ap (λ k. k ∷ []) 
 range_more a (suc n) =
     let next : suc n + 1 ≡ suc (n + 1) = omega arith in
     let last : a + 1 + n ≡ a + suc n = omega arith in
-    ap (range_with_len a) next ∙ ap (λ ks. a ∷ ks) (range_more (a + 1) n ∙ ap (λ k. range_with_len (a + 1) n ++ k ∷ []) last)
+    ap (range_with_len a) next
+    ∙ ap (λ ks. a ∷ ks) (range_more (a + 1) n ∙ ap (λ k. range_with_len (a + 1) n ++ k ∷ []) last)
 
 -- what is appended for the number behind n
-pub line_more : (f : ℕ → List ℕ) (start before after line : List ℕ) (n : ℕ) → before ≡ start ++ flat_map f (range_with_len 1 n)
+pub line_more : (f : ℕ → List ℕ) (start before after line : List ℕ) (n : ℕ)
+    → before ≡ start ++ flat_map f (range_with_len 1 n)
     → after ≡ before ++ line → line ≡ f (n + 1) → after ≡ start ++ flat_map f (range_with_len 1 (n + 1))
 line_more f start before after line n b a l =
     let next : n + 1 ≡ 1 + n = omega arith in

@@ -1,5 +1,6 @@
 -- The objects of the job, as the code draws them.
-use Rattle.std.proofs.Common.{◌≡◌, ℕ, ◌+◌, ◌<◌, ◌≤◌, ◌^◌, ◌%◌, ◌==◌, Bool, true, false, cond, List, map, [], ◌∷◌, ◌++◌, length, refl, sym, ap, ◌∙◌, arith, codes, length-append}
+use Rattle.std.proofs.Common.{◌≡◌, ℕ, ◌+◌, ◌<◌, ◌≤◌, ◌^◌, ◌%◌, ◌==◌, Bool, true, false, cond, List, map, [], ◌∷◌, ◌++◌}
+use Rattle.std.proofs.Common.{length, refl, sym, ap, ◌∙◌, arith, codes, length-append}
 use Rattle.std.specs.Fmt.{decimal}
 use Rattle.std.specs.List.{range_with_len}
 use Rattle.std.proofs.lemmas.List.FromFn.{map-range_with_len_more}
@@ -11,15 +12,17 @@ use Rattle.generated_job.specs.declared.access.Access.{Access}
 use Rattle.generated_job.specs.declared.access.Access.TheVariants as access
 use Rattle.generated_job.specs.Accesses.{access_of, calls_of, code_of, entries_of, shape_with}
 use Rattle.generated_job.specs.Drafts.{IsShort}
-use Rattle.generated_job.specs.Generated.{function_name, general_shape, generated_files, initial_executable_shape, local_shape}
+use Rattle.generated_job.specs.Generated.{function_name, general_shape, generated_files, initial_executable_shape}
+use Rattle.generated_job.specs.Generated.{local_shape}
 use Rattle.generated_job.specs.Generated.{module_shape, object_name, shape_by, shape_of, value_of, variable_name}
 use Rattle.generated_job.specs.Shapes.{object_bytes}
 
 -- the form of an object, by what its number leaves
 by_form : (n i : ℕ) (one two : Bool)
     → shape_by (code_of (cond one access.GeneralDynamic (cond two access.InitialExecutable access.LocalDynamic)))
-        (entries_of (cond one access.GeneralDynamic (cond two access.InitialExecutable access.LocalDynamic)))
-        (calls_of (cond one access.GeneralDynamic (cond two access.InitialExecutable access.LocalDynamic))) i (value_of n i)
+    (entries_of (cond one access.GeneralDynamic (cond two access.InitialExecutable access.LocalDynamic)))
+    (calls_of (cond one access.GeneralDynamic (cond two access.InitialExecutable access.LocalDynamic))) i
+    (value_of n i)
     ≡ cond one (general_shape n i) (cond two (initial_executable_shape n i) (local_shape n i))
 by_form n i true two = refl
 by_form n i false true = refl
@@ -80,14 +83,25 @@ module_short = record {
 }
 
 -- parts that are those of a shape make it
-pub shape_made : (i v : ℕ) (f x c b : List ℕ) (r : List Rela) (k : Bool) → f ≡ function_name i → x ≡ variable_name i → c ≡ code_of (access_of i)
+pub shape_made : (i v : ℕ) (f x c b : List ℕ) (r : List Rela) (k : Bool) → f ≡ function_name i → x ≡ variable_name i
+    → c ≡ code_of (access_of i)
     → r ≡ entries_of (access_of i) → b ≡ bytes_of 4 v → k ≡ calls_of (access_of i)
-    → record { function = f; variable = x; code = c; relocations = r; initial = b; zeros = 0; calls = k } ≡ shape_with i v
+    → record { function = f; variable = x; code = c; relocations = r; initial = b; zeros = 0; calls = k }
+    ≡ shape_with i v
 shape_made i v f x c b r k ef ex ec er eb ek = rw (ef, ex, ec, er, eb, ek) refl
 
-pub module_made : (c : List ℕ) (r : List Rela) (k : Bool) → c ≡ code_of access.GeneralDynamicWrite → r ≡ entries_of access.GeneralDynamicWrite
+pub module_made : (c : List ℕ) (r : List Rela) (k : Bool) → c ≡ code_of access.GeneralDynamicWrite
+    → r ≡ entries_of access.GeneralDynamicWrite
     → k ≡ calls_of access.GeneralDynamicWrite
-    → record { function = codes "f"; variable = codes "v"; code = c; relocations = r; initial = 5 ∷ 0 ∷ 0 ∷ 0 ∷ []; zeros = 4; calls = k } ≡ module_shape
+    → record {
+      function = codes "f";
+      variable = codes "v";
+      code = c;
+      relocations = r;
+      initial = 5 ∷ 0 ∷ 0 ∷ 0 ∷ [];
+      zeros = 4;
+      calls = k;
+    } ≡ module_shape
 unfolding module_shape
 module_made c r k ec er ek = rw (ec, er, ek) refl
 
@@ -104,7 +118,8 @@ Pair = List ℕ × List ℕ
 
 -- one object more
 pub files_more : (n k v : ℕ) (before after : List Pair) (file : Pair) → before ≡ map (file_of n) (range_with_len 1 k)
-    → after ≡ before ++ file ∷ [] → file ≡ (object_name (k + 1), object_bytes (shape_with (k + 1) v)) → v ≡ value_of n (k + 1)
+    → after ≡ before ++ file ∷ [] → file ≡ (object_name (k + 1), object_bytes (shape_with (k + 1) v))
+    → v ≡ value_of n (k + 1)
     → after ≡ map (file_of n) (range_with_len 1 (k + 1))
 files_more n k v before after file b a f e =
     let next : 1 + k ≡ k + 1 = omega arith in
@@ -114,7 +129,8 @@ files_more n k v before after file b a f e =
     ∙ sym (map-range_with_len_more (file_of n) 1 k (k + 1) next)
 
 -- behind them that of the module
-pub files_known : (n k : ℕ) (before after : List Pair) (file : Pair) → k ≡ n → before ≡ map (file_of n) (range_with_len 1 k)
+pub files_known : (n k : ℕ) (before after : List Pair) (file : Pair) → k ≡ n
+    → before ≡ map (file_of n) (range_with_len 1 k)
     → after ≡ before ++ file ∷ [] → file ≡ (codes "p.o", object_bytes module_shape) → after ≡ generated_files n
 unfolding generated_files
 files_known n k before after file e b a f = rw (a, b, f, e) refl

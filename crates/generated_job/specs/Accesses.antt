@@ -4,7 +4,8 @@ use Rattle.elf_records.specs.declared.relocation.Rela.{Rela}
 use Rattle.generated_job.specs.declared.access.Access.{Access}
 use Rattle.generated_job.specs.declared.access.Access.TheVariants as access
 use Rattle.generated_job.specs.Generated.{shape_by}
-use Rattle.generated_job.specs.Generated.{general_code, general_entries, initial_executable_code, initial_executable_entries}
+use Rattle.generated_job.specs.Generated.{general_code, general_entries, initial_executable_code}
+use Rattle.generated_job.specs.Generated.{initial_executable_entries}
 use Rattle.generated_job.specs.Generated.{local_code, local_entries, module_code, module_entries}
 use Rattle.generated_job.specs.Shapes.{Shape}
 

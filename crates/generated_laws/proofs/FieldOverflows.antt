@@ -46,7 +46,8 @@ module _ (l : Linking) (o : ℕ) (s : Shape) (reads : ReadsAs (object l o) s)
       → IsSomeAnd (slice_get (held_in (object l o) 2) e) (Overflowing l o (relocation_target (object l o) 2)) → ⊥
   unfolding held_in
   code_fit e is =
-      none_at (Overflowing l o 1) (map relocation_of s.relocations) (all_fit l o (map relocation_of s.relocations) fits) e
+      none_at (Overflowing l o 1) (map relocation_of s.relocations)
+      (all_fit l o (map relocation_of s.relocations) fits) e
       (rw (reads.target, reads.relocations_are) at is)
 
   -- entry e of section t

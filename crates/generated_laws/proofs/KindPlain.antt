@@ -1,6 +1,7 @@
 -- Shapes whose relocations name the variable, or the run time's function where they call it, and what a test of
 -- relocations tells of objects that read as such shapes.
-use Rattle.std.proofs.Common.{◌≡◌, ◌≢◌, ◌<◌, ◌≤◌, ◌⊎◌, ◌∙◌, ℕ, zero, suc, Bool, true, false, List, [], ◌∷◌, map, length, inl, inr, refl, sym, ap, subst}
+use Rattle.std.proofs.Common.{◌≡◌, ◌≢◌, ◌<◌, ◌≤◌, ◌⊎◌, ◌∙◌, ℕ, zero, suc, Bool, true, false, List, [], ◌∷◌, map, length}
+use Rattle.std.proofs.Common.{inl, inr, refl, sym, ap, subst}
 use Rattle.std.specs.List.{All}
 use Rattle.std.proofs.lemmas.Bool.{cases_eq}
 use Rattle.elf_object.specs.declared.relocation.Relocation.{Relocation}
@@ -41,7 +42,8 @@ pub record IsPlain (s : Shape) : Type 0 where
 nowhere_in : {X : Type 0} (P : X → Type 0) (test : X → Bool) (xs : List X) → All P xs → ((x : X) → P x → test x ≡ false)
     → (e : ℕ) → ChargedAt test xs e → ⊥
 nowhere_in P test [] all fails e passes = passes
-nowhere_in P test (x ∷ xs) all fails zero passes = impossible (sym passes ∙ fails x (first_all P x xs (x ∷ xs) refl all))
+nowhere_in P test (x ∷ xs) all fails zero passes =
+    impossible (sym passes ∙ fails x (first_all P x xs (x ∷ xs) refl all))
 nowhere_in P test (x ∷ xs) all fails (suc e) passes = nowhere_in P test xs (rest_all P x xs all) fails e passes
 
 module _ (b : List ℕ) (s : Shape) (reads : ReadsAs b s) where
@@ -74,17 +76,21 @@ pub record ReadAsShapes (objects : List (List ℕ)) (shape : ℕ → Shape) : Ty
 module _ (objects : List (List ℕ)) (shape : ℕ → Shape) (given : ReadAsShapes objects shape) where
   -- none is charged where what suits a shape fails the test
   pub none_charged : (test : Test)
-      → ((o : ℕ) → o < length objects → (r : Relocation) → Suits (shape o).calls r → test o r ≡ false) → NoneCharged test objects
+      → ((o : ℕ) → o < length objects → (r : Relocation) → Suits (shape o).calls r → test o r ≡ false)
+      → NoneCharged test objects
   none_charged test fails = record {
     nowhere = λ o s e here.
-        none_held (object_at objects o) (shape o) (given.reads o here.0) (Suits (shape o).calls) (test o) (given.plain o here.0).suits
+        none_held (object_at objects o) (shape o) (given.reads o here.0) (Suits (shape o).calls) (test o)
+        (given.plain o here.0).suits
         (fails o here.0) s e here.3;
   }
 
   -- nor where what is welcome does
-  pub none_unwelcome : (test : Test) → ((o : ℕ) (r : Relocation) → IsWelcome r → test o r ≡ false) → NoneCharged test objects
+  pub none_unwelcome : (test : Test) → ((o : ℕ) (r : Relocation) → IsWelcome r → test o r ≡ false)
+      → NoneCharged test objects
   none_unwelcome test fails = record {
     nowhere = λ o s e here.
-        none_held (object_at objects o) (shape o) (given.reads o here.0) IsWelcome (test o) (given.plain o here.0).welcome
+        none_held (object_at objects o) (shape o) (given.reads o here.0) IsWelcome (test o)
+        (given.plain o here.0).welcome
         (fails o) s e here.3;
   }

@@ -9,7 +9,8 @@ use Rattle.elf_object.specs.declared.relocation.Relocation.{Relocation}
 use Rattle.elf_records.specs.Laws.{length-bytes_of}
 use Rattle.elf_records.specs.Symbols.{get_address}
 use Rattle.dynamic_symbols.proofs.Lists.{all_cons, all_nil}
-use Rattle.generated_job.specs.Generated.{function_name, general_shape, initial_executable_shape, local_shape, module_shape, shape_of, value_of, variable_name}
+use Rattle.generated_job.specs.Generated.{function_name, general_shape, initial_executable_shape, local_shape}
+use Rattle.generated_job.specs.Generated.{module_shape, shape_of, value_of, variable_name}
 use Rattle.generated_laws.proofs.KindPlain.{IsPlain, IsWelcome, Suits}
 
 all_one : (P : Relocation → Type 0) (x : Relocation) → P x → All P (x ∷ [])
@@ -25,21 +26,25 @@ all_three P x y z here next last = all_cons P x (y ∷ z ∷ []) here (all_two P
 
 function_short : (i : ℕ) → i ≤ 1000 → length (function_name i) ≤ 5
 unfolding function_name
-function_short i few = let digits = length-decimal-le 4 i (omega arith) (omega (arith, few)) (omega (arith, few)) in omega (arith, digits)
+function_short i few = let digits = length-decimal-le 4 i (omega arith) (omega (arith, few)) (omega (arith, few)) in
+    omega (arith, digits)
 
 variable_short : (i : ℕ) → i ≤ 1000 → length (variable_name i) ≤ 5
 unfolding variable_name
-variable_short i few = let digits = length-decimal-le 4 i (omega arith) (omega (arith, few)) (omega (arith, few)) in omega (arith, digits)
+variable_short i few = let digits = length-decimal-le 4 i (omega arith) (omega (arith, few)) (omega (arith, few)) in
+    omega (arith, digits)
 
 pub functions_apart : (i j : ℕ) → i ≤ 1000 → j ≤ 1000 → function_name i ≡ function_name j → i ≡ j
 unfolding function_name
 functions_apart i j low high e =
-    decimal_injective i j (omega (arith, low)) (omega (arith, high)) (append_cancel_left (codes "f") (decimal i) (decimal j) e)
+    decimal_injective i j (omega (arith, low)) (omega (arith, high))
+    (append_cancel_left (codes "f") (decimal i) (decimal j) e)
 
 pub variables_apart : (i j : ℕ) → i ≤ 1000 → j ≤ 1000 → variable_name i ≡ variable_name j → i ≡ j
 unfolding variable_name
 variables_apart i j low high e =
-    decimal_injective i j (omega (arith, low)) (omega (arith, high)) (append_cancel_left (codes "x") (decimal i) (decimal j) e)
+    decimal_injective i j (omega (arith, low)) (omega (arith, high))
+    (append_cancel_left (codes "x") (decimal i) (decimal j) e)
 
 -- they differ in their first bytes
 pub kinds_apart : (i j : ℕ) → function_name i ≢ variable_name j
@@ -93,7 +98,8 @@ pub shape_plain : (n i : ℕ) → i ≤ 1000 → IsPlain (shape_of n i)
 unfolding shape_of
 shape_plain n i few = by (i % 3 == 1) (i % 3 == 2)
   where
-    by : (t u : Bool) → IsPlain (if t then general_shape n i else (if u then initial_executable_shape n i else local_shape n i))
+    by : (t u : Bool) → IsPlain
+        (if t then general_shape n i else (if u then initial_executable_shape n i else local_shape n i))
     by true u = general_plain n i few
     by false true = initial_executable_plain n i few
     by false false = local_plain n i few
@@ -103,7 +109,8 @@ unfolding shape_of
 function_of_shape n i = by (i % 3 == 1) (i % 3 == 2)
   where
     by : (t u : Bool)
-        → (if t then general_shape n i else (if u then initial_executable_shape n i else local_shape n i)).function ≡ function_name i
+        → (if t then general_shape n i else (if u then initial_executable_shape n i else local_shape n i)).function
+        ≡ function_name i
     by true u = refl
     by false true = refl
     by false false = refl
@@ -113,7 +120,8 @@ unfolding shape_of
 variable_of_shape n i = by (i % 3 == 1) (i % 3 == 2)
   where
     by : (t u : Bool)
-        → (if t then general_shape n i else (if u then initial_executable_shape n i else local_shape n i)).variable ≡ variable_name i
+        → (if t then general_shape n i else (if u then initial_executable_shape n i else local_shape n i)).variable
+        ≡ variable_name i
     by true u = refl
     by false true = refl
     by false false = refl

@@ -1,5 +1,6 @@
 -- What names are bound to, where each object reads as a shape and no two names are the same.
-use Rattle.std.proofs.Common.{◌≡◌, ◌≢◌, ◌+◌, ◌<◌, ◌∙◌, ℕ, zero, suc, true, false, List, [], ◌∷◌, Some, None, length, refl, sym, ap, arith}
+use Rattle.std.proofs.Common.{◌≡◌, ◌≢◌, ◌+◌, ◌<◌, ◌∙◌, ℕ, zero, suc, true, false, List, [], ◌∷◌, Some, None, length}
+use Rattle.std.proofs.Common.{refl, sym, ap, arith}
 use Rattle.std.specs.Prelude.{slice_index_or}
 use Rattle.std.specs.Str.{bytes_eq}
 use Rattle.std.proofs.lemmas.Bool.{false_from_ne_true}
@@ -38,23 +39,31 @@ first_from_at binding name (b ∷ more) o zero e h here earlier =
 first_from_at binding name (b ∷ more) o (suc k) e h here earlier =
     let same : o + 1 + k ≡ o + suc k = omega arith in
     rw (earlier 0 (omega arith))
-    (first_from_at binding name more (o + 1) k e (omega (arith, h)) here (λ j less. earlier (suc j) (omega (arith, less)))
+    (first_from_at binding name more (o + 1) k e (omega (arith, h)) here
+    (λ j less. earlier (suc j) (omega (arith, less)))
     ∙ ap (λ p. Some (record { object = p; symbol = e })) same)
 
-module _ (objects : List (List ℕ)) (shape : ℕ → Shape) (given : ReadAsShapes objects shape) (apart : AreApart objects shape) where
+module _ (objects : List (List ℕ)) (shape : ℕ → Shape) (given : ReadAsShapes objects shape)
+    (apart : AreApart objects shape) where
   symbols_at : (o : ℕ) → o < length objects → HasSymbols (object_at objects o) (shape o)
   symbols_at o there = symbols_are (object_at objects o) (shape o) (given.reads o there)
 
-  strong_at : (o : ℕ) → o < length objects → (name : List ℕ) → first_in Global name (object_at objects o) ≡ defined_by (shape o) name
+  strong_at : (o : ℕ) → o < length objects → (name : List ℕ)
+      → first_in Global name (object_at objects o) ≡ defined_by (shape o) name
   strong_at o there name = strong_in (object_at objects o) (shape o) (given.reads o there) name
 
-  neither : (o : ℕ) (name : List ℕ) → name ≢ (shape o).function → name ≢ (shape o).variable → defined_by (shape o) name ≡ None
-  neither o name other another = rw (differs name (shape o).function other, differs name (shape o).variable another) refl
+  neither : (o : ℕ) (name : List ℕ) → name ≢ (shape o).function → name ≢ (shape o).variable
+      → defined_by (shape o) name ≡ None
+  neither o name other another =
+      rw (differs name (shape o).function other, differs name (shape o).variable another) refl
 
   -- each name is bound to the symbol that has it
-  pub function_definition : (o : ℕ) → o < length objects → definition_of objects (shape o).function ≡ Some (record { object = o; symbol = 1 })
+  pub function_definition : (o : ℕ) → o < length objects
+      → definition_of objects (shape o).function ≡ Some (record { object = o; symbol = 1 })
   unfolding definition_of
-  function_definition o there = rw (first_from_at Global name objects 0 o 1 there here earlier) (ap (λ p. Some (record { object = p; symbol = 1 })) same)
+  function_definition o there =
+      rw (first_from_at Global name objects 0 o 1 there here earlier)
+      (ap (λ p. Some (record { object = p; symbol = 1 })) same)
     where
       name : List ℕ
       name = (shape o).function
@@ -72,9 +81,12 @@ module _ (objects : List (List ℕ)) (shape : ℕ → Shape) (given : ReadAsShap
           ∙ neither j name (λ e. (let is : o ≡ j = apart.functions o j there within e in omega (arith, is, less)))
           (apart.mixed o j there within)
 
-  pub variable_definition : (o : ℕ) → o < length objects → definition_of objects (shape o).variable ≡ Some (record { object = o; symbol = 2 })
+  pub variable_definition : (o : ℕ) → o < length objects
+      → definition_of objects (shape o).variable ≡ Some (record { object = o; symbol = 2 })
   unfolding definition_of
-  variable_definition o there = rw (first_from_at Global name objects 0 o 2 there here earlier) (ap (λ p. Some (record { object = p; symbol = 2 })) same)
+  variable_definition o there =
+      rw (first_from_at Global name objects 0 o 2 there here earlier)
+      (ap (λ p. Some (record { object = p; symbol = 2 })) same)
     where
       name : List ℕ
       name = (shape o).variable
@@ -83,7 +95,8 @@ module _ (objects : List (List ℕ)) (shape : ℕ → Shape) (given : ReadAsShap
       same = omega arith
 
       here : first_in Global name (object_at objects o) ≡ Some 2
-      here = strong_at o there name ∙ (rw (differs name (shape o).function (λ e. apart.mixed o o there there (sym e)), same_name name) refl)
+      here = strong_at o there name
+          ∙ (rw (differs name (shape o).function (λ e. apart.mixed o o there there (sym e)), same_name name) refl)
 
       earlier : (j : ℕ) → j < o → first_in Global name (object_at objects j) ≡ None
       earlier j less =
@@ -99,7 +112,13 @@ module _ (objects : List (List ℕ)) (shape : ℕ → Shape) (given : ReadAsShap
     unfolding bound_to
     variable_bound o r there is =
         let own = symbols_at o there in
-        rw (is, own.variable_binding, own.variable_name, differs (shape o).variable get_address (apart.variable_named o there), variable_definition o there) refl
+        rw (
+          is,
+          own.variable_binding,
+          own.variable_name,
+          differs (shape o).variable get_address (apart.variable_named o there),
+          variable_definition o there,
+        ) refl
 
     pub getter_bound : (o : ℕ) (r : Relocation) → o < length objects → r.symbol ≡ 3 → (shape o).calls ≡ true
         → binding_of objects startup o r ≡ Some Runtime

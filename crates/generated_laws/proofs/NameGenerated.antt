@@ -1,5 +1,6 @@
 -- Generated objects: their names are resolved, no kind of image refuses their relocations, and these and the names are few.
-use Rattle.std.proofs.Common.{◌≡◌, ◌+◌, ◌^◌, ◌<◌, ◌≤◌, ◌∙◌, ℕ, zero, suc, List, [], ◌∷◌, length, refl, sym, subst, arith}
+use Rattle.std.proofs.Common.{◌≡◌, ◌+◌, ◌^◌, ◌<◌, ◌≤◌, ◌∙◌, ℕ, zero, suc, List, [], ◌∷◌, length, refl, sym, subst}
+use Rattle.std.proofs.Common.{arith}
 use Rattle.std.specs.Prelude.{slice_index_or}
 use Rattle.std.proofs.lemmas.List.FromFn.{get_or-map-range_with_len, length-map-range_with_len}
 use Rattle.link_faults.specs.declared.image_kind.ImageKind.{ImageKind}
@@ -18,7 +19,10 @@ use Rattle.generated_laws.specs.Linked.{program_objects}
 use Rattle.generated_laws.specs.Reading.{ReadsAs}
 use Rattle.generated_laws.proofs.KindFits.{few_relocations, fits_kind, fits_storage}
 use Rattle.generated_laws.proofs.KindPlain.{ReadAsShapes}
-use Rattle.generated_laws.proofs.KindShapes.{function_named, function_of_shape, functions_apart, kinds_apart, module_function_named, module_names_apart, module_plain, module_variable_named, shape_plain, variable_named, variable_of_shape, variables_apart}
+use Rattle.generated_laws.proofs.KindShapes.{function_named, function_of_shape, functions_apart, kinds_apart}
+use Rattle.generated_laws.proofs.KindShapes.{module_function_named, module_names_apart, module_plain}
+use Rattle.generated_laws.proofs.KindShapes.{module_variable_named, shape_plain, variable_named, variable_of_shape}
+use Rattle.generated_laws.proofs.KindShapes.{variables_apart}
 use Rattle.generated_laws.proofs.KindStorage.{has_storage}
 use Rattle.generated_laws.proofs.NameDefinitions.{AreApart, variable_bound}
 use Rattle.std.proofs.Common.{Some}
@@ -48,9 +52,11 @@ module _ (n : ℕ) (few : n ≤ 1000) (reads : ProgramReads n) where
   pub program_count : length (program_objects n) ≡ n
   program_count = length-map-range_with_len (λ i. object_bytes (shape_of n i)) 1 n
 
-  object_is : (o : ℕ) → o < length (program_objects n) → object_at (program_objects n) o ≡ object_bytes (shape_of n (1 + o))
+  object_is : (o : ℕ) → o < length (program_objects n)
+      → object_at (program_objects n) o ≡ object_bytes (shape_of n (1 + o))
   object_is o there =
-      get_or-map-range_with_len (λ i. object_bytes (shape_of n i)) 1 n o (1 + o) [] (omega (arith, there, program_count)) refl
+      get_or-map-range_with_len (λ i. object_bytes (shape_of n i)) 1 n o (1 + o) []
+      (omega (arith, there, program_count)) refl
 
   given : ReadAsShapes (program_objects n) shape
   unfolding shape
@@ -66,12 +72,14 @@ module _ (n : ℕ) (few : n ≤ 1000) (reads : ProgramReads n) where
   apart = record {
     functions = λ o p there here e.
         (let same : 1 + o ≡ 1 + p =
-        functions_apart (1 + o) (1 + p) (omega (arith, there, program_count, few)) (omega (arith, here, program_count, few))
+        functions_apart (1 + o) (1 + p) (omega (arith, there, program_count, few))
+        (omega (arith, here, program_count, few))
         (sym (function_of_shape n (1 + o)) ∙ e ∙ function_of_shape n (1 + p)) in
         omega (arith, same));
     variables = λ o p there here e.
         (let same : 1 + o ≡ 1 + p =
-        variables_apart (1 + o) (1 + p) (omega (arith, there, program_count, few)) (omega (arith, here, program_count, few))
+        variables_apart (1 + o) (1 + p) (omega (arith, there, program_count, few))
+        (omega (arith, here, program_count, few))
         (sym (variable_of_shape n (1 + o)) ∙ e ∙ variable_of_shape n (1 + p)) in
         omega (arith, same));
     mixed = λ o p there here e.
@@ -101,15 +109,19 @@ module _ (n : ℕ) (few : n ≤ 1000) (reads : ProgramReads n) where
   pub program_few : relocation_count (program_objects n) ≤ 2 ^ 19
   program_few = omega (arith, few_relocations (program_objects n) shape given, program_count, few)
 
-  pub program_imports : (startup : List (List (List ℕ))) (sites : List (List Site)) → length sites ≡ length (program_objects n)
+  pub program_imports : (startup : List (List (List ℕ))) (sites : List (List Site))
+      → length sites ≡ length (program_objects n)
       → HasItsSites (program_objects n) sites → imports (program_objects n) startup sites ≡ []
   program_imports startup sites each are = no_imports (program_objects n) shape given apart startup sites each are
 
-  pub program_short : (startup : List (List (List ℕ))) (sites : List (List Site)) → length sites ≡ length (program_objects n)
+  pub program_short : (startup : List (List (List ℕ))) (sites : List (List Site))
+      → length sites ≡ length (program_objects n)
       → HasItsSites (program_objects n) sites
-      → name_size (program_objects n) (defined_symbols (program_objects n)) (imports (program_objects n) startup sites) ≤ 2 ^ 22
+      → name_size (program_objects n) (defined_symbols (program_objects n))
+      (imports (program_objects n) startup sites) ≤ 2 ^ 22
   program_short startup sites each are =
-      let short = names_fit (program_objects n) shape given (imports (program_objects n) startup sites) (program_imports startup sites each are) in
+      let short = names_fit (program_objects n) shape given (imports (program_objects n) startup sites)
+      (program_imports startup sites each are) in
       omega (arith, short, program_count, few)
 
 -- ** the module
@@ -142,7 +154,8 @@ module _ (reads : ModuleReads) where
 
   pub module_fits_storage : (startup : List (List (List ℕ))) (image : ImageKind) (size : ℕ) → 0 < size
       → FitsStorage module_objects startup image size
-  module_fits_storage startup image size some = fits_storage module_objects (λ o. module_shape) module_given startup image size some
+  module_fits_storage startup image size some =
+      fits_storage module_objects (λ o. module_shape) module_given startup image size some
 
   pub module_has_storage : 0 < tls_size (all_sections module_objects)
   module_has_storage = has_storage module_objects (λ o. module_shape) module_given (omega arith)
@@ -150,13 +163,16 @@ module _ (reads : ModuleReads) where
   pub module_few : relocation_count module_objects ≤ 2 ^ 19
   module_few = let few = few_relocations module_objects (λ o. module_shape) module_given in omega (arith, few)
 
-  pub module_imports : (startup : List (List (List ℕ))) (sites : List (List Site)) → length sites ≡ length module_objects
+  pub module_imports : (startup : List (List (List ℕ))) (sites : List (List Site))
+      → length sites ≡ length module_objects
       → HasItsSites module_objects sites → imports module_objects startup sites ≡ []
-  module_imports startup sites each are = no_imports module_objects (λ o. module_shape) module_given module_apart startup sites each are
+  module_imports startup sites each are =
+      no_imports module_objects (λ o. module_shape) module_given module_apart startup sites each are
 
   pub module_short : (startup : List (List (List ℕ))) (sites : List (List Site)) → length sites ≡ length module_objects
       → HasItsSites module_objects sites
       → name_size module_objects (defined_symbols module_objects) (imports module_objects startup sites) ≤ 2 ^ 22
   module_short startup sites each are =
-      let short = names_fit module_objects (λ o. module_shape) module_given (imports module_objects startup sites) (module_imports startup sites each are) in
+      let short = names_fit module_objects (λ o. module_shape) module_given (imports module_objects startup sites)
+      (module_imports startup sites each are) in
       omega (arith, short)

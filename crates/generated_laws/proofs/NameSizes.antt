@@ -1,5 +1,6 @@
 -- How much room the names of objects take that read as plain shapes.
-use Rattle.std.proofs.Common.{◌≡◌, ◌+◌, ◌-◌, ◌*◌, ◌<◌, ◌≤◌, ◌∙◌, ℕ, zero, suc, Bool, true, false, cond, List, [], ◌∷◌, map, not, Some, filter, length, inl, inr, refl, sym, subst, ap, arith}
+use Rattle.std.proofs.Common.{◌≡◌, ◌+◌, ◌-◌, ◌*◌, ◌<◌, ◌≤◌, ◌∙◌, ℕ, zero, suc, Bool, true, false, cond, List, [], ◌∷◌}
+use Rattle.std.proofs.Common.{map, not, Some, filter, length, inl, inr, refl, sym, subst, ap, arith}
 use Rattle.std.specs.Prelude.{slice_get, slice_index_or, sum_by}
 use Rattle.std.specs.List.{All, flat_map, range_with_len}
 use Rattle.std.specs.Str.{bytes_eq}
@@ -26,10 +27,12 @@ use Rattle.tls_symbols.specs.Definitions.{flat_map_from}
 
 -- ** what an object defines
 
-two_names : (f : ℕ → List (List ℕ)) (x y : List ℕ) → f 1 ≡ x ∷ [] → f 2 ≡ y ∷ [] → flat_map f (range_with_len 1 2) ≡ x ∷ y ∷ []
+two_names : (f : ℕ → List (List ℕ)) (x y : List ℕ) → f 1 ≡ x ∷ [] → f 2 ≡ y ∷ []
+    → flat_map f (range_with_len 1 2) ≡ x ∷ y ∷ []
 two_names f x y first second = rw (first, second) refl
 
-three_names : (f : ℕ → List (List ℕ)) (x y : List ℕ) → f 1 ≡ x ∷ [] → f 2 ≡ y ∷ [] → f 3 ≡ [] → flat_map f (range_with_len 1 3) ≡ x ∷ y ∷ []
+three_names : (f : ℕ → List (List ℕ)) (x y : List ℕ) → f 1 ≡ x ∷ [] → f 2 ≡ y ∷ [] → f 3 ≡ []
+    → flat_map f (range_with_len 1 3) ≡ x ∷ y ∷ []
 three_names f x y first second third = rw (first, second, third) refl
 
 defined_in_is : (b : List ℕ) (s : Shape) → ReadsAs b s → defined_in b ≡ s.function ∷ s.variable ∷ []
@@ -48,7 +51,8 @@ defined_in_is b s reads = by s.calls refl
     getter_elsewhere : HasGetter b → defined_at b 3 ≡ []
     getter_elsewhere getter = rw (getter.binding, getter.place) refl
 
-    by : (t : Bool) → s.calls ≡ t → flat_map (defined_at b) (range_with_len 1 (symbol_count b - 1)) ≡ s.function ∷ s.variable ∷ []
+    by : (t : Bool) → s.calls ≡ t
+        → flat_map (defined_at b) (range_with_len 1 (symbol_count b - 1)) ≡ s.function ∷ s.variable ∷ []
     by true calls =
         let getter = has.getter calls in
         ap (λ n. flat_map (defined_at b) (range_with_len 1 (n - 1))) getter.count
@@ -68,7 +72,8 @@ sum_of_filter : {X : Type 0} (f : X → ℕ) (p : X → Bool) (xs : List X) → 
 sum_of_filter f p [] = omega arith
 sum_of_filter f p (x ∷ xs) = by (p x) (sum_of_filter f p xs)
   where
-    by : (t : Bool) → sum_by f (filter p xs) ≤ sum_by f xs → sum_by f (cond t (x ∷ filter p xs) (filter p xs)) ≤ sum_by f (x ∷ xs)
+    by : (t : Bool) → sum_by f (filter p xs) ≤ sum_by f xs
+        → sum_by f (cond t (x ∷ filter p xs) (filter p xs)) ≤ sum_by f (x ∷ xs)
     by true rest = omega (arith, rest, sum_by-cons f x (filter p xs), sum_by-cons f x xs)
     by false rest = omega (arith, rest, sum_by-cons f x xs)
 
@@ -105,11 +110,13 @@ entry_suits P (y ∷ ys) all (suc e) x is = entry_suits P ys (rest_all P y ys al
 
 module _ (objects : List (List ℕ)) (shape : ℕ → Shape) (given : ReadAsShapes objects shape) where
   -- a relocation of an object, in whatever section, suits it
-  entry_is : (o : ℕ) → o < length objects → (t e : ℕ) (x : Relocation) → IsEntry (relocations (object_at objects o) t) e x → Suits (shape o).calls x
+  entry_is : (o : ℕ) → o < length objects → (t e : ℕ) (x : Relocation)
+      → IsEntry (relocations (object_at objects o) t) e x → Suits (shape o).calls x
   entry_is o there t e x is = elim (cases_eq t 1) [
     | inl same ↦
         entry_suits (Suits (shape o).calls) (map relocation_of (shape o).relocations) (given.plain o there).suits e x
-        (subst (λ xs. slice_get xs e ≡ Some x) (ap (relocations (object_at objects o)) same ∙ (given.reads o there).relocations_are) is)
+        (subst (λ xs. slice_get xs e ≡ Some x)
+        (ap (relocations (object_at objects o)) same ∙ (given.reads o there).relocations_are) is)
     | inr other ↦
         entry_suits (Suits (shape o).calls) [] (λ k d h. absurd (omega (arith, h))) e x
         (subst (λ xs. slice_get xs e ≡ Some x) ((given.reads o there).no_other t other) is)
@@ -119,34 +126,44 @@ module _ (objects : List (List ℕ)) (shape : ℕ → Shape) (given : ReadAsShap
     -- no site names what is bound to a startup image
     bound_here : (o : ℕ) → o < length objects → (x r : Relocation) → r.symbol ≡ x.symbol → Suits (shape o).calls x
         → is_startup (binding_of objects startup o r) ≡ false
-    bound_here o there x r same (inl own) = rw (variable_bound objects shape given apart startup o r there (same ∙ own.0)) refl
-    bound_here o there x r same (inr called) = rw (getter_bound objects shape given apart startup o r there (same ∙ called.0) called.1) refl
+    bound_here o there x r same (inl own) =
+        rw (variable_bound objects shape given apart startup o r there (same ∙ own.0)) refl
+    bound_here o there x r same (inr called) =
+        rw (getter_bound objects shape given apart startup o r there (same ∙ called.0) called.1) refl
 
-    site_imports_none : (o : ℕ) → o < length objects → (site : Site) → IsSite (object_at objects o) site → imported_at objects startup o site ≡ []
+    site_imports_none : (o : ℕ) → o < length objects → (site : Site) → IsSite (object_at objects o) site
+        → imported_at objects startup o site ≡ []
     site_imports_none o there site is =
         let first = is.1.first in
-        rw (bound_here o there first.0 (first_of site) first.3 (entry_is o there site.section is.0 first.0 first.1)) refl
+        rw (bound_here o there first.0 (first_of site) first.3
+        (entry_is o there site.section is.0 first.0 first.1)) refl
 
-    none_in : (o : ℕ) → o < length objects → (sites : List Site) → AreSites (object_at objects o) sites → imported_in objects startup o sites ≡ []
+    none_in : (o : ℕ) → o < length objects → (sites : List Site) → AreSites (object_at objects o) sites
+        → imported_in objects startup o sites ≡ []
     unfolding imported_in
     none_in o there sites are =
-        flat_none (imported_at objects startup o) sites (λ k d h. site_imports_none o there (slice_index_or sites k d) (are.only k d h))
+        flat_none (imported_at objects startup o) sites
+        (λ k d h. site_imports_none o there (slice_index_or sites k d) (are.only k d h))
 
-    none_from : (sites : List (List Site)) (o : ℕ) → ((k : ℕ) → k < length sites → imported_in objects startup (o + k) (slice_index_or sites k []) ≡ [])
+    none_from : (sites : List (List Site)) (o : ℕ)
+        → ((k : ℕ) → k < length sites → imported_in objects startup (o + k) (slice_index_or sites k []) ≡ [])
         → flat_map_from (imported_in objects startup) o sites ≡ []
     none_from [] o each = refl
     none_from (own ∷ more) o each =
         let same : o + 0 ≡ o = omega arith in
-        let here : imported_in objects startup o own ≡ [] = subst (λ p. imported_in objects startup p own ≡ []) same (each 0 (omega arith)) in
+        let here : imported_in objects startup o own ≡ [] =
+        subst (λ p. imported_in objects startup p own ≡ []) same (each 0 (omega arith)) in
         rw here
         (none_from more (o + 1)
         (λ k h.
         (let next : o + suc k ≡ o + 1 + k = omega arith in
-        subst (λ p. imported_in objects startup p (slice_index_or more k []) ≡ []) next (each (suc k) (omega (arith, h))))))
+        subst (λ p. imported_in objects startup p (slice_index_or more k []) ≡ []) next
+        (each (suc k) (omega (arith, h))))))
 
     -- the image imports nothing
     pub no_imports : (sites : List (List Site)) → length sites ≡ length objects
-        → ((o : ℕ) → o < length objects → AreSites (object_at objects o) (slice_index_or sites o [])) → imports objects startup sites ≡ []
+        → ((o : ℕ) → o < length objects → AreSites (object_at objects o) (slice_index_or sites o []))
+        → imports objects startup sites ≡ []
     unfolding imports
     no_imports sites each are =
         ap distinct
@@ -161,22 +178,33 @@ module _ (objects : List (List ℕ)) (shape : ℕ → Shape) (given : ReadAsShap
   own_size : (o : ℕ) → o < length objects → sum_by size_of (defined_in (object_at objects o)) ≤ 60
   own_size o there =
       let s = shape o in
-      let is : sum_by size_of (defined_in (object_at objects o)) ≡ sum_by size_of (s.function ∷ s.variable ∷ []) = ap (sum_by size_of) (defined_in_is (object_at objects o) s (given.reads o there)) in
+      let is : sum_by size_of (defined_in (object_at objects o)) ≡ sum_by size_of (s.function ∷ s.variable ∷ []) =
+      ap (sum_by size_of) (defined_in_is (object_at objects o) s (given.reads o there)) in
       let plain = given.plain o there in
-      omega (arith, is, sum_by-cons size_of s.function (s.variable ∷ []), sum_by-cons size_of s.variable [], plain.short_function, plain.short_variable)
+      omega (
+        arith,
+        is,
+        sum_by-cons size_of s.function (s.variable ∷ []),
+        sum_by-cons size_of s.variable [],
+        plain.short_function,
+        plain.short_variable,
+      )
 
   defined_size : sum_by (λ found. size_of (name_of objects found)) (defined_symbols objects) ≤ length objects * 60
   unfolding defined_names
   defined_size =
-      let named : sum_by (λ found. size_of (name_of objects found)) (defined_symbols objects) ≡ sum_by size_of (defined_names objects) =
+      let named : sum_by (λ found. size_of (name_of objects found)) (defined_symbols objects)
+      ≡ sum_by size_of (defined_names objects) =
       sum_of_map size_of (name_of objects) (defined_symbols objects) ∙ ap (sum_by size_of) (symbols_named objects) in
       let once = sum_of_distinct size_of (flat_map defined_in objects) in
       let each = sum_of_flat size_of defined_in 60 objects
-      (λ k d there. subst (λ b. sum_by size_of (defined_in b) ≤ 60) (get_or_default objects k [] d there) (own_size k there)) in
+      (λ k d there. subst (λ b. sum_by size_of (defined_in b) ≤ 60) (get_or_default objects k [] d there)
+      (own_size k there)) in
       omega (arith, named, once, each)
 
   -- all that are defined and imported
-  pub names_fit : (imported : List (List ℕ)) → imported ≡ [] → name_size objects (defined_symbols objects) imported ≤ length objects * 60
+  pub names_fit : (imported : List (List ℕ)) → imported ≡ []
+      → name_size objects (defined_symbols objects) imported ≤ length objects * 60
   unfolding name_size
   names_fit imported none =
       let nothing : sum_by size_of imported ≡ 0 = ap (sum_by size_of) none in omega (arith, nothing, defined_size)

@@ -1,5 +1,6 @@
 -- What an object that reads as a shape defines.
-use Rattle.std.proofs.Common.{◌≡◌, ◌-◌, ◌<◌, ◌∙◌, ℕ, Bool, true, false, List, Option, Some, None, length, refl, ap, arith}
+use Rattle.std.proofs.Common.{◌≡◌, ◌-◌, ◌<◌, ◌∙◌, ℕ, Bool, true, false, List, Option, Some, None, length, refl, ap}
+use Rattle.std.proofs.Common.{arith}
 use Rattle.std.specs.Prelude.{if◌then◌else◌}
 use Rattle.std.specs.List.{find, range_with_len}
 use Rattle.std.specs.Str.{bytes_eq}
@@ -97,7 +98,8 @@ module _ (b : List ℕ) (s : Shape) (reads : ReadsAs b s) (name : List ℕ) wher
   first_of_three binding p q first second third = by s.calls refl
     where
       by : (t : Bool) → s.calls ≡ t
-          → find (defines b binding name) (range_with_len 1 (symbol_count b - 1)) ≡ (if p then Some 1 else (if q then Some 2 else None))
+          → find (defines b binding name) (range_with_len 1 (symbol_count b - 1))
+          ≡ (if p then Some 1 else (if q then Some 2 else None))
       by true calls =
           let getter = has.getter calls in
           ap (λ n. find (defines b binding name) (range_with_len 1 (n - 1))) getter.count
@@ -110,4 +112,5 @@ module _ (b : List ℕ) (s : Shape) (reads : ReadsAs b s) (name : List ℕ) wher
   strong_in =
       first_of_three Global (bytes_eq name s.function) (bytes_eq name s.variable)
       (rw (has.function_binding, has.function_place, has.function_name) refl)
-      (rw (has.variable_binding, has.variable_place, has.variable_name) refl) (λ getter. rw (getter.binding, getter.place) refl)
+      (rw (has.variable_binding, has.variable_place, has.variable_name) refl)
+      (λ getter. rw (getter.binding, getter.place) refl)

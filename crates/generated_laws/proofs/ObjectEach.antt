@@ -1,6 +1,7 @@
 -- What holds of the sections, the symbols and the relocations of a shape holds of all that an object of it has.
 use Rattle.std.proofs.Common.{◌≡◌, ◌+◌, ◌/◌, ◌<◌, ℕ, zero, suc, Bool, true, false, List, length}
-use Rattle.std.proofs.Common.{slice_index, slice_index_or, slice_range, take, drop, refl, sym, ap, subst, ◌∙◌, arith, ◌-◌}
+use Rattle.std.proofs.Common.{slice_index, slice_index_or, slice_range, take, drop, refl, sym, ap, subst, ◌∙◌, arith}
+use Rattle.std.proofs.Common.{◌-◌}
 use Rattle.std.proofs.lemmas.List.{get_or-take, get_or-drop}
 use Rattle.elf_records.specs.declared.relocation.Rela.{Rela}
 use Rattle.elf_records.specs.declared.section_header.SectionHeader.{SectionHeader}

@@ -7,7 +7,8 @@ use Rattle.std.specs.List.{All, AllByRecursion as ByRecursion, flat_map}
 use Rattle.elf_records.specs.declared.relocation.Rela.{Rela}
 use Rattle.elf_records.specs.declared.section_header.SectionHeader.{SectionHeader}
 use Rattle.elf_records.specs.declared.symbol.SymbolEntry.{SymbolEntry}
-use Rattle.elf_records.specs.Records.{FitsHeader, FitsSectionHeader, FitsSymbolEntry, FitsRela, section_at}
+use Rattle.elf_records.specs.Records.{section_at}
+use Rattle.elf_records.specs.FittingRecords.{FitsHeader, FitsSectionHeader, FitsSymbolEntry, FitsRela}
 use Rattle.elf_records.specs.Records.{symbol_at, rela_at, header_bytes, section_bytes, symbol_bytes, rela_bytes}
 use Rattle.elf_records.specs.RecordLaws.{header_again, section_again, symbol_again, rela_again, length-header_bytes}
 use Rattle.elf_records.specs.RecordLaws.{length-section_bytes, length-symbol_bytes, length-rela_bytes}

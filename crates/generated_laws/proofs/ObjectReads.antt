@@ -18,7 +18,8 @@ use Rattle.elf_object.specs.declared.relocation.Relocation.{Relocation}
 use Rattle.elf_records.specs.declared.symbol.Visibility.TheVariants.{Default}
 use Rattle.generated_job.specs.Shapes.{Shape, object_bytes, sections_of, symbols_of, symbol_of, names_of, getter_name}
 use Rattle.generated_job.specs.Shapes.{relocations_at, variable_name_at, getter_name_at}
-use Rattle.generated_laws.specs.Reading.{IsNameText, IsSmall, Known, ReadsAs, known_of, known_at, relocation_of, reserved}
+use Rattle.generated_laws.specs.Reading.{IsNameText, IsSmall, Known, ReadsAs, known_of, known_at, relocation_of}
+use Rattle.generated_laws.specs.Reading.{reserved}
 use Rattle.generated_laws.proofs.ObjectLaid.{IsLaid, object_laid}
 use Rattle.generated_laws.proofs.ObjectSections as sections
 
@@ -36,7 +37,8 @@ name_before name rest text =
     differs n some = grind (arith, nat_tests)
 
     fails : (k : ℕ) → k < length name → (slice_index_or (name ++ (0 ∷ rest)) k 0 == 0) ≡ false
-    fails k below = rw (get_or_append_left name (0 ∷ rest) 0 k below) (differs (slice_index_or name k 0) (text.bytes k 0 below).0)
+    fails k below = rw (get_or_append_left name (0 ∷ rest) 0 k below)
+        (differs (slice_index_or name k 0) (text.bytes k 0 below).0)
 
     passes : (slice_index_or (name ++ (0 ∷ rest)) (length name) 0 == 0) ≡ true
     passes = rw (get_or_at name 0 rest 0 (length name) refl) refl
@@ -70,14 +72,16 @@ unfolding text_at
 variable_text s small =
     let rest : List ℕ = s.variable ++ (0 ∷ getter_name s.calls) in
     ap (λ l. before_first (λ byte. byte == 0) (drop (variable_name_at s) l)) (names_split s)
-    ∙ ap (before_first (λ byte. byte == 0)) (drop_at (0 ∷ s.function ++ (0 ∷ [])) rest (variable_name_at s) (variable_place s))
+    ∙ ap (before_first (λ byte. byte == 0))
+    (drop_at (0 ∷ s.function ++ (0 ∷ [])) rest (variable_name_at s) (variable_place s))
     ∙ name_before s.variable (getter_name s.calls) small.variable_name
 
 pub getter_text : (s : Shape) → s.calls ≡ true → text_at (names_of s) (getter_name_at s) ≡ codes "__tls_get_addr"
 unfolding text_at
 getter_text s calls =
     ap (λ l. before_first (λ byte. byte == 0) (drop (getter_name_at s) l)) (names_split_late s)
-    ∙ ap (before_first (λ byte. byte == 0)) (drop_at (0 ∷ s.function ++ (0 ∷ s.variable ++ (0 ∷ []))) (getter_name s.calls)
+    ∙ ap (before_first (λ byte. byte == 0))
+    (drop_at (0 ∷ s.function ++ (0 ∷ s.variable ++ (0 ∷ []))) (getter_name s.calls)
     (getter_name_at s) (getter_place s))
     ∙ ap (λ c. before_first (λ byte. byte == 0) (getter_name c)) calls
 

@@ -8,10 +8,11 @@ use Rattle.std.specs.List.{All, flat_map}
 -- ** one kind of record
 
 -- records of one width, each of which is read again as it was written
-pub record IsRecord {R : Type 0} (width : ℕ) (bytes : R → List ℕ) (read : ℕ → List ℕ → R) (Fits : R → Type 0) : Type 0 where
-  pub length_is : (r : R) → length (bytes r) ≡ width
-  pub again : (at : ℕ) (r : R) (front back : List ℕ) → length front ≡ at → Fits r
-      → read at (front ++ (bytes r ++ back)) ≡ r
+pub record IsRecord {R : Type 0} (width : ℕ) (bytes : R → List ℕ) (read : ℕ → List ℕ → R) (Fits : R → Type 0) : Type 0
+  where
+    pub length_is : (r : R) → length (bytes r) ≡ width
+    pub again : (at : ℕ) (r : R) (front back : List ℕ) → length front ≡ at → Fits r
+        → read at (front ++ (bytes r ++ back)) ≡ r
 
 -- what holds of all elements holds of all but the first
 pub all_but_first : {X : Type 0} (P : X → Type 0) (x : X) (xs : List X) → All P (x ∷ xs) → All P xs
@@ -89,4 +90,5 @@ pub row_behind : {R : Type 0} (width : ℕ) (bytes : R → List ℕ) (read : ℕ
     → IsBehind b (flat_map bytes rs ++ rest) at → All Fits rs → k < length rs
     → read (at + width * k) b ≡ slice_index_or rs k d
 row_behind width bytes read Fits law rs k at b rest d here fit below =
-    ap (read (at + width * k)) here.whole ∙ row_again width bytes read Fits law rs k at here.front rest d here.long fit below
+    ap (read (at + width * k)) here.whole
+    ∙ row_again width bytes read Fits law rs k at here.front rest d here.long fit below

@@ -9,7 +9,8 @@ use Rattle.std.specs.Fmt.{decimal}
 use Rattle.std.specs.List.{All, AllPairs}
 use Rattle.elf_records.specs.Fields.{bytes_of}
 use Rattle.elf_records.specs.Laws.{length-bytes_of}
-use Rattle.elf_records.specs.Records.{FitsRela, rela_symbol, rela_kind}
+use Rattle.elf_records.specs.Records.{rela_symbol, rela_kind}
+use Rattle.elf_records.specs.FittingRecords.{FitsRela}
 use Rattle.elf_records.specs.declared.relocation.Rela.{Rela}
 use Rattle.object_faults.specs.declared.class.SectionClass.TheVariants.{Executable}
 use Rattle.elf_object.specs.Faults.{IsMiskinded}

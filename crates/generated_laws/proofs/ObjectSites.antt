@@ -14,7 +14,8 @@ use Rattle.sequence_forms.specs.declared.forms.Cell.TheVariants.{Is, Rex, ModRm,
 use Rattle.sequence_forms.specs.declared.places.Site.{Site}
 use Rattle.sequence_forms.specs.Forms.{fits, row}
 use Rattle.sequence_match.specs.Sites.{Covers, IsBare, IsLiteral, IsSecond, IsSiteOf, IsSpelled, StandsIn}
-use Rattle.sequence_match.specs.Faults.{code_of, bytes_of_code, IsGetter, IsLoose, IsOfSequence, IsStray, Nowhere, StandsAt}
+use Rattle.sequence_match.specs.Faults.{code_of, bytes_of_code, IsGetter, IsLoose, IsOfSequence, IsStray, Nowhere}
+use Rattle.sequence_match.specs.Faults.{StandsAt}
 use Rattle.generated_job.specs.Shapes.{Shape}
 use Rattle.generated_laws.specs.Reading.{ReadsAs, known_of, known_getter, relocation_of, reserved}
 
@@ -79,7 +80,8 @@ cell_of code xs cell place test =
           (follows (is_literal cell) (is_bare xs place) (right_of fit bare test) (literal_of cell literal)),
     )
 
-cells_of : (code : List ℕ) (xs : List Relocation) (cells : List Cell) (start : ℕ) → cells_test code xs cells start ≡ true
+cells_of : (code : List ℕ) (xs : List Relocation) (cells : List Cell) (start : ℕ)
+    → cells_test code xs cells start ≡ true
     → (k : ℕ) (cell : Cell) → slice_get cells k ≡ Some cell → StandsIn code xs cell (start + k)
 cells_of code xs [] start test k cell is = absurd (cc)
 cells_of code xs (c ∷ cells) start test zero cell is =

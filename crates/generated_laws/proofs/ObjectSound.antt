@@ -1,5 +1,6 @@
 -- The headers and symbols of an object have no fault.
-use Rattle.std.proofs.Common.{◌≡◌, ◌≢◌, ◌+◌, ◌*◌, ◌/◌, ◌%◌, ◌^◌, ◌<◌, ◌≤◌, ◌⊎◌, inl, inr, ℕ, Bool, true, false, List, length}
+use Rattle.std.proofs.Common.{◌≡◌, ◌≢◌, ◌+◌, ◌*◌, ◌/◌, ◌%◌, ◌^◌, ◌<◌, ◌≤◌, ◌⊎◌, inl, inr, ℕ, Bool, true, false, List}
+use Rattle.std.proofs.Common.{length}
 use Rattle.std.proofs.Common.{Some, IsNone, bit_and, refl, sym, ap, subst, ◌∙◌, arith, if◌then◌else◌, ◌==◌}
 use Rattle.elf_records.specs.declared.section_header.SectionHeader.{SectionHeader}
 use Rattle.elf_records.specs.declared.symbol.SymbolEntry.{SymbolEntry}

@@ -4,7 +4,8 @@ use Rattle.std.proofs.Common.{Option, Some, None, codes, length, map, unwrap_or,
 use Rattle.std.specs.List.{list_any}
 use Rattle.std.proofs.lemmas.Bool.{le-leb, le-ltb}
 use Rattle.std.proofs.lemmas.List.{map_push}
-use Rattle.job_text.specs.Drafts.{Declared, declared, nothing_declared, slot_among}
+use Rattle.job_text.specs.Drafts.{Declared, nothing_declared, slot_among}
+use Rattle.job_text.specs.DraftLaws.{declared}
 use Rattle.job_text.specs.Grammar.{heading_of, is_short_name, kind_heading, verb_heading}
 use Rattle.job_text.specs.Jobs.{number_of, numbered_line}
 use Rattle.job_text.specs.LineEffects.{with_image}

@@ -1,8 +1,8 @@
 -- The job that the generated text spells.
-use Rattle.std.specs.Prelude.{◌≡◌, ◌≤◌, ℕ, List, [], ◌∷◌, ◌++◌, Ok, codes, map}
+use Rattle.std.specs.Prelude.{ℕ, List, [], ◌∷◌, ◌++◌, codes, map}
 use Rattle.std.specs.List.{range_with_len}
-use Rattle.generated_job.specs.Generated.{function_name, generated_text, object_name}
-use Rattle.job_text.specs.Jobs.{JobParts, job_of}
+use Rattle.generated_job.specs.Generated.{function_name, object_name}
+use Rattle.job_text.specs.Jobs.{JobParts}
 use Rattle.job_text.specs.declared.thread_lines.Action.TheVariants.{Call, Open, Close, Peek}
 use Rattle.job_text.specs.declared.thread_lines.ThreadLine.{ThreadLine}
 use Rattle.link_faults.specs.declared.image_kind.ImageKind.TheVariants.{Exe, Late}
@@ -33,6 +33,3 @@ generated_parts n = record {
   order = [];
   lines = opener_lines n ∷ closer_lines n ∷ [];
 }
-
-abbrev pub GeneratedTextsAreJobs : Type 0
-GeneratedTextsAreJobs = (n : ℕ) → 1 ≤ n → n ≤ 1000 → job_of (generated_text n) ≡ Ok (generated_parts n)

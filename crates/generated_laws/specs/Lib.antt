@@ -1,4 +1,5 @@
 pub mod Jobs
+pub mod JobLaws
 pub mod Linked
 pub mod Reading
 pub mod Sound

@@ -2,7 +2,8 @@
 use Rattle.std.specs.Prelude.{◌≡◌, ◌≢◌, ◌<◌, ℕ, Bool, true, false, List, [], ◌∷◌, codes, length, map}
 use Rattle.std.specs.Prelude.{Some, None, slice_index_or, if◌then◌else◌, unwrap_or}
 use Rattle.std.specs.List.{All}
-use Rattle.elf_records.specs.Records.{FitsRela, rela_symbol, rela_kind}
+use Rattle.elf_records.specs.Records.{rela_symbol, rela_kind}
+use Rattle.elf_records.specs.FittingRecords.{FitsRela}
 use Rattle.elf_records.specs.declared.relocation.Rela.{Rela}
 use Rattle.elf_records.specs.declared.relocation.RelocationKind.TheVariants.{Nothing}
 use Rattle.elf_object.specs.Lent.{section_bytes, section_class, section_size, section_alignment, relocations}

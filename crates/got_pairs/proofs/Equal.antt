@@ -1,5 +1,6 @@
 -- Needs that the test calls the same are equal, and an entry that begins somewhere is one of them.
-use Rattle.std.proofs.Common.{◌≡◌, ◌∙◌, ◌+◌, ◌<◌, ◌&&◌, ℕ, suc, Bool, true, false, List, [], ◌∷◌, Some, refl, sym, ap, arith}
+use Rattle.std.proofs.Common.{◌≡◌, ◌∙◌, ◌+◌, ◌<◌, ◌&&◌, ℕ, suc, Bool, true, false, List, [], ◌∷◌, Some, refl, sym, ap}
+use Rattle.std.proofs.Common.{arith}
 use Rattle.std.proofs.Common.{if◌then◌else◌}
 use Rattle.std.specs.Prelude.{nat_eq}
 use Rattle.std.specs.List.{Contains}

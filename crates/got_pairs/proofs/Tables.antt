@@ -2,14 +2,16 @@
 use Rattle.std.proofs.Common.{◌≡◌, ◌≢◌, ◌∙◌, ◌≤◌, ℕ, Bool, true, false, not, cond, List, [], ◌∷◌, ◌++◌}
 use Rattle.std.proofs.Common.{Option, Some, None, IsSome, filter, refl, sym, ap, arith}
 use Rattle.std.specs.List.{All, AllPairs, Contains, flat_map, slice_index_or}
-use Rattle.std.proofs.lemmas.List.Elements.{All-append, All-cons, All-contains, All-contains_itself, All-filter, All-head}
+use Rattle.std.proofs.lemmas.List.Elements.{All-append, All-cons, All-contains, All-contains_itself, All-filter}
+use Rattle.std.proofs.lemmas.List.Elements.{All-head}
 use Rattle.std.proofs.lemmas.List.Elements.{All-nil, All-tail, filter_passes}
 use Rattle.std.proofs.lemmas.List.Kept.{AllPairs-cons, AllPairs-filter}
 use Rattle.got_pairs.specs.declared.need.Group.{Group}
 use Rattle.got_pairs.specs.declared.need.Group.TheVariants as group
 use Rattle.got_pairs.specs.declared.need.Need.{Need}
 use Rattle.got_pairs.specs.Laws.{EntriesAreNeeded, EntriesDiffer, GroupsStandInOrder, NeedsHaveEntries, rank}
-use Rattle.got_pairs.specs.Needs.{by_group, distinct, entries, group_of, groups, of_group, same_group, same_need, start_of}
+use Rattle.got_pairs.specs.Needs.{by_group, distinct, entries, group_of, groups, of_group, same_group, same_need}
+use Rattle.got_pairs.specs.Needs.{start_of}
 use Rattle.got_pairs.proofs.Distinct.{equivalence}
 use Rattle.got_pairs.proofs.Served.{served}
 

@@ -98,3 +98,8 @@ start_from at (entry ∷ more) need =
 
 abbrev pub start_of : List Need → Need → Option ℕ
 start_of = start_from 0
+
+-- each of these entries with the byte at which it begins; the first begins at `at`
+abbrev pub starts_from : ℕ → List Need → List (Need × ℕ)
+starts_from at [] = []
+starts_from at (entry ∷ more) = (entry, at) ∷ starts_from (at + size_of entry) more

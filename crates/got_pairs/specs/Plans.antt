@@ -1,20 +1,15 @@
 -- What contracts see of a table that is laid out.
-use Rattle.std.specs.Prelude.{◌+◌, ◌++◌, ℕ, Bool, List, [], ◌∷◌, if◌then◌else◌}
+use Rattle.std.specs.Prelude.{◌++◌, ℕ, Bool, List, [], ◌∷◌, if◌then◌else◌}
 use Rattle.std.specs.List.{list_any}
 use Rattle.link_faults.specs.declared.image_kind.ImageKind.{ImageKind}
 use Rattle.got_pairs.specs.declared.need.Need.{Need}
-use Rattle.got_pairs.specs.Needs.{same_need, size_of}
+use Rattle.got_pairs.specs.Needs.{same_need}
 
 -- the image's kind, how far below the thread pointer the program's block begins, and the need for each entry
 pub record Table : Type 0 where
   pub kind : ImageKind
   pub block_offset : ℕ
   pub entries : List Need
-
--- each of these entries with the byte at which it begins; the first begins at `at`
-abbrev pub starts_from : ℕ → List Need → List (Need × ℕ)
-starts_from at [] = []
-starts_from at (entry ∷ more) = (entry, at) ∷ starts_from (at + size_of entry) more
 
 -- whether one of these needs equals the need
 abbrev pub is_among : List Need → Need → Bool

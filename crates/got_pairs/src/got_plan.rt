@@ -29,7 +29,8 @@ impl<'a> Model for GotPlan<'a> {
     ghost use Rattle.std.specs.Prelude.{◌≡◌};
     ghost use Rattle.indexmap.specs.IndexMap.{keys};
     ghost use Rattle.got_pairs.specs.Needs.{total_size};
-    ghost use Rattle.got_pairs.specs.Plans.{Table, starts_from};
+    ghost use Rattle.got_pairs.specs.Plans.{Table};
+    ghost use Rattle.got_pairs.specs.Needs.{starts_from};
 
     ghost Value = { Table };
 

@@ -8,6 +8,7 @@ pub low_again : (width : Width) (n : ℕ) → n % 2 ^ 64 % span_of width ≡ n %
 low_again Long n = omega arith
 low_again Quad n = omega arith
 
-pub low_difference : (width : Width) (a b : ℕ) → b < span_of width → (a + (2 ^ 64 - b)) % 2 ^ 64 % span_of width ≡ (a + (span_of width - b)) % span_of width
+pub low_difference : (width : Width) (a b : ℕ) → b < span_of width
+    → (a + (2 ^ 64 - b)) % 2 ^ 64 % span_of width ≡ (a + (span_of width - b)) % span_of width
 low_difference Long a b below = omega arith
 low_difference Quad a b below = omega arith

@@ -1,5 +1,6 @@
 -- Arithmetic on plain numbers at a width, and its flags (Intel's manual, volume 1, section 3.4.3.1, and volume 2).
-use Rattle.std.specs.Prelude.{ℕ, ◌+◌, ◌-◌, ◌*◌, ◌/◌, ◌%◌, ◌^◌, Bool, true, false, not, ◌||◌, ◌==◌, nat_lt, nat_le, bit_and, bit_or, bit_xor, if◌then◌else◌}
+use Rattle.std.specs.Prelude.{ℕ, ◌+◌, ◌-◌, ◌*◌, ◌/◌, ◌%◌, ◌^◌, Bool, true, false, not, ◌||◌, ◌==◌, nat_lt, nat_le}
+use Rattle.std.specs.Prelude.{bit_and, bit_or, bit_xor, if◌then◌else◌}
 use Rattle.amd64_subset.specs.declared.instr.Width.{Width}
 use Rattle.amd64_subset.specs.declared.instr.Width.TheVariants.{Long, Quad}
 use Rattle.amd64_subset.specs.declared.instr.Arithmetic.{Arithmetic}
@@ -73,7 +74,8 @@ sum_effect width a b =
 
 unfoldable pub difference_effect : Width → ℕ → ℕ → Effect
 difference_effect width a b =
-    by_result width ((a + (span_of width - b)) % span_of width) (Set (nat_lt a b)) (Set (difference_overflows width a b))
+    by_result width ((a + (span_of width - b)) % span_of width) (Set (nat_lt a b))
+    (Set (difference_overflows width a b))
 
 unfoldable pub logic_effect : Width → ℕ → Effect
 logic_effect width number = by_result width number (Set false) (Set false)

@@ -1,7 +1,8 @@
 -- Uses of values, and which cause is reported if several fail at one step.
 use Rattle.std.specs.Prelude.{ℕ, nat_le, Result, Ok, Err, if◌then◌else◌}
 use Rattle.guest_arithmetic.specs.declared.cause.Cause.{Cause}
-use Rattle.guest_arithmetic.specs.declared.cause.Cause.TheVariants.{Inside, Field, Linker, Undefined, Flags, Base, Descriptor, Answer, Steps}
+use Rattle.guest_arithmetic.specs.declared.cause.Cause.TheVariants.{Inside, Field, Linker, Undefined, Flags, Base}
+use Rattle.guest_arithmetic.specs.declared.cause.Cause.TheVariants.{Descriptor, Answer, Steps}
 
 -- a cause's place in the order
 abbrev pub rank_of : Cause → ℕ

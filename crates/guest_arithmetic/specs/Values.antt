@@ -1,5 +1,6 @@
 -- Words, flags and bytes as one record of operations, and the laws that it keeps.
-use Rattle.std.specs.Prelude.{◌≡◌, ℕ, ◌+◌, ◌*◌, ◌/◌, ◌%◌, ◌^◌, ◌<◌, ◌≤◌, Bool, List, [], ◌∷◌, length, map, Option, Some, Result, Ok}
+use Rattle.std.specs.Prelude.{◌≡◌, ℕ, ◌+◌, ◌*◌, ◌/◌, ◌%◌, ◌^◌, ◌<◌, ◌≤◌, Bool, List, [], ◌∷◌, length, map, Option, Some}
+use Rattle.std.specs.Prelude.{Result, Ok}
 use Rattle.guest_arithmetic.specs.declared.cause.Cause.{Cause}
 
 -- byte k of a number; byte 0 is the lowest

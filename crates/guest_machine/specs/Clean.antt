@@ -5,7 +5,8 @@ use Rattle.guest_operands.specs.declared.stop.Stop.{Stop}
 use Rattle.guest_operands.specs.declared.stop.Stop.TheVariants.{Returned, Look, Address, Code, Unclean, Steps}
 use Rattle.guest_arithmetic.specs.Plain.{plain_operations}
 use Rattle.guest_operands.specs.Ranges.{AddressSpace}
-use Rattle.guest_machine.specs.Run.{run, machine_of, stop_of}
+use Rattle.guest_machine.specs.Run.{run}
+use Rattle.guest_machine.specs.RunLaws.{machine_of, stop_of}
 use Rattle.guest_operands.specs.Use.{left}
 
 abbrev pub IsClean : Stop → Type 0

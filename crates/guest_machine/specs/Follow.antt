@@ -82,15 +82,16 @@ module _ {W F B W' F' B' : Type 0} (same : Alike W F B W' F' B') where
     pub byte_of : (w : W) (w' : W') → same.word w w' → (k : ℕ) → k < 8 → same.byte (ops.byte_of w k) (ops'.byte_of w' k)
 
   -- two memories, related byte by byte, stay so under writes
-  pub record StayRelated {M M' : Type 0} (acc : Accesses M B) (acc' : Accesses M' B') (Same : M → M' → Type 0) : Type 0 where
-    pub byte : (m : M) (m' : M') → Same m m' → (place : ℕ) → Reaches same.byte (acc.byte m place) (acc'.byte m' place)
-    pub writes : (m : M) (m' : M') → Same m m' → (place : ℕ)
-        → Reaches (λ a b. Unit {0}) (acc.writes m place) (acc'.writes m' place)
-    pub put : (m : M) (m' : M') → Same m m' → (place : ℕ) (b : B) (b' : B') → same.byte b b'
-        → acc.writes m place ≡ Ok tt
-        → Same (acc.put m place b) (acc'.put m' place b')
-    -- a write changes no right to write
-    pub still : (m : M) (place at : ℕ) (b : B) → acc.writes (acc.put m place b) at ≡ acc.writes m at
+  pub record StayRelated {M M' : Type 0} (acc : Accesses M B) (acc' : Accesses M' B') (Same : M → M' → Type 0) : Type 0
+    where
+      pub byte : (m : M) (m' : M') → Same m m' → (place : ℕ) → Reaches same.byte (acc.byte m place) (acc'.byte m' place)
+      pub writes : (m : M) (m' : M') → Same m m' → (place : ℕ)
+          → Reaches (λ a b. Unit {0}) (acc.writes m place) (acc'.writes m' place)
+      pub put : (m : M) (m' : M') → Same m m' → (place : ℕ) (b : B) (b' : B') → same.byte b b'
+          → acc.writes m place ≡ Ok tt
+          → Same (acc.put m place b) (acc'.put m' place b')
+      -- a write changes no right to write
+      pub still : (m : M) (place at : ℕ) (b : B) → acc.writes (acc.put m place b) at ≡ acc.writes m at
 
   pub record SameRegisters (r : Registers W) (r' : Registers W') : Type 0 where
     pub rax : same.word r.rax r'.rax

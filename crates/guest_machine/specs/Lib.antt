@@ -2,13 +2,16 @@ pub use Rattle.guest_operands.specs.Access
 pub use Rattle.guest_operands.specs.Frame
 pub use Rattle.guest_operands.specs.Operand
 pub use Rattle.guest_operands.specs.Ranges
+pub use Rattle.guest_operands.specs.RangeLaws
 pub use Rattle.guest_operands.specs.State
 pub use Rattle.guest_operands.specs.Use
+pub use Rattle.guest_operands.specs.UseLaws
 pub mod Clean
 pub mod Follow
 pub mod Machine
 pub mod Reaching
 pub mod Run
+pub mod RunLaws
 pub mod Simulate
 pub mod Step
 pub mod Touch

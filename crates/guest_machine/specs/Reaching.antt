@@ -4,7 +4,8 @@ use Rattle.std.specs.List.{list_any}
 use Rattle.guest_arithmetic.specs.Plain.{plain_operations}
 use Rattle.guest_operands.specs.declared.state.State.{State}
 use Rattle.guest_operands.specs.Closed.{closed}
-use Rattle.guest_operands.specs.Ranges.{AddressSpace, range_accesses}
+use Rattle.guest_operands.specs.Ranges.{AddressSpace}
+use Rattle.guest_operands.specs.RangeLaws.{range_accesses}
 use Rattle.guest_machine.specs.Step.{step_of}
 use Rattle.guest_machine.specs.Touch.{next_touches, touched}
 

@@ -1,15 +1,13 @@
 -- Runs with a number of steps left: of any steps, and of the machine.
-use Rattle.std.specs.Prelude.{ℕ, zero, suc, ◌≡◌, ◌+◌, ◌-◌, ◌||◌, ◌==◌, Bool, Result, Ok, Err, Option, Some, None, if◌then◌else◌}
+use Rattle.std.specs.Prelude.{ℕ, zero, suc, ◌||◌, ◌==◌, Bool, Result, Ok, Err, Option, Some, None, if◌then◌else◌}
 use Rattle.address_map.specs.Map.{descriptor_place, getter_place, return_place}
 use Rattle.guest_arithmetic.specs.declared.cause.Cause.{Cause}
 use Rattle.guest_arithmetic.specs.declared.cause.Cause.TheVariants.{Answer}
 use Rattle.guest_operands.specs.declared.stop.Stop.{Stop}
-use Rattle.guest_operands.specs.declared.stop.Stop.TheVariants.{Returned, Look, Unclean, Steps}
+use Rattle.guest_operands.specs.declared.stop.Stop.TheVariants.{Returned, Unclean, Steps}
 use Rattle.guest_arithmetic.specs.Values.{Operations}
 use Rattle.guest_operands.specs.Access.{Accesses}
-use Rattle.guest_operands.specs.Use.{After, left}
-use Rattle.guest_operands.specs.Ranges.{AddressSpace, range_accesses, is_field_of}
-use Rattle.guest_machine.specs.Machine.{Standing}
+use Rattle.guest_operands.specs.Use.{After}
 use Rattle.guest_machine.specs.Step.{step_of}
 
 -- the result of a step: the next state, a stop, or a look, which the run time answers
@@ -69,27 +67,3 @@ module _ {W F B M : Type 0} (ops : Operations W F B) (acc : Accesses M B) (is_fi
         else next_of (step_of ops acc (is_field at.memory) at.state at.memory);
     spent = λ at. Steps at.state.place;
   }
-
-abbrev pub stop_of : {W F M : Type 0} → Outcome (After W F M) → Stop
-stop_of (Ended stop n at) = stop
-stop_of (Waits n at) = Look at.state.place
-
-abbrev pub steps_left : {S : Type 0} → Outcome S → ℕ
-steps_left (Ended stop n at) = n
-steps_left (Waits n at) = n
-
-abbrev pub state_after : {S : Type 0} → Outcome S → S
-state_after (Ended stop n at) = at
-state_after (Waits n at) = at
-
--- the machine over a memory of ranges
-abbrev pub machine_of : {W F B : Type 0} → Operations W F B → Stepping (After W F (AddressSpace B))
-machine_of ops = machine ops (range_accesses ops) is_field_of
-
--- a run up to its limit: how it stopped, what it left, and how many steps it took
-pub record Runs {W F B : Type 0} (ops : Operations W F B) (limit : ℕ) (result : Stop) (old : Standing W F)
-    (memory : AddressSpace B) (new : Standing W F) (memory' : AddressSpace B) : Type 0 where
-  pub stop : result ≡ stop_of (run (machine_of ops) (limit - old.taken) (left old.state memory))
-  pub after : left new.state memory' ≡ state_after (run (machine_of ops) (limit - old.taken) (left old.state memory))
-  pub steps : new.taken + steps_left (run (machine_of ops) (limit - old.taken) (left old.state memory))
-      ≡ old.taken + (limit - old.taken)

@@ -17,7 +17,10 @@ use Rattle.amd64_subset.specs.declared.operand.Operand.TheVariants.{InMemory, Re
 use Rattle.amd64_subset.specs.declared.operand.Operands.{Operands}
 use Rattle.amd64_subset.specs.declared.operand.Operands.TheVariants.{IntoRegister, IntoMemory, Immediate}
 use Rattle.amd64_subset.specs.declared.instr.Operation.{Operation}
-use Rattle.amd64_subset.specs.declared.instr.Operation.TheVariants.{Move, StoreByte, ExtendByte, ExtendLong, LoadAddress, Compute, Test, Multiply, Shift as ShiftBy, Push, Pop, Leave, Call, Jump, JumpIf, Return, Nop, Undefined}
+use Rattle.amd64_subset.specs.declared.instr.Operation.TheVariants.{Move, StoreByte, ExtendByte, ExtendLong}
+use Rattle.amd64_subset.specs.declared.instr.Operation.TheVariants.{LoadAddress, Compute, Test, Multiply}
+use Rattle.amd64_subset.specs.declared.instr.Operation.TheVariants.{Shift as ShiftBy, Push, Pop, Leave, Call, Jump}
+use Rattle.amd64_subset.specs.declared.instr.Operation.TheVariants.{JumpIf, Return, Nop, Undefined}
 use Rattle.amd64_subset.specs.declared.instr.Decoded.{Decoded}
 use Rattle.amd64_subset.specs.Decoding.{decoded}
 use Rattle.guest_arithmetic.specs.declared.cause.Cause.{Cause}
@@ -35,7 +38,8 @@ use Rattle.guest_arithmetic.specs.Arithmetic.{low, bits_of, compute_effect, prod
 use Rattle.guest_arithmetic.specs.Flags.{with_changes, condition_of}
 use Rattle.guest_arithmetic.specs.Cause.{used}
 use Rattle.guest_operands.specs.Frame.{frame_of}
-use Rattle.guest_operands.specs.Operand.{size_of, charged, unmoved, carried_as, address_of, kept, kept_byte, number_at, carried, taken, put}
+use Rattle.guest_operands.specs.Operand.{size_of, charged, unmoved, carried_as, address_of, kept, kept_byte, number_at}
+use Rattle.guest_operands.specs.Operand.{carried, taken, put}
 use Rattle.guest_operands.specs.State.{register_of, with_word, with_stack, at_place}
 use Rattle.guest_operands.specs.Use.{◌>>=◌, plus, clean, there, After, left}
 use Rattle.guest_arithmetic.specs.Values.{Operations}

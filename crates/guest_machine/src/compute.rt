@@ -4,7 +4,7 @@ ghost use Rattle.std.specs.Prelude.{◌≡◌, ◌<◌};
 ghost use Rattle.guest_arithmetic.specs.Arithmetic.{compute_effect, span_of};
 ghost use Rattle.guest_arithmetic.specs.Flags.{with_changes};
 ghost use Rattle.guest_machine.specs.Step.{is_cleared, finished, concluded, settled, compute_in, add_field, compute_plain, compute_number, compute_of, test_of, multiply_of, shift_of};
-ghost use Rattle.guest_operands.specs.Use.{Does};
+ghost use Rattle.guest_operands.specs.UseLaws.{Does};
 
 use crate::execution::Execution;
 use crate::moves::immediate;

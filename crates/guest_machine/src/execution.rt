@@ -4,7 +4,7 @@ ghost use Rattle.std.specs.Prelude.{◌≡◌, ◌<◌, Ok, IfOk};
 ghost use Rattle.guest_arithmetic.specs.Arithmetic.{span_of};
 ghost use Rattle.guest_operands.specs.Access.{bytes_in, load_of};
 ghost use Rattle.guest_operands.specs.Operand.{address_of, carried, taken};
-ghost use Rattle.guest_operands.specs.Ranges.{range_accesses};
+ghost use Rattle.guest_operands.specs.RangeLaws.{range_accesses};
 ghost use Rattle.guest_operands.specs.Use.{clean, there};
 
 use amd64_subset::{Memory, Operand, Width};

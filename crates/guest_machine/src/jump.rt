@@ -2,7 +2,7 @@
 
 ghost use Rattle.std.specs.Prelude.{◌≡◌};
 ghost use Rattle.guest_machine.specs.Step.{jump_of, jump_if, nop_use, nop_of};
-ghost use Rattle.guest_operands.specs.Use.{Does};
+ghost use Rattle.guest_operands.specs.UseLaws.{Does};
 
 use crate::execution::Execution;
 use amd64_subset::{Condition, Operand, Target, Width};

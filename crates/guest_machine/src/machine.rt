@@ -3,8 +3,8 @@
 ghost use Rattle.std.specs.Prelude.{◌≡◌, ◌-◌, ◌^◌, ◌<◌, ◌≤◌, max};
 ghost use Rattle.amd64_subset.specs.Register.{register_of};
 ghost use Rattle.guest_machine.specs.Machine.{Answers, answer_of};
-ghost use Rattle.guest_operands.specs.Ranges.{range_accesses, is_field_of};
-ghost use Rattle.guest_machine.specs.Run.{Runs};
+ghost use Rattle.guest_operands.specs.RangeLaws.{range_accesses, is_field_of};
+ghost use Rattle.guest_machine.specs.RunLaws.{Runs};
 ghost use Rattle.guest_operands.specs.State.{start_of, with_register};
 ghost use Rattle.guest_operands.specs.State as state;
 ghost use Rattle.guest_machine.specs.Touch.{next_touches};

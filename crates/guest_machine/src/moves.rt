@@ -7,7 +7,7 @@ ghost use Rattle.guest_operands.specs.Access.{bytes_in};
 ghost use Rattle.guest_arithmetic.specs.Arithmetic.{low, span_of};
 ghost use Rattle.guest_operands.specs.Operand.{carried_as};
 ghost use Rattle.guest_machine.specs.Step.{immediate_of, move_in, stored, store_byte, move_number, move_of, extend_byte, extend_long, load_address};
-ghost use Rattle.guest_operands.specs.Use.{Does};
+ghost use Rattle.guest_operands.specs.UseLaws.{Does};
 
 use crate::execution::Execution;
 use amd64_subset::{Memory, Operand, Operands, Register, Width};

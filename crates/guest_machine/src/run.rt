@@ -1,7 +1,8 @@
 //! Runs: steps up to a stop.
 
 ghost use Rattle.std.specs.Prelude.{◌≡◌};
-ghost use Rattle.guest_machine.specs.Run.{Runs, returned, is_look};
+ghost use Rattle.guest_machine.specs.Run.{returned, is_look};
+ghost use Rattle.guest_machine.specs.RunLaws.{Runs};
 
 use crate::step::step;
 use address_map::{DESCRIPTOR, GET_ADDRESS, RETURN};

@@ -1,11 +1,11 @@
 //! One instruction, and one step.
 
 ghost use Rattle.std.specs.Prelude.{◌≡◌};
-ghost use Rattle.guest_operands.specs.Ranges.{range_accesses, is_field_of};
+ghost use Rattle.guest_operands.specs.RangeLaws.{range_accesses, is_field_of};
 ghost use Rattle.amd64_subset.specs.Decoding.{decoded};
 ghost use Rattle.guest_operands.specs.Access.{fetch_of};
 ghost use Rattle.guest_machine.specs.Step.{act, step_of};
-ghost use Rattle.guest_operands.specs.Use.{Does};
+ghost use Rattle.guest_operands.specs.UseLaws.{Does};
 
 use crate::execution::Execution;
 use crate::stack::return_from;

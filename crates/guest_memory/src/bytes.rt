@@ -4,7 +4,8 @@ ghost use Rattle.std.specs.Prelude.{◌≡◌, ◌≤◌, length, take, is_some,
 ghost use Rattle.guest_operands.specs.Access.{fetch_of, store_of};
 ghost use Rattle.guest_arithmetic.specs.Four.{bytes_of};
 ghost use Rattle.guest_operands.specs.declared.space.Access.TheVariants.{Read, Write, Run};
-ghost use Rattle.guest_operands.specs.Ranges.{AddressSpace, range_accesses, is_field_of, byte_in, with_byte, Loads, Stores, StoresAs};
+ghost use Rattle.guest_operands.specs.Ranges.{AddressSpace, byte_in, with_byte};
+ghost use Rattle.guest_operands.specs.RangeLaws.{range_accesses, is_field_of, Loads, Stores, StoresAs};
 ghost use Rattle.guest_memory.specs.Several.{bytes_in, all_writable};
 
 use guest_arithmetic::{Four, Values};

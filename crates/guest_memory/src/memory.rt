@@ -125,7 +125,7 @@ impl<V: Values> Bytes<V> for GuestMemory<V::Byte> {
         write_in(&mut self.ranges, place, byte);
     }
 
-    #[tactic(auto, unfolding(guest_operands::specs::Ranges::is_field_of))]
+    #[tactic(auto, unfolding(guest_operands::specs::RangeLaws::is_field_of))]
     fn is_field(&self, place: u64) -> bool {
         is_among(&self.fields, place)
     }
@@ -150,7 +150,7 @@ impl<V: Values> Space<V> for GuestMemory<V::Byte> {
         store::<V, GuestMemory<V::Byte>>(self, place, size, word)
     }
 
-    #[tactic(auto, unfolding(guest_operands::specs::Ranges::is_field_of))]
+    #[tactic(auto, unfolding(guest_operands::specs::RangeLaws::is_field_of))]
     fn is_field(&self, place: u64) -> bool {
         is_among(&self.fields, place)
     }

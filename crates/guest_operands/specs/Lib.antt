@@ -3,5 +3,7 @@ pub mod Closed
 pub mod Frame
 pub mod Operand
 pub mod Ranges
+pub mod RangeLaws
 pub mod State
 pub mod Use
+pub mod UseLaws

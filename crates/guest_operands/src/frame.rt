@@ -1,7 +1,7 @@
 //! The surroundings of an instruction's operation: the next address and the offset fields.
 
 ghost use Rattle.std.specs.Prelude.{◌≡◌};
-ghost use Rattle.guest_operands.specs.Ranges.{is_field_of};
+ghost use Rattle.guest_operands.specs.RangeLaws.{is_field_of};
 ghost use Rattle.guest_operands.specs.Frame.{frame_of, field_at};
 
 use crate::space::Space;

@@ -2,7 +2,7 @@
 
 ghost use Rattle.std.specs.Prelude.{◌≡◌, ◌<◌, ◌%◌, if◌then◌else◌};
 ghost use Rattle.guest_operands.specs.Operand.{factor_of, size_for, charged, unmoved, moved_by, base_of, index_of, address_of, kept, kept_byte, carried_as, carried};
-ghost use Rattle.guest_operands.specs.Ranges.{range_accesses};
+ghost use Rattle.guest_operands.specs.RangeLaws.{range_accesses};
 
 use crate::frame::Frame;
 use crate::space::{Size, Space};

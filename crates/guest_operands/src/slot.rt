@@ -4,9 +4,9 @@ ghost use Rattle.std.specs.Prelude.{◌≡◌, ◌<◌, IfOk};
 ghost use Rattle.guest_arithmetic.specs.Arithmetic.{span_of};
 ghost use Rattle.guest_operands.specs.Operand.{size_of, number_at, weighed, taken_at, taken, put};
 ghost use Rattle.guest_operands.specs.Access.{load_of};
-ghost use Rattle.guest_operands.specs.Ranges.{range_accesses};
+ghost use Rattle.guest_operands.specs.RangeLaws.{range_accesses};
 ghost use Rattle.guest_arithmetic.specs.Cause.{cause_with};
-ghost use Rattle.guest_operands.specs.Use.{Does};
+ghost use Rattle.guest_operands.specs.UseLaws.{Does};
 
 use crate::frame::Frame;
 use crate::operand::{address, size};

@@ -2,7 +2,8 @@
 
 ghost use Rattle.std.specs.Prelude.{◌≡◌, ◌≤◌, length, take};
 ghost use Rattle.guest_operands.specs.Access.{bytes_in, fetch_of};
-ghost use Rattle.guest_operands.specs.Ranges.{AddressSpace, range_accesses, is_field_of, Loads, Stores};
+ghost use Rattle.guest_operands.specs.Ranges.{AddressSpace};
+ghost use Rattle.guest_operands.specs.RangeLaws.{range_accesses, is_field_of, Loads, Stores};
 
 use guest_arithmetic::Values;
 

@@ -2,8 +2,9 @@
 
 ghost use Rattle.std.specs.Prelude.{◌≡◌};
 ghost use Rattle.guest_operands.specs.Access.{bytes_in, load_of, store_of};
-ghost use Rattle.guest_operands.specs.Ranges.{range_accesses};
-ghost use Rattle.guest_operands.specs.Use.{clean, there, LeavesMemory};
+ghost use Rattle.guest_operands.specs.RangeLaws.{range_accesses};
+ghost use Rattle.guest_operands.specs.Use.{clean, there};
+ghost use Rattle.guest_operands.specs.UseLaws.{LeavesMemory};
 
 use crate::space::{Size, Space};
 use crate::stop::Stop;

@@ -1,12 +1,13 @@
 -- What is found on both sides, or on neither; and what is found by its owner in what a thread holds.
-use Rattle.std.proofs.Common.{if◌then◌else◌, ◌≡◌, ℕ, zero, suc, Bool, true, false, List, [], ◌∷◌, All, Option, Some, None, refl, ap, arith}
+use Rattle.std.proofs.Common.{if◌then◌else◌, ◌≡◌, ℕ, zero, suc, Bool, true, false, List, [], ◌∷◌, All, Option, Some}
+use Rattle.std.proofs.Common.{None, refl, ap, arith}
 use Rattle.std.specs.Prelude.{option_map}
 use Rattle.std.specs.List.{find}
 use Rattle.std.specs.Option.{option_or}
 use Rattle.guest_machine.specs.Follow.{All2}
 use Rattle.job_meaning.specs.declared.values.Byte.{Byte}
 use Rattle.thread_blocks.specs.Held.{Owned, Owner}
-use Rattle.thread_blocks.specs.Spaces.{FoundAlike}
+use Rattle.thread_blocks.specs.SpaceLaws.{FoundAlike}
 use Rattle.tied_meaning.specs.Numbers.{Setting}
 use Rattle.tied_meaning.specs.Threads.{SameOwned}
 

@@ -1,5 +1,6 @@
 -- What a thread holds of one instance, after a look, a reach or a load, is the same on both sides.
-use Rattle.std.proofs.Common.{◌≡◌, ◌==◌, ℕ, Bool, true, false, List, [], ◌∷◌, not, length, Option, Some, None, refl, subst}
+use Rattle.std.proofs.Common.{◌≡◌, ◌==◌, ℕ, Bool, true, false, List, [], ◌∷◌, not, length, Option, Some, None, refl}
+use Rattle.std.proofs.Common.{subst}
 use Rattle.std.specs.Option.{option_or}
 use Rattle.std.proofs.lemmas.Bool.{eqb-true, and_parts}
 use Rattle.std.proofs.lemmas.List.Elements.{All-cons, All-nil}
@@ -7,9 +8,10 @@ use Rattle.guest_machine.specs.Follow.{All2}
 use Rattle.guest_machine.specs.Ranges.{Range}
 use Rattle.job_meaning.specs.declared.values.Byte.{Byte}
 use Rattle.loaded_modules.specs.declared.instance.Instance.{Instance}
-use Rattle.thread_blocks.specs.Held.{Kind, Block, Data, Owned, is_block, is_block_of, is_data_of, block_bytes, data_bytes, block_with, data_with, block_after, data_after, fresh_if, fresh_data}
+use Rattle.thread_blocks.specs.Held.{Kind, Block, Data, Owned, is_block, is_block_of, is_data_of, block_bytes}
+use Rattle.thread_blocks.specs.Held.{data_bytes, block_with, data_with, block_after, data_after, fresh_if, fresh_data}
 use Rattle.thread_blocks.specs.Instances.{Loads, block_range}
-use Rattle.thread_blocks.specs.Spaces.{FoundAlike, SameRange}
+use Rattle.thread_blocks.specs.SpaceLaws.{FoundAlike, SameRange}
 use Rattle.whole_meaning.specs.Meanings.{Meaning}
 use Rattle.tied_meaning.specs.Numbers.{Setting, SameByte}
 use Rattle.tied_meaning.specs.Ties.{IsTied, SameShared}

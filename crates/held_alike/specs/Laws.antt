@@ -5,7 +5,7 @@ use Rattle.loaded_modules.specs.declared.instance.Instance.{Instance}
 use Rattle.module_table.specs.declared.events.Event.{Event}
 use Rattle.thread_blocks.specs.Held.{Owned, loaded_at, looked_at, reached_at}
 use Rattle.thread_blocks.specs.Instances.{Loads}
-use Rattle.thread_blocks.specs.TurnsAlike.{IsFront}
+use Rattle.thread_blocks.specs.Turns.{IsFront}
 use Rattle.whole_meaning.specs.Meanings.{Meaning}
 use Rattle.order_laws.specs.Worlds.{AreLent}
 use Rattle.tied_meaning.specs.Numbers.{Setting}

@@ -1,5 +1,6 @@
 -- Numbers that lead: one more that passes, and the first that does not.
-use Rattle.std.proofs.Common.{◌≡◌, ◌+◌, ◌<◌, ◌⊎◌, ℕ, zero, suc, List, Bool, true, false, refl, inl, inr, arith, add-one, nat_lt, ◌==◌, if◌then◌else◌}
+use Rattle.std.proofs.Common.{◌≡◌, ◌+◌, ◌<◌, ◌⊎◌, ℕ, zero, suc, List, Bool, true, false, refl, inl, inr, arith, add-one}
+use Rattle.std.proofs.Common.{nat_lt, ◌==◌, if◌then◌else◌}
 use Rattle.std.proofs.lemmas.Bool.Decides.{nat_tests}
 use Rattle.elf_records.specs.declared.program_header.TheConstants.{PT_LOAD, PT_GNU_RELRO}
 use Rattle.image_faults.specs.Counts.{leading, how_many, behind_last}

@@ -22,7 +22,8 @@ unfolding Breaks
 kept_length b long = kept_more Length b (none_at_first b) (λ e w. omega (arith, w.1))
 
 -- the first byte of the identification that differs
-pub first_ident : (b : List ℕ) (h : Header) (e : ℕ) → 64 ≤ length b → h ≡ header b → IsWrongIdent h e → ((f : ℕ) → f < e → IsWrongIdent h f → ⊥) → IsFirst b Ident e
+pub first_ident : (b : List ℕ) (h : Header) (e : ℕ) → 64 ≤ length b → h ≡ header b → IsWrongIdent h e
+    → ((f : ℕ) → f < e → IsWrongIdent h f → ⊥) → IsFirst b Ident e
 unfolding Breaks
 first_ident b h e long same here none = record {
   here = let P : Header → Type 0 = λ x. IsWrongIdent x e in subst P same here;
@@ -30,10 +31,12 @@ first_ident b h e long same here none = record {
   earlier_rules = kept_length b long;
 }
 
-pub kept_ident : (b : List ℕ) (h : Header) → 64 ≤ length b → h ≡ header b → ((e : ℕ) → IsWrongIdent h e → ⊥) → KeepsBelow 2 b
+pub kept_ident : (b : List ℕ) (h : Header) → 64 ≤ length b → h ≡ header b → ((e : ℕ) → IsWrongIdent h e → ⊥)
+    → KeepsBelow 2 b
 unfolding Breaks
 kept_ident b h long same none =
-    kept_more Ident b (kept_length b long) (λ e w. let P : Header → Type 0 = λ x. IsWrongIdent x e in none e (subst P (sym same) w))
+    kept_more Ident b (kept_length b long)
+    (λ e w. let P : Header → Type 0 = λ x. IsWrongIdent x e in none e (subst P (sym same) w))
 
 -- segments that pass the end of the file
 pub first_extent : (b : List ℕ) → KeepsBelow 8 b → PassesEnd b → IsFirst b Extent 0
@@ -49,7 +52,8 @@ unfolding Breaks
 kept_extent b below inside = kept_more Extent b below (λ e w. inside w.1)
 
 -- the first program header that is not as it should be
-pub first_segment : (b : List ℕ) (e : ℕ) → KeepsBelow 9 b → IsWrongSegment b e → ((f : ℕ) → f < e → IsWrongSegment b f → ⊥) → IsFirst b Segment e
+pub first_segment : (b : List ℕ) (e : ℕ) → KeepsBelow 9 b → IsWrongSegment b e
+    → ((f : ℕ) → f < e → IsWrongSegment b f → ⊥) → IsFirst b Segment e
 unfolding Breaks
 first_segment b e below here none = record {
   here = here;

@@ -1,11 +1,15 @@
 -- The order of the rules: what is asked in turn, rule after rule, finds the first fault.
-use Rattle.std.proofs.Common.{◌≡◌, ◌+◌, ◌<◌, ◌≤◌, ◌⊎◌, ◌∙◌, ℕ, List, [], ◌∷◌, get_or, inl, inr, refl, sym, ap, subst, arith}
+use Rattle.std.proofs.Common.{◌≡◌, ◌+◌, ◌<◌, ◌≤◌, ◌⊎◌, ◌∙◌, ℕ, List, [], ◌∷◌, get_or, inl, inr, refl, sym, ap, subst}
+use Rattle.std.proofs.Common.{arith}
 use Rattle.image_rules.specs.declared.rule.Rule.{Rule}
 use Rattle.image_rules.specs.declared.rule.Rule.TheVariants.{Length, Ident, Field, Extent, Segment, Entry, Table}
 use Rattle.image_rules.specs.declared.rule.FieldRule.{FieldRule}
-use Rattle.image_rules.specs.declared.rule.FieldRule.TheVariants.{FileType, Machine, Version, TableOffset, EntrySize, Count}
+use Rattle.image_rules.specs.declared.rule.FieldRule.TheVariants.{FileType, Machine, Version, TableOffset, EntrySize}
+use Rattle.image_rules.specs.declared.rule.FieldRule.TheVariants.{Count}
 use Rattle.image_rules.specs.declared.rule.EntryRule.{EntryRule}
-use Rattle.image_rules.specs.declared.rule.EntryRule.TheVariants.{Hash, Strings, Symbols, StringsSize, SymbolSize, Relocations, RelocationsSize, RelocationSize, Flags, End}
+use Rattle.image_rules.specs.declared.rule.EntryRule.TheVariants.{Hash, Strings, Symbols, StringsSize, SymbolSize}
+use Rattle.image_rules.specs.declared.rule.EntryRule.TheVariants.{Relocations, RelocationsSize, RelocationSize, Flags}
+use Rattle.image_rules.specs.declared.rule.EntryRule.TheVariants.{End}
 use Rattle.image_rules.specs.declared.rule.TableRule.{TableRule}
 use Rattle.image_rules.specs.declared.rule.TableRule.TheVariants.{Symbol, Relocation, TlsSymbol, TlsRelocation}
 use Rattle.image_faults.specs.Parts.{header}
@@ -100,7 +104,8 @@ pub image_of : (b : List ℕ) → KeepsBelow 24 b → IsImage b
 image_of b below rule = below rule (below_all rule)
 
 -- a rule of one place that is broken there
-pub first_field : (rule : FieldRule) (b : List ℕ) → KeepsBelow (number (Field rule)) b → (IsRightField rule (header b) → ⊥) → IsFirst b (Field rule) 0
+pub first_field : (rule : FieldRule) (b : List ℕ) → KeepsBelow (number (Field rule)) b
+    → (IsRightField rule (header b) → ⊥) → IsFirst b (Field rule) 0
 unfolding Breaks
 first_field rule b below wrong = record {
   here = (refl, wrong);
@@ -108,12 +113,14 @@ first_field rule b below wrong = record {
   earlier_rules = below;
 }
 
-pub kept_field : (rule : FieldRule) (b : List ℕ) → KeepsBelow (number (Field rule)) b → IsRightField rule (header b) → KeepsBelow (number (Field rule) + 1) b
+pub kept_field : (rule : FieldRule) (b : List ℕ) → KeepsBelow (number (Field rule)) b → IsRightField rule (header b)
+    → KeepsBelow (number (Field rule) + 1) b
 unfolding Breaks
 kept_field rule b below right = kept_more (Field rule) b below (λ e w. w.1 right)
 
 -- the same of an entry of the dynamic array
-pub first_entry : (rule : EntryRule) (b : List ℕ) (place : ℕ) → place ≡ entry_place rule b → KeepsBelow (number (Entry rule)) b → (IsRightEntry rule b → ⊥) → IsFirst b (Entry rule) place
+pub first_entry : (rule : EntryRule) (b : List ℕ) (place : ℕ) → place ≡ entry_place rule b
+    → KeepsBelow (number (Entry rule)) b → (IsRightEntry rule b → ⊥) → IsFirst b (Entry rule) place
 unfolding Breaks
 first_entry rule b place at below wrong = record {
   here = (at, wrong);
@@ -121,12 +128,14 @@ first_entry rule b place at below wrong = record {
   earlier_rules = below;
 }
 
-pub kept_entry : (rule : EntryRule) (b : List ℕ) → KeepsBelow (number (Entry rule)) b → IsRightEntry rule b → KeepsBelow (number (Entry rule) + 1) b
+pub kept_entry : (rule : EntryRule) (b : List ℕ) → KeepsBelow (number (Entry rule)) b → IsRightEntry rule b
+    → KeepsBelow (number (Entry rule) + 1) b
 unfolding Breaks
 kept_entry rule b below right = kept_more (Entry rule) b below (λ e w. w.1 right)
 
 -- the same of the first entry of a table that breaks its rule
-pub first_of_table : (rule : TableRule) (b : List ℕ) (e : ℕ) → Breaks (Table rule) b e → ((f : ℕ) → f < e → Breaks (Table rule) b f → ⊥) → KeepsBelow (number (Table rule)) b → IsFirst b (Table rule) e
+pub first_of_table : (rule : TableRule) (b : List ℕ) (e : ℕ) → Breaks (Table rule) b e
+    → ((f : ℕ) → f < e → Breaks (Table rule) b f → ⊥) → KeepsBelow (number (Table rule)) b → IsFirst b (Table rule) e
 first_of_table rule b e here none below = record { here = here; nowhere_earlier = none; earlier_rules = below }
 
 -- an entry that breaks the rule is one of the table
@@ -137,5 +146,8 @@ in_table Relocation b e w = w.0
 in_table TlsSymbol b e w = w.0
 in_table TlsRelocation b e w = w.0
 
-pub kept_table : (rule : TableRule) (b : List ℕ) (n : ℕ) → table_count rule b ≤ n → ((f : ℕ) → f < n → Breaks (Table rule) b f → ⊥) → KeepsBelow (number (Table rule)) b → KeepsBelow (number (Table rule) + 1) b
-kept_table rule b n all none below = kept_more (Table rule) b below (λ e w. none e (omega (arith, in_table rule b e w)) w)
+pub kept_table : (rule : TableRule) (b : List ℕ) (n : ℕ) → table_count rule b ≤ n
+    → ((f : ℕ) → f < n → Breaks (Table rule) b f → ⊥) → KeepsBelow (number (Table rule)) b
+    → KeepsBelow (number (Table rule) + 1) b
+kept_table rule b n all none below =
+    kept_more (Table rule) b below (λ e w. none e (omega (arith, in_table rule b e w)) w)

@@ -6,9 +6,10 @@ use Rattle.elf_records.specs.declared.dynamic.DynamicEntry.{DynamicEntry}
 use Rattle.elf_records.specs.declared.dynamic.TheConstants.{DT_RELA}
 use Rattle.image_faults.specs.Parts.{last}
 use Rattle.image_faults.specs.Array.{HasTag, HoldsTable, place, entry, has_tag, relocations_size, relocation_count}
-use Rattle.image_faults.specs.Places.{AreRelocationsAt}
+use Rattle.image_faults.specs.PlaceLaws.{AreRelocationsAt}
 
-table_inside : (b : List ℕ) (s : Segment) (address n : ℕ) → s ≡ last b → s.offset + s.filesz ≤ length b → HoldsTable b address n → place b address + n ≤ length b
+table_inside : (b : List ℕ) (s : Segment) (address n : ℕ) → s ≡ last b → s.offset + s.filesz ≤ length b
+    → HoldsTable b address n → place b address + n ≤ length b
 table_inside b s address n same inside holds =
     omega (arith, ap (λ x. x.offset) same, ap (λ x. x.filesz) same, inside, holds.0, holds.2)
 
@@ -34,7 +35,8 @@ count_of_size b = whole (relocations_size b)
     whole : (n : ℕ) → 24 * (n / 24) ≤ n
     whole n = omega arith
 
-pub relocations_at : (b : List ℕ) (s : Segment) (e : DynamicEntry) (at : ℕ) → s ≡ last b → s.offset + s.filesz ≤ length b → e ≡ entry b 5
+pub relocations_at : (b : List ℕ) (s : Segment) (e : DynamicEntry) (at : ℕ) → s ≡ last b
+    → s.offset + s.filesz ≤ length b → e ≡ entry b 5
     → at ≡ place b e.value → HoldsTable b (entry b 5).value (relocations_size b) → AreRelocationsAt b at
 relocations_at b s e at same inside five here holds =
     let place_is : at ≡ place b (entry b 5).value = here ∙ ap (λ x. place b x.value) five in

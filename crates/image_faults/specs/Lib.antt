@@ -4,6 +4,7 @@ pub mod Faults
 pub mod Fields
 pub mod Parts
 pub mod Places
+pub mod PlaceLaws
 pub mod Relocations
 pub mod Segments
 pub mod Symbols

@@ -4,7 +4,8 @@ ghost use Rattle.std.specs.Prelude.{◌≡◌, ◌+◌, ◌*◌, ◌<◌, ◌≤
 ghost use Rattle.image_rules.specs.declared.rule.EntryRule.TheVariants.{Hash};
 ghost use Rattle.image_faults.specs.Array.{IsRightEntry};
 ghost use Rattle.image_rules.specs.Rules.{entry_number};
-ghost use Rattle.image_faults.specs.Places.{ArePlaces, AreRightTables, AreRelocationsAt, file_kind, got};
+ghost use Rattle.image_faults.specs.Places.{file_kind, got};
+ghost use Rattle.image_faults.specs.PlaceLaws.{ArePlaces, AreRightTables, AreRelocationsAt};
 ghost use Rattle.image_faults.specs.Parts.{count as count_of, loads as loads_of, segment as segment_header};
 ghost use Rattle.image_faults.specs.Parts.{tls as tls_of};
 ghost use Rattle.image_faults.specs.Symbols.{symbol as symbol_entry};

@@ -10,7 +10,8 @@ use Rattle.image_file.specs.Tabled.{tabled_at}
 abbrev pub made : List ℕ → PartClass → Segment → Part
 made b class s = record { class = class; address = s.vaddr; bytes = slice_range b s.offset (s.offset + s.filesz) }
 
-pub part_lent : (b : List ℕ) (i : ℕ) (class : PartClass) (s : Segment) → class ≡ class_numbered s.flags → s ≡ segment b i → i < loads b
+pub part_lent : (b : List ℕ) (i : ℕ) (class : PartClass) (s : Segment) → class ≡ class_numbered s.flags
+    → s ≡ segment b i → i < loads b
     → Some (made b class s) ≡ slice_get (spelled b).parts i
 unfolding part
 part_lent b i class s classed same h =

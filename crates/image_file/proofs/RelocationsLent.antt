@@ -25,7 +25,8 @@ unfolding relocation_of
 symbol_of_relocation b n = refl
 
 -- what is lent of one, if there is one
-pub symbol_within : (b : List ℕ) (m n : ℕ) (o : Option ImageRelocation) → IsImage b → symbol_count b ≡ m → o ≡ slice_get (spelled b).relocations n
+pub symbol_within : (b : List ℕ) (m n : ℕ) (o : Option ImageRelocation) → IsImage b → symbol_count b ≡ m
+    → o ≡ slice_get (spelled b).relocations n
     → IfSome o (λ r. r.symbol < m)
 symbol_within b m n None image count same = tt
 symbol_within b m n (Some r) image count same =

@@ -22,7 +22,7 @@ pub struct Image {
 
 impl Model for Image {
     ghost use Rattle.image_faults.specs.Faults.{IsImage};
-    ghost use Rattle.image_faults.specs.Places.{ArePlaces};
+    ghost use Rattle.image_faults.specs.PlaceLaws.{ArePlaces};
     ghost use Rattle.image_file.specs.Spelled.{Spelled, spelled};
 
     ghost Value = { Spelled };

@@ -15,7 +15,8 @@ use Rattle.elf_records.specs.declared.symbol.SymbolType.TheVariants.{NoType, Obj
 use Rattle.image_file.specs.declared.relocation.ImageRelocation.{ImageRelocation}
 use Rattle.image_file.specs.Tabled.{tabled}
 use Rattle.image_writer.specs.Contents.{Contents}
-use Rattle.image_writer.specs.Tables.{tables, array, strings, hash_words, symbol_rows, symbol_entry, relocation_entry, tables_part, finished}
+use Rattle.image_writer.specs.Tables.{tables, array, strings, hash_words, symbol_rows, symbol_entry, relocation_entry}
+use Rattle.image_writer.specs.Tables.{tables_part, finished}
 use Rattle.image_writer.specs.Outlined.{Outlined, outline_of, part, end_of}
 use Rattle.image_writer.specs.Loadable.{IsLoadable, IsRightPart, HoldsTls}
 use Rattle.image_tests.proofs.Pieces.{symbol_of, part_of, place, named, has}
@@ -37,7 +38,8 @@ contents code initial values got stub = record {
       ∷ part_of Writable 0x403000 got ∷ part_of Executable 0x404000 stub ∷ [];
   got = Some 3;
   tls = Some tls_part;
-  symbols = symbol_of Func true 0x400000 23 ∷ symbol_of Tls true 8 4 ∷ symbol_of Object true 0x402000 4 ∷ symbol_of NoType false 0 0 ∷ [];
+  symbols = symbol_of Func true 0x400000 23 ∷ symbol_of Tls true 8 4 ∷ symbol_of Object true 0x402000 4
+      ∷ symbol_of NoType false 0 0 ∷ [];
   names = codes "f" ∷ codes "x" ∷ codes "n" ∷ codes "__tls_get_addr" ∷ [];
   relocations = relocation ∷ [];
   is_flagged = false;
@@ -47,7 +49,8 @@ contents code initial values got stub = record {
 abbrev pub outline : Outlined
 outline = record {
   kind = Exe;
-  parts = place Executable 0x400000 23 ∷ place ReadOnly 0x401000 20 ∷ place Writable 0x402000 4 ∷ place Writable 0x403000 24
+  parts = place Executable 0x400000 23 ∷ place ReadOnly 0x401000 20 ∷ place Writable 0x402000 4
+      ∷ place Writable 0x403000 24
       ∷ place Executable 0x404000 6 ∷ place ReadOnly 0x405000 342 ∷ [];
   array_size = 144;
   got = Some 3;
@@ -55,15 +58,19 @@ outline = record {
 }
 
 -- the tables have 342 bytes
-pub tables-size : (code initial values got stub : List ℕ) → length (tables (contents code initial values got stub)) ≡ 342
+pub tables-size : (code initial values got stub : List ℕ)
+    → length (tables (contents code initial values got stub)) ≡ 342
 unfolding tables array strings hash_words symbol_rows symbol_entry relocation_entry tabled bytes_of dynamic_bytes symbol_bytes rela_bytes fields.spelled
 tables-size code initial values got stub = refl
 
 -- each part is right
 pub right_part : (i : ℕ) → i < 6 → IsRightPart outline i
-right_part zero h = record { filled = omega arith; paged = refl; above = omega arith; below = omega arith; rising = inl refl }
-right_part (suc zero) h = record { filled = omega arith; paged = refl; above = omega arith; below = omega arith; rising = inr (omega arith) }
-right_part (suc (suc zero)) h = record { filled = omega arith; paged = refl; above = omega arith; below = omega arith; rising = inr (omega arith) }
+right_part zero h = record
+    { filled = omega arith; paged = refl; above = omega arith; below = omega arith; rising = inl refl }
+right_part (suc zero) h =
+    record { filled = omega arith; paged = refl; above = omega arith; below = omega arith; rising = inr (omega arith) }
+right_part (suc (suc zero)) h =
+    record { filled = omega arith; paged = refl; above = omega arith; below = omega arith; rising = inr (omega arith) }
 right_part (suc (suc (suc zero))) h =
     record { filled = omega arith; paged = refl; above = omega arith; below = omega arith; rising = inr (omega arith) }
 right_part (suc (suc (suc (suc zero)))) h =
@@ -106,10 +113,12 @@ pub record AreSized (code initial values got stub : List ℕ) : Type 0 where
 pub outlined : (code initial values got stub : List ℕ) → AreSized code initial values got stub
     → outline_of (finished (contents code initial values got stub)) ≡ outline
 unfolding finished tables_part
-outlined code initial values got stub s = rw (s.code_has, s.initial_has, s.values_has, s.got_has, s.stub_has, tables-size code initial values got stub) refl
+outlined code initial values got stub s =
+    rw (s.code_has, s.initial_has, s.values_has, s.got_has, s.stub_has, tables-size code initial values got stub) refl
 
 -- each symbol is right
-pub right_symbol : (code initial values got stub : List ℕ) (k : ℕ) → 0 < k → k ≤ 4 → IsRightSymbol (contents code initial values got stub) k
+pub right_symbol : (code initial values got stub : List ℕ) (k : ℕ) → 0 < k → k ≤ 4
+    → IsRightSymbol (contents code initial values got stub) k
 right_symbol code initial values got stub zero p h = absurd (omega (arith, p))
 right_symbol code initial values got stub (suc zero) p h =
     record { shared = λ e. cc; named = named (codes "f") refl; inside = λ e d. absurd cc }
@@ -156,7 +165,8 @@ linkable code initial values got stub s =
 
 -- the bytes of the parts in a file of this length
 pub in_file : (file : List ℕ) → length file ≡ 20486
-    → AreSized (part_at 23 4096 file) (part_at 20 8192 file) (part_at 4 12288 file) (part_at 24 16384 file) (part_at 6 20480 file)
+    → AreSized (part_at 23 4096 file) (part_at 20 8192 file) (part_at 4 12288 file) (part_at 24 16384 file)
+    (part_at 6 20480 file)
 in_file file h = record {
   code_has = has 23 4096 file (omega (arith, h));
   initial_has = has 20 8192 file (omega (arith, h));
@@ -168,9 +178,11 @@ in_file file h = record {
 -- the contents whose parts' bytes stand in a file
 abbrev pub file_contents : List ℕ → Contents
 file_contents file =
-    contents (part_at 23 4096 file) (part_at 20 8192 file) (part_at 4 12288 file) (part_at 24 16384 file) (part_at 6 20480 file)
+    contents (part_at 23 4096 file) (part_at 20 8192 file) (part_at 4 12288 file) (part_at 24 16384 file)
+    (part_at 6 20480 file)
 
 -- a linker may make this image of them
 pub file_linkable : (file : List ℕ) → length file ≡ 20486 → IsLinkable (file_contents file)
 file_linkable file h =
-    linkable (part_at 23 4096 file) (part_at 20 8192 file) (part_at 4 12288 file) (part_at 24 16384 file) (part_at 6 20480 file) (in_file file h)
+    linkable (part_at 23 4096 file) (part_at 20 8192 file) (part_at 4 12288 file) (part_at 24 16384 file)
+    (part_at 6 20480 file) (in_file file h)

@@ -15,7 +15,8 @@ use Rattle.elf_records.specs.declared.symbol.SymbolType.TheVariants.{Func, Tls}
 use Rattle.image_file.specs.declared.relocation.ImageRelocation.{ImageRelocation}
 use Rattle.image_file.specs.Tabled.{tabled}
 use Rattle.image_writer.specs.Contents.{Contents}
-use Rattle.image_writer.specs.Tables.{tables, array, strings, hash_words, symbol_rows, symbol_entry, relocation_entry, tables_part, finished}
+use Rattle.image_writer.specs.Tables.{tables, array, strings, hash_words, symbol_rows, symbol_entry, relocation_entry}
+use Rattle.image_writer.specs.Tables.{tables_part, finished}
 use Rattle.image_writer.specs.Outlined.{Outlined, outline_of, part, end_of}
 use Rattle.image_writer.specs.Loadable.{IsLoadable, IsRightPart, HoldsTls}
 use Rattle.image_tests.proofs.Pieces.{symbol_of, part_of, place, named, has}
@@ -59,9 +60,12 @@ tables-size code initial got = refl
 
 -- each part is right
 pub right_part : (i : ℕ) → i < 4 → IsRightPart outline i
-right_part zero h = record { filled = omega arith; paged = refl; above = omega arith; below = omega arith; rising = inl refl }
-right_part (suc zero) h = record { filled = omega arith; paged = refl; above = omega arith; below = omega arith; rising = inr (omega arith) }
-right_part (suc (suc zero)) h = record { filled = omega arith; paged = refl; above = omega arith; below = omega arith; rising = inr (omega arith) }
+right_part zero h = record
+    { filled = omega arith; paged = refl; above = omega arith; below = omega arith; rising = inl refl }
+right_part (suc zero) h =
+    record { filled = omega arith; paged = refl; above = omega arith; below = omega arith; rising = inr (omega arith) }
+right_part (suc (suc zero)) h =
+    record { filled = omega arith; paged = refl; above = omega arith; below = omega arith; rising = inr (omega arith) }
 right_part (suc (suc (suc zero))) h =
     record { filled = omega arith; paged = refl; above = omega arith; below = omega arith; rising = inr (omega arith) }
 right_part (suc (suc (suc (suc i)))) h = absurd (omega (arith, h))

@@ -3,7 +3,8 @@ use Rattle.std.proofs.Common.{◌≡◌, ◌<◌, ℕ, List, arith}
 use Rattle.image_rules.specs.declared.rule.Rule.{Rule}
 use Rattle.image_rules.specs.declared.rule.Rule.TheVariants.{Length, Ident, Field, Extent, Segment, Entry, Table}
 use Rattle.image_rules.specs.declared.rule.FieldRule.{FieldRule}
-use Rattle.image_rules.specs.declared.rule.FieldRule.TheVariants.{FileType, Machine, Version, TableOffset, EntrySize, Count}
+use Rattle.image_rules.specs.declared.rule.FieldRule.TheVariants.{FileType, Machine, Version, TableOffset, EntrySize}
+use Rattle.image_rules.specs.declared.rule.FieldRule.TheVariants.{Count}
 use Rattle.image_rules.specs.declared.rule.EntryRule.TheVariants.{Hash, Strings, Symbols, Relocations}
 use Rattle.image_rules.specs.declared.rule.TableRule.TheVariants.{Symbol, Relocation, TlsSymbol, TlsRelocation}
 use Rattle.image_faults.specs.Array.{symbol_count, relocation_count}
@@ -19,7 +20,7 @@ use Rattle.image_writer.proofs.Seen.{seen}
 use Rattle.image_writer.proofs.SameArray.{SameHeaders, same_relocation_count}
 use Rattle.image_writer.proofs.SameTables.{same_symbol_count}
 use Rattle.image_writer.proofs.SameRules.{entry_there, symbol_there, relocation_there, past_back, outside_tls_back}
-use Rattle.image_faults.specs.Places.{AreRightTables as AreRight}
+use Rattle.image_faults.specs.PlaceLaws.{AreRightTables as AreRight}
 use Rattle.image_writer.proofs.SameHeaders.{file_headed, same_headers, same_part_bytes, same_tls}
 use Rattle.image_writer.proofs.SameSpelled.{same_spelled}
 

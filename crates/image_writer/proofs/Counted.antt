@@ -1,5 +1,6 @@
 -- Numbers below another that pass a test: what it says that so many lead, that there are so many, or that one is last.
-use Rattle.std.proofs.Common.{◌≡◌, ◌+◌, ◌<◌, ◌≤◌, ◌⊎◌, ◌∙◌, ℕ, zero, suc, Bool, true, false, refl, sym, inl, inr, subst, arith, nat_lt, if◌then◌else◌}
+use Rattle.std.proofs.Common.{◌≡◌, ◌+◌, ◌<◌, ◌≤◌, ◌⊎◌, ◌∙◌, ℕ, zero, suc, Bool, true, false, refl, sym, inl, inr, subst}
+use Rattle.std.proofs.Common.{arith, nat_lt, if◌then◌else◌}
 use Rattle.std.proofs.lemmas.Bool.Decides.{nat_tests}
 use Rattle.image_faults.specs.Counts.{leading, how_many, behind_last}
 
@@ -56,7 +57,8 @@ last_step : (r n : ℕ) (q : Bool) → 0 < (if q then suc n else r)
 last_step r n q h = grind arith
 
 -- where there is a last one, it passes
-pub last_found : (p : ℕ → Bool) (n : ℕ) → 0 < behind_last p n → (i : ℕ) × (i < n) × (p i ≡ true) × (behind_last p n ≡ i + 1)
+pub last_found : (p : ℕ → Bool) (n : ℕ) → 0 < behind_last p n
+    → (i : ℕ) × (i < n) × (p i ≡ true) × (behind_last p n ≡ i + 1)
 unfolding behind_last
 last_found p zero h = absurd (omega arith)
 last_found p (suc n) h = elim (last_step (behind_last p n) n (p n) h) [

@@ -53,7 +53,8 @@ dec_both p q = elim p [
 
 -- all of three
 pub dec_three : {P Q R : Type 0} → Dec P → Dec Q → Dec R → Dec (P × Q × R)
-dec_three p q r = dec_map (λ all. (all.0, all.1.0, all.1.1)) (λ all. (all.0, (all.1, all.2))) (dec_both p (dec_both q r))
+dec_three p q r = dec_map (λ all. (all.0, all.1.0, all.1.1)) (λ all. (all.0, (all.1, all.2)))
+    (dec_both p (dec_both q r))
 
 -- all of four
 pub dec_four : {P Q R S : Type 0} → Dec P → Dec Q → Dec R → Dec S → Dec (P × Q × R × S)

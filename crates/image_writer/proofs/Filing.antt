@@ -1,5 +1,6 @@
 -- What is written of an image is a file of it.
-use Rattle.std.proofs.Common.{ℕ, suc, ◌+◌, ◌-◌, ◌*◌, ◌<◌, ◌≤◌, ◌≡◌, Some, List, [], ◌∷◌, ◌++◌, length, map, take, drop, get_or, replicate, refl, subst, sym, ap, ◌∙◌, arith, append_assoc, length-append}
+use Rattle.std.proofs.Common.{ℕ, suc, ◌+◌, ◌-◌, ◌*◌, ◌<◌, ◌≤◌, ◌≡◌, Some, List, [], ◌∷◌, ◌++◌, length, map, take, drop}
+use Rattle.std.proofs.Common.{get_or, replicate, refl, subst, sym, ap, ◌∙◌, arith, append_assoc, length-append}
 use Rattle.std.specs.List.{flat_map, slice_get}
 use Rattle.std.proofs.lemmas.List.{append-nil, drop_all, length-map, length-replicate, get_or-map, take_at}
 use Rattle.elf_records.specs.Fields.{splice, part_at}
@@ -19,14 +20,16 @@ use Rattle.image_writer.proofs.Laying.{part_end, past, reach, reach-laid, laid-a
 use Rattle.image_writer.proofs.FileHeader.{file_header}
 
 -- what is put over zeros behind other bytes
-pub splice_end : (old new : List ℕ) (n : ℕ) → length new ≡ n → splice (length old) new (old ++ replicate n 0) ≡ old ++ new
+pub splice_end : (old new : List ℕ) (n : ℕ) → length new ≡ n
+    → splice (length old) new (old ++ replicate n 0) ≡ old ++ new
 unfolding splice
 splice_end old new n long =
     let zeros : List ℕ = replicate n 0 in
     let size : length zeros ≡ n = length-replicate n 0 in
     let both = length-append old zeros in
     let front : take (length old) (old ++ zeros) ≡ old = take_at old zeros (length old) refl in
-    let back : drop (length old + length new) (old ++ zeros) ≡ [] = drop_all (length old + length new) (old ++ zeros) (omega arith) in
+    let back : drop (length old + length new) (old ++ zeros) ≡ [] =
+    drop_all (length old + length new) (old ++ zeros) (omega arith) in
     rw (front, back) (ap (λ ys. old ++ ys) (append-nil new))
 
 -- how long the page is
@@ -40,7 +43,8 @@ length-page o loadable =
     let count = program_headers-count o in
     let long-h = length-file_header o in
     let long-p : length P ≡ 56 * length (program_headers o) = length-segments (program_headers o) in
-    let long-z : length Z ≡ 4032 - 56 * length (program_headers o) = length-replicate (4032 - 56 * length (program_headers o)) 0 in
+    let long-z : length Z ≡ 4032 - 56 * length (program_headers o) =
+    length-replicate (4032 - 56 * length (program_headers o)) 0 in
     let inner = length-append P Z in
     let outer = length-append H (P ++ Z) in
     omega arith

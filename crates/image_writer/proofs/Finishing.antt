@@ -1,5 +1,6 @@
 -- What the draft of linkable contents keeps, and what code holds of it.
-use Rattle.std.proofs.Common.{ℕ, zero, suc, ◌+◌, ◌<◌, ◌≤◌, ◌≡◌, All, List, [], ◌∷◌, ◌++◌, length, map, get_or, refl, subst, sym, ap, ◌∙◌, arith}
+use Rattle.std.proofs.Common.{ℕ, zero, suc, ◌+◌, ◌<◌, ◌≤◌, ◌≡◌, All, List, [], ◌∷◌, ◌++◌, length, map, get_or, refl}
+use Rattle.std.proofs.Common.{subst, sym, ap, ◌∙◌, arith}
 use Rattle.std.specs.Int.{next_multiple_of}
 use Rattle.std.proofs.lemmas.List.{get_or-map, get_or_push, length-map, length_push, map-append}
 use Rattle.image_file.specs.declared.symbol.ImageSymbol.{ImageSymbol}
@@ -14,7 +15,8 @@ use Rattle.image_writer.specs.Loadable.{HoldsTls, IsLoadable, IsRightPart}
 use Rattle.image_writer.specs.Outlined.{end_of, no_part, outline_of, part, place_of}
 use Rattle.image_writer.specs.Page.{base_of}
 use Rattle.image_writer.specs.Tables.{array_size, finished, tables, tables_part}
-use Rattle.image_writer.specs.Told.{told, next_page, layout_of, tables_at, tables_size, tables_place, IsSymbolFitting, IsRelocationFitting}
+use Rattle.image_writer.specs.Told.{told, next_page, layout_of, tables_at, tables_size, tables_place, IsSymbolFitting}
+use Rattle.image_writer.specs.Told.{IsRelocationFitting}
 use Rattle.image_writer.proofs.Layouts.{layout_facts}
 use Rattle.image_writer.proofs.Linked.{AreFitting}
 use Rattle.image_writer.proofs.Making.{length-tables_at, parts_end-in, places-in, tables-is, tables-told}
@@ -47,7 +49,8 @@ pub outline-is : (d : Draft) (file : List ℕ) → AreInside d file
 unfolding finished
 outline-is d file inside =
     let c = contents_of d file in
-    let parts : map place_of (c.parts ++ (tables_part c ∷ [])) ≡ d.parts.now ++ (tables_place (next_page d) (tables_size (told d)) ∷ []) =
+    let parts : map place_of (c.parts ++ (tables_part c ∷ [])) ≡ d.parts.now
+    ++ (tables_place (next_page d) (tables_size (told d)) ∷ []) =
     map-append place_of c.parts (tables_part c ∷ [])
     ∙ ap (λ ps. ps ++ (place_of (tables_part c) ∷ [])) (places-in d.kind file d.parts.now inside)
     ∙ ap (λ p. d.parts.now ++ (p ∷ [])) (place_told d file inside) in
@@ -60,11 +63,13 @@ pub record IsBounded (d : Draft) : Type 0 where
   pub below : next_page d + tables_size (told d) ≤ base_of d.kind + 67108864
 
 -- the draft's outline can be loaded
-pub loadable_told : (d : Draft) (file : List ℕ) → AreInside d file → IsLinkable (contents_of d file) → IsLoadable (outline_told d)
+pub loadable_told : (d : Draft) (file : List ℕ) → AreInside d file → IsLinkable (contents_of d file)
+    → IsLoadable (outline_told d)
 loadable_told d file inside linkable = subst IsLoadable (outline-is d file inside) linkable.loadable
 
 -- and it holds the TLS segment's address
-pub tls_told : (d : Draft) (file : List ℕ) → AreInside d file → IsLinkable (contents_of d file) → HoldsTls (outline_told d)
+pub tls_told : (d : Draft) (file : List ℕ) → AreInside d file → IsLinkable (contents_of d file)
+    → HoldsTls (outline_told d)
 tls_told d file inside linkable = subst HoldsTls (outline-is d file inside) linkable.holds_tls
 
 -- the last part of more by one
@@ -73,9 +78,12 @@ last_right : (d : Draft) → IsLoadable (outline_told d)
 last_right d can =
     let p = tables_place (next_page d) (tables_size (told d)) in
     let more = length_push d.parts.now p in
-    let right : IsRightPart (outline_told d) (length d.parts.now) = can.parts (length d.parts.now) (omega (arith, more)) in
-    let is : part (outline_told d) (length d.parts.now) ≡ p = get_or_push d.parts.now p no_part (length d.parts.now) refl in
-    let address : (part (outline_told d) (length d.parts.now)).address ≡ next_page d = ap (λ (q : PartPlace). q.address) is in
+    let right : IsRightPart (outline_told d) (length d.parts.now) =
+    can.parts (length d.parts.now) (omega (arith, more)) in
+    let is : part (outline_told d) (length d.parts.now) ≡ p =
+    get_or_push d.parts.now p no_part (length d.parts.now) refl in
+    let address : (part (outline_told d) (length d.parts.now)).address ≡ next_page d =
+    ap (λ (q : PartPlace). q.address) is in
     let end : end_of (part (outline_told d) (length d.parts.now)) ≡ next_page d + tables_size (told d) = ap end_of is in
     (subst (λ n. base_of d.kind ≤ n) address right.above, subst (λ n. n ≤ base_of d.kind + 67108864) end right.below)
 
@@ -90,12 +98,15 @@ symbol_fits : (d : Draft) → All IsSymbolFitting d.symbols.now → (k : ℕ) �
 symbol_fits d fits zero below = (omega arith, omega arith)
 symbol_fits d fits (suc i) below =
     let within : i < length d.symbols.now = omega arith in
-    let is : get_or (map (λ (s : NamedSymbol). s.symbol) d.symbols.now) i null_symbol ≡ (get_or d.symbols.now i no_symbol).symbol =
+    let is : get_or (map (λ (s : NamedSymbol). s.symbol) d.symbols.now) i null_symbol
+    ≡ (get_or d.symbols.now i no_symbol).symbol =
     get_or-map (λ (s : NamedSymbol). s.symbol) d.symbols.now i no_symbol null_symbol within in
-    subst (λ (s : ImageSymbol). (s.value < 18446744073709551616) × (s.size < 18446744073709551616)) (sym is) (fits i no_symbol within)
+    subst (λ (s : ImageSymbol). (s.value < 18446744073709551616) × (s.size < 18446744073709551616)) (sym is)
+    (fits i no_symbol within)
 
 -- each number of the contents lies in the range of its type
-pub fitting : (d : Draft) (file : List ℕ) → All IsSymbolFitting d.symbols.now → All IsRelocationFitting d.relocations.now
+pub fitting : (d : Draft) (file : List ℕ) → All IsSymbolFitting d.symbols.now
+    → All IsRelocationFitting d.relocations.now
     → AreFitting (contents_of d file)
 fitting d file symbols relocations =
     let count : length (map (λ (s : NamedSymbol). s.symbol) d.symbols.now) ≡ length d.symbols.now =

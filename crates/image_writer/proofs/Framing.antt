@@ -1,7 +1,9 @@
 -- A draft's file as its parts in its frame, and parts that stand at their offsets in a file.
-use Rattle.std.proofs.Common.{ℕ, zero, suc, ◌+◌, ◌-◌, ◌<◌, ◌≤◌, ◌≡◌, ◌⊎◌, inl, inr, All, Some, List, [], ◌∷◌, ◌++◌, length, map, take, drop, get_or, replicate, refl, sym, ap, ◌∙◌, arith}
+use Rattle.std.proofs.Common.{ℕ, zero, suc, ◌+◌, ◌-◌, ◌<◌, ◌≤◌, ◌≡◌, ◌⊎◌, inl, inr, All, Some, List, [], ◌∷◌, ◌++◌}
+use Rattle.std.proofs.Common.{length, map, take, drop, get_or, replicate, refl, sym, ap, ◌∙◌, arith}
 use Rattle.std.specs.List.{slice_get}
-use Rattle.std.proofs.lemmas.List.{append-nil, drop_all, drop-drop, length-replicate, replicate-append-replicate, take-append-drop}
+use Rattle.std.proofs.lemmas.List.{append-nil, drop_all, drop-drop, length-replicate, replicate-append-replicate}
+use Rattle.std.proofs.lemmas.List.{take-append-drop}
 use Rattle.std.proofs.lemmas.Option.{get_or_from_slice_get}
 use Rattle.std.proofs.Math.Seq.{drop-cons}
 use Rattle.std.proofs.lemmas.List.Elements.{All-cons}
@@ -65,7 +67,8 @@ pub read_again : (d : Draft) (file : List ℕ) → IsLinkable (contents_of d fil
     × (spelled (written (finished (contents_of d file))) ≡ finished (contents_of d file))
 read_again d file linkable symbols relocations =
     let c = contents_of d file in
-    stands_for c (written (finished c)) linkable (fitting d file symbols relocations) (is_file (finished c) linkable.loadable)
+    stands_for c (written (finished c)) linkable (fitting d file symbols relocations)
+    (is_file (finished c) linkable.loadable)
 
 -- what is put into bytes that were made of zeros, after some of them
 pub put_behind : (empty grown lent put new : List ℕ) (gap n long : ℕ) → empty ≡ [] → n ≡ length new

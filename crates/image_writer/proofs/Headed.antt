@@ -1,5 +1,6 @@
 -- What a file that a page of headers leads is read as: its header, its program headers, and the rules that they keep.
-use Rattle.std.proofs.Common.{◌≡◌, ◌+◌, ◌-◌, ◌<◌, ◌≤◌, ℕ, Bool, List, Option, Some, None, length, take, is_some, refl, ap, arith, if◌then◌else◌}
+use Rattle.std.proofs.Common.{◌≡◌, ◌+◌, ◌-◌, ◌<◌, ◌≤◌, ℕ, Bool, List, Option, Some, None, length, take, is_some, refl}
+use Rattle.std.proofs.Common.{ap, arith, if◌then◌else◌}
 use Rattle.std.specs.Option.{option_map}
 use Rattle.elf_records.specs.declared.program_header.Segment.{Segment}
 use Rattle.image_faults.specs.Parts.{header, count, segment, base, loads, last, has_tls, tls}
@@ -36,7 +37,8 @@ pub record IsHeaded (f : List ℕ) (o : Outlined) : Type 0 where
   pub inside : (i : ℕ) → i < count f → (segment f i).offset + (segment f i).filesz ≤ length f
 
 -- the size of the TLS segment goes by its header
-size_of : (s : Segment) (h : Bool) (m : Option TlsPart) → h ≡ is_some m → option_map tls_part (if h then Some s else None) ≡ m
+size_of : (s : Segment) (h : Bool) (m : Option TlsPart) → h ≡ is_some m
+    → option_map tls_part (if h then Some s else None) ≡ m
     → (if h then s.memsz else 0) ≡ tls_size m
 size_of s h None is told = rw is refl
 size_of s h (Some t) is told =

@@ -1,14 +1,17 @@
 -- What a file says whose first 4096 bytes are a page of headers: the header and each program header are read as they
 -- were written.
-use Rattle.std.proofs.Common.{◌≡◌, ◌+◌, ◌-◌, ◌*◌, ◌^◌, ◌<◌, ◌≤◌, ℕ, List, [], ◌++◌, length, take, replicate, rules, slice_index_or, refl, sym, ap, ◌∙◌, arith, append-nil, length-append}
+use Rattle.std.proofs.Common.{◌≡◌, ◌+◌, ◌-◌, ◌*◌, ◌^◌, ◌<◌, ◌≤◌, ℕ, List, [], ◌++◌, length, take, replicate, rules}
+use Rattle.std.proofs.Common.{slice_index_or, refl, sym, ap, ◌∙◌, arith, append-nil, length-append}
 use Rattle.std.proofs.lemmas.List.{length-take}
 use Rattle.std.proofs.lemmas.List.{length-replicate}
 use Rattle.std.specs.List.{flat_map}
 use Rattle.elf_records.specs.declared.program_header.Segment.{Segment}
 use Rattle.elf_records.specs.Fields.{part_at}
 use Rattle.elf_records.specs.Laws.{part_at-take}
-use Rattle.elf_records.specs.Records.{FitsSegment, FitsHeader, header_at, segment_at, header_bytes, segment_bytes}
-use Rattle.elf_records.specs.RecordLaws.{header_at-own, header_again, segment_at-own, segment_again, length-header_bytes, length-segment_bytes}
+use Rattle.elf_records.specs.Records.{header_at, segment_at, header_bytes, segment_bytes}
+use Rattle.elf_records.specs.FittingRecords.{FitsSegment, FitsHeader}
+use Rattle.elf_records.specs.RecordLaws.{header_at-own, header_again, segment_at-own, segment_again}
+use Rattle.elf_records.specs.RecordLaws.{length-header_bytes, length-segment_bytes}
 use Rattle.image_rules.specs.declared.places.FileKind.{FileKind}
 use Rattle.image_rules.specs.declared.places.FileKind.TheVariants.{Exe, Pie, Module}
 use Rattle.image_faults.specs.Parts.{header, segment}
@@ -35,8 +38,10 @@ length_page o few =
     let fits = header_fits o few in
     let front = length-header_bytes (file_header o) fits.0 in
     let rows = length_rows segment_bytes 56 (program_headers o) length-segment_bytes in
-    let outer = length-append (header_bytes (file_header o)) (flat_map segment_bytes (program_headers o) ++ replicate (4032 - 56 * length (program_headers o)) 0) in
-    let inner = length-append (flat_map segment_bytes (program_headers o)) (replicate (4032 - 56 * length (program_headers o)) 0) in
+    let outer = length-append (header_bytes (file_header o))
+    (flat_map segment_bytes (program_headers o) ++ replicate (4032 - 56 * length (program_headers o)) 0) in
+    let inner = length-append (flat_map segment_bytes (program_headers o))
+    (replicate (4032 - 56 * length (program_headers o)) 0) in
     let zeros = length-replicate {A = ℕ} (4032 - 56 * length (program_headers o)) 0 in
     outer ∙ omega arith
 
@@ -49,7 +54,8 @@ part_led : (f p : List ℕ) (n at : ℕ) → take 4096 f ≡ p → at + n ≤ 40
 part_led f p n at leads within = sym (part_at-take n at 4096 f within) ∙ ap (part_at n at) leads
 
 -- the header
-pub header_led : (f : List ℕ) (o : Outlined) → take 4096 f ≡ page o → length (program_headers o) ≤ 10 → header f ≡ file_header o
+pub header_led : (f : List ℕ) (o : Outlined) → take 4096 f ≡ page o → length (program_headers o) ≤ 10
+    → header f ≡ file_header o
 unfolding header page
 header_led f o leads few =
     let rest = flat_map segment_bytes (program_headers o) ++ replicate (4032 - 56 * length (program_headers o)) 0 in
@@ -63,16 +69,20 @@ segment_alone : (s : Segment) → FitsSegment s → segment_at 0 (segment_bytes 
 segment_alone s fits = ap (segment_at 0) (sym (append-nil (segment_bytes s))) ∙ segment_again 0 s [] [] refl fits
 
 -- program header i
-pub segment_led : (f : List ℕ) (o : Outlined) (i : ℕ) (s d : Segment) → take 4096 f ≡ page o → length (program_headers o) ≤ 10
+pub segment_led : (f : List ℕ) (o : Outlined) (i : ℕ) (s d : Segment) → take 4096 f ≡ page o
+    → length (program_headers o) ≤ 10
     → i < length (program_headers o) → slice_index_or (program_headers o) i d ≡ s → FitsSegment s → segment f i ≡ s
 unfolding segment page
 segment_led f o i s d leads few below is fits =
     let back : List ℕ = replicate (4032 - 56 * length (program_headers o)) 0 in
-    let front : length (header_bytes (file_header o)) ≡ 64 = length-header_bytes (file_header o) (header_fits o few).0 in
+    let front : length (header_bytes (file_header o)) ≡ 64 =
+    length-header_bytes (file_header o) (header_fits o few).0 in
     sym (segment_at-own (64 + 56 * i) f)
     ∙ ap (segment_at 0) (
-    part_led f (header_bytes (file_header o) ++ (flat_map segment_bytes (program_headers o) ++ back)) 56 (64 + 56 * i) leads (omega arith)
-    ∙ row_at segment_bytes 56 (program_headers o) i d 64 (header_bytes (file_header o)) back front length-segment_bytes below
+    part_led f (header_bytes (file_header o) ++ (flat_map segment_bytes (program_headers o) ++ back)) 56
+    (64 + 56 * i) leads (omega arith)
+    ∙ row_at segment_bytes 56 (program_headers o) i d 64
+    (header_bytes (file_header o)) back front length-segment_bytes below
     ∙ ap segment_bytes is
     )
     ∙ segment_alone s fits

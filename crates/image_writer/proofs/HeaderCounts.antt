@@ -8,7 +8,8 @@ use Rattle.image_faults.proofs.Counts.{lead_of, stay_of, stop_of}
 leading_all : (p : ℕ → Bool) (n : ℕ) → ((i : ℕ) → i < n → p i ≡ true) → leading p n ≡ n
 unfolding leading
 leading_all p zero all = refl
-leading_all p (suc n) all = lead_of (leading p n) n (p n) (leading_all p n (λ i lt. all i (omega arith))) (all n (omega arith))
+leading_all p (suc n) all =
+    lead_of (leading p n) n (p n) (leading_all p n (λ i lt. all i (omega arith))) (all n (omega arith))
 
 -- all numbers below n pass, and n does not
 pub leading_is : (p : ℕ → Bool) (n m : ℕ) → ((i : ℕ) → i < n → p i ≡ true) → p n ≡ false → n < m → leading p m ≡ n
@@ -66,7 +67,8 @@ last_within p zero = omega arith
 last_within p (suc n) = last_grows (behind_last p n) n (p n) (last_within p n)
 
 -- what was found is the number itself, or was found before
-last_found : (p : ℕ → Bool) (m n g : ℕ) (b : Bool) → p n ≡ b → (if b then suc n else m) ≡ g + 1 → (m ≡ g + 1 → p g ≡ true) → p g ≡ true
+last_found : (p : ℕ → Bool) (m n g : ℕ) (b : Bool) → p n ≡ b → (if b then suc n else m) ≡ g + 1
+    → (m ≡ g + 1 → p g ≡ true) → p g ≡ true
 last_found p m n g true is found earlier = let same : g ≡ n = omega arith in rw same is
 last_found p m n g false is found earlier = earlier found
 

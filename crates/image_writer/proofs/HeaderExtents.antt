@@ -1,5 +1,6 @@
 -- The bytes that each header tells lie in the file, if those of the last part do.
-use Rattle.std.proofs.Common.{◌≡◌, ◌+◌, ◌-◌, ◌<◌, ◌≤◌, ◌⊎◌, ℕ, zero, suc, List, length, sym, ap, subst, ◌∙◌, arith, inl, inr}
+use Rattle.std.proofs.Common.{◌≡◌, ◌+◌, ◌-◌, ◌<◌, ◌≤◌, ◌⊎◌, ℕ, zero, suc, List, length, sym, ap, subst, ◌∙◌, arith, inl}
+use Rattle.std.proofs.Common.{inr}
 use Rattle.elf_records.specs.declared.program_header.Segment.{Segment}
 use Rattle.image_faults.specs.Parts.{count, segment}
 use Rattle.image_faults.specs.Segments.{PassesEnd}
@@ -44,31 +45,38 @@ abbrev pub IsInside : List ℕ → Segment → Type 0
 IsInside f s = s.offset + s.filesz ≤ length f
 
 -- those of a LOAD
-load_inside : (f : List ℕ) (o : Outlined) (i : ℕ) → IsLoadable o → file_offset o.kind (end_of (last_part o)) ≤ length f → i < length o.parts
+load_inside : (f : List ℕ) (o : Outlined) (i : ℕ) → IsLoadable o → file_offset o.kind (end_of (last_part o)) ≤ length f
+    → i < length o.parts
     → IsInside f (load_header o.kind (part o i))
 unfolding load_header
 load_inside f o i loadable long below =
     let right = loadable.parts i below in
-    inside (base_of o.kind) (part o i).address (part o i).size (end_of (last_part o)) (length f) long (ends_within o i loadable below) (omega (arith, right.above))
+    inside (base_of o.kind) (part o i).address (part o i).size (end_of (last_part o)) (length f) long
+    (ends_within o i loadable below) (omega (arith, right.above))
 
 -- those of GNU_RELRO
-relro_inside : (f : List ℕ) (o : Outlined) (i : ℕ) → IsLoadable o → file_offset o.kind (end_of (last_part o)) ≤ length f → i < length o.parts
+relro_inside : (f : List ℕ) (o : Outlined) (i : ℕ) → IsLoadable o → file_offset o.kind (end_of (last_part o)) ≤ length f
+    → i < length o.parts
     → IsInside f (relro_header o.kind (part o i))
 unfolding relro_header
 relro_inside f o i loadable long below =
     let right = loadable.parts i below in
-    inside (base_of o.kind) (part o i).address (part o i).size (end_of (last_part o)) (length f) long (ends_within o i loadable below) (omega (arith, right.above))
+    inside (base_of o.kind) (part o i).address (part o i).size (end_of (last_part o)) (length f) long
+    (ends_within o i loadable below) (omega (arith, right.above))
 
 -- those of DYNAMIC
-dynamic_inside : (f : List ℕ) (o : Outlined) → IsLoadable o → file_offset o.kind (end_of (last_part o)) ≤ length f → IsInside f (dynamic_header o)
+dynamic_inside : (f : List ℕ) (o : Outlined) → IsLoadable o → file_offset o.kind (end_of (last_part o)) ≤ length f
+    → IsInside f (dynamic_header o)
 unfolding dynamic_header
 dynamic_inside f o loadable long =
     let right = loadable.parts (length o.parts - 1) (omega (arith, loadable.some)) in
     let within = loadable.array_in in
-    inside (base_of o.kind) (last_part o).address o.array_size (end_of (last_part o)) (length f) long (omega arith) (omega (arith, right.above))
+    inside (base_of o.kind) (last_part o).address o.array_size (end_of (last_part o)) (length f) long (omega arith)
+    (omega (arith, right.above))
 
 -- those of the initial image
-tls_inside : (f : List ℕ) (o : Outlined) (t : TlsPart) → IsLoadable o → file_offset o.kind (end_of (last_part o)) ≤ length f → IsRightTlsPart o t
+tls_inside : (f : List ℕ) (o : Outlined) (t : TlsPart) → IsLoadable o
+    → file_offset o.kind (end_of (last_part o)) ≤ length f → IsRightTlsPart o t
     → t.address ≤ end_of (last_part o) → IsInside f (tls_header o.kind t)
 unfolding tls_header
 tls_inside f o t loadable long right near =
@@ -106,7 +114,8 @@ segment_inside f o i read loadable holds long below =
     ]
 
 -- nothing that the headers tell passes the end of the file
-pub passes_nowhere : (f : List ℕ) (o : Outlined) → AreRead f o → IsLoadable o → HoldsTls o → file_offset o.kind (end_of (last_part o)) ≤ length f
+pub passes_nowhere : (f : List ℕ) (o : Outlined) → AreRead f o → IsLoadable o → HoldsTls o
+    → file_offset o.kind (end_of (last_part o)) ≤ length f
     → PassesEnd f → ⊥
 passes_nowhere f o read loadable holds long passes = elim passes [
   | inl short ↦ omega (arith, read.few, read.long)

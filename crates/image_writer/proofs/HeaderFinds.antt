@@ -1,10 +1,12 @@
 -- What is found among the headers that a page leads: how many parts there are, whether a TLS segment and a part that
 -- the loader alone writes are told, and which part that is.
-use Rattle.std.proofs.Common.{◌≡◌, ◌+◌, ◌-◌, ◌<◌, ◌≤◌, ◌⊎◌, ℕ, Bool, true, false, List, Option, Some, None, is_some, length, refl, sym, ap, ◌∙◌, arith, inl, inr, ◌==◌, ◌&&◌, nat_lt, if◌then◌else◌}
+use Rattle.std.proofs.Common.{◌≡◌, ◌+◌, ◌-◌, ◌<◌, ◌≤◌, ◌⊎◌, ℕ, Bool, true, false, List, Option, Some, None, is_some}
+use Rattle.std.proofs.Common.{length, refl, sym, ap, ◌∙◌, arith, inl, inr, ◌==◌, ◌&&◌, nat_lt, if◌then◌else◌}
 use Rattle.std.proofs.lemmas.Bool.Decides.{nat_tests}
 use Rattle.std.specs.Option.{option_map}
 use Rattle.elf_records.specs.declared.program_header.Segment.{Segment}
-use Rattle.elf_records.specs.declared.program_header.TheConstants.{PT_LOAD, PT_DYNAMIC, PT_TLS, PT_GNU_RELRO, PF_R, PF_W}
+use Rattle.elf_records.specs.declared.program_header.TheConstants.{PT_LOAD, PT_DYNAMIC, PT_TLS, PT_GNU_RELRO, PF_R}
+use Rattle.elf_records.specs.declared.program_header.TheConstants.{PF_W}
 use Rattle.elf_records.specs.declared.file_header.TheConstants.{ET_EXEC}
 use Rattle.image_rules.specs.declared.places.FileKind.{FileKind}
 use Rattle.image_rules.specs.declared.places.FileKind.TheVariants.{Exe, Pie, Module}
@@ -26,7 +28,8 @@ use Rattle.image_writer.proofs.HeaderReads.{AreRead}
 use Rattle.image_writer.proofs.FileHeader.{file_header}
 
 -- the address at which the image begins
-base_found : (k : FileKind) (o : Outlined) → k ≡ o.kind → (if (file_header o).e_type == ET_EXEC then 0x400000 else 0) ≡ base_of k
+base_found : (k : FileKind) (o : Outlined) → k ≡ o.kind
+    → (if (file_header o).e_type == ET_EXEC then 0x400000 else 0) ≡ base_of k
 unfolding header_of
 base_found Exe o is = rw (← is) refl
 base_found Pie o is = rw (← is) refl
@@ -65,7 +68,8 @@ pub kind_of_dynamic : (f : List ℕ) (o : Outlined) → AreRead f o → (segment
 kind_of_dynamic f o read = ap (λ s. s.kind) read.dynamic_is ∙ dynamic_kind o
 
 -- TLS
-pub kind_of_tls : (f : List ℕ) (o : Outlined) (t : TlsPart) → AreRead f o → o.tls ≡ Some t → (segment f (length o.parts + 1)).kind ≡ PT_TLS
+pub kind_of_tls : (f : List ℕ) (o : Outlined) (t : TlsPart) → AreRead f o → o.tls ≡ Some t
+    → (segment f (length o.parts + 1)).kind ≡ PT_TLS
 kind_of_tls f o t read is = ap (λ s. s.kind) (read.tls_is t is) ∙ tls_kind o.kind t
 
 -- GNU_RELRO
@@ -171,9 +175,11 @@ no_relro : (f : List ℕ) (o : Outlined) → AreRead f o → o.got ≡ None → 
 no_relro f o read none i below = elim (which (length o.parts) i o.tls o.got (omega (arith, read.count_is))) [
   | inl lt ↦ is_not_of (segment f i).kind PT_LOAD PT_GNU_RELRO (kind_of_load f o i read lt) (λ e. omega arith)
   | inr more ↦ elim more [
-    | inl is ↦ is_not_of (segment f i).kind PT_DYNAMIC PT_GNU_RELRO (rw is (kind_of_dynamic f o read)) (λ e. omega arith)
+    | inl is ↦ is_not_of (segment f i).kind PT_DYNAMIC PT_GNU_RELRO (rw is (kind_of_dynamic f o read))
+        (λ e. omega arith)
     | inr rest ↦ elim rest [
-      | inl tls ↦ is_not_of (segment f i).kind PT_TLS PT_GNU_RELRO (rw (tls.0) (kind_of_tls f o tls.1.0 read tls.1.1)) (λ e. omega arith)
+      | inl tls ↦ is_not_of (segment f i).kind PT_TLS PT_GNU_RELRO (rw (tls.0) (kind_of_tls f o tls.1.0 read tls.1.1))
+          (λ e. omega arith)
       | inr relro ↦ absurd (let e = sym none ∙ relro.1.1 in cc)
     ]
   ]
@@ -189,7 +195,8 @@ relro_untold n none = grind (arith, nat_tests)
 
 -- whether the image has such a part, by cases
 relro_when : (f : List ℕ) (o : Outlined) (r : Option ℕ) → AreRead f o → o.got ≡ r → has_relro f ≡ is_some r
-relro_when f o None read is = relro_untold (behind_last (is_relro f) (count f)) (last_none (is_relro f) (count f) (no_relro f o read is))
+relro_when f o None read is =
+    relro_untold (behind_last (is_relro f) (count f)) (last_none (is_relro f) (count f) (no_relro f o read is))
 relro_when f o (Some g) read is =
     let at = length o.parts + 1 + one_if_some o.tls in
     let one : one_if_some o.got ≡ 1 = rw is refl in
@@ -202,14 +209,17 @@ pub has_relro_read : (f : List ℕ) (o : Outlined) → AreRead f o → has_relro
 has_relro_read f o read = relro_when f o o.got read refl
 
 -- where it stands
-place_when : (n : ℕ) (h : Bool) (m : Option TlsPart) → h ≡ is_some m → (if h then n + 2 else n + 1) ≡ n + 1 + one_if_some m
+place_when : (n : ℕ) (h : Bool) (m : Option TlsPart) → h ≡ is_some m
+    → (if h then n + 2 else n + 1) ≡ n + 1 + one_if_some m
 place_when n h None is = rw is (omega arith)
 place_when n h (Some t) is = rw is (omega arith)
 
 -- its number in the file
-pub relro_place_read : (f : List ℕ) (o : Outlined) → AreRead f o → relro_place f ≡ length o.parts + 1 + one_if_some o.tls
+pub relro_place_read : (f : List ℕ) (o : Outlined) → AreRead f o
+    → relro_place f ≡ length o.parts + 1 + one_if_some o.tls
 relro_place_read f o read =
-    place_when (loads f) (has_tls f) o.tls (has_tls_read f o read) ∙ ap (λ n. n + 1 + one_if_some o.tls) (loads_read f o read)
+    place_when (loads f) (has_tls f) o.tls (has_tls_read f o read)
+    ∙ ap (λ n. n + 1 + one_if_some o.tls) (loads_read f o read)
 
 -- which parts are written
 load_flags : (k : FileKind) (p : PartPlace) → (load_header k p).flags ≡ flags_of p.class
@@ -217,7 +227,8 @@ unfolding load_header
 load_flags k p = refl
 
 -- the flags of a LOAD in the file
-pub flags_read : (f : List ℕ) (o : Outlined) (i : ℕ) → AreRead f o → i < length o.parts → (segment f i).flags ≡ flags_of (part o i).class
+pub flags_read : (f : List ℕ) (o : Outlined) (i : ℕ) → AreRead f o → i < length o.parts
+    → (segment f i).flags ≡ flags_of (part o i).class
 flags_read f o i read below = ap (λ s. s.flags) (read.load_is i below) ∙ load_flags o.kind (part o i)
 
 -- the flags of writing are those of the class that may be written
@@ -227,16 +238,20 @@ written_flags ReadOnly = refl
 written_flags Writable = refl
 
 -- a part is written in the file just where it is in the image
-written_read : (f : List ℕ) (o : Outlined) (i : ℕ) → AreRead f o → i < length o.parts → is_writable_header f i ≡ is_written o i
-written_read f o i read below = ap (λ n. n == PF_R + PF_W) (flags_read f o i read below) ∙ written_flags (part o i).class
+written_read : (f : List ℕ) (o : Outlined) (i : ℕ) → AreRead f o → i < length o.parts
+    → is_writable_header f i ≡ is_written o i
+written_read f o i read below = ap (λ n. n == PF_R + PF_W) (flags_read f o i read below)
+    ∙ written_flags (part o i).class
 
 -- so as many of them are written
 pub many_read : (f : List ℕ) (o : Outlined) (i : ℕ) → AreRead f o → i ≤ length o.parts
     → how_many (is_writable_header f) i ≡ how_many (is_written o) i
-many_read f o i read within = many_agree (is_writable_header f) (is_written o) i (λ j below. written_read f o j read (omega arith))
+many_read f o i read within =
+    many_agree (is_writable_header f) (is_written o) i (λ j below. written_read f o j read (omega arith))
 
 -- and the last of those is the same
-pub last_read : (f : List ℕ) (o : Outlined) → AreRead f o → behind_last_writable f ≡ behind_last (is_written o) (length o.parts)
+pub last_read : (f : List ℕ) (o : Outlined) → AreRead f o
+    → behind_last_writable f ≡ behind_last (is_written o) (length o.parts)
 last_read f o read =
     rw (loads_read f o read)
     (last_agree (is_writable_header f) (is_written o) (length o.parts) (λ j below. written_read f o j read below))

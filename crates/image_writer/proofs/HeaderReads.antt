@@ -1,7 +1,8 @@
 -- Each program header of a page is read as it was written: its numbers lie in the range of their types.
-use Rattle.std.proofs.Common.{◌≡◌, ◌+◌, ◌-◌, ◌^◌, ◌<◌, ◌≤◌, ℕ, List, Option, Some, IfSome, length, take, refl, ap, subst, ◌∙◌, arith}
+use Rattle.std.proofs.Common.{◌≡◌, ◌+◌, ◌-◌, ◌^◌, ◌<◌, ◌≤◌, ℕ, List, Option, Some, IfSome, length, take, refl, ap}
+use Rattle.std.proofs.Common.{subst, ◌∙◌, arith}
 use Rattle.std.proofs.lemmas.Nat.{pow_below}
-use Rattle.elf_records.specs.Records.{FitsSegment}
+use Rattle.elf_records.specs.FittingRecords.{FitsSegment}
 use Rattle.image_rules.specs.declared.places.FileKind.{FileKind}
 use Rattle.image_rules.specs.declared.places.FileKind.TheVariants.{Exe, Pie, Module}
 use Rattle.image_faults.specs.Parts.{header, count, segment}
@@ -35,23 +36,38 @@ flags_fit Writable = omega arith
 load_fits : (k : FileKind) (p : PartPlace) → end_of p ≤ base_of k + 2 ^ 26 → FitsSegment (load_header k p)
 unfolding load_header
 load_fits k p below =
-    let low = base_low k in
-    (omega arith, (flags_fit p.class, (omega arith, (omega arith, (omega arith, (omega arith, (omega arith, (omega arith, tt))))))))
+    let low = base_low k in (
+      omega arith,
+      (
+        flags_fit p.class,
+        (omega arith, (omega arith, (omega arith, (omega arith, (omega arith, (omega arith, tt)))))),
+      ),
+    )
 
 -- DYNAMIC fits
 dynamic_fits : (o : Outlined) → end_of (last_part o) ≤ base_of o.kind + 2 ^ 26 → o.array_size ≤ (last_part o).size
     → FitsSegment (dynamic_header o)
 unfolding dynamic_header
 dynamic_fits o below within =
-    let low = base_low o.kind in
-    (omega arith, (omega arith, (omega arith, (omega arith, (omega arith, (omega arith, (omega arith, (omega arith, tt))))))))
+    let low = base_low o.kind in (
+      omega arith,
+      (
+        omega arith,
+        (omega arith, (omega arith, (omega arith, (omega arith, (omega arith, (omega arith, tt)))))),
+      ),
+    )
 
 -- GNU_RELRO fits
 relro_fits : (k : FileKind) (p : PartPlace) → end_of p ≤ base_of k + 2 ^ 26 → FitsSegment (relro_header k p)
 unfolding relro_header
 relro_fits k p below =
-    let low = base_low k in
-    (omega arith, (omega arith, (omega arith, (omega arith, (omega arith, (omega arith, (omega arith, (omega arith, tt))))))))
+    let low = base_low k in (
+      omega arith,
+      (
+        omega arith,
+        (omega arith, (omega arith, (omega arith, (omega arith, (omega arith, (omega arith, tt)))))),
+      ),
+    )
 
 -- an alignment is small
 power_small : (k : ℕ) → k ≤ 12 → 2 ^ k < 256 ^ 8
@@ -60,13 +76,19 @@ power_small k few =
     omega arith
 
 -- TLS fits
-tls_fits : (k : FileKind) (t : TlsPart) → t.address ≤ base_of k + 2 ^ 26 → t.initial ≤ t.size → t.size ≤ 2 ^ 20 → IsAlignment t.alignment
+tls_fits : (k : FileKind) (t : TlsPart) → t.address ≤ base_of k + 2 ^ 26 → t.initial ≤ t.size → t.size ≤ 2 ^ 20
+    → IsAlignment t.alignment
     → FitsSegment (tls_header k t)
 unfolding tls_header
 tls_fits k t below initial small alignment =
     let low = base_low k in
-    let aligned : t.alignment < 256 ^ 8 = rw (alignment.2) (power_small alignment.0 alignment.1) in
-    (omega arith, (omega arith, (omega arith, (omega arith, (omega arith, (omega arith, (omega arith, (aligned, tt))))))))
+    let aligned : t.alignment < 256 ^ 8 = rw (alignment.2) (power_small alignment.0 alignment.1) in (
+      omega arith,
+      (
+        omega arith,
+        (omega arith, (omega arith, (omega arith, (omega arith, (omega arith, (aligned, tt)))))),
+      ),
+    )
 
 -- what holds of a value if there is one
 pub some_at : {X : Type 0} (m : Option X) (P : X → Type 0) (x : X) → m ≡ Some x → IfSome m P → P x
@@ -77,7 +99,8 @@ pub one_of_some : {X : Type 0} (m : Option X) (x : X) → m ≡ Some x → one_i
 one_of_some m x is = rw is refl
 
 -- a part ends in the range of the image
-pub part_below : (o : Outlined) (i : ℕ) → IsLoadable o → i < length o.parts → end_of (part o i) ≤ base_of o.kind + 2 ^ 26
+pub part_below : (o : Outlined) (i : ℕ) → IsLoadable o → i < length o.parts
+    → end_of (part o i) ≤ base_of o.kind + 2 ^ 26
 part_below o i loadable below = (loadable.parts i below).below
 
 -- so does the last part
@@ -117,18 +140,22 @@ are_read f o leads loadable holds =
       count_is = omega arith;
       few = omega arith;
       long = long_enough f o leads few;
-      load_is = λ i below. segment_led f o i _ (dynamic_header o) leads few (omega arith) (row_of_load o i (dynamic_header o) below)
+      load_is = λ i below. segment_led f o i _ (dynamic_header o) leads few (omega arith)
+          (row_of_load o i (dynamic_header o) below)
           (load_fits o.kind (part o i) (part_below o i loadable below));
-      dynamic_is = segment_led f o (length o.parts) _ (dynamic_header o) leads few (omega arith) (row_of_dynamic o (dynamic_header o))
+      dynamic_is = segment_led f o (length o.parts) _ (dynamic_header o) leads few (omega arith)
+          (row_of_dynamic o (dynamic_header o))
           (dynamic_fits o (last_below o loadable) loadable.array_in);
       tls_is = λ t is.
           let right = some_at o.tls (IsRightTlsPart o) t is loadable.tls_is in
           let near = some_at o.tls (λ s. s.address ≤ end_of (last_part o)) t is holds in
           let one = one_of_some o.tls t is in
-          segment_led f o (length o.parts + 1) _ (dynamic_header o) leads few (omega arith) (row_of_tls o t (dynamic_header o) is)
+          segment_led f o (length o.parts + 1) _ (dynamic_header o) leads few (omega arith)
+          (row_of_tls o t (dynamic_header o) is)
           (tls_fits o.kind t (omega (arith, near, last_below o loadable)) right.initial_in right.small right.alignment);
       relro_is = λ g is.
           let one = one_of_some o.got g is in
-          segment_led f o (length o.parts + 1 + one_if_some o.tls) _ (dynamic_header o) leads few (omega arith) (row_of_relro o g (dynamic_header o) is)
+          segment_led f o (length o.parts + 1 + one_if_some o.tls) _ (dynamic_header o) leads few (omega arith)
+          (row_of_relro o g (dynamic_header o) is)
           (relro_fits o.kind (part o g) (part_below o g loadable (got_below o g loadable is)));
     }

@@ -8,11 +8,13 @@ use Rattle.image_writer.specs.Outlined.{Outlined, part}
 use Rattle.image_writer.specs.Page.{flags_of, tls_header, relro_header}
 use Rattle.image_writer.specs.Loadable.{IsLoadable, IsRightTlsPart, HoldsInitial}
 use Rattle.image_writer.proofs.HeaderReads.{AreRead, some_at, got_below}
-use Rattle.image_writer.proofs.HeaderFinds.{IsTlsAt, IsRelroAt, behind, loads_read, last_read, flags_read, relro_place_read, kind_of_tls, kind_of_relro}
+use Rattle.image_writer.proofs.HeaderFinds.{IsTlsAt, IsRelroAt, behind, loads_read, last_read, flags_read}
+use Rattle.image_writer.proofs.HeaderFinds.{relro_place_read, kind_of_tls, kind_of_relro}
 use Rattle.image_writer.proofs.HeaderLoads.{vaddr_read, filesz_read, memsz_read, is_placed}
 
 -- a constant part holds the initial image
-initial_held : (f : List ℕ) (o : Outlined) (t : TlsPart) (i : ℕ) → AreRead f o → HoldsInitial o t i → HoldsInitialImage f (tls_header o.kind t) i
+initial_held : (f : List ℕ) (o : Outlined) (t : TlsPart) (i : ℕ) → AreRead f o → HoldsInitial o t i
+    → HoldsInitialImage f (tls_header o.kind t) i
 unfolding tls_header
 initial_held f o t i read held =
     let below : i < length o.parts = omega (arith, held.0) in (
@@ -23,7 +25,8 @@ initial_held f o t i read held =
     )
 
 -- TLS
-right_tls : (f : List ℕ) (o : Outlined) (t : TlsPart) → AreRead f o → IsRightTlsPart o t → IsRightTls f (tls_header o.kind t)
+right_tls : (f : List ℕ) (o : Outlined) (t : TlsPart) → AreRead f o → IsRightTlsPart o t
+    → IsRightTls f (tls_header o.kind t)
 unfolding tls_header
 right_tls f o t read right = (
   is_placed f o (tls_header o.kind t) t.address read refl refl right.placed,
@@ -36,7 +39,8 @@ right_tls f o t read right = (
 )
 
 -- TLS is right where it stands
-tls_rest : (f : List ℕ) (o : Outlined) (i : ℕ) → AreRead f o → IsLoadable o → IsTlsAt (length o.parts) o.tls i → IsRightRest f i
+tls_rest : (f : List ℕ) (o : Outlined) (i : ℕ) → AreRead f o → IsLoadable o → IsTlsAt (length o.parts) o.tls i
+    → IsRightRest f i
 tls_rest f o i read loadable at =
     let t = at.1.0 in
     let right = some_at o.tls (IsRightTlsPart o) t at.1.1 loadable.tls_is in
@@ -49,11 +53,13 @@ tls_rest f o i read loadable at =
     )
 
 -- GNU_RELRO
-behind_got : (f : List ℕ) (o : Outlined) (g : ℕ) → AreRead f o → IsLoadable o → o.got ≡ Some g → behind_last_writable f ≡ g + 1
+behind_got : (f : List ℕ) (o : Outlined) (g : ℕ) → AreRead f o → IsLoadable o → o.got ≡ Some g
+    → behind_last_writable f ≡ g + 1
 behind_got f o g read loadable is = last_read f o read ∙ loadable.got_is g is
 
 -- GNU_RELRO says the last part that is written
-right_relro : (f : List ℕ) (o : Outlined) (g : ℕ) → AreRead f o → IsLoadable o → o.got ≡ Some g → IsRightRelro f (relro_header o.kind (part o g))
+right_relro : (f : List ℕ) (o : Outlined) (g : ℕ) → AreRead f o → IsLoadable o → o.got ≡ Some g
+    → IsRightRelro f (relro_header o.kind (part o g))
 unfolding relro_header
 right_relro f o g read loadable is =
     let below = got_below o g loadable is in
@@ -68,7 +74,8 @@ right_relro f o g read loadable is =
     )
 
 -- GNU_RELRO is right where it stands
-relro_rest : (f : List ℕ) (o : Outlined) (i : ℕ) → AreRead f o → IsLoadable o → IsRelroAt (length o.parts) o.tls o.got i → IsRightRest f i
+relro_rest : (f : List ℕ) (o : Outlined) (i : ℕ) → AreRead f o → IsLoadable o → IsRelroAt (length o.parts) o.tls o.got i
+    → IsRightRest f i
 relro_rest f o i read loadable at =
     let g = at.1.0 in
     let same : segment f i ≡ relro_header o.kind (part o g) = ap (segment f) at.0 ∙ read.relro_is g at.1.1 in
@@ -80,7 +87,8 @@ relro_rest f o i read loadable at =
     )
 
 -- each header behind DYNAMIC
-pub right_rest : (f : List ℕ) (o : Outlined) (i : ℕ) → AreRead f o → IsLoadable o → length o.parts < i → i < count f → IsRightRest f i
+pub right_rest : (f : List ℕ) (o : Outlined) (i : ℕ) → AreRead f o → IsLoadable o → length o.parts < i → i < count f
+    → IsRightRest f i
 right_rest f o i read loadable above below =
     elim (behind (length o.parts) i o.tls o.got above (omega (arith, read.count_is))) [
       | inl tls ↦ tls_rest f o i read loadable tls

@@ -1,5 +1,6 @@
 -- Which program header is which: one for each part, and behind them DYNAMIC, TLS and GNU_RELRO.
-use Rattle.std.proofs.Common.{◌≡◌, ◌+◌, ◌<◌, ℕ, suc, List, ◌∷◌, ◌++◌, Option, Some, None, length, map, slice_index_or, refl, ◌∙◌, arith, length-append}
+use Rattle.std.proofs.Common.{◌≡◌, ◌+◌, ◌<◌, ℕ, suc, List, ◌∷◌, ◌++◌, Option, Some, None, length, map, slice_index_or}
+use Rattle.std.proofs.Common.{refl, ◌∙◌, arith, length-append}
 use Rattle.std.proofs.lemmas.List.{length-map, get_or-map, get_or_append_left, get_or_at, get_or-append-add}
 use Rattle.elf_records.specs.declared.program_header.Segment.{Segment}
 use Rattle.image_rules.specs.declared.places.FileKind.{FileKind}
@@ -20,7 +21,8 @@ length_relro o None = refl
 length_relro o (Some g) = refl
 
 -- how many headers there are
-length_joined : (front : List Segment) (d : Segment) (tls relro : List Segment) (n t r : ℕ) → length front ≡ n → length tls ≡ t → length relro ≡ r
+length_joined : (front : List Segment) (d : Segment) (tls relro : List Segment) (n t r : ℕ) → length front ≡ n
+    → length tls ≡ t → length relro ≡ r
     → length (front ++ (d ∷ (tls ++ relro))) ≡ n + 1 + t + r
 length_joined front d tls relro n t r fs ts rs =
     let outer = length-append front (d ∷ (tls ++ relro)) in
@@ -28,26 +30,33 @@ length_joined front d tls relro n t r fs ts rs =
     rw (outer) (omega arith)
 
 -- in all, one for each part, DYNAMIC, and one for each of the two that there is
-pub length_headers : (o : Outlined) → length (program_headers o) ≡ length o.parts + 1 + one_if_some o.tls + one_if_some o.got
+pub length_headers : (o : Outlined)
+    → length (program_headers o) ≡ length o.parts + 1 + one_if_some o.tls + one_if_some o.got
 unfolding program_headers
 length_headers o =
-    length_joined (map (load_header o.kind) o.parts) (dynamic_header o) (tls_headers o.kind o.tls) (relro_headers o o.got)
+    length_joined (map (load_header o.kind) o.parts) (dynamic_header o) (tls_headers o.kind o.tls)
+    (relro_headers o o.got)
     (length o.parts) (one_if_some o.tls) (one_if_some o.got)
     (length-map o.parts (load_header o.kind)) (length_tls o.kind o.tls) (length_relro o o.got)
 
 -- the header of part i
-pub row_of_load : (o : Outlined) (i : ℕ) (d : Segment) → i < length o.parts → slice_index_or (program_headers o) i d ≡ load_header o.kind (part o i)
+pub row_of_load : (o : Outlined) (i : ℕ) (d : Segment) → i < length o.parts
+    → slice_index_or (program_headers o) i d ≡ load_header o.kind (part o i)
 unfolding program_headers
 row_of_load o i d below =
-    let within : i < length (map (load_header o.kind) o.parts) = omega (arith, length-map o.parts (load_header o.kind)) in
-    get_or_append_left (map (load_header o.kind) o.parts) (dynamic_header o ∷ (tls_headers o.kind o.tls ++ relro_headers o o.got)) d i within
+    let within : i < length (map (load_header o.kind) o.parts) =
+    omega (arith, length-map o.parts (load_header o.kind)) in
+    get_or_append_left (map (load_header o.kind) o.parts)
+    (dynamic_header o ∷ (tls_headers o.kind o.tls ++ relro_headers o o.got)) d i within
     ∙ get_or-map (load_header o.kind) o.parts i no_part d below
 
 -- DYNAMIC
-pub row_of_dynamic : (o : Outlined) (d : Segment) → slice_index_or (program_headers o) (length o.parts) d ≡ dynamic_header o
+pub row_of_dynamic : (o : Outlined) (d : Segment)
+    → slice_index_or (program_headers o) (length o.parts) d ≡ dynamic_header o
 unfolding program_headers
 row_of_dynamic o d =
-    get_or_at (map (load_header o.kind) o.parts) (dynamic_header o) (tls_headers o.kind o.tls ++ relro_headers o o.got) d (length o.parts)
+    get_or_at (map (load_header o.kind) o.parts) (dynamic_header o)
+    (tls_headers o.kind o.tls ++ relro_headers o o.got) d (length o.parts)
     (length-map o.parts (load_header o.kind))
 
 -- the header j + 1 behind the parts is number j of those behind DYNAMIC
@@ -69,7 +78,8 @@ unfolding program_headers
 row_of_tls o t d is =
     let none : length o.parts + 1 ≡ length o.parts + 1 + 0 = omega arith in
     rw none (
-    behind_dynamic (map (load_header o.kind) o.parts) (dynamic_header o) (tls_headers o.kind o.tls ++ relro_headers o o.got) d (length o.parts) 0
+    behind_dynamic (map (load_header o.kind) o.parts) (dynamic_header o)
+    (tls_headers o.kind o.tls ++ relro_headers o o.got) d (length o.parts) 0
     (length-map o.parts (load_header o.kind))
     ∙ tls_first o.kind t o.tls (relro_headers o o.got) d is
     )
@@ -85,6 +95,7 @@ pub row_of_relro : (o : Outlined) (g : ℕ) (d : Segment) → o.got ≡ Some g
     → slice_index_or (program_headers o) (length o.parts + 1 + one_if_some o.tls) d ≡ relro_header o.kind (part o g)
 unfolding program_headers
 row_of_relro o g d is =
-    behind_dynamic (map (load_header o.kind) o.parts) (dynamic_header o) (tls_headers o.kind o.tls ++ relro_headers o o.got) d (length o.parts) (one_if_some o.tls)
+    behind_dynamic (map (load_header o.kind) o.parts) (dynamic_header o)
+    (tls_headers o.kind o.tls ++ relro_headers o o.got) d (length o.parts) (one_if_some o.tls)
     (length-map o.parts (load_header o.kind))
     ∙ relro_behind o g o.tls o.got d is

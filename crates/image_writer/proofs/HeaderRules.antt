@@ -8,7 +8,8 @@ use Rattle.image_rules.specs.declared.places.FileKind.TheVariants.{Exe, Pie, Mod
 use Rattle.image_rules.specs.declared.rule.Rule.{Rule}
 use Rattle.image_rules.specs.declared.rule.Rule.TheVariants.{Length, Ident, Field, Extent, Segment, Entry, Table}
 use Rattle.image_rules.specs.declared.rule.FieldRule.{FieldRule}
-use Rattle.image_rules.specs.declared.rule.FieldRule.TheVariants.{FileType, Machine, Version, TableOffset, EntrySize, Count}
+use Rattle.image_rules.specs.declared.rule.FieldRule.TheVariants.{FileType, Machine, Version, TableOffset, EntrySize}
+use Rattle.image_rules.specs.declared.rule.FieldRule.TheVariants.{Count}
 use Rattle.image_faults.specs.Parts.{count}
 use Rattle.image_faults.specs.Fields.{IsWrongIdent, IsRightField}
 use Rattle.image_rules.specs.Rules.{number}
@@ -36,7 +37,8 @@ right_type Pie = inr refl
 right_type Module = inr refl
 
 -- each field is right
-right_field : (o : Outlined) (rule : FieldRule) → 0 < (file_header o).e_phnum → (file_header o).e_phnum ≤ 10 → IsRightField rule (file_header o)
+right_field : (o : Outlined) (rule : FieldRule) → 0 < (file_header o).e_phnum → (file_header o).e_phnum ≤ 10
+    → IsRightField rule (file_header o)
 unfolding header_of
 right_field o FileType some few = right_type o.kind
 right_field o Machine some few = refl
@@ -58,7 +60,8 @@ right_segments f o e read loadable wrong =
     ]
 
 -- each of the first ten rules is kept
-pub keeps_ten : (f : List ℕ) (o : Outlined) → AreRead f o → IsLoadable o → HoldsTls o → file_offset o.kind (end_of (last_part o)) ≤ length f
+pub keeps_ten : (f : List ℕ) (o : Outlined) → AreRead f o → IsLoadable o → HoldsTls o
+    → file_offset o.kind (end_of (last_part o)) ≤ length f
     → (rule : Rule) → number rule < 10 → Keeps rule f
 unfolding Breaks
 keeps_ten f o read loadable holds long Length below e broken = omega (arith, broken.1, read.long)

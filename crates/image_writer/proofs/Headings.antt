@@ -1,5 +1,6 @@
 -- The page of headers, put piece by piece.
-use Rattle.std.proofs.Common.{ℕ, ◌+◌, ◌-◌, ◌*◌, ◌≤◌, ◌≡◌, Bool, Option, Some, None, List, ◌∷◌, ◌++◌, length, map, replicate, refl, sym, ap, ◌∙◌, arith, append_assoc, length-append}
+use Rattle.std.proofs.Common.{ℕ, ◌+◌, ◌-◌, ◌*◌, ◌≤◌, ◌≡◌, Bool, Option, Some, None, List, ◌∷◌, ◌++◌, length, map}
+use Rattle.std.proofs.Common.{replicate, refl, sym, ap, ◌∙◌, arith, append_assoc, length-append}
 use Rattle.std.specs.Prelude.{is_some}
 use mir.Val.{bool_byte}
 use Rattle.std.specs.List.{flat_map}
@@ -37,7 +38,8 @@ pub program_headers-count : (o : Outlined)
     → length (program_headers o) ≡ length o.parts + 1 + one_if_some o.tls + one_if_some o.got
 unfolding program_headers
 program_headers-count o =
-    let all = length-append (map (load_header o.kind) o.parts) (dynamic_header o ∷ (tls_headers o.kind o.tls ++ relro_headers o o.got)) in
+    let all = length-append (map (load_header o.kind) o.parts)
+    (dynamic_header o ∷ (tls_headers o.kind o.tls ++ relro_headers o o.got)) in
     let loads = length-map o.parts (load_header o.kind) in
     let behind = length-append (tls_headers o.kind o.tls) (relro_headers o o.got) in
     let tls = tls_headers-count o.kind o.tls in

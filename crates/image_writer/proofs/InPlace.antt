@@ -1,7 +1,10 @@
 -- A file that is made in place: its parts stand at their offsets already, and zeros are put between them.
-use Rattle.std.proofs.Common.{ℕ, ◌+◌, ◌-◌, ◌<◌, ◌≤◌, ◌≡◌, false, Some, All, List, [], ◌++◌, length, map, take, drop, get_or, option_map, replicate, refl, subst, sym, ap, ◌∙◌, arith, append_assoc, length-append, length-drop}
+use Rattle.std.proofs.Common.{ℕ, ◌+◌, ◌-◌, ◌<◌, ◌≤◌, ◌≡◌, false, Some, All, List, [], ◌++◌, length, map, take, drop}
+use Rattle.std.proofs.Common.{get_or, option_map, replicate, refl, subst, sym, ap, ◌∙◌, arith, append_assoc}
+use Rattle.std.proofs.Common.{length-append, length-drop}
 use Rattle.std.specs.List.{slice_get}
-use Rattle.std.proofs.lemmas.List.{append-nil, drop_all, drop_at, drop-drop, get_or_default, length-map, length-replicate, length-take-le, take-append-drop}
+use Rattle.std.proofs.lemmas.List.{append-nil, drop_all, drop_at, drop-drop, get_or_default, length-map}
+use Rattle.std.proofs.lemmas.List.{length-replicate, length-take-le, take-append-drop}
 use Rattle.std.proofs.lemmas.Option.{slice_get-get_or, slice_get-map}
 use Rattle.elf_records.specs.Fields.{part_at, splice}
 use Rattle.elf_records.specs.Laws.{drop-splice, length-splice}
@@ -77,7 +80,8 @@ image_in o file = record {
   is_flagged = false;
 }
 
-module _ (o : Outlined) (old : List ℕ) (loadable : IsLoadable o) (room : file_offset o.kind (end_of (last_part o)) ≤ length old) where
+module _ (o : Outlined) (old : List ℕ) (loadable : IsLoadable o)
+    (room : file_offset o.kind (end_of (last_part o)) ≤ length old) where
   abbrev base : ℕ
   base = base_of o.kind
 
@@ -95,21 +99,27 @@ module _ (o : Outlined) (old : List ℕ) (loadable : IsLoadable o) (room : file_
 
   outline_again : outline_of (image_in o old) ≡ o
   outline_again =
-      let with_parts : List PartPlace → Outlined = λ ps. record { kind = o.kind; parts = ps; array_size = o.array_size; got = o.got; tls = o.tls } in
+      let with_parts : List PartPlace
+      → Outlined = λ ps. record
+      { kind = o.kind; parts = ps; array_size = o.array_size; got = o.got; tls = o.tls } in
       ap with_parts (places-in o.kind old o.parts all_inside)
 
   again : IsLoadable (outline_of (image_in o old))
   again = subst IsLoadable (sym outline_again) loadable
 
   -- how many bytes the parts take behind the page
-  pub size_is : 4096 + length (laid (base_of o.kind) (map (part_in o.kind old) o.parts)) ≡ file_offset o.kind (end_of (last_part o))
+  pub size_is : 4096 + length (laid (base_of o.kind) (map (part_in o.kind old) o.parts))
+      ≡ file_offset o.kind (end_of (last_part o))
   size_is =
       let s = image_in o old in
-      sym (length-written-parts s again) ∙ length-written s again ∙ ap (λ (p : Outlined). file_offset o.kind (end_of (last_part p))) outline_again
+      sym (length-written-parts s again) ∙ length-written s again
+      ∙ ap (λ (p : Outlined). file_offset o.kind (end_of (last_part p))) outline_again
 
-  there : (i : ℕ) (d : PartPlace) → i < length o.parts → slice_get parts i ≡ Some (part_in o.kind old (get_or o.parts i d))
+  there : (i : ℕ) (d : PartPlace) → i < length o.parts
+      → slice_get parts i ≡ Some (part_in o.kind old (get_or o.parts i d))
   there i d below =
-      slice_get-map (part_in o.kind old) o.parts i ∙ ap (option_map (part_in o.kind old)) (slice_get-get_or o.parts i d below)
+      slice_get-map (part_in o.kind old) o.parts i
+      ∙ ap (option_map (part_in o.kind old)) (slice_get-get_or o.parts i d below)
 
   -- what the gap before a part keeps, where putting has come to it
   pub gap_place : (out : List ℕ) (i end : ℕ) (d : PartPlace) → i < length o.parts
@@ -163,7 +173,8 @@ module _ (o : Outlined) (old : List ℕ) (loadable : IsLoadable o) (room : file_
       ∙ part_stays q.size (file_offset o.kind q.address) 4096 L old behind (omega (arith, inside, behind)) in
       let from : at ≡ 4096 + (end - base) = omega (arith, facts.0) in
       let below-parts : i < length parts = omega (arith, below, length-map o.parts (part_in o.kind old)) in
-      let all : new ≡ splice (4096 + (reach base (take i parts) - base)) (replicate (p.address - reach base (take i parts)) 0 ++ p.bytes) out =
+      let all : new ≡ splice (4096 + (reach base (take i parts) - base))
+      (replicate (p.address - reach base (take i parts)) 0 ++ p.bytes) out =
       wrote
       ∙ splice_before at q.size zeros out (omega (arith, count, facts.3))
       ∙ ap (λ m. splice at (zeros ++ part_at q.size m out) out) place

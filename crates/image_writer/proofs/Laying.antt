@@ -1,5 +1,7 @@
 -- Parts of an image laid at their addresses.
-use Rattle.std.proofs.Common.{ℕ, zero, suc, ◌+◌, ◌-◌, ◌<◌, ◌≤◌, ◌≡◌, ◌⊎◌, inl, inr, Some, None, List, [], ◌∷◌, ◌++◌, length, map, take, drop, get_or, replicate, refl, subst, sym, ap, ◌∙◌, arith, append_assoc, length-append}
+use Rattle.std.proofs.Common.{ℕ, zero, suc, ◌+◌, ◌-◌, ◌<◌, ◌≤◌, ◌≡◌, ◌⊎◌, inl, inr, Some, None, List, [], ◌∷◌, ◌++◌}
+use Rattle.std.proofs.Common.{length, map, take, drop, get_or, replicate, refl, subst, sym, ap, ◌∙◌, arith}
+use Rattle.std.proofs.Common.{append_assoc, length-append}
 use Rattle.std.specs.List.{slice_get}
 use Rattle.std.proofs.lemmas.List.{append-nil, length-map, length-replicate, get_or-map, map-append, take_more}
 use Rattle.std.proofs.lemmas.Option.{get_or_from_slice_get}
@@ -103,7 +105,8 @@ laid-room at ps i p is =
     let front = take i ps in
     let back = drop (suc i) ps in
     let from = reach at front in
-    let all : length (laid at ps) ≡ length (laid at (front ++ (p ∷ back))) = ap (λ xs. length (laid at xs)) (around ps i p is) in
+    let all : length (laid at ps) ≡ length (laid at (front ++ (p ∷ back))) =
+    ap (λ xs. length (laid at xs)) (around ps i p is) in
     let split : length (laid at (front ++ (p ∷ back))) ≡ length (laid at front ++ laid from (p ∷ back)) =
     ap length (laid-append at front (p ∷ back)) in
     let outer = length-append (laid at front) (laid from (p ∷ back)) in
@@ -117,7 +120,8 @@ laid-room at ps i p is =
 -- one more part, put behind those before it
 pub put_next_part : (base at : ℕ) (ps : List Part) (i : ℕ) (p : Part) (bytes out new : List ℕ) → slice_get ps i ≡ Some p
     → i < length ps → Rise base ps → at ≤ length bytes → out ≡ splice at (laid base (take i ps)) bytes
-    → new ≡ splice (at + (reach base (take i ps) - base)) (replicate (p.address - reach base (take i ps)) 0 ++ p.bytes) out
+    → new ≡ splice (at + (reach base (take i ps) - base))
+    (replicate (p.address - reach base (take i ps)) 0 ++ p.bytes) out
     → new ≡ splice at (laid base (take (i + 1) ps)) bytes
 put_next_part base at ps i p bytes out new is below rise inside was wrote =
     let front = take i ps in
@@ -126,7 +130,8 @@ put_next_part base at ps i p bytes out new is below rise inside was wrote =
     let place : at + (reach base front - base) ≡ at + length (laid base front) = omega (arith, come) in
     let one : laid (reach base front) (p ∷ []) ≡ replicate (p.address - reach base front) 0 ++ p.bytes =
     ap (λ ys. replicate (p.address - reach base front) 0 ++ ys) (append-nil p.bytes) in
-    put_next at (at + (reach base front - base)) (laid base front) (replicate (p.address - reach base front) 0 ++ p.bytes)
+    put_next at (at + (reach base front - base)) (laid base front)
+    (replicate (p.address - reach base front) 0 ++ p.bytes)
     bytes out new place inside was wrote
     ∙ ap (λ ys. splice at ys bytes) (
     ap (λ ys. laid base front ++ ys) (sym one)
@@ -170,7 +175,8 @@ none-past (p ∷ more) zero is = absurd (cc)
 none-past (p ∷ more) (suc i) is = let rest = none-past more i is in omega arith
 
 -- where the parts lie, one more
-pub placed : (ps : List Part) (i : ℕ) (p : Part) (items new : List PartPlace) (place : PartPlace) → slice_get ps i ≡ Some p
+pub placed : (ps : List Part) (i : ℕ) (p : Part) (items new : List PartPlace) (place : PartPlace)
+    → slice_get ps i ≡ Some p
     → i < length ps → items ≡ map place_of (take i ps) → place ≡ place_of p → new ≡ items ++ (place ∷ [])
     → new ≡ map place_of (take (i + 1) ps)
 placed ps i p items new place is below was here pushed =
@@ -178,7 +184,8 @@ placed ps i p items new place is below was here pushed =
     ∙ sym (map-append place_of (take i ps) (p ∷ [])) ∙ ap (map place_of) (sym (up_to ps i p is below))
 
 -- what a part of an image that can be loaded keeps, where laying has come to it
-pub part_place : (s : Spelled) (i : ℕ) (p : Part) (base end : ℕ) → IsLoadable (outline_of s) → slice_get s.parts i ≡ Some p
+pub part_place : (s : Spelled) (i : ℕ) (p : Part) (base end : ℕ) → IsLoadable (outline_of s)
+    → slice_get s.parts i ≡ Some p
     → base ≡ base_of s.kind → end ≡ reach (base_of s.kind) (take i s.parts)
     → (base ≤ end) × (end ≤ p.address) × (part_end p ≤ 71303168)
     × (end - base + (p.address - end + length p.bytes) ≤ length (laid (base_of s.kind) s.parts))

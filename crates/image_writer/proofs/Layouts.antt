@@ -1,5 +1,6 @@
 -- Where the dynamic tables lie, how many bytes each has, and what putting them one behind the other leaves.
-use Rattle.std.proofs.Common.{ℕ, ◌+◌, ◌-◌, ◌*◌, ◌≤◌, ◌≡◌, Bool, true, false, List, [], ◌∷◌, ◌++◌, length, replicate, refl, subst, sym, ap, ◌∙◌, arith, length-append}
+use Rattle.std.proofs.Common.{ℕ, ◌+◌, ◌-◌, ◌*◌, ◌≤◌, ◌≡◌, Bool, true, false, List, [], ◌∷◌, ◌++◌, length, replicate}
+use Rattle.std.proofs.Common.{refl, subst, sym, ap, ◌∙◌, arith, length-append}
 use Rattle.std.specs.Prelude.{if◌then◌else◌}
 use Rattle.std.specs.Int.{next_multiple_of}
 use Rattle.std.specs.List.{flat_map}
@@ -16,7 +17,8 @@ use Rattle.image_writer.specs.declared.layout.Layout.{Layout}
 use Rattle.image_writer.specs.Contents.{Contents}
 use Rattle.image_writer.specs.Tables.{array_size, hash_size, symbols_start, relocations_start, strings}
 use Rattle.elf_records.specs.declared.dynamic.TheConstants.{DT_NULL}
-use Rattle.image_writer.specs.Tables.{array_entry, flags_entries, has_relocations, hash_words, relocation_entry, symbol_rows, symbol_total}
+use Rattle.image_writer.specs.Tables.{array_entry, flags_entries, has_relocations, hash_words, relocation_entry}
+use Rattle.image_writer.specs.Tables.{symbol_rows, symbol_total}
 use Rattle.image_writer.specs.Told.{told, layout_of, tables_size, place_entries, leading_entries, array_at, tables_at}
 use Rattle.image_writer.proofs.Hashes.{length-words_below, words_below-all}
 use Rattle.image_writer.proofs.Puts.{length-items, put_next}
@@ -104,10 +106,13 @@ length-rows c = ap length (sym (rows_below-all c)) ∙ length-rows_below c (symb
 
 pub length-relocations : (rs : List ImageRelocation)
     → length (flat_map (λ r. rela_bytes (relocation_entry r)) rs) ≡ 24 * length rs
-length-relocations rs = length-items (λ (r : ImageRelocation). rela_bytes (relocation_entry r)) 24 rs (λ r. length-rela_bytes (relocation_entry r))
+length-relocations rs =
+    length-items (λ (r : ImageRelocation). rela_bytes (relocation_entry r)) 24 rs
+    (λ r. length-rela_bytes (relocation_entry r))
 
 -- four groups of entries put one behind the other
-pub put_groups : (P L F : List DynamicEntry) (e : DynamicEntry) (at next after last : ℕ) (bytes one two three four : List ℕ)
+pub put_groups : (P L F : List DynamicEntry) (e : DynamicEntry) (at next after last : ℕ)
+    (bytes one two three four : List ℕ)
     → length P ≡ 5 → next ≡ at + 80 → after ≡ next + 16 * length L → last ≡ after + 16 * length F
     → at ≤ length bytes → next ≤ length one → after ≤ length two
     → one ≡ splice at (flat_map dynamic_bytes P) bytes → two ≡ splice next (flat_map dynamic_bytes L) one
@@ -197,7 +202,8 @@ put_all d l address at bytes o1 o2 o3 o4 o5 o6 is room s1 s2 s3 s4 p1 p2 p3 p4 p
     let C : List ℕ = replicate (symbols_start (told d) - (array_size (told d) + hash_size (told d))) 0 in
     let D : List ℕ = flat_map symbol_bytes (symbol_rows (told d)) in
     let E : List ℕ = flat_map (λ r. rela_bytes (relocation_entry r)) d.relocations.now in
-    let gap = gap-is at l.array_size l.symbols_start n (array_size (told d)) (symbols_start (told d)) (symbol_total (told d))
+    let gap = gap-is at l.array_size l.symbols_start n (array_size (told d)) (symbols_start (told d))
+    (symbol_total (told d))
     facts.array_is facts.symbols_are total in
     let long-a : length A ≡ l.array_size = length-array_at address (told d) ∙ sym facts.array_is in
     let long-b : length B ≡ 12 + 4 * n = length-hash (symbol_total (told d)) ∙ ap (λ k. 12 + 4 * k) total in
@@ -207,14 +213,17 @@ put_all d l address at bytes o1 o2 o3 o4 o5 o6 is room s1 s2 s3 s4 p1 p2 p3 p4 p
     let long-e : length E ≡ 24 * length d.relocations.now = length-relocations d.relocations.now in
     let e2 : hash_end ≡ at + l.array_size + length B = hash_ends at l.array_size n (length B) long-b in
     let before : hash_end ≤ at + l.symbols_start = hash_before at l.array_size n l.symbols_start facts.hash in
-    let e3 : at + l.symbols_start ≡ hash_end + length C = gap_ends hash_end (at + l.symbols_start) (length C) before long-c in
+    let e3 : at + l.symbols_start ≡ hash_end + length C =
+    gap_ends hash_end (at + l.symbols_start) (length C) before long-c in
     let e4 : at + l.relocations_start ≡ at + l.symbols_start + length D =
     next_starts at l.symbols_start l.relocations_start (24 * n) (length D) facts.relocations long-d in
     let e5 : at + l.strings_start ≡ at + l.relocations_start + length E =
-    next_starts at l.relocations_start l.strings_start (24 * length d.relocations.now) (length E) facts.strings_behind long-e in
+    next_starts at l.relocations_start l.strings_start (24 * length d.relocations.now)
+    (length E) facts.strings_behind long-e in
     let inside = all_inside at l.array_size n l.symbols_start l.relocations_start l.strings_start l.strings_size
     (24 * length d.relocations.now) (length bytes) facts.hash facts.relocations facts.strings_behind room in
-    put_six A B C D E (strings (told d)) at (at + l.array_size) hash_end (at + l.symbols_start) (at + l.relocations_start)
+    put_six A B C D E (strings (told d)) at (at + l.array_size) hash_end (at + l.symbols_start)
+    (at + l.relocations_start)
     (at + l.strings_start) bytes o1 o2 o3 o4 o5 o6 (ap (λ k. at + k) (sym long-a)) e2 e3 e4 e5 inside.0
     (rw s1 inside.1) (rw s2 inside.2) (rw s3 inside.3) (rw s4 inside.4) p1
     (p2 ∙ ap (λ k. splice (at + l.array_size) (flat_map (bytes_of 4) (hash_words k)) o1) (sym total))

@@ -65,7 +65,8 @@ stands_for c f linkable fitting file =
     linkable.relocations in (
       all_kept f heads.rules (entries_kept f c tables type)
           (tables_kept f c heads read linkable.symbols linkable.relocations linkable.rising),
-      spelled_same (spelled f) (finished c) (kind_is f c tables type linkable.flagged) (parts_are f (finished c) heads file)
+      spelled_same (spelled f) (finished c) (kind_is f c tables type linkable.flagged)
+          (parts_are f (finished c) heads file)
           tables.array_is heads.got_is heads.tls_is (symbols_are f c read) (names_are f c read linkable.symbols)
           (relocations_are f c read) (flagged_is f c tables),
     )

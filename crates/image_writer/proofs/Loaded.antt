@@ -1,12 +1,14 @@
 -- What an image that was read keeps of its parts: a page of headers can tell it again.
-use Rattle.std.proofs.Common.{◌≡◌, ◌≢◌, ◌+◌, ◌-◌, ◌%◌, ◌<◌, ◌≤◌, ◌⊎◌, ◌∙◌, ℕ, Bool, true, false, List, length, Option, Some, None, refl, sym, ap, inl, inr, subst, arith}
+use Rattle.std.proofs.Common.{◌≡◌, ◌≢◌, ◌+◌, ◌-◌, ◌%◌, ◌<◌, ◌≤◌, ◌⊎◌, ◌∙◌, ℕ, Bool, true, false, List, length, Option}
+use Rattle.std.proofs.Common.{Some, None, refl, sym, ap, inl, inr, subst, arith}
 use Rattle.std.proofs.Common.{◌==◌, ◌&&◌, nat_lt, if◌then◌else◌, is_some}
 use Rattle.std.specs.Prelude.{IfSome}
 use Rattle.std.proofs.lemmas.Bool.Decides.{nat_tests}
 use Rattle.std.proofs.lemmas.Option.{cond_some}
 use Rattle.std.specs.Option.{option_map}
 use Rattle.elf_records.specs.declared.program_header.Segment.{Segment}
-use Rattle.elf_records.specs.declared.program_header.TheConstants.{PT_LOAD, PT_DYNAMIC, PT_TLS, PT_GNU_RELRO, PF_X, PF_R, PF_W}
+use Rattle.elf_records.specs.declared.program_header.TheConstants.{PT_LOAD, PT_DYNAMIC, PT_TLS, PT_GNU_RELRO, PF_X}
+use Rattle.elf_records.specs.declared.program_header.TheConstants.{PF_R, PF_W}
 use Rattle.image_rules.specs.declared.rule.FieldRule.TheVariants.{Count}
 use Rattle.image_faults.specs.Counts.{how_many, behind_last}
 use Rattle.image_faults.specs.Parts.{count, segment, loads, tls, has_tls, has_relro, relro_place, behind_last_writable}
@@ -125,7 +127,8 @@ one_of None = refl
 one_of (Some x) = refl
 
 -- one header for TLS, where a test says so
-one_of_tls : (t : Bool) (s : Segment) → one_if_some (option_map tls_part (if t then Some s else None)) ≡ (if t then 1 else 0)
+one_of_tls : (t : Bool) (s : Segment)
+    → one_if_some (option_map tls_part (if t then Some s else None)) ≡ (if t then 1 else 0)
 one_of_tls false s = refl
 one_of_tls true s = refl
 
@@ -138,15 +141,19 @@ counted true false l c dynamic tls relro = let last = tls refl in omega arith
 counted true true l c dynamic tls relro = let last = relro refl in omega arith
 
 -- there are headers for all that there is
-headers_there : (b : List ℕ) → IsImage b → loads b + 1 + one_if_some (option_map tls_part (tls b)) + one_if_some (got b) ≤ count b
+headers_there : (b : List ℕ) → IsImage b
+    → loads b + 1 + one_if_some (option_map tls_part (tls b)) + one_if_some (got b) ≤ count b
 headers_there b image =
     let tls_one = one_of_tls (has_tls b) (segment b (loads b + 1)) in
-    let got_one : one_if_some (got b) ≡ (if has_relro b then 1 else 0) = one_of (got b) ∙ ap (λ r. if r then 1 else 0) (got_there b image) in
+    let got_one : one_if_some (got b) ≡ (if has_relro b then 1 else 0) = one_of (got b)
+    ∙ ap (λ r. if r then 1 else 0) (got_there b image) in
     rw (tls_one, got_one)
-    (counted (has_tls b) (has_relro b) (loads b) (count b) (dynamic_right b image).1 (λ has. (tls_in b has).0) (λ has. (relro_found b image has).0))
+    (counted (has_tls b) (has_relro b) (loads b) (count b) (dynamic_right b image).1 (λ has. (tls_in b has).0)
+    (λ has. (relro_found b image has).0))
 
 -- where part i begins
-part_address : (b : List ℕ) (o : Outlined) → IsSeen b o → (i : ℕ) → i < loads b → (part o i).address ≡ (segment b i).vaddr
+part_address : (b : List ℕ) (o : Outlined) → IsSeen b o → (i : ℕ) → i < loads b
+    → (part o i).address ≡ (segment b i).vaddr
 unfolding place
 part_address b o is i h = ap (λ (p : PartPlace). p.address) (is.part_is i h)
 
@@ -156,13 +163,16 @@ unfolding place
 part_size b o is i h = ap (λ (p : PartPlace). p.size) (is.part_is i h)
 
 -- and its class
-part_class : (b : List ℕ) (o : Outlined) → IsSeen b o → (i : ℕ) → i < loads b → (part o i).class ≡ class_numbered (segment b i).flags
+part_class : (b : List ℕ) (o : Outlined) → IsSeen b o → (i : ℕ) → i < loads b
+    → (part o i).class ≡ class_numbered (segment b i).flags
 unfolding place
 part_class b o is i h = ap (λ (p : PartPlace). p.class) (is.part_is i h)
 
 -- a part is written where its header says so
-written_alike : (b : List ℕ) (o : Outlined) → IsImage b → IsSeen b o → (i : ℕ) → i < loads b → is_written o i ≡ is_writable_header b i
-written_alike b o image is i h = ap is_writable (part_class b o is i h) ∙ written_of (segment b i).flags (load_right b image i h).1
+written_alike : (b : List ℕ) (o : Outlined) → IsImage b → IsSeen b o → (i : ℕ) → i < loads b
+    → is_written o i ≡ is_writable_header b i
+written_alike b o image is i h = ap is_writable (part_class b o is i h)
+    ∙ written_of (segment b i).flags (load_right b image i h).1
 
 -- each part is right
 part_right : (b : List ℕ) (o : Outlined) → IsImage b → IsSeen b o → (i : ℕ) → i < loads b → IsRightPart o i
@@ -185,7 +195,8 @@ part_right b o image is i h =
     }
   where
     -- it begins behind the part before it
-    later : (b : List ℕ) (o : Outlined) → IsSeen b o → (i : ℕ) → i < loads b → (segment b (i - 1)).vaddr + (segment b (i - 1)).memsz ≤ (segment b i).vaddr
+    later : (b : List ℕ) (o : Outlined) → IsSeen b o → (i : ℕ) → i < loads b
+        → (segment b (i - 1)).vaddr + (segment b (i - 1)).memsz ≤ (segment b i).vaddr
         → (segment b (i - 1)).filesz ≡ (segment b (i - 1)).memsz → end_of (part o (i - 1)) ≤ (part o i).address
     later b o is i h behind whole =
         let at = part_address b o is i h in
@@ -196,7 +207,8 @@ part_right b o image is i h =
 -- no more parts are written than may be
 few_right : (b : List ℕ) → IsImage b → how_many (is_writable_header b) (loads b) ≤ (if has_relro b then 2 else 1)
 few_right b image =
-    many_at_most (is_writable_header b) (loads b) (if has_relro b then 2 else 1) (λ i h. elim (load_right b image i h).4 [
+    many_at_most (is_writable_header b) (loads b) (if has_relro b then 2 else 1)
+    (λ i h. elim (load_right b image i h).4 [
       | inl differs ↦ inl (not_written (segment b i).flags differs)
       | inr few ↦ inr few
     ])
@@ -214,7 +226,8 @@ last_right b o image is =
       | inl differs ↦ absurd (differs (omega arith))
       | inr constant ↦ constant
     ] in
-    ap (λ (p : PartPlace). p.class) (last_is b o is) ∙ part_class b o is (loads b - 1) in_loads ∙ ap class_numbered constant
+    ap (λ (p : PartPlace). p.class) (last_is b o is) ∙ part_class b o is (loads b - 1) in_loads
+    ∙ ap class_numbered constant
 
 -- the array lies in the last part
 array_right : (b : List ℕ) (o : Outlined) → IsImage b → IsSeen b o → o.array_size ≤ (last_part o).size
@@ -226,7 +239,8 @@ array_right b o image is =
     omega (arith, many, is.array_is, in_last)
 
 -- a part that holds the initial image
-holds_right : (b : List ℕ) (o : Outlined) → IsSeen b o → (s : Segment) (i : ℕ) → HoldsInitialImage b s i → HoldsInitial o (tls_part s) i
+holds_right : (b : List ℕ) (o : Outlined) → IsSeen b o → (s : Segment) (i : ℕ) → HoldsInitialImage b s i
+    → HoldsInitial o (tls_part s) i
 holds_right b o is s i holds =
     let below : i < loads b = omega (arith, holds.0) in (
       omega (arith, holds.0, is.parts_are),
@@ -236,7 +250,8 @@ holds_right b o is s i holds =
     )
 
 -- the TLS segment is right
-tls_part_right : (b : List ℕ) (o : Outlined) → IsSeen b o → (s : Segment) → IsRightTls b s → IsRightTlsPart o (tls_part s)
+tls_part_right : (b : List ℕ) (o : Outlined) → IsSeen b o → (s : Segment) → IsRightTls b s
+    → IsRightTlsPart o (tls_part s)
 tls_part_right b o is s right = record {
   placed = omega (arith, is.base_is, right.0);
   initial_in = right.1;
@@ -248,7 +263,8 @@ tls_part_right b o is s right = record {
 }
 
 -- what holds of the TLS segment, where a test says that there is one
-some_tls : (t : Bool) (s : Segment) (P : TlsPart → Type 0) → (t ≡ true → P (tls_part s)) → IfSome (option_map tls_part (if t then Some s else None)) P
+some_tls : (t : Bool) (s : Segment) (P : TlsPart → Type 0) → (t ≡ true → P (tls_part s))
+    → IfSome (option_map tls_part (if t then Some s else None)) P
 some_tls false s P h = tt
 some_tls true s P h = h refl
 
@@ -257,10 +273,12 @@ tls_seen : (b : List ℕ) (o : Outlined) → IsImage b → IsSeen b o → IfSome
 tls_seen b o image is =
     let P : Option TlsPart → Type 0 = λ t. IfSome t (IsRightTlsPart o) in
     let s : Segment = segment b (loads b + 1) in
-    subst P (sym is.tls_is) (some_tls (has_tls b) s (IsRightTlsPart o) (λ has. tls_part_right b o is s (tls_right b image has)))
+    subst P (sym is.tls_is)
+    (some_tls (has_tls b) s (IsRightTlsPart o) (λ has. tls_part_right b o is s (tls_right b image has)))
 
 -- there are few headers
-few_headers : (b : List ℕ) (o : Outlined) → IsImage b → IsSeen b o → length o.parts + 1 + one_if_some o.tls + one_if_some o.got ≤ 10
+few_headers : (b : List ℕ) (o : Outlined) → IsImage b → IsSeen b o
+    → length o.parts + 1 + one_if_some o.tls + one_if_some o.got ≤ 10
 few_headers b o image is =
     let there = headers_there b image in
     let few = (field_right b image Count).1 in
@@ -269,14 +287,16 @@ few_headers b o image is =
     omega (arith, there, few, tls_same, got_same, is.parts_are)
 
 -- few parts are written
-few_parts : (b : List ℕ) (o : Outlined) → IsImage b → IsSeen b o → how_many (is_written o) (length o.parts) ≤ (if is_some o.got then 2 else 1)
+few_parts : (b : List ℕ) (o : Outlined) → IsImage b → IsSeen b o
+    → how_many (is_written o) (length o.parts) ≤ (if is_some o.got then 2 else 1)
 few_parts b o image is =
     let same = many_alike (is_written o) (is_writable_header b) (loads b) (written_alike b o image is) in
     let there = ap (λ (o : Option ℕ). is_some o) is.got_is ∙ got_there b image in
     rw (is.parts_are, same, there) (few_right b image)
 
 -- the GOT is the last part that is written
-got_right : (b : List ℕ) (o : Outlined) → IsImage b → IsSeen b o → (g : ℕ) → o.got ≡ Some g → behind_last (is_written o) (length o.parts) ≡ g + 1
+got_right : (b : List ℕ) (o : Outlined) → IsImage b → IsSeen b o → (g : ℕ) → o.got ≡ Some g
+    → behind_last (is_written o) (length o.parts) ≡ g + 1
 got_right b o image is g named =
     ap (behind_last (is_written o)) is.parts_are
     ∙ last_alike (is_written o) (is_writable_header b) (loads b) (written_alike b o image is)

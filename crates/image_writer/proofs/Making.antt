@@ -1,5 +1,6 @@
 -- What a draft whose contents can be linked keeps, and the file that it becomes.
-use Rattle.std.proofs.Common.{ℕ, suc, ◌+◌, ◌-◌, ◌*◌, ◌≤◌, ◌≡◌, true, false, All, List, [], ◌∷◌, ◌++◌, length, map, drop, replicate, refl, ap, ◌∙◌, arith, length-append}
+use Rattle.std.proofs.Common.{ℕ, suc, ◌+◌, ◌-◌, ◌*◌, ◌≤◌, ◌≡◌, true, false, All, List, [], ◌∷◌, ◌++◌, length, map, drop}
+use Rattle.std.proofs.Common.{replicate, refl, ap, ◌∙◌, arith, length-append}
 use Rattle.std.specs.List.{flat_map}
 use Rattle.std.proofs.lemmas.List.{length-replicate, length-take-le, length-drop}
 use Rattle.elf_records.specs.Fields.{bytes_of, part_at}
@@ -11,7 +12,8 @@ use Rattle.image_writer.specs.Contents.{Contents, contents_of, part_in, parts_en
 use Rattle.image_writer.specs.Outlined.{place_of}
 use Rattle.image_writer.specs.Page.{file_offset}
 use Rattle.image_writer.specs.Tables as tables
-use Rattle.image_writer.specs.Told.{told, places_end, layout_of, tables_at, tables_size, array_at, place_entries, leading_entries}
+use Rattle.image_writer.specs.Told.{told, places_end, layout_of, tables_at, tables_size, array_at, place_entries}
+use Rattle.image_writer.specs.Told.{leading_entries}
 use Rattle.image_writer.proofs.Layouts as layouts
 
 -- a part inside a file has the size that its place says
@@ -29,7 +31,8 @@ pub places-in : (kind : FileKind) (file : List ℕ) (places : List PartPlace)
 places-in kind file [] inside = refl
 places-in kind file (p ∷ more) inside =
     let here : place_of (part_in kind file p) ≡ p =
-    ap (λ n. record { class = p.class; address = p.address; size = n }) (part_in-size kind file p (inside 0 p (omega arith))) in
+    ap (λ n. record { class = p.class; address = p.address; size = n })
+    (part_in-size kind file p (inside 0 p (omega arith))) in
     let rest = places-in kind file more (λ k d below. inside (suc k) d (omega arith)) in
     ap (λ q. q ∷ map place_of (map (part_in kind file) more)) here ∙ ap (λ qs. p ∷ qs) rest
 
@@ -39,7 +42,8 @@ pub parts_end-in : (kind : FileKind) (file : List ℕ) (places : List PartPlace)
     → parts_end kind (map (part_in kind file) places) ≡ places_end kind places
 parts_end-in kind file [] inside = refl
 parts_end-in kind file (p ∷ []) inside = ap (λ n. p.address + n) (part_in-size kind file p (inside 0 p (omega arith)))
-parts_end-in kind file (p ∷ (q ∷ more)) inside = parts_end-in kind file (q ∷ more) (λ k d below. inside (suc k) d (omega arith))
+parts_end-in kind file (p ∷ (q ∷ more)) inside =
+    parts_end-in kind file (q ∷ more) (λ k d below. inside (suc k) d (omega arith))
 
 -- the array of contents is that at their tables' address
 pub array-is : (c : Contents) → tables.array c ≡ array_at (tables_address c) c
@@ -60,7 +64,8 @@ tables-is c = ap (λ es. flat_map dynamic_bytes es ++ (flat_map (bytes_of 4) (ta
     ++ (flat_map (λ r. rela_bytes (tables.relocation_entry r)) c.relocations ++ tables.strings c))))) (array-is c)
 
 -- the bytes of parts change no table
-pub tables-told : (d : Draft) (file : List ℕ) (address : ℕ) → tables_at address (contents_of d file) ≡ tables_at address (told d)
+pub tables-told : (d : Draft) (file : List ℕ) (address : ℕ)
+    → tables_at address (contents_of d file) ≡ tables_at address (told d)
 unfolding tables_at layout_of tables.strings tables.symbol_rows
 tables-told d file address = refl
 
@@ -93,5 +98,6 @@ length-tables_at address c =
     let r : length D ≡ 24 * tables.symbol_total c = layouts.length-rows c in
     let e : length E ≡ 24 * length c.relocations = layouts.length-relocations c.relocations in
     let behind = layouts.next_multiple_of-le (tables.array_size c + tables.hash_size c) in
-    six_sizes A B C D E F (tables.array_size c) (tables.hash_size c) (tables.symbols_start c) (24 * tables.symbol_total c)
+    six_sizes A B C D E F (tables.array_size c) (tables.hash_size c) (tables.symbols_start c)
+    (24 * tables.symbol_total c)
     (24 * length c.relocations) a b z r e behind

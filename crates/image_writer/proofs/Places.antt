@@ -1,5 +1,6 @@
 -- What the outline of an image keeps of its addresses.
-use Rattle.std.proofs.Common.{ℕ, zero, suc, Bool, true, false, Some, ◌∷◌, [], ◌+◌, ◌-◌, ◌<◌, ◌≤◌, ◌≡◌, List, length, get_or, ap, subst, arith}
+use Rattle.std.proofs.Common.{ℕ, zero, suc, Bool, true, false, Some, ◌∷◌, [], ◌+◌, ◌-◌, ◌<◌, ◌≤◌, ◌≡◌, List, length}
+use Rattle.std.proofs.Common.{get_or, ap, subst, arith}
 use Rattle.std.proofs.lemmas.List.{get_or_default}
 use Rattle.std.specs.List.{slice_get}
 use Rattle.std.specs.Prelude.{if◌then◌else◌}
@@ -32,7 +33,8 @@ pub part_near : (o : Outlined) (i : ℕ) (d : PartPlace) → IsLoadable o → i 
 part_near o i d loadable below =
     let ends = part_ends o i loadable below in
     let low = base_low o.kind in
-    let near : IsNear o.kind (part o i).address = (omega (arith, ends.0, ends.1, low), omega (arith, ends.0, ends.1, low)) in
+    let near : IsNear o.kind (part o i).address =
+    (omega (arith, ends.0, ends.1, low), omega (arith, ends.0, ends.1, low)) in
     let P : PartPlace → Type 0 = λ p. IsNear o.kind p.address in
     subst P (get_or_default o.parts i no_part d below) near
 

@@ -3,21 +3,28 @@ use Rattle.std.proofs.Common.{◌≡◌, ◌+◌, ◌^◌, ◌<◌, ◌≤◌, �
 use Rattle.elf_records.specs.declared.program_header.Segment.{Segment as Header}
 use Rattle.image_rules.specs.declared.rule.Rule.TheVariants.{Length, Field, Extent, Segment, Entry}
 use Rattle.image_rules.specs.declared.rule.FieldRule.{FieldRule}
-use Rattle.image_rules.specs.declared.rule.FieldRule.TheVariants.{FileType, Machine, Version, TableOffset, EntrySize, Count}
+use Rattle.image_rules.specs.declared.rule.FieldRule.TheVariants.{FileType, Machine, Version, TableOffset, EntrySize}
+use Rattle.image_rules.specs.declared.rule.FieldRule.TheVariants.{Count}
 use Rattle.image_rules.specs.declared.rule.EntryRule.{EntryRule}
-use Rattle.image_rules.specs.declared.rule.EntryRule.TheVariants.{Hash, Strings, Symbols, StringsSize, SymbolSize, Relocations, RelocationsSize, RelocationSize, Flags, End}
+use Rattle.image_rules.specs.declared.rule.EntryRule.TheVariants.{Hash, Strings, Symbols, StringsSize, SymbolSize}
+use Rattle.image_rules.specs.declared.rule.EntryRule.TheVariants.{Relocations, RelocationsSize, RelocationSize, Flags}
+use Rattle.image_rules.specs.declared.rule.EntryRule.TheVariants.{End}
 use Rattle.image_faults.specs.Parts.{header, count, segment, loads}
 use Rattle.image_faults.specs.Fields.{IsRightField}
-use Rattle.image_faults.specs.Segments.{IsRightLoad, IsRightDynamic, HoldsInitialImage, IsAlignment, IsRightTls, IsRightRelro, IsRightRest}
+use Rattle.image_faults.specs.Segments.{IsRightLoad, IsRightDynamic, HoldsInitialImage, IsAlignment, IsRightTls}
+use Rattle.image_faults.specs.Segments.{IsRightRelro, IsRightRest}
 use Rattle.image_faults.specs.Array.{HasTag, HoldsTable, IsRightEntry, entry_place}
 use Rattle.image_faults.specs.Faults.{Breaks, IsImage}
-use Rattle.image_writer.proofs.Decided.{Dec, stable, dec_eq, dec_lt, dec_le, dec_map, dec_not, dec_differ, dec_or, dec_both, dec_three, dec_four, dec_five, dec_six, dec_seven, dec_below, dec_some}
+use Rattle.image_writer.proofs.Decided.{Dec, stable, dec_eq, dec_lt, dec_le, dec_map, dec_not, dec_differ, dec_or}
+use Rattle.image_writer.proofs.Decided.{dec_both, dec_three, dec_four, dec_five, dec_six, dec_seven, dec_below}
+use Rattle.image_writer.proofs.Decided.{dec_some}
 
 -- an alignment is one of thirteen numbers
 known_alignment : (n : ℕ) → Dec (IsAlignment n)
 known_alignment n =
     let P : ℕ → Type 0 = λ k. n ≡ 2 ^ k in
-    dec_map {P = (k : ℕ) × (k < 13) × P k} (λ found. (found.0, omega (arith, found.1), found.2)) (λ found. (found.0, omega (arith, found.1), found.2))
+    dec_map {P = (k : ℕ) × (k < 13) × P k} (λ found. (found.0, omega (arith, found.1), found.2))
+    (λ found. (found.0, omega (arith, found.1), found.2))
     (dec_below P 13 (λ k. dec_eq n (2 ^ k)))
 
 -- what each LOAD says
@@ -101,7 +108,8 @@ unfolding Breaks
 header_in b image = stable (64 ≤ length b) (dec_le _ _) (λ short. image Length 0 (refl, omega (arith, short)))
 
 -- the file holds the bytes of each segment
-pub segment_in : (b : List ℕ) → IsImage b → (i : ℕ) → i < count b → (segment b i).offset + (segment b i).filesz ≤ length b
+pub segment_in : (b : List ℕ) → IsImage b → (i : ℕ) → i < count b
+    → (segment b i).offset + (segment b i).filesz ≤ length b
 unfolding Breaks
 segment_in b image i h =
     stable ((segment b i).offset + (segment b i).filesz ≤ length b) (dec_le _ _)

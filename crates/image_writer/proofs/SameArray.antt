@@ -1,12 +1,14 @@
 -- Two files whose program headers say the same, and whose last LOAD holds the same bytes, have the same dynamic array.
-use Rattle.std.proofs.Common.{◌≡◌, ◌+◌, ◌-◌, ◌*◌, ◌/◌, ◌<◌, ◌≤◌, ◌∙◌, ℕ, List, Bool, true, false, refl, inl, inr, sym, ap, arith, nat_le, ◌==◌, ◌&&◌}
+use Rattle.std.proofs.Common.{◌≡◌, ◌+◌, ◌-◌, ◌*◌, ◌/◌, ◌<◌, ◌≤◌, ◌∙◌, ℕ, List, Bool, true, false, refl, inl, inr, sym}
+use Rattle.std.proofs.Common.{ap, arith, nat_le, ◌==◌, ◌&&◌}
 use Rattle.std.proofs.Common.{if◌then◌else◌}
 use Rattle.std.proofs.lemmas.Bool.{cases_lt, and_parts}
 use Rattle.std.proofs.lemmas.Bool.Decides.{nat_tests}
 use Rattle.elf_records.specs.Records.{dynamic_at}
 use Rattle.elf_records.specs.declared.dynamic.TheConstants.{DT_RELA, DT_RELASZ, DT_STRSZ}
 use Rattle.image_faults.specs.Parts.{header, segment, loads, last, has_tls, tls_size}
-use Rattle.image_faults.specs.Array.{array_size, entry, HasTag, has_tag, place, HoldsTable, relocations_size, relocation_count, flags_entry}
+use Rattle.image_faults.specs.Array.{array_size, entry, HasTag, has_tag, place, HoldsTable, relocations_size}
+use Rattle.image_faults.specs.Array.{relocation_count, flags_entry}
 use Rattle.image_faults.specs.Array.{strings_size}
 use Rattle.image_writer.proofs.SameBytes.{HoldSame, same_dynamic}
 
@@ -46,7 +48,8 @@ pub same_entry : (f b : List ℕ) → SameHeaders f b → (j : ℕ) → 16 * (j 
 unfolding entry
 same_entry f b same j within =
     ap (λ at. dynamic_at (at + 16 * j) f) (last_offset f b same)
-    ∙ same_dynamic (last b).filesz (last b).offset f b same.last_bytes ((last b).offset + 16 * j) (omega arith) (omega (arith, same.array_in))
+    ∙ same_dynamic (last b).filesz (last b).offset f b same.last_bytes ((last b).offset + 16 * j) (omega arith)
+    (omega (arith, same.array_in))
 
 -- tests of sizes and of tags that are the same where the size allows it
 same_test : (n a c s t k : ℕ) → a ≡ c → (n ≤ c → s ≡ t) → (nat_le n a && (s == k)) ≡ (nat_le n c && (t == k))
@@ -83,7 +86,8 @@ tagged_within b j tag passes = long_enough (16 * (j + 1)) (array_size b) (entry 
     long_enough n a t k passes = grind (arith, nat_tests)
 
 -- the value of an entry that is there
-pub same_value : (f b : List ℕ) → SameHeaders f b → (j : ℕ) → 16 * (j + 1) ≤ array_size b → (entry f j).value ≡ (entry b j).value
+pub same_value : (f b : List ℕ) → SameHeaders f b → (j : ℕ) → 16 * (j + 1) ≤ array_size b
+    → (entry f j).value ≡ (entry b j).value
 same_value f b same j within = ap (λ e. e.value) (same_entry f b same j within)
 
 -- a number that is taken where a test passes
@@ -94,15 +98,18 @@ same_if p false m n d tests same = rw tests refl
 -- the size of the names is the same
 pub same_strings_size : (f b : List ℕ) → SameHeaders f b → strings_size f ≡ strings_size b
 same_strings_size f b same =
-    same_if (has_tag f 3 DT_STRSZ) (has_tag b 3 DT_STRSZ) (entry f 3).value (entry b 3).value 0 (same_has_tag f b same 3 DT_STRSZ)
+    same_if (has_tag f 3 DT_STRSZ) (has_tag b 3 DT_STRSZ) (entry f 3).value (entry b 3).value 0
+    (same_has_tag f b same 3 DT_STRSZ)
     (λ passes. same_value f b same 3 (tagged_within b 3 DT_STRSZ passes))
 
 -- that of the relocations
 pub same_relocations_size : (f b : List ℕ) → SameHeaders f b → relocations_size f ≡ relocations_size b
 same_relocations_size f b same =
-    same_if (has_tag f 5 DT_RELA && has_tag f 6 DT_RELASZ) (has_tag b 5 DT_RELA && has_tag b 6 DT_RELASZ) (entry f 6).value (entry b 6).value 0
+    same_if (has_tag f 5 DT_RELA && has_tag f 6 DT_RELASZ) (has_tag b 5 DT_RELA && has_tag b 6 DT_RELASZ)
+    (entry f 6).value (entry b 6).value 0
     (rw (same_has_tag f b same 5 DT_RELA, same_has_tag f b same 6 DT_RELASZ) refl)
-    (λ passes. same_value f b same 6 (tagged_within b 6 DT_RELASZ (and_parts (has_tag b 5 DT_RELA) (has_tag b 6 DT_RELASZ) passes).1))
+    (λ passes. same_value f b same 6
+    (tagged_within b 6 DT_RELASZ (and_parts (has_tag b 5 DT_RELA) (has_tag b 6 DT_RELASZ) passes).1))
 
 -- and how many there are
 pub same_relocation_count : (f b : List ℕ) → SameHeaders f b → relocation_count f ≡ relocation_count b

@@ -1,5 +1,6 @@
 -- Two lists of bytes that hold the same m bytes from an offset on: what is read inside these bytes is the same.
-use Rattle.std.proofs.Common.{◌≡◌, ◌+◌, ◌-◌, ◌<◌, ◌≤◌, ◌∙◌, ℕ, List, sym, ap, arith, length, take, drop, slice_index, slice_range, subst}
+use Rattle.std.proofs.Common.{◌≡◌, ◌+◌, ◌-◌, ◌<◌, ◌≤◌, ◌∙◌, ℕ, List, sym, ap, arith, length, take, drop, slice_index}
+use Rattle.std.proofs.Common.{slice_range, subst}
 use Rattle.std.proofs.lemmas.List.{length-drop, length-take}
 use Rattle.elf_records.specs.Fields.{number_at, part_at}
 use Rattle.elf_records.specs.Records.{symbol_at, rela_at, dynamic_at}
@@ -11,7 +12,8 @@ abbrev pub HoldSame : ℕ → ℕ → List ℕ → List ℕ → Type 0
 HoldSame m at f b = part_at m at f ≡ part_at m at b
 
 -- n bytes inside them are the same
-pub same_part : (m at : ℕ) (f b : List ℕ) → HoldSame m at f b → (n p : ℕ) → at ≤ p → p + n ≤ at + m → part_at n p f ≡ part_at n p b
+pub same_part : (m at : ℕ) (f b : List ℕ) → HoldSame m at f b → (n p : ℕ) → at ≤ p → p + n ≤ at + m
+    → part_at n p f ≡ part_at n p b
 same_part m at f b same n p from to =
     let k : ℕ = p - at in
     let within : k + n ≤ m = omega arith in
@@ -22,7 +24,8 @@ same_part m at f b same n p from to =
     subst P place inner
 
 -- a number inside them is the same
-pub same_number : (m at : ℕ) (f b : List ℕ) → HoldSame m at f b → (n p : ℕ) → at ≤ p → p + n ≤ at + m → number_at n p f ≡ number_at n p b
+pub same_number : (m at : ℕ) (f b : List ℕ) → HoldSame m at f b → (n p : ℕ) → at ≤ p → p + n ≤ at + m
+    → number_at n p f ≡ number_at n p b
 same_number m at f b same n p from to =
     let k : ℕ = p - at in
     let within : k + n ≤ m = omega arith in
@@ -38,22 +41,26 @@ unfolding number_at
 number_of_byte p xs = omega arith
 
 -- a byte inside them is the same
-pub same_byte : (m at : ℕ) (f b : List ℕ) → HoldSame m at f b → (p : ℕ) → at ≤ p → p < at + m → slice_index f p ≡ slice_index b p
+pub same_byte : (m at : ℕ) (f b : List ℕ) → HoldSame m at f b → (p : ℕ) → at ≤ p → p < at + m
+    → slice_index f p ≡ slice_index b p
 same_byte m at f b same p from to =
     sym (number_of_byte p f) ∙ same_number m at f b same 1 p from (omega arith) ∙ number_of_byte p b
 
 -- an entry of a dynamic array
-pub same_dynamic : (m at : ℕ) (f b : List ℕ) → HoldSame m at f b → (p : ℕ) → at ≤ p → p + 16 ≤ at + m → dynamic_at p f ≡ dynamic_at p b
+pub same_dynamic : (m at : ℕ) (f b : List ℕ) → HoldSame m at f b → (p : ℕ) → at ≤ p → p + 16 ≤ at + m
+    → dynamic_at p f ≡ dynamic_at p b
 same_dynamic m at f b same p from to =
     sym (dynamic_at-own p f) ∙ ap (dynamic_at 0) (same_part m at f b same 16 p from to) ∙ dynamic_at-own p b
 
 -- a symbol
-pub same_symbol : (m at : ℕ) (f b : List ℕ) → HoldSame m at f b → (p : ℕ) → at ≤ p → p + 24 ≤ at + m → symbol_at p f ≡ symbol_at p b
+pub same_symbol : (m at : ℕ) (f b : List ℕ) → HoldSame m at f b → (p : ℕ) → at ≤ p → p + 24 ≤ at + m
+    → symbol_at p f ≡ symbol_at p b
 same_symbol m at f b same p from to =
     sym (symbol_at-own p f) ∙ ap (symbol_at 0) (same_part m at f b same 24 p from to) ∙ symbol_at-own p b
 
 -- a relocation
-pub same_rela : (m at : ℕ) (f b : List ℕ) → HoldSame m at f b → (p : ℕ) → at ≤ p → p + 24 ≤ at + m → rela_at p f ≡ rela_at p b
+pub same_rela : (m at : ℕ) (f b : List ℕ) → HoldSame m at f b → (p : ℕ) → at ≤ p → p + 24 ≤ at + m
+    → rela_at p f ≡ rela_at p b
 same_rela m at f b same p from to =
     sym (rela_at-own p f) ∙ ap (rela_at 0) (same_part m at f b same 24 p from to) ∙ rela_at-own p b
 
@@ -65,7 +72,8 @@ range_is_part n at xs =
     ap (λ k. take k (drop at xs)) size
 
 -- a range of bytes inside them
-pub same_range : (m at : ℕ) (f b : List ℕ) → HoldSame m at f b → (p n : ℕ) → at ≤ p → p + n ≤ at + m → slice_range f p (p + n) ≡ slice_range b p (p + n)
+pub same_range : (m at : ℕ) (f b : List ℕ) → HoldSame m at f b → (p n : ℕ) → at ≤ p → p + n ≤ at + m
+    → slice_range f p (p + n) ≡ slice_range b p (p + n)
 same_range m at f b same p n from to =
     range_is_part n p f ∙ same_part m at f b same n p from to ∙ sym (range_is_part n p b)
 

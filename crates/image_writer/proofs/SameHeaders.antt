@@ -1,5 +1,6 @@
 -- A file of an image that was read: its headers say what those of the image did, and its parts hold the same bytes.
-use Rattle.std.proofs.Common.{◌≡◌, ◌+◌, ◌-◌, ◌<◌, ◌≤◌, ◌⊎◌, ◌∙◌, ℕ, Bool, true, false, List, length, Option, Some, None, is_some, refl, sym, ap, inl}
+use Rattle.std.proofs.Common.{◌≡◌, ◌+◌, ◌-◌, ◌<◌, ◌≤◌, ◌⊎◌, ◌∙◌, ℕ, Bool, true, false, List, length, Option, Some, None}
+use Rattle.std.proofs.Common.{is_some, refl, sym, ap, inl}
 use Rattle.std.proofs.Common.{inr, arith, ◌==◌, if◌then◌else◌, slice_range}
 use Rattle.std.specs.Option.{option_map}
 use Rattle.elf_records.specs.Fields.{part_at}
@@ -41,7 +42,8 @@ flags_again s class = elim class [
 ]
 
 -- the type of a file that is told again
-type_again : (n : ℕ) (c : Bool) → (n ≡ ET_EXEC) ⊎ (n ≡ ET_DYN) → type_of (if n == ET_DYN then (if c then Pie else Module) else Exe) ≡ n
+type_again : (n : ℕ) (c : Bool) → (n ≡ ET_EXEC) ⊎ (n ≡ ET_DYN)
+    → type_of (if n == ET_DYN then (if c then Pie else Module) else Exe) ≡ n
 type_again n c kind = elim kind [
   | inl exe ↦ rw exe refl
   | inr dyn ↦ rw dyn (by_flag c)
@@ -52,7 +54,8 @@ type_again n c kind = elim kind [
     by_flag false = refl
 
 -- where a LOAD stands in the file
-pub offset_again : (kind : FileKind) (b : List ℕ) (s : Segment) → base_of kind ≡ base b → s.vaddr + 4096 ≡ s.offset + base b
+pub offset_again : (kind : FileKind) (b : List ℕ) (s : Segment) → base_of kind ≡ base b
+    → s.vaddr + 4096 ≡ s.offset + base b
     → file_offset kind s.vaddr ≡ s.offset
 offset_again kind b s based placed = less s.vaddr s.offset (base_of kind) (base b) based placed
   where
@@ -60,16 +63,19 @@ offset_again kind b s based placed = less s.vaddr s.offset (base_of kind) (base 
     less v o k m based placed = omega arith
 
 -- each LOAD of the image: its header in the file is one made of what was read
-load_made : (b f : List ℕ) (o : Outlined) → IsSeen b o → IsHeaded f o → (i : ℕ) → i < loads b → segment f i ≡ load_header o.kind (place b i)
+load_made : (b f : List ℕ) (o : Outlined) → IsSeen b o → IsHeaded f o → (i : ℕ) → i < loads b
+    → segment f i ≡ load_header o.kind (place b i)
 load_made b f o saw leads i h =
     leads.load_is i (omega (arith, saw.parts_are)) ∙ ap (load_header o.kind) (saw.part_is i h)
 
 -- what a header that was made says
-made_flags : (b : List ℕ) (kind : FileKind) (i : ℕ) → (load_header kind (place b i)).flags ≡ flags_of (class_numbered (segment b i).flags)
+made_flags : (b : List ℕ) (kind : FileKind) (i : ℕ)
+    → (load_header kind (place b i)).flags ≡ flags_of (class_numbered (segment b i).flags)
 unfolding load_header place
 made_flags b kind i = refl
 
-made_offset : (b : List ℕ) (kind : FileKind) (i : ℕ) → (load_header kind (place b i)).offset ≡ file_offset kind (segment b i).vaddr
+made_offset : (b : List ℕ) (kind : FileKind) (i : ℕ)
+    → (load_header kind (place b i)).offset ≡ file_offset kind (segment b i).vaddr
 unfolding load_header place
 made_offset b kind i = refl
 
@@ -108,12 +114,14 @@ some_if true s = refl
 some_if false s = refl
 
 -- the size by a choice
-size_if : (c : Bool) (s : Segment) → size_of (option_map tls_part (if c then Some s else None)) ≡ (if c then s.memsz else 0)
+size_if : (c : Bool) (s : Segment)
+    → size_of (option_map tls_part (if c then Some s else None)) ≡ (if c then s.memsz else 0)
 size_if true s = refl
 size_if false s = refl
 
 -- the TLS segment of the file is that of the image
-pub same_tls : (b f : List ℕ) (o : Outlined) → IsSeen b o → IsHeaded f o → option_map tls_part (tls f) ≡ option_map tls_part (tls b)
+pub same_tls : (b f : List ℕ) (o : Outlined) → IsSeen b o → IsHeaded f o
+    → option_map tls_part (tls f) ≡ option_map tls_part (tls b)
 same_tls b f o saw leads = leads.tls_is ∙ saw.tls_is
 
 -- there is one in both or in neither
@@ -131,7 +139,8 @@ same_tls_size b f same =
     ∙ size_if (has_tls b) (segment b (loads b + 1))
 
 -- the bytes of a part that was read
-read_bytes : (b : List ℕ) (i : ℕ) → (part_read b i).bytes ≡ slice_range b (segment b i).offset ((segment b i).offset + (segment b i).filesz)
+read_bytes : (b : List ℕ) (i : ℕ)
+    → (part_read b i).bytes ≡ slice_range b (segment b i).offset ((segment b i).offset + (segment b i).filesz)
 unfolding part_read
 read_bytes b i = refl
 
@@ -140,7 +149,8 @@ unfolding part_read
 read_address b i = refl
 
 -- bytes of a part that stand at its place in a file
-part_there : (f b p : List ℕ) (n m at from : ℕ) → part_at n at f ≡ p → p ≡ part_at m from b → n ≡ m → at ≡ from → HoldSame m from f b
+part_there : (f b p : List ℕ) (n m at from : ℕ) → part_at n at f ≡ p → p ≡ part_at m from b → n ≡ m → at ≡ from
+    → HoldSame m from f b
 part_there f b p n m at from here read size placed =
     ap (λ k. part_at k from f) (sym size) ∙ ap (λ k. part_at n k f) (sym placed) ∙ here ∙ read
 
@@ -150,7 +160,8 @@ pub same_part_bytes : (b f : List ℕ) → IsImage b → IsFileOf f (spelled b) 
 same_part_bytes b f image file i h =
     let s : Segment = segment b i in
     let inside : s.offset + s.filesz ≤ length b = segment_in b image i (omega (arith, h, (dynamic_right b image).1)) in
-    let read : (part_read b i).bytes ≡ part_at s.filesz s.offset b = read_bytes b i ∙ range_is_part s.filesz s.offset b in
+    let read : (part_read b i).bytes ≡ part_at s.filesz s.offset b = read_bytes b i
+    ∙ range_is_part s.filesz s.offset b in
     let size : length (part_read b i).bytes ≡ s.filesz = ap length read ∙ part_length s.filesz s.offset b inside in
     let based : base_of (file_kind b) ≡ base b = (seen b image).base_is in
     let placed : file_offset (file_kind b) (part_read b i).address ≡ s.offset =
@@ -193,13 +204,15 @@ long_enough b f image file =
     let saw = seen b image in
     let h = last_in b image in
     let right = load_right b image (loads b - 1) h in
-    let inside : (last b).offset + (last b).filesz ≤ length b = segment_in b image (loads b - 1) (omega (arith, h, (dynamic_right b image).1)) in
+    let inside : (last b).offset + (last b).filesz ≤ length b =
+    segment_in b image (loads b - 1) (omega (arith, h, (dynamic_right b image).1)) in
     let same : HoldSame (last b).filesz (last b).offset f b = same_part_bytes b f image file (loads b - 1) h in
     let long : length (part_at (last b).filesz (last b).offset f) ≡ (last b).filesz =
     ap length same ∙ part_length (last b).filesz (last b).offset b inside in
     let filled : 0 < (last b).filesz = some_bytes (last b).filesz (last b).memsz right.2.0 right.2.1 in
     let there = part_inside (last b).filesz (last b).offset f filled long in
-    let ends : file_offset (file_kind b) (end_of (last_part (outline_of (spelled b)))) ≡ (last b).offset + (last b).filesz =
+    let ends : file_offset (file_kind b) (end_of (last_part (outline_of (spelled b))))
+    ≡ (last b).offset + (last b).filesz =
     ap (λ p. file_offset (file_kind b) (end_of p)) (last_seen b (outline_of (spelled b)) saw h)
     ∙ ap (file_offset (file_kind b)) (end_made b (loads b - 1))
     ∙ end_place (file_kind b) b (last b) saw.base_is right.0 in
@@ -218,7 +231,8 @@ file_headed b f image holds file =
     headed f (outline_of (spelled b)) file.page_is (loadable b image) holds (long_enough b f image file)
 
 -- they say what those of the image do
-pub same_headers : (b f : List ℕ) → IsImage b → IsFileOf f (spelled b) → IsHeaded f (outline_of (spelled b)) → SameHeaders f b
+pub same_headers : (b f : List ℕ) → IsImage b → IsFileOf f (spelled b) → IsHeaded f (outline_of (spelled b))
+    → SameHeaders f b
 same_headers b f image file leads =
     let o = outline_of (spelled b) in
     let saw = seen b image in

@@ -4,7 +4,8 @@ use Rattle.std.specs.List.{range_with_len}
 use Rattle.image_file.specs.Tabled.{tabled}
 
 -- the same from a number on
-same_from : {X : Type 0} (f g : ℕ → X) (a n : ℕ) → ((k : ℕ) → a + k < a + n → f (a + k) ≡ g (a + k)) → map f (range_with_len a n) ≡ map g (range_with_len a n)
+same_from : {X : Type 0} (f g : ℕ → X) (a n : ℕ) → ((k : ℕ) → a + k < a + n → f (a + k) ≡ g (a + k))
+    → map f (range_with_len a n) ≡ map g (range_with_len a n)
 same_from f g a zero same = refl
 same_from f g a (suc n) same =
     let here : f a ≡ g a =

@@ -1,33 +1,41 @@
 -- Two files whose headers say the same, and whose last LOAD holds the same bytes: what the entries of the array, the
 -- symbols and the relocations of one keep, those of the other keep.
-use Rattle.std.proofs.Common.{◌≡◌, ◌≢◌, ◌+◌, ◌-◌, ◌*◌, ◌%◌, ◌<◌, ◌≤◌, ◌⊎◌, ◌∙◌, ℕ, ℤ, List, Bool, Option, Some, None, inl, inr, sym, ap, subst, arith}
+use Rattle.std.proofs.Common.{◌≡◌, ◌≢◌, ◌+◌, ◌-◌, ◌*◌, ◌%◌, ◌<◌, ◌≤◌, ◌⊎◌, ◌∙◌, ℕ, ℤ, List, Bool, Option, Some, None}
+use Rattle.std.proofs.Common.{inl, inr, sym, ap, subst, arith}
 use Rattle.std.proofs.Common.{slice_index}
 use Rattle.std.specs.Prelude.{IsTrue, ◌<ℤ◌, pos}
 use Rattle.elf_records.specs.Fields.{part_at}
 use Rattle.elf_records.specs.Records.{rela_symbol, rela_kind, symbol_binding, symbol_kind}
 use Rattle.elf_records.specs.declared.symbol.SymbolEntry.{SymbolEntry}
 use Rattle.elf_records.specs.declared.relocation.Rela.{Rela}
-use Rattle.elf_records.specs.declared.dynamic.TheConstants.{DT_NULL, DT_HASH, DT_STRTAB, DT_SYMTAB, DT_RELA, DT_RELASZ, DT_RELAENT, DT_STRSZ}
+use Rattle.elf_records.specs.declared.dynamic.TheConstants.{DT_NULL, DT_HASH, DT_STRTAB, DT_SYMTAB, DT_RELA, DT_RELASZ}
+use Rattle.elf_records.specs.declared.dynamic.TheConstants.{DT_RELAENT, DT_STRSZ}
 use Rattle.elf_records.specs.declared.dynamic.TheConstants.{DT_SYMENT, DT_FLAGS, DT_FLAGS_1}
 use Rattle.elf_records.specs.declared.symbol.TheConstants.{SHN_UNDEF, STB_GLOBAL, STB_WEAK, STT_COMMON, STT_TLS}
 use Rattle.image_rules.specs.declared.rule.EntryRule.{EntryRule}
-use Rattle.image_rules.specs.declared.rule.EntryRule.TheVariants.{Hash, Strings, Symbols, StringsSize, SymbolSize, Relocations, RelocationsSize}
+use Rattle.image_rules.specs.declared.rule.EntryRule.TheVariants.{Hash, Strings, Symbols, StringsSize, SymbolSize}
+use Rattle.image_rules.specs.declared.rule.EntryRule.TheVariants.{Relocations, RelocationsSize}
 use Rattle.image_rules.specs.declared.rule.EntryRule.TheVariants.{RelocationSize, Flags, End}
 use Rattle.image_faults.specs.declared.loader_kind.LoaderKind.{LoaderKind}
-use Rattle.image_faults.specs.declared.loader_kind.LoaderKind.TheVariants.{JumpSlot, Relative, Module, ModuleOffset, ThreadOffset, Descriptor}
+use Rattle.image_faults.specs.declared.loader_kind.LoaderKind.TheVariants.{JumpSlot, Relative, Module, ModuleOffset}
+use Rattle.image_faults.specs.declared.loader_kind.LoaderKind.TheVariants.{ThreadOffset, Descriptor}
 use Rattle.image_faults.specs.declared.symbol_tests.TheConstants.{GET_ADDRESS_STRING}
 use Rattle.image_faults.specs.Parts.{loads, has_tls, tls_size}
-use Rattle.image_faults.specs.Array.{HasTag, HoldsTable, IsRightEntry, entry, flags_entry, symbol_count, relocation_count, relocations_size}
+use Rattle.image_faults.specs.Array.{HasTag, HoldsTable, IsRightEntry, entry, flags_entry, symbol_count}
+use Rattle.image_faults.specs.Array.{relocation_count, relocations_size}
 use Rattle.image_faults.specs.Array.{strings_size, strings_place}
 use Rattle.elf_records.specs.Strings.{Ends}
 use Rattle.image_faults.specs.Symbols.{symbol, IsRightSymbol, IsImport, IsRuntime, IsPastTls}
-use Rattle.image_faults.specs.Relocations.{rela, loader_kind, field_width, MayName, NamesRight, HoldsField, IsBehindLast, IsRightRelocation}
+use Rattle.image_faults.specs.Relocations.{rela, loader_kind, field_width, MayName, NamesRight, HoldsField}
+use Rattle.image_faults.specs.Relocations.{IsBehindLast, IsRightRelocation}
 use Rattle.image_faults.specs.Relocations.{IsOutsideTls, LacksOwnTls, IsOwnOutside}
-use Rattle.image_writer.proofs.SameArray.{SameHeaders, tag_there, tag_back, table_there, same_value, same_flags_entry, same_strings_size}
+use Rattle.image_writer.proofs.SameArray.{SameHeaders, tag_there, tag_back, table_there, same_value, same_flags_entry}
+use Rattle.image_writer.proofs.SameArray.{same_strings_size}
 use Rattle.image_writer.proofs.SameArray.{same_relocations_size}
-use Rattle.image_writer.proofs.SameTables.{same_bucket_count, same_symbol_count, same_strings_place, same_string_byte, same_string_part}
+use Rattle.image_writer.proofs.SameTables.{same_bucket_count, same_symbol_count, same_strings_place, same_string_byte}
+use Rattle.image_writer.proofs.SameTables.{same_string_part}
 use Rattle.image_writer.proofs.SameTables.{same_symbol_entry, same_rela_entry}
-use Rattle.image_faults.specs.Places.{AreRightTables as AreRight}
+use Rattle.image_faults.specs.PlaceLaws.{AreRightTables as AreRight}
 
 -- a table at an address that is the same, of a size that is the same
 table_moved : (f b : List ℕ) → SameHeaders f b → (v w m n : ℕ) → v ≡ w → m ≡ n → HoldsTable b w n → HoldsTable f v m
@@ -43,18 +51,21 @@ tag_moved f b same i j tag number has =
     subst P (sym number) (tag_there f b same j tag has)
 
 -- its value
-value_moved : (f b : List ℕ) → SameHeaders f b → (i j tag value : ℕ) → i ≡ j → HasTag b j tag → (entry b j).value ≡ value → (entry f i).value ≡ value
+value_moved : (f b : List ℕ) → SameHeaders f b → (i j tag value : ℕ) → i ≡ j → HasTag b j tag
+    → (entry b j).value ≡ value → (entry f i).value ≡ value
 value_moved f b same i j tag value number has is = ap (λ k. (entry f k).value) number ∙ same_value f b same j has.0 ∙ is
 
 -- what is only said where there are relocations
-where_relocated : (f b : List ℕ) → SameHeaders f b → {P Q : Type 0} → (P → Q) → (HasTag b 5 DT_RELA → ⊥) ⊎ P → (HasTag f 5 DT_RELA → ⊥) ⊎ Q
+where_relocated : (f b : List ℕ) → SameHeaders f b → {P Q : Type 0} → (P → Q) → (HasTag b 5 DT_RELA → ⊥) ⊎ P
+    → (HasTag f 5 DT_RELA → ⊥) ⊎ Q
 where_relocated f b same more right = elim right [
   | inl none ↦ inl (λ has. none (tag_back f b same 5 DT_RELA has))
   | inr holds ↦ inr (more holds)
 ]
 
 -- each entry of the array that is right in one is right in the other
-pub entry_there : (f b : List ℕ) → SameHeaders f b → IsRightEntry Hash b → (rule : EntryRule) → IsRightEntry rule b → IsRightEntry rule f
+pub entry_there : (f b : List ℕ) → SameHeaders f b → IsRightEntry Hash b → (rule : EntryRule) → IsRightEntry rule b
+    → IsRightEntry rule f
 entry_there f b same hash Hash right = (
   tag_there f b same 0 DT_HASH right.0,
   table_moved f b same (entry f 0).value (entry b 0).value (12 + 4 * symbol_count f) (12 + 4 * symbol_count b)
@@ -116,7 +127,8 @@ entry_there f b same hash End right =
     ]
 
 -- a name that ends in one ends in the other
-ends_there : (f b : List ℕ) → SameHeaders f b → IsRightEntry Strings b → (at : ℕ) → Ends b (strings_place b) (strings_size b) at
+ends_there : (f b : List ℕ) → SameHeaders f b → IsRightEntry Strings b → (at : ℕ)
+    → Ends b (strings_place b) (strings_size b) at
     → Ends f (strings_place f) (strings_size f) at
 ends_there f b same right at ends = (
   ends.0,
@@ -127,7 +139,8 @@ ends_there f b same right at ends = (
 )
 
 -- a symbol that is right in one is right in the other
-pub symbol_there : (f b : List ℕ) → SameHeaders f b → AreRight b → (k : ℕ) → k < symbol_count b → IsRightSymbol b k → IsRightSymbol f k
+pub symbol_there : (f b : List ℕ) → SameHeaders f b → AreRight b → (k : ℕ) → k < symbol_count b → IsRightSymbol b k
+    → IsRightSymbol f k
 symbol_there f b same tables k within right =
     let P : SymbolEntry → Type 0 = λ s.
     Ends f (strings_place f) (strings_size f) s.name
@@ -137,13 +150,15 @@ symbol_there f b same tables k within right =
     (ends_there f b same tables.strings (symbol b k).name right.0, right.1, right.2, right.3)
 
 -- an import is one in the other
-import_there : (f b : List ℕ) → SameHeaders f b → AreRight b → (k : ℕ) → k < symbol_count b → IsImport b k → IsImport f k
+import_there : (f b : List ℕ) → SameHeaders f b → AreRight b → (k : ℕ) → k < symbol_count b → IsImport b k
+    → IsImport f k
 import_there f b same tables k within imported =
     let P : SymbolEntry → Type 0 = λ s. (k ≢ 0) × (s.shndx ≡ SHN_UNDEF) × (symbol_kind s ≡ STT_TLS) in
     subst P (sym (same_symbol_entry f b same tables.symbols k within)) imported
 
 -- and so is the function of the run time
-runtime_there : (f b : List ℕ) → SameHeaders f b → AreRight b → (k : ℕ) → k < symbol_count b → IsRuntime b k → IsRuntime f k
+runtime_there : (f b : List ℕ) → SameHeaders f b → AreRight b → (k : ℕ) → k < symbol_count b → IsRuntime b k
+    → IsRuntime f k
 runtime_there f b same tables k within named =
     let P : SymbolEntry → Type 0 = λ s.
     (s.shndx ≡ SHN_UNDEF) × (s.name + 15 ≤ strings_size f)
@@ -182,15 +197,18 @@ field_there f b same r i holds =
     within n v w m l vaddr memsz h = omega arith
 
 -- relocations rise in one where they rise in the other
-behind_there : (f b : List ℕ) → SameHeaders f b → AreRight b → (k : ℕ) → k < relocation_count b → IsBehindLast b k → IsBehindLast f k
+behind_there : (f b : List ℕ) → SameHeaders f b → AreRight b → (k : ℕ) → k < relocation_count b → IsBehindLast b k
+    → IsBehindLast f k
 behind_there f b same tables k within behind =
-    let P : Rela → Type 0 = λ r. (k ≡ 0) ⊎ ((rela b (k - 1)).offset + field_width (rela_kind (rela b (k - 1))) ≤ r.offset) in
+    let P : Rela → Type 0 = λ r. (k ≡ 0)
+    ⊎ ((rela b (k - 1)).offset + field_width (rela_kind (rela b (k - 1))) ≤ r.offset) in
     let Q : Rela → Type 0 = λ r. (k ≡ 0) ⊎ (r.offset + field_width (rela_kind r) ≤ (rela f k).offset) in
     subst Q (sym (same_rela_entry f b same tables.relocations (k - 1) (omega (arith, within))))
     (subst P (sym (same_rela_entry f b same tables.relocations k within)) behind)
 
 -- a relocation that is right in one is right in the other
-pub relocation_there : (f b : List ℕ) → SameHeaders f b → AreRight b → (k : ℕ) → k < relocation_count b → IsRightRelocation b k → IsRightRelocation f k
+pub relocation_there : (f b : List ℕ) → SameHeaders f b → AreRight b → (k : ℕ) → k < relocation_count b
+    → IsRightRelocation b k → IsRightRelocation f k
 relocation_there f b same tables k within right =
     let r : Rela = rela b k in
     let P : Rela → Type 0 = λ r. NamesRight f r × ((i : ℕ) × HoldsField f r i) × IsBehindLast f k in
@@ -204,7 +222,8 @@ relocation_there f b same tables k within right =
     )
 
 -- a thread-local symbol that lies outside in one does so in the other
-pub past_back : (f b : List ℕ) → SameHeaders f b → AreRight b → (k : ℕ) → k < symbol_count b → IsPastTls f k → IsPastTls b k
+pub past_back : (f b : List ℕ) → SameHeaders f b → AreRight b → (k : ℕ) → k < symbol_count b → IsPastTls f k
+    → IsPastTls b k
 past_back f b same tables k within past =
     let P : SymbolEntry → Type 0 = λ s. (symbol_kind s ≡ STT_TLS) × (s.shndx ≢ SHN_UNDEF) × (tls_size f < s.value) in
     let there = subst P (same_symbol_entry f b same tables.symbols k within) past in
@@ -221,7 +240,8 @@ outside_back f b same addend =
     subst P same.tls_size_is
 
 -- what a relocation lacks in one, it lacks in the other
-lacks_back : (f b : List ℕ) → SameHeaders f b → (kind : Option LoaderKind) (addend : ℤ) → LacksOwnTls f kind addend → LacksOwnTls b kind addend
+lacks_back : (f b : List ℕ) → SameHeaders f b → (kind : Option LoaderKind) (addend : ℤ) → LacksOwnTls f kind addend
+    → LacksOwnTls b kind addend
 lacks_back f b same None addend lacks = lacks
 lacks_back f b same (Some JumpSlot) addend lacks = lacks
 lacks_back f b same (Some Relative) addend lacks = lacks
@@ -233,7 +253,8 @@ lacks_back f b same (Some Descriptor) addend lacks =
     elim lacks [ inl none ↦ inl (none_back f b same none) | inr outside ↦ inr (outside_back f b same addend outside) ]
 
 -- a relocation that lies outside in one does so in the other
-pub outside_tls_back : (f b : List ℕ) → SameHeaders f b → AreRight b → (k : ℕ) → k < relocation_count b → IsOwnOutside f k → IsOwnOutside b k
+pub outside_tls_back : (f b : List ℕ) → SameHeaders f b → AreRight b → (k : ℕ) → k < relocation_count b
+    → IsOwnOutside f k → IsOwnOutside b k
 outside_tls_back f b same tables k within own =
     let P : Rela → Type 0 = λ r. (rela_symbol r ≡ 0) × LacksOwnTls f (loader_kind (rela_kind r)) r.addend in
     let there = subst P (same_rela_entry f b same tables.relocations k within) own in

@@ -1,5 +1,6 @@
 -- Two files whose headers say the same, and whose parts hold the same bytes, spell the same image.
-use Rattle.std.proofs.Common.{◌≡◌, ◌+◌, ◌<◌, ◌∙◌, ℕ, List, Bool, Option, refl, sym, ap, ◌==◌, if◌then◌else◌, slice_range}
+use Rattle.std.proofs.Common.{◌≡◌, ◌+◌, ◌<◌, ◌∙◌, ℕ, List, Bool, Option, refl, sym, ap, ◌==◌, if◌then◌else◌}
+use Rattle.std.proofs.Common.{slice_range}
 use Rattle.std.specs.Option.{option_map}
 use Rattle.elf_records.specs.declared.file_header.TheConstants.{ET_DYN}
 use Rattle.elf_records.specs.declared.dynamic.TheConstants.{DT_FLAGS, DT_FLAGS_1}
@@ -14,12 +15,13 @@ use Rattle.image_file.specs.declared.part.PartClass.{PartClass}
 use Rattle.image_file.specs.declared.part.TlsPart.{TlsPart}
 use Rattle.image_file.specs.declared.symbol.ImageSymbol.{ImageSymbol}
 use Rattle.image_file.specs.declared.relocation.ImageRelocation.{ImageRelocation}
-use Rattle.image_file.specs.Spelled.{Part, Spelled, class_numbered, tls_part, symbol_of, text_at, relocation_of, part, name, strings, spelled}
+use Rattle.image_file.specs.Spelled.{Part, Spelled, class_numbered, tls_part, symbol_of, text_at, relocation_of, part}
+use Rattle.image_file.specs.Spelled.{name, strings, spelled}
 use Rattle.image_writer.proofs.SameBytes.{HoldSame, range_is_part}
 use Rattle.image_writer.proofs.SameLists.{same_tabled}
 use Rattle.image_writer.proofs.SameArray.{SameHeaders, same_has_tag, same_flags_entry, same_relocation_count}
 use Rattle.image_writer.proofs.SameTables.{same_symbol_count, same_strings, same_symbol_entry, same_rela_entry}
-use Rattle.image_faults.specs.Places.{AreRightTables as AreRight}
+use Rattle.image_faults.specs.PlaceLaws.{AreRightTables as AreRight}
 
 -- an entry of the flags' place has this tag in both or in neither
 flags_tag : (f b : List ℕ) → SameHeaders f b → (tag : ℕ) → has_tag f (flags_entry f) tag ≡ has_tag b (flags_entry b) tag
@@ -41,31 +43,39 @@ made : PartClass → ℕ → List ℕ → Part
 made class address bytes = record { class = class; address = address; bytes = bytes }
 
 part_made : (b : List ℕ) (i : ℕ)
-    → part b i ≡ made (class_numbered (segment b i).flags) (segment b i).vaddr (slice_range b (segment b i).offset ((segment b i).offset + (segment b i).filesz))
+    → part b i ≡ made (class_numbered (segment b i).flags) (segment b i).vaddr
+    (slice_range b (segment b i).offset ((segment b i).offset + (segment b i).filesz))
 unfolding part made
 part_made b i = refl
 
 -- a range of bytes of one file, at the place of one in the other
-range_there : (f b : List ℕ) (n m at from : ℕ) → at ≡ from → n ≡ m → HoldSame m from f b → slice_range f at (at + n) ≡ slice_range b from (from + m)
+range_there : (f b : List ℕ) (n m at from : ℕ) → at ≡ from → n ≡ m → HoldSame m from f b
+    → slice_range f at (at + n) ≡ slice_range b from (from + m)
 range_there f b n m at from place size same =
     ap (λ p. slice_range f p (p + n)) place
     ∙ ap (λ k. slice_range f from (from + k)) size
     ∙ range_is_part m from f ∙ same ∙ sym (range_is_part m from b)
 
 -- each part is the same
-pub same_part : (f b : List ℕ) → SameHeaders f b → (i : ℕ) → i < loads b → HoldSame (segment b i).filesz (segment b i).offset f b → part f i ≡ part b i
+pub same_part : (f b : List ℕ) → SameHeaders f b → (i : ℕ) → i < loads b
+    → HoldSame (segment b i).filesz (segment b i).offset f b → part f i ≡ part b i
 same_part f b same i h bytes =
-    let content : slice_range f (segment f i).offset ((segment f i).offset + (segment f i).filesz) ≡ slice_range b (segment b i).offset ((segment b i).offset + (segment b i).filesz) =
+    let content : slice_range f (segment f i).offset ((segment f i).offset + (segment f i).filesz)
+    ≡ slice_range b (segment b i).offset ((segment b i).offset + (segment b i).filesz) =
     range_there f b (segment f i).filesz (segment b i).filesz (segment f i).offset (segment b i).offset
     (same.offset_is i h) (same.filesz_is i h) bytes in
     part_made f i
-    ∙ ap (λ n. made (class_numbered n) (segment f i).vaddr (slice_range f (segment f i).offset ((segment f i).offset + (segment f i).filesz))) (same.flags_are i h)
-    ∙ ap (λ a. made (class_numbered (segment b i).flags) a (slice_range f (segment f i).offset ((segment f i).offset + (segment f i).filesz))) (same.vaddr_is i h)
+    ∙ ap (λ n. made (class_numbered n) (segment f i).vaddr
+    (slice_range f (segment f i).offset ((segment f i).offset + (segment f i).filesz))) (same.flags_are i h)
+    ∙ ap (λ a. made (class_numbered (segment b i).flags) a
+    (slice_range f (segment f i).offset ((segment f i).offset + (segment f i).filesz))) (same.vaddr_is i h)
     ∙ ap (λ l. made (class_numbered (segment b i).flags) (segment b i).vaddr l) content
     ∙ sym (part_made b i)
 
 -- and so are all
-pub same_parts : (f b : List ℕ) → SameHeaders f b → ((i : ℕ) → i < loads b → HoldSame (segment b i).filesz (segment b i).offset f b) → (spelled f).parts ≡ (spelled b).parts
+pub same_parts : (f b : List ℕ) → SameHeaders f b
+    → ((i : ℕ) → i < loads b → HoldSame (segment b i).filesz (segment b i).offset f b)
+    → (spelled f).parts ≡ (spelled b).parts
 same_parts f b same bytes =
     same_tabled (part f) (part b) (loads f) (loads b) same.loads_are (λ i h. same_part f b same i h (bytes i h))
 
@@ -87,12 +97,14 @@ same_names f b same tables =
 -- the relocations
 pub same_relocations : (f b : List ℕ) → SameHeaders f b → AreRight b → (spelled f).relocations ≡ (spelled b).relocations
 same_relocations f b same tables =
-    same_tabled (λ k. relocation_of (rela f k)) (λ k. relocation_of (rela b k)) (relocation_count f) (relocation_count b)
+    same_tabled (λ k. relocation_of (rela f k)) (λ k. relocation_of (rela b k)) (relocation_count f)
+    (relocation_count b)
     (same_relocation_count f b same)
     (λ k h. ap relocation_of (same_rela_entry f b same tables.relocations k h))
 
 -- an image, made of what it has
-image_of : FileKind → List Part → ℕ → Option ℕ → Option TlsPart → List ImageSymbol → List (List ℕ) → List ImageRelocation → Bool → Spelled
+image_of : FileKind → List Part → ℕ → Option ℕ → Option TlsPart → List ImageSymbol → List (List ℕ)
+    → List ImageRelocation → Bool → Spelled
 image_of kind parts array_size got tls symbols names relocations is_flagged = record {
   kind = kind;
   parts = parts;
@@ -106,7 +118,8 @@ image_of kind parts array_size got tls symbols names relocations is_flagged = re
 }
 
 -- two that have the same are the same
-made_same : {a b : FileKind} {p q : List Part} {m n : ℕ} {g h : Option ℕ} {t u : Option TlsPart} {s r : List ImageSymbol} {v w : List (List ℕ)} {x y : List ImageRelocation} {c d : Bool}
+made_same : {a b : FileKind} {p q : List Part} {m n : ℕ} {g h : Option ℕ} {t u : Option TlsPart}
+    {s r : List ImageSymbol} {v w : List (List ℕ)} {x y : List ImageRelocation} {c d : Bool}
     → a ≡ b → p ≡ q → m ≡ n → g ≡ h → t ≡ u → s ≡ r → v ≡ w → x ≡ y → c ≡ d
     → image_of a p m g t s v x c ≡ image_of b q n h u r w y d
 made_same kind parts array got tls symbols names relocations flagged =
@@ -114,15 +127,18 @@ made_same kind parts array got tls symbols names relocations flagged =
 
 -- the image that bytes spell is made so
 spelled_made : (b : List ℕ)
-    → spelled b ≡ image_of (file_kind b) (spelled b).parts (array_size b) (got b) (option_map tls_part (tls b)) (spelled b).symbols (spelled b).names (spelled b).relocations (is_flagged b)
+    → spelled b ≡ image_of (file_kind b) (spelled b).parts (array_size b) (got b) (option_map tls_part (tls b))
+    (spelled b).symbols (spelled b).names (spelled b).relocations (is_flagged b)
 unfolding image_of
 spelled_made b = refl
 
 -- both files spell the same image
-pub same_spelled : (f b : List ℕ) → SameHeaders f b → AreRight b → ((i : ℕ) → i < loads b → HoldSame (segment b i).filesz (segment b i).offset f b)
+pub same_spelled : (f b : List ℕ) → SameHeaders f b → AreRight b
+    → ((i : ℕ) → i < loads b → HoldSame (segment b i).filesz (segment b i).offset f b)
     → got f ≡ got b → option_map tls_part (tls f) ≡ option_map tls_part (tls b) → spelled f ≡ spelled b
 same_spelled f b same tables bytes got_is tls_is =
     spelled_made f
     ∙ made_same (same_kind f b same) (same_parts f b same bytes) same.array_size_is got_is tls_is
-    (same_symbols f b same tables) (same_names f b same tables) (same_relocations f b same tables) (same_flagged f b same)
+    (same_symbols f b same tables) (same_names f b same tables) (same_relocations f b same tables)
+    (same_flagged f b same)
     ∙ sym (spelled_made b)

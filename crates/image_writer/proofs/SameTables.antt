@@ -1,6 +1,7 @@
 -- Two files whose headers say the same, and whose last LOAD holds the same bytes, have the same tables: the hash table,
 -- the names, the symbols and the relocations, where those of one lie in its last LOAD.
-use Rattle.std.proofs.Common.{◌≡◌, ◌+◌, ◌*◌, ◌<◌, ◌≤◌, ◌∙◌, ℕ, List, Bool, true, false, refl, inl, inr, sym, ap, arith, nat_le, ◌==◌, ◌&&◌}
+use Rattle.std.proofs.Common.{◌≡◌, ◌+◌, ◌*◌, ◌<◌, ◌≤◌, ◌∙◌, ℕ, List, Bool, true, false, refl, inl, inr, sym, ap, arith}
+use Rattle.std.proofs.Common.{nat_le, ◌==◌, ◌&&◌}
 use Rattle.std.proofs.Common.{if◌then◌else◌, slice_index, slice_range}
 use Rattle.std.proofs.lemmas.Bool.Decides.{nat_tests}
 use Rattle.elf_records.specs.Fields.{number_at, part_at}
@@ -8,7 +9,8 @@ use Rattle.elf_records.specs.Records.{symbol_at, rela_at}
 use Rattle.elf_records.specs.declared.dynamic.TheConstants.{DT_RELA, DT_RELASZ}
 use Rattle.image_rules.specs.declared.rule.EntryRule.TheVariants.{Hash, Strings, Symbols, Relocations}
 use Rattle.image_faults.specs.Parts.{last}
-use Rattle.image_faults.specs.Array.{array_size, entry, HasTag, has_tag, place, HoldsTable, IsRightEntry, hash_place, bucket_count, symbol_count}
+use Rattle.image_faults.specs.Array.{array_size, entry, HasTag, has_tag, place, HoldsTable, IsRightEntry, hash_place}
+use Rattle.image_faults.specs.Array.{bucket_count, symbol_count}
 use Rattle.image_faults.specs.Array.{strings_place, strings_size, symbols_place, relocations_size, relocations_place}
 use Rattle.image_faults.specs.Array.{relocation_count}
 use Rattle.image_faults.specs.Symbols.{symbol}
@@ -23,11 +25,13 @@ table_from : (b : List ℕ) (address n : ℕ) → HoldsTable b address n → (la
 table_from b address n holds = omega arith
 
 -- and ends no later
-table_to : (b : List ℕ) (address n : ℕ) → HoldsTable b address n → place b address + n ≤ (last b).offset + (last b).filesz
+table_to : (b : List ℕ) (address n : ℕ) → HoldsTable b address n
+    → place b address + n ≤ (last b).offset + (last b).filesz
 table_to b address n holds = omega (arith, holds.0, holds.2)
 
 -- the address that an entry gives stands at the same place
-same_entry_place : (f b : List ℕ) → SameHeaders f b → (j : ℕ) → 16 * (j + 1) ≤ array_size b → place f (entry f j).value ≡ place b (entry b j).value
+same_entry_place : (f b : List ℕ) → SameHeaders f b → (j : ℕ) → 16 * (j + 1) ≤ array_size b
+    → place f (entry f j).value ≡ place b (entry b j).value
 same_entry_place f b same j within = same_place f b same (entry f j).value ∙ ap (place b) (same_value f b same j within)
 
 -- the hash table
@@ -55,7 +59,8 @@ same_symbol_count f b same right =
     let to = table_to b (entry b 0).value (12 + 4 * symbol_count b) right.1 in
     count_of f
     ∙ ap (λ at. number_at 4 (at + 4) f) (same_hash_place f b same right)
-    ∙ same_number (last b).filesz (last b).offset f b same.last_bytes 4 (hash_place b + 4) (omega (arith, from)) (omega (arith, to))
+    ∙ same_number (last b).filesz (last b).offset f b same.last_bytes 4 (hash_place b + 4) (omega (arith, from))
+    (omega (arith, to))
     ∙ sym (count_of b)
 
 -- the names begin at the same place
@@ -114,7 +119,8 @@ record_to : (from n k size end : ℕ) → from + size ≤ end → 24 * n ≤ siz
 record_to from n k size end h few within = omega arith
 
 -- each of them is the same
-pub same_symbol_entry : (f b : List ℕ) → SameHeaders f b → IsRightEntry Symbols b → (k : ℕ) → k < symbol_count b → symbol f k ≡ symbol b k
+pub same_symbol_entry : (f b : List ℕ) → SameHeaders f b → IsRightEntry Symbols b → (k : ℕ) → k < symbol_count b
+    → symbol f k ≡ symbol b k
 unfolding symbol
 same_symbol_entry f b same right k within =
     let n : ℕ = symbol_count b in
@@ -145,7 +151,8 @@ relocations_held b right some =
     ]
 
 -- each of them is the same
-pub same_rela_entry : (f b : List ℕ) → SameHeaders f b → IsRightEntry Relocations b → (k : ℕ) → k < relocation_count b → rela f k ≡ rela b k
+pub same_rela_entry : (f b : List ℕ) → SameHeaders f b → IsRightEntry Relocations b → (k : ℕ) → k < relocation_count b
+    → rela f k ≡ rela b k
 unfolding rela
 same_rela_entry f b same right k within =
     let held = relocations_held b right (omega arith) in

@@ -1,5 +1,6 @@
 -- What the outline of an image that was read says, by the headers of its file.
-use Rattle.std.proofs.Common.{◌≡◌, ◌+◌, ◌<◌, ◌≤◌, ◌⊎◌, ◌∙◌, ℕ, Bool, true, false, List, length, map, get_or, option_map, length-take, length-drop, refl, ap, inl, inr, arith, ◌==◌, if◌then◌else◌}
+use Rattle.std.proofs.Common.{◌≡◌, ◌+◌, ◌<◌, ◌≤◌, ◌⊎◌, ◌∙◌, ℕ, Bool, true, false, List, length, map, get_or, option_map}
+use Rattle.std.proofs.Common.{length-take, length-drop, refl, ap, inl, inr, arith, ◌==◌, if◌then◌else◌}
 use Rattle.std.proofs.lemmas.List.{length-map}
 use Rattle.std.proofs.lemmas.Option.{get_or_from_slice_get, slice_get-map}
 use Rattle.std.specs.List.{slice_range}
@@ -57,7 +58,8 @@ pub length_between : (b : List ℕ) (from n : ℕ) → from + n ≤ length b →
 length_between b from n h = simp (length-take, length-drop) (omega arith)
 
 -- where LOAD i lies, by what is read of it
-place_read : (b : List ℕ) (i : ℕ) → (segment b i).offset + (segment b i).filesz ≤ length b → place_of (part_read b i) ≡ place b i
+place_read : (b : List ℕ) (i : ℕ) → (segment b i).offset + (segment b i).filesz ≤ length b
+    → place_of (part_read b i) ≡ place b i
 unfolding place part_read
 place_read b i h =
     let long = length_between b (segment b i).offset (segment b i).filesz h in

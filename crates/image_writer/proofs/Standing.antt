@@ -1,5 +1,6 @@
 -- The parts of an image stand in its bytes, each at the offset of its address.
-use Rattle.std.proofs.Common.{ℕ, ◌+◌, ◌-◌, ◌<◌, ◌≤◌, ◌≡◌, suc, Some, List, [], ◌∷◌, length, map, take, drop, get_or, refl, subst, sym, ap, ◌∙◌, arith}
+use Rattle.std.proofs.Common.{ℕ, ◌+◌, ◌-◌, ◌<◌, ◌≤◌, ◌≡◌, suc, Some, List, [], ◌∷◌, length, map, take, drop, get_or}
+use Rattle.std.proofs.Common.{refl, subst, sym, ap, ◌∙◌, arith}
 use Rattle.std.specs.List.{slice_get}
 use Rattle.std.proofs.lemmas.List.{get_or-map, length-map, length-take-le}
 use Rattle.std.proofs.lemmas.Option.{get_or_from_slice_get, slice_get-get_or, slice_get_within}
@@ -26,12 +27,14 @@ use Rattle.image_writer.proofs.SameHeaders.{offset_again}
 -- every part stands in the bytes, inside of them
 abbrev pub AllStand : FileKind → List ℕ → List Part → Type 0
 AllStand kind file parts = (i : ℕ) (p : Part) → slice_get parts i ≡ Some p
-    → (file_offset kind p.address + length p.bytes ≤ length file) × (part_at (length p.bytes) (file_offset kind p.address) file ≡ p.bytes)
+    → (file_offset kind p.address + length p.bytes ≤ length file)
+    × (part_at (length p.bytes) (file_offset kind p.address) file ≡ p.bytes)
 
 -- LOAD i stands there
 stands_read : (b : List ℕ) → IsImage b → (i : ℕ) → i < loads b
     → (file_offset (file_kind b) (part_read b i).address + length (part_read b i).bytes ≤ length b)
-    × (part_at (length (part_read b i).bytes) (file_offset (file_kind b) (part_read b i).address) b ≡ (part_read b i).bytes)
+    × (part_at (length (part_read b i).bytes) (file_offset (file_kind b) (part_read b i).address) b
+    ≡ (part_read b i).bytes)
 unfolding part_read part_at
 stands_read b image i h =
     let s = segment b i in
@@ -49,7 +52,8 @@ stands_read b image i h =
 
 pub all_stand : (b : List ℕ) → IsImage b → AllStand (file_kind b) b (spelled b).parts
 all_stand b image i p is =
-    let below : i < loads b = omega (arith, slice_get_within (spelled b).parts i p is, length-tabled (part_read b) (loads b)) in
+    let below : i < loads b =
+    omega (arith, slice_get_within (spelled b).parts i p is, length-tabled (part_read b) (loads b)) in
     let there = tabled_at (part_read b) (loads b) i below in
     let same : part_read b i ≡ p = cc in
     let P : Part → Type 0 = λ q. (file_offset (file_kind b) q.address + length q.bytes ≤ length b)
@@ -74,7 +78,8 @@ last_place s loadable =
     let some : 0 < length s.parts = omega (arith, loadable.some, count) in
     let inside : length s.parts - 1 < length s.parts = omega arith in (
       some,
-      ap (λ n. get_or (map place_of s.parts) (n - 1) no_part) count ∙ get_or-map place_of s.parts (length s.parts - 1) past no_part inside,
+      ap (λ n. get_or (map place_of s.parts) (n - 1) no_part) count
+          ∙ get_or-map place_of s.parts (length s.parts - 1) past no_part inside,
     )
 
 -- a file that is cut where the last part ends: that many bytes are left, and all parts with them
@@ -106,8 +111,12 @@ cut_stands s b size loadable stand size-is =
           let at = ap (λ q. q.address) here in
           let end = ap end_of here in
           let above = (loadable.parts i in-outline).above in
-          let inside : file_offset s.kind p.address + length p.bytes ≤ size = omega (arith, before, at, end, above, size-is) in
-          (omega (arith, inside, long), part_at-take (length p.bytes) (file_offset s.kind p.address) size b inside ∙ there.1),
+          let inside : file_offset s.kind p.address + length p.bytes ≤ size =
+          omega (arith, before, at, end, above, size-is) in (
+            omega (arith, inside, long),
+            part_at-take (length p.bytes) (file_offset s.kind p.address) size b inside
+                ∙ there.1,
+          ),
     )
 
 -- the bytes of an image, cut where its last part ends
@@ -117,5 +126,8 @@ pub cut_again : (s : Spelled) (b file : List ℕ) (size : ℕ) → IsImage b →
 cut_again s b file size image is size-is cut =
     let P : Spelled → Type 0 = λ t. AllStand t.kind b t.parts in
     let stand : AllStand s.kind b s.parts = subst P is (all_stand b image) in
-    let left = cut_stands s b size (loadable_of s b image (sym is)) stand size-is in
-    (ap length cut ∙ left.0, ap (λ f. map (part_in s.kind f) (map place_of s.parts)) cut ∙ parts_again s.kind (take size b) s.parts left.1)
+    let left = cut_stands s b size (loadable_of s b image (sym is)) stand size-is in (
+      ap length cut ∙ left.0,
+      ap (λ f. map (part_in s.kind f) (map place_of s.parts)) cut
+          ∙ parts_again s.kind (take size b) s.parts left.1,
+    )

@@ -1,5 +1,6 @@
 -- The names of symbols, each with a zero byte behind it.
-use Rattle.std.proofs.Common.{ℕ, ◌+◌, ◌<◌, ◌≤◌, ◌≡◌, List, [], ◌∷◌, ◌++◌, length, map, take, get_or, refl, sym, ap, ◌∙◌, arith, append_assoc, length-append, add-one, zero, suc}
+use Rattle.std.proofs.Common.{ℕ, ◌+◌, ◌<◌, ◌≤◌, ◌≡◌, List, [], ◌∷◌, ◌++◌, length, map, take, get_or, refl, sym, ap, ◌∙◌}
+use Rattle.std.proofs.Common.{arith, append_assoc, length-append, add-one, zero, suc}
 use Rattle.std.specs.List.{flat_map}
 use Rattle.std.proofs.lemmas.List.Folds.{length-flat_map-take}
 use Rattle.image_writer.specs.declared.draft.NamedSymbol.{NamedSymbol}
@@ -86,7 +87,8 @@ name-told d i below =
 
 -- where the name of the next symbol begins
 pub name_start-next : (d : Draft) (i : ℕ) → i < length d.symbols.now
-    → name_start (told d) (i + 1 + 1) ≡ name_start (told d) (i + 1) + (length (get_or d.symbols.now i no_symbol).name.now + 1)
+    → name_start (told d) (i + 1 + 1)
+    ≡ name_start (told d) (i + 1) + (length (get_or d.symbols.now i no_symbol).name.now + 1)
 name_start-next d i below =
     let count = length-map d.symbols.now (λ (s : NamedSymbol). s.name.now) in
     let names = map (λ (s : NamedSymbol). s.name.now) d.symbols.now in

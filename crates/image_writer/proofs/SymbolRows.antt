@@ -1,5 +1,6 @@
 -- The rows of the symbol table, as they are put.
-use Rattle.std.proofs.Common.{ℕ, ◌+◌, ◌*◌, ◌<◌, ◌≤◌, ◌≡◌, List, ◌++◌, length, get_or, refl, sym, ap, ◌∙◌, arith, add-one}
+use Rattle.std.proofs.Common.{ℕ, ◌+◌, ◌*◌, ◌<◌, ◌≤◌, ◌≡◌, List, ◌++◌, length, get_or, refl, sym, ap, ◌∙◌, arith}
+use Rattle.std.proofs.Common.{add-one}
 use Rattle.std.specs.List.{flat_map}
 use Rattle.std.proofs.lemmas.List.{append-nil, get_or-map}
 use Rattle.elf_records.specs.Fields.{splice}
@@ -31,7 +32,8 @@ rows_below-all c = refl
 -- one more
 pub rows_below-next : (c : Contents) (n : ℕ) → rows_below c (n + 1) ≡ rows_below c n ++ symbol_bytes (row c n)
 unfolding rows_below
-rows_below-next c n = ap (flat_map symbol_bytes) (tabled-next (row c) n) ∙ flat_map-last symbol_bytes (tabled (row c) n) (row c n)
+rows_below-next c n = ap (flat_map symbol_bytes) (tabled-next (row c) n)
+    ∙ flat_map-last symbol_bytes (tabled (row c) n) (row c n)
 
 -- how many bytes they have
 pub length-rows_below : (c : Contents) (n : ℕ) → length (rows_below c n) ≡ 24 * n
@@ -51,7 +53,8 @@ symbol-told d i below =
     rw (add-one i) (get_or-map (λ (s : NamedSymbol). s.symbol) d.symbols.now i no_symbol null_symbol below)
 
 -- the row of the next symbol, put behind those before it
-pub rows_below-put : (d : Draft) (i at name : ℕ) (entry : SymbolEntry) (bytes out new : List ℕ) → i < length d.symbols.now
+pub rows_below-put : (d : Draft) (i at name : ℕ) (entry : SymbolEntry) (bytes out new : List ℕ)
+    → i < length d.symbols.now
     → at ≤ length bytes → name ≡ name_start (told d) (i + 1)
     → entry ≡ symbol_entry (get_or d.symbols.now i no_symbol).symbol name
     → out ≡ splice at (rows_below (told d) (i + 1)) bytes → new ≡ splice (at + 24 * (i + 1)) (symbol_bytes entry) out

@@ -1,15 +1,17 @@
 -- The entries of the dynamic array.
-use Rattle.std.proofs.Common.{◌≡◌, ◌+◌, ◌*◌, ◌^◌, ◌<◌, ◌≤◌, ℕ, zero, suc, Bool, true, false, List, [], ◌∷◌, ◌++◌, length, get_or}
+use Rattle.std.proofs.Common.{◌≡◌, ◌+◌, ◌*◌, ◌^◌, ◌<◌, ◌≤◌, ℕ, zero, suc, Bool, true, false, List, [], ◌∷◌, ◌++◌}
+use Rattle.std.proofs.Common.{length, get_or}
 use Rattle.std.proofs.Common.{refl, ap, arith, if◌then◌else◌}
 use Rattle.elf_records.specs.declared.dynamic.DynamicEntry.{DynamicEntry}
-use Rattle.elf_records.specs.Records.{FitsDynamicEntry}
+use Rattle.elf_records.specs.FittingRecords.{FitsDynamicEntry}
 use Rattle.elf_records.specs.declared.dynamic.TheConstants.{DT_NULL, DT_HASH, DT_STRTAB, DT_SYMTAB, DT_RELA, DT_RELASZ}
 use Rattle.elf_records.specs.declared.dynamic.TheConstants.{DT_RELAENT, DT_STRSZ, DT_SYMENT, DT_FLAGS, DT_FLAGS_1}
 use Rattle.elf_records.specs.declared.dynamic.TheConstants.{DF_STATIC_TLS, DF_1_PIE}
 use Rattle.image_rules.specs.declared.places.FileKind.{FileKind}
 use Rattle.image_rules.specs.declared.places.FileKind.TheVariants.{Exe, Pie, Module}
 use Rattle.image_writer.specs.Contents.{Contents, tables_address}
-use Rattle.image_writer.specs.Tables.{array, array_entry, array_size, flags_entries, has_relocations, hash_size, relocation_entries}
+use Rattle.image_writer.specs.Tables.{array, array_entry, array_size, flags_entries, has_relocations, hash_size}
+use Rattle.image_writer.specs.Tables.{relocation_entries}
 use Rattle.image_writer.specs.Tables.{relocations_start, strings, strings_start, symbols_start, tables}
 use Rattle.image_writer.proofs.TableSizes.{not_below, tables_long}
 
@@ -27,12 +29,14 @@ unfolding array
 hash_entry c = refl
 
 -- entry 1 names the string table
-pub strings_entry : (c : Contents) → get_or (array c) 1 none ≡ array_entry DT_STRTAB (tables_address c + strings_start c)
+pub strings_entry : (c : Contents)
+    → get_or (array c) 1 none ≡ array_entry DT_STRTAB (tables_address c + strings_start c)
 unfolding array
 strings_entry c = refl
 
 -- entry 2 names the symbols
-pub symbols_entry : (c : Contents) → get_or (array c) 2 none ≡ array_entry DT_SYMTAB (tables_address c + symbols_start c)
+pub symbols_entry : (c : Contents)
+    → get_or (array c) 2 none ≡ array_entry DT_SYMTAB (tables_address c + symbols_start c)
 unfolding array
 symbols_entry c = refl
 
@@ -66,7 +70,8 @@ relocation_size_entry c some = ap (λ b. get_or (relocation_entries c b ++ rest 
 
 -- what follows the first five entries and those of relocations
 rest_behind : (c : Contents) (b : Bool) (u v w x y : DynamicEntry)
-    → get_or ((u ∷ v ∷ w ∷ x ∷ y ∷ []) ++ (relocation_entries c b ++ rest c)) (if b then 8 else 5) none ≡ get_or (rest c) 0 none
+    → get_or ((u ∷ v ∷ w ∷ x ∷ y ∷ []) ++ (relocation_entries c b ++ rest c)) (if b then 8 else 5) none
+    ≡ get_or (rest c) 0 none
 rest_behind c true u v w x y = refl
 rest_behind c false u v w x y = refl
 
@@ -83,7 +88,8 @@ unfolding array
 rest_entry c = rest_behind c (has_relocations c) _ _ _ _ _
 
 -- and the one behind it
-pub next_entry : (c : Contents) → get_or (array c) ((if has_relocations c then 8 else 5) + 1) none ≡ get_or (rest c) 1 none
+pub next_entry : (c : Contents)
+    → get_or (array c) ((if has_relocations c then 8 else 5) + 1) none ≡ get_or (rest c) 1 none
 unfolding array
 next_entry c = next_behind c (has_relocations c) _ _ _ _ _
 
@@ -99,7 +105,8 @@ fits_both [] ys first second = second
 fits_both (x ∷ xs) ys first second = (first.0, fits_both xs ys first.1 second)
 
 -- each of a list of entries that fit, fits
-fits_at : (xs : List DynamicEntry) (j : ℕ) (d : DynamicEntry) → FitsEach xs → j < length xs → FitsDynamicEntry (get_or xs j d)
+fits_at : (xs : List DynamicEntry) (j : ℕ) (d : DynamicEntry) → FitsEach xs → j < length xs
+    → FitsDynamicEntry (get_or xs j d)
 unfolding FitsEach
 fits_at [] j d each below = absurd (omega arith)
 fits_at (x ∷ xs) zero d each below = each.0
@@ -118,7 +125,8 @@ flags_fit false Pie = (fits DT_FLAGS_1 DF_1_PIE (omega arith) (omega arith), tt)
 flags_fit false Module = tt
 
 -- the entries of relocations fit
-relocations_fit : (c : Contents) (b : Bool) → tables_address c + length (tables c) ≤ 71303168 → FitsEach (relocation_entries c b)
+relocations_fit : (c : Contents) (b : Bool) → tables_address c + length (tables c) ≤ 71303168
+    → FitsEach (relocation_entries c b)
 unfolding FitsEach
 relocations_fit c false small = tt
 relocations_fit c true small =
@@ -145,7 +153,8 @@ entry_fits c j small below =
     let size : length (strings c) < 2 ^ 64 = omega (arith, whole, small) in
     let end : FitsEach (none ∷ []) = (fits DT_NULL 0 (omega arith) (omega arith), tt) in
     let more = fits_both (flags_entries c.is_flagged c.kind) (none ∷ []) (flags_fit c.is_flagged c.kind) end in
-    let rest = fits_both (relocation_entries c (has_relocations c)) (rest c) (relocations_fit c (has_relocations c) small) more in
+    let rest = fits_both (relocation_entries c (has_relocations c)) (rest c)
+    (relocations_fit c (has_relocations c) small) more in
     fits_at (array c) j none (
       fits DT_HASH (tables_address c + array_size c) (omega arith) hash,
       (

@@ -21,7 +21,8 @@ use Rattle.image_writer.specs.Contents.{Contents, tables_address}
 use Rattle.image_writer.specs.Tables.{array_size, has_relocations, hash_size, relocations_start, strings, strings_start}
 use Rattle.image_writer.specs.Tables.{symbol_total, symbols_start, tables}
 use Rattle.image_writer.proofs.TableSizes.{aligned, tables_long, not_below}
-use Rattle.image_writer.proofs.TableSeen.{IsFlagsSeen, IsSeen, flags_seen, has_relocations_is, hash_seen, relocation_size_seen}
+use Rattle.image_writer.proofs.TableSeen.{IsFlagsSeen, IsSeen, flags_seen, has_relocations_is, hash_seen}
+use Rattle.image_writer.proofs.TableSeen.{relocation_size_seen}
 use Rattle.image_writer.proofs.TableSeen.{relocations_seen, relocations_size_seen, strings_seen, strings_size_seen}
 use Rattle.image_writer.proofs.TableSeen.{symbol_size_seen, symbols_seen, test_true, test_false}
 use Rattle.image_writer.proofs.TablePlaces.{bucket_count_is, relocations_size_is, strings_size_is, symbol_count_is}
@@ -82,7 +83,8 @@ symbols_right f c s =
     let within : symbols_start c + 24 * symbol_total c ≤ length (tables c) = omega (arith, whole) in (
       told.0,
       subst (λ n. HoldsTable f (entry f 2).value (24 * n)) (sym (symbol_count_is f c s))
-          (holds f c s (entry f 2).value (symbols_start c) (24 * symbol_total c) told.1 (aligned (array_size c + hash_size c)) within),
+          (holds f c s (entry f 2).value (symbols_start c) (24 * symbol_total c) told.1
+          (aligned (array_size c + hash_size c)) within),
     )
 
 -- where there are none, the array names none

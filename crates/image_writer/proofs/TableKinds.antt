@@ -1,8 +1,10 @@
 -- The numbers by which the tables say what a symbol and a relocation are, read as what they stand for.
-use Rattle.std.proofs.Common.{◌≡◌, ◌≢◌, ◌+◌, ◌*◌, ◌/◌, ◌%◌, ◌^◌, ◌<◌, ◌≤◌, ◌==◌, ◌⊎◌, ℕ, Bool, true, false, not, Some, FitsSigned, ℤ, unwrap_or}
+use Rattle.std.proofs.Common.{◌≡◌, ◌≢◌, ◌+◌, ◌*◌, ◌/◌, ◌%◌, ◌^◌, ◌<◌, ◌≤◌, ◌==◌, ◌⊎◌, ℕ, Bool, true, false, not, Some}
+use Rattle.std.proofs.Common.{FitsSigned, ℤ, unwrap_or}
 use Rattle.std.proofs.Common.{refl, ap, ◌∙◌, arith, inl, inr, if◌then◌else◌}
 use Rattle.std.specs.Int.{w64}
-use Rattle.elf_records.specs.Records.{FitsSymbolEntry, FitsRela, rela_symbol, rela_kind, symbol_binding, symbol_kind}
+use Rattle.elf_records.specs.Records.{rela_symbol, rela_kind, symbol_binding, symbol_kind}
+use Rattle.elf_records.specs.FittingRecords.{FitsSymbolEntry, FitsRela}
 use Rattle.elf_records.specs.declared.symbol.TheConstants.{SHN_UNDEF, STB_GLOBAL, STB_WEAK, STT_COMMON, STT_TLS}
 use Rattle.image_faults.specs.declared.loader_kind.LoaderKind.{LoaderKind}
 use Rattle.image_faults.specs.declared.loader_kind.LoaderKind.TheVariants.{JumpSlot, Relative, Module, ModuleOffset}

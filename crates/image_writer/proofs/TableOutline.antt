@@ -58,7 +58,8 @@ tables_here c f file =
     ∙ ap Some (get_or_push c.parts (tables_part c) (tables_part c) (length c.parts) refl))
 
 -- what the last part keeps
-pub tables_right : (c : Contents) → IsLoadable (outline_of (finished c)) → IsRightPart (outline_of (finished c)) (length c.parts)
+pub tables_right : (c : Contents) → IsLoadable (outline_of (finished c))
+    → IsRightPart (outline_of (finished c)) (length c.parts)
 tables_right c loadable =
     let count = part_count c in
     loadable.parts (length c.parts) (omega (arith, count))
@@ -70,13 +71,15 @@ base_low Pie = omega arith
 base_low Module = omega arith
 
 -- the tables end below 68 MiB
-pub tables_small : (c : Contents) → IsLoadable (outline_of (finished c)) → tables_address c + length (tables c) ≤ 71303168
+pub tables_small : (c : Contents) → IsLoadable (outline_of (finished c))
+    → tables_address c + length (tables c) ≤ 71303168
 unfolding finished tables_part
 tables_small c loadable =
     let right = tables_right c loadable in
     let place = tables_place c in
     let low = base_low c.kind in
-    let end : end_of (part (outline_of (finished c)) (length c.parts)) ≡ tables_address c + length (tables c) = ap end_of place in
+    let end : end_of (part (outline_of (finished c)) (length c.parts)) ≡ tables_address c + length (tables c) =
+    ap end_of place in
     let below : end_of (part (outline_of (finished c)) (length c.parts)) ≤ base_of c.kind + 2 ^ 26 = right.below in
     omega (arith, low, end, below)
 
@@ -101,13 +104,16 @@ long_enough c f loadable file =
     let right = tables_right c loadable in
     let place = tables_place c in
     let size : (part (outline_of (finished c)) (length c.parts)).size ≡ length (tables c) = ap (λ p. p.size) place in
-    let address : (part (outline_of (finished c)) (length c.parts)).address ≡ tables_address c = ap (λ p. p.address) place in
+    let address : (part (outline_of (finished c)) (length c.parts)).address ≡ tables_address c =
+    ap (λ p. p.address) place in
     let filled : 0 < (part (outline_of (finished c)) (length c.parts)).size = right.filled in
     let above : base_of c.kind ≤ (part (outline_of (finished c)) (length c.parts)).address = right.above in
     let some : 0 < length (tables c) = omega (arith, size, filled) in
     let begun : base_of c.kind ≤ tables_address c = omega (arith, address, above) in
-    let inside = lies (length (tables c)) (file_offset c.kind (tables_address c)) f (tables c) (tables_here c f file) refl some in
-    let end : end_of (last_part (outline_of (finished c))) ≡ tables_address c + length (tables c) = ap end_of (last_place c) in
+    let inside = lies (length (tables c)) (file_offset c.kind (tables_address c)) f (tables c)
+    (tables_here c f file) refl some in
+    let end : end_of (last_part (outline_of (finished c))) ≡ tables_address c + length (tables c) =
+    ap end_of (last_place c) in
     let same = offset_end (base_of c.kind) (tables_address c) (length (tables c)) begun in
     let offset : file_offset c.kind (end_of (last_part (outline_of (finished c))))
     ≡ file_offset c.kind (tables_address c) + length (tables c) = ap (file_offset c.kind) end ∙ same in
@@ -121,7 +127,8 @@ last_is c f headed =
     let count = part_count c in
     let many = headed.loads_are in
     let before : loads f - 1 ≡ length c.parts = omega (arith, count, many) in
-    ap (segment f) before ∙ headed.load_is (length c.parts) (omega (arith, count)) ∙ ap (load_header c.kind) (tables_place c)
+    ap (segment f) before ∙ headed.load_is (length c.parts) (omega (arith, count))
+    ∙ ap (load_header c.kind) (tables_place c)
 
 -- what is seen of the tables
 pub seen_is : (c : Contents) (f : List ℕ) → IsHeaded f (outline_of (finished c)) → IsLoadable (outline_of (finished c))

@@ -3,7 +3,8 @@ use Rattle.std.proofs.Common.{◌≡◌, ◌+◌, ◌-◌, ◌*◌, ◌/◌, ◌
 use Rattle.std.proofs.Common.{ap, ◌∙◌, arith, if◌then◌else◌, inl, inr, slice_range}
 use Rattle.std.proofs.lemmas.Bool.{cases_Bool, lt-ltb, ltb-false, and_from, and_left}
 use Rattle.elf_records.specs.Fields.{number_at, part_at}
-use Rattle.elf_records.specs.Records.{symbol_at, rela_at, FitsSymbolEntry, FitsRela}
+use Rattle.elf_records.specs.Records.{symbol_at, rela_at}
+use Rattle.elf_records.specs.FittingRecords.{FitsSymbolEntry, FitsRela}
 use Rattle.elf_records.specs.declared.dynamic.TheConstants.{DT_RELA, DT_RELASZ, DT_STRSZ}
 use Rattle.image_faults.specs.Parts.{last}
 use Rattle.image_faults.specs.Array as seen
@@ -17,7 +18,8 @@ use Rattle.image_writer.specs.Tables.{array_size, has_relocations, name_start, r
 use Rattle.image_writer.specs.Tables.{strings, strings_start, symbol_entry, symbol_total, symbols_start}
 use Rattle.image_writer.proofs.TableSizes.{tables_long}
 use Rattle.image_writer.proofs.TableTold.{bucket_told, count_told, rela_told, strings_told, symbol_told}
-use Rattle.image_writer.proofs.TableSeen.{IsSeen, at, has_relocations_is, hash_seen, relocations_seen, relocations_size_seen}
+use Rattle.image_writer.proofs.TableSeen.{IsSeen, at, has_relocations_is, hash_seen, relocations_seen}
+use Rattle.image_writer.proofs.TableSeen.{relocations_size_seen}
 use Rattle.image_writer.proofs.TableSeen.{strings_seen, strings_size_seen, symbols_seen, test_true}
 
 -- an address of the last part, as a place of the file
@@ -109,7 +111,8 @@ relocations_size_is f c s = elim (cases_Bool (has_relocations c)) [
   | inl some ↦
       let told = relocations_size_seen f c s some in
       ap (λ b. if b then (entry f 6).value else 0)
-      (and_from (has_tag f 5 DT_RELA) (has_tag f 6 DT_RELASZ) (has_relocations_is f c s ∙ some) (test_true f 6 DT_RELASZ told.0))
+      (and_from (has_tag f 5 DT_RELA) (has_tag f 6 DT_RELASZ) (has_relocations_is f c s ∙ some)
+      (test_true f 6 DT_RELASZ told.0))
       ∙ told.1
   | inr lacking ↦
       let few : length c.relocations ≤ 0 = ltb-false 0 (length c.relocations) lacking in

@@ -112,4 +112,5 @@ number_there n x at f here fits =
     let none : at + 0 ≡ at = omega arith in
     let again : number_at n 0 (bytes_of n x) ≡ x =
     ap (number_at n 0) (sym (append-nil (bytes_of n x))) ∙ number_again n x 0 [] [] refl fits in
-    ap (λ p. number_at n p f) (sym none) ∙ sym (number_at-own n 0 n at f (omega arith)) ∙ ap (number_at n 0) here ∙ again
+    ap (λ p. number_at n p f) (sym none) ∙ sym (number_at-own n 0 n at f (omega arith)) ∙ ap (number_at n 0) here
+    ∙ again

@@ -50,7 +50,8 @@ name_count : (c : Contents) → length c.names ≡ length c.symbols → length (
 name_count c named = omega (arith, named)
 
 -- a name begins below 2 ^ 32
-start_small : (f : List ℕ) (c : Contents) → IsSeen f c → length c.names ≡ length c.symbols → (k : ℕ) → k < symbol_total c
+start_small : (f : List ℕ) (c : Contents) → IsSeen f c → length c.names ≡ length c.symbols → (k : ℕ)
+    → k < symbol_total c
     → name_start c k < 2 ^ 32
 unfolding strings
 start_small f c s named k below =
@@ -62,9 +63,11 @@ start_small f c s named k below =
 
 -- the rows are read, where each number fits
 pub is_read : (f : List ℕ) (c : Contents) → IsSeen f c → length c.names ≡ length c.symbols
-    → ((k : ℕ) → k < symbol_total c → (symbol c k).value < 2 ^ 64) → ((k : ℕ) → k < symbol_total c → (symbol c k).size < 2 ^ 64)
+    → ((k : ℕ) → k < symbol_total c → (symbol c k).value < 2 ^ 64)
+    → ((k : ℕ) → k < symbol_total c → (symbol c k).size < 2 ^ 64)
     → All (λ (r : ImageRelocation). r.place < 2 ^ 64) c.relocations
-    → All (λ (r : ImageRelocation). FitsSigned w64 r.addend) c.relocations → All (IsRightRelocation c) c.relocations → IsRead f c
+    → All (λ (r : ImageRelocation). FitsSigned w64 r.addend) c.relocations → All (IsRightRelocation c) c.relocations
+    → IsRead f c
 is_read f c s named values sizes places addends right = record {
   seen = s;
   named = named;
@@ -74,7 +77,8 @@ is_read f c s named values sizes places addends right = record {
       let small = count_small f c s in
       let within = (right k d below).symbol_in in
       rela_is f c s k d below
-      (relocation_fits (get_or c.relocations k d) (omega (arith, small, within)) (places k d below) (addends k d below));
+      (relocation_fits (get_or c.relocations k d) (omega (arith, small, within)) (places k d below)
+      (addends k d below));
 }
 
 -- the name of a symbol ends
@@ -123,13 +127,15 @@ import_is f c r k below import =
     )
 
 -- the function of the run time
-runtime_is : (f : List ℕ) (c : Contents) → IsRead f c → (k : ℕ) → k < symbol_total c → IsRuntime c k → found.IsRuntime f k
+runtime_is : (f : List ℕ) (c : Contents) → IsRead f c → (k : ℕ) → k < symbol_total c → IsRuntime c k
+    → found.IsRuntime f k
 unfolding symbol_entry strings
 runtime_is f c r k below runtime =
     let same = r.symbols_are k below in
     let start : (found.symbol f k).name ≡ name_start c k = ap (λ (e : SymbolEntry). e.name) same in
     let count = name_count c r.named in
-    let here = runtime_named (all_names c) k (strings_place f) f (omega (arith, count, below)) (strings_there f c r.seen)
+    let here = runtime_named (all_names c) k (strings_place f) f (omega (arith, count, below))
+    (strings_there f c r.seen)
     runtime.1 in
     let size = strings_size_is f c r.seen in
     let within : (found.symbol f k).name + 15 ≤ strings_size f = omega (arith, start, size, here.0) in (
@@ -139,7 +145,8 @@ runtime_is f c r k below runtime =
     )
 
 -- a relocation names what it may
-names_told : (f : List ℕ) (c : Contents) → IsRead f c → (kind : LoaderKind) (k : ℕ) → k < symbol_total c → MayName c kind k
+names_told : (f : List ℕ) (c : Contents) → IsRead f c → (kind : LoaderKind) (k : ℕ) → k < symbol_total c
+    → MayName c kind k
     → found_relocations.MayName f (Some kind) k
 names_told f c r JumpSlot k below may = runtime_is f c r k below may
 names_told f c r Relative k below may = may
@@ -202,14 +209,18 @@ fields_held f c headed q r same i holds =
     let many = headed.loads_are in
     let inside : i < length c.parts = holds.0 in
     let load = headed.load_is i (omega (arith, count, inside)) in
-    let address : (segment f i).vaddr ≡ (part (outline_of (finished c)) i).address = ap (λ (s : Segment). s.vaddr) load in
+    let address : (segment f i).vaddr ≡ (part (outline_of (finished c)) i).address =
+    ap (λ (s : Segment). s.vaddr) load in
     let size : (segment f i).memsz ≡ (part (outline_of (finished c)) i).size = ap (λ (s : Segment). s.memsz) load in
     let place = place_told q r same in
     let wide = width_told q r same in
     let above : (part (outline_of (finished c)) i).address ≤ r.place = holds.1 in
     let below : r.place + width r.kind
-    ≤ (part (outline_of (finished c)) i).address + (part (outline_of (finished c)) i).size = holds.2 in
-    (omega (arith, count, many, inside), omega (arith, address, place, above), omega (arith, address, size, place, wide, below))
+    ≤ (part (outline_of (finished c)) i).address + (part (outline_of (finished c)) i).size = holds.2 in (
+      omega (arith, count, many, inside),
+      omega (arith, address, place, above),
+      omega (arith, address, size, place, wide, below),
+    )
 
 -- relocations lie behind each other
 rises : (rs : List ImageRelocation) (k : ℕ) (d : ImageRelocation) → AreRising rs → suc k < length rs
@@ -233,7 +244,8 @@ behind_last f c read rising (suc k) d below =
     let apart = rises c.relocations k d rising below in
     let here : (rela f k).offset + field_width (rela_kind (rela f k)) ≤ (rela f (suc k)).offset =
     omega (arith, place, wide, next, apart) in
-    inr (subst (λ n. (rela f n).offset + field_width (rela_kind (rela f n)) ≤ (rela f (suc k)).offset) (sym before) here)
+    inr (subst (λ n. (rela f n).offset + field_width (rela_kind (rela f n)) ≤ (rela f (suc k)).offset)
+    (sym before) here)
 
 -- so a relocation of the file is right
 pub relocation_right : (f : List ℕ) (c : Contents) → IsRead f c → IsHeaded f (outline_of (finished c))

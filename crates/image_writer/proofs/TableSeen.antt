@@ -20,7 +20,8 @@ use Rattle.image_writer.specs.Tables.{flags_entries, relocations_start, strings,
 use Rattle.image_writer.specs.Tables.{tables}
 use Rattle.image_writer.proofs.TableSizes.{length-array}
 use Rattle.image_writer.proofs.TableTold.{entry_told}
-use Rattle.image_writer.proofs.TableArray.{entry_fits, hash_entry, next_entry, none, relocation_size_entry, relocations_entry}
+use Rattle.image_writer.proofs.TableArray.{entry_fits, hash_entry, next_entry, none, relocation_size_entry}
+use Rattle.image_writer.proofs.TableArray.{relocations_entry}
 use Rattle.image_writer.proofs.TableArray.{relocations_size_entry, rest, rest_entry, strings_entry, strings_size_entry}
 use Rattle.image_writer.proofs.TableArray.{symbol_size_entry, symbols_entry}
 
@@ -38,7 +39,8 @@ abbrev pub at : Contents → ℕ
 at c = file_offset c.kind (tables_address c)
 
 -- an entry of the array
-pub entry_is : (f : List ℕ) (c : Contents) → IsSeen f c → (j : ℕ) → 16 * (j + 1) ≤ array_size c → entry f j ≡ get_or (array c) j none
+pub entry_is : (f : List ℕ) (c : Contents) → IsSeen f c → (j : ℕ) → 16 * (j + 1) ≤ array_size c
+    → entry f j ≡ get_or (array c) j none
 unfolding entry
 entry_is f c s j within =
     let count = length-array c in
@@ -101,7 +103,8 @@ three c some = ap three_if some
 pub relocations_seen : (f : List ℕ) (c : Contents) → IsSeen f c → has_relocations c ≡ true
     → HasTag f 5 DT_RELA × ((entry f 5).value ≡ tables_address c + relocations_start c)
 relocations_seen f c s some =
-    tagged f c s 5 DT_RELA (tables_address c + relocations_start c) (omega (arith, three c some)) (relocations_entry c some)
+    tagged f c s 5 DT_RELA (tables_address c + relocations_start c) (omega (arith, three c some))
+    (relocations_entry c some)
 
 -- that of their size
 pub relocations_size_seen : (f : List ℕ) (c : Contents) → IsSeen f c → has_relocations c ≡ true
@@ -123,7 +126,8 @@ IsFirst flagged kind e =
     ⊎ ((flagged ≡ false) × (kind ≢ Pie) × (e ≡ none)))
 
 -- the first entry behind those of the tables is one of these
-first_is : (flagged : Bool) (kind : FileKind) → IsFirst flagged kind (get_or (flags_entries flagged kind ++ (none ∷ [])) 0 none)
+first_is : (flagged : Bool) (kind : FileKind)
+    → IsFirst flagged kind (get_or (flags_entries flagged kind ++ (none ∷ [])) 0 none)
 unfolding IsFirst
 first_is true kind = inl (refl, refl)
 first_is false Exe = inr (inr (refl, λ e. cc, refl))
@@ -167,7 +171,8 @@ end_seen f c s some =
 unfoldable pub IsFlagsSeen : List ℕ → Contents → ℕ → Type 0
 IsFlagsSeen f c j =
     ((c.is_flagged ≡ true) × HasTag f j DT_FLAGS × ((entry f j).value ≡ DF_STATIC_TLS) × HasTag f (j + 1) DT_NULL)
-    ⊎ (((c.is_flagged ≡ false) × (c.kind ≡ Pie) × HasTag f j DT_FLAGS_1 × ((entry f j).value ≡ DF_1_PIE) × HasTag f (j + 1) DT_NULL)
+    ⊎ (((c.is_flagged ≡ false) × (c.kind ≡ Pie) × HasTag f j DT_FLAGS_1 × ((entry f j).value ≡ DF_1_PIE)
+    × HasTag f (j + 1) DT_NULL)
     ⊎ ((c.is_flagged ≡ false) × (c.kind ≢ Pie) × HasTag f j DT_NULL))
 
 -- by what the contents have there
@@ -200,7 +205,8 @@ has_relocations_is f c s = elim (cases_Bool (has_relocations c)) [
   | inl some ↦ test_true f 5 DT_RELA (relocations_seen f c s some).0 ∙ sym some
   | inr lacking ↦
       let place : flags_place c ≡ 5 = ap (λ b. if b then 8 else 5) lacking in
-      no_relocations f c (subst (IsFlagsSeen f c) place (flags_seen_by f c s (first_is c.is_flagged c.kind))) ∙ sym lacking
+      no_relocations f c (subst (IsFlagsSeen f c) place (flags_seen_by f c s (first_is c.is_flagged c.kind)))
+      ∙ sym lacking
 ]
 
 -- what the file says where it looks for a flag

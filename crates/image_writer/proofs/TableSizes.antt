@@ -43,7 +43,8 @@ pub length-array : (c : Contents) → 16 * length (array c) ≡ array_size c
 unfolding array
 length-array c =
     let e = array_entry 0 0 in
-    ap (λ n. 16 * n) (five_more e e e e e e (relocation_entries c (has_relocations c)) (flags_entries c.is_flagged c.kind)
+    ap (λ n. 16 * n) (five_more e e e e e e (relocation_entries c (has_relocations c))
+    (flags_entries c.is_flagged c.kind)
     _ _ (relocation_entry_count c (has_relocations c)) refl)
 
 -- how many words the hash table has
@@ -65,7 +66,8 @@ hash_long c =
 -- each symbol takes 24 bytes
 pub symbols_long : (c : Contents) → length (flat_map symbol_bytes (symbol_rows c)) ≡ 24 * symbol_total c
 unfolding symbol_rows
-symbols_long c = length-rows symbol_bytes 24 length-symbol_bytes (symbol_rows c) ∙ ap (λ n. 24 * n) (length-tabled _ (symbol_total c))
+symbols_long c = length-rows symbol_bytes 24 length-symbol_bytes (symbol_rows c)
+    ∙ ap (λ n. 24 * n) (length-tabled _ (symbol_total c))
 
 -- each relocation takes 24 bytes
 pub relocations_long : (c : Contents)

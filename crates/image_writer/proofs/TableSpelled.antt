@@ -68,7 +68,8 @@ part_told f kind s p same here =
     ∙ ap (λ x. part_made x p.address p.bytes) (class_back p.class)
 
 -- the parts of an image
-pub parts_are : (f : List ℕ) (s : Spelled) → IsHeaded f (outline_of s) → IsFileOf f s → (spelling.spelled f).parts ≡ s.parts
+pub parts_are : (f : List ℕ) (s : Spelled) → IsHeaded f (outline_of s) → IsFileOf f s
+    → (spelling.spelled f).parts ≡ s.parts
 unfolding spelling.part part_made
 parts_are f s headed file =
     let many = length-map s.parts place_of in
@@ -90,7 +91,8 @@ symbols_are f c r =
     ∙ get_or_default (all_symbols c) k null_symbol d below)
 
 -- a name has no zero byte
-name_whole : (c : Contents) → ((k : ℕ) → 0 < k → k ≤ length c.symbols → IsRightSymbol c k) → (k : ℕ) → k < symbol_total c
+name_whole : (c : Contents) → ((k : ℕ) → 0 < k → k ≤ length c.symbols → IsRightSymbol c k) → (k : ℕ)
+    → k < symbol_total c
     → All (λ byte. byte ≢ 0) (name c k)
 name_whole c symbols zero below = λ i d inside. absurd (omega (arith, inside))
 name_whole c symbols (suc k) below = (symbols (suc k) (omega arith) (omega (arith, below))).named
@@ -117,7 +119,8 @@ relocations_are f c r =
     (λ k d below. ap relocation_of (r.relocations_are k d below) ∙ relocation_back (get_or c.relocations k d))
 
 -- an image is what its fields are
-spelled_made : FileKind → List Part → ℕ → Option ℕ → Option TlsPart → List ImageSymbol → List (List ℕ) → List ImageRelocation
+spelled_made : FileKind → List Part → ℕ → Option ℕ → Option TlsPart → List ImageSymbol → List (List ℕ)
+    → List ImageRelocation
     → Bool → Spelled
 spelled_made kind parts array_size got tls symbols names relocations is_flagged = record {
   kind = kind;

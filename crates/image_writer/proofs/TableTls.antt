@@ -53,15 +53,18 @@ unfolding finished
 has_tls_is f c headed some = headed.has_tls_is ∙ some
 
 -- a thread-local symbol lies in the segment
-symbol_inside : (f : List ℕ) (c : Contents) → IsHeaded f (outline_of (finished c)) → IsRead f c → (k : ℕ) → k < symbol_total c
+symbol_inside : (f : List ℕ) (c : Contents) → IsHeaded f (outline_of (finished c)) → IsRead f c → (k : ℕ)
+    → k < symbol_total c
     → (k ≡ 0) ⊎ IsRightSymbol c k → IsPastTls f k → ⊥
 unfolding symbol_entry
 symbol_inside f c headed r k below right past =
     let same = r.symbols_are k below in
     let kind : (symbol c k).kind ≡ Tls =
-    type_tls (symbol c k).kind (sym (kind_of_entry (symbol c k) (name_start c k)) ∙ ap symbol_kind (sym same) ∙ past.0) in
+    type_tls (symbol c k).kind
+    (sym (kind_of_entry (symbol c k) (name_start c k)) ∙ ap symbol_kind (sym same) ∙ past.0) in
     let section = ap (λ (e : SymbolEntry). e.shndx) same in
-    let defined : (symbol c k).is_defined ≡ true = defined_is (symbol c k).is_defined (λ none. past.1 (section ∙ none)) in
+    let defined : (symbol c k).is_defined ≡ true =
+    defined_is (symbol c k).is_defined (λ none. past.1 (section ∙ none)) in
     let value : (found.symbol f k).value ≡ (symbol c k).value = ap (λ (e : SymbolEntry). e.value) same in
     let size = tls_size_is f c headed in
     elim right [
@@ -88,13 +91,16 @@ not_lacking f c headed Relative addend own lacks = lacks
 not_lacking f c headed Module addend own lacks = lacks (has_tls_is f c headed own)
 not_lacking f c headed ModuleOffset addend own lacks = lacks
 not_lacking f c headed ThreadOffset addend own (inl lacks) = lacks (has_tls_is f c headed own.0)
-not_lacking f c headed ThreadOffset addend own (inr outside) = not_outside f c (tls_size_is f c headed) addend own.1 outside
+not_lacking f c headed ThreadOffset addend own (inr outside) =
+    not_outside f c (tls_size_is f c headed) addend own.1 outside
 not_lacking f c headed Descriptor addend own (inl lacks) = lacks (has_tls_is f c headed own.0)
-not_lacking f c headed Descriptor addend own (inr outside) = not_outside f c (tls_size_is f c headed) addend own.1 outside
+not_lacking f c headed Descriptor addend own (inr outside) =
+    not_outside f c (tls_size_is f c headed) addend own.1 outside
 
 -- a relocation of the image itself lies in the segment
 relocation_inside : (f : List ℕ) (c : Contents) → IsHeaded f (outline_of (finished c)) → IsRead f c
-    → All (IsRightRelocation c) c.relocations → (k : ℕ) (d : ImageRelocation) → k < length c.relocations → IsOwnOutside f k → ⊥
+    → All (IsRightRelocation c) c.relocations → (k : ℕ) (d : ImageRelocation) → k < length c.relocations
+    → IsOwnOutside f k → ⊥
 relocation_inside f c headed r right k d below outside =
     let same = r.relocations_are k d below in
     let it = get_or c.relocations k d in
@@ -105,7 +111,8 @@ relocation_inside f c headed r right k d below outside =
     (subst (λ o. LacksOwnTls f o (rela f k).addend) (type_told (rela f k) it same) outside.1))
 
 -- each symbol but number 0 is right
-right_or_first : (c : Contents) → ((k : ℕ) → 0 < k → k ≤ length c.symbols → IsRightSymbol c k) → (k : ℕ) → k < symbol_total c
+right_or_first : (c : Contents) → ((k : ℕ) → 0 < k → k ≤ length c.symbols → IsRightSymbol c k) → (k : ℕ)
+    → k < symbol_total c
     → (k ≡ 0) ⊎ IsRightSymbol c k
 right_or_first c symbols zero below = inl refl
 right_or_first c symbols (suc k) below = inr (symbols (suc k) (omega arith) (omega (arith, below)))

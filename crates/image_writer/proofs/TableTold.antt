@@ -8,18 +8,22 @@ use Rattle.elf_records.specs.declared.dynamic.DynamicEntry.{DynamicEntry}
 use Rattle.elf_records.specs.declared.symbol.SymbolEntry.{SymbolEntry}
 use Rattle.elf_records.specs.declared.relocation.Rela.{Rela}
 use Rattle.elf_records.specs.Records.{dynamic_at, dynamic_bytes, symbol_at, symbol_bytes, rela_at, rela_bytes}
-use Rattle.elf_records.specs.Records.{FitsDynamicEntry, FitsSymbolEntry, FitsRela}
-use Rattle.elf_records.specs.RecordLaws.{dynamic_again, dynamic_at-own, symbol_again, symbol_at-own, rela_again, rela_at-own}
+use Rattle.elf_records.specs.FittingRecords.{FitsDynamicEntry, FitsSymbolEntry, FitsRela}
+use Rattle.elf_records.specs.RecordLaws.{dynamic_again, dynamic_at-own, symbol_again, symbol_at-own, rela_again}
+use Rattle.elf_records.specs.RecordLaws.{rela_at-own}
 use Rattle.elf_records.specs.RecordLaws.{length-dynamic_bytes, length-symbol_bytes, length-rela_bytes}
 use Rattle.image_file.specs.declared.relocation.ImageRelocation.{ImageRelocation}
 use Rattle.image_file.specs.Tabled.{length-tabled, tabled_at}
 use Rattle.std.proofs.lemmas.Option.{get_or_from_slice_get}
 use Rattle.image_writer.specs.Contents.{Contents, symbol}
 use Rattle.image_writer.specs.Tables.{array, array_size, hash_size, hash_words, name_start, relocation_entry}
-use Rattle.image_writer.specs.Tables.{relocations_start, strings, strings_start, symbol_entry, symbol_rows, symbol_total}
+use Rattle.image_writer.specs.Tables.{relocations_start, strings, strings_start, symbol_entry, symbol_rows}
+use Rattle.image_writer.specs.Tables.{symbol_total}
 use Rattle.image_writer.specs.Tables.{symbols_start, tables}
-use Rattle.image_writer.proofs.TableRows.{in_first, in_second, in_fourth, in_fifth, in_last, in_file, number_there, row_at}
-use Rattle.image_writer.proofs.TableSizes.{array_long, gap_long, hash_long, length-array, length-words, relocations_long}
+use Rattle.image_writer.proofs.TableRows.{in_first, in_second, in_fourth, in_fifth, in_last, in_file, number_there}
+use Rattle.image_writer.proofs.TableRows.{row_at}
+use Rattle.image_writer.proofs.TableSizes.{array_long, gap_long, hash_long, length-array, length-words}
+use Rattle.image_writer.proofs.TableSizes.{relocations_long}
 use Rattle.image_writer.proofs.TableSizes.{symbols_long, tables_long, not_below}
 
 -- a record whose bytes stand at a place is read there
@@ -60,13 +64,16 @@ unfolding tables
 hash_in c j d below =
     let long = hash_long c in
     let count = length-words (symbol_total c) in
-    let within : 4 * j + 4 ≤ length (flat_map (bytes_of 4) (hash_words (symbol_total c))) = omega (arith, long, count, below) in
-    in_second 4 (array_size c) (4 * j) (flat_map dynamic_bytes (array c)) (flat_map (bytes_of 4) (hash_words (symbol_total c))) _
+    let within : 4 * j + 4 ≤ length (flat_map (bytes_of 4) (hash_words (symbol_total c))) =
+    omega (arith, long, count, below) in
+    in_second 4 (array_size c) (4 * j) (flat_map dynamic_bytes (array c))
+    (flat_map (bytes_of 4) (hash_words (symbol_total c))) _
     (sym (array_long c)) within
     ∙ row_at (bytes_of 4) 4 (length-bytes_of 4) (hash_words (symbol_total c)) j d below
 
 -- the symbols begin behind the array, the hash table and the gap
-symbols_begin : (a h p first second start : ℕ) → a ≡ first → h ≡ second → p + (first + second) ≡ start → start ≡ a + h + p
+symbols_begin : (a h p first second start : ℕ) → a ≡ first → h ≡ second → p + (first + second) ≡ start
+    → start ≡ a + h + p
 symbols_begin a h p first second start at_a at_h at_p = omega arith
 
 -- the row of symbol k
@@ -94,13 +101,15 @@ relocations_in : (c : Contents) (k : ℕ) (d : ImageRelocation) → k < length c
 unfolding tables
 relocations_in c k d below =
     let long = relocations_long c in
-    let within : 24 * k + 24 ≤ length (flat_map (λ (r : ImageRelocation). rela_bytes (relocation_entry r)) c.relocations) =
+    let within : 24 * k + 24 ≤ length
+    (flat_map (λ (r : ImageRelocation). rela_bytes (relocation_entry r)) c.relocations) =
     omega (arith, long, below) in
     in_fifth 24 (relocations_start c) (24 * k) (flat_map dynamic_bytes (array c))
     (flat_map (bytes_of 4) (hash_words (symbol_total c))) (replicate (symbols_start c - (array_size c + hash_size c)) 0)
     (flat_map symbol_bytes (symbol_rows c)) (flat_map (λ r. rela_bytes (relocation_entry r)) c.relocations) _
     (relocations_begin _ _ _ _ _ _ _ _ (array_long c) (hash_long c) (gap_long c) (symbols_long c)) within
-    ∙ row_at (λ r. rela_bytes (relocation_entry r)) 24 (λ r. length-rela_bytes (relocation_entry r)) c.relocations k d below
+    ∙ row_at (λ r. rela_bytes (relocation_entry r)) 24
+    (λ r. length-rela_bytes (relocation_entry r)) c.relocations k d below
 
 -- the names begin behind the relocations
 strings_begin : (a h p d e first second start fourth fifth : ℕ) → a ≡ first → h ≡ second
@@ -117,7 +126,8 @@ strings_in c =
     (strings_begin _ _ _ _ _ _ _ _ _ _ (array_long c) (hash_long c) (gap_long c) (symbols_long c) (relocations_long c))
 
 -- in a file that holds the tables from an offset on: entry j of the array
-pub entry_told : (c : Contents) (f : List ℕ) (at : ℕ) → part_at (length (tables c)) at f ≡ tables c → (j : ℕ) (d : DynamicEntry)
+pub entry_told : (c : Contents) (f : List ℕ) (at : ℕ) → part_at (length (tables c)) at f ≡ tables c
+    → (j : ℕ) (d : DynamicEntry)
     → j < length (array c) → FitsDynamicEntry (get_or (array c) j d) → dynamic_at (at + 16 * j) f ≡ get_or (array c) j d
 entry_told c f at here j d below fits =
     let whole = tables_long c in
@@ -178,14 +188,16 @@ symbol_told c f at here k below fits =
     ∙ symbols_in c k row below ∙ ap symbol_bytes (row_is c k row below)) fits
 
 -- relocation k
-pub rela_told : (c : Contents) (f : List ℕ) (at : ℕ) → part_at (length (tables c)) at f ≡ tables c → (k : ℕ) (d : ImageRelocation)
+pub rela_told : (c : Contents) (f : List ℕ) (at : ℕ) → part_at (length (tables c)) at f ≡ tables c
+    → (k : ℕ) (d : ImageRelocation)
     → k < length c.relocations → FitsRela (relocation_entry (get_or c.relocations k d))
     → rela_at (at + relocations_start c + 24 * k) f ≡ relocation_entry (get_or c.relocations k d)
 rela_told c f at here k d below fits =
     let whole = tables_long c in
     let within : relocations_start c + 24 * k + 24 ≤ length (tables c) = omega (arith, whole, below) in
     let place : at + relocations_start c + 24 * k ≡ at + (relocations_start c + 24 * k) = omega arith in
-    ap (λ p. rela_at p f) place ∙ rela_there (at + (relocations_start c + 24 * k)) f (relocation_entry (get_or c.relocations k d))
+    ap (λ p. rela_at p f) place
+    ∙ rela_there (at + (relocations_start c + 24 * k)) f (relocation_entry (get_or c.relocations k d))
     (in_file (length (tables c)) at 24 (relocations_start c + 24 * k) f (tables c) here within
     ∙ relocations_in c k d below) fits
 

@@ -46,7 +46,8 @@ differing_take (x ∷ a) zero = refl
 differing_take (x ∷ a) (suc n) = omega (arith, same x, differing_take a n)
 
 -- what a vector has once its slice was written
-pub differing_written : (a b c rest : List ℕ) (n k : ℕ) → n ≡ length c → length a ≤ length b → differing a b ≡ 0 → differing b c ≤ k
+pub differing_written : (a b c rest : List ℕ) (n k : ℕ) → n ≡ length c → length a ≤ length b → differing a b ≡ 0
+    → differing b c ≤ k
     → differing a (take n (c ++ rest)) ≤ k
 differing_written a b c rest n k long h same_front near =
     let e : take n (c ++ rest) ≡ c = rw long (take_front c rest) in

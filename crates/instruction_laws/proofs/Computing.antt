@@ -1,5 +1,6 @@
 -- Sums, differences and bitwise results have the manual's properties, and nothing else has them.
-use Rattle.std.proofs.Common.{◌≡◌, ◌↔◌, ◌⊎◌, inl, inr, ℕ, ◌+◌, ◌-◌, ◌*◌, ◌/◌, ◌%◌, ◌^◌, ◌<◌, ◌≤◌, leb, ℤ, pos, bit_and, bit_or, bit_xor, subst, ⊎_elim, arith}
+use Rattle.std.proofs.Common.{◌≡◌, ◌↔◌, ◌⊎◌, inl, inr, ℕ, ◌+◌, ◌-◌, ◌*◌, ◌/◌, ◌%◌, ◌^◌, ◌<◌, ◌≤◌, leb, ℤ, pos, bit_and}
+use Rattle.std.proofs.Common.{bit_or, bit_xor, subst, ⊎_elim, arith}
 use Rattle.std.specs.Prelude.{◌+ℤ◌, ◌-ℤ◌, ◌<ℤ◌, nat_le, nat_lt}
 use Rattle.std.specs.Bool.{Decides}
 use Rattle.std.proofs.lemmas.Bool.{cases_lt, leb-true, le-leb}
@@ -12,7 +13,9 @@ use Rattle.amd64_subset.specs.declared.instr.Arithmetic.TheVariants.{Add, Or, An
 use Rattle.amd64_subset.specs.declared.instr.Width.{Width}
 use Rattle.amd64_subset.specs.declared.instr.Width.TheVariants.{Long, Quad}
 use Rattle.guest_arithmetic.specs.declared.effect.Effect.{Effect}
-use Rattle.guest_arithmetic.specs.Arithmetic.{span_of, half_of, biased, is_negative, sum_overflows, difference_overflows, sum_effect, difference_effect, logic_effect, compute_effect}
+use Rattle.guest_arithmetic.specs.Arithmetic.{span_of, half_of, biased, is_negative, sum_overflows}
+use Rattle.guest_arithmetic.specs.Arithmetic.{difference_overflows, sum_effect, difference_effect, logic_effect}
+use Rattle.guest_arithmetic.specs.Arithmetic.{compute_effect}
 use Rattle.instruction_laws.specs.Words.{words, IsOutside, IsSigned, IsCut, IsSet, Shows}
 use Rattle.instruction_laws.specs.Results.{TellsOfResult, IsSum, IsDifference, IsBitwise, Both, Either, One, Computes}
 use Rattle.instruction_laws.proofs.Words.{only_cut, same_shown, same_effect, same_told, signed_of}

@@ -1,11 +1,13 @@
 -- The other operations do what the manual says, and all of them together.
-use Rattle.std.proofs.Common.{◌≡◌, ℕ, ◌+◌, ◌-◌, ◌%◌, ◌^◌, ◌<◌, ℤ, pos, Bool, true, false, Option, Some, None, Ok, refl, ap, sym, subst, ap₂, ⊎_elim, arith, ◌∙◌}
+use Rattle.std.proofs.Common.{◌≡◌, ℕ, ◌+◌, ◌-◌, ◌%◌, ◌^◌, ◌<◌, ℤ, pos, Bool, true, false, Option, Some, None, Ok, refl}
+use Rattle.std.proofs.Common.{ap, sym, subst, ap₂, ⊎_elim, arith, ◌∙◌}
 use Rattle.std.specs.Bool.{Decides}
 use Rattle.std.specs.Prelude.{◌-ℤ◌, ◌<ℤ◌, if◌then◌else◌}
 use Rattle.std.proofs.lemmas.Bool.{false≢true, eqb-true}
 use Rattle.std.proofs.lemmas.Int.{ints}
 use Rattle.amd64_words.specs.declared.register.Register.{Register}
-use Rattle.amd64_words.specs.declared.register.Register.TheVariants.{Rax, Rcx, Rdx, Rbx, Rsp, Rbp, Rsi, Rdi, R8, R9, R10, R11, R12, R13, R14, R15}
+use Rattle.amd64_words.specs.declared.register.Register.TheVariants.{Rax, Rcx, Rdx, Rbx, Rsp, Rbp, Rsi, Rdi, R8, R9}
+use Rattle.amd64_words.specs.declared.register.Register.TheVariants.{R10, R11, R12, R13, R14, R15}
 use Rattle.amd64_words.specs.Register.{are_same, number_of, register_of as register_numbered}
 use Rattle.amd64_words.specs.RegisterLaws.{told_by_number}
 use Rattle.amd64_subset.specs.declared.instr.Arithmetic.{Arithmetic}
@@ -13,7 +15,10 @@ use Rattle.amd64_subset.specs.declared.instr.Arithmetic.TheVariants.{Add, Or, An
 use Rattle.amd64_subset.specs.declared.instr.Condition.{Condition}
 use Rattle.amd64_subset.specs.declared.instr.Decoded.{Decoded}
 use Rattle.amd64_subset.specs.declared.instr.Operation.{Operation}
-use Rattle.amd64_subset.specs.declared.instr.Operation.TheVariants.{Move, StoreByte, ExtendByte, ExtendLong, LoadAddress, Compute, Test, Multiply, Shift as ShiftBy, Push, Pop, Leave, Call, Jump, JumpIf, Return, Nop, Undefined}
+use Rattle.amd64_subset.specs.declared.instr.Operation.TheVariants.{Move, StoreByte, ExtendByte, ExtendLong}
+use Rattle.amd64_subset.specs.declared.instr.Operation.TheVariants.{LoadAddress, Compute, Test, Multiply}
+use Rattle.amd64_subset.specs.declared.instr.Operation.TheVariants.{Shift as ShiftBy, Push, Pop, Leave, Call, Jump}
+use Rattle.amd64_subset.specs.declared.instr.Operation.TheVariants.{JumpIf, Return, Nop, Undefined}
 use Rattle.amd64_subset.specs.declared.instr.Target.{Target}
 use Rattle.amd64_subset.specs.declared.instr.Target.TheVariants.{Relative, Indirect}
 use Rattle.amd64_subset.specs.declared.instr.Width.{Width}
@@ -31,17 +36,22 @@ use Rattle.guest_operands.specs.Access.{store_of}
 use Rattle.guest_operands.specs.Operand.{number_at, taken}
 use Rattle.guest_operands.specs.State.{register_of, with_register, with_word, at_place}
 use Rattle.guest_operands.specs.Use.{◌>>=◌, plus, clean, there, left}
-use Rattle.guest_machine.specs.Step.{act, compute_in, compute_of, concluded, finished, is_cleared, pushed, push_of, pop_of, leave_of, return_of, call_of, jump_of, jump_if, nop_of}
+use Rattle.guest_machine.specs.Step.{act, compute_in, compute_of, concluded, finished, is_cleared, pushed, push_of}
+use Rattle.guest_machine.specs.Step.{pop_of, leave_of, return_of, call_of, jump_of, jump_if, nop_of}
 use Rattle.instruction_laws.specs.Conditions.{Holds}
 use Rattle.instruction_laws.specs.Results.{IsDifference, IsBitwise, One}
 use Rattle.instruction_laws.specs.Words.{words, IsSigned, IsCut, IsOutside, IsSet, Shows}
-use Rattle.instruction_laws.specs.Steps.{Numbers, Has, IsLeftAt, IsLeft, writes, ComputesOf, Pushes, Pops, Leaves, Returns, Calls, Jumps, JumpsIf, Does}
+use Rattle.instruction_laws.specs.Steps.{Numbers, Has, IsLeftAt, IsLeft, writes, ComputesOf, Pushes, Pops, Leaves}
+use Rattle.instruction_laws.specs.Steps.{Returns, Calls, Jumps, JumpsIf, Does}
 use Rattle.instruction_laws.proofs.Comparing.{test_of, tested, holds}
 use Rattle.instruction_laws.proofs.Computing.{computes}
 use Rattle.guest_operands.specs.Frame.{field_at, frame_of}
 use Rattle.guest_operands.specs.State.{with_stack}
-use Rattle.instruction_laws.proofs.Operating.{At, moves, moves_out, moves_byte, extends_byte, extends_long, loads_address, moves_immediate, computes_out, computes_immediate, tests, multiplies_to, shifts_to, concluded_is, effect_is}
-use Rattle.instruction_laws.proofs.Stepping.{Outcome, done, acc, frame, frame_at, low_is, whole, take, left_as, goes, register_number, finish}
+use Rattle.instruction_laws.proofs.Operating.{At, moves, moves_out, moves_byte, extends_byte, extends_long}
+use Rattle.instruction_laws.proofs.Operating.{loads_address, moves_immediate, computes_out, computes_immediate, tests}
+use Rattle.instruction_laws.proofs.Operating.{multiplies_to, shifts_to, concluded_is, effect_is}
+use Rattle.instruction_laws.proofs.Stepping.{Outcome, done, acc, frame, frame_at, low_is, whole, take, left_as, goes}
+use Rattle.instruction_laws.proofs.Stepping.{register_number, finish}
 use Rattle.instruction_laws.proofs.Words.{low_half, only_cut, only_signed}
 
 -- ** a register that is cleared

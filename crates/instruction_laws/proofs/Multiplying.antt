@@ -1,5 +1,7 @@
 -- Products have the manual's properties, and nothing else has them.
-use Rattle.std.proofs.Common.{◌≡◌, ◌↔◌, inl, inr, ℕ, zero, suc, ◌+◌, ◌-◌, ◌*◌, ◌/◌, ◌%◌, ◌<◌, ◌≤◌, not, ℤ, pos, negsuc, neg_ℤ, ◌*ℤ◌, Bool, true, false, cond, refl, ap, sym, subst, subst₂, arith, ◌∙◌, mul_comm, mul-add}
+use Rattle.std.proofs.Common.{◌≡◌, ◌↔◌, inl, inr, ℕ, zero, suc, ◌+◌, ◌-◌, ◌*◌, ◌/◌, ◌%◌, ◌<◌, ◌≤◌, not, ℤ, pos, negsuc}
+use Rattle.std.proofs.Common.{neg_ℤ, ◌*ℤ◌, Bool, true, false, cond, refl, ap, sym, subst, subst₂, arith, ◌∙◌, mul_comm}
+use Rattle.std.proofs.Common.{mul-add}
 use Rattle.std.specs.Prelude.{◌+ℤ◌, nat_le, nat_lt, if◌then◌else◌}
 use Rattle.std.specs.Bool.{Decides}
 use Rattle.std.proofs.lemmas.Bool.{le-leb, lt-leb}
@@ -9,7 +11,8 @@ use lib.IntN.{pos-*ℤ-pos, pos-*ℤ-negsuc, negsuc-*ℤ-pos, negsuc-*ℤ-negsuc
 use Rattle.amd64_subset.specs.declared.instr.Width.{Width}
 use Rattle.amd64_subset.specs.declared.instr.Width.TheVariants.{Long, Quad}
 use Rattle.guest_arithmetic.specs.declared.effect.Effect.{Effect}
-use Rattle.guest_arithmetic.specs.Arithmetic.{span_of, half_of, is_negative, differ, magnitude, product_fits, product_effect}
+use Rattle.guest_arithmetic.specs.Arithmetic.{span_of, half_of, is_negative, differ, magnitude, product_fits}
+use Rattle.guest_arithmetic.specs.Arithmetic.{product_effect}
 use Rattle.instruction_laws.specs.Words.{words, half, IsOutside, IsSigned, IsCut}
 use Rattle.instruction_laws.specs.Results.{IsProduct}
 use Rattle.instruction_laws.proofs.Words.{only_cut, same_shown, same_undefined, same_effect}

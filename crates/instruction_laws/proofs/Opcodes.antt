@@ -1,12 +1,15 @@
 -- The opcode maps, byte by byte.
-use Rattle.std.proofs.Common.{◌≡◌, ℕ, zero, suc, ◌<◌, ◌++◌, Bool, true, false, List, [], ◌∷◌, map, Option, None, refl, ap, subst, ⊎_elim, arith}
+use Rattle.std.proofs.Common.{◌≡◌, ℕ, zero, suc, ◌<◌, ◌++◌, Bool, true, false, List, [], ◌∷◌, map, Option, None, refl}
+use Rattle.std.proofs.Common.{ap, subst, ⊎_elim, arith}
 use Rattle.std.proofs.lemmas.Bool.{cases_lt}
 use Rattle.amd64_words.specs.Register.{register_of}
 use Rattle.amd64_subset.specs.declared.prefix.Rex.{Rex}
 use Rattle.amd64_subset.specs.declared.row.Group.TheVariants as group
 use Rattle.amd64_subset.specs.declared.row.Row.{Row}
-use Rattle.amd64_subset.specs.Row.{row_of, escaped_row_of, fixed_row_of, condition_of, group_action, arithmetic_of, shift_of}
-use Rattle.instruction_laws.specs.Opcodes.{DigitsAreTheManuals, found, one_byte, stack, immediates, signed, two_bytes, OneByteIs}
+use Rattle.amd64_subset.specs.Row.{row_of, escaped_row_of, fixed_row_of, condition_of, group_action, arithmetic_of}
+use Rattle.amd64_subset.specs.Row.{shift_of}
+use Rattle.instruction_laws.specs.Opcodes.{DigitsAreTheManuals, found, one_byte, stack, immediates, signed, two_bytes}
+use Rattle.instruction_laws.specs.Opcodes.{OneByteIs}
 
 below : ℕ → List ℕ
 below zero = []

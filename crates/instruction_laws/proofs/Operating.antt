@@ -1,5 +1,6 @@
 -- Each operation does what the manual says.
-use Rattle.std.proofs.Common.{◌≡◌, ℕ, zero, suc, ◌+◌, ◌-◌, ◌%◌, ◌^◌, ◌<◌, ℤ, pos, Bool, false, None, Ok, refl, ap, sym, subst, ap₂, ⊎_elim, arith, ◌∙◌}
+use Rattle.std.proofs.Common.{◌≡◌, ℕ, zero, suc, ◌+◌, ◌-◌, ◌%◌, ◌^◌, ◌<◌, ℤ, pos, Bool, false, None, Ok, refl, ap, sym}
+use Rattle.std.proofs.Common.{subst, ap₂, ⊎_elim, arith, ◌∙◌}
 use Rattle.std.specs.Prelude.{if◌then◌else◌}
 use Rattle.std.proofs.lemmas.Bool.{cases_lt, lt-ltb, le-ltb}
 use Rattle.std.proofs.lemmas.Int.{ints}
@@ -8,7 +9,9 @@ use Rattle.amd64_subset.specs.declared.instr.Arithmetic.{Arithmetic}
 use Rattle.amd64_subset.specs.declared.instr.Arithmetic.TheVariants.{Add, Or, And, Sub, Xor, Compare}
 use Rattle.amd64_subset.specs.declared.instr.Decoded.{Decoded}
 use Rattle.amd64_subset.specs.declared.instr.Operation.{Operation}
-use Rattle.amd64_subset.specs.declared.instr.Operation.TheVariants.{Move, StoreByte, ExtendByte, ExtendLong, LoadAddress, Compute, Test, Multiply, Shift as ShiftBy}
+use Rattle.amd64_subset.specs.declared.instr.Operation.TheVariants.{Move, StoreByte, ExtendByte, ExtendLong}
+use Rattle.amd64_subset.specs.declared.instr.Operation.TheVariants.{LoadAddress, Compute, Test, Multiply}
+use Rattle.amd64_subset.specs.declared.instr.Operation.TheVariants.{Shift as ShiftBy}
 use Rattle.amd64_subset.specs.declared.instr.Shift.{Shift}
 use Rattle.amd64_subset.specs.declared.instr.Shift.TheVariants.{Left, Right, RightSigned}
 use Rattle.amd64_subset.specs.declared.instr.Width.{Width}
@@ -28,14 +31,19 @@ use Rattle.guest_operands.specs.Access.{load_of, store_of}
 use Rattle.guest_operands.specs.Operand.{size_of, kept, kept_byte, carried, taken}
 use Rattle.guest_operands.specs.State.{register_of, with_register, with_word, at_place}
 use Rattle.guest_operands.specs.Use.{◌>>=◌, plus, clean, there}
-use Rattle.guest_machine.specs.Step.{act, stored, store_byte, move_in, move_number, move_of, extend_byte, extend_long, load_address, compute_plain, compute_number, compute_of, concluded, finished, immediate_of, test_of, multiply_of, shift_of, settled}
+use Rattle.guest_machine.specs.Step.{act, stored, store_byte, move_in, move_number, move_of, extend_byte, extend_long}
+use Rattle.guest_machine.specs.Step.{load_address, compute_plain, compute_number, compute_of, concluded, finished}
+use Rattle.guest_machine.specs.Step.{immediate_of, test_of, multiply_of, shift_of, settled}
 use Rattle.instruction_laws.specs.Results.{Computes, Shifts}
 use Rattle.instruction_laws.specs.Words.{words, IsSigned, IsCut}
-use Rattle.instruction_laws.specs.Steps.{Numbers, bytes, IsStored, Has, IsLowByte, IsMasked, IsLeft, Moves, MovesImmediate, MovesByte, ExtendsByte, ExtendsLong, LoadsAddress, writes, ComputesOf, Multiplies, ShiftsBy}
+use Rattle.instruction_laws.specs.Steps.{Numbers, bytes, IsStored, Has, IsLowByte, IsMasked, IsLeft, Moves}
+use Rattle.instruction_laws.specs.Steps.{MovesImmediate, MovesByte, ExtendsByte, ExtendsLong, LoadsAddress, writes}
+use Rattle.instruction_laws.specs.Steps.{ComputesOf, Multiplies, ShiftsBy}
 use Rattle.instruction_laws.proofs.Computing.{computes}
 use Rattle.instruction_laws.proofs.Multiplying.{multiplies}
 use Rattle.instruction_laws.proofs.Shifting.{shifts}
-use Rattle.instruction_laws.proofs.Stepping.{Outcome, done, acc, frame, low_is, whole, sizes, address_is, IsSlot, take, left_as, goes, register_number, finish, settle}
+use Rattle.instruction_laws.proofs.Stepping.{Outcome, done, acc, frame, low_is, whole, sizes, address_is, IsSlot, take}
+use Rattle.instruction_laws.proofs.Stepping.{left_as, goes, register_number, finish, settle}
 use Rattle.amd64_subset.specs.Number.{signed_long_of}
 
 module _ (d : Decoded) (before : State ℕ Bool) (memory : Numbers)
@@ -143,7 +151,8 @@ module _ (d : Decoded) (before : State ℕ Bool) (memory : Numbers)
       → ExtendsLong d before memory to from after memory' → At (ExtendLong to from) after memory'
   unfolding act extend_long plain_operations
   extends_long to from after memory' it =
-      ap (λ r. r >>= λ word. in_register to (signed_long_of (low Long word) % 2 ^ 64)) (carried_is Long from it.number it.from_it)
+      ap (λ r. r >>= λ word. in_register to (signed_long_of (low Long word) % 2 ^ 64))
+      (carried_is Long from it.number it.from_it)
       ∙ ap (in_register to) (extended it.number it.result it.value it.short it.long)
       ∙ put_register to it.result after memory' it.to_it
 

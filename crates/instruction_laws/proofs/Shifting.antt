@@ -1,11 +1,14 @@
 -- Shifts have the manual's properties, and nothing else has them.
-use Rattle.std.proofs.Common.{◌≡◌, ◌↔◌, ◌⊎◌, inl, inr, ℕ, zero, suc, ◌+◌, ◌-◌, ◌*◌, ◌/◌, ◌%◌, ◌^◌, ◌<◌, ◌≤◌, ℤ, pos, negsuc, neg_ℤ, ◌*ℤ◌, Bool, true, false, refl, ap, sym, subst, subst₂, ⊎_elim, arith, ◌∙◌, suc-mul, add-mul, pow-suc, pow_pos, pow-add, pow_mono}
+use Rattle.std.proofs.Common.{◌≡◌, ◌↔◌, ◌⊎◌, inl, inr, ℕ, zero, suc, ◌+◌, ◌-◌, ◌*◌, ◌/◌, ◌%◌, ◌^◌, ◌<◌, ◌≤◌, ℤ, pos}
+use Rattle.std.proofs.Common.{negsuc, neg_ℤ, ◌*ℤ◌, Bool, true, false, refl, ap, sym, subst, subst₂, ⊎_elim, arith, ◌∙◌}
+use Rattle.std.proofs.Common.{suc-mul, add-mul, pow-suc, pow_pos, pow-add, pow_mono}
 use Rattle.std.specs.Prelude.{◌+ℤ◌, ◌<ℤ◌, ◌==◌, if◌then◌else◌}
 use Rattle.std.specs.Bool.{Decides}
 use Rattle.std.proofs.lemmas.Bool.{false≢true, cases_lt, eq-eqb, ne_eqb, lt-leb, le-leb}
 use Rattle.std.proofs.lemmas.Bool.Decides.{Decides-eqb, Decides-like}
 use Rattle.std.proofs.lemmas.Int.{ints}
-use Rattle.std.proofs.lemmas.Nat.{shl-shr, shr-shr, shr_split, shr_le, shr_below, mod_below, mod-pow-add, same_from_place}
+use Rattle.std.proofs.lemmas.Nat.{shl-shr, shr-shr, shr_split, shr_le, shr_below, mod_below, mod-pow-add}
+use Rattle.std.proofs.lemmas.Nat.{same_from_place}
 use Rattle.std.proofs.lemmas.Nat.Bits.{ones_shr, bit_at-lt}
 use lib.IntN.{pos-*ℤ-pos, negsuc-*ℤ-pos}
 use Rattle.amd64_subset.specs.declared.instr.Shift.{Shift}
@@ -15,10 +18,12 @@ use Rattle.amd64_subset.specs.declared.instr.Width.TheVariants.{Long, Quad}
 use Rattle.guest_arithmetic.specs.declared.effect.Change.{Change}
 use Rattle.guest_arithmetic.specs.declared.effect.Change.TheVariants.{Set, Unsettled, Kept}
 use Rattle.guest_arithmetic.specs.declared.effect.Effect.{Effect}
-use Rattle.guest_arithmetic.specs.Arithmetic.{span_of, half_of, by_result, differ, shifted, bit_out, shift_overflows, shift_effect}
+use Rattle.guest_arithmetic.specs.Arithmetic.{span_of, half_of, by_result, differ, shifted, bit_out, shift_overflows}
+use Rattle.guest_arithmetic.specs.Arithmetic.{shift_effect}
 use Rattle.instruction_laws.specs.Words.{words, half, counts, IsOutside, IsSigned, Shows, IsUndefined}
 use Rattle.instruction_laws.specs.Results.{IsUntouched, IsShiftedLeft, IsShiftedRight, IsShiftedSigned, Shifts}
-use Rattle.instruction_laws.proofs.Words.{low_half, only_cut, same_shown, same_undefined, same_kept, same_effect, same_told}
+use Rattle.instruction_laws.proofs.Words.{low_half, only_cut, same_shown, same_undefined, same_kept, same_effect}
+use Rattle.instruction_laws.proofs.Words.{same_told}
 use Rattle.instruction_laws.proofs.Computing.{decides_le, decides_negative, tells}
 use Rattle.instruction_laws.proofs.Multiplying.{Signed, Upward, Downward, by_sign, pos_cut}
 

@@ -1,5 +1,6 @@
 -- What the manual says that an instruction does, the machine does: operands, addresses and results.
-use Rattle.std.proofs.Common.{◌≡◌, ℕ, ◌+◌, ◌*◌, ◌%◌, ◌^◌, ◌<◌, pos, Bool, true, false, Option, Some, None, Result, Ok, refl, ap, sym, ap₂, arith, ◌∙◌}
+use Rattle.std.proofs.Common.{◌≡◌, ℕ, ◌+◌, ◌*◌, ◌%◌, ◌^◌, ◌<◌, pos, Bool, true, false, Option, Some, None, Result, Ok}
+use Rattle.std.proofs.Common.{refl, ap, sym, ap₂, arith, ◌∙◌}
 use Rattle.std.specs.Prelude.{if◌then◌else◌}
 use Rattle.std.proofs.lemmas.Int.{ints}
 use Rattle.amd64_words.specs.declared.register.Register.{Register}
@@ -28,14 +29,16 @@ use Rattle.guest_operands.specs.declared.state.Registers.{Registers}
 use Rattle.guest_operands.specs.declared.state.State.{State}
 use Rattle.guest_operands.specs.declared.stop.Stop.{Stop}
 use Rattle.guest_operands.specs.Access.{Accesses, Refusal, load_of, store_of}
-use Rattle.guest_operands.specs.Operand.{weighed, size_of, factor_of, base_of, index_of, address_of, number_at, taken_at, taken, put}
-use Rattle.guest_operands.specs.Ranges.{range_accesses}
+use Rattle.guest_operands.specs.Operand.{weighed, size_of, factor_of, base_of, index_of, address_of, number_at}
+use Rattle.guest_operands.specs.Operand.{taken_at, taken, put}
+use Rattle.guest_operands.specs.RangeLaws.{range_accesses}
 use Rattle.guest_operands.specs.State.{register_of, with_register}
 use Rattle.guest_operands.specs.Use.{◌>>=◌, plus, there, After, left}
 use Rattle.guest_machine.specs.Step.{finished, settled}
 use Rattle.instruction_laws.specs.Conditions.{Become}
 use Rattle.instruction_laws.specs.Words.{words, IsCut}
-use Rattle.instruction_laws.specs.Steps.{Numbers, bytes, times, base, index, segment, IsAddress, Has, IsLeftAt, IsLeft, Puts}
+use Rattle.instruction_laws.specs.Steps.{Numbers, bytes, times, base, index, segment, IsAddress, Has, IsLeftAt, IsLeft}
+use Rattle.instruction_laws.specs.Steps.{Puts}
 use Rattle.instruction_laws.proofs.Comparing.{change}
 use Rattle.instruction_laws.proofs.Multiplying.{pos_cut}
 use Rattle.instruction_laws.proofs.Words.{only_cut}

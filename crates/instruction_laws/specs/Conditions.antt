@@ -2,7 +2,9 @@
 -- comparison by the numbers that were compared. They watch `condition_of` and `with_changes` (guest_arithmetic).
 use Rattle.std.specs.Prelude.{◌≡◌, ◌≢◌, ◌⊎◌, ◌↔◌, ℕ, ◌<◌, ◌≤◌, ℤ, ◌-ℤ◌, ◌<ℤ◌, ◌≤ℤ◌, Bool, true, false, Ok}
 use Rattle.amd64_subset.specs.declared.instr.Condition.{Condition}
-use Rattle.amd64_subset.specs.declared.instr.Condition.TheVariants.{Overflow, NotOverflow, Below, NotBelow, Equal, NotEqual, BelowOrEqual, Above, Sign, NotSign, Less, NotLess, LessOrEqual, Greater}
+use Rattle.amd64_subset.specs.declared.instr.Condition.TheVariants.{Overflow, NotOverflow, Below, NotBelow, Equal}
+use Rattle.amd64_subset.specs.declared.instr.Condition.TheVariants.{NotEqual, BelowOrEqual, Above, Sign, NotSign, Less}
+use Rattle.amd64_subset.specs.declared.instr.Condition.TheVariants.{NotLess, LessOrEqual, Greater}
 use Rattle.amd64_subset.specs.declared.instr.Width.{Width}
 use Rattle.guest_arithmetic.specs.declared.effect.Change.{Change}
 use Rattle.guest_arithmetic.specs.declared.effect.Change.TheVariants.{Set, Unsettled, Kept}

@@ -1,7 +1,8 @@
 -- The opcodes as the manual's maps have them, by their bytes (Intel's manual, volume 2, appendix A, tables A-2 and A-3;
 -- which register a low digit names, with REX.B or without: table 3-1). They watch `row_of` and `escaped_row_of`
 -- (amd64_subset). `instruction_tests` has the bytes of an assembler beside them.
-use Rattle.std.specs.Prelude.{◌≡◌, ◌++◌, ℕ, ◌<◌, ◌==◌, Bool, true, false, List, [], ◌∷◌, map, Option, Some, None, if◌then◌else◌}
+use Rattle.std.specs.Prelude.{◌≡◌, ◌++◌, ℕ, ◌<◌, ◌==◌, Bool, true, false, List, [], ◌∷◌, map, Option, Some, None}
+use Rattle.std.specs.Prelude.{if◌then◌else◌}
 use Rattle.amd64_subset.specs.declared.instr.Arithmetic.TheVariants.{Add, Or, And, Sub, Xor, Compare}
 use Rattle.amd64_subset.specs.declared.instr.Condition.TheVariants.{Overflow, NotOverflow, Below, NotBelow, Equal}
 use Rattle.amd64_subset.specs.declared.instr.Condition.TheVariants.{NotEqual, BelowOrEqual, Above, Sign, NotSign}
@@ -20,7 +21,8 @@ use Rattle.amd64_subset.specs.declared.row.Action.TheVariants.{StoreByte, Store,
 use Rattle.amd64_subset.specs.declared.row.Action.TheVariants.{ExtendLong, LoadAddress, ComputeInto, ComputeFrom}
 use Rattle.amd64_subset.specs.declared.row.Action.TheVariants.{ComputeImmediate, TestWith, MultiplyBy, ShiftBy}
 use Rattle.amd64_subset.specs.declared.row.Action.TheVariants.{ShiftOnce, CallTarget, JumpTarget, Padding}
-use Rattle.amd64_words.specs.declared.register.Register.TheVariants.{Rax, Rcx, Rdx, Rbx, Rsp, Rbp, Rsi, Rdi, R8, R9, R10, R11, R12, R13, R14, R15}
+use Rattle.amd64_words.specs.declared.register.Register.TheVariants.{Rax, Rcx, Rdx, Rbx, Rsp, Rbp, Rsi, Rdi, R8, R9}
+use Rattle.amd64_words.specs.declared.register.Register.TheVariants.{R10, R11, R12, R13, R14, R15}
 use Rattle.amd64_subset.specs.Row.{row_of, escaped_row_of, group_action}
 
 abbrev pub found : ℕ → List (ℕ × Row) → Option Row

@@ -9,7 +9,10 @@ use Rattle.amd64_subset.specs.declared.instr.Arithmetic.TheVariants.{And, Compar
 use Rattle.amd64_subset.specs.declared.instr.Condition.{Condition}
 use Rattle.amd64_subset.specs.declared.instr.Decoded.{Decoded}
 use Rattle.amd64_subset.specs.declared.instr.Operation.{Operation}
-use Rattle.amd64_subset.specs.declared.instr.Operation.TheVariants.{Move, StoreByte, ExtendByte, ExtendLong, LoadAddress, Compute, Test, Multiply, Shift as ShiftBy, Push, Pop, Leave, Call, Jump, JumpIf, Return, Nop, Undefined}
+use Rattle.amd64_subset.specs.declared.instr.Operation.TheVariants.{Move, StoreByte, ExtendByte, ExtendLong}
+use Rattle.amd64_subset.specs.declared.instr.Operation.TheVariants.{LoadAddress, Compute, Test, Multiply}
+use Rattle.amd64_subset.specs.declared.instr.Operation.TheVariants.{Shift as ShiftBy, Push, Pop, Leave, Call, Jump}
+use Rattle.amd64_subset.specs.declared.instr.Operation.TheVariants.{JumpIf, Return, Nop, Undefined}
 use Rattle.amd64_subset.specs.declared.instr.Shift.{Shift}
 use Rattle.amd64_subset.specs.declared.instr.Target.{Target}
 use Rattle.amd64_subset.specs.declared.instr.Target.TheVariants.{Relative, Indirect}
@@ -30,7 +33,8 @@ use Rattle.guest_arithmetic.specs.Plain.{plain_operations}
 use Rattle.guest_operands.specs.declared.state.Registers.{Registers}
 use Rattle.guest_operands.specs.declared.state.State.{State}
 use Rattle.guest_operands.specs.Access.{load_of, store_of}
-use Rattle.guest_operands.specs.Ranges.{AddressSpace, range_accesses}
+use Rattle.guest_operands.specs.Ranges.{AddressSpace}
+use Rattle.guest_operands.specs.RangeLaws.{range_accesses}
 use Rattle.guest_operands.specs.State.{register_of, with_register}
 use Rattle.instruction_laws.specs.Conditions.{Become, Holds}
 use Rattle.instruction_laws.specs.Results.{Computes, IsProduct, Shifts}

@@ -1,17 +1,20 @@
 -- Lines that get a limit, one after another.
-use Rattle.std.proofs.Common.{◌≡◌, ◌≢◌, ◌∙◌, ◌+◌, ◌<◌, ◌≤◌, ◌⊎◌, ◌||◌, ℕ, Bool, true, false, Some, List, [], take, length, refl, sym, ap, subst, arith, inl, inr}
+use Rattle.std.proofs.Common.{◌≡◌, ◌≢◌, ◌∙◌, ◌+◌, ◌<◌, ◌≤◌, ◌⊎◌, ◌||◌, ℕ, Bool, true, false, Some, List, [], take}
+use Rattle.std.proofs.Common.{length, refl, sym, ap, subst, arith, inl, inr}
 use Rattle.std.specs.Prelude.{IfSome, IsSomeAnd, slice_index_or, unwrap_or}
 use Rattle.std.specs.List.{list_any}
 use Rattle.std.proofs.lemmas.Bool.{cases_eq}
 use Rattle.std.proofs.lemmas.List.Folds.{list_any_more}
 use Rattle.job_changes.specs.Fuel.{AsksBeyond, AsksWithin, IsBeyond, IsLimited, IsWithin, fuel_in, has_fuel, words_of}
 
-pub within_or_more : (more : Bool) (most : ℕ) (line word : List ℕ) → fuel_in (words_of line) ≡ Some word → (more ≡ false → IsWithin most word)
+pub within_or_more : (more : Bool) (most : ℕ) (line word : List ℕ) → fuel_in (words_of line) ≡ Some word
+    → (more ≡ false → IsWithin most word)
     → (Some more ≡ Some true) ⊎ AsksWithin most line
 within_or_more true most line word is within = inl refl
 within_or_more false most line word is within = inr (subst (λ o. IfSome o (IsWithin most)) (sym is) (within refl))
 
-pub more_is_beyond : (more : Bool) (most : ℕ) (line word : List ℕ) → fuel_in (words_of line) ≡ Some word → (more ≡ true → IsBeyond most word)
+pub more_is_beyond : (more : Bool) (most : ℕ) (line word : List ℕ) → fuel_in (words_of line) ≡ Some word
+    → (more ≡ true → IsBeyond most word)
     → Some more ≡ Some true → AsksBeyond most line
 more_is_beyond more most line word is beyond e =
     subst (λ o. IsSomeAnd o (IsBeyond most)) (sym is) (beyond (ap (λ o. unwrap_or o false) e))
@@ -30,7 +33,8 @@ module _ (most : ℕ) (first now next : List (List ℕ)) (n : ℕ) where
           subst (λ j. IsLimited most (slice_index_or first j []) (slice_index_or next j [])) (sym e)
           (subst (λ line. IsLimited most line (slice_index_or next n [])) (rest n (omega arith)) here)
       at (inr differs) =
-          subst (λ line. IsLimited most (slice_index_or first k []) line) (sym (others k differs)) (front k (omega arith))
+          subst (λ line. IsLimited most (slice_index_or first k []) line) (sym (others k differs))
+          (front k (omega arith))
 
   pub rest_less : ((k : ℕ) → n ≤ k → slice_index_or now k [] ≡ slice_index_or first k [])
       → ((k : ℕ) → k ≢ n → slice_index_or next k [] ≡ slice_index_or now k [])
@@ -45,8 +49,10 @@ pub else_said : (was is gives : Bool) → gives ≡ false → is ≡ was → is 
 else_said true is gives g e = e
 else_said false is gives g e = e ∙ sym g
 
-pub said_more : (first now : List (List ℕ)) (n : ℕ) (was is gives : Bool) → n < length first → was ≡ list_any has_fuel (take n first)
-    → gives ≡ has_fuel (slice_index_or now n []) → slice_index_or now n [] ≡ slice_index_or first n [] → is ≡ (was || gives)
+pub said_more : (first now : List (List ℕ)) (n : ℕ) (was is gives : Bool) → n < length first
+    → was ≡ list_any has_fuel (take n first)
+    → gives ≡ has_fuel (slice_index_or now n []) → slice_index_or now n [] ≡ slice_index_or first n []
+    → is ≡ (was || gives)
     → is ≡ list_any has_fuel (take (n + 1) first)
 said_more first now n was is gives low before here same e =
     e ∙ ap (λ b. b || gives) before ∙ ap (λ b. list_any has_fuel (take n first) || b) (here ∙ ap has_fuel same)

@@ -1,5 +1,6 @@
 -- Lines of fuel, and what a limit makes of them.
-use Rattle.std.specs.Prelude.{◌≡◌, ◌<◌, ◌≤◌, ◌⊎◌, ℕ, ◌^◌, ◌==◌, Bool, not, if◌then◌else◌, List, [], ◌++◌, length, filter, codes, slice_get, slice_index_or, Option, None, IfSome, IsSomeAnd, is_some}
+use Rattle.std.specs.Prelude.{◌≡◌, ◌<◌, ◌≤◌, ◌⊎◌, ℕ, ◌^◌, ◌==◌, Bool, not, if◌then◌else◌, List, [], ◌++◌, length}
+use Rattle.std.specs.Prelude.{filter, codes, slice_get, slice_index_or, Option, None, IfSome, IsSomeAnd, is_some}
 use Rattle.std.specs.Str.{bytes_eq}
 use Rattle.std.specs.Fmt.{decimal}
 use Rattle.std.specs.List.{slice_split}

@@ -1,5 +1,6 @@
 -- Before the first turn.
-use Rattle.std.proofs.Common.{◌≡◌, ◌∙◌, ◌+◌, ◌<◌, ◌≤◌, ◌^◌, ◌++◌, ℕ, suc, true, List, [], ◌∷◌, Some, None, append-nil, get_or, length, refl, sym, ap, subst, arith}
+use Rattle.std.proofs.Common.{◌≡◌, ◌∙◌, ◌+◌, ◌<◌, ◌≤◌, ◌^◌, ◌++◌, ℕ, suc, true, List, [], ◌∷◌, Some, None, append-nil}
+use Rattle.std.proofs.Common.{get_or, length, refl, sym, ap, subst, arith}
 use Rattle.std.specs.Prelude.{slice_get, take}
 use Rattle.std.specs.List.{flat_map}
 use Rattle.std.proofs.lemmas.List.{length-map, take_all, take_more}
@@ -14,12 +15,13 @@ use Rattle.link_needs.specs.Linking.{Linking}
 use Rattle.loaded_modules.specs.declared.instance.Instance.{Instance}
 use Rattle.module_table.specs.declared.events.Event.{Event}
 use Rattle.module_table.specs.declared.modules.ImageInfo.{ImageInfo}
-use Rattle.module_table.specs.Laws.{startup_end}
+use Rattle.module_table.specs.Modules.{startup_end}
 use Rattle.module_table.specs.Modules.{AreInfos}
 use Rattle.module_table.specs.Past.{is_legal, past, start}
 use Rattle.thread_blocks.specs.Held.{Data, Owned, data_after, held_of, looked_at}
 use Rattle.thread_blocks.specs.Instances.{instances, instances_in, left_by}
-use Rattle.thread_blocks.specs.JobWorlds.{blocks_in, data_in, numbered_lines, ready_from, first_data, job_start, thread_ready}
+use Rattle.thread_blocks.specs.JobWorlds.{blocks_in, data_in, numbered_lines, ready_from, first_data, job_start}
+use Rattle.thread_blocks.specs.JobWorlds.{thread_ready}
 use Rattle.thread_blocks.specs.Lines.{Line}
 use Rattle.thread_blocks.specs.Turns.{Thread, ready}
 use Rattle.thread_turns.proofs.Ready.{lines_at, ready-length, ready_at}
@@ -49,7 +51,8 @@ module _ (ls : List Linking) where
 
 -- as the code knows the images
 last_all : (ls : List Linking) (n : ℕ) → n ≡ length ls → startup_end (take n (infos_of ls)) 0 ≡ last_of ls
-last_all ls n count = ap (λ xs. startup_end xs 0) (take_all n (infos_of ls) (omega (arith, count, length-map ls info_of)))
+last_all ls n count = ap (λ xs. startup_end xs 0)
+    (take_all n (infos_of ls) (omega (arith, count, length-map ls info_of)))
 
 pub none_legal : (ls : List Linking) (infos : List ImageInfo) (last n : ℕ) → infos ≡ infos_of ls → AreInfos infos
     → last ≡ startup_end (take n (infos_of ls)) 0 → n ≡ length ls → last < 2 ^ 27 → IsHistory ls []
@@ -80,11 +83,13 @@ module _ (ls : List Linking) where
 
   -- one instance more
   pub more_data : (xs : List Instance) (i : ℕ) (d : Instance) (items made : List (Owned Byte)) → i < length xs
-      → items ≡ flat_map data_made (take i xs) → made ≡ data_made (get_or xs i d) → items ++ made ≡ flat_map data_made (take (i + 1) xs)
+      → items ≡ flat_map data_made (take i xs) → made ≡ data_made (get_or xs i d)
+      → items ++ made ≡ flat_map data_made (take (i + 1) xs)
   more_data xs i d items made less so_far is =
       let x = get_or xs i d in
       rw (so_far, is, take_more xs i d less)
-      (sym (flat_map-append data_made (take i xs) (x ∷ []) ∙ ap (λ ys. flat_map data_made (take i xs) ++ ys) (append-nil (data_made x))))
+      (sym (flat_map-append data_made (take i xs) (x ∷ [])
+      ∙ ap (λ ys. flat_map data_made (take i xs) ++ ys) (append-nil (data_made x))))
 
   -- all of them
   pub all_data : (xs : List Instance) (i : ℕ) (items : List (Owned Byte)) → length xs ≤ i
@@ -125,10 +130,12 @@ module _ (ls : List Linking) (thread : ℕ) where
         seen = [];
         state = state;
         holds = looked_with (loads_of ls) thread [] state [] [] []
-            ∙ ap (λ live. held_with [] state [] (held_of (loads_of ls) thread (reaches Fixed) (fills Fixed) live [])) (first_live ls);
+            ∙ ap (λ live. held_with [] state [] (held_of (loads_of ls) thread (reaches Fixed) (fills Fixed) live []))
+            (first_live ls);
       }
 
-  first_run_stands : (job : JobParts) (r : Run) (own : List ThreadLine) → IsFirstRun thread ls job r → of_thread job.lines thread ≡ own
+  first_run_stands : (job : JobParts) (r : Run) (own : List ThreadLine) → IsFirstRun thread ls job r
+      → of_thread job.lines thread ≡ own
       → StandsFor r (ready (thread_ready ops (meaning_of ls).loads thread) (numbered_lines 1 own))
   first_run_stands job r own first lines = record {
     todo = rw (first.begun, first.lines, lines) refl;
@@ -151,7 +158,8 @@ module _ (ls : List Linking) (job : JobParts) (x : MeantThreads) (first : IsFirs
   first_each k r t at_r at_t =
       let one : k + 1 ≡ suc k = omega arith in
       let run = subst (λ n. IsFirstRun n ls job r) one (first.each k r at_r) in
-      let is = ready_at (thread_ready ops (meaning_of ls).loads) (ready_from ops (meaning_of ls).loads) (λ n. refl) (λ n own lines. refl) 1
+      let is = ready_at (thread_ready ops (meaning_of ls).loads) (ready_from ops (meaning_of ls).loads) (λ n. refl)
+      (λ n own lines. refl) 1
       job.lines k t at_t in
       let number : 1 + k ≡ suc k = omega arith in
       let kept = first_thread ls (suc k) r.kept run.kept in
@@ -169,9 +177,12 @@ module _ (ls : List Linking) (job : JobParts) (x : MeantThreads) (first : IsFirs
     legal = first.legal;
     leaves = begins ls ∙ sym first.past_is;
     shared_is = sym first.shared_is;
-    are_data = rw first.shared_is (after_are_data (meaning_of ls).loads 0 (λ x. true) (λ x. true) [] (instances (meaning_of ls).loads []));
-    no_blocks = rw first.shared_is (after_no_blocks (meaning_of ls).loads 0 (λ x. true) (λ x. true) [] (instances (meaning_of ls).loads []));
-    count = first.count ∙ sym (ready-length (thread_ready ops (meaning_of ls).loads) (ready_from ops (meaning_of ls).loads) (λ n. refl)
+    are_data = rw first.shared_is
+        (after_are_data (meaning_of ls).loads 0 (λ x. true) (λ x. true) [] (instances (meaning_of ls).loads []));
+    no_blocks = rw first.shared_is
+        (after_no_blocks (meaning_of ls).loads 0 (λ x. true) (λ x. true) [] (instances (meaning_of ls).loads []));
+    count = first.count ∙ sym
+        (ready-length (thread_ready ops (meaning_of ls).loads) (ready_from ops (meaning_of ls).loads) (λ n. refl)
         (λ n own lines. refl) 1 job.lines);
     each = first_each;
   }

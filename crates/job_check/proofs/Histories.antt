@@ -13,10 +13,12 @@ use Rattle.thread_blocks.specs.Turns.{with_event}
 use Rattle.job_check.specs.Histories.{IsLeftBy, infos_of, last_of}
 
 -- an event that is accepted
-pub left_more : (ls : List Linking) (p : Past) (e : Event) → IsLeftBy ls p → accepts p e ≡ true → IsLeftBy ls (after_one p e)
+pub left_more : (ls : List Linking) (p : Past) (e : Event) → IsLeftBy ls p → accepts p e ≡ true
+    → IsLeftBy ls (after_one p e)
 left_more ls p e left accepted = record {
   events = left.events ++ e ∷ [];
-  legal = legal_more (infos_of ls) (last_of ls) left.events e left.legal (subst (λ q. accepts q e ≡ true) left.left accepted);
+  legal = legal_more (infos_of ls) (last_of ls) left.events e left.legal
+      (subst (λ q. accepts q e ≡ true) left.left accepted);
   left = ap (λ q. after_one q e) left.left ∙ sym (past_more (infos_of ls) (last_of ls) left.events e);
 }
 
@@ -29,7 +31,8 @@ left_with l p p' seen (Some e) is then =
 
 pub few_modules : (ls : List Linking) (p : Past) → IsLeftBy ls p → length p.modules ≤ 65
 few_modules ls p left =
-    subst (λ (q : Past). length q.modules ≤ 65) (sym left.left) (past_legal (infos_of ls) (last_of ls) left.events left.legal).few
+    subst (λ (q : Past). length q.modules ≤ 65) (sym left.left)
+    (past_legal (infos_of ls) (last_of ls) left.events left.legal).few
 
 pub own_of : (ls : List Linking) (p : Past) → IsLeftBy ls p → HaveOwnNumbers p
 own_of ls p left = subst HaveOwnNumbers (sym left.left) (own_numbers (infos_of ls) (last_of ls) left.events left.legal)

@@ -1,5 +1,6 @@
 -- What the first look of a line comes to: of any line by its parts, and of lines that call or show bytes.
-use Rattle.std.proofs.Common.{◌≡◌, ◌∙◌, ◌+◌, ◌-◌, ◌<◌, ◌%◌, ◌^◌, ℕ, Bool, true, false, List, [], Option, Some, None, length, refl, sym, ap, subst, arith}
+use Rattle.std.proofs.Common.{◌≡◌, ◌∙◌, ◌+◌, ◌-◌, ◌<◌, ◌%◌, ◌^◌, ℕ, Bool, true, false, List, [], Option, Some, None}
+use Rattle.std.proofs.Common.{length, refl, sym, ap, subst, arith}
 use Rattle.std.specs.Prelude.{nat_le, slice_range}
 use Rattle.address_map.specs.Map.{pointer_of, stack_end}
 use Rattle.guest_operands.specs.declared.state.State.{State}
@@ -26,7 +27,8 @@ use Rattle.whole_meaning.specs.declared.unclean.UncleanStep.{UncleanStep}
 use Rattle.whole_meaning.specs.Jobs.{unclean_ending}
 use Rattle.whole_meaning.specs.Loads.{loads_of, meaning_of}
 use Rattle.whole_meaning.specs.Threads.{Meant, ops, shown_as, shown_at, variable_start}
-use Rattle.job_check.specs.Lines.{Begins, BeginsCall, BeginsPeek, BegunAs, HasLeft, KeepsThread, Started, Starts, peek_line, shown_step, shows, step_in}
+use Rattle.job_check.specs.Lines.{Begins, BeginsCall, BeginsPeek, BegunAs, HasLeft, KeepsThread, Started, Starts}
+use Rattle.job_check.specs.Lines.{peek_line, shown_step, shows, step_in}
 use Rattle.thread_turns.specs.declared.parts.Started.TheVariants.{Says, Calls}
 use Rattle.marked_memory.specs.declared.space.Wanted.TheVariants.{BlockOf}
 use Rattle.job_check.specs.Histories.{infos_of}
@@ -50,7 +52,8 @@ module _ (line : Line) (p p' : Past) (old new : Kept) (started : Started) (event
       live_is new.images p' (with_event seen event) (left_then seen left)
       ∙ ap (λ ls. instances_in (infos_of ls) p') begins.keeps.images ∙ sym begins.live
 
-  pub starts_so : ((seen : List Event) → HasLeft old seen p → event_by (loads_of old.images) old.thread line seen ≡ event)
+  pub starts_so : ((seen : List Event) → HasLeft old seen p
+      → event_by (loads_of old.images) old.thread line seen ≡ event)
       → ((seen : List Event) (h : Meant) → HasLeft old seen p
       → begun_by ops (loads_of old.images) (shows line old seen) old.thread line seen h line.told.action ≡ begun seen h)
       → Starts line p old started p' new
@@ -64,8 +67,10 @@ module _ (line : Line) (p p' : Past) (old new : Kept) (started : Started) (event
           subst (λ events. HasLeft new events p') now (left_then seen left),
           subst (HasSeen new) now (seen_then seen left),
           subst (λ events. BegunAs line.number events state new started
-              (begun_by ops (loads_of old.images) (shows line old seen) old.thread line seen (held_at seen state old) line.told.action)) now
-              (subst (BegunAs line.number (with_event seen event) state new started) (sym (is seen (held_at seen state old) left))
+              (begun_by ops (loads_of old.images) (shows line old seen) old.thread line seen
+              (held_at seen state old) line.told.action)) now
+              (subst (BegunAs line.number (with_event seen event) state new started)
+              (sym (is seen (held_at seen state old) left))
               (begins.begins seen state left has_seen)),
         );
   }
@@ -88,7 +93,8 @@ over_at_once line begun p k answer live says = record {
 
 -- ** calls
 
-module _ (line : Line) (symbol : List ℕ) (a b c : ℕ) (p : Past) (k : Kept) (live : k.live ≡ instances_in (infos_of k.images) p) where
+module _ (line : Line) (symbol : List ℕ) (a b c : ℕ) (p : Past) (k : Kept)
+    (live : k.live ≡ instances_in (infos_of k.images) p) where
   begun_for : List Event → Meant → Option Instance → Begun Meant
   begun_for seen h x = begun_in ops (loads_of k.images) (shows line k seen) k.thread symbol a b c h x
 
@@ -98,7 +104,8 @@ module _ (line : Line) (symbol : List ℕ) (a b c : ℕ) (p : Past) (k : Kept) (
   call_closed none = over_at_once line.number _ p k (Refused IsClosed) live
       (λ seen h left. ap (begun_for seen h) (found_at k.images p seen left line.told.image ∙ none))
 
-  pub call_unknown : (x : Instance) → loaded_instance (infos_of k.images) line.told.image (module_of p line.told.image) ≡ Some x
+  pub call_unknown : (x : Instance)
+      → loaded_instance (infos_of k.images) line.told.image (module_of p line.told.image) ≡ Some x
       → (loads_of k.images).function x symbol ≡ None → BeginsCall line symbol a b c p k (Says None) p k
   unfolding begun_for
   call_unknown x is none = over_at_once line.number _ p k (Refused NoSymbol) live
@@ -118,7 +125,8 @@ module _ (line : Line) (symbol : List ℕ) (a b c : ℕ) (p : Past) (k : Kept) (
         let there = record k { stack = fresh_stack ops } in
         subst (BegunAs line.number seen old there (Calls first))
         (sym (ap (begun_for seen (held_at seen old k)) (found_at k.images p seen left line.told.image ∙ is)
-        ∙ ap (λ at. begun_at ops (loads_of k.images) (shows line k seen) k.thread symbol a b c (held_at seen old k) at) found))
+        ∙ ap (λ at. begun_at ops (loads_of k.images) (shows line k seen) k.thread symbol a b c
+        (held_at seen old k) at) found))
         (rw state refl);
   })
 
@@ -126,13 +134,16 @@ module _ (line : Line) (symbol : List ℕ) (a b c : ℕ) (p : Past) (k : Kept) (
 
 -- what is said of bytes
 ending_is : (ls : List Linking) (thread line address : ℕ) (bytes : List Byte) (values : Option (List ℕ))
-    → unclean_ending thread line (shown_as (meaning_of ls) thread address bytes values) ≡ shown_step thread line address bytes values
+    → unclean_ending thread line (shown_as (meaning_of ls) thread address bytes values)
+    ≡ shown_step thread line address bytes values
 ending_is ls thread line address bytes (Some numbers) = refl
 ending_is ls thread line address bytes None = refl
 
-module _ (line : Line) (symbol : List ℕ) (size : ℕ) (p : Past) (k : Kept) (live : k.live ≡ instances_in (infos_of k.images) p) where
+module _ (line : Line) (symbol : List ℕ) (size : ℕ) (p : Past) (k : Kept)
+    (live : k.live ≡ instances_in (infos_of k.images) p) where
   peek_for : List Event → Meant → Option Instance → Begun Meant
-  peek_for seen h x = begun_peek ops (loads_of k.images) (shows (peek_line line symbol size) k seen) k.thread line symbol size h x
+  peek_for seen h x = begun_peek ops (loads_of k.images)
+      (shows (peek_line line symbol size) k seen) k.thread line symbol size h x
 
   pub peek_closed : loaded_instance (infos_of k.images) line.told.image (module_of p line.told.image) ≡ None
       → BeginsPeek line symbol size p k (Says None) p k
@@ -140,7 +151,8 @@ module _ (line : Line) (symbol : List ℕ) (size : ℕ) (p : Past) (k : Kept) (l
   peek_closed none = over_at_once line.number _ p k (Refused IsClosed) live
       (λ seen h left. ap (peek_for seen h) (found_at k.images p seen left line.told.image ∙ none))
 
-  module _ (x : Instance) (is : loaded_instance (infos_of k.images) line.told.image (module_of p line.told.image) ≡ Some x) (new : Kept)
+  module _ (x : Instance)
+      (is : loaded_instance (infos_of k.images) line.told.image (module_of p line.told.image) ≡ Some x) (new : Kept)
       (reaches : new ≡ with_held k.live [] (BlockOf x.number) k) where
     pub keeps : KeepsThread k new
     unfolding with_held
@@ -153,7 +165,8 @@ module _ (line : Line) (symbol : List ℕ) (size : ℕ) (p : Past) (k : Kept) (l
     -- the block is reached
     peeks : (seen : List Event) (state : State Word Flag) → HasLeft k seen p → HasSeen k seen
         → peek_for seen (held_at seen state k) (instance_at (loads_of k.images) seen line.told.image)
-        ≡ shown_from ops (loads_of k.images) (shows (peek_line line symbol size) k seen) k.thread (held_at seen state new) size x
+        ≡ shown_from ops (loads_of k.images) (shows (peek_line line symbol size) k seen) k.thread
+        (held_at seen state new) size x
         ((loads_of k.images).variable line.told.image symbol)
     unfolding peek_for
     peeks seen state left has_seen =
@@ -171,21 +184,26 @@ module _ (line : Line) (symbol : List ℕ) (size : ℕ) (p : Past) (k : Kept) (l
       live = live_then;
       begins = λ seen state left has_seen.
           subst (BegunAs line.number seen state new (Says None)) (sym (peeks seen state left has_seen
-          ∙ ap (λ v. shown_from ops (loads_of k.images) (shows (peek_line line symbol size) k seen) k.thread (held_at seen state new) size x v) none))
+          ∙ ap (λ v. shown_from ops (loads_of k.images) (shows (peek_line line symbol size) k seen) k.thread
+          (held_at seen state new) size x v) none))
           (refl, refl);
     }
 
-    module _ (offset : ℕ) (found : (loads_of k.images).variable line.told.image symbol ≡ Some offset) (seen : List Event)
+    module _ (offset : ℕ) (found : (loads_of k.images).variable line.told.image symbol ≡ Some offset)
+        (seen : List Event)
         (state : State Word Flag) (left : HasLeft k seen p) where
-      address_is : shown_at (meaning_of k.images) k.thread line.told.image seen (Peek symbol size) ≡ block_start k.thread x + offset
+      address_is : shown_at (meaning_of k.images) k.thread line.told.image seen (Peek symbol size)
+          ≡ block_start k.thread x + offset
       unfolding meaning_of
       address_is =
-          ap (λ y. variable_start (meaning_of k.images) k.thread y ((loads_of k.images).variable line.told.image symbol))
+          ap (λ y. variable_start (meaning_of k.images) k.thread y
+          ((loads_of k.images).variable line.told.image symbol))
           (found_at k.images p seen left line.told.image ∙ is)
           ∙ ap (variable_start (meaning_of k.images) k.thread (Some x)) found
 
       abbrev shown_so : Option (List Byte) → Begun Meant
-      shown_so block = shown_in ops (loads_of k.images) (shows (peek_line line symbol size) k seen) k.thread (held_at seen state new) size offset block
+      shown_so block = shown_in ops (loads_of k.images) (shows (peek_line line symbol size) k seen) k.thread
+          (held_at seen state new) size offset block
 
       abbrev step_so : Option (List Byte) → Option UncleanStep
       step_so block = step_in k.thread line.number (block_start k.thread x) size offset block
@@ -194,8 +212,10 @@ module _ (line : Line) (symbol : List ℕ) (size : ℕ) (p : Past) (k : Kept) (l
           → BegunAs line.number seen state new (Says (step_so (Some bytes))) (shown_so (Some bytes))
       part_says bytes true fits = rw (fits, keeps.thread) (
         ap (λ address. unclean_ending k.thread line.number (shown_as (meaning_of k.images) k.thread address
-            (slice_range bytes offset (offset + size)) (values_of (slice_range bytes offset (offset + size))))) address_is
-            ∙ ending_is k.images k.thread line.number (block_start k.thread x + offset) (slice_range bytes offset (offset + size))
+            (slice_range bytes offset (offset + size))
+            (values_of (slice_range bytes offset (offset + size))))) address_is
+            ∙ ending_is k.images k.thread line.number (block_start k.thread x + offset)
+            (slice_range bytes offset (offset + size))
             (values_of (slice_range bytes offset (offset + size))),
         refl,
       )
@@ -215,9 +235,11 @@ module _ (line : Line) (symbol : List ℕ) (size : ℕ) (p : Past) (k : Kept) (l
       past = refl;
       live = live_then;
       begins = λ seen state left has_seen.
-          subst (BegunAs line.number seen state new (Says (step_so offset found seen state left (block_bytes x.number new.own))))
+          subst (BegunAs line.number seen state new
+          (Says (step_so offset found seen state left (block_bytes x.number new.own))))
           (sym (peeks seen state left has_seen
-          ∙ ap (λ v. shown_from ops (loads_of k.images) (shows (peek_line line symbol size) k seen) k.thread (held_at seen state new) size x v) found
+          ∙ ap (λ v. shown_from ops (loads_of k.images) (shows (peek_line line symbol size) k seen) k.thread
+          (held_at seen state new) size x v) found
           ∙ ap (λ xs. shown_so offset found seen state left (block_bytes x.number xs)) (owned_again new.own)))
           (block_says offset found seen state left (block_bytes x.number new.own));
     }
@@ -225,12 +247,14 @@ module _ (line : Line) (symbol : List ℕ) (size : ℕ) (p : Past) (k : Kept) (l
 -- ** of whole lines
 
 pub call_starts : (line : Line) (p p' : Past) (old new : Kept) (started : Started) (symbol : List ℕ) (a b c : ℕ)
-    → line.told.action ≡ Call symbol a b c → BeginsCall line symbol a b c p old started p' new → Starts line p old started p' new
+    → line.told.action ≡ Call symbol a b c → BeginsCall line symbol a b c p old started p' new
+    → Starts line p old started p' new
 call_starts line p p' old new started symbol a b c is begins = starts_so line p p' old new started None _ begins
     (λ seen left. rw is refl) (λ seen h left. rw is refl)
 
 pub peek_starts : (line : Line) (p p' : Past) (old new : Kept) (started : Started) (symbol : List ℕ) (size : ℕ)
-    → line.told.action ≡ Peek symbol size → BeginsPeek line symbol size p old started p' new → Starts line p old started p' new
+    → line.told.action ≡ Peek symbol size → BeginsPeek line symbol size p old started p' new
+    → Starts line p old started p' new
 peek_starts line p p' old new started symbol size is begins = starts_so line p p' old new started None _ begins
     (λ seen left. rw is refl) (λ seen h left. rw is refl)
 
@@ -242,5 +266,6 @@ number_is n small = let same : n % 2 ^ 64 ≡ n = omega (arith, small) in ap Num
 
 pub marked_start : (thread place a b c : ℕ) → a < 2 ^ 64 → b < 2 ^ 64 → c < 2 ^ 64
     → call_start ops thread place a b c
-    ≡ (record (start_of ops place (stack_end thread - 8) (Number a) (Number b) (Number c)) { thread_pointer = pointer_of thread })
+    ≡ (record (start_of ops place (stack_end thread - 8) (Number a) (Number b) (Number c))
+    { thread_pointer = pointer_of thread })
 marked_start thread place a b c f g h = rw (number_is a f, number_is b g, number_is c h) refl

@@ -1,5 +1,6 @@
 -- The live instances, image by image, and their numbers.
-use Rattle.std.proofs.Common.{◌≡◌, ◌≢◌, ◌∙◌, ◌+◌, ◌≤◌, ◌==◌, ◌++◌, ℕ, zero, suc, true, false, List, [], ◌∷◌, length, drop, Option, Some, None, refl, sym, ap, subst, inl, inr, arith, add-one}
+use Rattle.std.proofs.Common.{◌≡◌, ◌≢◌, ◌∙◌, ◌+◌, ◌≤◌, ◌==◌, ◌++◌, ℕ, zero, suc, true, false, List, [], ◌∷◌, length}
+use Rattle.std.proofs.Common.{drop, Option, Some, None, refl, sym, ap, subst, inl, inr, arith, add-one}
 use Rattle.std.specs.Prelude.{option_to_list, slice_index_or, take, if◌then◌else◌}
 use Rattle.std.specs.List.{All}
 use Rattle.std.proofs.Math.Seq.{drop-cons}
@@ -12,7 +13,7 @@ use Rattle.link_needs.specs.Linking.{Linking}
 use Rattle.loaded_modules.specs.declared.instance.Instance.{Instance}
 use Rattle.module_table.specs.declared.modules.ImageInfo.{ImageInfo}
 use Rattle.module_table.specs.declared.modules.Module.{Module}
-use Rattle.module_table.specs.Laws.{startup_end}
+use Rattle.module_table.specs.Modules.{startup_end}
 use Rattle.module_table.specs.Modules.{is_loaded, no_module}
 use Rattle.module_table.specs.Past.{Past, module_of}
 use Rattle.thread_blocks.specs.Instances.{instances_from, instances_in, loaded_instance}
@@ -34,11 +35,16 @@ module _ (infos : List ImageInfo) (p : Past) where
   from_next : (i : ℕ) → from_image i ≡ option_to_list (loaded_instance infos i (module_of p i)) ++ from_image (i + 1)
   from_next i = elim (cases_lt i (length p.modules)) [
     | inl within ↦ rw (drop-cons p.modules i no_module, add-one) refl
-    | inr past ↦ rw (drop_all i p.modules past, drop_all (i + 1) p.modules (omega (arith, past)), get_or_past p.modules i no_module past) refl
+    | inr past ↦ rw (
+      drop_all i p.modules past,
+      drop_all (i + 1) p.modules (omega (arith, past)),
+      get_or_past p.modules i no_module past,
+    ) refl
   ]
 
   pub listed_one : (i : ℕ) (items : List Instance) (x : Instance) → instances_in infos p ≡ items ++ from_image i
-      → loaded_instance infos i (module_of p i) ≡ Some x → instances_in infos p ≡ (items ++ x ∷ []) ++ from_image (i + 1)
+      → loaded_instance infos i (module_of p i) ≡ Some x
+      → instances_in infos p ≡ (items ++ x ∷ []) ++ from_image (i + 1)
   listed_one i items x so_far is =
       so_far ∙ ap (λ rest. items ++ rest) (from_next i ∙ ap (λ o. option_to_list o ++ from_image (i + 1)) is)
       ∙ sym (append_assoc items (x ∷ []) (from_image (i + 1)))
@@ -49,7 +55,8 @@ module _ (infos : List ImageInfo) (p : Past) where
       so_far ∙ ap (λ rest. items ++ rest) (from_next i ∙ ap (λ o. option_to_list o ++ from_image (i + 1)) is)
 
 pub listed_all : (ls : List Linking) (p : Past) (i : ℕ) (items : List Instance) → IsLeftBy ls p
-    → instances_in (infos_of ls) p ≡ items ++ from_image (infos_of ls) p i → 65 ≤ i → items ≡ instances_in (infos_of ls) p
+    → instances_in (infos_of ls) p ≡ items ++ from_image (infos_of ls) p i → 65 ≤ i
+    → items ≡ instances_in (infos_of ls) p
 listed_all ls p i items left so_far past =
     let long : length p.modules ≤ i = omega (arith, few_modules ls p left, past) in
     sym (so_far ∙ rw (drop_all i p.modules long) (append-nil items))
@@ -58,7 +65,8 @@ listed_all ls p i items left so_far past =
 
 -- no two of these modules are loaded as one instance
 abbrev OwnIn : List Module → Type 0
-OwnIn ms = (a b : ℕ) → a ≢ b → is_loaded (slice_index_or ms a no_module) ≡ true → is_loaded (slice_index_or ms b no_module) ≡ true
+OwnIn ms = (a b : ℕ) → a ≢ b → is_loaded (slice_index_or ms a no_module) ≡ true
+    → is_loaded (slice_index_or ms b no_module) ≡ true
     → (slice_index_or ms a no_module).instance ≢ (slice_index_or ms b no_module).instance
 
 differs : (a b : ℕ) → a ≢ b → (a == b) ≡ false
@@ -88,17 +96,22 @@ module _ (infos : List ImageInfo) where
       → All (λ (x : Instance). P x.number) (instances_from infos i ms)
   all_numbers P i [] each = All-nil (λ (x : Instance). P x.number)
   all_numbers P i (m ∷ ms) each =
-      All-append (λ (x : Instance). P x.number) (option_to_list (loaded_instance infos i m)) (instances_from infos (suc i) ms)
+      All-append (λ (x : Instance). P x.number) (option_to_list (loaded_instance infos i m))
+      (instances_from infos (suc i) ms)
       (here (loaded_instance infos i m) refl) (all_numbers P (suc i) ms (λ k. each (suc k)))
     where
-      here : (o : Option Instance) → loaded_instance infos i m ≡ o → All (λ (x : Instance). P x.number) (option_to_list o)
+      here : (o : Option Instance) → loaded_instance infos i m ≡ o
+          → All (λ (x : Instance). P x.number) (option_to_list o)
       here None is = All-nil (λ (x : Instance). P x.number)
       here (Some x) is =
           let found = loaded_is i m x is in
-          All-cons (λ (x : Instance). P x.number) x [] (subst P found.1 (each zero found.0)) (All-nil (λ (x : Instance). P x.number))
+          All-cons (λ (x : Instance). P x.number) x [] (subst P found.1 (each zero found.0))
+          (All-nil (λ (x : Instance). P x.number))
 
-  apart_with : (i : ℕ) (m : Module) (ms : List Module) (o : Option Instance) → loaded_instance infos i m ≡ o → OwnIn (m ∷ ms)
-      → HaveOwnNumbers (instances_from infos (suc i) ms) → HaveOwnNumbers (option_to_list o ++ instances_from infos (suc i) ms)
+  apart_with : (i : ℕ) (m : Module) (ms : List Module) (o : Option Instance) → loaded_instance infos i m ≡ o
+      → OwnIn (m ∷ ms)
+      → HaveOwnNumbers (instances_from infos (suc i) ms)
+      → HaveOwnNumbers (option_to_list o ++ instances_from infos (suc i) ms)
   apart_with i m ms None is own rest = rest
   apart_with i m ms (Some x) is own rest =
       let found = loaded_is i m x is in

@@ -12,14 +12,16 @@ use Rattle.guest_operands.specs.Access.{Accesses, all_write, bytes_at, bytes_in,
 use Rattle.guest_operands.specs.Ranges.{AddressSpace, Range}
 use Rattle.job_meaning.specs.declared.values.Byte.{Byte}
 use Rattle.thread_blocks.specs.Held.{Owned, owned, owners_of, ranges_in}
-use Rattle.thread_blocks.specs.Spaces.{IsImage, stack_range}
+use Rattle.thread_blocks.specs.Spaces.{stack_range}
+use Rattle.thread_blocks.specs.SpaceLaws.{IsImage}
 use Rattle.marked_memory.specs.Kept.{Kept, Shape, fixed_in, lent_range, memory_of, ranges_of_kept, shape_of, with_lent}
 use Rattle.marked_memory.proofs.SpaceImages.{SameShape, same_shape}
 use Rattle.marked_memory.proofs.SpaceImages.{first-stack}
 
 -- ** accesses of several bytes
 
-module _ {M M' B : Type 0} (acc : Accesses M B) (acc' : Accesses M' B) (image : M → M') (is_image : IsImage acc acc' image) where
+module _ {M M' B : Type 0} (acc : Accesses M B) (acc' : Accesses M' B) (image : M → M')
+    (is_image : IsImage acc acc' image) where
   bytes-image : (size : ℕ) (m : M) (place : ℕ) → bytes_at acc' (image m) place size ≡ bytes_at acc m place size
   bytes-image zero m place = refl
   bytes-image (suc size) m place = rw (is_image.byte m place, bytes-image size m (next_place place)) refl
@@ -36,13 +38,16 @@ module _ {M M' B : Type 0} (acc : Accesses M B) (acc' : Accesses M' B) (image : 
   unfolding fetch_of
   fetch_image m place = code-image 15 m place
 
-  refuses-image : (direction : Direction) (m : M) (address size : ℕ) → refuses acc' (image m) direction address size ≡ refuses acc m direction address size
+  refuses-image : (direction : Direction) (m : M) (address size : ℕ)
+      → refuses acc' (image m) direction address size ≡ refuses acc m direction address size
   refuses-image Load m address size = rw (bytes-image size m address) refl
   refuses-image Store m address size = rw (writes-image size m address) refl
 
-  then-image : (touch : Option Touch) (m : M) (more more' : List ℕ) → more' ≡ more → touched_then acc' (image m) touch more' ≡ touched_then acc m touch more
+  then-image : (touch : Option Touch) (m : M) (more more' : List ℕ) → more' ≡ more
+      → touched_then acc' (image m) touch more' ≡ touched_then acc m touch more
   then-image None m more more' e = e
-  then-image (Some touch) m more more' e = rw (e, refuses-image touch.direction m touch.address (bytes_in touch.size)) refl
+  then-image (Some touch) m more more' e =
+      rw (e, refuses-image touch.direction m touch.address (bytes_in touch.size)) refl
 
   pub touched_image : (it : Touches) (m : M) → touched acc' (image m) it ≡ touched acc m it
   unfolding touched
@@ -63,7 +68,8 @@ without-lent (Some number) xs ys e = tail-same (lent_range number) (lent_range n
 
 -- stack and own ranges are found in the ranges
 parts-same : (word : Option ℕ) (start : ℕ) (stack stack' : List Byte) (own own' fixed : List (Range Byte))
-    → with_lent word (stack_range start stack ∷ (own ++ fixed)) ≡ with_lent word (stack_range start stack' ∷ (own' ++ fixed)) → (stack ≡ stack') × (own ≡ own')
+    → with_lent word (stack_range start stack ∷ (own ++ fixed))
+    ≡ with_lent word (stack_range start stack' ∷ (own' ++ fixed)) → (stack ≡ stack') × (own ≡ own')
 parts-same word start stack stack' own own' fixed e =
     let parts = first-stack _ _ _ _ (without-lent word _ _ e) in (parts.0, append_cancel_right own own' fixed parts.1)
 
@@ -71,19 +77,33 @@ pub owned_again : {B : Type 0} (xs : List (Owned B)) → owned (owners_of xs) (r
 owned_again [] = refl
 owned_again (x ∷ xs) = ap (λ rest. x ∷ rest) (owned_again xs)
 
-pub owned_same : {B : Type 0} (xs : List (Owned B)) (ys : List (Owned B)) → owners_of xs ≡ owners_of ys → ranges_in xs ≡ ranges_in ys → xs ≡ ys
+pub owned_same : {B : Type 0} (xs : List (Owned B)) (ys : List (Owned B)) → owners_of xs ≡ owners_of ys
+    → ranges_in xs ≡ ranges_in ys → xs ≡ ys
 owned_same xs ys e f = sym (owned_again xs) ∙ rw (e, f) (owned_again ys)
 
-kept-parts : (k k' : Kept) → k'.thread ≡ k.thread → k'.images ≡ k.images → k'.live ≡ k.live → k'.stack ≡ k.stack → k'.own ≡ k.own → k'.lent ≡ k.lent → k' ≡ k
-kept-parts k k' a b c d e f = let it : (record { thread = k'.thread; images = k'.images; live = k'.live; stack = k'.stack; own = k'.own; lent = k'.lent }) ≡ k = rw (a, b, c, d, e, f) refl in it
+kept-parts : (k k' : Kept) → k'.thread ≡ k.thread → k'.images ≡ k.images → k'.live ≡ k.live → k'.stack ≡ k.stack
+    → k'.own ≡ k.own → k'.lent ≡ k.lent → k' ≡ k
+kept-parts k k' a b c d e f =
+    let it : (record {
+      thread = k'.thread;
+      images = k'.images;
+      live = k'.live;
+      stack = k'.stack;
+      own = k'.own;
+      lent = k'.lent;
+    }) ≡ k = rw (a, b, c, d, e, f) refl in it
 
 -- where shape and space are as they were, all is
-pub kept_with : (k k' : Kept) → shape_of k' ≡ shape_of k → k'.stack ≡ k.stack → ranges_in k'.own ≡ ranges_in k.own → k' ≡ k
+pub kept_with : (k k' : Kept) → shape_of k' ≡ shape_of k → k'.stack ≡ k.stack → ranges_in k'.own ≡ ranges_in k.own
+    → k' ≡ k
 kept_with k k' shape stack own =
-    let same = same_shape k k' shape in kept-parts k k' same.thread same.images same.live stack (owned_same k'.own k.own (same_owners k k' shape) own) same.lent_is
+    let same = same_shape k k' shape in
+    kept-parts k k' same.thread same.images same.live stack
+    (owned_same k'.own k.own (same_owners k k' shape) own) same.lent_is
 
 ranges-same : (k k' : Kept) → SameShape k k'
-    → ranges_of_kept k' ≡ with_lent k.lent (stack_range (stack_start k.thread) k'.stack ∷ (ranges_in k'.own ++ fixed_in k))
+    → ranges_of_kept k' ≡ with_lent k.lent
+    (stack_range (stack_start k.thread) k'.stack ∷ (ranges_in k'.own ++ fixed_in k))
 ranges-same k k' same = rw (same.lent_is, same.thread, same.images, same.live) refl
 
 -- where shape and ranges are as they were, all is
@@ -94,5 +114,6 @@ kept_is k k' shape e =
     let ranges : with_lent k.lent (stack_range (stack_start k.thread) k'.stack ∷ (ranges_in k'.own ++ fixed_in k))
     ≡ with_lent k.lent (stack_range (stack_start k.thread) k.stack ∷ (ranges_in k.own ++ fixed_in k)) =
     sym (ranges-same k k' same) ∙ ap (λ (m : AddressSpace Byte). m.ranges) e in
-    let parts = parts-same k.lent (stack_start k.thread) k'.stack k.stack (ranges_in k'.own) (ranges_in k.own) (fixed_in k) ranges in
+    let parts = parts-same k.lent (stack_start k.thread) k'.stack k.stack (ranges_in k'.own) (ranges_in k.own)
+    (fixed_in k) ranges in
     kept_with k k' shape parts.0 parts.1

@@ -1,5 +1,6 @@
 -- One turn: of a thread that has nothing left to do, and of one that has.
-use Rattle.std.proofs.Common.{◌≡◌, ◌∙◌, ◌+◌, ◌++◌, ◌≤◌, ℕ, zero, suc, true, false, List, [], ◌∷◌, Option, Some, None, length, refl, sym, ap, subst, arith}
+use Rattle.std.proofs.Common.{◌≡◌, ◌∙◌, ◌+◌, ◌++◌, ◌≤◌, ℕ, zero, suc, true, false, List, [], ◌∷◌, Option, Some, None}
+use Rattle.std.proofs.Common.{length, refl, sym, ap, subst, arith}
 use Rattle.std.specs.Prelude.{is_none, option_and_then, slice_get, slice_set}
 use Rattle.std.proofs.lemmas.List.{drop_all}
 use Rattle.guest_operands.specs.declared.state.State.{State}
@@ -15,9 +16,11 @@ use Rattle.module_table.specs.Past.{Past, accepts, close_refusal, open_refusal}
 use Rattle.module_table.proofs.HistoryLemmas.{legal_more}
 use Rattle.thread_blocks.specs.Held.{Owned, owned_by, with_owned}
 use Rattle.thread_blocks.specs.Instances.{Loads, left_by}
-use Rattle.thread_blocks.specs.JobWorlds.{Shared, blocks_in, changed, data_in, held_in, numbered_lines, shared_turn, with_data, without_data}
+use Rattle.thread_blocks.specs.JobWorlds.{Shared, blocks_in, changed, data_in, held_in, numbered_lines, shared_turn}
+use Rattle.thread_blocks.specs.JobWorlds.{with_data, without_data}
 use Rattle.thread_blocks.specs.Lines.{Line, event_at, event_by, unless_refused}
-use Rattle.thread_blocks.specs.Turns.{Idle, Mid, Phase, Said, Thread, Turns, event_of, next_line, turn, turn_at, with_event}
+use Rattle.thread_blocks.specs.Turns.{Idle, Mid, Phase, Said, Thread, Turns, event_of, next_line, turn, turn_at}
+use Rattle.thread_blocks.specs.Turns.{with_event}
 use Rattle.whole_meaning.specs.Loads.{loads_of, meaning_of}
 use Rattle.whole_meaning.specs.Threads.{Meant, meant_turns}
 use Rattle.job_check.specs.declared.thread.Waiting.{Waiting}
@@ -38,14 +41,16 @@ is_event : {R : Type 0} (refusal : Option R) (e found : Event) → unless_refuse
 is_event None e found same = (refl, cc)
 is_event (Some refusal) e found same = absurd cc
 
-open_accepted : (p : Past) (e found : Event) → e.opens ≡ true → unless_refused (open_refusal p e.image) e ≡ Some found → accepts p found ≡ true
+open_accepted : (p : Past) (e found : Event) → e.opens ≡ true → unless_refused (open_refusal p e.image) e ≡ Some found
+    → accepts p found ≡ true
 unfolding accepts
 open_accepted p e found opens same =
     let is = is_event (open_refusal p e.image) e found same in
     let P : Event → Type 0 = λ x. accepts p x ≡ true in
     subst P is.1 (rw (opens, is.0) refl)
 
-close_accepted : (p : Past) (e found : Event) → e.opens ≡ false → unless_refused (close_refusal p e.image) e ≡ Some found → accepts p found ≡ true
+close_accepted : (p : Past) (e found : Event) → e.opens ≡ false
+    → unless_refused (close_refusal p e.image) e ≡ Some found → accepts p found ≡ true
 unfolding accepts
 close_accepted p e found closes same =
     let is = is_event (close_refusal p e.image) e found same in
@@ -69,12 +74,14 @@ line_accepted l thread (Some line) seen found same =
     accepted_by l thread line.number line.told.image line.told.action seen found same
 
 legal_with : (ls : List Linking) (events : List Event) (e : Option Event) → IsHistory ls events
-    → ((found : Event) → e ≡ Some found → accepts (left_by (loads_of ls) events) found ≡ true) → IsHistory ls (with_event events e)
+    → ((found : Event) → e ≡ Some found → accepts (left_by (loads_of ls) events) found ≡ true)
+    → IsHistory ls (with_event events e)
 unfolding loads_of
 legal_with ls events None legal accepted = legal
 legal_with ls events (Some e) legal accepted = legal_more (infos_of ls) (last_of ls) events e legal (accepted e refl)
 
-pub turn_legal : (ls : List Linking) (thread : ℕ) (t : Thread Meant Line Event) (events : List Event) → IsHistory ls events
+pub turn_legal : (ls : List Linking) (thread : ℕ) (t : Thread Meant Line Event) (events : List Event)
+    → IsHistory ls events
     → IsHistory ls (with_event events (event_of (event_by (meaning_of ls).loads thread) t events))
 unfolding meaning_of
 turn_legal ls thread t events legal =
@@ -83,12 +90,14 @@ turn_legal ls thread t events legal =
 
 -- ** what is behind a turn of thread k
 
-module _ (ls : List Linking) (fuel : ℕ) (w : Shared Word Flag Byte Line) (x : MeantThreads) (stands : Stands ls fuel w x) (e : Option Event)
+module _ (ls : List Linking) (fuel : ℕ) (w : Shared Word Flag Byte Line) (x : MeantThreads)
+    (stands : Stands ls fuel w x) (e : Option Event)
     (legal : IsHistory ls (with_event w.events e)) where
   pub stands_then : (k : ℕ) (s : Common) (r : Run) (t : Thread Meant Line Event)
       → left_by (loads_of ls) (with_event w.events e) ≡ s.table → data_in s.ranges.items ≡ s.ranges.items
       → blocks_in s.ranges.items ≡ [] → IsRunOf ls fuel (suc k) r t
-      → Stands ls fuel (record { threads = slice_set w.threads k t; events = with_event w.events e; shared = s.ranges.items })
+      → Stands ls fuel (record
+      { threads = slice_set w.threads k t; events = with_event w.events e; shared = s.ranges.items })
       (record { shared = s; runs = slice_set x.runs k r })
   stands_then k s r t leaves are_data no_blocks is = record {
     legal = legal;
@@ -116,7 +125,8 @@ module _ (x : Turns Meant Line Event) (f : Meant → Meant) (k : Kept) where
   turn_stays [] (Mid steps points h) said old seen none is = absurd is
   turn_stays (line ∷ todo) phase said old seen none is = absurd cc
 
-module _ (k : Kept) (d : List (Owned Byte)) (blocks : blocks_in k.own ≡ k.own) (no_data : data_in k.own ≡ []) (are_data : data_in d ≡ d)
+module _ (k : Kept) (d : List (Owned Byte)) (blocks : blocks_in k.own ≡ k.own) (no_data : data_in k.own ≡ [])
+    (are_data : data_in d ≡ d)
     (no_blocks : blocks_in d ≡ []) where
   abbrev put : Meant → Meant
   put h = with_owned h (owned_by h ++ d)
@@ -147,12 +157,14 @@ module _ (k : Kept) (d : List (Owned Byte)) (blocks : blocks_in k.own ≡ k.own)
   data_held (Idle h) is = ap (λ y. data_in (owned_by (put y))) is.holds ∙ data_again is.seen is.state
   data_held (Mid steps points h) is = absurd is
 
-module _ (ls : List Linking) (fuel : ℕ) (w : Shared Word Flag Byte Line) (x : MeantThreads) (stands : Stands ls fuel w x) where
+module _ (ls : List Linking) (fuel : ℕ) (w : Shared Word Flag Byte Line) (x : MeantThreads)
+    (stands : Stands ls fuel w x) where
   abbrev turned_by : ℕ → Option (Thread Meant Line Event) → Shared Word Flag Byte Line
   turned_by thread t =
       shared_turn (λ n. meant_turns (meaning_of ls) n fuel) (λ n. event_by (meaning_of ls).loads n) w thread t
 
-  module _ (k : ℕ) (r : Run) (t : Thread Meant Line Event) (at_r : slice_get x.runs k ≡ Some r) (at_t : slice_get w.threads k ≡ Some t)
+  module _ (k : ℕ) (r : Run) (t : Thread Meant Line Event) (at_r : slice_get x.runs k ≡ Some r)
+      (at_t : slice_get w.threads k ≡ Some t)
       (done : is_done r ≡ true) where
     run : IsRunOf ls fuel (suc k) r t
     run = stands.each k r t at_r at_t
@@ -176,18 +188,24 @@ module _ (ls : List Linking) (fuel : ℕ) (w : Shared Word Flag Byte Line) (x : 
     shared_no_blocks = subst (λ xs. blocks_in xs ≡ []) (sym stands.shared_is) stands.no_blocks
 
     done_turn : turn (meant_turns (meaning_of ls) (suc k) fuel) handed w.events ≡ handed
-    done_turn = turn_stays (meant_turns (meaning_of ls) (suc k) fuel) (put r.kept w.shared run.stands.blocks run.stands.no_data shared_data shared_no_blocks)
+    done_turn = turn_stays (meant_turns (meaning_of ls) (suc k) fuel)
+        (put r.kept w.shared run.stands.blocks run.stands.no_data shared_data shared_no_blocks)
         r.kept t.todo t.phase t.said t.seen w.events no_todo idle
 
     no_event : event_of (event_by (meaning_of ls).loads (suc k)) t w.events ≡ None
     no_event = rw no_todo refl
 
     done_world : turned_by (suc k) (Some t)
-        ≡ record { threads = slice_set w.threads k (without_data handed); events = w.events; shared = data_in (owned_by (held_in handed.phase)) }
+        ≡ record {
+          threads = slice_set w.threads k (without_data handed);
+          events = w.events;
+          shared = data_in (owned_by (held_in handed.phase));
+        }
     done_world = rw (done_turn, no_event) refl
 
     data_same : data_in (owned_by (held_in handed.phase)) ≡ x.shared.ranges.items
-    data_same = data_held r.kept w.shared run.stands.blocks run.stands.no_data shared_data shared_no_blocks t.phase idle ∙ stands.shared_is
+    data_same = data_held r.kept w.shared run.stands.blocks run.stands.no_data shared_data shared_no_blocks t.phase idle
+        ∙ stands.shared_is
 
     done_run : IsRunOf ls fuel (suc k) r (without_data handed)
     done_run = record {
@@ -210,8 +228,14 @@ module _ (ls : List Linking) (fuel : ℕ) (w : Shared Word Flag Byte Line) (x : 
         let same : record { shared = x.shared; runs = slice_set x.runs k r } ≡ x =
         ap (λ runs. record { shared = x.shared; runs = runs }) (set_same x.runs k r at_r) in
         rw (done_world, data_same)
-        (subst (λ y. Stands ls fuel (record { threads = slice_set w.threads k (without_data handed); events = w.events; shared = x.shared.ranges.items }) y) same
-        (stands_then ls fuel w x stands None stands.legal k x.shared r (without_data handed) stands.leaves stands.are_data
+        (subst (λ y. Stands ls fuel
+        (record {
+          threads = slice_set w.threads k (without_data handed);
+          events = w.events;
+          shared = x.shared.ranges.items;
+        }) y) same
+        (stands_then ls fuel w x stands None stands.legal k x.shared r
+        (without_data handed) stands.leaves stands.are_data
         stands.no_blocks done_run))
 
   over_stays_at : (k : ℕ) (r : Option Run) → slice_get x.runs k ≡ r → is_over is_done r ≡ true
@@ -221,7 +245,8 @@ module _ (ls : List Linking) (fuel : ℕ) (w : Shared Word Flag Byte Line) (x : 
       let found = beside x.runs w.threads k r stands.count at in
       rw found.1 (done_stays k r found.0 at found.1 over)
 
-  pub over_stays : (thread : ℕ) → is_thread_over is_done x.runs thread ≡ true → Stands ls fuel (meant_order ls fuel (thread ∷ []) w) x
+  pub over_stays : (thread : ℕ) → is_thread_over is_done x.runs thread ≡ true
+      → Stands ls fuel (meant_order ls fuel (thread ∷ []) w) x
   over_stays zero over = stands
   over_stays (suc k) over = over_stays_at k (slice_get x.runs k) refl over
 
@@ -257,7 +282,8 @@ module _ (ls : List Linking) (fuel : ℕ) (w : Shared Word Flag Byte Line) (x : 
           stands = after_turn.stands;
         }))
 
-pub turned_stands : (ls : List Linking) (fuel : ℕ) (w : Shared Word Flag Byte Line) (x : MeantThreads) (k : ℕ) (r : Run) (s : Common)
+pub turned_stands : (ls : List Linking) (fuel : ℕ) (w : Shared Word Flag Byte Line) (x : MeantThreads) (k : ℕ) (r : Run)
+    (s : Common)
     (r' : Run) → slice_get x.runs k ≡ Some r → Turned x.shared r s r' → Stands ls fuel w x
     → Stands ls fuel (meant_order ls fuel (suc k ∷ []) w) (record { shared = s; runs = slice_set x.runs k r' })
 turned_stands ls fuel w x k r s r' at takes stands =

@@ -38,9 +38,11 @@ by_refusal None none so = absurd cc
 by_refusal (Some refusal) some so = so refusal refl
 
 module _ (line : Line) (p : Past) (k : Kept) (live : k.live ≡ instances_in (infos_of k.images) p) where
-  refused_so : (refusal : LineRefusal) → ((seen : List Event) → HasLeft k seen p → event_by (loads_of k.images) k.thread line seen ≡ None)
+  refused_so : (refusal : LineRefusal)
+      → ((seen : List Event) → HasLeft k seen p → event_by (loads_of k.images) k.thread line seen ≡ None)
       → ((seen : List Event) (h : Meant) → HasLeft k seen p
-      → begun_by ops (loads_of k.images) (shows line k seen) k.thread line seen h line.told.action ≡ SaysSo (Answered (Refused refusal)) h)
+      → begun_by ops (loads_of k.images) (shows line k seen) k.thread line seen h line.told.action
+      ≡ SaysSo (Answered (Refused refusal)) h)
       → Starts line p k (Says None) p k
   refused_so refusal = starts_so line p p k k (Says None) None (λ seen. SaysSo (Answered (Refused refusal)))
       (over_at_once line.number _ p k (Refused refusal) live (λ seen h left. refl))
@@ -49,9 +51,11 @@ module _ (line : Line) (p : Past) (k : Kept) (live : k.live ≡ instances_in (in
       → accepts p (event_at thread line.number opens line.told.image) ≡ false → Starts line p k (Says None) p k
   unfolding accepts
   refused thread true asks refuses = by_refusal (open_refusal p line.told.image) refuses
-      (λ refusal is. refused_so (refused_open refusal) (λ seen left. rw (asks, left, is) refl) (λ seen h left. rw (asks, left, is) refl))
+      (λ refusal is. refused_so (refused_open refusal) (λ seen left. rw (asks, left, is) refl)
+      (λ seen h left. rw (asks, left, is) refl))
   refused thread false asks refuses = by_refusal (close_refusal p line.told.image) refuses
-      (λ refusal is. refused_so (refused_close refusal) (λ seen left. rw (asks, left, is) refl) (λ seen h left. rw (asks, left, is) refl))
+      (λ refusal is. refused_so (refused_close refusal) (λ seen left. rw (asks, left, is) refl)
+      (λ seen h left. rw (asks, left, is) refl))
 
 -- ** an event that is accepted
 
@@ -64,10 +68,15 @@ unfolding with_held
 load_so k new true x is = rw is (same_thread k, refl, λ show seen state has_seen. refl)
 load_so k new false None is = rw is (same_thread k, refl, λ show seen state has_seen. refl)
 load_so k new false (Some x) is =
-    rw is (record { thread = refl; images = refl; lent = refl }, refl, λ show seen state has_seen. load_is k seen state x has_seen)
+    rw is (
+      record { thread = refl; images = refl; lent = refl },
+      refl,
+      λ show seen state has_seen. load_is k seen state x has_seen,
+    )
 
 module _ (line : Line) (was : Bool) (p p' : Past) (old mid new : Kept) (sees : Sees [] old p' mid)
-    (loads : LoadsNew was (loaded_instance (infos_of mid.images) line.told.image (module_of p' line.told.image)) mid new) where
+    (loads : LoadsNew was (loaded_instance (infos_of mid.images) line.told.image
+    (module_of p' line.told.image)) mid new) where
   abbrev l : Loads Byte
   l = loads_of old.images
 
@@ -87,7 +96,9 @@ module _ (line : Line) (was : Bool) (p p' : Past) (old mid new : Kept) (sees : S
   does e enters =
       let live = instances_in (infos_of old.images) p' in
       let there = with_held live [] Fixed old in
-      let loaded = load_so there new was (loaded_instance (infos_of old.images) line.told.image (module_of p' line.told.image)) (rw sees.is at loads) in
+      let loaded = load_so there new was
+      (loaded_instance (infos_of old.images) line.told.image (module_of p' line.told.image))
+      (rw sees.is at loads) in
       record {
         keeps = record { thread = loaded.0.thread; images = loaded.0.images; lent = loaded.0.lent };
         past = enters;
@@ -105,7 +116,8 @@ module _ (line : Line) (was : Bool) (p p' : Past) (old mid new : Kept) (sees : S
       }
 
   pub accepted : (opens : Bool) → line.told.action ≡ (if opens then Open else Close) → accepts p (event opens) ≡ true
-      → was ≡ is_loaded (module_of p line.told.image) → p' ≡ after_one p (event opens) → Starts line p old (Says None) p' new
+      → was ≡ is_loaded (module_of p line.told.image) → p' ≡ after_one p (event opens)
+      → Starts line p old (Says None) p' new
   accepted true asks ok was_is enters =
       let none = accepts_open p (event true) ok refl in
       starts_so line p p' old new (Says None) (Some (event true)) (done (event true)) (does (event true) enters)

@@ -41,6 +41,7 @@ stay_fit = record {
     images = some.images;
     fuel = some.fuel;
     world = meant_order some.images some.fuel (suc k ∷ []) some.world;
-    stands = turned_stands some.images some.fuel some.world (record { shared = s; runs = runs }) k r s' r' at takes some.stands;
+    stands = turned_stands some.images some.fuel some.world
+        (record { shared = s; runs = runs }) k r s' r' at takes some.stands;
   };
 }

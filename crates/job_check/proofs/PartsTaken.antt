@@ -32,17 +32,22 @@ keeps_both k k1 k2 first next = record {
   lent = next.lent ∙ first.lent;
 }
 
-starts_keep : (line : Line) (p p' : Past) (k k1 : Kept) (started : Started) → Starts line p k started p' k1 → KeepsThread k k1
-starts_keep line p p' k k1 started starts = record { thread = starts.thread; images = starts.images; lent = starts.lent }
+starts_keep : (line : Line) (p p' : Past) (k k1 : Kept) (started : Started) → Starts line p k started p' k1
+    → KeepsThread k k1
+starts_keep line p p' k k1 started starts =
+    record { thread = starts.thread; images = starts.images; lent = starts.lent }
 
 -- of the same images
 left_same : (k k' : Kept) (seen : List Event) (p : Past) → k'.images ≡ k.images → HasLeft k seen p → HasLeft k' seen p
 left_same k k' seen p same left = subst (λ ls. left_by (loads_of ls) seen ≡ p) (sym same) left
 
-module _ (ls : List Linking) (thread fuel steps line : ℕ) (points : List ℕ) (now : List Event) (state : State Word Flag) (todo : List Line)
+module _ (ls : List Linking) (thread fuel steps line : ℕ) (points : List ℕ) (now : List Event) (state : State Word Flag)
+    (todo : List Line)
     (said : List Said) (seen : List Event) where
-  begun_over : (k : Kept) (found : Option UncleanStep) (begun : Begun Meant) → BegunAs line now state k (Says found) begun
-      → IsOver line k found points now todo said seen (after_look (meant_turns (meaning_of ls) thread fuel) steps todo said seen points begun)
+  begun_over : (k : Kept) (found : Option UncleanStep) (begun : Begun Meant)
+      → BegunAs line now state k (Says found) begun
+      → IsOver line k found points now todo said seen
+      (after_look (meant_turns (meaning_of ls) thread fuel) steps todo said seen points begun)
   begun_over k found (SaysSo ending h) is = record {
     ending = ending;
     state = state;
@@ -51,15 +56,18 @@ module _ (ls : List Linking) (thread fuel steps line : ℕ) (points : List ℕ) 
   }
   begun_over k found (CallsOn h) is = absurd is
 
-  begun_runs : (k k' : Kept) (first : State Word Flag) (taken : Taken) (begun : Begun Meant) → k.images ≡ ls → k.thread ≡ thread
+  begun_runs : (k k' : Kept) (first : State Word Flag) (taken : Taken) (begun : Begun Meant) → k.images ≡ ls
+      → k.thread ≡ thread
       → BegunAs line now state k (Calls first) begun → HasSeen k now → RunsTo line steps first k taken k'
-      → TookAs line k' taken points now todo said seen (after_look (meant_turns (meaning_of ls) thread fuel) steps todo said seen points begun)
+      → TookAs line k' taken points now todo said seen
+      (after_look (meant_turns (meaning_of ls) thread fuel) steps todo said seen points begun)
   unfolding meant_turns
   begun_runs k k' first taken (SaysSo ending h) images threads is has_seen runs = absurd is
   begun_runs k k' first taken (CallsOn h) images threads is has_seen runs =
       rw (is, ← images, ← threads) (runs.runs now seen points todo said has_seen)
 
-pub begins_over : (fuel : ℕ) (line : Line) (p p' : Past) (k k1 : Kept) (found : Option UncleanStep) → Starts line p k (Says found) p' k1
+pub begins_over : (fuel : ℕ) (line : Line) (p p' : Past) (k k1 : Kept) (found : Option UncleanStep)
+    → Starts line p k (Says found) p' k1
     → BeginsTo fuel line p k (Over found) p' k1
 begins_over fuel line p p' k k1 found starts = record {
   keeps = starts_keep line p p' k k1 (Says found) starts;
@@ -71,13 +79,15 @@ begins_over fuel line p p' k k1 found starts = record {
 }
 
 pub begins_runs : (fuel : ℕ) (line : Line) (p p' : Past) (k k1 k2 : Kept) (first : State Word Flag) (taken : Taken)
-    → Starts line p k (Calls first) p' k1 → RunsTo line.number fuel first k1 taken k2 → BeginsTo fuel line p k taken p' k2
+    → Starts line p k (Calls first) p' k1 → RunsTo line.number fuel first k1 taken k2
+    → BeginsTo fuel line p k taken p' k2
 begins_runs fuel line p p' k k1 k2 first taken starts runs = record {
   keeps = keeps_both k k1 k2 (starts_keep line p p' k k1 (Calls first) starts) runs.keeps;
   begins = λ seen state todo said left has_seen.
       let facts = starts.starts seen state left has_seen in (
         left_same k1 k2 _ p' runs.keeps.images facts.0,
-        begun_runs k.images k.thread fuel fuel line.number (length seen ∷ []) _ state todo said seen k1 k2 first taken _ starts.images
+        begun_runs k.images k.thread fuel fuel line.number
+            (length seen ∷ []) _ state todo said seen k1 k2 first taken _ starts.images
             starts.thread facts.2 facts.1 runs,
       );
 }
@@ -104,7 +114,8 @@ module _ (fuel line : ℕ) (c : Waiting) (k k1 : Kept) (state : State Word Flag)
   resumes_runs k2 taken resumes runs = record {
     keeps = keeps_again k k1 k2 resumes.keeps runs.keeps;
     resumes = λ seen points todo said has_seen.
-        let at : resumed_for (meaning_of k.images) k.thread (held_at seen c.state k) (code_owner (meaning_of k.images) k.thread seen c.state.place)
+        let at : resumed_for (meaning_of k.images) k.thread (held_at seen c.state k)
+        (code_owner (meaning_of k.images) k.thread seen c.state.place)
         ≡ CallsOn (held_at seen state k1) = resumes.resumes seen has_seen in
         rw (at, ← resumes.keeps.images, ← resumes.keeps.thread)
         (runs.runs seen seen points todo said (seen_same k k1 seen resumes.keeps has_seen));

@@ -1,5 +1,6 @@
 -- What a turn leaves is what the definitions say, from what its parts do.
-use Rattle.std.proofs.Common.{◌≡◌, ◌∙◌, ◌+◌, ◌++◌, ℕ, List, [], ◌∷◌, Option, Some, None, length, drop, refl, sym, ap, subst, arith}
+use Rattle.std.proofs.Common.{◌≡◌, ◌∙◌, ◌+◌, ◌++◌, ℕ, List, [], ◌∷◌, Option, Some, None, length, drop, refl, sym, ap}
+use Rattle.std.proofs.Common.{subst, arith}
 use Rattle.std.specs.Option.{option_or}
 use Rattle.std.proofs.lemmas.List.{length-append}
 use Rattle.module_table.specs.declared.events.Event.{Event}
@@ -28,20 +29,25 @@ or_assoc (Some a) y z = refl
 
 -- with a line more
 first_last : (thread line : ℕ) (said : List Said) (x : Said)
-    → first_in thread line (said ++ x ∷ []) ≡ option_or (first_in thread line said) (unclean_ending thread (line + length said) x.ending)
-first_last thread line [] x = let sum : line + 0 ≡ line = omega arith in rw sum (or_none (unclean_ending thread line x.ending))
+    → first_in thread line (said ++ x ∷ [])
+    ≡ option_or (first_in thread line said) (unclean_ending thread (line + length said) x.ending)
+first_last thread line [] x = let sum : line + 0 ≡ line = omega arith in
+    rw sum (or_none (unclean_ending thread line x.ending))
 first_last thread line (y ∷ said) x =
     let sum : line + 1 + length said ≡ line + length (y ∷ said) = omega arith in
     ap (option_or (unclean_ending thread line y.ending)) (first_last thread (line + 1) said x)
-    ∙ or_assoc (unclean_ending thread line y.ending) (first_in thread (line + 1) said) (unclean_ending thread (line + 1 + length said) x.ending)
+    ∙ or_assoc (unclean_ending thread line y.ending) (first_in thread (line + 1) said)
+    (unclean_ending thread (line + 1 + length said) x.ending)
     ∙ ap (λ n. option_or (first_in thread line (y ∷ said)) (unclean_ending thread n x.ending)) sum
 
 -- ** a turn
 
-module _ (r : Run) (points : List ℕ) (now : List Event) (todo : List Line) (said : List Said) (seen : List Event) (p : Past)
+module _ (r : Run) (points : List ℕ) (now : List Event) (todo : List Line) (said : List Said) (seen : List Event)
+    (p : Past)
     (left : HasLeft r.kept now p) (rest : todo ≡ numbered_lines (r.begun + 1) (drop r.begun r.lines))
     (count : length said + 1 ≡ r.begun) (first : first_in r.kept.thread 1 said ≡ r.unclean) where
-  over_stands : (found : Option UncleanStep) (t : Thread Meant Line Event) → IsOver r.begun r.kept found points now todo said seen t
+  over_stands : (found : Option UncleanStep) (t : Thread Meant Line Event)
+      → IsOver r.begun r.kept found points now todo said seen t
       → StandsAfter (run_after (emptied r) (Over found)) p (data_in r.kept.own) now t
   over_stands found t over =
       subst (λ x. StandsAfter (run_after (emptied r) (Over found)) p (data_in r.kept.own) now x) (sym over.is)
@@ -51,7 +57,8 @@ module _ (r : Run) (points : List ℕ) (now : List Event) (todo : List Line) (sa
           count = length-append said (record { points = points; ending = over.ending } ∷ []) ∙ count;
           unclean =
               first_last r.kept.thread 1 said (record { points = points; ending = over.ending })
-              ∙ (let number : 1 + length said ≡ r.begun = omega (arith, count) in rw (number, first, over.unclean_is) refl);
+              ∙ (let number : 1 + length said ≡ r.begun = omega (arith, count) in
+              rw (number, first, over.unclean_is) refl);
           blocks = blocks_twice r.kept.own;
           no_data = data_of_blocks r.kept.own;
           phase = record {
@@ -86,7 +93,8 @@ module _ (r : Run) (points : List ℕ) (now : List Event) (todo : List Line) (sa
         leaves = left;
       })
 
-  pub took_stands : (taken : Taken) (t : Thread Meant Line Event) → TookAs r.begun r.kept taken points now todo said seen t
+  pub took_stands : (taken : Taken) (t : Thread Meant Line Event)
+      → TookAs r.begun r.kept taken points now todo said seen t
       → StandsAfter (run_after (emptied r) taken) p (data_in r.kept.own) now t
   took_stands (Over found) t took = over_stands found t took
   took_stands (Waits c) t took = waits_stands c t took

@@ -3,8 +3,8 @@ use Rattle.std.specs.Prelude.{◌≡◌, ℕ, List, map}
 use Rattle.link_needs.specs.Linking.{Linking}
 use Rattle.module_table.specs.declared.events.Event.{Event}
 use Rattle.module_table.specs.declared.modules.ImageInfo.{ImageInfo}
-use Rattle.module_table.specs.History.{IsLegal}
-use Rattle.module_table.specs.Laws.{startup_end}
+use Rattle.module_table.specs.Past.{IsLegal}
+use Rattle.module_table.specs.Modules.{startup_end}
 use Rattle.module_table.specs.Past.{Past, past}
 use Rattle.whole_meaning.specs.Loads.{info_of}
 

@@ -1,5 +1,6 @@
 -- The first look of a thread's line, as the code takes it.
-use Rattle.std.specs.Prelude.{◌≡◌, ◌<◌, ◌+◌, ◌^◌, ℕ, Bool, true, false, List, [], Option, Some, None, option_and_then, option_to_list}
+use Rattle.std.specs.Prelude.{◌≡◌, ◌<◌, ◌+◌, ◌^◌, ℕ, Bool, true, false, List, [], Option, Some, None, option_and_then}
+use Rattle.std.specs.Prelude.{option_to_list}
 use Rattle.guest_arithmetic.specs.declared.cause.Cause.{Cause}
 use Rattle.guest_operands.specs.declared.state.State.{State}
 use Rattle.guest_operands.specs.declared.stop.Stop.{Stop}
@@ -18,7 +19,8 @@ use Rattle.thread_blocks.specs.Turns.{Begun, Calls as CallsOn, Ending, Says as S
 use Rattle.whole_meaning.specs.declared.unclean.UncleanStep.{UncleanStep}
 use Rattle.whole_meaning.specs.Jobs.{unclean_ending}
 use Rattle.whole_meaning.specs.Loads.{loads_of, meaning_of}
-use Rattle.whole_meaning.specs.Threads.{Meant, byte_cause as cause_of_byte, is_for as is_for_cause, meant_show, ops, unclean_bytes as first_unclean, unclean_for as lowest_unclean}
+use Rattle.whole_meaning.specs.Threads.{Meant, byte_cause as cause_of_byte, is_for as is_for_cause, meant_show, ops}
+use Rattle.whole_meaning.specs.Threads.{unclean_bytes as first_unclean, unclean_for as lowest_unclean}
 use Rattle.thread_turns.specs.declared.parts.Started.{Started as StartedWith}
 use Rattle.thread_turns.specs.declared.parts.Started.TheVariants.{Says, Calls}
 use Rattle.marked_memory.specs.declared.space.Wanted.TheVariants.{DataOf, Fixed}

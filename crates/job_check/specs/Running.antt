@@ -1,7 +1,8 @@
 -- Steps and runs of a thread's call, as clauses speak of them: they are those of the definition, over any history that
 -- leaves the same live instances.
 use Rattle.std.specs.Prelude.{◌≡◌, ℕ, List}
-use Rattle.guest_machine.specs.Run.{Next, Goes as GoesTo, Ends as EndsWith, Looks as LooksAt, Outcome, Ended as EndedWith, Waits as WaitsAt, run}
+use Rattle.guest_machine.specs.Run.{Next, Goes as GoesTo, Ends as EndsWith, Looks as LooksAt, Outcome}
+use Rattle.guest_machine.specs.Run.{Ended as EndedWith, Waits as WaitsAt, run}
 use Rattle.guest_operands.specs.declared.state.State.{State}
 use Rattle.guest_operands.specs.declared.stop.Stop.{Stop}
 use Rattle.job_meaning.specs.declared.values.Flag.{Flag}

@@ -9,7 +9,7 @@ use Rattle.guest_machine.specs.Touch.{touched}
 use Rattle.guest_operands.specs.declared.state.State.{State}
 use Rattle.guest_operands.specs.declared.stop.Stop.{Stop}
 use Rattle.guest_operands.specs.Access.{fetch_of}
-use Rattle.guest_operands.specs.Ranges.{range_accesses}
+use Rattle.guest_operands.specs.RangeLaws.{range_accesses}
 use Rattle.guest_operands.specs.Use.{After, left}
 use Rattle.job_meaning.specs.declared.values.Flag.{Flag}
 use Rattle.job_meaning.specs.declared.values.Word.{Word}
@@ -20,7 +20,8 @@ use Rattle.whole_meaning.specs.declared.sequences.Sequence.{Sequence}
 use Rattle.whole_meaning.specs.Loads.{meaning_of}
 use Rattle.whole_meaning.specs.Fields.{marked_frame}
 use Rattle.whole_meaning.specs.Reading.{acted, done, marked_step, own_touches}
-use Rattle.whole_meaning.specs.Threads.{Meant, Memory, meant_accesses, meant_mark, meant_shut, meant_steps, ops, resumed_at, sequence_does}
+use Rattle.whole_meaning.specs.Threads.{Meant, Memory, meant_accesses, meant_mark, meant_shut, meant_steps, ops}
+use Rattle.whole_meaning.specs.Threads.{resumed_at, sequence_does}
 use Rattle.job_check.specs.declared.step.Stepped.{Stepped}
 use Rattle.job_check.specs.declared.step.Stepped.TheVariants.{Goes, Looks, Ends}
 use Rattle.thread_turns.specs.declared.parts.Resumed.{Resumed}

@@ -6,7 +6,7 @@ ghost use Rattle.guest_machine.specs.declared.touch.Direction.TheVariants.{Store
 ghost use Rattle.guest_machine.specs.Touch.{places_from, refuses, touched, touched_then};
 ghost use Rattle.guest_operands.specs.declared.stop.Stop.TheVariants.{Unclean};
 ghost use Rattle.guest_operands.specs.Access.{bytes_in};
-ghost use Rattle.guest_operands.specs.Ranges.{range_accesses};
+ghost use Rattle.guest_operands.specs.RangeLaws.{range_accesses};
 ghost use Rattle.job_meaning.specs.Reading.{linker_with};
 ghost use Rattle.module_table.specs.declared.events.Event.{Event};
 ghost use Rattle.whole_meaning.specs.Fields.{lent_frame};

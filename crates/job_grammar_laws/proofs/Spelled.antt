@@ -11,7 +11,8 @@ use Rattle.std.specs.Prelude.{nat_le}
 use Rattle.job_text.specs.Grammar.{has_name_bytes, has_name_length, is_image_name, is_name_byte, is_short_name}
 use Rattle.job_text.specs.Groups.{of_text}
 use Rattle.job_text.specs.Images.{IsImageNumber}
-use Rattle.job_text.specs.Jobs.{IsJob, IsLineOf, JobParts, job_of}
+use Rattle.job_text.specs.Jobs.{JobParts, job_of}
+use Rattle.job_text.specs.JobLaws.{IsJob, IsLineOf}
 use Rattle.job_text.specs.Threads.{IsThread}
 use Rattle.job_text.specs.declared.images.Image.{Image}
 use Rattle.link_faults.specs.ImageKinds.{is_module}

@@ -1,6 +1,7 @@
 -- The laws: what images a text's job has; jobs that `IsJob` lets pass, but no text spells; how numbers are written.
 use Rattle.std.specs.Prelude.{◌≡◌, ◌≢◌, ◌↔◌, ℕ, List, [], ◌∷◌, codes, Ok, Some}
-use Rattle.job_text.specs.Jobs.{IsJob, JobParts, job_of}
+use Rattle.job_text.specs.Jobs.{JobParts, job_of}
+use Rattle.job_text.specs.JobLaws.{IsJob}
 use Rattle.link_faults.specs.declared.image_kind.ImageKind.TheVariants.{Exe, Late}
 use Rattle.job_text.specs.Numbers.{number}
 use Rattle.job_grammar_laws.specs.Images.{AreSpelled}

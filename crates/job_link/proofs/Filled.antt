@@ -187,7 +187,8 @@ refused_in writable bytes all names more rest refusal are taken (inr is) = inr (
         | inr late ↦
             let at : length names + (k - length names) ≡ k = omega arith in
             let low : k - length names < is.at = omega arith in
-            let below : k - length names < length more = omega (arith, slice_get_within more is.at refusal.name.now is.there) in
+            let below : k - length names < length more =
+            omega (arith, slice_get_within more is.at refusal.name.now is.there) in
             let e'' : slice_get (more ++ rest) (k - length names) ≡ Some other =
             sym (after names (more ++ rest) (k - length names)) ∙ ap (slice_get (names ++ (more ++ rest))) at ∙ e' in
             is.before (k - length names) other low (front more rest (k - length names) other below e'')

@@ -1,12 +1,13 @@
 -- Names, and the files that stand beside them.
-use Rattle.std.proofs.Common.{◌≡◌, ◌∙◌, ◌≤◌, ◌<◌, ℕ, suc, zero, Bool, true, false, not, cond, List, [], ◌∷◌, ◌++◌, Option, Some, None}
+use Rattle.std.proofs.Common.{◌≡◌, ◌∙◌, ◌≤◌, ◌<◌, ℕ, suc, zero, Bool, true, false, not, cond, List, [], ◌∷◌, ◌++◌}
+use Rattle.std.proofs.Common.{Option, Some, None}
 use Rattle.std.proofs.Common.{IsSome, Vec, Bor, refl, sym, ap, subst, length, arith, get_or, nat_lt}
 use Rattle.std.specs.Prelude.{◌+◌, if◌then◌else◌, slice_get, unwrap_or, IfSome}
 use Rattle.std.specs.List.{All, AllZip, find, position_or_len}
 use Rattle.std.specs.Option.{option_map}
 use Rattle.std.specs.Str.{bytes_eq}
 use Rattle.std.proofs.lemmas.List.Elements.{All-cons, All-head, All-nil, All-tail}
-use Rattle.elf_records.specs.Fields.{AreBytes}
+use Rattle.elf_records.specs.FieldLaws.{AreBytes}
 use Rattle.ports.specs.Files.{Files, file_at, IsFile}
 use Rattle.job_link.specs.Mentions.{bytes_at, bytes_in, AreFilesOf, Fetched}
 use Rattle.job_link.specs.Walks.{files_in, is_among, names_of, texts, with_unseen}

@@ -1,7 +1,7 @@
 //! Fetches the files of objects, once each.
 
 ghost use Rattle.std.specs.Prelude.{◌≡◌, ◌++◌, [], ℕ, List, IfOk, IfSome, OnErr, OnOk};
-ghost use Rattle.elf_records.specs.Fields.{AreBytes};
+ghost use Rattle.elf_records.specs.FieldLaws.{AreBytes};
 ghost use Rattle.ports.specs.Counts.{FetchCounts};
 ghost use Rattle.ports.specs.Files.{Fetches};
 ghost use Rattle.job_link.specs.Mentions.{bytes_in, object_names, AreFilesOf};

@@ -41,7 +41,8 @@ unfolding owner marked_operations ops base block
 spelled = refl
 
 -- seven bytes of a base and a value: nothing is known
-mixed : ops.joined (Part base 0 ∷ Part base 1 ∷ Part base 2 ∷ Part base 3 ∷ Part base 4 ∷ Part base 5 ∷ Part base 6 ∷ Value 0 ∷ []) ≡ Undefined
+mixed : ops.joined (Part base 0 ∷ Part base 1 ∷ Part base 2 ∷ Part base 3 ∷ Part base 4 ∷ Part base 5 ∷ Part base 6
+    ∷ Value 0 ∷ []) ≡ Undefined
 unfolding owner marked_operations ops base block
 mixed = refl
 
@@ -52,7 +53,8 @@ two : ops.joined (Part base 0 ∷ Part base 1 ∷ Part base 2 ∷ Part base 3
 unfolding owner marked_operations ops base block
 two = refl
 
-turned : ops.joined (Part base 1 ∷ Part base 0 ∷ Part base 2 ∷ Part base 3 ∷ Part base 4 ∷ Part base 5 ∷ Part base 6 ∷ Part base 7 ∷ []) ≡ Undefined
+turned : ops.joined (Part base 1 ∷ Part base 0 ∷ Part base 2 ∷ Part base 3 ∷ Part base 4 ∷ Part base 5 ∷ Part base 6
+    ∷ Part base 7 ∷ []) ≡ Undefined
 unfolding owner marked_operations ops base block
 turned = refl
 

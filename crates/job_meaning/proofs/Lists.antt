@@ -1,5 +1,6 @@
 -- Lists of bytes in which a few bytes are taken from another list.
-use Rattle.std.proofs.Common.{◌≡◌, ℕ, zero, suc, ◌+◌, ◌<◌, ◌≤◌, ◌⊎◌, inl, inr, Bool, true, false, List, [], ◌∷◌, ◌++◌, length, take, drop, Option, Some, refl, ap, arith}
+use Rattle.std.proofs.Common.{◌≡◌, ℕ, zero, suc, ◌+◌, ◌<◌, ◌≤◌, ◌⊎◌, inl, inr, Bool, true, false, List, [], ◌∷◌, ◌++◌}
+use Rattle.std.proofs.Common.{length, take, drop, Option, Some, refl, ap, arith}
 use Rattle.std.specs.List.{slice_get}
 
 -- n bytes from byte k on from ys, the others from xs
@@ -11,15 +12,18 @@ spliced zero zero (x ∷ xs) ys = x ∷ xs
 spliced zero (suc n) (x ∷ xs) [] = x ∷ xs
 spliced zero (suc n) (x ∷ xs) (y ∷ ys) = y ∷ spliced zero n xs ys
 
-pub spliced-is : (k n : ℕ) (xs ys : List ℕ) → k + n ≤ length xs → k + n ≤ length ys → spliced k n xs ys ≡ take k xs ++ (take n (drop k ys) ++ drop n (drop k xs))
+pub spliced-is : (k n : ℕ) (xs ys : List ℕ) → k + n ≤ length xs → k + n ≤ length ys
+    → spliced k n xs ys ≡ take k xs ++ (take n (drop k ys) ++ drop n (drop k xs))
 spliced-is zero zero [] ys h g = refl
 spliced-is zero zero (x ∷ xs) ys h g = refl
 spliced-is zero (suc n) [] ys h g = absurd (omega arith)
 spliced-is zero (suc n) (x ∷ xs) [] h g = absurd (omega arith)
-spliced-is zero (suc n) (x ∷ xs) (y ∷ ys) h g = ap (λ (l : List ℕ). y ∷ l) (spliced-is zero n xs ys (omega arith) (omega arith))
+spliced-is zero (suc n) (x ∷ xs) (y ∷ ys) h g =
+    ap (λ (l : List ℕ). y ∷ l) (spliced-is zero n xs ys (omega arith) (omega arith))
 spliced-is (suc k) n [] ys h g = absurd (omega arith)
 spliced-is (suc k) n (x ∷ xs) [] h g = absurd (omega arith)
-spliced-is (suc k) n (x ∷ xs) (y ∷ ys) h g = ap (λ (l : List ℕ). x ∷ l) (spliced-is k n xs ys (omega arith) (omega arith))
+spliced-is (suc k) n (x ∷ xs) (y ∷ ys) h g =
+    ap (λ (l : List ℕ). x ∷ l) (spliced-is k n xs ys (omega arith) (omega arith))
 
 pub parts-are : (k n : ℕ) (xs : List ℕ) → take k xs ++ (take n (drop k xs) ++ drop n (drop k xs)) ≡ xs
 parts-are zero zero xs = refl
@@ -38,7 +42,8 @@ spliced-length zero (suc n) (x ∷ xs) [] = refl
 spliced-length zero (suc n) (x ∷ xs) (y ∷ ys) = ap suc (spliced-length zero n xs ys)
 
 -- what is as in ys stays so
-pub spliced-keeps : (k n : ℕ) (xs ys : List ℕ) (i : ℕ) → slice_get xs i ≡ slice_get ys i → slice_get (spliced k n xs ys) i ≡ slice_get ys i
+pub spliced-keeps : (k n : ℕ) (xs ys : List ℕ) (i : ℕ) → slice_get xs i ≡ slice_get ys i
+    → slice_get (spliced k n xs ys) i ≡ slice_get ys i
 spliced-keeps k n [] ys i e = e
 spliced-keeps (suc k) n (x ∷ xs) [] i e = e
 spliced-keeps (suc k) n (x ∷ xs) (y ∷ ys) zero e = e
@@ -48,26 +53,31 @@ spliced-keeps zero (suc n) (x ∷ xs) [] i e = e
 spliced-keeps zero (suc n) (x ∷ xs) (y ∷ ys) zero e = refl
 spliced-keeps zero (suc n) (x ∷ xs) (y ∷ ys) (suc i) e = spliced-keeps zero n xs ys i e
 
-pub spliced-takes : (k n : ℕ) (xs ys : List ℕ) (i : ℕ) → k ≤ i → i < k + n → k + n ≤ length xs → k + n ≤ length ys → slice_get (spliced k n xs ys) i ≡ slice_get ys i
+pub spliced-takes : (k n : ℕ) (xs ys : List ℕ) (i : ℕ) → k ≤ i → i < k + n → k + n ≤ length xs → k + n ≤ length ys
+    → slice_get (spliced k n xs ys) i ≡ slice_get ys i
 spliced-takes k n [] ys i low high h g = absurd (omega arith)
 spliced-takes k n (x ∷ xs) [] i low high h g = absurd (omega arith)
 spliced-takes (suc k) n (x ∷ xs) (y ∷ ys) zero low high h g = absurd (omega arith)
-spliced-takes (suc k) n (x ∷ xs) (y ∷ ys) (suc i) low high h g = spliced-takes k n xs ys i (omega arith) (omega arith) (omega arith) (omega arith)
+spliced-takes (suc k) n (x ∷ xs) (y ∷ ys) (suc i) low high h g =
+    spliced-takes k n xs ys i (omega arith) (omega arith) (omega arith) (omega arith)
 spliced-takes zero zero (x ∷ xs) (y ∷ ys) i low high h g = absurd (omega arith)
 spliced-takes zero (suc n) (x ∷ xs) (y ∷ ys) zero low high h g = refl
-spliced-takes zero (suc n) (x ∷ xs) (y ∷ ys) (suc i) low high h g = spliced-takes zero n xs ys i (omega arith) (omega arith) (omega arith) (omega arith)
+spliced-takes zero (suc n) (x ∷ xs) (y ∷ ys) (suc i) low high h g =
+    spliced-takes zero n xs ys i (omega arith) (omega arith) (omega arith) (omega arith)
 
 some-is : {A : Type 0} (a b : A) → ◌≡◌ {A = Option A} (Some a) (Some b) → a ≡ b
 some-is a b e = cc
 
 -- lists that agree byte by byte up to n
-pub same-take : (n : ℕ) (xs ys : List ℕ) → n ≤ length xs → n ≤ length ys → ((i : ℕ) → i < n → slice_get xs i ≡ slice_get ys i) → take n xs ≡ take n ys
+pub same-take : (n : ℕ) (xs ys : List ℕ) → n ≤ length xs → n ≤ length ys
+    → ((i : ℕ) → i < n → slice_get xs i ≡ slice_get ys i) → take n xs ≡ take n ys
 same-take zero xs ys h g same = refl
 same-take (suc n) [] ys h g same = absurd (omega arith)
 same-take (suc n) (x ∷ xs) [] h g same = absurd (omega arith)
 same-take (suc n) (x ∷ xs) (y ∷ ys) h g same =
     let first : x ≡ y = some-is x y (same 0 (omega arith)) in
-    let rest : take n xs ≡ take n ys = same-take n xs ys (omega arith) (omega arith) (λ i below. same (suc i) (omega arith)) in
+    let rest : take n xs ≡ take n ys =
+    same-take n xs ys (omega arith) (omega arith) (λ i below. same (suc i) (omega arith)) in
     rw (first, rest) refl
 
 -- the first bytes, cut in two
@@ -78,7 +88,8 @@ take-cut (suc k) (suc n) [] h = refl
 take-cut (suc k) (suc n) (x ∷ xs) h = ap (λ (l : List ℕ). x ∷ l) (take-cut k n xs (omega arith))
 
 -- of two lists that go on in one way
-pub get-tails : (xs ys tail : List ℕ) (i : ℕ) → length xs ≡ length ys → length xs ≤ i → slice_get (xs ++ tail) i ≡ slice_get (ys ++ tail) i
+pub get-tails : (xs ys tail : List ℕ) (i : ℕ) → length xs ≡ length ys → length xs ≤ i
+    → slice_get (xs ++ tail) i ≡ slice_get (ys ++ tail) i
 get-tails [] [] tail i e h = refl
 get-tails [] (y ∷ ys) tail i e h = absurd (omega arith)
 get-tails (x ∷ xs) [] tail i e h = absurd (omega arith)
@@ -102,12 +113,19 @@ first_false f zero = inr (λ k below. absurd (omega arith))
 first_false f (suc n) =
     (elim (f 0) as (λ b. f 0 ≡ b → FirstFalse f (suc n) ⊎ ((k : ℕ) → k < suc n → f k ≡ true)) [
       | false ↦ λ e. inl (record { at = 0; below = omega arith; fails = e; before = λ k low. absurd (omega arith) })
-      | true ↦ λ e. (elim (first_false (λ k. f (suc k)) n) as (λ r. FirstFalse f (suc n) ⊎ ((k : ℕ) → k < suc n → f k ≡ true)) [
-        | inl h ↦ inl (record { at = suc h.at; below = omega (arith, h.below); fails = h.fails; before = λ k low. all_below f h.at e h.before k low })
-        | inr h ↦ inr (λ k low. all_below f n e h k low)
-      ])
+      | true ↦ λ e. (elim (first_false (λ k. f (suc k)) n) as
+          (λ r. FirstFalse f (suc n) ⊎ ((k : ℕ) → k < suc n → f k ≡ true)) [
+            | inl h ↦ inl (record {
+              at = suc h.at;
+              below = omega (arith, h.below);
+              fails = h.fails;
+              before = λ k low. all_below f h.at e h.before k low;
+            })
+            | inr h ↦ inr (λ k low. all_below f n e h k low)
+          ])
     ]) refl
   where
-    all_below : (f : ℕ → Bool) (n : ℕ) → f 0 ≡ true → ((k : ℕ) → k < n → f (suc k) ≡ true) → (k : ℕ) → k < suc n → f k ≡ true
+    all_below : (f : ℕ → Bool) (n : ℕ) → f 0 ≡ true → ((k : ℕ) → k < n → f (suc k) ≡ true) → (k : ℕ) → k < suc n
+        → f k ≡ true
     all_below f n zeroth rest zero low = zeroth
     all_below f n zeroth rest (suc k) low = rest k (omega arith)

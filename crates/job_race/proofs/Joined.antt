@@ -1,5 +1,6 @@
 -- Two rows of threads and their passes, joined.
-use Rattle.std.proofs.Common.{◌≡◌, ◌⊎◌, ◌+◌, ◌≤◌, ◌∙◌, ℕ, Bool, true, false, List, [], ◌∷◌, ◌++◌, length, refl, sym, ap, subst, inl, inr, length-append, arith}
+use Rattle.std.proofs.Common.{◌≡◌, ◌⊎◌, ◌+◌, ◌≤◌, ◌∙◌, ℕ, Bool, true, false, List, [], ◌∷◌, ◌++◌, length, refl, sym, ap}
+use Rattle.std.proofs.Common.{subst, inl, inr, length-append, arith}
 use Rattle.std.specs.Prelude.{All, MatchBool, nat_lt, if◌then◌else◌, Result, Ok, Err, IfOk}
 use Rattle.job_text.specs.Jobs.{JobParts}
 use Rattle.job_text.specs.declared.thread_lines.ThreadLine.{ThreadLine}

@@ -1,5 +1,6 @@
 -- The events of a row of threads: those of its threads that the job lacks are none.
-use Rattle.std.proofs.Common.{◌≡◌, ◌==◌, ◌+◌, ◌<◌, ◌≤◌, ℕ, zero, suc, Bool, true, false, List, [], ◌∷◌, length, ap, inl, inr, sym, subst, arith, eq-eqb}
+use Rattle.std.proofs.Common.{◌≡◌, ◌==◌, ◌+◌, ◌<◌, ◌≤◌, ℕ, zero, suc, Bool, true, false, List, [], ◌∷◌, length, ap, inl}
+use Rattle.std.proofs.Common.{inr, sym, subst, arith, eq-eqb}
 use Rattle.std.specs.Prelude.{All, MatchBool, nat_lt, if◌then◌else◌}
 use Rattle.std.proofs.lemmas.Bool.{cases_lt, cases_order}
 use Rattle.std.proofs.lemmas.List.Elements.{All-append, All-cons, All-head, All-nil, All-tail, All-weaker}
@@ -74,7 +75,8 @@ module _ (threads first some more : ℕ) where
       → All (IsOfJob threads first some) left → All (IsOfJob threads (first + some) more) right
       → All (IsOfJob threads first (some + more)) (longer left right)
   rows_named left_threads right_threads left right left_are right_are agree named others =
-      in_longer (nat_lt (length left) (length right)) left_threads right_threads left right left_are right_are agree named
+      in_longer (nat_lt (length left)
+      (length right)) left_threads right_threads left right left_are right_are agree named
       others
 
 -- all threads of a program: the job has each of which there is an event

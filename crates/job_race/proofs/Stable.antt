@@ -1,5 +1,6 @@
 -- What is known of a thread that raced stays when others add events.
-use Rattle.std.proofs.Common.{◌≡◌, ◌==◌, ◌+◌, ◌≤◌, ◌∙◌, ℕ, zero, suc, false, true, Bool, List, [], ◌∷◌, ◌++◌, length, refl, ap, subst, append_assoc, arith}
+use Rattle.std.proofs.Common.{◌≡◌, ◌==◌, ◌+◌, ◌≤◌, ◌∙◌, ℕ, zero, suc, false, true, Bool, List, [], ◌∷◌, ◌++◌, length}
+use Rattle.std.proofs.Common.{refl, ap, subst, append_assoc, arith}
 use Rattle.job_text.specs.Jobs.{JobParts}
 use Rattle.job_text.specs.Threads.{of_thread}
 use Rattle.job_text.specs.declared.thread_lines.ThreadLine.{ThreadLine}
@@ -8,7 +9,7 @@ use Rattle.module_table.specs.declared.events.Event.{Event}
 use Rattle.transcript_text.specs.declared.outcomes.Line.{Line as ShownLine}
 use Rattle.thread_blocks.specs.Instances.{Loads}
 use Rattle.thread_blocks.specs.JobLoads.{job_loads}
-use Rattle.thread_blocks.specs.TurnsAlike.{AllFronts}
+use Rattle.thread_blocks.specs.Turns.{AllFronts}
 use Rattle.lawful_points.specs.Raced.{IsRacer}
 use Rattle.shared_modules.specs.Stable.{IsStable, other_last, stays}
 use Rattle.shared_modules.specs.Views.{Knows, flag, rising, times}

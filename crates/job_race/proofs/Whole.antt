@@ -7,7 +7,7 @@ use Rattle.job_text.specs.Jobs.{JobParts}
 use Rattle.job_text.specs.Threads.{IsThread, of_thread}
 use Rattle.loaded_modules.specs.Images.{JobImages, infos, last_offset}
 use Rattle.module_table.specs.declared.events.Event.{Event}
-use Rattle.module_table.specs.History.{IsLegal}
+use Rattle.module_table.specs.Past.{IsLegal}
 use Rattle.transcript_text.specs.declared.outcomes.Line.{Line as ShownLine}
 use Rattle.transcript_text.specs.Texts.{Shown}
 use Rattle.thread_blocks.specs.JobLoads.{job_loads}

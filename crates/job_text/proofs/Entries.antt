@@ -11,7 +11,8 @@ module _ {V X : Type 0} (view : V → List X) where
   at_index (v ∷ all) zero = refl
   at_index (v ∷ all) (suc i) = at_index all i
 
-  pub entry_at : (all : List V) (thread : ℕ) → of_thread (map view all) thread ≡ option_map_or view (at_number all thread) []
+  pub entry_at : (all : List V) (thread : ℕ)
+      → of_thread (map view all) thread ≡ option_map_or view (at_number all thread) []
   entry_at all zero = refl
   entry_at all (suc i) =
       let positive : nat_lt 0 (suc i) ≡ true = grind arith in

@@ -1,5 +1,6 @@
 -- What std's reading of digits says of the numbers of a job.
-use Rattle.std.proofs.Common.{◌≡◌, ℕ, ◌<◌, ◌≤◌, ◌^◌, Bool, true, false, ◌&&◌, ◌==◌, nat_lt, cond, List, [], ◌∷◌, length, Some, None, Result, Ok, Err, slice_index, not, subst, arith, refl, ap}
+use Rattle.std.proofs.Common.{◌≡◌, ℕ, ◌<◌, ◌≤◌, ◌^◌, Bool, true, false, ◌&&◌, ◌==◌, nat_lt, cond, List, [], ◌∷◌, length}
+use Rattle.std.proofs.Common.{Some, None, Result, Ok, Err, slice_index, not, subst, arith, refl, ap}
 use Rattle.std.proofs.lemmas.Bool.{false≢true, lt-ltb, ltb-true}
 use Rattle.std.proofs.lemmas.Bool.Decides.{nat_tests}
 use Rattle.std.specs.Char.{digit_value}
@@ -15,7 +16,9 @@ together a b e f = rw (e, f) refl
 
 digits_tested : (base : ℕ) (ds : List ℕ) → AllDigits base ds → list_all (λ c. nat_lt (digit_value c) base) ds ≡ true
 digits_tested base [] h = refl
-digits_tested base (c ∷ cs) h = together (nat_lt (digit_value c) base) (list_all (λ c. nat_lt (digit_value c) base) cs) (grind (arith, nat_tests, h.0)) (digits_tested base cs h.1)
+digits_tested base (c ∷ cs) h =
+    together (nat_lt (digit_value c) base) (list_all (λ c. nat_lt (digit_value c) base) cs)
+    (grind (arith, nat_tests, h.0)) (digits_tested base cs h.1)
 
 digits_meant : (base : ℕ) (ds : List ℕ) → list_all (λ c. nat_lt (digit_value c) base) ds ≡ true → AllDigits base ds
 digits_meant base [] e = tt
@@ -36,7 +39,8 @@ fits base ds = is_numeral base ds && nat_lt (digits_value base ds) (2 ^ 64)
 fits_tested : (base : ℕ) (ds : List ℕ) → IsNumeral base ds × (digits_value base ds < 2 ^ 64) → fits base ds ≡ true
 fits_tested base ds h =
     together (is_numeral base ds) (nat_lt (digits_value base ds) (2 ^ 64))
-    (together (not (length ds == 0)) (list_all (λ c. nat_lt (digit_value c) base) ds) (some_bytes (length ds) h.0.0) (digits_tested base ds h.0.1))
+    (together (not (length ds == 0)) (list_all (λ c. nat_lt (digit_value c) base) ds) (some_bytes (length ds) h.0.0)
+    (digits_tested base ds h.0.1))
     (lt-ltb (digits_value base ds) (2 ^ 64) h.1)
 
 fits_meant : (base : ℕ) (ds : List ℕ) → fits base ds ≡ true → IsNumeral base ds × (digits_value base ds < 2 ^ 64)
@@ -50,7 +54,9 @@ none_unless true v h = absurd (h refl)
 none_unless false v h = refl
 
 -- std's reading of digits without a sign
-pub numeral_read : {E : Type 0} (base : ℕ) (ds : List ℕ) (r : Result ℕ E) → OkIff r (IsNumeral base ds × (digits_value base ds < 2 ^ 64)) (digits_value base ds) → result_ok r ≡ numeral base ds
+pub numeral_read : {E : Type 0} (base : ℕ) (ds : List ℕ) (r : Result ℕ E)
+    → OkIff r (IsNumeral base ds × (digits_value base ds < 2 ^ 64)) (digits_value base ds)
+    → result_ok r ≡ numeral base ds
 unfolding numeral
 numeral_read base ds (Ok x) h = rw (fits_tested base ds h.0) (ap Some h.1)
 numeral_read base ds (Err e) h = none_unless (fits base ds) (digits_value base ds) (λ t. h (fits_meant base ds t))
@@ -72,5 +78,7 @@ differs : (n k : ℕ) → (n == k) ≡ false → n ≡ k → ⊥
 differs n k e same = grind (arith, nat_tests)
 
 -- std's reading of digits that begin with no plus
-pub numeral_parsed : {E : Type 0} (base : ℕ) (ds : List ℕ) (r : Result ℕ E) → (slice_index ds 0 == 43) ≡ false → ParsesUnsigned 64 base ds r → result_ok r ≡ numeral base ds
-numeral_parsed base ds r e h = numeral_read base ds r (rw (without_leading_plus_none ds (differs (slice_index ds 0) 43 e)) at h)
+pub numeral_parsed : {E : Type 0} (base : ℕ) (ds : List ℕ) (r : Result ℕ E) → (slice_index ds 0 == 43) ≡ false
+    → ParsesUnsigned 64 base ds r → result_ok r ≡ numeral base ds
+numeral_parsed base ds r e h =
+    numeral_read base ds r (rw (without_leading_plus_none ds (differs (slice_index ds 0) 43 e)) at h)

@@ -1,5 +1,6 @@
 -- A line of printable characters is text.
-use Rattle.std.proofs.Common.{◌≡◌, ℕ, ◌<◌, Bool, true, false, ◌&&◌, ◌||◌, List, [], ◌∷◌, map, Result, Ok, Err, arith, refl, ap}
+use Rattle.std.proofs.Common.{◌≡◌, ℕ, ◌<◌, Bool, true, false, ◌&&◌, ◌||◌, List, [], ◌∷◌, map, Result, Ok, Err, arith}
+use Rattle.std.proofs.Common.{refl, ap}
 use Rattle.std.proofs.lemmas.Bool.{false≢true}
 use Rattle.std.proofs.lemmas.Bool.Decides.{nat_tests}
 use Rattle.std.proofs.lemmas.List.Elements.{All-nil, All-cons}
@@ -27,11 +28,13 @@ pub text_is_utf8 : (line : List ℕ) → is_text line ≡ true → IsUtf8 line
 text_is_utf8 line e = IsUtf8-from_ascii line (IsAscii-from_all line (text_small line e))
 
 -- what fails only where U does not hold succeeds where it holds
-pub ok_where : {T E : Type 0} (U : Type 0) (P : T → Type 0) (Q : E → Type 0) (r : Result T E) → MatchResult r P (λ e. (U → ⊥) × Q e) → U → is_ok r ≡ true
+pub ok_where : {T E : Type 0} (U : Type 0) (P : T → Type 0) (Q : E → Type 0) (r : Result T E)
+    → MatchResult r P (λ e. (U → ⊥) × Q e) → U → is_ok r ≡ true
 ok_where U P Q (Ok x) h u = refl
 ok_where U P Q (Err e) h u = absurd (h.0 u)
 
 -- a test of what is seen of the elements
-pub list_any-map : {X Y : Type 0} (v : X → Y) (t : Y → Bool) (xs : List X) → list_any t (map v xs) ≡ list_any (λ x. t (v x)) xs
+pub list_any-map : {X Y : Type 0} (v : X → Y) (t : Y → Bool) (xs : List X)
+    → list_any t (map v xs) ≡ list_any (λ x. t (v x)) xs
 list_any-map v t [] = refl
 list_any-map v t (x ∷ xs) = ap (λ (b : Bool). t (v x) || b) (list_any-map v t xs)

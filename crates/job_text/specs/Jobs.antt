@@ -1,20 +1,15 @@
 -- A job, as contracts see it, and how the lines make it.
-use Rattle.std.specs.List.{All}
-use Rattle.std.specs.Prelude.{◌≡◌, ℕ, ◌+◌, ◌≤◌, ◌<◌, ◌^◌, List, [], ◌∷◌, ◌++◌, length, map, Option, Some, None}
+use Rattle.std.specs.Prelude.{ℕ, ◌+◌, List, [], ◌∷◌, ◌++◌, length, map, Option, Some, None}
 use Rattle.std.specs.Prelude.{unwrap_or, Result, Ok, Err}
-use Rattle.job_text.specs.Actions.{IsAction}
-use Rattle.job_text.specs.Threads.{IsThread, of_thread}
 use Rattle.job_text.specs.Drafts.{Declared, nothing_declared}
 use Rattle.job_text.specs.LineEffects.{with_text}
 use Rattle.job_text.specs.LineFaults.{fault_of}
-use Rattle.job_text.specs.Images.{IsImageNumber}
-use Rattle.job_text.specs.Listings.{IsListOf}
 use Rattle.job_text.specs.Words.{lines_of}
 use Rattle.job_text.specs.declared.draft.Slot.{Slot}
 use Rattle.job_text.specs.declared.draft.Slot.TheVariants.{Program, Start, Late}
 use Rattle.job_text.specs.declared.draft.Plan.{Plan}
 use Rattle.job_text.specs.declared.fault.JobFault.{JobFault}
-use Rattle.job_text.specs.declared.fault.JobFault.TheVariants.{At, OutOfMemory}
+use Rattle.job_text.specs.declared.fault.JobFault.TheVariants.{At}
 use Rattle.job_text.specs.declared.fault.JobFaultKind.{JobFaultKind}
 use Rattle.job_text.specs.declared.fault.JobFaultKind.TheVariants.{NoExe}
 use Rattle.job_text.specs.declared.images.Image.{Image}
@@ -28,32 +23,6 @@ pub record JobParts : Type 0 where
   pub fuel : ℕ
   pub order : List ℕ
   pub lines : List (List ThreadLine)
-
--- the record of these parts
-abbrev pub job_parts : List Image → List ℕ → ℕ → List ℕ → List (List ThreadLine) → JobParts
-job_parts images mentions fuel order lines =
-    record { images = images; mentions = mentions; fuel = fuel; order = order; lines = lines }
-
--- a line of a thread is about an image of the job
-pub record IsLineOf (images : List Image) (line : ThreadLine) : Type 0 where
-  pub image : IsImageNumber images line.image
-  pub shown : IsAction line.action
-
--- what holds of each job
-pub record IsJob (job : JobParts) : Type 0 where
-  pub some_image : 1 ≤ length job.images
-  pub few_images : length job.images ≤ 64
-  pub mentioned : IsListOf (IsImageNumber job.images) job.mentions
-  pub some_thread : 1 ≤ length job.lines
-  pub few_threads : length job.lines ≤ 64
-  pub some_fuel : 1 ≤ job.fuel
-  pub little_fuel : job.fuel < 2 ^ 32
-  pub order_named : All (IsThread (length job.lines)) job.order
-  pub lines_placed : All (All (IsLineOf job.images)) job.lines
-
--- the lines of a thread; none if there is no such thread
-abbrev pub lines_of_thread : JobParts → ℕ → List ThreadLine
-lines_of_thread job thread = of_thread job.lines thread
 
 -- the number of an image: the program is 1, then come the `starts` start images, then the late ones
 abbrev pub number_of : ℕ → Slot → ℕ
@@ -103,9 +72,3 @@ job_from d number (line ∷ more) =
 -- the job that a text spells, or its first fault
 unfoldable pub job_of : List ℕ → Result JobParts JobFault
 job_of text = job_from nothing_declared 1 (lines_of text)
-
--- a result is the defined one, or OutOfMemory
-abbrev pub IsAnswer : Result JobParts JobFault → Result JobParts JobFault → Type 0
-IsAnswer right (Ok job) = right ≡ Ok job
-IsAnswer right (Err OutOfMemory) = Unit {0}
-IsAnswer right (Err (At line kind)) = right ≡ Err (At line kind)

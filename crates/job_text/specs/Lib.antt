@@ -1,10 +1,12 @@
 pub mod Actions
 pub mod Drafts
+pub mod DraftLaws
 pub mod Flaws
 pub mod Grammar
 pub mod Groups
 pub mod Images
 pub mod Jobs
+pub mod JobLaws
 pub mod Kinds
 pub mod LateImages
 pub mod LineAnswers

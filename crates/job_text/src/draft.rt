@@ -4,7 +4,8 @@ ghost use Rattle.std.specs.Prelude.{All, ◌≡◌, ◌≤◌, ◌<◌, ◌||◌
 ghost use Rattle.std.specs.Prelude.{IfSome, IsTrue, OnOk, None, length, map, replicate, drop};
 ghost use Rattle.job_text.specs.Actions.{IsAction};
 ghost use Rattle.job_text.specs.Threads.{IsThread};
-ghost use Rattle.job_text.specs.Drafts.{IsSlot, IsPlan, image_count, nothing_declared, slot_of};
+ghost use Rattle.job_text.specs.Drafts.{image_count, nothing_declared, slot_of};
+ghost use Rattle.job_text.specs.DraftLaws.{IsSlot, IsPlan};
 ghost use Rattle.job_text.specs.LineAnswers.{IsLineAnswer, IsOrderAnswer, IsRead, next_slot};
 ghost use Rattle.job_text.specs.LineEffects.{action_of, with_heading, with_image, with_line, with_words};
 ghost use Rattle.job_text.specs.LineFaults.{action_fault, fault_in_words, fault_under, has_long_object, is_image};
@@ -69,7 +70,8 @@ pub(crate) struct Draft<'a> {
 impl<'a> Model for Draft<'a> {
     ghost use Rattle.std.specs.Prelude.{map};
     ghost use Rattle.std.specs.Option.{option_map};
-    ghost use Rattle.job_text.specs.Drafts.{Declared, IsDraft, declared};
+    ghost use Rattle.job_text.specs.Drafts.{Declared};
+    ghost use Rattle.job_text.specs.DraftLaws.{IsDraft, declared};
 
     ghost Value = { Declared };
 

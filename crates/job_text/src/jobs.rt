@@ -7,7 +7,8 @@ ghost use Rattle.job_text.specs.LineAnswers.{IsLineAnswer};
 ghost use Rattle.job_text.specs.LineEffects.{with_text};
 ghost use Rattle.job_text.specs.LineFaults.{fault_of};
 ghost use Rattle.job_text.specs.Images.{IsImageNumber, image_number, is_named};
-ghost use Rattle.job_text.specs.Jobs.{IsAnswer, in_image_order, job_declared, job_of, number_of, numbered_line};
+ghost use Rattle.job_text.specs.Jobs.{in_image_order, job_declared, job_of, number_of, numbered_line};
+ghost use Rattle.job_text.specs.JobLaws.{IsAnswer};
 
 use crate::draft::{Draft, Plan, Slot};
 use crate::fault::{Flaw, JobFault, JobFaultKind};
@@ -33,7 +34,8 @@ pub struct Job {
 
 impl Model for Job {
     ghost use Rattle.std.specs.Prelude.{map};
-    ghost use Rattle.job_text.specs.Jobs.{JobParts, IsJob, job_parts};
+    ghost use Rattle.job_text.specs.Jobs.{JobParts};
+    ghost use Rattle.job_text.specs.JobLaws.{IsJob, job_parts};
 
     ghost Value = { JobParts };
 
@@ -47,7 +49,7 @@ impl Model for Job {
 
 impl Job {
     ghost use Rattle.job_text.specs.Threads.{IsThread};
-    ghost use Rattle.job_text.specs.Jobs.{IsLineOf, lines_of_thread};
+    ghost use Rattle.job_text.specs.JobLaws.{IsLineOf, lines_of_thread};
 
     /// Reads a job.
     ///

@@ -1,5 +1,6 @@
 -- What is asked for and answered over the code's ranges, is asked for and answered over a thread's space.
-use Rattle.std.proofs.Common.{◌≡◌, ◌+◌, ◌==◌, ℕ, zero, suc, Bool, true, false, List, ◌∷◌, Option, Some, None, Result, Ok, Err, IsErr, refl, sym, ap, ◌∙◌, subst}
+use Rattle.std.proofs.Common.{◌≡◌, ◌+◌, ◌==◌, ℕ, zero, suc, Bool, true, false, List, ◌∷◌, Option, Some, None, Result}
+use Rattle.std.proofs.Common.{Ok, Err, IsErr, refl, sym, ap, ◌∙◌, subst}
 use Rattle.std.specs.Prelude.{if◌then◌else◌, ok_or}
 use Rattle.std.specs.List.{find, list_any}
 use Rattle.address_map.specs.Map.{stack_start}
@@ -7,8 +8,10 @@ use Rattle.guest_arithmetic.specs.Plain.{plain_operations}
 use Rattle.guest_operands.specs.declared.state.State.{State}
 use Rattle.guest_operands.specs.declared.stop.Stop.{Stop}
 use Rattle.guest_operands.specs.declared.stop.Stop.TheVariants.{Address}
-use Rattle.guest_operands.specs.Access.{Accesses, Refusal, Refused, Shut, both_reached, bytes_at, load_of, next_place, reached as reached_so}
-use Rattle.guest_operands.specs.Ranges.{AddressSpace, range_accesses}
+use Rattle.guest_operands.specs.Access.{Accesses, Refusal, Refused, Shut, both_reached, bytes_at, load_of, next_place}
+use Rattle.guest_operands.specs.Access.{reached as reached_so}
+use Rattle.guest_operands.specs.Ranges.{AddressSpace}
+use Rattle.guest_operands.specs.RangeLaws.{range_accesses}
 use Rattle.guest_operands.specs.Use.{◌>>=◌, After, left, there}
 use Rattle.guest_machine.specs.Machine.{Answers, Standing, answer_of}
 use Rattle.guest_machine.specs.Step.{return_of}
@@ -19,7 +22,8 @@ use Rattle.module_table.specs.Past.{Past}
 use Rattle.thread_blocks.specs.Instances.{instances, instances_in}
 use Rattle.thread_blocks.specs.JobLoads.{job_loads}
 use Rattle.thread_blocks.specs.RunTime.{asked_at, asked_by, asked_of, has_words, pair, thread_accesses, word_at}
-use Rattle.thread_blocks.specs.Spaces.{Space, address_space_of, after_of, mapped, space_accesses}
+use Rattle.thread_blocks.specs.Spaces.{Space, address_space_of, space_accesses}
+use Rattle.thread_blocks.specs.SpaceLaws.{after_of, mapped}
 use Rattle.thread_blocks.proofs.Spaces.{space_image}
 use Rattle.thread_space.specs.Kept.{HasSeen, Kept, live_in, memory_of, shape_of}
 use Rattle.job_turns.specs.Running.{asked_from, asked_in, asker_in, space_in, word_in}
@@ -37,37 +41,48 @@ live_seen k seen has = ap (λ (p : Past). instances_in (infos k.vector.images) p
 
 module _ (k : Kept) (seen : List Event) (has : HasSeen k.vector seen) where
   abbrev space-accesses : Accesses (Space Event ℕ) ℕ
-  space-accesses = space_accesses plain_operations (stack_start k.vector.thread) (fixed_seen k.vector.images k.vector.thread)
+  space-accesses = space_accesses plain_operations (stack_start k.vector.thread)
+      (fixed_seen k.vector.images k.vector.thread)
 
-  byte-same : (place : ℕ) → (range_accesses plain_operations).byte (memory_of k) place ≡ space-accesses.byte (space_in seen k) place
+  byte-same : (place : ℕ)
+      → (range_accesses plain_operations).byte (memory_of k) place ≡ space-accesses.byte (space_in seen k) place
   byte-same place =
       ap (λ (m : AddressSpace ℕ). (range_accesses plain_operations).byte m place) (memory_is k seen has)
-      ∙ (space_image plain_operations (stack_start k.vector.thread) (fixed_seen k.vector.images k.vector.thread) (none_fixed k.vector.images k.vector.thread)).byte (space_in seen k) place
+      ∙ (space_image plain_operations (stack_start k.vector.thread) (fixed_seen k.vector.images k.vector.thread)
+      (none_fixed k.vector.images k.vector.thread)).byte (space_in seen k) place
 
-  bytes-same : (size place : ℕ) → bytes_at (range_accesses plain_operations) (memory_of k) place size ≡ bytes_at space-accesses (space_in seen k) place size
+  bytes-same : (size place : ℕ)
+      → bytes_at (range_accesses plain_operations) (memory_of k) place size
+      ≡ bytes_at space-accesses (space_in seen k) place size
   bytes-same zero place = refl
   bytes-same (suc size) place = rw (byte-same place, bytes-same size (next_place place)) refl
 
-  word-same : (address : ℕ) → word_in k address 8 ≡ word_at (job_loads k.vector.images) k.vector.thread (space_in seen k) address
+  word-same : (address : ℕ)
+      → word_in k address 8 ≡ word_at (job_loads k.vector.images) k.vector.thread (space_in seen k) address
   unfolding thread_accesses
   word-same address = ap (reached_so number_from) (bytes-same 8 address)
 
   from-same : (is_descriptor : Bool) (address : ℕ) (found : Option Instance)
-      → asked_of (job_loads k.vector.images) k.vector.thread (space_in seen k) is_descriptor address found ≡ asked_from k is_descriptor address found
+      → asked_of (job_loads k.vector.images) k.vector.thread (space_in seen k) is_descriptor address found
+      ≡ asked_from k is_descriptor address found
   from-same is_descriptor address None = refl
   from-same is_descriptor address (Some x) =
       ap (λ words. asked_by (job_loads k.vector.images) k.vector.thread x is_descriptor words)
       (sym (ap (λ first. both_reached pair first (word_in k (address + 8) 8)) (word-same address)
-      ∙ ap (λ second. both_reached pair (word_at (job_loads k.vector.images) k.vector.thread (space_in seen k) address) second) (word-same (address + 8))))
+      ∙ ap (λ second. both_reached pair
+      (word_at (job_loads k.vector.images) k.vector.thread (space_in seen k) address) second)
+      (word-same (address + 8))))
 
   -- the law of what is asked for
-  pub asked_is : (state : State ℕ Bool) → asked_at (job_loads k.vector.images) k.vector.thread (left state (space_in seen k)) ≡ asked_in k state
+  pub asked_is : (state : State ℕ Bool)
+      → asked_at (job_loads k.vector.images) k.vector.thread (left state (space_in seen k)) ≡ asked_in k state
   unfolding asked_in
   asked_is state =
       let is_descriptor = state.place == 0x1800 in
       let address = if is_descriptor then state.registers.rax else state.registers.rdi in
       ap (λ live. asked_of (job_loads k.vector.images) k.vector.thread (space_in seen k) is_descriptor address
-      (find (λ (x : Instance). list_any (has_words address) ((job_loads k.vector.images).tables x)) live)) (live_seen k seen has)
+      (find (λ (x : Instance). list_any (has_words address) ((job_loads k.vector.images).tables x)) live))
+      (live_seen k seen has)
       ∙ from-same is_descriptor address (asker_in k address)
 
 -- ** answers
@@ -82,7 +97,8 @@ pub byte-open : (byte : Option ℕ) → NotShut (ok_or byte Refused)
 byte-open None = tt
 byte-open (Some byte) = tt
 
-pub both-open : {A C D : Type 0} (f : A → C → D) (a : Result A Refusal) (c : Result C Refusal) → NotShut a → NotShut c → NotShut (both_reached f a c)
+pub both-open : {A C D : Type 0} (f : A → C → D) (a : Result A Refusal) (c : Result C Refusal) → NotShut a → NotShut c
+    → NotShut (both_reached f a c)
 both-open f (Ok a) (Ok c) g h = tt
 both-open f (Ok a) (Err Refused) g h = tt
 both-open f (Ok a) (Err Shut) g h = h
@@ -106,13 +122,15 @@ return-is place m (Err Refused) f g = refl
 return-is place m (Err Shut) f g = absurd g
 
 return-image : {M M' : Type 0} (image : M → M') (place : ℕ) (m : M) (load : Result ℕ Refusal) (f : ℕ → State ℕ Bool)
-    → (there place load >>= (λ word. Ok (left (f word) (image m)))) ≡ mapped image (there place load >>= (λ word. Ok (left (f word) m)))
+    → (there place load >>= (λ word. Ok (left (f word) (image m))))
+    ≡ mapped image (there place load >>= (λ word. Ok (left (f word) m)))
 return-image image place m (Ok word) f = refl
 return-image image place m (Err Refused) f = refl
 return-image image place m (Err Shut) f = refl
 
 -- of two results that are each other's images
-taken-from : {M M' : Type 0} (image : M → M') (r : Result (After ℕ Bool M) Stop) (state : State ℕ Bool) (m : M) (m' : M') (place : ℕ)
+taken-from : {M M' : Type 0} (image : M → M') (r : Result (After ℕ Bool M) Stop) (state : State ℕ Bool) (m : M)
+    (m' : M') (place : ℕ)
     → IsReturn place m r → mapped image r ≡ Ok (left state m') → (image m ≡ m') × (r ≡ Ok (left state m))
 taken-from image (Ok after) state m m' place is e =
     let both : after_of image after ≡ left state m' = cc in
@@ -128,7 +146,8 @@ refused-from image (Err stop) m place is e = ap Err is
 
 module _ (k : Kept) (seen : List Event) (has : HasSeen k.vector seen) (word : ℕ) (state : State ℕ Bool) where
   abbrev over-space : Result (After ℕ Bool (Space Event ℕ)) Stop
-  over-space = answer_of plain_operations (thread_accesses (job_loads k.vector.images) k.vector.thread) word state (space_in seen k)
+  over-space = answer_of plain_operations (thread_accesses (job_loads k.vector.images) k.vector.thread) word state
+      (space_in seen k)
 
   abbrev image-of : Space Event ℕ → AddressSpace ℕ
   image-of = address_space_of (stack_start k.vector.thread) (fixed_seen k.vector.images k.vector.thread)
@@ -142,26 +161,37 @@ module _ (k : Kept) (seen : List Event) (has : HasSeen k.vector seen) (word : �
   unfolding thread_accesses return_of load_of plain_operations
   over-is = return-is state.place (space_in seen k) _ _ (reached-open _ _ (space-open 8 state.registers.rsp))
 
-  range-is : answer_of plain_operations (range_accesses plain_operations) word state (memory_of k) ≡ mapped image-of over-space
+  range-is : answer_of plain_operations (range_accesses plain_operations) word state (memory_of k)
+      ≡ mapped image-of over-space
   unfolding thread_accesses return_of load_of plain_operations
-  range-is = rw (bytes-same k seen has 8 state.registers.rsp, memory_is k seen has) (return-image image-of state.place (space_in seen k) _ _)
+  range-is = rw (bytes-same k seen has 8 state.registers.rsp, memory_is k seen has)
+      (return-image image-of state.place (space_in seen k) _ _)
 
 -- the law of an answer that is made
-pub answer_made : (k : Kept) (seen : List Event) → HasSeen k.vector seen → (word : ℕ) (m m' : Standing ℕ Bool) (k' : Kept) → shape_of k' ≡ shape_of k
-    → Answers true m (memory_of k) m' (memory_of k') (answer_of plain_operations (range_accesses plain_operations) word m.state (memory_of k))
-    → answer_of plain_operations (thread_accesses (job_loads k.vector.images) k.vector.thread) word m.state (space_in seen k) ≡ Ok (left m'.state (space_in seen k'))
+pub answer_made : (k : Kept) (seen : List Event) → HasSeen k.vector seen
+    → (word : ℕ) (m m' : Standing ℕ Bool) (k' : Kept) → shape_of k' ≡ shape_of k
+    → Answers true m (memory_of k) m' (memory_of k')
+    (answer_of plain_operations (range_accesses plain_operations) word m.state (memory_of k))
+    → answer_of plain_operations (thread_accesses (job_loads k.vector.images) k.vector.thread) word m.state
+    (space_in seen k) ≡ Ok (left m'.state (space_in seen k'))
 answer_made k seen has word m m' k' shape answers =
-    let both = taken-from (image-of k seen has word m.state) (over-space k seen has word m.state) m'.state (space_in seen k) (memory_of k') m.state.place (over-is k seen has word m.state)
+    let both = taken-from (image-of k seen has word m.state) (over-space k seen has word m.state) m'.state
+    (space_in seen k) (memory_of k') m.state.place (over-is k seen has word m.state)
     (sym (range-is k seen has word m.state) ∙ answers.0) in
-    both.1 ∙ ap (λ (s : Space Event ℕ). Ok (left m'.state s)) (space_is k k' seen (space_in seen k) has shape refl (sym both.0))
+    both.1 ∙ ap (λ (s : Space Event ℕ). Ok (left m'.state s))
+    (space_is k k' seen (space_in seen k) has shape refl (sym both.0))
 
 -- and of one that is refused
-pub answer_refused : (k : Kept) (seen : List Event) → HasSeen k.vector seen → (word : ℕ) (m m' : Standing ℕ Bool) (k' : Kept) → shape_of k' ≡ shape_of k
-    → Answers false m (memory_of k) m' (memory_of k') (answer_of plain_operations (range_accesses plain_operations) word m.state (memory_of k))
-    → (answer_of plain_operations (thread_accesses (job_loads k.vector.images) k.vector.thread) word m.state (space_in seen k) ≡ Err (Address m.state.place))
+pub answer_refused : (k : Kept) (seen : List Event) → HasSeen k.vector seen
+    → (word : ℕ) (m m' : Standing ℕ Bool) (k' : Kept) → shape_of k' ≡ shape_of k
+    → Answers false m (memory_of k) m' (memory_of k')
+    (answer_of plain_operations (range_accesses plain_operations) word m.state (memory_of k))
+    → (answer_of plain_operations (thread_accesses (job_loads k.vector.images) k.vector.thread) word m.state
+    (space_in seen k) ≡ Err (Address m.state.place))
     × (space_in seen k' ≡ space_in seen k)
 answer_refused k seen has word m m' k' shape answers = (
-  refused-from (image-of k seen has word m.state) (over-space k seen has word m.state) (space_in seen k) m.state.place (over-is k seen has word m.state)
+  refused-from (image-of k seen has word m.state) (over-space k seen has word m.state) (space_in seen k) m.state.place
+      (over-is k seen has word m.state)
       (subst IsErr (range-is k seen has word m.state) answers.0),
   sym (space_is k k' seen (space_in seen k) has shape refl (answers.2 ∙ memory_is k seen has)),
 )

@@ -4,7 +4,7 @@ use Rattle.std.specs.Prelude.{if◌then◌else◌}
 use Rattle.std.specs.List.{find}
 use Rattle.guest_arithmetic.specs.Plain.{plain_operations}
 use Rattle.guest_operands.specs.declared.stop.Stop.TheVariants.{Address}
-use Rattle.guest_operands.specs.Ranges.{range_accesses}
+use Rattle.guest_operands.specs.RangeLaws.{range_accesses}
 use Rattle.guest_machine.specs.Machine.{Answers, Standing, answer_of}
 use Rattle.guest_machine.specs.Run.{Goes, Looks, Next}
 use Rattle.loaded_modules.specs.declared.instance.Instance.{Instance}
@@ -26,8 +26,10 @@ module _ (m : Standing ℕ Bool) (k : Kept) where
   abbrev next-of : List Event → Option Asked → Option Asked → Next Thread
   next-of seen asked wanted = asked_next loads k.vector.thread (held_at seen m.state asked k) wanted
 
-  next-is : (seen : List Event) (asked : Option Asked) → HasSeen k.vector seen → (wanted : Option Asked) → asked_in k m.state ≡ wanted
-      → next-of seen asked (asked_at loads k.vector.thread (held_at seen m.state asked k).after) ≡ next-of seen asked wanted
+  next-is : (seen : List Event) (asked : Option Asked) → HasSeen k.vector seen → (wanted : Option Asked)
+      → asked_in k m.state ≡ wanted
+      → next-of seen asked (asked_at loads k.vector.thread (held_at seen m.state asked k).after)
+      ≡ next-of seen asked wanted
   next-is seen asked has wanted e = ap (next-of seen asked) (asked_is k seen has m.state ∙ e)
 
   -- where no live instance asks, the access is refused
@@ -50,7 +52,8 @@ module _ (m : Standing ℕ Bool) (k : Kept) where
       still = λ seen has. refl;
       next = λ seen asked has. next-is seen asked has (Some wanted) asks
           ∙ ap (λ b. if b then found_at_once loads k.vector.thread wanted (held_at seen m.state asked k)
-          (find (λ (x : Instance). x.id == wanted.id) (instances loads seen)) else Looks (held_at seen m.state (Some wanted) k)) late;
+          (find (λ (x : Instance). x.id == wanted.id) (instances loads seen))
+          else Looks (held_at seen m.state (Some wanted) k)) late;
     }
 
     module _ (early : is_startup_id loads wanted.id ≡ true) where
@@ -60,7 +63,8 @@ module _ (m : Standing ℕ Bool) (k : Kept) where
           ≡ found_at_once loads k.vector.thread wanted (held_at seen m.state asked k) found
       at-once seen asked has found is = next-is seen asked has (Some wanted) asks
           ∙ ap (λ b. if b then found_at_once loads k.vector.thread wanted (held_at seen m.state asked k)
-          (find (λ (x : Instance). x.id == wanted.id) (instances loads seen)) else Looks (held_at seen m.state (Some wanted) k)) early
+          (find (λ (x : Instance). x.id == wanted.id) (instances loads seen))
+          else Looks (held_at seen m.state (Some wanted) k)) early
           ∙ ap (λ live. found_at_once loads k.vector.thread wanted (held_at seen m.state asked k)
           (find (λ (x : Instance). x.id == wanted.id) live)) (live_seen k seen has)
           ∙ ap (found_at_once loads k.vector.thread wanted (held_at seen m.state asked k)) is
@@ -76,13 +80,15 @@ module _ (m : Standing ℕ Bool) (k : Kept) where
         next = λ seen asked has. at-once seen asked has None none;
       }
 
-      module _ (x : Instance) (is : find (λ (x : Instance). x.id == wanted.id) (live_in k.vector.images k.vector.past) ≡ Some x)
+      module _ (x : Instance)
+          (is : find (λ (x : Instance). x.id == wanted.id) (live_in k.vector.images k.vector.past) ≡ Some x)
           (m' : Standing ℕ Bool) (k' : Kept) (shape : shape_of k' ≡ shape_of k) where
         abbrev word : ℕ
         word = answer_word loads k.vector.thread wanted x
 
         -- it is answered
-        pub is_answered : Answers true m (memory_of k) m' (memory_of k') (answer_of plain_operations (range_accesses plain_operations) word m.state (memory_of k))
+        pub is_answered : Answers true m (memory_of k) m' (memory_of k')
+            (answer_of plain_operations (range_accesses plain_operations) word m.state (memory_of k))
             → AnswersLook m k None m' k'
         is_answered made = record {
           shape = shape;
@@ -90,12 +96,14 @@ module _ (m : Standing ℕ Bool) (k : Kept) where
           clean = tt;
           still = λ seen has. tt;
           next = λ seen asked has. at-once seen asked has (Some x) is
-              ∙ ap (goes_answered loads k.vector.thread (held_at seen m.state asked k)) (answer_made k seen has word m m' k' shape made)
+              ∙ ap (goes_answered loads k.vector.thread (held_at seen m.state asked k))
+              (answer_made k seen has word m m' k' shape made)
               ∙ ap Goes (held_after seen m.state m'.state asked k k' shape);
         }
 
         -- or the return is refused
-        pub is_refused : Answers false m (memory_of k) m' (memory_of k') (answer_of plain_operations (range_accesses plain_operations) word m.state (memory_of k))
+        pub is_refused : Answers false m (memory_of k) m' (memory_of k')
+            (answer_of plain_operations (range_accesses plain_operations) word m.state (memory_of k))
             → AnswersLook m k (Some (ran.Over (Address m.state.place))) m' k'
         is_refused refused = record {
           shape = shape;
@@ -103,5 +111,6 @@ module _ (m : Standing ℕ Bool) (k : Kept) where
           clean = tt;
           still = λ seen has. (answer_refused k seen has word m m' k' shape refused).1;
           next = λ seen asked has. at-once seen asked has (Some x) is
-              ∙ ap (goes_answered loads k.vector.thread (held_at seen m.state asked k)) (answer_refused k seen has word m m' k' shape refused).0;
+              ∙ ap (goes_answered loads k.vector.thread (held_at seen m.state asked k))
+              (answer_refused k seen has word m m' k' shape refused).0;
         }

@@ -1,5 +1,6 @@
 -- After the last turn: what the threads said, the whole order, and whose images the events name.
-use Rattle.std.proofs.Common.{◌≡◌, ◌++◌, ◌+◌, ◌*◌, ◌≤◌, ◌<◌, ℕ, Bool, true, false, List, [], ◌∷◌, length, map, Option, Some, None, Result, Ok, Err, refl, sym, ap, ◌∙◌, inl, inr, arith}
+use Rattle.std.proofs.Common.{◌≡◌, ◌++◌, ◌+◌, ◌*◌, ◌≤◌, ◌<◌, ℕ, Bool, true, false, List, [], ◌∷◌, length, map, Option}
+use Rattle.std.proofs.Common.{Some, None, Result, Ok, Err, refl, sym, ap, ◌∙◌, inl, inr, arith}
 use Rattle.std.specs.Prelude.{All, IfOk, if◌then◌else◌, nat_lt, not}
 use Rattle.std.proofs.lemmas.Bool.{and_parts, cases_Bool}
 use Rattle.std.proofs.lemmas.List.{length-map}
@@ -13,9 +14,10 @@ use Rattle.loaded_modules.specs.Images.{JobImages, infos, infos_of, last_offset}
 use Rattle.module_table.specs.declared.events.Event.{Event}
 use Rattle.module_table.specs.declared.events.OpenRefusal.{OpenRefusal}
 use Rattle.module_table.specs.declared.events.OpenRefusal.TheVariants.{Unknown}
-use Rattle.module_table.specs.History.{IsLegal}
+use Rattle.module_table.specs.Past.{IsLegal}
 use Rattle.module_table.specs.Modules.{is_loaded}
-use Rattle.module_table.specs.Past.{Past, accepts, after_one, is_legal, loaded, module_of, open_refusal, released, retained, start}
+use Rattle.module_table.specs.Past.{Past, accepts, after_one, is_legal, loaded, module_of, open_refusal, released}
+use Rattle.module_table.specs.Past.{retained, start}
 use Rattle.module_table.specs.Tables.{IsPast}
 use Rattle.module_table.proofs.Along.{IsKept, kept_step, past_step}
 use Rattle.module_table.proofs.Refusals.{accepts_close, accepts_open, held}
@@ -66,7 +68,8 @@ first_some m job x first = record {
 
 -- ---- images of events
 
-is_late_of : (late is_in : Bool) (rest : Option OpenRefusal) → ◌≡◌ {A = Option OpenRefusal} (if not late then Some Unknown else rest) None → late ≡ true
+is_late_of : (late is_in : Bool) (rest : Option OpenRefusal)
+    → ◌≡◌ {A = Option OpenRefusal} (if not late then Some Unknown else rest) None → late ≡ true
 is_late_of true is_in rest e = refl
 is_late_of false is_in rest e = cc
 
@@ -81,7 +84,8 @@ accepted_within : (p : Past) (e : Event) → IsPast p → accepts p e ≡ true �
 accepted_within p e is accepted = elim (cases_Bool e.opens) [
   | inl opens ↦ late_within p e.image is (open_late p e.image (accepts_open p e accepted opens))
   | inr closes ↦
-      let some : is_loaded (module_of p e.image) ≡ true = used (module_of p e.image).uses (held p e.image (accepts_close p e accepted closes)) in
+      let some : is_loaded (module_of p e.image) ≡ true =
+      used (module_of p e.image).uses (held p e.image (accepts_close p e accepted closes)) in
       loaded_within p e.image is some
 ]
   where
@@ -97,7 +101,8 @@ count_kept n = record {
   released = λ p image long used. set-length p.modules image _ ∙ long;
 }
 
-images_within : (n : ℕ) (p : Past) (events : List Event) → IsPast p → length p.modules ≡ n + 1 → is_legal p events ≡ true
+images_within : (n : ℕ) (p : Past) (events : List Event) → IsPast p → length p.modules ≡ n + 1
+    → is_legal p events ≡ true
     → All (λ e. (1 ≤ e.image) × (e.image ≤ n)) events
 unfolding is_legal
 images_within n p [] is long legal = All-nil (λ (e : Event). (1 ≤ e.image) × (e.image ≤ n))
@@ -140,13 +145,15 @@ module _ (m : JobImages) (job : JobParts) (x y z : Runners) (first : IsFirst m j
   whole_world : Stands m job.fuel (job_world (job_loads m) job.fuel job.lines job.order) z
   unfolding job_world
   whole_world =
-      turns_stand m job.fuel (job.order ++ finishing (4 * job.fuel) 1 job.lines) (job_start plain_operations (job_loads m) job.lines) x z
+      turns_stand m job.fuel (job.order ++ finishing (4 * job.fuel) 1 job.lines)
+      (job_start plain_operations (job_loads m) job.lines) x z
       (first_stands m job x first)
       (takes_both is_over TurnedIn x y z job.order (finishing (4 * job.fuel) 1 job.lines) takes finishes)
 
   pub all_shown : {X : Type 0} (result : Result Shown X) → IfOk result (λ shown. shown ≡ transcript_of z)
       → IfOk result (λ shown. Tells (job_world (job_loads m) job.fuel job.lines job.order) shown)
-  all_shown (Ok shown) is = rw is (stands_shown m job.fuel (job_world (job_loads m) job.fuel job.lines job.order) z whole_world)
+  all_shown (Ok shown) is =
+      rw is (stands_shown m job.fuel (job_world (job_loads m) job.fuel job.lines job.order) z whole_world)
   all_shown (Err why) is = tt
 
   pub all_named : {X : Type 0} (result : Result Shown X) → m.kinds ≡ map (λ image. image.kind) job.images

@@ -1,5 +1,6 @@
 -- One turn: of a thread that has nothing left to do, and of one that has.
-use Rattle.std.proofs.Common.{◌≡◌, ◌+◌, ◌++◌, ℕ, zero, suc, Bool, true, List, [], ◌∷◌, length, drop, Option, Some, None, refl, sym, ap, subst, ◌∙◌, append-nil}
+use Rattle.std.proofs.Common.{◌≡◌, ◌+◌, ◌++◌, ℕ, zero, suc, Bool, true, List, [], ◌∷◌, length, drop, Option, Some, None}
+use Rattle.std.proofs.Common.{refl, sym, ap, subst, ◌∙◌, append-nil}
 use Rattle.std.specs.Prelude.{option_and_then, slice_get, slice_set}
 use Rattle.std.proofs.Math.Seq.{drop-append_seam}
 use Rattle.job_text.specs.declared.thread_lines.Action.{Action}
@@ -13,7 +14,8 @@ use Rattle.module_table.specs.Past.{Past, after, past}
 use Rattle.module_table.specs.Walks.{past-append, seen-past}
 use Rattle.thread_blocks.specs.Held.{Owned, owned_by}
 use Rattle.thread_blocks.specs.JobLoads.{job_loads}
-use Rattle.thread_blocks.specs.JobWorlds.{Shared, data_in, held_in, numbered_lines, shared_turn, with_data, without_data}
+use Rattle.thread_blocks.specs.JobWorlds.{Shared, data_in, held_in, numbered_lines, shared_turn, with_data}
+use Rattle.thread_blocks.specs.JobWorlds.{without_data}
 use Rattle.thread_blocks.specs.Lines.{Line, event_by}
 use Rattle.thread_blocks.specs.RunTime.{Runs, thread_turns}
 use Rattle.thread_blocks.specs.Turns.{Idle, Mid, Phase, Thread, event_of, next_line, turn, with_event}
@@ -48,12 +50,14 @@ module _ (m : JobImages) (fuel : ℕ) (w : Shared ℕ Bool ℕ Line) (x : Runner
   abbrev shared_now : List (Owned ℕ)
   shared_now = shared_of m left_now x.shared.pieces
 
-  module _ (k : ℕ) (r : Run) (t : Thread Runs Line Event) (at_r : slice_get x.runs k ≡ Some r) (at_t : slice_get w.threads k ≡ Some t) where
+  module _ (k : ℕ) (r : Run) (t : Thread Runs Line Event) (at_r : slice_get x.runs k ≡ Some r)
+      (at_t : slice_get w.threads k ≡ Some t) where
     runner : IsRunner m fuel (suc k) w.events r t
     runner = stands.each k r t at_r at_t
 
     module _ (done : ask_of r ≡ Done) where
-      done_behind : Behind m fuel w x stands None k x.shared.registry x.shared.pieces r (without_data (with_data shared_now t)) shared_now
+      done_behind : Behind m fuel w x stands None k x.shared.registry x.shared.pieces r
+          (without_data (with_data shared_now t)) shared_now
       done_behind = record {
         infos_are = refl;
         last_is = refl;
@@ -65,7 +69,8 @@ module _ (m : JobImages) (fuel : ℕ) (w : Shared ℕ Bool ℕ Line) (x : Runner
           thread_is = runner.thread_is;
           images_are = runner.images_are;
           fuel_is = runner.fuel_is;
-          stands = done_stands r t runner.stands done (thread_turns (job_loads m) (suc k) fuel) w.events m left_now x.shared.pieces;
+          stands = done_stands r t runner.stands done
+              (thread_turns (job_loads m) (suc k) fuel) w.events m left_now x.shared.pieces;
           front = runner.front;
           rest = runner.rest;
           events_are = runner.events_are;
@@ -74,13 +79,18 @@ module _ (m : JobImages) (fuel : ℕ) (w : Shared ℕ Bool ℕ Line) (x : Runner
       }
 
       done_world : turned_by (suc k) (Some t)
-          ≡ record { threads = slice_set w.threads k (without_data (with_data shared_now t)); events = w.events; shared = shared_now }
+          ≡ record {
+            threads = slice_set w.threads k (without_data (with_data shared_now t));
+            events = w.events;
+            shared = shared_now;
+          }
       done_world =
           let turns = thread_turns (job_loads m) (suc k) fuel in
           rw (
             stands.shared_is,
             done_turn r t runner.stands done turns w.events m left_now x.shared.pieces,
-            done_adds_none r t runner.stands done turns w.events m left_now x.shared.pieces (event_by (job_loads m) (suc k)),
+            done_adds_none r t runner.stands done turns w.events m left_now x.shared.pieces
+                (event_by (job_loads m) (suc k)),
             done_shared r t runner.stands done turns w.events m left_now x.shared.pieces,
           ) refl
 
@@ -89,9 +99,15 @@ module _ (m : JobImages) (fuel : ℕ) (w : Shared ℕ Bool ℕ Line) (x : Runner
           let same : record { shared = x.shared; runs = slice_set x.runs k r } ≡ x =
           ap (λ runs. record { shared = x.shared; runs = runs }) (set_same x.runs k r at_r) in
           rw done_world
-          (subst (λ y. Stands m fuel (record { threads = slice_set w.threads k (without_data (with_data shared_now t)); events = w.events; shared = shared_now }) y)
+          (subst (λ y. Stands m fuel
+          (record {
+            threads = slice_set w.threads k (without_data (with_data shared_now t));
+            events = w.events;
+            shared = shared_now;
+          }) y)
           same
-          (stands_then m fuel w x stands None k x.shared.registry x.shared.pieces r (without_data (with_data shared_now t)) shared_now done_behind))
+          (stands_then m fuel w x stands None k x.shared.registry x.shared.pieces r
+          (without_data (with_data shared_now t)) shared_now done_behind))
 
   over_stays_at : (k : ℕ) (r : Option Run) → slice_get x.runs k ≡ r → is_none_left is_over r ≡ true
       → Stands m fuel (turned_by (suc k) (slice_get w.threads k)) x
@@ -115,7 +131,8 @@ module _ (m : JobImages) (thread : ℕ) (seen : List Event) where
   event_in line = option_and_then (λ x. event_by (job_loads m) thread x seen) line
 
   by_action : (number image : ℕ) (action : Action)
-      → event_by (job_loads m) thread (record { number = number; told = record { image = image; action = action } }) seen
+      → event_by (job_loads m) thread
+      (record { number = number; told = record { image = image; action = action } }) seen
       ≡ event_to (ask_by number image action)
   unfolding job_loads
   by_action number image (Call symbol a b c) = refl
@@ -123,20 +140,25 @@ module _ (m : JobImages) (thread : ℕ) (seen : List Event) where
   by_action number image Close = refl
   by_action number image (Peek symbol size) = refl
 
-  mid_none : (todo : List Line) (steps : ℕ) (points : List ℕ) (h : Runs) → event_in (next_line todo (Mid steps points h)) ≡ None
+  mid_none : (todo : List Line) (steps : ℕ) (points : List ℕ) (h : Runs)
+      → event_in (next_line todo (Mid steps points h)) ≡ None
   mid_none [] steps points h = refl
   mid_none (line ∷ todo) steps points h = refl
 
-  next_event : (begun : ℕ) (lines : List ThreadLine) (h : Runs) (line : Option ThreadLine) → slice_get lines begun ≡ line
-      → event_in (next_line (numbered_lines (begun + 1) (drop begun lines)) (Idle h)) ≡ event_to (ask_next (begun + 1) line)
+  next_event : (begun : ℕ) (lines : List ThreadLine) (h : Runs) (line : Option ThreadLine)
+      → slice_get lines begun ≡ line
+      → event_in (next_line (numbered_lines (begun + 1) (drop begun lines)) (Idle h))
+      ≡ event_to (ask_next (begun + 1) line)
   next_event begun lines h None at = rw (none_drop lines begun at) refl
   next_event begun lines h (Some line) at =
       rw (at_drop lines begun line at) (by_action (begun + 1) line.image line.action)
 
-  phase_event : (k : Kept) (fuel begun : ℕ) (lines : List ThreadLine) (call : Option Waiting) (todo : List Line) (phase : Phase Runs)
+  phase_event : (k : Kept) (fuel begun : ℕ) (lines : List ThreadLine) (call : Option Waiting) (todo : List Line)
+      (phase : Phase Runs)
       → todo ≡ numbered_lines (begun + 1) (drop begun lines) → PhaseIs k fuel call phase
       → event_in (next_line todo phase) ≡ event_to (ask_now begun lines call)
-  phase_event k fuel begun lines None todo (Idle h) are is = rw are (next_event begun lines h (slice_get lines begun) refl)
+  phase_event k fuel begun lines None todo (Idle h) are is =
+      rw are (next_event begun lines h (slice_get lines begun) refl)
   phase_event k fuel begun lines None todo (Mid steps points h) are is = absurd is
   phase_event k fuel begun lines (Some call) todo (Idle h) are is = absurd is
   phase_event k fuel begun lines (Some call) todo (Mid steps points h) are is = mid_none todo steps points h
@@ -148,9 +170,11 @@ module _ (m : JobImages) (thread : ℕ) (seen : List Event) where
 -- ---- a turn of a runner
 
 -- with the job's images, its fuel and the thread's number named otherwise
-takes_as : (m : JobImages) (fuel thread : ℕ) (r r' : Run) (rest seen : List Event) (d d' : List Piece) (t : Thread Runs Line Event)
+takes_as : (m : JobImages) (fuel thread : ℕ) (r r' : Run) (rest seen : List Event) (d d' : List Piece)
+    (t : Thread Runs Line Event)
     (xs : List (Owned ℕ))
-    → r.kept.vector.images ≡ m → r.kept.vector.thread ≡ thread → r.fuel ≡ fuel → StandsFor r t → TakesTurn r rest d r' d'
+    → r.kept.vector.images ≡ m → r.kept.vector.thread ≡ thread → r.fuel ≡ fuel → StandsFor r t
+    → TakesTurn r rest d r' d'
     → past (infos m) (last_offset m) seen ≡ after r.kept.vector.past rest
     → xs ≡ shared_of m (past (infos m) (last_offset m) seen) d
     → StandsAfter r' d' (with_event seen (event_of (event_by (job_loads m) thread) t seen))
@@ -197,7 +221,8 @@ module _ (m : JobImages) (fuel : ℕ) (w : Shared ℕ Bool ℕ Line) (x : Runner
   leaves = rw (← is.images_are) (rest_leaves r w.events is.front is.rest is.events_are is.has_seen)
 
   after_turn : StandsAfter r' d (with_event w.events adds) then
-  after_turn = takes_as m fuel (suc k) r r' is.rest w.events x.shared.pieces d t w.shared is.images_are is.thread_is is.fuel_is
+  after_turn = takes_as m fuel
+      (suc k) r r' is.rest w.events x.shared.pieces d t w.shared is.images_are is.thread_is is.fuel_is
       is.stands (subst (λ rest. TakesTurn r rest x.shared.pieces r' d) rest_taken turned.takes) leaves stands.shared_is
 
   images_then : r'.kept.vector.images ≡ m
@@ -232,12 +257,15 @@ module _ (m : JobImages) (fuel : ℕ) (w : Shared ℕ Bool ℕ Line) (x : Runner
 
   turn_stands : Stands m fuel (turned_by m fuel w x stands (suc k) (Some t))
       (record { shared = record { registry = h; pieces = d }; runs = slice_set x.runs k r' })
-  turn_stands = stands_then m fuel w x stands adds k h d r' (without_data then) (data_in (owned_by (held_in then.phase))) behind
+  turn_stands = stands_then m fuel w x stands adds k h d r' (without_data then)
+      (data_in (owned_by (held_in then.phase))) behind
 
 pub turned_stands : (m : JobImages) (fuel : ℕ) (w : Shared ℕ Bool ℕ Line) (x : Runners) (k : ℕ) (r : Run)
-    (h : History) (d : List Piece) (r' : Run) → slice_get x.runs k ≡ Some r → Turned x.shared.registry x.shared.pieces r h d r'
+    (h : History) (d : List Piece) (r' : Run) → slice_get x.runs k ≡ Some r
+    → Turned x.shared.registry x.shared.pieces r h d r'
     → Stands m fuel w x
-    → Stands m fuel (job_order m fuel (suc k ∷ []) w) (record { shared = record { registry = h; pieces = d }; runs = slice_set x.runs k r' })
+    → Stands m fuel (job_order m fuel (suc k ∷ []) w)
+    (record { shared = record { registry = h; pieces = d }; runs = slice_set x.runs k r' })
 turned_stands m fuel w x k r h d r' at turned stands =
     let found = beside x.runs w.threads k r stands.count at in
     rw found.1

@@ -1,5 +1,6 @@
 -- What a line comes to that opens or closes its image.
-use Rattle.std.proofs.Common.{◌≡◌, ◌∙◌, ◌+◌, ◌⊎◌, ℕ, Bool, true, false, List, [], ◌∷◌, Option, Some, None, Err, length, refl, sym, ap, subst, inl, inr, arith}
+use Rattle.std.proofs.Common.{◌≡◌, ◌∙◌, ◌+◌, ◌⊎◌, ℕ, Bool, true, false, List, [], ◌∷◌, Option, Some, None, Err, length}
+use Rattle.std.proofs.Common.{refl, sym, ap, subst, inl, inr, arith}
 use Rattle.std.specs.Prelude.{is_some, nat_lt, option_map, if◌then◌else◌}
 use Rattle.std.proofs.lemmas.Bool.{lt-ltb}
 use Rattle.std.proofs.lemmas.List.{get_or-set_same, length-set}
@@ -17,7 +18,8 @@ use Rattle.module_table.specs.declared.events.OpenRefusal.{OpenRefusal}
 use Rattle.module_table.specs.declared.events.Opened.{Opened}
 use Rattle.module_table.specs.History.{unless}
 use Rattle.module_table.specs.Modules.{is_loaded, no_module}
-use Rattle.module_table.specs.Past.{Past, accepts, after_one, close_refusal, is_legal, module_of, open_refusal, opened, retained}
+use Rattle.module_table.specs.Past.{Past, accepts, after_one, close_refusal, is_legal, module_of, open_refusal, opened}
+use Rattle.module_table.specs.Past.{retained}
 use Rattle.module_table.proofs.Steps.{loaded_within}
 use Rattle.transcript_text.specs.declared.outcomes.LineRefusal.{LineRefusal}
 use Rattle.transcript_text.specs.declared.outcomes.Outcome.TheVariants.{Closed as ClosedSo, Opened as OpenedSo, Refused}
@@ -25,7 +27,8 @@ use Rattle.thread_blocks.specs.declared.asked.Asked.{Asked}
 use Rattle.thread_blocks.specs.Held.{loaded_at, loaded as loading, looked, looked_at}
 use Rattle.thread_blocks.specs.Instances.{Loads, instance_at, loaded_instance}
 use Rattle.thread_blocks.specs.JobLoads.{job_loads}
-use Rattle.thread_blocks.specs.Lines.{Line, begun_close, begun_open, event_at, refused_close, refused_open, unless_refused, with_load}
+use Rattle.thread_blocks.specs.Lines.{Line, begun_close, begun_open, event_at, refused_close, refused_open}
+use Rattle.thread_blocks.specs.Lines.{unless_refused, with_load}
 use Rattle.thread_blocks.specs.RunTime.{Runs, shows}
 use Rattle.thread_blocks.specs.Turns.{Answered, Begun, Says as SaysSo, with_last}
 use Rattle.thread_vector.specs.Holding.{IsLeftBy}
@@ -76,58 +79,80 @@ more_loaded : (n : ℕ) → nat_lt 0 (n + 1) ≡ true
 more_loaded n = lt-ltb 0 (n + 1) (omega arith)
 
 -- an image that was opened is loaded
-pub opened_loaded : (images : JobImages) (p : Past) (e : Event) → IsLeftBy images p → accepts p e ≡ true → e.opens ≡ true → is_loaded (module_of (after_one p e) e.image) ≡ true
+pub opened_loaded : (images : JobImages) (p : Past) (e : Event) → IsLeftBy images p → accepts p e ≡ true
+    → e.opens ≡ true → is_loaded (module_of (after_one p e) e.image) ≡ true
 unfolding after_one opened retained
 opened_loaded images p e left accepted opens = elim (shape_of p e (facts images p left).is accepted) [
   | inl keeps ↦
       let m = module_of p e.image in
       let within = (loaded_within p e.image (facts images p left).is keeps.1).0 in
       rw (opens, keeps.1)
-      (ap is_loaded (get_or-set_same p.modules e.image (record m { uses = m.uses + 1 }) no_module within) ∙ more_loaded m.uses)
+      (ap is_loaded (get_or-set_same p.modules e.image (record m { uses = m.uses + 1 }) no_module within)
+      ∙ more_loaded m.uses)
   | inr loads ↦ ap is_loaded loads.0.here
 ]
 
 -- ** the thread's own event
 
-module _ (old mid : Kept) (e : Event) (sees : Sees old e mid) (startups : HasStartups old.vector) (accepted : accepts old.vector.past e ≡ true)
+module _ (old mid : Kept) (e : Event) (sees : Sees old e mid) (startups : HasStartups old.vector)
+    (accepted : accepts old.vector.past e ≡ true)
     (seen : List Event) (state : State ℕ Bool) (asked : Option Asked) (has_seen : HasSeen old.vector seen) where
   pub has_all : HasSeen mid.vector (with_last seen e)
   has_all = seen_with old mid (Some e) seen sees.keeps.images sees.past has_seen
 
   -- what the look leaves
   pub looks : looked (job_loads old.vector.images) old.vector.thread (with_last seen e) (held_at seen state asked old)
-      ≡ held_with (with_last seen e) state asked mid.stack (looked_at (job_loads mid.vector.images) mid.vector.thread (with_last seen e) (owned_of old.vector old.pieces))
+      ≡ held_with (with_last seen e) state asked mid.stack
+      (looked_at (job_loads mid.vector.images) mid.vector.thread (with_last seen e)
+      (owned_of old.vector old.pieces))
   looks =
-      looked_with (job_loads old.vector.images) old.vector.thread seen state asked old.stack (owned_of old.vector old.pieces) (with_last seen e)
-      ∙ ap (λ m. held_with (with_last seen e) state asked old.stack (looked_at (job_loads m) old.vector.thread (with_last seen e) (owned_of old.vector old.pieces))) (sym sees.keeps.images)
-      ∙ ap (λ t. held_with (with_last seen e) state asked old.stack (looked_at (job_loads mid.vector.images) t (with_last seen e) (owned_of old.vector old.pieces))) (sym sees.keeps.thread)
-      ∙ ap (λ s. held_with (with_last seen e) state asked s (looked_at (job_loads mid.vector.images) mid.vector.thread (with_last seen e) (owned_of old.vector old.pieces))) (sym sees.stack)
+      looked_with (job_loads old.vector.images) old.vector.thread seen state asked old.stack
+      (owned_of old.vector old.pieces) (with_last seen e)
+      ∙ ap (λ m. held_with (with_last seen e) state asked old.stack
+      (looked_at (job_loads m) old.vector.thread (with_last seen e) (owned_of old.vector old.pieces)))
+      (sym sees.keeps.images)
+      ∙ ap (λ t. held_with (with_last seen e) state asked old.stack
+      (looked_at (job_loads mid.vector.images) t (with_last seen e) (owned_of old.vector old.pieces)))
+      (sym sees.keeps.thread)
+      ∙ ap (λ s. held_with (with_last seen e) state asked s
+      (looked_at (job_loads mid.vector.images) mid.vector.thread (with_last seen e) (owned_of old.vector old.pieces)))
+      (sym sees.stack)
 
   -- where no instance is new, that is what the code keeps
   pub looks_so : (e.opens ≡ false) ⊎ (is_loaded (module_of old.vector.past e.image) ≡ true)
-      → looked (job_loads old.vector.images) old.vector.thread (with_last seen e) (held_at seen state asked old) ≡ held_at (with_last seen e) state asked mid
+      → looked (job_loads old.vector.images) old.vector.thread (with_last seen e) (held_at seen state asked old)
+      ≡ held_at (with_last seen e) state asked mid
   looks_so why =
       looks
       ∙ ap (held_with (with_last seen e) state asked mid.stack)
-      (see_kept old.vector mid.vector old.pieces (with_last seen e) e sees.keeps.images has_all sees.was sees.left sees.blocks startups sees.past accepted why
+      (see_kept old.vector mid.vector old.pieces
+      (with_last seen e) e sees.keeps.images has_all sees.was sees.left sees.blocks startups sees.past accepted why
       ∙ ap (owned_of mid.vector) (sym sees.pieces))
 
   -- and a load fills the data of the new one
   pub loads_so : (new : Kept) (x : Instance) → is_loaded (module_of old.vector.past e.image) ≡ false
-      → length old.pieces ≡ length old.vector.images.images + 1 → x ≡ loaded_as mid.vector.images mid.vector.past e.image
+      → length old.pieces ≡ length old.vector.images.images + 1
+      → x ≡ loaded_as mid.vector.images mid.vector.past e.image
       → HasData mid (with_piece mid.vector.images x mid.pieces) new
-      → loading (job_loads old.vector.images) old.vector.thread x (looked (job_loads old.vector.images) old.vector.thread (with_last seen e) (held_at seen state asked old))
+      → loading (job_loads old.vector.images) old.vector.thread x
+      (looked (job_loads old.vector.images) old.vector.thread (with_last seen e) (held_at seen state asked old))
       ≡ held_at (with_last seen e) state asked new
   loads_so new x unloaded long is puts =
-      let xs = looked_at (job_loads mid.vector.images) mid.vector.thread (with_last seen e) (owned_of old.vector old.pieces) in
-      let longer : length old.pieces ≡ length mid.vector.images.images + 1 = long ∙ ap (λ m. length m.images + 1) (sym sees.keeps.images) in
+      let xs = looked_at (job_loads mid.vector.images) mid.vector.thread (with_last seen e)
+      (owned_of old.vector old.pieces) in
+      let longer : length old.pieces ≡ length mid.vector.images.images + 1 = long
+      ∙ ap (λ m. length m.images + 1) (sym sees.keeps.images) in
       ap (loading (job_loads old.vector.images) old.vector.thread x) looks
       ∙ loaded_with (job_loads old.vector.images) old.vector.thread (with_last seen e) state asked mid.stack xs x
-      ∙ ap (λ m. held_with (with_last seen e) state asked mid.stack (loaded_at (job_loads m) old.vector.thread (with_last seen e) x xs)) (sym sees.keeps.images)
-      ∙ ap (λ t. held_with (with_last seen e) state asked mid.stack (loaded_at (job_loads mid.vector.images) t (with_last seen e) x xs)) (sym sees.keeps.thread)
-      ∙ ap (λ y. held_with (with_last seen e) state asked mid.stack (loaded_at (job_loads mid.vector.images) mid.vector.thread (with_last seen e) y xs)) is
+      ∙ ap (λ m. held_with (with_last seen e) state asked mid.stack
+      (loaded_at (job_loads m) old.vector.thread (with_last seen e) x xs)) (sym sees.keeps.images)
+      ∙ ap (λ t. held_with (with_last seen e) state asked mid.stack
+      (loaded_at (job_loads mid.vector.images) t (with_last seen e) x xs)) (sym sees.keeps.thread)
+      ∙ ap (λ y. held_with (with_last seen e) state asked mid.stack
+      (loaded_at (job_loads mid.vector.images) mid.vector.thread (with_last seen e) y xs)) is
       ∙ ap (held_with (with_last seen e) state asked mid.stack)
-      (load_kept old.vector mid.vector old.pieces (with_last seen e) e sees.keeps.images has_all sees.was sees.left sees.blocks startups sees.past accepted unloaded longer)
+      (load_kept old.vector mid.vector old.pieces
+      (with_last seen e) e sees.keeps.images has_all sees.was sees.left sees.blocks startups sees.past accepted unloaded longer)
       ∙ rw (puts.data_is, puts.vector, puts.stack, is, sees.pieces) refl
 
 -- ** closes
@@ -137,7 +162,8 @@ abbrev own_event : Kept → Line → Bool → Event
 own_event k line opens = event_at k.vector.thread line.number opens line.told.image
 
 pub close_refused : (k : Kept) (line : Line) (answer : Closed) (said : LineRefusal) (refusal : Option CloseRefusal)
-    → close_refusal k.vector.past line.told.image ≡ refusal → Err said ≡ unless (option_map refused_close refusal) answer
+    → close_refusal k.vector.past line.told.image ≡ refusal
+    → Err said ≡ unless (option_map refused_close refusal) answer
     → BeginsClose line k (Says (Refused said)) k
 close_refused k line answer said None none is = absurd cc
 close_refused k line answer said (Some why) some is =
@@ -145,14 +171,16 @@ close_refused k line answer said (Some why) some is =
     subst (λ x. BeginsClose line k (Says (Refused x)) k) (sym same)
     (rw some (over_at_once _ k (Refused (refused_close why)) (λ seen h has_seen. refl)))
 
-pub close_begins : (old new : Kept) (line : Line) → close_refusal old.vector.past line.told.image ≡ None → HasStartups old.vector
+pub close_begins : (old new : Kept) (line : Line) → close_refusal old.vector.past line.told.image ≡ None
+    → HasStartups old.vector
     → Sees old (own_event old line false) new → BeginsClose line old (Says ClosedSo) new
 close_begins old new line none startups sees = rw none (record {
   keeps = sees.keeps;
   fresh = tt;
   past = sees.past;
   begins = λ seen state asked has_seen. ap (SaysSo (Answered ClosedSo))
-      (looks_so old new (own_event old line false) sees startups (close_accepts old.vector.past _ refl none) seen state asked has_seen (inl refl));
+      (looks_so old new (own_event old line false) sees startups
+      (close_accepts old.vector.past _ refl none) seen state asked has_seen (inl refl));
 })
 
 -- ** opens
@@ -188,13 +216,15 @@ module _ (old mid : Kept) (line : Line) (sees : Sees old (own_event old line tru
       ap (λ p. is_loaded (module_of p line.told.image)) sees.past
       ∙ opened_loaded old.vector.images old.vector.past (own_event old line true) sees.was accepted refl
 
-  found_then : loaded_instance (infos mid.vector.images) line.told.image (module_of mid.vector.past line.told.image) ≡ Some x
+  found_then : loaded_instance (infos mid.vector.images) line.told.image (module_of mid.vector.past line.told.image)
+      ≡ Some x
   unfolding x
   found_then = instance_is mid.vector.images mid.vector.past line.told.image ∙ rw loaded_then refl
 
   number_then : (module_of (opened old.vector.past line.told.image) line.told.image).instance ≡ x.number
   unfolding x
-  number_then = ap (λ p. (module_of p line.told.image).instance) (sym (sees.past ∙ opens_past old.vector.past old.vector.thread line.number line.told.image))
+  number_then = ap (λ p. (module_of p line.told.image).instance)
+      (sym (sees.past ∙ opens_past old.vector.past old.vector.thread line.number line.told.image))
 
   module _ (seen : List Event) (state : State ℕ Bool) (asked : Option Asked) (has_seen : HasSeen old.vector seen) where
     l : Loads ℕ
@@ -205,20 +235,26 @@ module _ (old mid : Kept) (line : Line) (sees : Sees old (own_event old line tru
         (with_load plain_operations l (shows l old.vector.thread) old.vector.thread was o
         (looked l old.vector.thread (with_last seen (own_event old line true)) (held_at seen state asked old)))
 
-    begun_at_once : begun_open plain_operations (job_loads old.vector.images) (shows (job_loads old.vector.images) old.vector.thread) old.vector.thread line seen (held_at seen state asked old) None
+    begun_at_once : begun_open plain_operations (job_loads old.vector.images)
+        (shows (job_loads old.vector.images) old.vector.thread) old.vector.thread line seen
+        (held_at seen state asked old) None
         ≡ at_once (is_loaded (module_of old.vector.past line.told.image)) (Some x)
     unfolding l at_once
     begun_at_once =
         let now = with_last seen (own_event old line true) in
-        ap (λ p. at_once (is_loaded (module_of p line.told.image)) (instance_at l now line.told.image)) (left_is old seen has_seen)
+        ap (λ p. at_once (is_loaded (module_of p line.told.image)) (instance_at l now line.told.image))
+        (left_is old seen has_seen)
         ∙ ap (at_once (is_loaded (module_of old.vector.past line.told.image)))
         (ap (λ m. instance_at (job_loads m) now line.told.image) (sym sees.keeps.images)
-        ∙ found_at mid now (has_all old mid (own_event old line true) sees startups accepted seen state asked has_seen) line.told.image
+        ∙ found_at mid now (has_all old mid
+        (own_event old line true) sees startups accepted seen state asked has_seen) line.told.image
         ∙ found_then)
 
-    by_was : (new : Kept) (was : Bool) → is_loaded (module_of old.vector.past line.told.image) ≡ was → length old.pieces ≡ length old.vector.images.images + 1
+    by_was : (new : Kept) (was : Bool) → is_loaded (module_of old.vector.past line.told.image) ≡ was
+        → length old.pieces ≡ length old.vector.images.images + 1
         → LoadsNew was (Some x) mid new
-        → at_once was (Some x) ≡ SaysSo (Answered (OpenedSo x.number)) (held_at (with_last seen (own_event old line true)) state asked new)
+        → at_once was (Some x) ≡ SaysSo (Answered (OpenedSo x.number))
+        (held_at (with_last seen (own_event old line true)) state asked new)
     unfolding l at_once x
     by_was new true is long same =
         ap (SaysSo (Answered (OpenedSo x.number)))
@@ -230,33 +266,44 @@ module _ (old mid : Kept) (line : Line) (sees : Sees old (own_event old line tru
 
     opens_so : (new : Kept) → length old.pieces ≡ length old.vector.images.images + 1
         → LoadsNew (is_loaded (module_of old.vector.past line.told.image)) (Some x) mid new
-        → begun_open plain_operations (job_loads old.vector.images) (shows (job_loads old.vector.images) old.vector.thread) old.vector.thread line seen (held_at seen state asked old) None
+        → begun_open plain_operations (job_loads old.vector.images)
+        (shows (job_loads old.vector.images) old.vector.thread) old.vector.thread line seen
+        (held_at seen state asked old) None
         ≡ SaysSo (Answered (OpenedSo x.number)) (held_at (with_last seen (own_event old line true)) state asked new)
-    opens_so new long load = begun_at_once ∙ by_was new (is_loaded (module_of old.vector.past line.told.image)) refl long load
+    opens_so new long load = begun_at_once
+        ∙ by_was new (is_loaded (module_of old.vector.past line.told.image)) refl long load
 
 length_loaded : (m : JobImages) (x : Instance) (d : List Piece) → length (with_piece m x d) ≡ length d
 unfolding with_piece
 length_loaded m x d = length-set d x.image _
 
-load_same : (was : Bool) (x : Instance) (old new : Kept) → LoadsNew was (Some x) old new → (new.vector ≡ old.vector) × (length new.pieces ≡ length old.pieces)
+load_same : (was : Bool) (x : Instance) (old new : Kept) → LoadsNew was (Some x) old new
+    → (new.vector ≡ old.vector) × (length new.pieces ≡ length old.pieces)
 load_same true x old new same = (ap (λ k. k.vector) same, ap (λ k. length k.pieces) same)
 load_same false x old new puts = (puts.vector, ap length puts.data_is ∙ length_loaded old.vector.images x old.pieces)
 
-pub open_begins : (old mid new : Kept) (line : Line) (was : Bool) (instance : ℕ) → open_refusal old.vector.past line.told.image ≡ None
+pub open_begins : (old mid new : Kept) (line : Line) (was : Bool) (instance : ℕ)
+    → open_refusal old.vector.past line.told.image ≡ None
     → HasStartups old.vector → length old.pieces ≡ length old.vector.images.images + 1
     → Sees old (own_event old line true) mid
-    → was ≡ is_some (loaded_instance (infos old.vector.images) line.told.image (module_of old.vector.past line.told.image))
-    → LoadsNew was (loaded_instance (infos mid.vector.images) line.told.image (module_of mid.vector.past line.told.image)) mid new
+    → was ≡ is_some (loaded_instance (infos old.vector.images) line.told.image
+    (module_of old.vector.past line.told.image))
+    → LoadsNew was (loaded_instance (infos mid.vector.images) line.told.image
+    (module_of mid.vector.past line.told.image)) mid new
     → instance ≡ (module_of (opened old.vector.past line.told.image) line.told.image).instance
     → BeginsOpen line old (Says (OpenedSo instance)) new
 open_begins old mid new line was instance none startups long sees was_is load gives =
     let found = found_then old mid line sees none startups in
     let was_so : was ≡ is_loaded (module_of old.vector.past line.told.image) =
     was_is ∙ ap is_some (instance_is old.vector.images old.vector.past line.told.image) ∙ was_loaded _ _ in
-    let load : LoadsNew (is_loaded (module_of old.vector.past line.told.image)) (Some (x old mid line sees none startups)) mid new =
+    let load : LoadsNew (is_loaded (module_of old.vector.past line.told.image))
+    (Some (x old mid line sees none startups)) mid new =
     subst (λ o. LoadsNew (is_loaded (module_of old.vector.past line.told.image)) o mid new) found
-    (subst (λ t. LoadsNew t (loaded_instance (infos mid.vector.images) line.told.image (module_of mid.vector.past line.told.image)) mid new) was_so load) in
-    let same = load_same (is_loaded (module_of old.vector.past line.told.image)) (x old mid line sees none startups) mid new load in
+    (subst (λ t. LoadsNew t
+    (loaded_instance (infos mid.vector.images) line.told.image
+    (module_of mid.vector.past line.told.image)) mid new) was_so load) in
+    let same = load_same (is_loaded (module_of old.vector.past line.told.image))
+    (x old mid line sees none startups) mid new load in
     rw none (record {
       keeps = record {
         thread = ap (λ v. v.thread) same.0 ∙ sees.keeps.thread;
@@ -268,31 +315,42 @@ open_begins old mid new line was instance none startups long sees was_is load gi
       past = ap (λ v. v.past) same.0 ∙ sees.past;
       begins = λ seen state asked has_seen.
           opens_so old mid line sees none startups seen state asked has_seen new long load
-          ∙ ap (λ n. SaysSo (Answered (OpenedSo n)) (held_at (with_last seen (own_event old line true)) state asked new))
+          ∙ ap (λ n. SaysSo (Answered (OpenedSo n))
+          (held_at (with_last seen (own_event old line true)) state asked new))
           (sym (gives ∙ number_then old mid line sees none startups));
     })
 
 -- ** lines of each kind
 
 module _ (line : Line) (old new : Kept) (result : Started) where
-  pub call_starts : (symbol : List ℕ) (a b c : ℕ) → line.told.action ≡ Call symbol a b c → BeginsCall line.told.image symbol a b c old result new → Starts line old result new
+  pub call_starts : (symbol : List ℕ) (a b c : ℕ) → line.told.action ≡ Call symbol a b c
+      → BeginsCall line.told.image symbol a b c old result new → Starts line old result new
   call_starts symbol a b c is begins =
       starts_so line old new result None _ begins (λ seen has_seen. rw is refl) (λ seen h has_seen. rw is refl)
 
-  pub peek_starts : (symbol : List ℕ) (size : ℕ) → line.told.action ≡ Peek symbol size → BeginsPeek line symbol size old result new → Starts line old result new
+  pub peek_starts : (symbol : List ℕ) (size : ℕ) → line.told.action ≡ Peek symbol size
+      → BeginsPeek line symbol size old result new → Starts line old result new
   peek_starts symbol size is begins =
       starts_so line old new result None _ begins (λ seen has_seen. rw is refl) (λ seen h has_seen. rw is refl)
 
   pub open_starts : line.told.action ≡ Open → BeginsOpen line old result new → Starts line old result new
   open_starts is begins =
       starts_so line old new result _ _ begins
-      (λ seen has_seen. rw is (ap (λ p. unless_refused (open_refusal p line.told.image) (own_event old line true)) (left_is old seen has_seen)))
+      (λ seen has_seen. rw is
+      (ap (λ p. unless_refused (open_refusal p line.told.image) (own_event old line true))
+      (left_is old seen has_seen)))
       (λ seen h has_seen. rw is
-      (ap (λ p. begun_open plain_operations (job_loads old.vector.images) (shows (job_loads old.vector.images) old.vector.thread) old.vector.thread line seen h (open_refusal p line.told.image)) (left_is old seen has_seen)))
+      (ap (λ p. begun_open plain_operations (job_loads old.vector.images)
+      (shows (job_loads old.vector.images) old.vector.thread) old.vector.thread line seen h
+      (open_refusal p line.told.image)) (left_is old seen has_seen)))
 
   pub close_starts : line.told.action ≡ Close → BeginsClose line old result new → Starts line old result new
   close_starts is begins =
       starts_so line old new result _ _ begins
-      (λ seen has_seen. rw is (ap (λ p. unless_refused (close_refusal p line.told.image) (own_event old line false)) (left_is old seen has_seen)))
+      (λ seen has_seen. rw is
+      (ap (λ p. unless_refused (close_refusal p line.told.image) (own_event old line false))
+      (left_is old seen has_seen)))
       (λ seen h has_seen. rw is
-      (ap (λ p. begun_close plain_operations (job_loads old.vector.images) (shows (job_loads old.vector.images) old.vector.thread) old.vector.thread line seen h (close_refusal p line.told.image)) (left_is old seen has_seen)))
+      (ap (λ p. begun_close plain_operations (job_loads old.vector.images)
+      (shows (job_loads old.vector.images) old.vector.thread) old.vector.thread line seen h
+      (close_refusal p line.told.image)) (left_is old seen has_seen)))

@@ -43,7 +43,8 @@ stay_fit = record {
     images = some.images;
     fuel = some.fuel;
     world = job_order some.images some.fuel (suc k ∷ []) some.world;
-    stands = turned_stands some.images some.fuel some.world (record { shared = s; runs = runs }) k r s'.registry s'.pieces
+    stands = turned_stands some.images some.fuel some.world
+        (record { shared = s; runs = runs }) k r s'.registry s'.pieces
         r' at turned some.stands;
   };
 }

@@ -1,5 +1,6 @@
 -- Where no image has data, the turn with the shared data in a thread's hands is one that the thread takes alone.
-use Rattle.std.proofs.Common.{◌≡◌, ◌∙◌, ◌+◌, ◌-◌, ◌++◌, ℕ, Bool, false, List, [], ◌∷◌, length, Option, Some, None, refl, sym, ap, subst, append-nil}
+use Rattle.std.proofs.Common.{◌≡◌, ◌∙◌, ◌+◌, ◌-◌, ◌++◌, ℕ, Bool, false, List, [], ◌∷◌, length, Option, Some, None, refl}
+use Rattle.std.proofs.Common.{sym, ap, subst, append-nil}
 use Rattle.std.specs.Prelude.{drop, slice_get}
 use Rattle.std.proofs.lemmas.List.{drop_more}
 use Rattle.guest_arithmetic.specs.Plain.{plain_operations}
@@ -25,7 +26,8 @@ use Rattle.thread_space.specs.Kept.{Kept, blocks_of, shared_of}
 use Rattle.thread_space.proofs.Owners.{owned_again}
 use Rattle.job_turns.specs.Alone.{StandsAlone, TakesOwnTurn, has_data}
 use Rattle.job_turns.specs.Asking.{ask_next}
-use Rattle.job_turns.specs.Standing.{IsGoing, IsMid, PhaseIs, Run, StandsAfter, StandsFor, TakesTurn, Waiting, ask_now, ask_of, waits_at}
+use Rattle.job_turns.specs.Standing.{IsGoing, IsMid, PhaseIs, Run, StandsAfter, StandsFor, TakesTurn, Waiting, ask_now}
+use Rattle.job_turns.specs.Standing.{ask_of, waits_at}
 use Rattle.job_turns.proofs.Dataless.{none_shared, shares_none}
 use Rattle.job_turns.proofs.TurnsTaken.{owned_put}
 use Rattle.job_turns.proofs.WholeTurns.{going_within}
@@ -43,7 +45,8 @@ module _ (l : Loads ℕ) (thread fuel : ℕ) where
   same_look : (seen : List Event) (h : Runs) → looked l thread seen (in_hands h) ≡ looked l thread seen h
   same_look seen h =
       ap (λ xs. record {
-        after = left h.after.state (record { seen = seen; stack = h.after.memory.stack; own = ranges_in (looked_at l thread seen xs) });
+        after = left h.after.state
+            (record { seen = seen; stack = h.after.memory.stack; own = ranges_in (looked_at l thread seen xs) });
         owners = owners_of (looked_at l thread seen xs);
         asked = h.asked;
       }) (owned_put h (owned_by h ++ []) ∙ append-nil (owned_by h))
@@ -98,12 +101,16 @@ module _ (l : Loads ℕ) (none : HasNoData l) (thread fuel : ℕ) where
     holds = look_keeps x keeps x.fuel todo said seen (length seen ∷ []) (x.begin line seen h) (keeps.begin line seen h);
   }
   same_turn [] (Mid steps points h) said old seen moves = record {
-    same = ap (λ g. after_look x (steps - 1) [] said seen (with_last points (length seen)) (resume_line l thread seen g)) moves;
-    holds = look_keeps x keeps (steps - 1) [] said seen (with_last points (length seen)) (x.resume seen h) (keeps.resume seen h);
+    same = ap (λ g. after_look x (steps - 1) [] said seen (with_last points (length seen))
+        (resume_line l thread seen g)) moves;
+    holds = look_keeps x keeps (steps - 1) [] said seen (with_last points (length seen)) (x.resume seen h)
+        (keeps.resume seen h);
   }
   same_turn (line ∷ todo) (Mid steps points h) said old seen moves = record {
-    same = ap (λ g. after_look x (steps - 1) (line ∷ todo) said seen (with_last points (length seen)) (resume_line l thread seen g)) moves;
-    holds = look_keeps x keeps (steps - 1) (line ∷ todo) said seen (with_last points (length seen)) (x.resume seen h) (keeps.resume seen h);
+    same = ap (λ g. after_look x (steps - 1) (line ∷ todo) said seen (with_last points (length seen))
+        (resume_line l thread seen g)) moves;
+    holds = look_keeps x keeps (steps - 1) (line ∷ todo) said seen (with_last points (length seen)) (x.resume seen h)
+        (keeps.resume seen h);
   }
 
 -- ** runners
@@ -138,17 +145,21 @@ module _ (old new : Run) (events : List Event) (d d' : List Piece) (none : has_d
   shared_then = shared_of old.kept.vector.images (after old.kept.vector.past events) d
 
   module _ (t : Ours) (seen now : List Event) (stands : StandsFor old t) where
-    is_same : IsSameTurn (job_loads old.kept.vector.images) (shares_none old.kept.vector.images none) old.kept.vector.thread
+    is_same : IsSameTurn (job_loads old.kept.vector.images)
+        (shares_none old.kept.vector.images none) old.kept.vector.thread
         old.fuel t.todo t.phase t.said t.seen seen
-    is_same = same_turn (job_loads old.kept.vector.images) (shares_none old.kept.vector.images none) old.kept.vector.thread
+    is_same = same_turn (job_loads old.kept.vector.images)
+        (shares_none old.kept.vector.images none) old.kept.vector.thread
         old.fuel t.todo t.phase t.said t.seen seen (moves_of old old.call t.todo t.phase stands.todo stands.phase going)
 
     is_alone : turn turns_of (with_data shared_then t) seen ≡ turn turns_of t seen
     is_alone =
-        ap (λ xs. turn turns_of (with_data xs t) seen) (none_shared old.kept.vector.images none (after old.kept.vector.past events) d)
+        ap (λ xs. turn turns_of (with_data xs t) seen)
+        (none_shared old.kept.vector.images none (after old.kept.vector.past events) d)
         ∙ is_same.same
 
-    alone : StandsAfter new d' now (turn turns_of (with_data shared_then t) seen) → StandsAlone new now (turn turns_of t seen)
+    alone : StandsAfter new d' now (turn turns_of (with_data shared_then t) seen)
+        → StandsAlone new now (turn turns_of t seen)
     alone shared =
         let own = subst (λ (u : Ours). StandsAfter new d' now u) is_alone shared in
         record {

@@ -50,7 +50,8 @@ module _ (x : Stepping At) (asks : Thread → At → Next Thread) where
     go_on-on n h (Goes at) e rest = rest (with-after h at) ∙ on-again h at (run x n at)
     go_on-on n h (Ends stop) e rest = refl
     go_on-on n h (Looks at) e rest = let P : At → Type 0 =
-        λ a. go_on (suc n) (with-after h a) (run steps n) (asks (with-after h a) at) ≡ go_on (suc n) (with-after h at) (run steps n) (asks (with-after h at) at) in
+        λ a. go_on (suc n) (with-after h a) (run steps n) (asks (with-after h a) at)
+        ≡ go_on (suc n) (with-after h at) (run steps n) (asks (with-after h at) at) in
         subst P (stays h.after at e) refl
 
     -- the law
@@ -63,7 +64,8 @@ module _ (x : Stepping At) (asks : Thread → At → Next Thread) where
 -- ** a thread
 
 module _ (l : Loads ℕ) (thread : ℕ) where
-  pub runs_on : (n : ℕ) (h : Thread) → run (thread_steps l thread) n h ≡ goes_on l thread h (run (bare l thread) n h.after)
+  pub runs_on : (n : ℕ) (h : Thread)
+      → run (thread_steps l thread) n h ≡ goes_on l thread h (run (bare l thread) n h.after)
   unfolding thread_steps
   runs_on n h = runs-through (bare l thread) (λ h at. asked_next l thread h (asked_at l thread at))
       (machine_stays plain_operations (thread_accesses l thread) no_field) n h

@@ -1,10 +1,12 @@
 -- What stands for the definition's threads still stands for them once a turn was put in.
-use Rattle.std.proofs.Common.{◌≡◌, ◌++◌, ℕ, suc, Bool, List, [], ◌∷◌, length, Option, Some, None, sym, ◌∙◌, append_assoc}
+use Rattle.std.proofs.Common.{◌≡◌, ◌++◌, ℕ, suc, Bool, List, [], ◌∷◌, length, Option, Some, None, sym, ◌∙◌}
+use Rattle.std.proofs.Common.{append_assoc}
 use Rattle.std.specs.Prelude.{slice_set}
 use Rattle.loaded_modules.specs.Images.{JobImages, infos, last_offset}
 use Rattle.module_data.specs.Pieces.{Piece}
 use Rattle.module_table.specs.declared.events.Event.{Event}
-use Rattle.module_table.specs.History.{History, IsLegal}
+use Rattle.module_table.specs.History.{History}
+use Rattle.module_table.specs.Past.{IsLegal}
 use Rattle.module_table.specs.Past.{past}
 use Rattle.thread_blocks.specs.Held.{Owned}
 use Rattle.thread_blocks.specs.JobWorlds.{Shared}
@@ -35,12 +37,14 @@ runner_grows m fuel thread events e r t is = record {
   has_seen = is.has_seen;
 }
 
-module _ (m : JobImages) (fuel : ℕ) (w : Shared ℕ Bool ℕ Line) (x : Runners) (stands : Stands m fuel w x) (e : Option Event) where
+module _ (m : JobImages) (fuel : ℕ) (w : Shared ℕ Bool ℕ Line) (x : Runners) (stands : Stands m fuel w x)
+    (e : Option Event) where
   abbrev events_then : List Event
   events_then = with_event w.events e
 
   -- what is behind the turn of thread k
-  pub record Behind (k : ℕ) (h : History) (d : List Piece) (r : Run) (t : Thread Runs Line Event) (shared : List (Owned ℕ)) : Type 0 where
+  pub record Behind (k : ℕ) (h : History) (d : List Piece) (r : Run) (t : Thread Runs Line Event)
+      (shared : List (Owned ℕ)) : Type 0 where
     pub infos_are : h.infos ≡ x.shared.registry.infos
     pub last_is : h.last_offset ≡ x.shared.registry.last_offset
     pub events_are : h.events ≡ events_then
@@ -55,7 +59,8 @@ module _ (m : JobImages) (fuel : ℕ) (w : Shared ℕ Bool ℕ Line) (x : Runner
   abbrev then : ℕ → History → List Piece → Run → Runners
   then k h d r = record { shared = record { registry = h; pieces = d }; runs = slice_set x.runs k r }
 
-  pub stands_then : (k : ℕ) (h : History) (d : List Piece) (r : Run) (t : Thread Runs Line Event) (shared : List (Owned ℕ))
+  pub stands_then : (k : ℕ) (h : History) (d : List Piece) (r : Run) (t : Thread Runs Line Event)
+      (shared : List (Owned ℕ))
       → Behind k h d r t shared → Stands m fuel (world_then k t shared) (then k h d r)
   stands_then k h d r t shared behind =
       let infos_are = behind.infos_are ∙ stands.infos_are in

@@ -1,7 +1,9 @@
 -- What a line's first look, a run and a resumed call do, together.
-use Rattle.std.proofs.Common.{◌≡◌, ℕ, zero, suc, ◌+◌, ◌-◌, ◌*◌, ◌<◌, ◌≤◌, Bool, List, [], ◌∷◌, length, Option, Some, None, refl, sym, ap, subst, ◌∙◌, arith}
+use Rattle.std.proofs.Common.{◌≡◌, ℕ, zero, suc, ◌+◌, ◌-◌, ◌*◌, ◌<◌, ◌≤◌, Bool, List, [], ◌∷◌, length, Option, Some}
+use Rattle.std.proofs.Common.{None, refl, sym, ap, subst, ◌∙◌, arith}
 use Rattle.guest_machine.specs.Machine.{Standing}
-use Rattle.guest_machine.specs.Run.{Next, Goes, Ends, Looks, Outcome, Ended, Stepping, Waits as WaitsAt, go_on, over_or, run}
+use Rattle.guest_machine.specs.Run.{Next, Goes, Ends, Looks, Outcome, Ended, Stepping, Waits as WaitsAt, go_on, over_or}
+use Rattle.guest_machine.specs.Run.{run}
 use Rattle.guest_operands.specs.declared.state.State.{State}
 use Rattle.guest_operands.specs.declared.stop.Stop.{Stop}
 use Rattle.loaded_modules.specs.Images.{JobImages, infos, last_offset}
@@ -14,7 +16,8 @@ use Rattle.thread_blocks.specs.JobLoads.{job_loads}
 use Rattle.thread_blocks.specs.Lines.{Line, event_by}
 use Rattle.thread_blocks.specs.MachineTurns.{answer_of}
 use Rattle.thread_blocks.specs.RunTime.{Runs, thread_steps, thread_turns}
-use Rattle.thread_blocks.specs.Turns.{Answered, Begun, Calls as CallsOn, Ending, Said, Says as SaysSo, Stopped, after_look, after_run, over_with, with_event}
+use Rattle.thread_blocks.specs.Turns.{Answered, Begun, Calls as CallsOn, Ending, Said, Says as SaysSo, Stopped}
+use Rattle.thread_blocks.specs.Turns.{after_look, after_run, over_with, with_event}
 use Rattle.thread_turns.specs.declared.parts.Started.TheVariants.{Says, Calls}
 use Rattle.job_turns.specs.Running.{Ran, Resumes, RunsOn, outcome_of_run, resumed_as}
 use Rattle.thread_turns.specs.declared.parts.Resumed.{Resumed}
@@ -27,7 +30,8 @@ use Rattle.thread_space.proofs.Owners.{owned_again}
 
 -- ---- a line that is over where the thread keeps this
 
-over_at : (k : Kept) (now : List Event) (state : State ℕ Bool) (asked : Option Asked) (ending : Ending) (outcome : Answer) (points : List ℕ)
+over_at : (k : Kept) (now : List Event) (state : State ℕ Bool) (asked : Option Asked) (ending : Ending)
+    (outcome : Answer) (points : List ℕ)
     (todo : List Line) (said : List Said) (seen : List Event) → answer_of ending ≡ Some outcome
     → IsOver k outcome points now todo said seen (over_with todo said seen points ending (held_at now state asked k))
 over_at k now state asked ending outcome points todo said seen is = record {
@@ -41,7 +45,8 @@ over_at k now state asked ending outcome points todo said seen is = record {
 }
 
 -- what it saw it has seen while nothing of its job changes
-seen_on : (k new : Kept) (seen : List Event) → HasSeen k.vector seen → new.vector.images ≡ k.vector.images → new.vector.past ≡ k.vector.past
+seen_on : (k new : Kept) (seen : List Event) → HasSeen k.vector seen → new.vector.images ≡ k.vector.images
+    → new.vector.past ≡ k.vector.past
     → HasSeen new.vector seen
 seen_on k new seen has_seen images history =
     ap (λ m. past (infos m) (last_offset m) seen) images ∙ has_seen ∙ sym history
@@ -58,7 +63,8 @@ module _ {S : Type 0} (x : Stepping S) where
   over-step n s (Some stop) rest has = tt
   over-step n s None rest has = has
 
-  goes-step : (n : ℕ) (s : S) (next : Next S) → ((t : S) → HasStep (run x n t)) → HasStep (go_on (suc n) s (run x n) next)
+  goes-step : (n : ℕ) (s : S) (next : Next S) → ((t : S) → HasStep (run x n t))
+      → HasStep (go_on (suc n) s (run x n) next)
   goes-step n s (Goes t) rest = rest t
   goes-step n s (Ends stop) rest = tt
   goes-step n s (Looks t) rest = omega arith
@@ -74,7 +80,8 @@ TakenAs (Over stop) m (Waits (machine, asked)) = ⊥
 TakenAs (Waits wanted) m (Over outcome) = ⊥
 TakenAs (Waits wanted) m (Waits (machine, asked)) = (machine ≡ m) × (asked ≡ wanted)
 
-took_run : (limit : ℕ) (result : Ran) (m : Standing ℕ Bool) (taken : Taken) (k : Kept) (now seen : List Event) (asked : Option Asked)
+took_run : (limit : ℕ) (result : Ran) (m : Standing ℕ Bool) (taken : Taken) (k : Kept) (now seen : List Event)
+    (asked : Option Asked)
     (points : List ℕ) (todo : List Line) (said : List Said) → TakenAs result m taken
     → TookAs limit k taken points now todo said seen
     (after_run todo said seen points (outcome_of_run now asked result (limit - m.taken) m.state k))
@@ -84,8 +91,10 @@ took_run limit (Over stop) m (Waits (machine, wanted)) k now seen asked points t
 took_run limit (Waits wanted) m (Over outcome) k now seen asked points todo said is = absurd is
 took_run limit (Waits wanted) m (Waits (machine, asked')) k now seen asked points todo said is = rw (is.0, is.1) refl
 
-waits_steps : (limit : ℕ) (result : Ran) (m : Standing ℕ Bool) (taken : Taken) (k : Kept) (now : List Event) (x : Stepping Runs) (n : ℕ) (s : Runs)
-    → run x n s ≡ outcome_of_run now None result (limit - m.taken) m.state k → TakenAs result m taken → HasStepsLeft limit taken
+waits_steps : (limit : ℕ) (result : Ran) (m : Standing ℕ Bool) (taken : Taken) (k : Kept) (now : List Event)
+    (x : Stepping Runs) (n : ℕ) (s : Runs)
+    → run x n s ≡ outcome_of_run now None result (limit - m.taken) m.state k → TakenAs result m taken
+    → HasStepsLeft limit taken
 waits_steps limit (Over stop) m (Over outcome) k now x n s ends is = tt
 waits_steps limit (Over stop) m (Waits (machine, asked)) k now x n s ends is = absurd is
 waits_steps limit (Waits wanted) m (Over outcome) k now x n s ends is = absurd is
@@ -93,15 +102,24 @@ waits_steps limit (Waits wanted) m (Waits (machine, asked)) k now x n s ends is 
     let has : 1 ≤ limit - m.taken = subst (HasStep x) ends (run_has_step x n s) in
     subst (λ (at : Standing ℕ Bool). at.taken < limit) (sym is.0) (omega arith)
 
-pub runs_to : (limit : ℕ) (m : Standing ℕ Bool) (k : Kept) (result : Ran) (m' : Standing ℕ Bool) (k' : Kept) (taken : Taken)
-    → IsLeftBy k.vector.images k.vector.past → RunsOn limit m k result m' k' → TakenAs result m' taken → RunsTo limit m k taken k'
+pub runs_to : (limit : ℕ) (m : Standing ℕ Bool) (k : Kept) (result : Ran) (m' : Standing ℕ Bool) (k' : Kept)
+    (taken : Taken)
+    → IsLeftBy k.vector.images k.vector.past → RunsOn limit m k result m' k' → TakenAs result m' taken
+    → RunsTo limit m k taken k'
 runs_to limit m k result m' k' taken left on is = record {
-  keeps = record { thread = on.same.thread; images = on.same.images; startups = on.same.startups; pieces = on.same.pieces };
+  keeps = record {
+    thread = on.same.thread;
+    images = on.same.images;
+    startups = on.same.startups;
+    pieces = on.same.pieces;
+  };
   past = on.same.past;
-  steps = waits_steps limit result m' taken k' left.events (thread_steps (job_loads k.vector.images) k.vector.thread) (limit - m.taken)
+  steps = waits_steps limit result m' taken k' left.events (thread_steps (job_loads k.vector.images) k.vector.thread)
+      (limit - m.taken)
       (held_at left.events m.state None k) (on.runs left.events None (sym left.left)) is;
   runs = λ now seen asked points todo said has_seen.
-      let P : Outcome Runs → Type 0 = λ out. TookAs limit k' taken points now todo said seen (after_run todo said seen points out) in
+      let P : Outcome Runs → Type 0 =
+      λ out. TookAs limit k' taken points now todo said seen (after_run todo said seen points out) in
       subst P (sym (on.runs now asked has_seen)) (took_run limit result m' taken k' now seen asked points todo said is);
 }
 
@@ -130,21 +148,28 @@ says_begins fuel line k outcome new starts = record {
       let l = loads_in k in
       let now = with_event seen (event_by l k.vector.thread line seen) in
       let P : Begun Runs → Type 0 = λ b. TookAs (4 * fuel) new (Over outcome) (length seen ∷ []) now todo said seen
-      (after_look (thread_turns l k.vector.thread fuel) (4 * fuel) todo said seen (length seen ∷ []) b) in
-      (facts.0, subst P (sym facts.1) (over_at new now state asked (Answered outcome) outcome (length seen ∷ []) todo said seen refl));
+      (after_look (thread_turns l k.vector.thread fuel) (4 * fuel) todo said seen (length seen ∷ []) b) in (
+        facts.0,
+        subst P (sym facts.1)
+            (over_at new now state asked (Answered outcome) outcome (length seen ∷ []) todo said seen refl),
+      );
 }
 
-calls_took : (fuel : ℕ) (k k1 new : Kept) (m : Standing ℕ Bool) (taken : Taken) (now seen : List Event) (asked : Option Asked)
+calls_took : (fuel : ℕ) (k k1 new : Kept) (m : Standing ℕ Bool) (taken : Taken) (now seen : List Event)
+    (asked : Option Asked)
     (steps : ℕ) (points : List ℕ) (todo : List Line) (said : List Said)
     → RunsTo (4 * fuel) m k1 taken new → HasSeen k1.vector now → steps ≡ 4 * fuel - m.taken
     → k1.vector.images ≡ k.vector.images → k1.vector.thread ≡ k.vector.thread
     → TookAs (4 * fuel) new taken points now todo said seen
-    (after_look (thread_turns (loads_in k) k.vector.thread fuel) steps todo said seen points (CallsOn (held_at now m.state asked k1)))
+    (after_look (thread_turns (loads_in k) k.vector.thread fuel) steps todo said seen points
+    (CallsOn (held_at now m.state asked k1)))
 unfolding thread_turns
 calls_took fuel k k1 new m taken now seen asked steps points todo said runs has_seen left images thread =
-    let P : Outcome Runs → Type 0 = λ out. TookAs (4 * fuel) new taken points now todo said seen (after_run todo said seen points out) in
+    let P : Outcome Runs → Type 0 =
+    λ out. TookAs (4 * fuel) new taken points now todo said seen (after_run todo said seen points out) in
     subst P
-    (run_before k.vector.images k1.vector.images k.vector.thread k1.vector.thread (4 * fuel - m.taken) (held_at now m.state asked k1) images thread
+    (run_before k.vector.images k1.vector.images k.vector.thread k1.vector.thread (4 * fuel - m.taken)
+    (held_at now m.state asked k1) images thread
     ∙ ap (λ n. run (thread_steps (loads_in k) k.vector.thread) n (held_at now m.state asked k1)) (sym left))
     (runs.runs now seen asked points todo said has_seen)
 
@@ -172,11 +197,18 @@ calls_begins fuel line k m k1 new taken starts runs = record {
 
 -- ---- a call that goes on
 
-pub goes_resumes : (fuel : ℕ) (m : Standing ℕ Bool) (asked : Asked) (k : Kept) (m' : Standing ℕ Bool) (k1 new : Kept) (taken : Taken)
-    → m.taken < 4 * fuel → Resumes m k asked resumed.Goes m' k1 → RunsTo (4 * fuel) m' k1 taken new → ResumesTo fuel m asked k taken new
+pub goes_resumes : (fuel : ℕ) (m : Standing ℕ Bool) (asked : Asked) (k : Kept) (m' : Standing ℕ Bool) (k1 new : Kept)
+    (taken : Taken)
+    → m.taken < 4 * fuel → Resumes m k asked resumed.Goes m' k1 → RunsTo (4 * fuel) m' k1 taken new
+    → ResumesTo fuel m asked k taken new
 goes_resumes fuel m asked k m' k1 new taken left resumes runs = record {
   keeps = both_keep k k1 new
-      (record { thread = resumes.same.thread; images = resumes.same.images; startups = resumes.same.startups; pieces = resumes.same.pieces }) runs.keeps;
+      (record {
+        thread = resumes.same.thread;
+        images = resumes.same.images;
+        startups = resumes.same.startups;
+        pieces = resumes.same.pieces;
+      }) runs.keeps;
   steps = runs.steps;
   resumes = λ seen points todo said has_seen.
       let l = loads_in k in
@@ -193,18 +225,25 @@ goes_resumes fuel m asked k m' k1 new taken left resumes runs = record {
     one_more : (limit taken taken' : ℕ) → taken' ≡ taken + 1 → limit - taken - 1 ≡ limit - taken'
     one_more limit taken taken' more = omega arith
 
-pub ends_resumes : (fuel : ℕ) (m : Standing ℕ Bool) (asked : Asked) (k : Kept) (result : Resumed) (m' : Standing ℕ Bool) (new : Kept)
+pub ends_resumes : (fuel : ℕ) (m : Standing ℕ Bool) (asked : Asked) (k : Kept) (result : Resumed) (m' : Standing ℕ Bool)
+    (new : Kept)
     (ending : Ending) (outcome : Answer) → answer_of ending ≡ Some outcome → Resumes m k asked result m' new
     → ((seen : List Event) → resumed_as seen result m'.state new ≡ SaysSo ending (held_at seen m'.state None new))
     → ResumesTo fuel m asked k (Over outcome) new
 ends_resumes fuel m asked k result m' new ending outcome is resumes says = record {
-  keeps = record { thread = resumes.same.thread; images = resumes.same.images; startups = resumes.same.startups; pieces = resumes.same.pieces };
+  keeps = record {
+    thread = resumes.same.thread;
+    images = resumes.same.images;
+    startups = resumes.same.startups;
+    pieces = resumes.same.pieces;
+  };
   steps = tt;
   resumes = λ seen points todo said has_seen.
       let l = loads_in k in
       let P : Begun Runs → Type 0 = λ b. TookAs (4 * fuel) new (Over outcome) points seen todo said seen
       (after_look (thread_turns l k.vector.thread fuel) (4 * fuel - m.taken - 1) todo said seen points b) in (
         seen_on k new seen has_seen resumes.same.images resumes.same.past,
-        subst P (sym (resumes.resumes seen has_seen ∙ says seen)) (over_at new seen m'.state None ending outcome points todo said seen is),
+        subst P (sym (resumes.resumes seen has_seen ∙ says seen))
+            (over_at new seen m'.state None ending outcome points todo said seen is),
       );
 }

@@ -1,5 +1,6 @@
 -- A turn that begins a line, and one that goes on with a call: each leaves a thread that the runner stands for.
-use Rattle.std.proofs.Common.{◌≡◌, ℕ, ◌+◌, ◌-◌, ◌*◌, List, [], ◌∷◌, ◌++◌, length, map, drop, Some, None, refl, sym, ap, subst, ◌∙◌}
+use Rattle.std.proofs.Common.{◌≡◌, ℕ, ◌+◌, ◌-◌, ◌*◌, List, [], ◌∷◌, ◌++◌, length, map, drop, Some, None, refl, sym, ap}
+use Rattle.std.proofs.Common.{subst, ◌∙◌}
 use Rattle.std.specs.Prelude.{option_and_then}
 use Rattle.guest_arithmetic.specs.Plain.{plain_operations}
 use Rattle.job_text.specs.declared.thread_lines.ThreadLine.{ThreadLine}
@@ -40,13 +41,16 @@ module _ (lines : List ThreadLine) (fuel : ℕ) (said : List Printed) (k k1 k2 :
   begun_turn begun line rest before old h begins idle left same =
       let now = with_event seen (event_by (loads_in k1) k1.vector.thread line seen) in
       let facts = begins.begins seen h.after.state h.asked rest before has_seen in
-      let P : Runs → Type 0 = λ held. StandsAfter (run_after lines begun fuel said (length seen ∷ []) taken (emptied k2)) k2.pieces now
+      let P : Runs → Type 0 =
+      λ held. StandsAfter (run_after lines begun fuel said (length seen ∷ []) taken (emptied k2)) k2.pieces now
       (after_look (thread_turns (loads_in k1) k1.vector.thread fuel) (4 * fuel) rest before seen (length seen ∷ [])
-      (begun_by plain_operations (loads_in k1) (shows (loads_in k1) k1.vector.thread) k1.vector.thread line seen held line.told.action)) in
+      (begun_by plain_operations (loads_in k1)
+      (shows (loads_in k1) k1.vector.thread) k1.vector.thread line seen held line.told.action)) in
       subst P (sym (idle_looks h idle))
       (took_stands lines begun fuel said taken k2 (length seen ∷ []) now rest before seen _ facts.1 facts.0 left same)
 
-  pub begins_turn : (begun : ℕ) (line : ThreadLine) (todo : List Line) (phase : Phase Runs) (before : List Said) (old : List Event)
+  pub begins_turn : (begun : ℕ) (line : ThreadLine) (todo : List Line) (phase : Phase Runs) (before : List Said)
+      (old : List Event)
       → BeginsTo fuel (record { number = begun + 1; told = line }) k1 taken k2
       → todo ≡ record { number = begun + 1; told = line } ∷ numbered_lines (begun + 1 + 1) (drop (begun + 1) lines)
       → PhaseIs k fuel None phase → map shown before ≡ map Some said
@@ -55,7 +59,8 @@ module _ (lines : List ThreadLine) (fuel : ℕ) (said : List Printed) (k k1 k2 :
       (turn_at (thread_turns (loads_in k1) k1.vector.thread fuel) todo (changed in_hands phase) before old seen)
   begins_turn begun line todo (Idle h) before old begins is idle same =
       let first : Line = record { number = begun + 1; told = line } in
-      let P : List Line → Type 0 = λ ys. StandsAfter (run_after lines (begun + 1) fuel said (length seen ∷ []) taken (emptied k2)) k2.pieces
+      let P : List Line → Type 0 =
+      λ ys. StandsAfter (run_after lines (begun + 1) fuel said (length seen ∷ []) taken (emptied k2)) k2.pieces
       (with_event seen (option_and_then (λ x. event_by (loads_in k1) k1.vector.thread x seen) (next_line ys (Idle h))))
       (turn_at (thread_turns (loads_in k1) k1.vector.thread fuel) ys (Idle (in_hands h)) before old seen) in
       subst P (sym is) (begun_turn (begun + 1) first _ before old h begins idle refl same)
@@ -64,12 +69,14 @@ module _ (lines : List ThreadLine) (fuel : ℕ) (said : List Printed) (k k1 k2 :
   -- ---- a call that goes on
 
   waits_looks : (before : List Event) (c : Waiting)
-      → looked (loads_in k1) k1.vector.thread seen (record (in_hands (waits_at before c.machine.state c.asked k)) { asked = None })
+      → looked (loads_in k1) k1.vector.thread seen
+      (record (in_hands (waits_at before c.machine.state c.asked k)) { asked = None })
       ≡ held_at seen c.machine.state None k1
   waits_looks before c =
       let h : Runs = record (waits_at before c.machine.state c.asked k) { asked = None } in
       look_held (loads_in k1) k1.vector.thread seen h (owned_by h ++ xs) k1
-      (ap (λ ys. looked_at (loads_in k1) k1.vector.thread seen (ys ++ xs)) (owned_again (blocks_of k.vector)) ∙ at) stack
+      (ap (λ ys. looked_at (loads_in k1) k1.vector.thread seen (ys ++ xs)) (owned_again (blocks_of k.vector))
+      ∙ at) stack
 
   mid_looks : (c : Waiting) (steps : ℕ) (points : List ℕ) (h : Runs) → IsMid k fuel c steps points h
       → looked (loads_in k1) k1.vector.thread seen (record (in_hands h) { asked = None })
@@ -81,7 +88,8 @@ module _ (lines : List ThreadLine) (fuel : ℕ) (said : List Printed) (k k1 k2 :
 
   -- such a turn adds no event
   mid_adds_none : (todo : List Line) (steps : ℕ) (points : List ℕ) (h : Runs)
-      → with_event seen (option_and_then (λ x. event_by (loads_in k1) k1.vector.thread x seen) (next_line todo (Mid steps points h)))
+      → with_event seen (option_and_then (λ x. event_by (loads_in k1) k1.vector.thread x seen)
+      (next_line todo (Mid steps points h)))
       ≡ seen
   mid_adds_none [] steps points h = refl
   mid_adds_none (line ∷ todo) steps points h = refl
@@ -94,10 +102,12 @@ module _ (lines : List ThreadLine) (fuel : ℕ) (said : List Printed) (k k1 k2 :
   mid_turn [] steps points h before old = refl
   mid_turn (line ∷ todo) steps points h before old = refl
 
-  resumed_turn : (begun : ℕ) (c : Waiting) (todo : List Line) (steps : ℕ) (points : List ℕ) (h : Runs) (before : List Said)
+  resumed_turn : (begun : ℕ) (c : Waiting) (todo : List Line) (steps : ℕ) (points : List ℕ) (h : Runs)
+      (before : List Said)
       → ResumesTo fuel c.machine c.asked k1 taken k2 → IsMid k fuel c steps points h
       → todo ≡ numbered_lines (begun + 1) (drop begun lines) → map shown before ≡ map Some said
-      → StandsAfter (run_after lines begun fuel said (with_last c.points (length seen)) taken (emptied k2)) k2.pieces seen
+      → StandsAfter (run_after lines begun fuel said (with_last c.points (length seen)) taken
+      (emptied k2)) k2.pieces seen
       (after_look (thread_turns (loads_in k1) k1.vector.thread fuel) (steps - 1) todo before seen
       (with_last points (length seen)) (resume_line (loads_in k1) k1.vector.thread seen (in_hands h)))
   unfolding resume_line
@@ -105,9 +115,11 @@ module _ (lines : List ThreadLine) (fuel : ℕ) (said : List Printed) (k k1 k2 :
       let facts = resumes.resumes seen (with_last c.points (length seen)) todo before has_seen in
       let asked_is : h.asked ≡ Some c.asked = ap (λ (x : Runs). x.asked) mid.holds in
       rw (mid_looks c steps points h mid, asked_is, mid.steps_left, mid.points_are)
-      (took_stands lines begun fuel said taken k2 (with_last c.points (length seen)) seen todo before seen _ facts.1 facts.0 is same)
+      (took_stands lines begun fuel said taken k2
+      (with_last c.points (length seen)) seen todo before seen _ facts.1 facts.0 is same)
 
-  pub resumes_turn : (begun : ℕ) (c : Waiting) (todo : List Line) (phase : Phase Runs) (before : List Said) (old : List Event)
+  pub resumes_turn : (begun : ℕ) (c : Waiting) (todo : List Line) (phase : Phase Runs) (before : List Said)
+      (old : List Event)
       → ResumesTo fuel c.machine c.asked k1 taken k2
       → todo ≡ numbered_lines (begun + 1) (drop begun lines)
       → PhaseIs k fuel (Some c) phase → map shown before ≡ map Some said

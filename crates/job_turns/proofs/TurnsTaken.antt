@@ -1,5 +1,6 @@
 -- What a turn leaves is what the definitions say, from what its parts do.
-use Rattle.std.proofs.Common.{◌≡◌, ℕ, ◌+◌, ◌-◌, ◌*◌, Bool, List, [], ◌∷◌, ◌++◌, map, drop, Option, Some, None, refl, sym, ap, subst, ◌∙◌}
+use Rattle.std.proofs.Common.{◌≡◌, ℕ, ◌+◌, ◌-◌, ◌*◌, Bool, List, [], ◌∷◌, ◌++◌, map, drop, Option, Some, None, refl}
+use Rattle.std.proofs.Common.{sym, ap, subst, ◌∙◌}
 use Rattle.std.proofs.lemmas.List.{map-append}
 use Rattle.guest_machine.specs.Machine.{Standing}
 use Rattle.job_text.specs.declared.thread_lines.ThreadLine.{ThreadLine}
@@ -45,7 +46,8 @@ module _ (lines : List ThreadLine) (begun fuel : ℕ) (said : List Printed) wher
     said = said;
   }
 
-  over_said : (before : List Said) (points : List ℕ) (ending : Ending) (outcome : Answer) → map shown before ≡ map Some said
+  over_said : (before : List Said) (points : List ℕ) (ending : Ending) (outcome : Answer)
+      → map shown before ≡ map Some said
       → answer_of ending ≡ Some outcome
       → map shown (before ++ record { points = points; ending = ending } ∷ [])
       ≡ map Some (said ++ record { points = points; outcome = outcome } ∷ [])
@@ -59,13 +61,15 @@ module _ (lines : List ThreadLine) (begun fuel : ℕ) (said : List Printed) wher
       → owned_by (with_owned h (blocks_in (owned_by h))) ≡ blocks_of k.vector
   without_shared h k is = owned_put h (blocks_in (owned_by h)) ∙ ap blocks_in is ∙ blocks_of_owned k.vector k.pieces
 
-  pub over_stands : (k : Kept) (outcome : Answer) (points : List ℕ) (now : List Event) (todo : List Line) (before : List Said)
+  pub over_stands : (k : Kept) (outcome : Answer) (points : List ℕ) (now : List Event) (todo : List Line)
+      (before : List Said)
       (seen : List Event) (t : Thread Runs Line Event)
       → IsOver k outcome points now todo before seen t → HasSeen k.vector now
       → todo ≡ numbered_lines (begun + 1) (drop begun lines) → map shown before ≡ map Some said
       → StandsAfter (left_with None (said ++ record { points = points; outcome = outcome } ∷ []) k) k.pieces now t
   over_stands k outcome points now todo before seen t over has_seen rest same =
-      subst (λ x. StandsAfter (left_with None (said ++ record { points = points; outcome = outcome } ∷ []) k) k.pieces now x)
+      subst (λ x. StandsAfter
+      (left_with None (said ++ record { points = points; outcome = outcome } ∷ []) k) k.pieces now x)
       (sym over.is)
       (record {
         stands = record {
@@ -83,7 +87,8 @@ module _ (lines : List ThreadLine) (begun fuel : ℕ) (said : List Printed) wher
 
   -- ---- a call that waits
 
-  pub waits_stands : (k : Kept) (machine : Standing ℕ Bool) (asked : Asked) (points : List ℕ) (now : List Event) (todo : List Line)
+  pub waits_stands : (k : Kept) (machine : Standing ℕ Bool) (asked : Asked) (points : List ℕ) (now : List Event)
+      (todo : List Line)
       (before : List Said) (seen : List Event) (t : Thread Runs Line Event)
       → t ≡ record {
         todo = todo;
@@ -113,7 +118,8 @@ module _ (lines : List ThreadLine) (begun fuel : ℕ) (said : List Printed) wher
         has_seen = has_seen;
       })
 
-pub took_stands : (lines : List ThreadLine) (begun fuel : ℕ) (said : List Printed) (taken : Taken) (k : Kept) (points : List ℕ)
+pub took_stands : (lines : List ThreadLine) (begun fuel : ℕ) (said : List Printed) (taken : Taken) (k : Kept)
+    (points : List ℕ)
     (now : List Event) (todo : List Line) (before : List Said) (seen : List Event) (t : Thread Runs Line Event)
     → TookAs (4 * fuel) k taken points now todo before seen t → HasSeen k.vector now
     → todo ≡ numbered_lines (begun + 1) (drop begun lines) → map shown before ≡ map Some said

@@ -1,5 +1,6 @@
 -- A turn of a runner is one of each thread that it stands for.
-use Rattle.std.proofs.Common.{◌≡◌, ℕ, ◌+◌, ◌<◌, ◌^◌, List, [], ◌∷◌, ◌++◌, length, drop, get_or, Option, Some, None, inl, inr, refl, sym, ap, subst, ◌∙◌}
+use Rattle.std.proofs.Common.{◌≡◌, ℕ, ◌+◌, ◌<◌, ◌^◌, List, [], ◌∷◌, ◌++◌, length, drop, get_or, Option, Some, None, inl}
+use Rattle.std.proofs.Common.{inr, refl, sym, ap, subst, ◌∙◌}
 use native.Mathlib.Numerals.{unary_clauses}
 use Rattle.std.specs.Prelude.{slice_get}
 use Rattle.std.proofs.lemmas.List.{drop_more}
@@ -34,7 +35,8 @@ use Rattle.job_turns.proofs.TurnsBegun.{begins_turn, resumes_turn}
 
 -- ---- the line that is next
 
-pub going_within : (number begun : ℕ) (lines : List ThreadLine) → IsGoing (ask_next number (slice_get lines begun)) → begun < length lines
+pub going_within : (number begun : ℕ) (lines : List ThreadLine) → IsGoing (ask_next number (slice_get lines begun))
+    → begun < length lines
 going_within number begun lines going = elim (slice_get_cases lines begun).1 [
   | inl found ↦ found.1
   | inr past ↦ absurd (subst (λ line. IsGoing (ask_next number line)) past.1 going)
@@ -60,7 +62,8 @@ next_lines begun lines line there = elim (slice_get_cases lines begun).1 [
 
 -- ---- what stays
 
-taken_same : (lines : List ThreadLine) (begun fuel : ℕ) (said : List Printed) (points : List ℕ) (taken : Taken) (k : Kept)
+taken_same : (lines : List ThreadLine) (begun fuel : ℕ) (said : List Printed) (points : List ℕ) (taken : Taken)
+    (k : Kept)
     → (r : Run) → r ≡ run_after lines begun fuel said points taken k
     → (r.lines ≡ lines) × (r.fuel ≡ fuel) × (r.kept ≡ k)
 taken_same lines begun fuel said points (Over outcome) k r is =
@@ -70,7 +73,8 @@ taken_same lines begun fuel said points (Waits (machine, asked)) k r is =
 
 -- ---- a turn
 
-module _ (k put k1 : Kept) (events : List Event) (d : List Piece) (given : HasData k d put) (looks : Looks put events k1)
+module _ (k put k1 : Kept) (events : List Event) (d : List Piece) (given : HasData k d put)
+    (looks : Looks put events k1)
     (left : IsLeftBy k1.vector.images k1.vector.past) (startups : HasStartups k.vector) where
   pub images_is : k1.vector.images ≡ k.vector.images
   images_is = looks.leaves.images ∙ ap (λ (v : Vector). v.images) given.vector
@@ -105,30 +109,37 @@ module _ (k put k1 : Kept) (events : List Event) (d : List Piece) (given : HasDa
     pieces = looked_pieces long;
   }
 
-  pub looked_answer : (answer : Option LineAnswer) (number : ℕ) (line : ThreadLine) (next : Option ThreadLine) → next ≡ Some line
+  pub looked_answer : (answer : Option LineAnswer) (number : ℕ) (line : ThreadLine) (next : Option ThreadLine)
+      → next ≡ Some line
       → answer ≡ answer_to (after k.vector.past events) (ask_next number next)
       → answer ≡ answer_to k1.vector.past (ask_by number line.image line.action)
   looked_answer answer number line next is told =
-      told ∙ ap (λ p. answer_to p (ask_next number next)) (sym past_is) ∙ ap (λ x. answer_to k1.vector.past (ask_next number x)) is
+      told ∙ ap (λ p. answer_to p (ask_next number next)) (sym past_is)
+      ∙ ap (λ x. answer_to k1.vector.past (ask_next number x)) is
 
   -- the number of events that it saw
   point_is : (seen : List Event) → HasSeen k1.vector seen → k1.vector.past.seen ≡ length seen
-  point_is seen has_seen = ap (λ (p : Past). p.seen) (sym has_seen) ∙ seen-past (infos k1.vector.images) (last_offset k1.vector.images) seen
+  point_is seen has_seen = ap (λ (p : Past). p.seen) (sym has_seen)
+      ∙ seen-past (infos k1.vector.images) (last_offset k1.vector.images) seen
 
-  seen_by : (seen : List Event) → past (infos k.vector.images) (last_offset k.vector.images) seen ≡ after k.vector.past events
+  seen_by : (seen : List Event)
+      → past (infos k.vector.images) (last_offset k.vector.images) seen ≡ after k.vector.past events
       → HasSeen k1.vector seen
   seen_by seen is = ap (λ m. past (infos m) (last_offset m) seen) images_is ∙ is ∙ sym past_is
 
   at_look : (seen : List Event) → HasSeen k1.vector seen
-      → looked_at (loads_in k1) k1.vector.thread seen (blocks_of k.vector ++ shared_of k1.vector.images k1.vector.past d)
+      → looked_at (loads_in k1) k1.vector.thread seen
+      (blocks_of k.vector ++ shared_of k1.vector.images k1.vector.past d)
       ≡ owned_of k1.vector k1.pieces
   at_look seen has_seen =
-      look_kept k.vector k1.vector d seen images_is has_seen left blocks_are startups ∙ ap (owned_of k1.vector) (sym pieces_are)
+      look_kept k.vector k1.vector d seen images_is has_seen left blocks_are startups
+      ∙ ap (owned_of k1.vector) (sym pieces_are)
 
   -- said of the images, the thread and the history as they were before the look
   as_before : (r : Run) (d' : List Piece) (fuel : ℕ) (seen : List Event) (t : Thread Runs Line Event)
       → StandsAfter r d' (with_event seen (event_of (event_by (job_loads k1.vector.images) k1.vector.thread) t seen))
-      (turn (thread_turns (job_loads k1.vector.images) k1.vector.thread fuel) (with_data (shared_of k1.vector.images k1.vector.past d) t) seen)
+      (turn (thread_turns (job_loads k1.vector.images) k1.vector.thread fuel)
+      (with_data (shared_of k1.vector.images k1.vector.past d) t) seen)
       → StandsAfter r d' (with_event seen (event_of (event_by (job_loads k.vector.images) k.vector.thread) t seen))
       (turn (thread_turns (job_loads k.vector.images) k.vector.thread fuel)
       (with_data (shared_of k.vector.images (after k.vector.past events) d) t) seen)
@@ -157,18 +168,23 @@ module _ (k put k1 : Kept) (events : List Event) (d : List Piece) (given : HasDa
         }
 
     begins_stands : (line : ThreadLine) (r : Run) (d' : List Piece) → slice_get lines begun ≡ Some line
-        → BeginsLine lines begun fuel line k1 said r d' → (t : Thread Runs Line Event) (seen : List Event) → StandsFor (before None) t
+        → BeginsLine lines begun fuel line k1 said r d' → (t : Thread Runs Line Event) (seen : List Event)
+        → StandsFor (before None) t
         → HasSeen k1.vector seen
         → StandsAfter r d' (with_event seen (event_of (event_by (job_loads k1.vector.images) k1.vector.thread) t seen))
-        (turn (thread_turns (job_loads k1.vector.images) k1.vector.thread fuel) (with_data (shared_of k1.vector.images k1.vector.past d) t) seen)
+        (turn (thread_turns (job_loads k1.vector.images) k1.vector.thread fuel)
+        (with_data (shared_of k1.vector.images k1.vector.past d) t) seen)
     begins_stands line r d' there is t seen stands has_seen =
         let l = job_loads k1.vector.images in
         let P : Run → List Piece → Type 0 = λ x pieces.
         StandsAfter x pieces (with_event seen (event_of (event_by l k1.vector.thread) t seen))
-        (turn (thread_turns l k1.vector.thread fuel) (with_data (shared_of k1.vector.images k1.vector.past d) t) seen) in
+        (turn (thread_turns l k1.vector.thread fuel)
+        (with_data (shared_of k1.vector.images k1.vector.past d) t) seen) in
         subst (λ x. P x d') (sym is.is)
-        (subst (λ pieces. P (run_after lines (begun + 1) fuel said (k1.vector.past.seen ∷ []) is.taken (emptied is.new)) pieces) (sym is.pieces)
-        (subst (λ point. P (run_after lines (begun + 1) fuel said (point ∷ []) is.taken (emptied is.new)) is.new.pieces) (sym (point_is seen has_seen))
+        (subst (λ pieces. P (run_after lines (begun + 1) fuel said (k1.vector.past.seen ∷ []) is.taken
+        (emptied is.new)) pieces) (sym is.pieces)
+        (subst (λ point. P (run_after lines (begun + 1) fuel said (point ∷ []) is.taken (emptied is.new)) is.new.pieces)
+        (sym (point_is seen has_seen))
         (begins_turn lines fuel said k k1 is.new is.taken seen (shared_of k1.vector.images k1.vector.past d) has_seen
         (sym (looks.stack ∙ given.stack)) (at_look seen has_seen) begun line t.todo t.phase t.said t.seen is.begins
         (stands.todo ∙ next_lines begun lines line there) stands.phase stands.said)))
@@ -176,24 +192,30 @@ module _ (k put k1 : Kept) (events : List Event) (d : List Piece) (given : HasDa
     pub begins_line : (line : ThreadLine) (r : Run) (d' : List Piece) → slice_get lines begun ≡ Some line
         → BeginsLine lines begun fuel line k1 said r d' → TakesTurn (before None) events d r d'
     begins_line line r d' there is = record {
-      same = same_runner None (begun + 1) (k1.vector.past.seen ∷ []) is.taken is.new r is.begins.keeps.thread is.begins.keeps.images is.is;
+      same = same_runner None (begun + 1)
+          (k1.vector.past.seen ∷ []) is.taken is.new r is.begins.keeps.thread is.begins.keeps.images is.is;
       turns = λ t seen stands history.
           as_before r d' fuel seen t (begins_stands line r d' there is t seen stands (seen_by seen history));
     }
 
     resumes_stands : (c : Waiting) (r : Run) (d' : List Piece)
-        → ResumesLine lines begun fuel k1 said c r d' → (t : Thread Runs Line Event) (seen : List Event) → StandsFor (before (Some c)) t
+        → ResumesLine lines begun fuel k1 said c r d' → (t : Thread Runs Line Event) (seen : List Event)
+        → StandsFor (before (Some c)) t
         → HasSeen k1.vector seen
         → StandsAfter r d' (with_event seen (event_of (event_by (job_loads k1.vector.images) k1.vector.thread) t seen))
-        (turn (thread_turns (job_loads k1.vector.images) k1.vector.thread fuel) (with_data (shared_of k1.vector.images k1.vector.past d) t) seen)
+        (turn (thread_turns (job_loads k1.vector.images) k1.vector.thread fuel)
+        (with_data (shared_of k1.vector.images k1.vector.past d) t) seen)
     resumes_stands c r d' is t seen stands has_seen =
         let l = job_loads k1.vector.images in
         let P : Run → List Piece → Type 0 = λ x pieces.
         StandsAfter x pieces (with_event seen (event_of (event_by l k1.vector.thread) t seen))
-        (turn (thread_turns l k1.vector.thread fuel) (with_data (shared_of k1.vector.images k1.vector.past d) t) seen) in
+        (turn (thread_turns l k1.vector.thread fuel)
+        (with_data (shared_of k1.vector.images k1.vector.past d) t) seen) in
         subst (λ x. P x d') (sym is.is)
-        (subst (λ pieces. P (run_after lines begun fuel said (with_last c.points k1.vector.past.seen) is.taken (emptied is.new)) pieces) (sym is.pieces)
-        (subst (λ point. P (run_after lines begun fuel said (with_last c.points point) is.taken (emptied is.new)) is.new.pieces) (sym (point_is seen has_seen))
+        (subst (λ pieces. P (run_after lines begun fuel said (with_last c.points k1.vector.past.seen) is.taken
+        (emptied is.new)) pieces) (sym is.pieces)
+        (subst (λ point. P (run_after lines begun fuel said (with_last c.points point) is.taken
+        (emptied is.new)) is.new.pieces) (sym (point_is seen has_seen))
         (resumes_turn lines fuel said k k1 is.new is.taken seen (shared_of k1.vector.images k1.vector.past d) has_seen
         (sym (looks.stack ∙ given.stack)) (at_look seen has_seen) begun c t.todo t.phase t.said t.seen is.resumes
         stands.todo stands.phase stands.said)))
@@ -201,14 +223,16 @@ module _ (k put k1 : Kept) (events : List Event) (d : List Piece) (given : HasDa
     pub resumes_line : (c : Waiting) (r : Run) (d' : List Piece)
         → ResumesLine lines begun fuel k1 said c r d' → TakesTurn (before (Some c)) events d r d'
     resumes_line c r d' is = record {
-      same = same_runner (Some c) begun (with_last c.points k1.vector.past.seen) is.taken is.new r is.resumes.keeps.thread is.resumes.keeps.images is.is;
+      same = same_runner (Some c) begun
+          (with_last c.points k1.vector.past.seen) is.taken is.new r is.resumes.keeps.thread is.resumes.keeps.images is.is;
       turns = λ t seen stands history.
           as_before r d' fuel seen t (resumes_stands c r d' is t seen stands (seen_by seen history));
     }
 
 -- ---- before the first turn
 
-pub new_startups : (thread : ℕ) (m : JobImages) (k : Kept) → IsNew thread m k → IsLeftBy k.vector.images k.vector.past → HasStartups k.vector
+pub new_startups : (thread : ℕ) (m : JobImages) (k : Kept) → IsNew thread m k → IsLeftBy k.vector.images k.vector.past
+    → HasStartups k.vector
 new_startups thread m k is left = start_has k.vector left
     (is.past ∙ ap (λ images. start (infos images) (last_offset images)) (sym is.images))
     (λ i. is.blocks i ∙ ap (λ images. fresh images k.vector.past i) (sym is.images))

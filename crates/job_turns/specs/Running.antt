@@ -1,12 +1,13 @@
 -- How the code runs a thread's machine between two looks, and what its contracts state.
-use Rattle.std.specs.Prelude.{◌≡◌, ◌≤◌, ◌<◌, ◌+◌, ◌-◌, ◌==◌, ℕ, zero, suc, Bool, List, length, Option, Some, None, Result, if◌then◌else◌}
+use Rattle.std.specs.Prelude.{◌≡◌, ◌≤◌, ◌<◌, ◌+◌, ◌-◌, ◌==◌, ℕ, zero, suc, Bool, List, length, Option, Some, None}
+use Rattle.std.specs.Prelude.{Result, if◌then◌else◌}
 use Rattle.std.specs.List.{find, list_any}
 use Rattle.address_map.specs.Map.{descriptor_place}
 use Rattle.guest_arithmetic.specs.Plain.{plain_operations}
 use Rattle.guest_operands.specs.declared.state.State.{State}
 use Rattle.guest_operands.specs.declared.stop.Stop.{Stop}
 use Rattle.guest_operands.specs.Access.{Refusal, both_reached, bytes_at, reached as read_as}
-use Rattle.guest_operands.specs.Ranges.{range_accesses}
+use Rattle.guest_operands.specs.RangeLaws.{range_accesses}
 use Rattle.guest_operands.specs.Use.{After}
 use Rattle.guest_machine.specs.Clean.{IsClean}
 use Rattle.guest_machine.specs.Machine.{Standing}
@@ -19,7 +20,8 @@ use Rattle.thread_blocks.specs.declared.asked.Asked.{Asked}
 use Rattle.thread_blocks.specs.Held.{ranges_in}
 use Rattle.thread_blocks.specs.Instances.{Loads}
 use Rattle.thread_blocks.specs.JobLoads.{job_loads}
-use Rattle.thread_blocks.specs.RunTime.{Runs, asked_at, asked_by, asked_next, has_words, pair, resumed_by, thread_accesses, thread_steps}
+use Rattle.thread_blocks.specs.RunTime.{Runs, asked_at, asked_by, asked_next, has_words, pair, resumed_by}
+use Rattle.thread_blocks.specs.RunTime.{thread_accesses, thread_steps}
 use Rattle.thread_blocks.specs.Spaces.{Space, no_field}
 use Rattle.thread_blocks.specs.Turns.{Answered, Begun, Calls, Says, Stopped}
 use Rattle.thread_space.specs.Kept.{HasSeen, Kept, held_at, live_in, memory_of, owned_of, shape_of}

@@ -1,5 +1,6 @@
 -- The first look of a thread's line, in the code.
-use Rattle.std.specs.Prelude.{◌≡◌, ℕ, ◌+◌, Bool, true, false, List, length, slice_range, nat_le, Option, Some, None, option_to_list, if◌then◌else◌}
+use Rattle.std.specs.Prelude.{◌≡◌, ℕ, ◌+◌, Bool, true, false, List, length, slice_range, nat_le, Option, Some, None}
+use Rattle.std.specs.Prelude.{option_to_list, if◌then◌else◌}
 use Rattle.guest_arithmetic.specs.Plain.{plain_operations}
 use Rattle.guest_machine.specs.Machine.{Standing}
 use Rattle.guest_operands.specs.declared.state.State.{State}
@@ -13,7 +14,8 @@ use Rattle.transcript_text.specs.declared.outcomes.Outcome.TheVariants.{Bytes, R
 use Rattle.thread_blocks.specs.declared.asked.Asked.{Asked}
 use Rattle.thread_blocks.specs.Instances.{instance_at}
 use Rattle.thread_blocks.specs.JobLoads.{job_loads}
-use Rattle.thread_blocks.specs.Lines.{Line, begun_by, begun_close, begun_in, begun_open, begun_peek, event_at, event_by, unless_refused}
+use Rattle.thread_blocks.specs.Lines.{Line, begun_by, begun_close, begun_in, begun_open, begun_peek, event_at, event_by}
+use Rattle.thread_blocks.specs.Lines.{unless_refused}
 use Rattle.thread_blocks.specs.RunTime.{Runs, shows}
 use Rattle.thread_blocks.specs.Turns.{Answered, Begun, Says as SaysSo, Calls as CallsOn, with_event}
 use Rattle.thread_turns.specs.declared.parts.Started.{Started as StartedWith}

@@ -16,7 +16,8 @@ use Rattle.thread_blocks.specs.JobLoads.{job_loads}
 use Rattle.thread_blocks.specs.Lines.{Line, begun_by, event_by}
 use Rattle.thread_blocks.specs.MachineTurns.{answer_of}
 use Rattle.thread_blocks.specs.RunTime.{Runs, resumed_by, shows, thread_steps, thread_turns}
-use Rattle.thread_blocks.specs.Turns.{Ending, Mid, Said, Thread, after_look, after_run, over_with, with_event, with_last}
+use Rattle.thread_blocks.specs.Turns.{Ending, Mid, Said, Thread, after_look, after_run, over_with, with_event}
+use Rattle.thread_blocks.specs.Turns.{with_last}
 use Rattle.thread_space.specs.Kept.{HasSeen, Kept, held_at, owned_of}
 use Rattle.thread_space.specs.Live.{HasStartups}
 use Rattle.thread_turns.specs.declared.parts.Ended.{Ended}

@@ -3,7 +3,8 @@ use Rattle.std.specs.Prelude.{◌≡◌, ◌+◌, ◌++◌, ℕ, true, false, Li
 use Rattle.loaded_modules.specs.Images.{infos, last_offset}
 use Rattle.module_data.specs.Pieces.{Piece}
 use Rattle.module_table.specs.declared.events.Event.{Event}
-use Rattle.module_table.specs.History.{History, IsLegal, left}
+use Rattle.module_table.specs.History.{History, left}
+use Rattle.module_table.specs.Past.{IsLegal}
 use Rattle.module_table.specs.Past.{Past, close_refusal, open_refusal}
 use Rattle.thread_blocks.specs.Lines.{event_at, unless_refused}
 use Rattle.thread_blocks.specs.Turns.{with_event}

@@ -5,7 +5,7 @@ ghost use Rattle.guest_arithmetic.specs.Plain.{plain_operations};
 ghost use Rattle.guest_machine.specs.Machine.{Answers, answer_of};
 ghost use Rattle.guest_machine.specs.Run.{is_look};
 ghost use Rattle.guest_operands.specs.Access.{Refused};
-ghost use Rattle.guest_operands.specs.Ranges.{range_accesses};
+ghost use Rattle.guest_operands.specs.RangeLaws.{range_accesses};
 ghost use Rattle.thread_blocks.specs.JobLoads.{job_loads};
 ghost use Rattle.thread_blocks.specs.RunTime.{answer_word};
 ghost use Rattle.thread_space.specs.Kept.{memory_of, shape_of};

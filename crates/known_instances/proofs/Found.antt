@@ -1,12 +1,13 @@
 -- What is found among the live instances stands for a loaded image.
-use Rattle.std.proofs.Common.{◌≡◌, ◌∙◌, ◌+◌, ℕ, zero, suc, Bool, true, false, List, [], ◌∷◌, ◌++◌, get_or, Option, Some, None, refl, sym, ap, subst, inl, inr, arith}
+use Rattle.std.proofs.Common.{◌≡◌, ◌∙◌, ◌+◌, ℕ, zero, suc, Bool, true, false, List, [], ◌∷◌, ◌++◌, get_or, Option, Some}
+use Rattle.std.proofs.Common.{None, refl, sym, ap, subst, inl, inr, arith}
 use Rattle.std.specs.Prelude.{is_some, if◌then◌else◌, take, option_to_list}
 use Rattle.std.specs.List.{find}
 use Rattle.std.proofs.lemmas.Bool.{cases_Bool, both_ways}
 use Rattle.loaded_modules.specs.declared.instance.Instance.{Instance}
 use Rattle.module_table.specs.declared.modules.ImageInfo.{ImageInfo}
 use Rattle.module_table.specs.declared.modules.Module.{Module}
-use Rattle.module_table.specs.Laws.{startup_end}
+use Rattle.module_table.specs.Modules.{startup_end}
 use Rattle.module_table.specs.Modules.{is_loaded, no_module}
 use Rattle.module_table.specs.Past.{module_of}
 use Rattle.thread_blocks.specs.Instances.{Loads, left_by, loaded_instance, instances_from}
@@ -30,7 +31,8 @@ pub record IsLoadedAs (infos : List ImageInfo) (image : ℕ) (m : Module) (x : I
   pub loaded : is_loaded m ≡ true
   pub is : instance_for infos image m ≡ x
 
-pub loaded_as : (infos : List ImageInfo) (image : ℕ) (m : Module) (x : Instance) → loaded_instance infos image m ≡ Some x
+pub loaded_as : (infos : List ImageInfo) (image : ℕ) (m : Module) (x : Instance)
+    → loaded_instance infos image m ≡ Some x
     → IsLoadedAs infos image m x
 loaded_as infos image m x e = elim (cases_Bool (is_loaded m)) [
   | inl t ↦ let same : Some (instance_for infos image m) ≡ Some x = rw t at e in
@@ -87,7 +89,8 @@ pub found_at : (infos : List ImageInfo) (image : ℕ) (ms : List Module) (test :
     → find test (instances_from infos image ms) ≡ Some x → FoundAt infos image ms test x
 found_at infos image [] test x e = cc
 found_at infos image (m ∷ ms) test x e =
-    first_or infos image m ms test x (loaded_instance infos image m) refl (λ f. found_at infos (suc image) ms test x f) e
+    first_or infos image m ms test x (loaded_instance infos image m) refl
+    (λ f. found_at infos (suc image) ms test x f) e
 
 -- and where one passes, something is found
 found_some : (infos : List ImageInfo) (image : ℕ) (ms : List Module) (test : Instance → Bool) (a : ℕ) (x : Instance)

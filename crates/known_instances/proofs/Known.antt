@@ -1,5 +1,6 @@
 -- In all fronts of a legal history an instance number stands for one instance, and an id of a live instance is its own.
-use Rattle.std.proofs.Common.{◌≡◌, ◌∙◌, ◌+◌, ◌<◌, ◌≤◌, ◌^◌, ℕ, zero, suc, List, [], ◌∷◌, length, Option, Some, None, refl, sym, ap, subst, inl, inr, arith}
+use Rattle.std.proofs.Common.{◌≡◌, ◌∙◌, ◌+◌, ◌<◌, ◌≤◌, ◌^◌, ℕ, zero, suc, List, [], ◌∷◌, length, Option, Some, None}
+use Rattle.std.proofs.Common.{refl, sym, ap, subst, inl, inr, arith}
 use Rattle.std.proofs.Math.Seq.{take-append_seam}
 use Rattle.std.specs.Prelude.{◌==◌, take, drop}
 use Rattle.std.specs.Option.{option_or}
@@ -7,12 +8,13 @@ use Rattle.std.proofs.lemmas.Bool.{cases_eq, eq-eqb, eqb-true}
 use Rattle.std.proofs.lemmas.List.{take-append-drop, length-append}
 use Rattle.loaded_modules.specs.declared.instance.Instance.{Instance}
 use Rattle.module_table.specs.declared.events.Event.{Event}
-use Rattle.module_table.specs.History.{IsLegal}
+use Rattle.module_table.specs.Past.{IsLegal}
 use Rattle.module_table.proofs.Along.{past_legal}
 use Rattle.module_table.proofs.LawsOfNumbers.{own_numbers}
 use Rattle.module_table.proofs.Steps.{numbered_at}
-use Rattle.thread_blocks.specs.Instances.{Loads, left_by, loaded_instance, instances_in, numbered_instance, instance_with_id}
-use Rattle.thread_blocks.specs.TurnsAlike.{IsFront}
+use Rattle.thread_blocks.specs.Instances.{Loads, left_by, loaded_instance, instances_in, numbered_instance}
+use Rattle.thread_blocks.specs.Instances.{instance_with_id}
+use Rattle.thread_blocks.specs.Turns.{IsFront}
 use Rattle.known_instances.specs.Laws.{IdsAreOwn, IsLiveAt, KnownInstancesLived, NumbersAreKnown}
 use Rattle.known_instances.specs.Known.{known_from, known_in}
 use Rattle.known_instances.proofs.Found.{module_at, loaded_as, loaded_is, found_is}
@@ -76,7 +78,8 @@ module _ (q : Loads ℕ) (history : List Event) (legal : IsLegal q.infos q.last_
       let is : take (length seen) history ≡ seen = ap (take (length seen)) front.1 ∙ take-append_seam seen front.0 in
       let long : length history ≡ length seen + length front.0 =
       ap (λ (events : List Event). length events) front.1 ∙ length-append seen front.0 in
-      known_after (length seen) n x (subst (λ (events : List Event). numbered_instance q events n ≡ Some x) (sym is) at) 0
+      known_after (length seen) n x
+      (subst (λ (events : List Event). numbered_instance q events n ≡ Some x) (sym is) at) 0
       (length history) (omega arith) (omega arith)
 
   -- ** each live instance
@@ -123,7 +126,8 @@ module _ (q : Loads ℕ) (history : List Event) (legal : IsLegal q.infos q.last_
       (loaded_is q.infos f.image (module_at q seen f.image) f.loaded ∙ ap (λ (y : Instance). Some y) f.is)
 
   -- the number of a live instance
-  pub number_low : (seen : List Event) (n : ℕ) (x : Instance) → IsFront seen history → numbered_instance q seen n ≡ Some x
+  pub number_low : (seen : List Event) (n : ℕ) (x : Instance) → IsFront seen history
+      → numbered_instance q seen n ≡ Some x
       → n < 2 ^ 12
   number_low seen n x front e =
       let f = numbered_is q.infos (left_by q seen) n x e in
@@ -139,7 +143,8 @@ module _ (q : Loads ℕ) (history : List Event) where
   IsLive n x = IsLiveAt q history n x
 
   live_take : (k n : ℕ) (x : Instance) → numbered_instance q (take k history) n ≡ Some x → IsLive n x
-  live_take k n x e = record { seen = take k history; front = (drop k history, sym (take-append-drop k history)); live = e }
+  live_take k n x e = record
+      { seen = take k history; front = (drop k history, sym (take-append-drop k history)); live = e }
 
   live_step : (k more n : ℕ) (x : Instance) → (known_from q history n (k + 1) more ≡ Some x → IsLive n x)
       → (o : Option Instance) → numbered_instance q (take k history) n ≡ o

@@ -4,10 +4,10 @@ use Rattle.std.proofs.Math.Seq.{take-length}
 use Rattle.loaded_modules.specs.Images.{JobImages, infos, last_offset}
 use Rattle.module_table.specs.declared.modules.ImageInfo.{ImageInfo}
 use Rattle.module_table.specs.declared.events.Event.{Event}
-use Rattle.module_table.specs.Laws.{startup_end}
+use Rattle.module_table.specs.Modules.{startup_end}
 use Rattle.module_table.specs.Modules.{AreInfos}
 use Rattle.module_table.specs.Past.{is_legal, start}
-use Rattle.module_table.specs.History.{IsLegal}
+use Rattle.module_table.specs.Past.{IsLegal}
 use Rattle.thread_blocks.specs.JobLoads.{job_loads}
 use Rattle.known_instances.proofs.StaticOffsets.{end_low}
 

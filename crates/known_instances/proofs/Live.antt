@@ -1,5 +1,6 @@
 -- What holds of each live instance, and the laws of ids.
-use Rattle.std.proofs.Common.{◌≡◌, ◌∙◌, ◌+◌, ◌<◌, ◌≤◌, ◌^◌, ℕ, suc, true, false, List, [], ◌∷◌, ◌++◌, get_or, Option, Some, None, refl, sym, ap, subst, inl, inr, arith}
+use Rattle.std.proofs.Common.{◌≡◌, ◌∙◌, ◌+◌, ◌<◌, ◌≤◌, ◌^◌, ℕ, suc, true, false, List, [], ◌∷◌, ◌++◌, get_or, Option}
+use Rattle.std.proofs.Common.{Some, None, refl, sym, ap, subst, inl, inr, arith}
 use Rattle.std.specs.Prelude.{All, option_to_list}
 use Rattle.std.proofs.lemmas.Bool.{cases_eq, both_ways, false_from_ne_true, leb-true, ne_eqb}
 use Rattle.std.proofs.lemmas.List.Elements.{All-nil, All-cons}
@@ -9,10 +10,11 @@ use Rattle.module_table.specs.declared.modules.Module.{Module}
 use Rattle.module_table.specs.declared.events.Event.{Event}
 use Rattle.module_table.specs.Modules.{no_module}
 use Rattle.module_table.specs.Past.{startup_count}
-use Rattle.module_table.specs.History.{IsLegal}
+use Rattle.module_table.specs.Past.{IsLegal}
 use Rattle.module_table.proofs.LawsOfNumbers.{own_numbers}
-use Rattle.thread_blocks.specs.Instances.{Loads, left_by, loaded_instance, instances_from, instances_in, instances, numbered_instance, is_startup_id}
-use Rattle.thread_blocks.specs.TurnsAlike.{IsFront}
+use Rattle.thread_blocks.specs.Instances.{Loads, left_by, loaded_instance, instances_from, instances_in, instances}
+use Rattle.thread_blocks.specs.Instances.{numbered_instance, is_startup_id}
+use Rattle.thread_blocks.specs.Turns.{IsFront}
 use Rattle.known_instances.specs.Known.{known_in}
 use Rattle.known_instances.specs.Laws.{LateIdsAreLate, StartupInstancesStay}
 use Rattle.known_instances.proofs.Found.{module_at, instance_for, loaded_is}
@@ -58,7 +60,8 @@ module _ (q : Loads ℕ) (history : List Event) (legal : IsLegal q.infos q.last_
   startup seen number front some low =
       let s = startup_kept q.infos q.last_offset seen number (legal_front q history legal seen front) some low in
       let x : Instance = instance_for q.infos number (module_at q seen number) in
-      let at = numbered_at_image q history legal seen number (instance_for q.infos number (module_at q seen number)) front
+      let at = numbered_at_image q history legal seen number
+      (instance_for q.infos number (module_at q seen number)) front
       (loaded_is q.infos number (module_at q seen number) s.loaded) in (
         instance_for q.infos number (module_at q seen number),
         (

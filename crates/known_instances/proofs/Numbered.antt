@@ -1,5 +1,6 @@
 -- What each loaded image keeps: a number that is not 0, and what is known of it from the start.
-use Rattle.std.proofs.Common.{◌≡◌, ◌∙◌, ℕ, ◌+◌, ◌-◌, ◌^◌, ◌<◌, true, List, length, get_or, refl, sym, ap, subst, arith, inl, inr}
+use Rattle.std.proofs.Common.{◌≡◌, ◌∙◌, ℕ, ◌+◌, ◌-◌, ◌^◌, ◌<◌, true, List, length, get_or, refl, sym, ap, subst, arith}
+use Rattle.std.proofs.Common.{inl, inr}
 use Rattle.std.proofs.lemmas.Bool.{cases_eq, lt-ltb}
 use Rattle.std.proofs.lemmas.List.{get_or-set_same, get_or-set_other, length-set}
 use Rattle.module_table.specs.declared.modules.ImageInfo.{ImageInfo}
@@ -7,7 +8,7 @@ use Rattle.module_table.specs.declared.modules.Module.{Module}
 use Rattle.module_table.specs.declared.events.Event.{Event}
 use Rattle.module_table.specs.Modules.{AreInfos, is_loaded, no_module}
 use Rattle.module_table.specs.Past.{Past, module_of, start, past, loaded, retained, released, with_uses, new_instance}
-use Rattle.module_table.specs.History.{IsLegal}
+use Rattle.module_table.specs.Past.{IsLegal}
 use Rattle.module_table.specs.Tables.{IsPast, CanLoad}
 use Rattle.module_table.proofs.Along.{IsKept, kept_along}
 use Rattle.module_table.proofs.Starting.{past_start, own_number}
@@ -29,7 +30,8 @@ numbered_with_uses first p image uses is m loaded =
       is = is;
       long = length-set p.modules image (record (module_of p image) { uses = uses }) ∙ m.long;
       info = λ a. (used p image uses a l loaded).same.info ∙ m.info a;
-      some = λ a t. let u = used p image uses a l loaded in let old : 0 < (module_of p a).instance = m.some a (u.held t) in
+      some = λ a t. let u = used p image uses a l loaded in
+          let old : 0 < (module_of p a).instance = m.some a (u.held t) in
           subst (λ (n : ℕ). 0 < n) (sym u.same.instance) old;
     }
 
@@ -55,7 +57,8 @@ numbered_loaded first p image m can =
         | inr ne ↦
             let here : module_of (loaded p image) a ≡ module_of p a =
             get_or-set_other p.modules image a (new_instance p (module_of p image)) no_module ne in
-            subst (λ (x : Module). 0 < x.instance) (sym here) (m.some a (subst (λ (x : Module). is_loaded x ≡ true) here t))
+            subst (λ (x : Module). 0 < x.instance) (sym here)
+            (m.some a (subst (λ (x : Module). is_loaded x ≡ true) here t))
       ];
     }
 
@@ -84,5 +87,6 @@ pub are_numbered : (infos : List ImageInfo) (last : ℕ) (events : List Event) �
     → AreNumbered (start infos last).modules (past infos last events)
 unfolding past
 are_numbered infos last events legal =
-    kept_along (AreNumbered (start infos last).modules) (numbered_kept (start infos last).modules) (start infos last) events
+    kept_along (AreNumbered (start infos last).modules) (numbered_kept (start infos last).modules)
+    (start infos last) events
     (numbered_start infos last legal.images legal.low) legal.each

@@ -1,5 +1,6 @@
 -- An instance number stands for one instance along the events.
-use Rattle.std.proofs.Common.{◌≡◌, ◌∙◌, ℕ, ◌+◌, ◌-◌, ◌<◌, ◌≤◌, true, List, ◌++◌, length, Some, refl, sym, ap, subst, arith, inl, inr}
+use Rattle.std.proofs.Common.{◌≡◌, ◌∙◌, ℕ, ◌+◌, ◌-◌, ◌<◌, ◌≤◌, true, List, ◌++◌, length, Some, refl, sym, ap, subst}
+use Rattle.std.proofs.Common.{arith, inl, inr}
 use Rattle.std.specs.Prelude.{◌==◌}
 use Rattle.std.specs.List.{find}
 use Rattle.std.proofs.lemmas.Bool.{cases_eq, and_parts, eqb-true, lt-ltb}
@@ -9,13 +10,15 @@ use Rattle.module_table.specs.declared.modules.ImageInfo.{ImageInfo}
 use Rattle.module_table.specs.declared.modules.Module.{Module}
 use Rattle.module_table.specs.declared.events.Event.{Event}
 use Rattle.module_table.specs.Modules.{is_loaded, no_module}
-use Rattle.module_table.specs.Past.{Past, module_of, start, past, after, loaded, retained, released, with_uses, new_instance, is_legal}
-use Rattle.module_table.specs.History.{IsLegal}
+use Rattle.module_table.specs.Past.{Past, module_of, start, past, after, loaded, retained, released, with_uses}
+use Rattle.module_table.specs.Past.{new_instance, is_legal}
+use Rattle.module_table.specs.Past.{IsLegal}
 use Rattle.module_table.specs.Tables.{IsPast, CanLoad}
 use Rattle.module_table.specs.Walks.{past-append, is_legal-append}
 use Rattle.module_table.proofs.Along.{IsKept, kept_along, past_legal}
 use Rattle.module_table.proofs.LawsOfNumbers.{own_numbers}
-use Rattle.module_table.proofs.Steps.{late_within, loaded_within, numbered_at, past_retained, past_loaded, past_released}
+use Rattle.module_table.proofs.Steps.{late_within, loaded_within, numbered_at, past_retained, past_loaded}
+use Rattle.module_table.proofs.Steps.{past_released}
 use Rattle.thread_blocks.specs.Instances.{loaded_instance, instances_in}
 use Rattle.known_instances.proofs.Found.{instance_for, loaded_as, found_at}
 
@@ -36,7 +39,10 @@ pub used : (p : Past) (image uses a : ℕ) → image < length p.modules → is_l
 used p image uses a l loaded = elim (cases_eq a image) [
   | inl e ↦ let here : module_of (with_uses p image uses) a ≡ record (module_of p image) { uses = uses } =
       rw e (get_or-set_same p.modules image (record (module_of p image) { uses = uses }) no_module l) in
-      rw (here, e) (record { same = record { info = refl; instance = refl; id = refl; offset = refl }; held = λ _. loaded })
+      rw (here, e) (record {
+        same = record { info = refl; instance = refl; id = refl; offset = refl };
+        held = λ _. loaded;
+      })
   | inr ne ↦ let here : module_of (with_uses p image uses) a ≡ module_of p a =
       get_or-set_other p.modules image a (record (module_of p image) { uses = uses }) no_module ne in
       rw here (record { same = record { info = refl; instance = refl; id = refl; offset = refl }; held = λ t. t })
@@ -54,10 +60,12 @@ same-trans x y z a b = record {
 pub record StandsForOne (n a : ℕ) (m : Module) (p : Past) : Type 0 where
   pub is : IsPast p
   pub made : n ≤ p.made
-  pub one : (b : ℕ) → is_loaded (module_of p b) ≡ true → (module_of p b).instance ≡ n → (b ≡ a) × AreSame (module_of p b) m
+  pub one : (b : ℕ) → is_loaded (module_of p b) ≡ true → (module_of p b).instance ≡ n
+      → (b ≡ a) × AreSame (module_of p b) m
 
 -- a use more or less of an image that is loaded
-one_with_uses : (n a : ℕ) (m : Module) (p : Past) (image uses : ℕ) → IsPast (with_uses p image uses) → StandsForOne n a m p
+one_with_uses : (n a : ℕ) (m : Module) (p : Past) (image uses : ℕ) → IsPast (with_uses p image uses)
+    → StandsForOne n a m p
     → is_loaded (module_of p image) ≡ true → StandsForOne n a m (with_uses p image uses)
 one_with_uses n a m p image uses is s loaded = record {
   is = is;
@@ -95,7 +103,8 @@ one_loaded n a m p image s can =
 one_kept : (n a : ℕ) (m : Module) → IsKept (StandsForOne n a m)
 unfolding retained released
 one_kept n a m = record {
-  retained = λ p image s l. one_with_uses n a m p image ((module_of p image).uses + 1) (past_retained p image s.is l) s l;
+  retained = λ p image s l. one_with_uses n a m p image ((module_of p image).uses + 1)
+      (past_retained p image s.is l) s l;
   loaded = λ p image s can. one_loaded n a m p image s can;
   released = λ p image s h. one_with_uses n a m p image ((module_of p image).uses - 1) (past_released p image s.is h) s
       (lt-ltb 0 (module_of p image).uses h);

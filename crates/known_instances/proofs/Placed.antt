@@ -1,5 +1,6 @@
 -- A live instance stands for an image of the list, and where its blocks begin.
-use Rattle.std.proofs.Common.{◌≡◌, ◌∙◌, ◌+◌, ◌^◌, ◌<◌, ◌≤◌, ℕ, zero, suc, Bool, true, false, List, [], ◌∷◌, get_or, length, Some, refl, sym, subst, inl, inr, arith}
+use Rattle.std.proofs.Common.{◌≡◌, ◌∙◌, ◌+◌, ◌^◌, ◌<◌, ◌≤◌, ℕ, zero, suc, Bool, true, false, List, [], ◌∷◌, get_or}
+use Rattle.std.proofs.Common.{length, Some, refl, sym, subst, inl, inr, arith}
 use Rattle.std.specs.Prelude.{All, IfSome, take}
 use Rattle.std.specs.List.{find}
 use Rattle.std.proofs.lemmas.Bool.{cases_Bool}
@@ -7,15 +8,15 @@ use Rattle.loaded_modules.specs.declared.instance.Instance.{Instance}
 use Rattle.module_table.specs.declared.modules.ImageInfo.{ImageInfo}
 use Rattle.module_table.specs.declared.modules.Module.{Module}
 use Rattle.module_table.specs.declared.events.Event.{Event}
-use Rattle.module_table.specs.Laws.{startup_end}
+use Rattle.module_table.specs.Modules.{startup_end}
 use Rattle.module_table.specs.Modules.{is_loaded, no_module}
 use Rattle.module_table.specs.Past.{module_of, past, start, first_modules}
-use Rattle.module_table.specs.History.{IsLegal}
+use Rattle.module_table.specs.Past.{IsLegal}
 use Rattle.module_table.proofs.LawsOfBlocks.{instances_apart}
 use Rattle.module_table.proofs.StartLemmas.{length-first_modules}
 use Rattle.module_table.proofs.Steps.{loaded_within}
 use Rattle.thread_blocks.specs.Instances.{Loads, left_by, instances, numbered_instance}
-use Rattle.thread_blocks.specs.TurnsAlike.{IsFront}
+use Rattle.thread_blocks.specs.Turns.{IsFront}
 use Rattle.known_instances.specs.Known.{known_in}
 use Rattle.known_instances.proofs.Found.{module_at, instance_for}
 use Rattle.known_instances.proofs.Known.{legal_front, known_live, numbered_number}
@@ -66,7 +67,8 @@ pub record IsPlacedIn (infos : List ImageInfo) (x : Instance) : Type 0 where
 
 module _ (q : Loads ℕ) (history : List Event) (legal : IsLegal q.infos q.last_offset history) where
   -- how far below the thread pointer the blocks of a loaded image begin: far enough for them, and not far
-  image_offset : (seen : List Event) (a : ℕ) → IsLegal q.infos q.last_offset seen → is_loaded (module_at q seen a) ≡ true
+  image_offset : (seen : List Event) (a : ℕ) → IsLegal q.infos q.last_offset seen
+      → is_loaded (module_at q seen a) ≡ true
       → IsImage q.infos a (module_at q seen a)
       → IfSome (instance_for q.infos a (module_at q seen a)).offset
       (λ (o : ℕ). (o < 2 ^ 28) × ((module_at q seen a).info.size ≤ o))
@@ -91,7 +93,8 @@ module _ (q : Loads ℕ) (history : List Event) (legal : IsLegal q.infos q.last_
       ))
 
   -- and so it is of each live instance
-  pub placed_in : (seen : List Event) (n : ℕ) (x : Instance) → IsFront seen history → numbered_instance q seen n ≡ Some x
+  pub placed_in : (seen : List Event) (n : ℕ) (x : Instance) → IsFront seen history
+      → numbered_instance q seen n ≡ Some x
       → IsPlacedIn q.infos x
   placed_in seen n x front e =
       let here = legal_front q history legal seen front in

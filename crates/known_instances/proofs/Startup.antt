@@ -1,5 +1,6 @@
 -- What starts with the program stays, under its number, and no late instance has its id.
-use Rattle.std.proofs.Common.{◌≡◌, ◌∙◌, ℕ, zero, suc, ◌+◌, ◌-◌, ◌<◌, ◌≤◌, Bool, true, false, cond, List, [], ◌∷◌, length, get_or, Option, Some, None, refl, sym, ap, subst, arith, inl, inr}
+use Rattle.std.proofs.Common.{◌≡◌, ◌∙◌, ℕ, zero, suc, ◌+◌, ◌-◌, ◌<◌, ◌≤◌, Bool, true, false, cond, List, [], ◌∷◌}
+use Rattle.std.proofs.Common.{length, get_or, Option, Some, None, refl, sym, ap, subst, arith, inl, inr}
 use Rattle.std.specs.Prelude.{not, AllPairs, if◌then◌else◌}
 use Rattle.std.proofs.lemmas.Bool.{cases_Bool, cases_eq, both_ways, and_parts, lt-ltb}
 use Rattle.std.proofs.lemmas.List.{get_or-set_same, get_or-set_other}
@@ -9,8 +10,10 @@ use Rattle.module_table.specs.declared.modules.Module.{Module}
 use Rattle.module_table.specs.declared.events.Event.{Event}
 use Rattle.module_table.specs.declared.events.CloseRefusal.{CloseRefusal}
 use Rattle.module_table.specs.Modules.{AreInfos, is_loaded, is_permanent, no_module}
-use Rattle.module_table.specs.Past.{Past, module_of, start, past, after, after_one, opened, loaded, retained, released, with_uses, new_instance, first_module, startup_count, close_refusal, accepts, is_legal}
-use Rattle.module_table.specs.History.{IsLegal}
+use Rattle.module_table.specs.Past.{Past, module_of, start, past, after, after_one, opened, loaded, retained, released}
+use Rattle.module_table.specs.Past.{with_uses, new_instance, first_module, startup_count, close_refusal, accepts}
+use Rattle.module_table.specs.Past.{is_legal}
+use Rattle.module_table.specs.Past.{IsLegal}
 use Rattle.module_table.specs.Tables.{IsPast}
 use Rattle.module_table.proofs.Along.{past_step}
 use Rattle.module_table.proofs.Refusals.{can_load, accepts_open, accepts_close}
@@ -44,7 +47,8 @@ stays_with_uses k p image uses is s some = elim (cases_eq k image) [
       subst (IsStartup k) (sym here) s
 ]
 
-stays_loaded : (k : ℕ) (p : Past) (image : ℕ) → Stays k p → (module_of p image).info.late ≡ true → Stays k (loaded p image)
+stays_loaded : (k : ℕ) (p : Past) (image : ℕ) → Stays k p → (module_of p image).info.late ≡ true
+    → Stays k (loaded p image)
 unfolding Stays loaded
 stays_loaded k p image s late = elim (cases_eq k image) [
   | inl e ↦ absurd (both_ways _ s.early (subst (λ (i : ℕ). (module_of p i).info.late ≡ true) (sym e) late))
@@ -131,7 +135,8 @@ stays_start infos last k are l =
     let e = early infos k no_module.info are.late_last l in
     let number : 1 + k ≡ suc k = omega arith in
     subst (IsStartup (suc k)) (sym
-    (get_or-first_modules infos 1 k no_module.info no_module e.0 ∙ ap (first_module (get_or infos k no_module.info)) number))
+    (get_or-first_modules infos 1 k no_module.info no_module e.0
+    ∙ ap (first_module (get_or infos k no_module.info)) number))
     (first_is (get_or infos k no_module.info) (suc k) e.1)
 
 -- the law: so it is behind each legal history

@@ -4,10 +4,10 @@ use Rattle.std.proofs.lemmas.Bool.{cases_eq}
 use Rattle.loaded_modules.specs.declared.instance.Instance.{Instance}
 use Rattle.module_table.specs.declared.events.Event.{Event}
 use Rattle.module_table.specs.Past.{startup_count}
-use Rattle.module_table.specs.History.{IsLegal}
+use Rattle.module_table.specs.Past.{IsLegal}
 use Rattle.module_table.proofs.LawsOfNumbers.{own_numbers}
 use Rattle.thread_blocks.specs.Instances.{Loads, left_by, numbered_instance}
-use Rattle.thread_blocks.specs.TurnsAlike.{IsFront}
+use Rattle.thread_blocks.specs.Turns.{IsFront}
 use Rattle.known_instances.specs.Known.{known_in}
 use Rattle.known_instances.proofs.Found.{module_at}
 use Rattle.known_instances.proofs.Known.{legal_front, known_live, number_low, numbered_number}

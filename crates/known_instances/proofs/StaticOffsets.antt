@@ -1,11 +1,12 @@
 -- How far below the thread pointer the startup images' blocks begin.
-use Rattle.std.proofs.Common.{◌≡◌, ℕ, zero, suc, ◌+◌, ◌-◌, ◌*◌, ◌%◌, ◌<◌, ◌≤◌, Bool, true, false, List, [], ◌∷◌, length, get_or, Option, Some, None, refl, arith, inl, inr}
+use Rattle.std.proofs.Common.{◌≡◌, ℕ, zero, suc, ◌+◌, ◌-◌, ◌*◌, ◌%◌, ◌<◌, ◌≤◌, Bool, true, false, List, [], ◌∷◌, length}
+use Rattle.std.proofs.Common.{get_or, Option, Some, None, refl, arith, inl, inr}
 use Rattle.std.proofs.Math.Nat.{mod-lt}
 use Rattle.std.specs.Prelude.{All, IfSome, take, if◌then◌else◌}
 use Rattle.std.specs.Int.{next_multiple_of}
 use Rattle.std.proofs.lemmas.Bool.{cases_Bool}
 use Rattle.module_table.specs.declared.modules.ImageInfo.{ImageInfo}
-use Rattle.module_table.specs.Laws.{startup_end}
+use Rattle.module_table.specs.Modules.{startup_end}
 use Rattle.module_table.specs.Modules.{IsInfo}
 use Rattle.module_table.proofs.LawsOfBlocks.{rounds_up}
 
@@ -43,7 +44,8 @@ end_grows (x ∷ xs) (suc a) taken = elim (cases_Bool x.late) [
 ]
 
 -- the block of startup image k ends where the next one may begin
-pub end_holds : (infos : List ImageInfo) (k taken : ℕ) (d : ImageInfo) → k < length infos → (get_or infos k d).late ≡ false
+pub end_holds : (infos : List ImageInfo) (k taken : ℕ) (d : ImageInfo) → k < length infos
+    → (get_or infos k d).late ≡ false
     → taken + (get_or infos k d).size ≤ startup_end (take (suc k) infos) taken
 end_holds [] k taken d l early = absurd (omega arith)
 end_holds (x ∷ xs) zero taken d l early = rw early (rounds_up (taken + x.size) x.align)

@@ -1,5 +1,6 @@
 -- An image that wants its blocks at a fixed distance from the thread pointer has them so while it is loaded.
-use Rattle.std.proofs.Common.{◌≡◌, ◌∙◌, ◌+◌, ◌-◌, ◌^◌, ◌<◌, ℕ, zero, suc, Bool, true, false, List, [], ◌∷◌, get_or, Option}
+use Rattle.std.proofs.Common.{◌≡◌, ◌∙◌, ◌+◌, ◌-◌, ◌^◌, ◌<◌, ℕ, zero, suc, Bool, true, false, List, [], ◌∷◌, get_or}
+use Rattle.std.proofs.Common.{Option}
 use Rattle.std.proofs.Common.{Some, None, IsSome, refl, sym, ap, subst, inl, inr}
 use Rattle.std.specs.Prelude.{if◌then◌else◌}
 use Rattle.std.proofs.lemmas.Bool.{cases_Bool, cases_eq, lt-ltb}
@@ -12,7 +13,7 @@ use Rattle.module_table.specs.declared.events.Event.{Event}
 use Rattle.module_table.specs.Modules.{AreInfos, is_loaded, no_module}
 use Rattle.module_table.specs.Past.{Past, first_module, first_modules, loaded, module_of, new_instance, past, released}
 use Rattle.module_table.specs.Past.{retained, start, with_uses}
-use Rattle.module_table.specs.History.{IsLegal}
+use Rattle.module_table.specs.Past.{IsLegal}
 use Rattle.module_table.specs.Tables.{IsPast, CanLoad}
 use Rattle.module_table.proofs.Along.{IsKept, kept_along}
 use Rattle.module_table.proofs.Starting.{past_start}
@@ -127,7 +128,8 @@ static_offsets q history legal number x info known at statics =
     let there : at_number q.infos (suc m.index) ≡ Some info = ap (at_number q.infos) (sym image) ∙ at in
     let same : (module_at q live.seen f.image).info ≡ info =
     m.info ∙ get_or_from_slice_get q.infos m.index info no_module.info there in
-    let wants : (module_at q live.seen f.image).info.statics ≡ true = ap (λ (i : ImageInfo). i.statics) same ∙ statics in
+    let wants : (module_at q live.seen f.image).info.statics ≡ true = ap (λ (i : ImageInfo). i.statics) same
+    ∙ statics in
     let have = have_offsets q.infos q.last_offset live.seen here in
     subst (λ (y : Instance). IsSome y.offset) f.is (elim (cases_Bool (module_at q live.seen f.image).info.late) [
       | inl late ↦ rw late (have.each f.image f.loaded late wants)

@@ -1,9 +1,10 @@
 -- The looks of a thread that takes its turns alone, those left out where it is over.
-use Rattle.std.proofs.Common.{◌≡◌, ◌++◌, ℕ, Bool, true, false, List, [], ◌∷◌, length, Option, refl, sym, ap, subst, append-nil, append_assoc}
+use Rattle.std.proofs.Common.{◌≡◌, ◌++◌, ℕ, Bool, true, false, List, [], ◌∷◌, length, Option, refl, sym, ap, subst}
+use Rattle.std.proofs.Common.{append-nil, append_assoc}
 use Rattle.module_table.specs.declared.events.Event.{Event}
 use Rattle.thread_blocks.specs.Lines.{Line}
 use Rattle.thread_blocks.specs.Turns.{Thread, Turns, event_of, turn, turns}
-use Rattle.thread_blocks.specs.TurnsAlike.{AllFronts, IsFront}
+use Rattle.thread_blocks.specs.Turns.{AllFronts, IsFront}
 use Rattle.thread_blocks.proofs.Turns.{turns-finished}
 use Rattle.lawful_points.specs.Orders.{is_over, looks_of}
 use Rattle.lawful_points.specs.Points.{seen_by}
@@ -22,18 +23,21 @@ module _ {S L : Type 0} (x : Turns S L Event) where
   acting t (seen ∷ more) = unless_over (is_over t.todo t.phase) (seen ∷ acting (turn x t seen) more)
 
   acting_turn : (t : Thread S L Event) (seen : List Event) (more : List (List Event)) (over : Bool)
-      → is_over t.todo t.phase ≡ over → turns x (turn x t seen) (acting (turn x t seen) more) ≡ turns x (turn x t seen) more
+      → is_over t.todo t.phase ≡ over
+      → turns x (turn x t seen) (acting (turn x t seen) more) ≡ turns x (turn x t seen) more
       → turns x t (unless_over over (seen ∷ acting (turn x t seen) more)) ≡ turns x t (seen ∷ more)
   acting_turn t seen more true over rest = sym (turns-finished x t (seen ∷ more) (is_finished t.todo t.phase over))
   acting_turn t seen more false over rest = rest
 
   -- the others change nothing
-  pub acting_turns : (points : List (List Event)) (t : Thread S L Event) → turns x t (acting t points) ≡ turns x t points
+  pub acting_turns : (points : List (List Event)) (t : Thread S L Event)
+      → turns x t (acting t points) ≡ turns x t points
   acting_turns [] t = refl
   acting_turns (seen ∷ more) t =
       acting_turn t seen more (is_over t.todo t.phase) refl (acting_turns more (turn x t seen))
 
-  fronts_unless : (over : Bool) (seen : List Event) (points : List (List Event)) (whole : List Event) → IsFront seen whole
+  fronts_unless : (over : Bool) (seen : List Event) (points : List (List Event)) (whole : List Event)
+      → IsFront seen whole
       → AllFronts points whole → AllFronts (unless_over over (seen ∷ points)) whole
   fronts_unless true seen points whole front more = tt
   fronts_unless false seen points whole front more = (front, more)
@@ -51,11 +55,13 @@ module _ {S L : Type 0} (x : Turns S L Event) where
   seen_alone event (seen ∷ more) t = ap (λ (ps : List (List Event)). seen ∷ ps) (seen_alone event more (turn x t seen))
 
 module _ {S : Type 0} (thread : ℕ) (x : Turns S Line Event) (event : Line → List Event → Option Event)
-    (begins : (line : Line) (seen : List Event) (s : S) → TellsBegun thread line (event line seen) (x.begin line seen s)) where
+    (begins : (line : Line) (seen : List Event) (s : S)
+    → TellsBegun thread line (event line seen) (x.begin line seen s)) where
   abbrev TellsAll : List Line → Thread S Line Event → List Point → Type 0
   TellsAll own t told = Tells thread x event begins own t told
 
-  acting_tells : (own : List Line) (t : Thread S Line Event) (seen : List Event) (more : List (List Event)) (told : List Point)
+  acting_tells : (own : List Line) (t : Thread S Line Event) (seen : List Event) (more : List (List Event))
+      (told : List Point)
       (over : Bool) → is_over t.todo t.phase ≡ over → TellsAll own t told
       → ((now : List Point) → TellsAll own (turn x t seen) now
       → TellsAll own (turns x (turn x t seen) (acting x (turn x t seen) more))

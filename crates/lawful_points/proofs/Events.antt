@@ -10,7 +10,8 @@ use Rattle.thread_blocks.specs.Turns.{at_number}
 use Rattle.thread_blocks.proofs.Endings.{threads_ended}
 use Rattle.lawful_points.specs.Laws.{RacesMakeTheirEvents, RunsMakeTheirEvents}
 use Rattle.lawful_points.specs.Raced.{IsRacer, first_of, raced_of}
-use Rattle.lawful_points.proofs.Fitting.{AllShownFit, begins_fit, first_fits, last_fits, resumes_fit, shown_fit, turns_fit}
+use Rattle.lawful_points.proofs.Fitting.{AllShownFit, begins_fit, first_fits, last_fits, resumes_fit, shown_fit}
+use Rattle.lawful_points.proofs.Fitting.{turns_fit}
 use Rattle.lawful_points.proofs.Jobs.{points_lawful, shown_at}
 use Rattle.lawful_points.proofs.Making.{TellsOwn, events_made}
 use Rattle.lawful_points.proofs.Naming.{told_count, told_named, world_fits}
@@ -41,7 +42,8 @@ racer_fits l fuel thread own shown said racer =
     let last = raced_of l fuel thread own racer.points in
     shown_fit (numbered_lines 1 own) said last.said racer.lines
     (last_fits (numbered_lines 1 own) last.todo last.phase last.said racer.over
-    (turns_fit (thread_turns l thread fuel) (begins_fit l thread fuel) (resumes_fit l thread fuel) (numbered_lines 1 own)
+    (turns_fit (thread_turns l thread fuel) (begins_fit l thread fuel) (resumes_fit l thread fuel)
+    (numbered_lines 1 own)
     racer.points (first_of l thread own) (first_fits (numbered_lines 1 own) (thread_ready plain_operations l thread))))
 
 pub races_make : RacesMakeTheirEvents

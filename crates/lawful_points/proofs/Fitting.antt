@@ -1,6 +1,7 @@
 -- A line that says that its image was opened is an open, one that says that it was closed is a close, and each of them
 -- had one look.
-use Rattle.std.proofs.Common.{◌≡◌, ◌∙◌, ◌+◌, ◌-◌, ◌++◌, ℕ, Bool, true, false, List, [], ◌∷◌, length, map, Option, Some, None, refl, sym, ap, subst, arith, append-nil, append_assoc, length-append}
+use Rattle.std.proofs.Common.{◌≡◌, ◌∙◌, ◌+◌, ◌-◌, ◌++◌, ℕ, Bool, true, false, List, [], ◌∷◌, length, map, Option, Some}
+use Rattle.std.proofs.Common.{None, refl, sym, ap, subst, arith, append-nil, append_assoc, length-append}
 use Rattle.std.specs.Prelude.{Result, Ok, Err, is_none, nat_le, option_map, slice_range, if◌then◌else◌}
 use Rattle.job_text.specs.declared.thread_lines.Action.{Action}
 use Rattle.job_text.specs.declared.thread_lines.Action.TheVariants.{Call, Open, Close, Peek}
@@ -18,15 +19,19 @@ use Rattle.transcript_text.specs.declared.outcomes.Line.{Line as ShownLine}
 use Rattle.transcript_text.specs.declared.outcomes.LineFault.TheVariants.{Unloaded}
 use Rattle.transcript_text.specs.declared.outcomes.LineRefusal.TheVariants.{Length as TooLong}
 use Rattle.transcript_text.specs.declared.outcomes.Outcome.{Outcome as Answer}
-use Rattle.transcript_text.specs.declared.outcomes.Outcome.TheVariants.{Returned as ReturnedAnswer, Opened, Closed, Bytes, Refused, Fault}
+use Rattle.transcript_text.specs.declared.outcomes.Outcome.TheVariants.{Returned as ReturnedAnswer, Opened, Closed}
+use Rattle.transcript_text.specs.declared.outcomes.Outcome.TheVariants.{Bytes, Refused, Fault}
 use Rattle.thread_blocks.specs.declared.asked.Asked.{Asked}
 use Rattle.thread_blocks.specs.Held.{block_bytes, looked, owned_by, reached}
 use Rattle.thread_blocks.specs.Instances.{Loads, instance_at, instance_with_id, left_by, numbered_instance}
-use Rattle.thread_blocks.specs.Lines.{Line, begin_line, begun_at, begun_by, begun_close, begun_in, begun_open, begun_peek, shown_from, shown_in}
+use Rattle.thread_blocks.specs.Lines.{Line, begin_line, begun_at, begun_by, begun_close, begun_in, begun_open}
+use Rattle.thread_blocks.specs.Lines.{begun_peek, shown_from, shown_in}
 use Rattle.thread_blocks.specs.MachineTurns.{answer_of, shown}
-use Rattle.thread_blocks.specs.RunTime.{Runs, answered, resume_line, resumed_by, resumed_in, shows, thread_turns, resumed}
+use Rattle.thread_blocks.specs.RunTime.{Runs, answered, resume_line, resumed_by, resumed_in, shows, thread_turns}
+use Rattle.thread_blocks.specs.RunTime.{resumed}
 use Rattle.thread_blocks.specs.Spaces.{Space}
-use Rattle.thread_blocks.specs.Turns.{Ending, Answered, Stopped, Said, Begun, Says, Calls, Turns, Phase, Idle, Mid, Thread, IsFinished, after_look, after_run, turn, turn_at, turns, with_last}
+use Rattle.thread_blocks.specs.Turns.{Ending, Answered, Stopped, Said, Begun, Says, Calls, Turns, Phase, Idle, Mid}
+use Rattle.thread_blocks.specs.Turns.{Thread, IsFinished, after_look, after_run, turn, turn_at, turns, with_last}
 
 -- ** lines
 
@@ -160,7 +165,8 @@ module _ {S : Type 0} (x : Turns S Line Event)
       → IsBetween own (line ∷ todo) said → (b : Begun S) → BeginFits line.told.action b
       → Fit own (after_look x x.fuel todo said seen (length seen ∷ []) b)
   begin_fits own todo said seen line at (Says ending s) fits =
-      line_fits own todo said at.done line (record { points = length seen ∷ []; ending = ending }) at.lines at.each at.fit
+      line_fits own todo said at.done line
+      (record { points = length seen ∷ []; ending = ending }) at.lines at.each at.fit
       (fits (length seen))
   begin_fits own todo said seen line at (Calls s) fits =
       run_fits own todo said seen (length seen ∷ [])

@@ -1,10 +1,11 @@
 -- Looks at fronts of a history are known by their numbers, and lawful ones are in the history with what they added.
-use Rattle.std.proofs.Common.{◌≡◌, ◌∙◌, ◌+◌, ◌++◌, ◌==◌, ℕ, Bool, true, false, List, [], ◌∷◌, map, length, take, Option, Some, None, refl, sym, ap, subst, append_assoc, length-append}
+use Rattle.std.proofs.Common.{◌≡◌, ◌∙◌, ◌+◌, ◌++◌, ◌==◌, ℕ, Bool, true, false, List, [], ◌∷◌, map, length, take, Option}
+use Rattle.std.proofs.Common.{Some, None, refl, sym, ap, subst, append_assoc, length-append}
 use Rattle.std.specs.Prelude.{if◌then◌else◌}
 use Rattle.module_table.specs.declared.events.Event.{Event}
 use Rattle.shared_modules.specs.Laws.{Placed, own_from}
 use Rattle.thread_blocks.specs.Turns.{Thread, Turns, event_of, turn, with_event}
-use Rattle.thread_blocks.specs.TurnsAlike.{AllFronts, IsFront}
+use Rattle.thread_blocks.specs.Turns.{AllFronts, IsFront}
 use Rattle.lawful_points.specs.Laws.{AtFronts}
 use Rattle.lawful_points.specs.Orders.{looks_of}
 use Rattle.lawful_points.specs.Points.{AreLawful, Look, made, placed, seen_by}
@@ -52,7 +53,8 @@ abbrev AreThere : List Event → List Placed → Type 0
 AreThere history [] = Unit {0}
 AreThere history (p ∷ more) = IsThere history p × AreThere history more
 
-there_if : (b : Bool) (history : List Event) (p : Placed) (more : List Placed) → IsThere history p → AreThere history more
+there_if : (b : Bool) (history : List Event) (p : Placed) (more : List Placed) → IsThere history p
+    → AreThere history more
     → AreThere history (if b then p ∷ more else more)
 there_if true history p more is are = (is, are)
 there_if false history p more is are = are
@@ -65,7 +67,8 @@ own_there i before (e ∷ es) =
     subst (λ (n : ℕ). AreThere (before ++ e ∷ es) (own_from i n es)) (length-append before (e ∷ []))
     (subst (λ (h : List Event). AreThere h (own_from i (length (before ++ e ∷ [])) es)) shift (own_there i
     (before ++ e ∷ []) es)) in
-    there_if (e.thread == i) (before ++ e ∷ es) (record { at = length before; event = e }) (own_from i (length before + 1) es)
+    there_if (e.thread == i) (before ++ e ∷ es) (record { at = length before; event = e })
+    (own_from i (length before + 1) es)
     (before, (refl, (es, sym shift))) rest
 
 there_first : (history : List Event) (xs ys : List Placed) → AreThere history (xs ++ ys)
@@ -74,7 +77,8 @@ there_first history [] ys are = (tt, are)
 there_first history (x ∷ xs) ys are = let more = there_first history xs ys are.1 in ((are.0, more.0), more.1)
 
 -- what a look saw is a front, and what it added stands there: so it is with both
-with_own : (history seen : List Event) (e : Option Event) → IsFront seen history → AreThere history (placed (length seen) e)
+with_own : (history seen : List Event) (e : Option Event) → IsFront seen history
+    → AreThere history (placed (length seen) e)
     → IsFront (with_event seen e) history
 with_own history seen None front are = front
 with_own history seen (Some e) front are =
@@ -84,7 +88,8 @@ with_own history seen (Some e) front are =
     subst (λ (before : List Event). IsFront (before ++ e ∷ []) history) same at.1.1
 
 module _ {S L : Type 0} (x : Turns S L Event) (event : L → List Event → Option Event) (history : List Event) where
-  turns_there : (points : List (List Event)) (t : Thread S L Event) → AllFronts (seen_by (looks_of x event t points)) history
+  turns_there : (points : List (List Event)) (t : Thread S L Event)
+      → AllFronts (seen_by (looks_of x event t points)) history
       → AreThere history (made (looks_of x event t points)) → AtFronts x event history t points
   turns_there [] t fronts are = tt
   turns_there (seen ∷ more) t fronts are =

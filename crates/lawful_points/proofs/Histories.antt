@@ -1,12 +1,13 @@
 -- The looks of a thread in an order of turns are lawful in the history that the order leaves.
-use Rattle.std.proofs.Common.{◌≡◌, ◌∙◌, ◌+◌, ◌++◌, ◌==◌, ◌&&◌, ℕ, Bool, true, false, not, List, [], ◌∷◌, length, Option, Some, None, refl, sym, ap, arith, append-nil, append_assoc, length-append}
+use Rattle.std.proofs.Common.{◌≡◌, ◌∙◌, ◌+◌, ◌++◌, ◌==◌, ◌&&◌, ℕ, Bool, true, false, not, List, [], ◌∷◌, length, Option}
+use Rattle.std.proofs.Common.{Some, None, refl, sym, ap, arith, append-nil, append_assoc, length-append}
 use Rattle.std.specs.Prelude.{if◌then◌else◌, option_and_then, option_to_list}
 use Rattle.module_table.specs.declared.events.Event.{Event}
 use Rattle.shared_modules.specs.Laws.{Placed, own_from}
 use Rattle.thread_blocks.specs.Held.{Held}
 use Rattle.thread_blocks.specs.JobWorlds.{Shared, shared_order, shared_turn}
 use Rattle.thread_blocks.specs.Turns.{Phase, Idle, Mid, Thread, Turns, at_number, event_of, next_line, with_event}
-use Rattle.thread_blocks.specs.TurnsAlike.{AllFronts, IsFront}
+use Rattle.thread_blocks.specs.Turns.{AllFronts, IsFront}
 use Rattle.thread_blocks.proofs.Orders.{front-trans, order-front, turn-front}
 use Rattle.lawful_points.specs.Orders.{is_over, look_at, look_if, look_in, looks_in}
 use Rattle.lawful_points.specs.Points.{AreLawful, Follows, Look, made, placed, seen_by}

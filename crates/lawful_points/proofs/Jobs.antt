@@ -1,5 +1,6 @@
 -- The points of every job's threads are lawful.
-use Rattle.std.proofs.Common.{◌≡◌, ◌∙◌, ◌*◌, ℕ, zero, suc, Bool, true, false, List, [], map, Option, Some, None, refl, sym, ap, subst, arith}
+use Rattle.std.proofs.Common.{◌≡◌, ◌∙◌, ◌*◌, ℕ, zero, suc, Bool, true, false, List, [], map, Option, Some, None, refl}
+use Rattle.std.proofs.Common.{sym, ap, subst, arith}
 use Rattle.std.specs.Prelude.{option_map, slice_get}
 use Rattle.std.proofs.lemmas.Option.{same_Some, slice_get-map}
 use Rattle.job_text.specs.declared.thread_lines.Action.{Action}
@@ -20,7 +21,8 @@ use Rattle.thread_blocks.proofs.Endings.{thread_at, threads_ended}
 use Rattle.lawful_points.specs.Laws.{LinesTellLooks, LooksAreLawful, PointsAreLawful}
 use Rattle.lawful_points.specs.Orders.{job_looks}
 use Rattle.lawful_points.specs.Points.{AreLawful}
-use Rattle.lawful_points.specs.Told.{AreLawfulPoints, points_of, told_by}
+use Rattle.lawful_points.specs.Told.{points_of, told_by}
+use Rattle.lawful_points.specs.ToldLaws.{AreLawfulPoints}
 use Rattle.lawful_points.proofs.Histories.{order_lawful}
 use Rattle.lawful_points.proofs.Numbers.{numbers_lawful}
 use Rattle.lawful_points.proofs.Orders.{HasAt, order_told}
@@ -33,7 +35,8 @@ unless_named : {R : Type 0} (thread : ℕ) (refusal : Option R) (e found : Event
 unless_named thread None e found is same = let here : e ≡ found = cc in subst (λ (x : Event). x.thread ≡ thread) here is
 unless_named thread (Some refusal) e found is same = cc
 
-action_named : {B : Type 0} (l : Loads B) (thread number image : ℕ) (action : Action) (seen : List Event) (found : Event)
+action_named : {B : Type 0} (l : Loads B) (thread number image : ℕ) (action : Action) (seen : List Event)
+    (found : Event)
     → event_by l thread (record { number = number; told = record { image = image; action = action } }) seen ≡ Some found
     → found.thread ≡ thread
 action_named l thread number image (Call symbol a b c) seen found same = cc
@@ -60,7 +63,8 @@ module _ (l : Loads ℕ) (fuel : ℕ) where
     lawful : (thread : ℕ) → AreLawful thread (job_world l fuel lines order).events (job_looks l fuel lines order thread)
     unfolding job_world job_looks
     lawful thread =
-        order_lawful (λ i. thread_turns l i fuel) (λ i. event_by l i) (λ i line seen e same. event_named l i line seen e same)
+        order_lawful (λ i. thread_turns l i fuel) (λ i. event_by l i)
+        (λ i line seen e same. event_named l i line seen e same)
         thread (whole_order (4 * fuel) lines order) (job_start plain_operations l lines) refl
 
     -- what thread i told
@@ -85,7 +89,8 @@ pub looks_lawful : LooksAreLawful
 looks_lawful l fuel lines order thread = lawful l fuel lines order thread
 
 -- what thread i says of its lines
-pub said_lines : (l : Loads ℕ) (fuel : ℕ) (lines : List (List ThreadLine)) (order : List ℕ) (i : ℕ) (own : List ThreadLine)
+pub said_lines : (l : Loads ℕ) (fuel : ℕ) (lines : List (List ThreadLine)) (order : List ℕ) (i : ℕ)
+    (own : List ThreadLine)
     (t : Thread Runs Line Event) → at_number lines (suc i) ≡ Some own
     → at_number (job_world l fuel lines order).threads (suc i) ≡ Some t
     → said_by (suc i) (numbered_lines 1 own) t.said ≡ points_of (job_looks l fuel lines order (suc i))
@@ -94,15 +99,18 @@ said_lines l fuel lines order i own t at found =
     let told = told_at l fuel lines order i own at in
     let looks = points_of (job_looks l fuel lines order (suc i)) in
     let over : IsFinished t.todo t.phase =
-    subst (λ (u : Thread Runs Line Event). IsFinished u.todo u.phase) (same_Some ended.0 t (sym ended.1.0 ∙ found)) ended.1.1 in
+    subst (λ (u : Thread Runs Line Event). IsFinished u.todo u.phase)
+    (same_Some ended.0 t (sym ended.1.0 ∙ found)) ended.1.1 in
     let at_end : HasTold (suc i) (numbered_lines 1 own) t.todo t.phase t.said looks =
     subst (λ (u : Thread Runs Line Event). HasTold (suc i) (numbered_lines 1 own) u.todo u.phase u.said looks)
     (same_Some told.0 t (sym told.1.0 ∙ found)) told.1.1 in
-    last_told (suc i) (thread_turns l (suc i) fuel) (event_by l (suc i)) (λ line seen h. turns_tell l fuel (suc i) line seen h)
+    last_told (suc i) (thread_turns l (suc i) fuel) (event_by l (suc i))
+    (λ line seen h. turns_tell l fuel (suc i) line seen h)
     (numbered_lines 1 own) t.todo t.phase t.said looks over at_end
 
 -- what a transcript shows of thread i
-pub shown_at : (transcript : Shown) (w : Shared ℕ Bool ℕ Line) (i : ℕ) (said : List ShownLine) (t : Thread Runs Line Event)
+pub shown_at : (transcript : Shown) (w : Shared ℕ Bool ℕ Line) (i : ℕ) (said : List ShownLine)
+    (t : Thread Runs Line Event)
     → Tells w transcript → slice_get transcript.threads i ≡ Some said → slice_get w.threads i ≡ Some t
     → map Some said ≡ map shown t.said
 shown_at transcript w i said t told found there =

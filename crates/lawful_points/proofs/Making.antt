@@ -1,5 +1,6 @@
 -- Events of a thread are those that its lines made, one by one.
-use Rattle.std.proofs.Common.{◌≡◌, ◌∙◌, ◌+◌, ◌++◌, ◌==◌, ℕ, zero, suc, Bool, true, false, List, [], ◌∷◌, length, map, Some, None, refl, sym, ap, subst, inl, inr, arith, append_assoc, eq-eqb, get_or}
+use Rattle.std.proofs.Common.{◌≡◌, ◌∙◌, ◌+◌, ◌++◌, ◌==◌, ℕ, zero, suc, Bool, true, false, List, [], ◌∷◌, length, map}
+use Rattle.std.proofs.Common.{Some, None, refl, sym, ap, subst, inl, inr, arith, append_assoc, eq-eqb, get_or}
 use Rattle.std.specs.Prelude.{◌⊎◌, All, if◌then◌else◌, slice_get}
 use Rattle.std.proofs.lemmas.Option.{get_or_from_slice_get, slice_get-get_or, slice_get_within}
 use Rattle.job_text.specs.declared.thread_lines.Action.{Action}
@@ -17,7 +18,8 @@ use Rattle.thread_blocks.specs.Lines.{Line}
 use Rattle.thread_blocks.specs.Turns.{at_number}
 use Rattle.lawful_points.specs.Made.{EventsAreMade, HasMade, IsLine, IsMade, MadeOne, SaysEvent}
 use Rattle.lawful_points.specs.Points.{placed}
-use Rattle.lawful_points.specs.Told.{Point, events_of, told_by, told_line}
+use Rattle.lawful_points.specs.Told.{Point, told_by, told_line}
+use Rattle.lawful_points.specs.ToldLaws.{events_of}
 use Rattle.lawful_points.proofs.Fitting.{AllShownFit, Fits}
 
 -- ** one of some placed events
@@ -73,7 +75,8 @@ own_has thread first zero (x ∷ es) e at own =
 own_has thread first (suc k) (x ∷ es) e at own =
     let next : first + 1 + k ≡ first + suc k = omega arith in
     if_more (x.thread == thread) (at_place first x) (own_from thread (first + 1) es) (at_place (first + suc k) e)
-    (subst (λ (n : ℕ). Has (own_from thread (first + 1) es) (at_place n e)) next (own_has thread (first + 1) k es e at own))
+    (subst (λ (n : ℕ). Has (own_from thread (first + 1) es) (at_place n e)) next
+    (own_has thread (first + 1) k es e at own))
 
 -- it stands in the history, at its place
 record StandsAt (first : ℕ) (es : List Event) (q : Placed) : Type 0 where
@@ -139,7 +142,8 @@ module _ (thread number image : ℕ) where
   open_told points instance fits q has =
       let point = fits.1.0 in
       let e : Event = event_at true in
-      let one : Has (at_place point e ∷ []) q = subst (λ (ps : List ℕ). Has (tells Open ps (Opened instance)) q) fits.1.1 has in
+      let one : Has (at_place point e ∷ []) q =
+      subst (λ (ps : List ℕ). Has (tells Open ps (Opened instance)) q) fits.1.1 has in
       (elim one [
         | inl same ↦ subst (Makes Open points (Opened instance)) same (opened_made points instance point fits.1.1)
         | inr none ↦ absurd none
@@ -222,14 +226,16 @@ module _ (thread : ℕ) where
     pub shows_is : slice_get said k ≡ Some shows
     pub made : HasMade thread (number + k) line shows q.at q.event
 
-  lines_told : (number : ℕ) (own : List ThreadLine) (said : List ShownLine) → AllShownFit (numbered_lines number own) said
+  lines_told : (number : ℕ) (own : List ThreadLine) (said : List ShownLine)
+      → AllShownFit (numbered_lines number own) said
       → (q : Placed) → Has (told_from number own said) q → MadeAmong number own said q
   lines_told number [] said fit q has = absurd has
   lines_told number (line ∷ own) [] fit q has = absurd has
   lines_told number (line ∷ own) (shows ∷ said) fit q has =
       let here = told_line thread (record { number = number; told = line }) shows in
       (elim (has_either (events_of here) (told_from (suc number) own said) q
-      (subst (λ (ps : List Placed). Has ps q) (events_append here (told_by thread (numbered_lines (suc number) own) said)) has)) [
+      (subst (λ (ps : List Placed). Has ps q)
+      (events_append here (told_by thread (numbered_lines (suc number) own) said)) has)) [
         | inl first ↦
             let same : number ≡ number + 0 = omega arith in
             record {

@@ -1,5 +1,6 @@
 -- In any order of turns each event names a thread of the job, and each thread's lines fit what they say.
-use Rattle.std.proofs.Common.{◌≡◌, ◌∙◌, ◌*◌, ◌++◌, ℕ, zero, suc, List, [], ◌∷◌, length, map, Option, Some, None, refl, sym, ap, subst, inl, inr, arith, length-set}
+use Rattle.std.proofs.Common.{◌≡◌, ◌∙◌, ◌*◌, ◌++◌, ℕ, zero, suc, List, [], ◌∷◌, length, map, Option, Some, None, refl}
+use Rattle.std.proofs.Common.{sym, ap, subst, inl, inr, arith, length-set}
 use Rattle.std.specs.Prelude.{◌⊎◌, All, option_and_then, slice_get, slice_set}
 use Rattle.std.proofs.lemmas.List.{length-map}
 use Rattle.std.proofs.lemmas.List.Elements.{All-nil, All-push}
@@ -10,14 +11,17 @@ use Rattle.module_table.specs.declared.events.Event.{Event}
 use Rattle.transcript_text.specs.Texts.{Shown}
 use Rattle.thread_blocks.specs.Held.{Held, owned_by, with_owned}
 use Rattle.thread_blocks.specs.Instances.{Loads}
-use Rattle.thread_blocks.specs.JobWorlds.{Shared, Tells, blocks_in, changed, job_start, job_world, numbered_lines, ready_from, shared_order, shared_turn, thread_ready, with_data}
+use Rattle.thread_blocks.specs.JobWorlds.{Shared, Tells, blocks_in, changed, job_start, job_world, numbered_lines}
+use Rattle.thread_blocks.specs.JobWorlds.{ready_from, shared_order, shared_turn, thread_ready, with_data}
 use Rattle.thread_blocks.specs.Lines.{Line, event_by}
 use Rattle.thread_blocks.specs.MachineTurns.{shown}
 use Rattle.thread_blocks.specs.RunTime.{Runs, thread_turns}
-use Rattle.thread_blocks.specs.Turns.{Said, Phase, Idle, Mid, Thread, Turns, IsFinished, at_number, event_of, next_line, ready, turn, whole_order, with_event}
+use Rattle.thread_blocks.specs.Turns.{Said, Phase, Idle, Mid, Thread, Turns, IsFinished, at_number, event_of, next_line}
+use Rattle.thread_blocks.specs.Turns.{ready, turn, whole_order, with_event}
 use Rattle.thread_blocks.proofs.Endings.{thread_at, threads_ended}
 use Rattle.thread_blocks.proofs.Orders.{get-set, get-set_same, turned}
-use Rattle.lawful_points.proofs.Fitting.{AllFit, BeginFits, HasFit, ResumeFits, begins_fit, first_fits, last_fits, resumes_fit, turn_fits}
+use Rattle.lawful_points.proofs.Fitting.{AllFit, BeginFits, HasFit, ResumeFits, begins_fit, first_fits, last_fits}
+use Rattle.lawful_points.proofs.Fitting.{resumes_fit, turn_fits}
 use Rattle.lawful_points.proofs.Jobs.{event_named}
 use Rattle.guest_arithmetic.specs.Plain.{plain_operations}
 
@@ -58,7 +62,8 @@ module _ {W F B : Type 0} (x : ℕ → Turns (Held W F B) Line Event) (event : �
     is_thread : (w : World) (j : ℕ) (t : One) → length w.threads ≡ count → at_number w.threads j ≡ Some t
         → IsThread count j
     is_thread w zero t long at = cc
-    is_thread w (suc j) t long at = let within = slice_get_within w.threads j t at in (omega arith, omega (arith, within, long))
+    is_thread w (suc j) t long at = let within = slice_get_within w.threads j t at in
+        (omega arith, omega (arith, within, long))
 
     line_named : (j : ℕ) (line : Option Line) (seen : List Event) (e : Event)
         → option_and_then (λ (x : Line). event j x seen) line ≡ Some e → e.thread ≡ j
@@ -116,7 +121,8 @@ module _ {W F B : Type 0} (x : ℕ → Turns (Held W F B) Line Event) (event : �
               let same : h.0 ≡ u = cc in (
                 v,
                 (
-                  subst (λ (n : ℕ). slice_get (slice_set w.threads j v) n ≡ Some v) here (get-set_same w.threads j u v at),
+                  subst (λ (n : ℕ). slice_get (slice_set w.threads j v) n ≡ Some v) here
+                      (get-set_same w.threads j u v at),
                   turned_fits w (suc j) own u (subst (λ (t : One). FitOf own t) same h.1.1),
                 ),
               )
@@ -139,7 +145,8 @@ module _ {W F B : Type 0} (x : ℕ → Turns (Held W F B) Line Event) (event : �
 -- ** a job
 
 module _ (l : Loads ℕ) (fuel : ℕ) where
-  ready_count : (first : ℕ) (lines : List (List ThreadLine)) → length (ready_from plain_operations l first lines) ≡ length lines
+  ready_count : (first : ℕ) (lines : List (List ThreadLine))
+      → length (ready_from plain_operations l first lines) ≡ length lines
   ready_count first [] = refl
   ready_count first (own ∷ lines) = ap suc (ready_count (suc first) lines)
 
@@ -153,8 +160,10 @@ module _ (l : Loads ℕ) (fuel : ℕ) where
     pub world_named : All (λ (e : Event). IsThread (length lines) e.thread) (job_world l fuel lines order).events
     unfolding job_world
     world_named =
-        order_named (λ i. thread_turns l i fuel) (λ i. event_by l i) (λ i line seen e same. event_named l i line seen e same)
-        (length lines) (whole_order (4 * fuel) lines order) (job_start plain_operations l lines) (ready_count 1 lines) (All-nil _)
+        order_named (λ i. thread_turns l i fuel) (λ i. event_by l i)
+        (λ i line seen e same. event_named l i line seen e same)
+        (length lines) (whole_order (4 * fuel) lines order) (job_start plain_operations l lines) (ready_count 1 lines)
+        (All-nil _)
 
     fit_at : (i : ℕ) (own : List ThreadLine) → slice_get lines i ≡ Some own
         → HasAt (λ i. thread_turns l i fuel) (λ i. event_by l i) (λ i line seen h. begins_fit l i fuel line seen h)
@@ -162,10 +171,14 @@ module _ (l : Loads ℕ) (fuel : ℕ) where
     unfolding job_world
     fit_at i own at =
         order_fits (λ i. thread_turns l i fuel) (λ i. event_by l i) (λ i line seen h. begins_fit l i fuel line seen h)
-        (λ i seen h. resumes_fit l i fuel seen h) (whole_order (4 * fuel) lines order) (job_start plain_operations l lines) i
+        (λ i seen h. resumes_fit l i fuel seen h) (whole_order (4 * fuel) lines order)
+        (job_start plain_operations l lines) i
         (numbered_lines 1 own) (
           ready (thread_ready plain_operations l (suc i)) (numbered_lines 1 own),
-          (thread_at l 1 lines i (suc i) own (omega arith) at, first_fits (numbered_lines 1 own) (thread_ready plain_operations l (suc i))),
+          (
+            thread_at l 1 lines i (suc i) own (omega arith) at,
+            first_fits (numbered_lines 1 own) (thread_ready plain_operations l (suc i)),
+          ),
         )
 
     pub world_fits : (i : ℕ) (own : List ThreadLine) (t : Thread Runs Line Event) → slice_get lines i ≡ Some own
@@ -174,7 +187,8 @@ module _ (l : Loads ℕ) (fuel : ℕ) where
         let ended = threads_ended l fuel lines order (suc i) own at in
         let fit = fit_at i own at in
         let over : IsFinished t.todo t.phase =
-        subst (λ (u : Thread Runs Line Event). IsFinished u.todo u.phase) (same_Some ended.0 t (sym ended.1.0 ∙ found)) ended.1.1 in
+        subst (λ (u : Thread Runs Line Event). IsFinished u.todo u.phase)
+        (same_Some ended.0 t (sym ended.1.0 ∙ found)) ended.1.1 in
         let is : HasFit (numbered_lines 1 own) t.todo t.phase t.said =
         subst (λ (u : Thread Runs Line Event). HasFit (numbered_lines 1 own) u.todo u.phase u.said)
         (same_Some fit.0 t (sym fit.1.0 ∙ found)) fit.1.1 in

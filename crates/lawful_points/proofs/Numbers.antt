@@ -1,12 +1,14 @@
 -- Lawful looks have lawful points.
-use Rattle.std.proofs.Common.{◌≡◌, ◌∙◌, ◌+◌, ◌++◌, ◌≤◌, ℕ, List, [], ◌∷◌, length, Option, Some, None, refl, ap, subst, arith, length-append}
+use Rattle.std.proofs.Common.{◌≡◌, ◌∙◌, ◌+◌, ◌++◌, ◌≤◌, ℕ, List, [], ◌∷◌, length, Option, Some, None, refl, ap, subst}
+use Rattle.std.proofs.Common.{arith, length-append}
 use Rattle.std.specs.Prelude.{if◌then◌else◌, is_some}
 use Rattle.module_table.specs.declared.events.Event.{Event}
 use Rattle.shared_modules.specs.Laws.{Placed}
 use Rattle.thread_blocks.specs.Turns.{with_event}
-use Rattle.thread_blocks.specs.TurnsAlike.{AllFronts, IsFront}
+use Rattle.thread_blocks.specs.Turns.{AllFronts, IsFront}
 use Rattle.lawful_points.specs.Points.{AreLawful, Follows, Look, made, placed, seen_by}
-use Rattle.lawful_points.specs.Told.{AreLawfulPoints, AreWithin, Rise, events_of, points_of}
+use Rattle.lawful_points.specs.Told.{points_of}
+use Rattle.lawful_points.specs.ToldLaws.{AreLawfulPoints, AreWithin, Rise, events_of}
 
 front_long : (front whole : List Event) → IsFront front whole → length front ≤ length whole
 front_long front whole is =

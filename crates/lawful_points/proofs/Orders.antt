@@ -1,5 +1,7 @@
 -- The looks of a thread in an order of turns are those that its lines tell.
-use Rattle.std.proofs.Common.{◌≡◌, ◌∙◌, ◌++◌, ◌==◌, ◌&&◌, ℕ, zero, suc, Bool, true, false, not, List, [], ◌∷◌, length, Option, Some, None, refl, sym, ap, subst, inl, inr, arith, append-nil, append_assoc, ne_eqb, eq-eqb}
+use Rattle.std.proofs.Common.{◌≡◌, ◌∙◌, ◌++◌, ◌==◌, ◌&&◌, ℕ, zero, suc, Bool, true, false, not, List, [], ◌∷◌, length}
+use Rattle.std.proofs.Common.{Option, Some, None, refl, sym, ap, subst, inl, inr, arith, append-nil, append_assoc}
+use Rattle.std.proofs.Common.{ne_eqb, eq-eqb}
 use Rattle.std.specs.Prelude.{option_and_then, slice_get, slice_set}
 use Rattle.std.proofs.lemmas.Bool.{cases_eq}
 use Rattle.std.proofs.lemmas.List.{map-append}
@@ -7,7 +9,8 @@ use Rattle.module_table.specs.declared.events.Event.{Event}
 use Rattle.thread_blocks.specs.Held.{Held, owned_by, with_owned}
 use Rattle.thread_blocks.specs.JobWorlds.{Shared, blocks_in, changed, shared_order, shared_turn, with_data}
 use Rattle.thread_blocks.specs.Lines.{Line}
-use Rattle.thread_blocks.specs.Turns.{Said, Phase, Idle, Mid, Thread, Turns, IsFinished, at_number, event_of, next_line, turn}
+use Rattle.thread_blocks.specs.Turns.{Said, Phase, Idle, Mid, Thread, Turns, IsFinished, at_number, event_of, next_line}
+use Rattle.thread_blocks.specs.Turns.{turn}
 use Rattle.thread_blocks.proofs.Orders.{get-set, get-set_same, turned}
 use Rattle.thread_blocks.proofs.Turns.{turn-finished}
 use Rattle.lawful_points.specs.Orders.{is_over, look_at, look_if, look_in, looks_in}
@@ -35,7 +38,8 @@ module _ {W F B : Type 0} (f : Held W F B → Held W F B) where
   over_changed [] (Mid left points h) = refl
   over_changed (line ∷ todo) (Mid left points h) = refl
 
-  next_changed : (todo : List Line) (phase : Phase (Held W F B)) → next_line todo (changed f phase) ≡ next_line todo phase
+  next_changed : (todo : List Line) (phase : Phase (Held W F B))
+      → next_line todo (changed f phase) ≡ next_line todo phase
   next_changed [] phase = refl
   next_changed (line ∷ todo) (Idle h) = refl
   next_changed (line ∷ todo) (Mid left points h) = refl
@@ -76,9 +80,11 @@ module _ {W F B : Type 0} (x : ℕ → Turns (Held W F B) Line Event) (event : �
       let now = turn_told i (x i) (event i) (begins i) own (lent w t) w.events told
       (changed_told f i own t.todo t.phase t.said told at) (over_changed f t.todo t.phase ∙ over) in
       let same : event_of (event i) (lent w t) w.events ≡ event_of (event i) t w.events =
-      ap (λ (o : Option Line). option_and_then (λ (line : Line). event i line w.events) o) (next_changed f t.todo t.phase) in
+      ap (λ (o : Option Line). option_and_then (λ (line : Line). event i line w.events) o)
+      (next_changed f t.todo t.phase) in
       changed_told (λ h. with_owned h (blocks_in (owned_by h))) i own new.todo new.phase new.said _
-      (subst (λ (e : Option Event). TellsOf i own new (told ++ record { number = length w.events; added = e } ∷ [])) same now)
+      (subst (λ (e : Option Event). TellsOf i own new
+      (told ++ record { number = length w.events; added = e } ∷ [])) same now)
 
   -- thread i is there, and told this
   abbrev pub HasAt : ℕ → List Line → World → List Point → Type 0
@@ -120,7 +126,8 @@ module _ {W F B : Type 0} (x : ℕ → Turns (Held W F B) Line Event) (event : �
         (
           there ∙ h.1.0,
           subst (λ (b : Bool). TellsOf (suc i) own h.0
-              (told ++ points_of (look_if (b && not (is_over u.todo u.phase)) (look_at (event (suc j)) u w.events)))) (sym is)
+              (told ++ points_of (look_if (b && not (is_over u.todo u.phase)) (look_at (event (suc j)) u w.events))))
+              (sym is)
               (subst (λ (ps : List Point). TellsOf (suc i) own h.0 ps) (sym (append-nil told)) h.1.1),
         ),
       )
@@ -133,7 +140,8 @@ module _ {W F B : Type 0} (x : ℕ → Turns (Held W F B) Line Event) (event : �
     | inl same ↦
         let mine : slice_get w.threads i ≡ Some u = subst (λ (n : ℕ). slice_get w.threads n ≡ Some u) same at in
         subst (λ (n : ℕ). HasAt i own (shared_turn x event w (suc n) (Some u))
-        (told ++ points_of (look_in x event (suc i) (suc n) w.events (Some u)))) (sym same) (own_step i own w u told mine h)
+        (told ++ points_of (look_in x event (suc i) (suc n) w.events (Some u)))) (sym same)
+        (own_step i own w u told mine h)
     | inr ne ↦ other_step i j own w u told ne h
   ]
 

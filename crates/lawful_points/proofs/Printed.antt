@@ -1,5 +1,6 @@
 -- The points that a raced thread's lines print are those of its turns.
-use Rattle.std.proofs.Common.{◌≡◌, ◌∙◌, ◌++◌, ◌≤◌, ℕ, List, [], ◌∷◌, map, length, take, Option, Some, refl, sym, ap, subst, arith}
+use Rattle.std.proofs.Common.{◌≡◌, ◌∙◌, ◌++◌, ◌≤◌, ℕ, List, [], ◌∷◌, map, length, take, Option, Some, refl, sym, ap}
+use Rattle.std.proofs.Common.{subst, arith}
 use Rattle.std.proofs.lemmas.List.{length-map, map-append}
 use Rattle.job_text.specs.declared.thread_lines.ThreadLine.{ThreadLine}
 use Rattle.module_table.specs.declared.events.Event.{Event}
@@ -47,7 +48,8 @@ numbers_told thread (line ∷ lines) (s ∷ said) few =
 seen_of : (history : List Event) (points : List Point)
     → seen_by (map (look_by history) points) ≡ map (λ (number : ℕ). take number history) (map number_of points)
 seen_of history [] = refl
-seen_of history (point ∷ points) = ap (λ (more : List (List Event)). take point.number history ∷ more) (seen_of history points)
+seen_of history (point ∷ points) =
+    ap (λ (more : List (List Event)). take point.number history ∷ more) (seen_of history points)
 
 -- ** a raced thread
 

@@ -12,14 +12,15 @@ use Rattle.thread_blocks.specs.JobWorlds.{Shared, Tells, job_world, numbered_lin
 use Rattle.thread_blocks.specs.Lines.{Line, event_by}
 use Rattle.thread_blocks.specs.RunTime.{Runs, thread_turns}
 use Rattle.thread_blocks.specs.Turns.{Thread, Turns, IsFinished, at_number, turns}
-use Rattle.thread_blocks.specs.TurnsAlike.{AllFronts}
+use Rattle.thread_blocks.specs.Turns.{AllFronts}
 use Rattle.thread_blocks.proofs.Endings.{threads_ended}
 use Rattle.thread_blocks.proofs.Own.{own_turns}
 use Rattle.lawful_points.specs.Laws.{RacedPointsAreLawful, RunsAreRaced}
 use Rattle.lawful_points.specs.Orders.{job_looks, looks_of}
 use Rattle.lawful_points.specs.Points.{AreLawful, Look, seen_by}
 use Rattle.lawful_points.specs.Raced.{IsRacer, first_of, raced_looks}
-use Rattle.lawful_points.specs.Told.{AreLawfulPoints, points_of}
+use Rattle.lawful_points.specs.Told.{points_of}
+use Rattle.lawful_points.specs.ToldLaws.{AreLawfulPoints}
 use Rattle.lawful_points.proofs.Alone.{acting, acting_fronts, acting_turns, alone_told, seen_alone}
 use Rattle.lawful_points.proofs.Fronts.{same_looks}
 use Rattle.lawful_points.proofs.Jobs.{looks_lawful, said_lines, shown_at, turns_tell}
@@ -86,7 +87,8 @@ module _ (l : Loads ℕ) (fuel : ℕ) where
         (points_of looks) over
         (alone_told (suc i) (each (suc i)) (event (suc i)) tells (numbered_lines 1 own)
         (own_turns l fuel lines order (suc i) own none at).0 first []
-        (first_told (suc i) (each (suc i)) (event (suc i)) tells (numbered_lines 1 own) (thread_ready plain_operations l (suc i))))
+        (first_told (suc i) (each (suc i)) (event (suc i)) tells (numbered_lines 1 own)
+        (thread_ready plain_operations l (suc i))))
 
     lawful : AreLawful (suc i) world.events looks
     lawful =
@@ -95,7 +97,8 @@ module _ (l : Loads ℕ) (fuel : ℕ) where
         let both : points_of looks ≡ points_of among = sym told ∙ said_lines l fuel lines order i own last at there in
         subst (AreLawful (suc i) world.events) (sym (same_looks world.events looks among fronts is.fronts both)) is
 
-    racer : (transcript : Shown) (said : List ShownLine) → Tells world transcript → slice_get transcript.threads i ≡ Some said
+    racer : (transcript : Shown) (said : List ShownLine) → Tells world transcript
+        → slice_get transcript.threads i ≡ Some said
         → IsRacer l fuel (suc i) own transcript.events said
     racer transcript said tells found =
         let shows = shown_at transcript world i said last tells found there in record {
@@ -106,7 +109,8 @@ module _ (l : Loads ℕ) (fuel : ℕ) where
           told = shown_said (suc i) (numbered_lines 1 own) said last.said shows ∙ told;
         }
 
-each_raced : (l : Loads ℕ) (fuel : ℕ) (lines : List (List ThreadLine)) (order : List ℕ) (transcript : Shown) → HasNoData l
+each_raced : (l : Loads ℕ) (fuel : ℕ) (lines : List (List ThreadLine)) (order : List ℕ) (transcript : Shown)
+    → HasNoData l
     → Tells (job_world l fuel lines order) transcript
     → (thread : ℕ) (own : List ThreadLine) (said : List ShownLine) → at_number lines thread ≡ Some own
     → at_number transcript.threads thread ≡ Some said → IsRacer l fuel thread own transcript.events said

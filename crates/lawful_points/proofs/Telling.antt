@@ -1,5 +1,6 @@
 -- Each turn of a thread that is not over tells one point more: that of its look, with its event.
-use Rattle.std.proofs.Common.{◌≡◌, ◌∙◌, ◌+◌, ◌-◌, ◌++◌, ℕ, true, false, List, [], ◌∷◌, map, length, Option, Some, None, refl, sym, ap, arith, append-nil, append_assoc, length-append}
+use Rattle.std.proofs.Common.{◌≡◌, ◌∙◌, ◌+◌, ◌-◌, ◌++◌, ℕ, true, false, List, [], ◌∷◌, map, length, Option, Some, None}
+use Rattle.std.proofs.Common.{refl, sym, ap, arith, append-nil, append_assoc, length-append}
 use Rattle.std.specs.Prelude.{option_and_then, option_map}
 use Rattle.std.proofs.lemmas.List.{map-append}
 use Rattle.job_text.specs.declared.thread_lines.Action.{Action}
@@ -15,8 +16,10 @@ use Rattle.thread_blocks.specs.Instances.{Loads, left_by}
 use Rattle.transcript_text.specs.declared.outcomes.Line.{Line as ShownLine}
 use Rattle.transcript_text.specs.declared.outcomes.Outcome.{Outcome as Answer}
 use Rattle.thread_blocks.specs.MachineTurns.{answer_of, shown}
-use Rattle.thread_blocks.specs.Lines.{Line, begin_line, begun_by, begun_close, begun_open, event_at, event_by, unless_refused}
-use Rattle.thread_blocks.specs.Turns.{Ending, Stopped, Said, Begun, Says, Calls, Turns, Phase, Idle, Mid, Thread, IsFinished, after_look, after_run, event_of, ready, turn, turn_at, with_last}
+use Rattle.thread_blocks.specs.Lines.{Line, begin_line, begun_by, begun_close, begun_open, event_at, event_by}
+use Rattle.thread_blocks.specs.Lines.{unless_refused}
+use Rattle.thread_blocks.specs.Turns.{Ending, Stopped, Said, Begun, Says, Calls, Turns, Phase, Idle, Mid, Thread}
+use Rattle.thread_blocks.specs.Turns.{IsFinished, after_look, after_run, event_of, ready, turn, turn_at, with_last}
 use Rattle.lawful_points.specs.Orders.{is_over}
 use Rattle.lawful_points.specs.Told.{Point, added_by, told_by, told_line}
 
@@ -94,7 +97,8 @@ pub record IsBetween (thread : ℕ) (own todo : List Line) (said : List Said) (t
   pub told_is : said_by thread done said ≡ told
 
 -- in the middle of a line, which never adds an event
-pub record IsWithin (thread : ℕ) (own todo : List Line) (said : List Said) (points : List ℕ) (told : List Point) : Type 0 where
+pub record IsWithin (thread : ℕ) (own todo : List Line) (said : List Said) (points : List ℕ)
+    (told : List Point) : Type 0 where
   pub done : List Line
   pub line : Line
   pub lines : own ≡ done ++ (line ∷ todo)
@@ -107,12 +111,14 @@ HasTold thread own todo (Idle s) said told = IsBetween thread own todo said told
 HasTold thread own todo (Mid left points s) said told = IsWithin thread own todo said points told
 
 module _ {S : Type 0} (thread : ℕ) (x : Turns S Line Event) (event : Line → List Event → Option Event)
-    (begins : (line : Line) (seen : List Event) (s : S) → TellsBegun thread line (event line seen) (x.begin line seen s)) where
+    (begins : (line : Line) (seen : List Event) (s : S)
+    → TellsBegun thread line (event line seen) (x.begin line seen s)) where
   abbrev pub Tells : List Line → Thread S Line Event → List Point → Type 0
   Tells own t told = HasTold thread own t.todo t.phase t.said told
 
   -- a line that is over
-  line_told : (own todo : List Line) (said : List Said) (done : List Line) (line : Line) (last : Said) (told : List Point)
+  line_told : (own todo : List Line) (said : List Said) (done : List Line) (line : Line) (last : Said)
+      (told : List Point)
       → own ≡ done ++ (line ∷ todo) → length said ≡ length done
       → said_by thread done said ++ said_line thread line last ≡ told
       → IsBetween thread own todo (with_last said last) told
@@ -129,7 +135,8 @@ module _ {S : Type 0} (thread : ℕ) (x : Turns S Line Event) (event : Line → 
       → Tells own (after_run todo said seen points out) told
   run_told own todo said seen points told at (Ended stop left s) =
       line_told own todo said at.done at.line (record { points = points; ending = Stopped stop }) told at.lines at.each
-      (ap (λ (e : Option Event). said_by thread at.done said ++ map (λ (n : ℕ). record { number = n; added = e }) points)
+      (ap (λ (e : Option Event). said_by thread at.done said
+      ++ map (λ (n : ℕ). record { number = n; added = e }) points)
       (at.silent (Stopped stop)) ∙ at.told_is)
   run_told own todo said seen points told at (Waits left s) = at
 
@@ -150,7 +157,8 @@ module _ {S : Type 0} (thread : ℕ) (x : Turns S Line Event) (event : Line → 
         lines = at.lines;
         each = at.each;
         silent = tells.1;
-        told_is = ap (λ (added : Option Event). said_by thread at.done said ++ one_point (length seen) added) (sym tells.0)
+        told_is = ap (λ (added : Option Event). said_by thread at.done said ++ one_point (length seen) added)
+            (sym tells.0)
             ∙ ap (λ (before : List Point). before ++ one_point (length seen) e) at.told_is;
       }) (run x.steps x.fuel s)
 
@@ -170,12 +178,14 @@ module _ {S : Type 0} (thread : ℕ) (x : Turns S Line Event) (event : Line → 
         ∙ ap (λ (before : List Point). before ++ one_point number None) at.told_is);
   }
 
-  resume_told : (own todo : List Line) (said : List Said) (seen : List Event) (steps : ℕ) (points : List ℕ) (told : List Point)
+  resume_told : (own todo : List Line) (said : List Said) (seen : List Event) (steps : ℕ) (points : List ℕ)
+      (told : List Point)
       → IsWithin thread own todo said points told → (b : Begun S)
       → Tells own (after_look x steps todo said seen points b) told
   resume_told own todo said seen steps points told at (Says ending s) =
       line_told own todo said at.done at.line (record { points = points; ending = ending }) told at.lines at.each
-      (ap (λ (e : Option Event). said_by thread at.done said ++ map (λ (n : ℕ). record { number = n; added = e }) points)
+      (ap (λ (e : Option Event). said_by thread at.done said
+      ++ map (λ (n : ℕ). record { number = n; added = e }) points)
       (at.silent ending) ∙ at.told_is)
   resume_told own todo said seen steps points told at (Calls s) =
       run_told own todo said seen points told at (run x.steps steps s)
@@ -183,7 +193,8 @@ module _ {S : Type 0} (thread : ℕ) (x : Turns S Line Event) (event : Line → 
   turn_at_told : (own todo : List Line) (phase : Phase S) (said : List Said) (old seen : List Event) (told : List Point)
       → HasTold thread own todo phase said told → is_over todo phase ≡ false
       → Tells own (turn_at x todo phase said old seen)
-      (told ++ one_point (length seen) (event_of event (record { todo = todo; phase = phase; said = said; seen = old }) seen))
+      (told ++ one_point (length seen)
+      (event_of event (record { todo = todo; phase = phase; said = said; seen = old }) seen))
   turn_at_told own [] (Idle s) said old seen told at over = cc
   turn_at_told own (line ∷ todo) (Idle s) said old seen told at over =
       begin_told own todo said seen line told (event line seen) at (x.begin line seen s) (begins line seen s)
@@ -191,7 +202,8 @@ module _ {S : Type 0} (thread : ℕ) (x : Turns S Line Event) (event : Line → 
       resume_told own [] said seen (left - 1) (with_last points (length seen)) (told ++ one_point (length seen) None)
       (more_told own [] said points (length seen) told at) (x.resume seen s)
   turn_at_told own (line ∷ todo) (Mid left points s) said old seen told at over =
-      resume_told own (line ∷ todo) said seen (left - 1) (with_last points (length seen)) (told ++ one_point (length seen) None)
+      resume_told own (line ∷ todo) said seen (left - 1) (with_last points (length seen))
+      (told ++ one_point (length seen) None)
       (more_told own (line ∷ todo) said points (length seen) told at) (x.resume seen s)
 
   -- the law of one turn
@@ -205,7 +217,8 @@ module _ {S : Type 0} (thread : ℕ) (x : Turns S Line Event) (event : Line → 
   first_told own s = record { done = []; lines = refl; each = refl; told_is = refl }
 
   -- and one that is over has told what its lines tell
-  pub last_told : (own todo : List Line) (phase : Phase S) (said : List Said) (told : List Point) → IsFinished todo phase
+  pub last_told : (own todo : List Line) (phase : Phase S) (said : List Said) (told : List Point)
+      → IsFinished todo phase
       → HasTold thread own todo phase said told → said_by thread own said ≡ told
   last_told own [] (Idle s) said told over at =
       ap (λ (lines : List Line). said_by thread lines said) (at.lines ∙ append-nil at.done) ∙ at.told_is
@@ -214,7 +227,8 @@ module _ {S : Type 0} (thread : ℕ) (x : Turns S Line Event) (event : Line → 
   last_told own (line ∷ todo) (Mid left points s) said told over at = absurd over
 
   -- and has said something of each of its lines
-  pub last_count : (own todo : List Line) (phase : Phase S) (said : List Said) (told : List Point) → IsFinished todo phase
+  pub last_count : (own todo : List Line) (phase : Phase S) (said : List Said) (told : List Point)
+      → IsFinished todo phase
       → HasTold thread own todo phase said told → length said ≡ length own
   last_count own [] (Idle s) said told over at = at.each ∙ ap length (sym (at.lines ∙ append-nil at.done))
   last_count own (line ∷ todo) (Idle s) said told over at = absurd over
@@ -224,7 +238,8 @@ module _ {S : Type 0} (thread : ℕ) (x : Turns S Line Event) (event : Line → 
 -- ** lines of a job
 
 module _ {W F B : Type 0} (ops : Operations W F B) (l : Loads B) (show : List B → Ending) (thread : ℕ) where
-  never : (answer : Option Answer) → option_and_then (λ (x : Answer). let none : Option Event = None in none) answer ≡ None
+  never : (answer : Option Answer)
+      → option_and_then (λ (x : Answer). let none : Option Event = None in none) answer ≡ None
   never None = refl
   never (Some outcome) = refl
 
@@ -232,13 +247,15 @@ module _ {W F B : Type 0} (ops : Operations W F B) (l : Loads B) (show : List B 
   silent_tells line silent (Says ending h) = silent ending
   silent_tells line silent (Calls h) = (refl, silent)
 
-  open_tells : (line : Line) (seen : List Event) (h : Held W F B) (refusal : Option OpenRefusal) → line.told.action ≡ Open
+  open_tells : (line : Line) (seen : List Event) (h : Held W F B) (refusal : Option OpenRefusal)
+      → line.told.action ≡ Open
       → TellsBegun thread line (unless_refused refusal (event_at thread line.number true line.told.image))
       (begun_open ops l show thread line seen h refusal)
   open_tells line seen h None e = rw e refl
   open_tells line seen h (Some refusal) e = rw e refl
 
-  close_tells : (line : Line) (seen : List Event) (h : Held W F B) (refusal : Option CloseRefusal) → line.told.action ≡ Close
+  close_tells : (line : Line) (seen : List Event) (h : Held W F B) (refusal : Option CloseRefusal)
+      → line.told.action ≡ Close
       → TellsBegun thread line (unless_refused refusal (event_at thread line.number false line.told.image))
       (begun_close ops l show thread line seen h refusal)
   close_tells line seen h None e = rw e refl

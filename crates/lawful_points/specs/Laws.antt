@@ -8,7 +8,8 @@ use Rattle.lawful_points.specs.Made.{EventsAreMade}
 use Rattle.lawful_points.specs.Orders.{job_looks}
 use Rattle.lawful_points.specs.Points.{AreLawful}
 use Rattle.lawful_points.specs.Raced.{IsRaced, IsRacer, first_of}
-use Rattle.lawful_points.specs.Told.{AreLawfulPoints, points_of, told_by}
+use Rattle.lawful_points.specs.Told.{points_of, told_by}
+use Rattle.lawful_points.specs.ToldLaws.{AreLawfulPoints}
 use Rattle.lawful_points.specs.Printed.{printed_points}
 use Rattle.order_laws.specs.Alike.{AtHistory}
 use Rattle.thread_blocks.specs.Instances.{Loads}
@@ -17,7 +18,7 @@ use Rattle.thread_blocks.specs.JobWorlds.{Tells, job_world, numbered_lines}
 use Rattle.thread_blocks.specs.Lines.{event_by}
 use Rattle.thread_blocks.specs.RunTime.{thread_turns}
 use Rattle.thread_blocks.specs.Turns.{Thread, Turns, at_number}
-use Rattle.thread_blocks.specs.TurnsAlike.{IsFront}
+use Rattle.thread_blocks.specs.Turns.{IsFront}
 
 -- in any order of turns the looks of each thread are lawful, whatever is loaded
 abbrev pub LooksAreLawful : Type 0

@@ -1,5 +1,6 @@
 pub mod Points
 pub mod Told
+pub mod ToldLaws
 pub mod Printed
 pub mod Orders
 pub mod Raced

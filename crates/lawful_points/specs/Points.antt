@@ -3,7 +3,7 @@ use Rattle.std.specs.Prelude.{◌≡◌, ℕ, List, [], ◌∷◌, ◌++◌, len
 use Rattle.module_table.specs.declared.events.Event.{Event}
 use Rattle.shared_modules.specs.Laws.{Placed, own_events}
 use Rattle.thread_blocks.specs.Turns.{with_event}
-use Rattle.thread_blocks.specs.TurnsAlike.{AllFronts, IsFront}
+use Rattle.thread_blocks.specs.Turns.{AllFronts, IsFront}
 
 -- a look of a thread: the events that it saw, and the event that its turn added, if it added one
 pub record Look : Type 0 where

@@ -1,13 +1,12 @@
 -- The looks that the printed lines of a thread tell: their points, and the events that they added.
-use Rattle.std.specs.Prelude.{◌≡◌, ◌+◌, ◌≤◌, ℕ, true, false, List, [], ◌∷◌, ◌++◌, length, map, Option, Some, None, is_some, if◌then◌else◌}
+use Rattle.std.specs.Prelude.{ℕ, true, false, List, [], ◌∷◌, ◌++◌, length, map, Option, Some, None}
 use Rattle.job_text.specs.declared.thread_lines.Action.{Action}
 use Rattle.job_text.specs.declared.thread_lines.Action.TheVariants.{Open, Close}
 use Rattle.module_table.specs.declared.events.Event.{Event}
-use Rattle.shared_modules.specs.Laws.{Placed, own_events}
 use Rattle.transcript_text.specs.declared.outcomes.Line.{Line as ShownLine}
 use Rattle.transcript_text.specs.declared.outcomes.Outcome.{Outcome}
 use Rattle.transcript_text.specs.declared.outcomes.Outcome.TheVariants.{Opened, Closed}
-use Rattle.lawful_points.specs.Points.{Look, placed}
+use Rattle.lawful_points.specs.Points.{Look}
 use Rattle.thread_blocks.specs.Lines.{Line, event_at}
 
 -- a point: how many events a look saw, and the event that its turn added, if it added one
@@ -38,27 +37,3 @@ told_line thread line said =
 abbrev pub told_by : ℕ → List Line → List ShownLine → List Point
 told_by thread (line ∷ lines) (said ∷ more) = told_line thread line said ++ told_by thread lines more
 told_by thread lines said = []
-
--- ** lawful in a history
-
--- points from this number on never fall, and those after an event's point are above it
-abbrev pub Rise : ℕ → List Point → Type 0
-Rise least [] = Unit {0}
-Rise least (point ∷ more) =
-    (least ≤ point.number) × Rise (if is_some point.added then point.number + 1 else point.number) more
-
--- none is past the end of a history
-abbrev pub AreWithin : ℕ → List Point → Type 0
-AreWithin long [] = Unit {0}
-AreWithin long (point ∷ more) = (point.number ≤ long) × AreWithin long more
-
--- their events, each with its point
-abbrev pub events_of : List Point → List Placed
-events_of [] = []
-events_of (point ∷ more) = placed point.number point.added ++ events_of more
-
--- the points of a thread are lawful in a history: its events there are those of the points, each at its point
-pub record AreLawfulPoints (thread : ℕ) (history : List Event) (points : List Point) : Type 0 where
-  pub rise : Rise 0 points
-  pub within : AreWithin (length history) points
-  pub own : own_events thread history ≡ events_of points

@@ -1,16 +1,19 @@
 -- The addresses of a layout are the only ones of their kind.
-use Rattle.std.proofs.Common.{◌≡◌, ◌⊎◌, ◌∙◌, ◌+◌, ◌*◌, ◌<◌, ◌≤◌, ℕ, Bool, true, false, List, Option, Some, None, refl, sym, ap, subst, inl, inr, arith}
+use Rattle.std.proofs.Common.{◌≡◌, ◌⊎◌, ◌∙◌, ◌+◌, ◌*◌, ◌<◌, ◌≤◌, ℕ, Bool, true, false, List, Option, Some, None, refl}
+use Rattle.std.proofs.Common.{sym, ap, subst, inl, inr, arith}
 use Rattle.object_faults.specs.declared.class.SectionClass.{SectionClass}
 use Rattle.object_faults.specs.declared.class.SectionClass.TheVariants.{Executable, ReadOnly, Tls, Writable}
 use Rattle.link_faults.specs.declared.image_kind.ImageKind.{ImageKind}
 use Rattle.link_faults.specs.declared.image_kind.ImageKind.TheVariants.{Exe, Pie, Start, Late}
 use Rattle.link_faults.specs.ImageKinds.{base_of}
 use Rattle.tls_layout.specs.declared.sections.Section.{Section}
-use Rattle.tls_layout.specs.Places.{address_at, end_of, executable, initial_data, place_in, read_only, room, tls_image, zero_data}
+use Rattle.tls_layout.specs.Places.{address_at, end_of, executable, initial_data, place_in, read_only, room, tls_image}
+use Rattle.tls_layout.specs.Places.{zero_data}
 use Rattle.tls_layout.specs.Rounding.{page_up}
 use Rattle.tls_layout.specs.Sections.{section_at}
 use Rattle.tls_layout.proofs.Ends.{end_of-rises}
-use Rattle.layout_laws.specs.Layout.{AddressesAreOnly, AreAligned, ArePlaces, IsLeast, IsPastAll, IsPastClasses, RoomIsLeast, LiesAt, StandsBefore, class_number, has_address, is_zeros}
+use Rattle.layout_laws.specs.Layout.{AddressesAreOnly, AreAligned, ArePlaces, IsLeast, IsPastAll, IsPastClasses}
+use Rattle.layout_laws.specs.Layout.{RoomIsLeast, LiesAt, StandsBefore, class_number, has_address, is_zeros}
 use Rattle.layout_laws.proofs.Found.{Has, all_below, ends, lies_there, next_page, round_up-over, rounded}
 use Rattle.layout_laws.proofs.Only.{only, same_places}
 
@@ -36,7 +39,8 @@ module _ (kind : ImageKind) (sections : List Section) (aligned : AreAligned sect
   address_is (Writable true) has k here = rw here refl
   address_is (Writable false) has k here = rw here refl
 
-  no_address : (class : SectionClass) → has_address class ≡ false → (k : ℕ) → (section_at sections k).class ≡ Some class → f k ≡ None
+  no_address : (class : SectionClass) → has_address class ≡ false → (k : ℕ) → (section_at sections k).class ≡ Some class
+      → f k ≡ None
   unfolding address_at
   no_address Executable has k here = cc
   no_address ReadOnly has k here = cc
@@ -48,19 +52,22 @@ module _ (kind : ImageKind) (sections : List Section) (aligned : AreAligned sect
   unfolding address_at
   dropped_is k here = rw here refl
 
-  has_of : (class : SectionClass) → has_address class ≡ true → Has has_address (base_of kind) sections f class (from class)
+  has_of : (class : SectionClass) → has_address class ≡ true
+      → Has has_address (base_of kind) sections f class (from class)
   has_of class has = record { at = address_is class has }
 
   none_some : {a : ℕ} {o : Option ℕ} → o ≡ None → o ≡ Some a → ⊥
   none_some x y = let same = sym x ∙ y in cc
 
   -- of each class before the last, only one kind has addresses
-  alone_at : (class : SectionClass) → has_address class ≡ true → class_number class ≤ 3 → (i other : ℕ) (c : SectionClass)
+  alone_at : (class : SectionClass) → has_address class ≡ true → class_number class ≤ 3
+      → (i other : ℕ) (c : SectionClass)
       → (section_at sections i).class ≡ Some c → f i ≡ Some other → class_number c ≡ class_number class → c ≡ class
   alone_at Executable has few i other Executable at there same = refl
   alone_at ReadOnly has few i other ReadOnly at there same = refl
   alone_at (Tls true) has few i other (Tls true) at there same = refl
-  alone_at (Tls true) has few i other (Tls false) at there same = absurd (none_some (no_address (Tls false) refl i at) there)
+  alone_at (Tls true) has few i other (Tls false) at there same =
+      absurd (none_some (no_address (Tls false) refl i at) there)
   alone_at (Tls false) has few i other c at there same = cc
   alone_at (Writable initial) has few i other c at there same = absurd (omega (arith, few))
   alone_at Executable has few i other ReadOnly at there same = absurd (omega (arith, same))
@@ -101,17 +108,20 @@ module _ (kind : ImageKind) (sections : List Section) (aligned : AreAligned sect
 
   second : Begins ReadOnly (from ReadOnly)
   unfolding read_only executable from
-  second = next_page has_address (base_of kind) sections f Executable ReadOnly (from Executable) refl (has_of Executable refl)
+  second = next_page has_address (base_of kind) sections f Executable ReadOnly (from Executable) refl
+      (has_of Executable refl)
       (alone_at Executable refl (omega arith)) first
 
   third : (initial : Bool) → Begins (Tls initial) (from (Tls initial))
   unfolding tls_image read_only from
-  third initial = next_page has_address (base_of kind) sections f ReadOnly (Tls initial) (from ReadOnly) refl (has_of ReadOnly refl)
+  third initial = next_page has_address (base_of kind) sections f ReadOnly (Tls initial) (from ReadOnly) refl
+      (has_of ReadOnly refl)
       (alone_at ReadOnly refl (omega arith)) second
 
   fourth : (initial : Bool) → Begins (Writable initial) (from (Writable true))
   unfolding initial_data tls_image from
-  fourth initial = next_page has_address (base_of kind) sections f (Tls true) (Writable initial) (from (Tls true)) refl (has_of (Tls true) refl)
+  fourth initial = next_page has_address (base_of kind) sections f (Tls true) (Writable initial) (from (Tls true)) refl
+      (has_of (Tls true) refl)
       (alone_at (Tls true) refl (omega arith)) (third true)
 
   -- ** where sections lie
@@ -121,14 +131,17 @@ module _ (kind : ImageKind) (sections : List Section) (aligned : AreAligned sect
       → LiesAt has_address (base_of kind) sections f class k (place_in class (from class) sections k)
 
   -- what stands before a section, where only its kind does
-  alone_before : (class : SectionClass) → has_address class ≡ true → class_number class ≤ 3 → (k i other : ℕ) (c : SectionClass)
+  alone_before : (class : SectionClass) → has_address class ≡ true → class_number class ≤ 3
+      → (k i other : ℕ) (c : SectionClass)
       → (section_at sections i).class ≡ Some c → f i ≡ Some other → StandsBefore c i class k
       → ((c ≡ class) × (i < k)) ⊎ (other + (section_at sections i).size ≤ from class)
   alone_before class has few k i other c at there (number, which) =
       let same = alone_at class has few i other c at there number in inl (same, before which same)
     where
-      before : ((is_zeros c ≡ false) × (is_zeros class ≡ true)) ⊎ ((is_zeros c ≡ is_zeros class) × (i < k)) → c ≡ class → i < k
-      before (inl zeros) same = absurd (let twice : true ≡ false = sym zeros.1 ∙ (ap is_zeros (sym same) ∙ zeros.0) in cc)
+      before : ((is_zeros c ≡ false) × (is_zeros class ≡ true)) ⊎ ((is_zeros c ≡ is_zeros class) × (i < k)) → c ≡ class
+          → i < k
+      before (inl zeros) same =
+          absurd (let twice : true ≡ false = sym zeros.1 ∙ (ap is_zeros (sym same) ∙ zeros.0) in cc)
       before (inr less) same = less.1
 
   lies_alone : (class : SectionClass) → has_address class ≡ true → class_number class ≤ 3 → Begins class (from class)
@@ -136,7 +149,8 @@ module _ (kind : ImageKind) (sections : List Section) (aligned : AreAligned sect
   lies_alone class has few begins k here = record {
     start = from class;
     begins = begins;
-    lies = lies_there has_address (base_of kind) sections f class (from class) (from class) k here (aligned k) (has_of class has) (omega arith)
+    lies = lies_there has_address (base_of kind) sections f class (from class) (from class) k here (aligned k)
+        (has_of class has) (omega arith)
         (alone_before class has few k) (λ m h. h.0);
   }
 
@@ -160,7 +174,8 @@ module _ (kind : ImageKind) (sections : List Section) (aligned : AreAligned sect
       → other + (section_at sections i).size ≤ from (Writable false)
   data_end i other at there =
       subst (λ (n : ℕ). other + (section_at sections i).size ≤ n) (sym zeros_begin)
-      (ends has_address (base_of kind) sections f (Writable true) (from (Writable true)) (has_of (Writable true) refl) i other at there)
+      (ends has_address (base_of kind) sections f (Writable true) (from (Writable true))
+      (has_of (Writable true) refl) i other at there)
 
   zeros_before : (k i other : ℕ) (c : SectionClass) → (section_at sections i).class ≡ Some c → f i ≡ Some other
       → StandsBefore c i (Writable false) k
@@ -180,23 +195,28 @@ module _ (kind : ImageKind) (sections : List Section) (aligned : AreAligned sect
   lies (Writable true) has k = λ here. record {
     start = from (Writable true);
     begins = fourth true;
-    lies = lies_there has_address (base_of kind) sections f (Writable true) (from (Writable true)) (from (Writable true)) k here (aligned k)
+    lies = lies_there has_address (base_of kind) sections f (Writable true) (from (Writable true))
+        (from (Writable true)) k here (aligned k)
         (has_of (Writable true) refl) (omega arith) (data_before k) (λ m h. h.0);
   }
   lies (Writable false) has k = λ here. record {
     start = from (Writable true);
     begins = fourth false;
-    lies = lies_there has_address (base_of kind) sections f (Writable false) (from (Writable true)) (from (Writable false)) k here (aligned k)
+    lies = lies_there has_address (base_of kind) sections f (Writable false) (from (Writable true))
+        (from (Writable false)) k here (aligned k)
         (has_of (Writable false) refl)
-        (subst (λ (n : ℕ). from (Writable true) ≤ n) (sym zeros_begin) (end_of-rises (Writable true) (from (Writable true)) sections))
+        (subst (λ (n : ℕ). from (Writable true) ≤ n) (sym zeros_begin)
+        (end_of-rises (Writable true) (from (Writable true)) sections))
         (zeros_before k)
-        (λ m h. subst (λ (n : ℕ). n ≤ m) (sym zeros_begin) (all_below (Writable true) (from (Writable true)) sections m h.0
+        (λ m h. subst (λ (n : ℕ). n ≤ m) (sym zeros_begin)
+        (all_below (Writable true) (from (Writable true)) sections m h.0
         (λ j here. h.1 j _ (Writable true) here (address_is (Writable true) refl j here) (refl, inl (refl, refl)))));
   }
 
   pub are_places : ArePlaces has_address (base_of kind) sections f
   are_places = record {
-    placed = λ k class here has. (place_in class (from class) sections k, (address_is class has k here, lies class has k here));
+    placed = λ k class here has.
+        (place_in class (from class) sections k, (address_is class has k here, lies class has k here));
     others = λ k class here none. no_address class none k here;
     dropped = dropped_is;
   }
@@ -209,14 +229,16 @@ module _ (kind : ImageKind) (sections : List Section) (aligned : AreAligned sect
   past_all i other c at there = of c at
     where
       data_start : from (Writable true) ≤ from (Writable false)
-      data_start = subst (λ (n : ℕ). from (Writable true) ≤ n) (sym zeros_begin) (end_of-rises (Writable true) (from (Writable true)) sections)
+      data_start = subst (λ (n : ℕ). from (Writable true) ≤ n) (sym zeros_begin)
+          (end_of-rises (Writable true) (from (Writable true)) sections)
 
       zeros_end : from (Writable false) ≤ end_of (Writable false) (from (Writable false)) sections
       zeros_end = end_of-rises (Writable false) (from (Writable false)) sections
 
       earlier : (c : SectionClass) → (section_at sections i).class ≡ Some c → class_number c < 4
           → other + (section_at sections i).size ≤ end_of (Writable false) (from (Writable false)) sections
-      earlier c at less = let low = (fourth true).holds.1 i other c at there less in omega (arith, low, data_start, zeros_end)
+      earlier c at less = let low = (fourth true).holds.1 i other c at there less in
+          omega (arith, low, data_start, zeros_end)
 
       of : (c : SectionClass) → (section_at sections i).class ≡ Some c
           → other + (section_at sections i).size ≤ end_of (Writable false) (from (Writable false)) sections
@@ -225,12 +247,14 @@ module _ (kind : ImageKind) (sections : List Section) (aligned : AreAligned sect
       of (Tls x) at = earlier (Tls x) at (omega arith)
       of (Writable true) at = let low = data_end i other at there in omega (arith, low, zeros_end)
       of (Writable false) at =
-          ends has_address (base_of kind) sections f (Writable false) (from (Writable false)) (has_of (Writable false) refl) i other at there
+          ends has_address (base_of kind) sections f (Writable false) (from (Writable false))
+          (has_of (Writable false) refl) i other at there
 
   past_each : (i other : ℕ) → f i ≡ Some other → other + (section_at sections i).size ≤ (zero_data kind sections).end
   past_each i other there = of (section_at sections i).class refl
     where
-      of : (c : Option SectionClass) → (section_at sections i).class ≡ c → other + (section_at sections i).size ≤ (zero_data kind sections).end
+      of : (c : Option SectionClass) → (section_at sections i).class ≡ c
+          → other + (section_at sections i).size ≤ (zero_data kind sections).end
       of None at = absurd (none_some (dropped_is i at) there)
       of (Some c) at = past_all i other c at there
 
@@ -239,7 +263,8 @@ module _ (kind : ImageKind) (sections : List Section) (aligned : AreAligned sect
   base_low =
       let first = (fourth true).holds.0 in
       let data_start : from (Writable true) ≤ from (Writable false) =
-      subst (λ (n : ℕ). from (Writable true) ≤ n) (sym zeros_begin) (end_of-rises (Writable true) (from (Writable true)) sections) in
+      subst (λ (n : ℕ). from (Writable true) ≤ n) (sym zeros_begin)
+      (end_of-rises (Writable true) (from (Writable true)) sections) in
       omega (arith, first, data_start, end_of-rises (Writable false) (from (Writable false)) sections)
 
   room_need : (fewer : ℕ) → IsPastAll kind sections (fewer * 4096) → (zero_data kind sections).end ≤ fewer * 4096
@@ -257,14 +282,19 @@ module _ (kind : ImageKind) (sections : List Section) (aligned : AreAligned sect
   unfolding room page_up
   room_least =
       let over = round_up-over (zero_data kind sections).end 4096 (omega arith) in
-      rounded 4096 (zero_data kind sections).end (IsPastAll kind sections) (omega arith)
-      (omega (arith, base_low, over), λ k other there. let past = past_each k other there in omega (arith, past, over)) room_need
+      rounded 4096 (zero_data kind sections).end (IsPastAll kind sections) (omega arith) (
+        omega (arith, base_low, over),
+        λ k other there. let past = past_each k other there in
+            omega (arith, past, over),
+      ) room_need
 
 pub room_is : RoomIsLeast
 room_is kind sections aligned = room_least kind sections aligned
 
 pub addresses_only : AddressesAreOnly
 addresses_only kind sections aligned place = (
-  λ are. only has_address (base_of kind) sections place (address_at kind sections) are (are_places kind sections aligned),
-  λ same. same_places has_address (base_of kind) sections place (address_at kind sections) same (are_places kind sections aligned),
+  λ are. only has_address (base_of kind) sections place (address_at kind sections) are
+      (are_places kind sections aligned),
+  λ same. same_places has_address (base_of kind) sections place (address_at kind sections) same
+      (are_places kind sections aligned),
 )

@@ -1,5 +1,6 @@
 -- The walk over sections finds the least places.
-use Rattle.std.proofs.Common.{◌≡◌, ◌⊎◌, ◌∙◌, ◌+◌, ◌*◌, ◌<◌, ◌≤◌, ℕ, zero, suc, Bool, true, false, List, length, take, Option, Some, None, refl, sym, ap, subst, inl, inr, arith}
+use Rattle.std.proofs.Common.{◌≡◌, ◌⊎◌, ◌∙◌, ◌+◌, ◌*◌, ◌<◌, ◌≤◌, ℕ, zero, suc, Bool, true, false, List, length, take}
+use Rattle.std.proofs.Common.{Option, Some, None, refl, sym, ap, subst, inl, inr, arith}
 use Rattle.std.proofs.lemmas.Bool.{cases_Bool, cases_lt}
 use Rattle.object_faults.specs.declared.class.SectionClass.{SectionClass}
 use Rattle.object_faults.specs.declared.class.SectionClass.TheVariants.{Executable, ReadOnly, Tls, Writable}
@@ -78,14 +79,17 @@ module _ (class : SectionClass) (from : ℕ) (sections : List Section) where
 
   -- the class ends at the first place past its sections
   front_below : (m : ℕ) → from ≤ m → (k : ℕ) → k ≤ length sections
-      → ((j : ℕ) → j < k → IsHere j → place j + (section_at sections j).size ≤ m) → end_of class from (take k sections) ≤ m
+      → ((j : ℕ) → j < k → IsHere j → place j + (section_at sections j).size ≤ m)
+      → end_of class from (take k sections) ≤ m
   front_below m low zero few each = subst (λ (n : ℕ). n ≤ m) (end_of-none class from sections) low
   front_below m low (suc k) few each =
-      let more : end_of class from (take (k + 1) sections) ≡ next_end class (end_of class from (take k sections)) (section_at sections k) =
+      let more : end_of class from (take (k + 1) sections)
+      ≡ next_end class (end_of class from (take k sections)) (section_at sections k) =
       end_of-more class from sections k dropped (omega arith) in
       let rest = front_below m low k (omega arith) (λ j less here. each j (omega arith) here) in
       let next : k + 1 ≡ suc k = omega arith in
-      subst (λ (n : ℕ). end_of class from (take n sections) ≤ m) next (elim (cases_Bool (is_in class (section_at sections k))) [
+      subst (λ (n : ℕ). end_of class from (take n sections) ≤ m) next
+      (elim (cases_Bool (is_in class (section_at sections k))) [
         | inl t ↦
             let here : IsHere k = of_class class (section_at sections k).class t in
             subst (λ (n : ℕ). n ≤ m) (sym (ends_at class from sections k here)) (each k (omega arith) here)
@@ -107,7 +111,8 @@ module _ (class : SectionClass) (from : ℕ) (sections : List Section) where
   lies_least Holds k here some holds low each =
       rounded (section_at sections k).alignment (end_of class from (take k sections)) Holds some holds
       (λ fewer h. let there = within sections k class here in
-      front_below (fewer * (section_at sections k).alignment) (low _ h) k (omega arith) (λ j less is. each _ j h less is))
+      front_below (fewer * (section_at sections k).alignment) (low _ h) k (omega arith)
+      (λ j less is. each _ j h less is))
 
   pub from_below : (k : ℕ) → from ≤ place k
   from_below k = from_start class from sections k
@@ -125,11 +130,13 @@ module _ (takes : SectionClass → Bool) (base : ℕ) (sections : List Section) 
   some_is : {o : Option ℕ} {a b : ℕ} → o ≡ Some a → o ≡ Some b → a ≡ b
   some_is x y = let same = sym x ∙ y in cc
 
-  pub ends : (class : SectionClass) (from : ℕ) → Has class from → (i other : ℕ) → (section_at sections i).class ≡ Some class
+  pub ends : (class : SectionClass) (from : ℕ) → Has class from → (i other : ℕ)
+      → (section_at sections i).class ≡ Some class
       → f i ≡ Some other → other + (section_at sections i).size ≤ end_of class from sections
   ends class from has i other here there =
       let same : place_in class from sections i ≡ other = some_is (has.at i here) there in
-      subst (λ (n : ℕ). n + (section_at sections i).size ≤ end_of class from sections) same (ends_within class from sections i here)
+      subst (λ (n : ℕ). n + (section_at sections i).size ≤ end_of class from sections) same
+      (ends_within class from sections i here)
 
   -- if one class begins at the least page, so does the next, past its end
   pub next_page : (class next : SectionClass) (start : ℕ) → class_number next ≡ class_number class + 1
@@ -148,7 +155,8 @@ module _ (takes : SectionClass → Bool) (base : ℕ) (sections : List Section) 
       rises = end_of-rises class start sections
 
       past : (i other : ℕ) (c : SectionClass) → (section_at sections i).class ≡ Some c → f i ≡ Some other
-          → class_number c < class_number next → other + (section_at sections i).size ≤ round_up (end_of class start sections) 4096
+          → class_number c < class_number next
+          → other + (section_at sections i).size ≤ round_up (end_of class start sections) 4096
       past i other c at there less = elim (cases_lt (class_number c) (class_number class)) [
         | inl low ↦ let before = is.holds.1 i other c at there low in omega (arith, before, rises, over)
         | inr high ↦
@@ -197,4 +205,7 @@ module _ (takes : SectionClass → Bool) (base : ℕ) (sections : List Section) 
       of i other c at there (inr past) = omega (arith, past, at_least)
 
       holds : PastIn start class k (place_in class from sections k)
-      holds = (omega (arith, low, at_least), λ i other c at there stands. of i other c at there (before i other c at there stands))
+      holds = (
+        omega (arith, low, at_least),
+        λ i other c at there stands. of i other c at there (before i other c at there stands),
+      )

@@ -1,15 +1,18 @@
 -- The offsets in the TLS segment are the only ones of their kind.
-use Rattle.std.proofs.Common.{◌≡◌, ◌⊎◌, ◌∙◌, ◌+◌, ◌*◌, ◌<◌, ◌≤◌, ℕ, zero, suc, Bool, true, false, max, List, [], ◌∷◌, Option, Some, None, refl, sym, subst, inl, inr, arith}
+use Rattle.std.proofs.Common.{◌≡◌, ◌⊎◌, ◌∙◌, ◌+◌, ◌*◌, ◌<◌, ◌≤◌, ℕ, zero, suc, Bool, true, false, max, List, [], ◌∷◌}
+use Rattle.std.proofs.Common.{Option, Some, None, refl, sym, subst, inl, inr, arith}
 use Rattle.std.specs.Prelude.{◌==◌, fold, if◌then◌else◌}
 use Rattle.std.proofs.lemmas.Bool.{cases_lt, ne_eqb}
 use Rattle.elf_object.specs.Lent.{is_tls_class}
 use Rattle.object_faults.specs.declared.class.SectionClass.{SectionClass}
 use Rattle.object_faults.specs.declared.class.SectionClass.TheVariants.{Executable, ReadOnly, Tls, Writable}
 use Rattle.tls_layout.specs.declared.sections.Section.{Section}
-use Rattle.tls_layout.specs.Places.{end_of, greatest_alignment, initial_tls, next_alignment, offset_at, place_in, tls_alignment, tls_size, zero_tls}
+use Rattle.tls_layout.specs.Places.{end_of, greatest_alignment, initial_tls, next_alignment, offset_at, place_in}
+use Rattle.tls_layout.specs.Places.{tls_alignment, tls_size, zero_tls}
 use Rattle.tls_layout.specs.Sections.{section_at}
 use Rattle.tls_layout.proofs.Ends.{end_of-rises}
-use Rattle.layout_laws.specs.Layout.{AreAligned, ArePlaces, Asks, SegmentsAreLeast, IsLeast, IsPastClasses, LiesAt, OffsetsAreOnly, StandsBefore, class_number, has_offset}
+use Rattle.layout_laws.specs.Layout.{AreAligned, ArePlaces, Asks, SegmentsAreLeast, IsLeast, IsPastClasses, LiesAt}
+use Rattle.layout_laws.specs.Layout.{OffsetsAreOnly, StandsBefore, class_number, has_offset}
 use Rattle.layout_laws.proofs.Found.{Has, all_below, ends, lies_there}
 use Rattle.layout_laws.proofs.Only.{only, same_places}
 
@@ -27,7 +30,8 @@ module _ (sections : List Section) where
   offset_is true k here = rw here refl
   offset_is false k here = rw here refl
 
-  no_offset : (class : SectionClass) → has_offset class ≡ false → (k : ℕ) → (section_at sections k).class ≡ Some class → f k ≡ None
+  no_offset : (class : SectionClass) → has_offset class ≡ false → (k : ℕ) → (section_at sections k).class ≡ Some class
+      → f k ≡ None
   unfolding offset_at
   no_offset Executable has k here = rw here refl
   no_offset ReadOnly has k here = rw here refl
@@ -101,7 +105,8 @@ module _ (sections : List Section) where
     lies true k here = record {
       start = from true;
       begins = begins true;
-      lies = lies_there has_offset 0 sections f (Tls true) (from true) (from true) k here (aligned k) (has_of true) (omega arith)
+      lies = lies_there has_offset 0 sections f (Tls true) (from true) (from true) k here (aligned k) (has_of true)
+          (omega arith)
           (initial_before k) (λ m h. h.0);
     }
     lies false k here = record {
@@ -120,7 +125,8 @@ module _ (sections : List Section) where
         → (at : ℕ) × ((f k ≡ Some at) × LiesAt has_offset 0 sections f class k at)
     placed k Executable here has = cc
     placed k ReadOnly here has = cc
-    placed k (Tls initial) here has = (place_in (Tls initial) (from initial) sections k, (offset_is initial k here, lies initial k here))
+    placed k (Tls initial) here has =
+        (place_in (Tls initial) (from initial) sections k, (offset_is initial k here, lies initial k here))
     placed k (Writable initial) here has = cc
 
     pub are_places : ArePlaces has_offset 0 sections f
@@ -137,45 +143,55 @@ module _ (sections : List Section) where
   unfolding zero_tls from
   size_is = refl
 
-  in_segment : (k other : ℕ) (c : SectionClass) → (section_at sections k).class ≡ Some c → offset_at sections k ≡ Some other
+  in_segment : (k other : ℕ) (c : SectionClass) → (section_at sections k).class ≡ Some c
+      → offset_at sections k ≡ Some other
       → other + (section_at sections k).size ≤ tls_size sections
   in_segment k other (Tls true) at there =
       let low = initial_end sections k other at there in
       omega (arith, low, end_of-rises (Tls false) (from sections false) sections, size_is)
   in_segment k other (Tls false) at there =
-      let low = ends has_offset 0 sections (offset_at sections) (Tls false) (from sections false) (has_of sections false) k other at there in
+      let low = ends has_offset 0 sections (offset_at sections) (Tls false) (from sections false)
+      (has_of sections false) k other at there in
       omega (arith, low, size_is)
   in_segment k other Executable at there = absurd (none_some sections (no_offset sections Executable refl k at) there)
   in_segment k other ReadOnly at there = absurd (none_some sections (no_offset sections ReadOnly refl k at) there)
-  in_segment k other (Writable x) at there = absurd (none_some sections (no_offset sections (Writable x) refl k at) there)
+  in_segment k other (Writable x) at there =
+      absurd (none_some sections (no_offset sections (Writable x) refl k at) there)
 
-  holds_each : (k other : ℕ) → offset_at sections k ≡ Some other → other + (section_at sections k).size ≤ tls_size sections
+  holds_each : (k other : ℕ) → offset_at sections k ≡ Some other
+      → other + (section_at sections k).size ≤ tls_size sections
   holds_each k other there = of (section_at sections k).class refl
     where
-      of : (c : Option SectionClass) → (section_at sections k).class ≡ c → other + (section_at sections k).size ≤ tls_size sections
+      of : (c : Option SectionClass) → (section_at sections k).class ≡ c
+          → other + (section_at sections k).size ≤ tls_size sections
       of None at = absurd (none_some sections (dropped_is sections k at) there)
       of (Some c) at = in_segment k other c at there
 
-  size_least : (fewer : ℕ) → ((k other : ℕ) → offset_at sections k ≡ Some other → other + (section_at sections k).size ≤ fewer)
+  size_least : (fewer : ℕ)
+      → ((k other : ℕ) → offset_at sections k ≡ Some other → other + (section_at sections k).size ≤ fewer)
       → tls_size sections ≤ fewer
   size_least fewer each =
       let start : from sections true ≤ fewer = subst (λ (n : ℕ). n ≤ fewer) (sym (from_zero sections)) (omega arith) in
       let zeros : from sections false ≤ fewer = subst (λ (n : ℕ). n ≤ fewer) (sym (zeros_begin sections))
-      (all_below (Tls true) (from sections true) sections fewer start (λ j here. each j _ (offset_is sections true j here))) in
+      (all_below (Tls true) (from sections true) sections fewer start
+      (λ j here. each j _ (offset_is sections true j here))) in
       subst (λ (n : ℕ). n ≤ fewer) (sym size_is)
-      (all_below (Tls false) (from sections false) sections fewer zeros (λ j here. each j _ (offset_is sections false j here)))
+      (all_below (Tls false) (from sections false) sections fewer zeros
+      (λ j here. each j _ (offset_is sections false j here)))
 
 -- the greatest alignment along a list
 grows : (greatest : ℕ) (sections : List Section) → greatest ≤ fold next_alignment greatest sections
 grows greatest [] = omega arith
 grows greatest (x ∷ xs) = let later = grows (next_alignment greatest x) xs in of (is_tls_class x.class) later
   where
-    of : (t : Bool) → (if t then max greatest x.alignment else greatest) ≤ fold next_alignment (next_alignment greatest x) xs
+    of : (t : Bool) → (if t then max greatest x.alignment else greatest) ≤ fold next_alignment
+        (next_alignment greatest x) xs
         → greatest ≤ fold next_alignment (next_alignment greatest x) xs
     of true later = omega (arith, later)
     of false later = later
 
-bounds : (greatest : ℕ) (sections : List Section) (k asked : ℕ) → Asks sections k asked → asked ≤ fold next_alignment greatest sections
+bounds : (greatest : ℕ) (sections : List Section) (k asked : ℕ) → Asks sections k asked
+    → asked ≤ fold next_alignment greatest sections
 bounds greatest [] k asked asks = absurd (let none = asks.1.0 in cc)
 bounds greatest (x ∷ xs) zero asked asks =
     let is : next_alignment greatest x ≡ max greatest x.alignment = rw asks.1.0 refl in
@@ -210,9 +226,11 @@ alignment_empty : (sections : List Section) → tls_size sections ≡ 0 → tls_
 unfolding tls_alignment
 alignment_empty sections none = rw none refl
 
-alignment_some : (sections : List Section) → 0 < tls_size sections → tls_alignment sections ≡ fold next_alignment 1 sections
+alignment_some : (sections : List Section) → 0 < tls_size sections
+    → tls_alignment sections ≡ fold next_alignment 1 sections
 unfolding tls_alignment greatest_alignment
-alignment_some sections some = let other : (tls_size sections == 0) ≡ false = ne_eqb (tls_size sections) 0 (λ e. omega (arith, some, e)) in rw other refl
+alignment_some sections some = let other : (tls_size sections == 0) ≡ false =
+    ne_eqb (tls_size sections) 0 (λ e. omega (arith, some, e)) in rw other refl
 
 pub segments_least : SegmentsAreLeast
 segments_least sections = record {

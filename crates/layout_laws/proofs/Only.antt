@@ -1,11 +1,13 @@
 -- There is one placement at most.
-use Rattle.std.proofs.Common.{◌≡◌, ◌⊎◌, ◌∙◌, ◌+◌, ◌*◌, ◌<◌, ◌≤◌, ℕ, zero, suc, Bool, true, false, List, Option, Some, None, refl, sym, ap, subst, inl, inr, arith}
+use Rattle.std.proofs.Common.{◌≡◌, ◌⊎◌, ◌∙◌, ◌+◌, ◌*◌, ◌<◌, ◌≤◌, ℕ, zero, suc, Bool, true, false, List, Option, Some}
+use Rattle.std.proofs.Common.{None, refl, sym, ap, subst, inl, inr, arith}
 use Rattle.std.specs.Prelude.{if◌then◌else◌}
 use Rattle.std.proofs.lemmas.Bool.{cases_Bool, cases_lt}
 use Rattle.object_faults.specs.declared.class.SectionClass.{SectionClass}
 use Rattle.tls_layout.specs.declared.sections.Section.{Section}
 use Rattle.tls_layout.specs.Sections.{section_at}
-use Rattle.layout_laws.specs.Layout.{ArePlaces, IsLeast, IsPastClasses, IsPastSections, LiesAt, StandsBefore, class_number, is_zeros}
+use Rattle.layout_laws.specs.Layout.{ArePlaces, IsLeast, IsPastClasses, IsPastSections, LiesAt, StandsBefore}
+use Rattle.layout_laws.specs.Layout.{class_number, is_zeros}
 
 pub one_least : (unit : ℕ) (P Q : ℕ → Type 0) (a b : ℕ) → ((m : ℕ) → P m → Q m) → ((m : ℕ) → Q m → P m)
     → IsLeast unit P a → IsLeast unit Q b → a ≡ b
@@ -14,7 +16,8 @@ one_least unit P Q a b to of is other =
     let high : b ≤ a = at_most unit Q P b a to other is in
     omega arith
   where
-    at_most : (unit : ℕ) (P Q : ℕ → Type 0) (a b : ℕ) → ((m : ℕ) → Q m → P m) → IsLeast unit P a → IsLeast unit Q b → a ≤ b
+    at_most : (unit : ℕ) (P Q : ℕ → Type 0) (a b : ℕ) → ((m : ℕ) → Q m → P m) → IsLeast unit P a → IsLeast unit Q b
+        → a ≤ b
     at_most unit P Q a b of is other =
         subst (λ (m : ℕ). a ≤ m) (sym other.multiple)
         (is.least other.times (subst P other.multiple (of b other.holds)))
@@ -55,15 +58,30 @@ module _ (takes : SectionClass → Bool) (base : ℕ) (sections : List Section) 
         let mine = are.placed k class is some in
         let its = also.placed k class is some in
         let starts : mine.1.1.start ≡ its.1.1.start =
-        one_least 4096 (IsPastClasses takes base sections f class) (IsPastClasses takes base sections g class) mine.1.1.start its.1.1.start
-        (λ m past. (past.0, λ i other c at there less. past.1 i other c at (earlier i c (earlier_stage c class less) at ∙ there) less))
-        (λ m past. (past.0, λ i other c at there less. past.1 i other c at (sym (earlier i c (earlier_stage c class less) at) ∙ there) less))
+        one_least 4096 (IsPastClasses takes base sections f class)
+        (IsPastClasses takes base sections g class) mine.1.1.start its.1.1.start
+        (λ m past. (
+          past.0,
+          λ i other c at there less. past.1 i other c at
+              (earlier i c (earlier_stage c class less) at ∙ there) less,
+        ))
+        (λ m past. (
+          past.0,
+          λ i other c at there less. past.1 i other c at
+              (sym (earlier i c (earlier_stage c class less) at) ∙ there) less,
+        ))
         mine.1.1.begins its.1.1.begins in
         let same : mine.0 ≡ its.0 =
         one_least (section_at sections k).alignment (IsPastSections takes base sections f mine.1.1.start class k)
         (IsPastSections takes base sections g its.1.1.start class k) mine.0 its.0
-        (λ m past. (subst (λ (s : ℕ). s ≤ m) starts past.0, λ i other c at there stands. past.1 i other c at (agree i c at stands ∙ there) stands))
-        (λ m past. (subst (λ (s : ℕ). s ≤ m) (sym starts) past.0, λ i other c at there stands. past.1 i other c at (sym (agree i c at stands) ∙ there) stands))
+        (λ m past. (
+          subst (λ (s : ℕ). s ≤ m) starts past.0,
+          λ i other c at there stands. past.1 i other c at (agree i c at stands ∙ there) stands,
+        ))
+        (λ m past. (
+          subst (λ (s : ℕ). s ≤ m) (sym starts) past.0,
+          λ i other c at there stands. past.1 i other c at (sym (agree i c at stands) ∙ there) stands,
+        ))
         mine.1.1.lies its.1.1.lies in
         mine.1.0 ∙ (ap (λ (at : ℕ). Some at) same ∙ sym its.1.0)
   ]
@@ -102,7 +120,8 @@ module _ (takes : SectionClass → Bool) (base : ℕ) (sections : List Section) 
 -- places that are the same are of the same kind
 module _ (takes : SectionClass → Bool) (base : ℕ) (sections : List Section) (f g : ℕ → Option ℕ)
     (same : (k : ℕ) → f k ≡ g k) (are : ArePlaces takes base sections g) where
-  lies_too : (class : SectionClass) (k at : ℕ) → LiesAt takes base sections g class k at → LiesAt takes base sections f class k at
+  lies_too : (class : SectionClass) (k at : ℕ) → LiesAt takes base sections g class k at
+      → LiesAt takes base sections f class k at
   lies_too class k at is = record {
     start = is.start;
     begins = record {
@@ -121,7 +140,8 @@ module _ (takes : SectionClass → Bool) (base : ℕ) (sections : List Section) 
 
   pub same_places : ArePlaces takes base sections f
   same_places = record {
-    placed = λ k class is some. let its = are.placed k class is some in (its.0, (same k ∙ its.1.0, lies_too class k its.0 its.1.1));
+    placed = λ k class is some. let its = are.placed k class is some in
+        (its.0, (same k ∙ its.1.0, lies_too class k its.0 its.1.1));
     others = λ k class is none. same k ∙ are.others k class is none;
     dropped = λ k is. same k ∙ are.dropped k is;
   }

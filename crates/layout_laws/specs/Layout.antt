@@ -2,7 +2,8 @@
 -- It watches `address_at`, `offset_at`, `room`, `tls_size` and `tls_alignment` (tls_layout, Places), `position`
 -- (Sections) and `tls_offset` (Statics). By the gABI, edition 4.1, "Sections" (`sh_addralign`) and "Program Loading",
 -- and Drepper, "ELF Handling For Thread-Local Storage", version 0.21, section 3.
-use Rattle.std.specs.Prelude.{◌≡◌, ◌↔◌, ◌⊎◌, ◌+◌, ◌*◌, ◌<◌, ◌≤◌, ℕ, suc, Bool, true, false, List, length, slice_get, Option, Some, None, if◌then◌else◌}
+use Rattle.std.specs.Prelude.{◌≡◌, ◌↔◌, ◌⊎◌, ◌+◌, ◌*◌, ◌<◌, ◌≤◌, ℕ, suc, Bool, true, false, List, length, slice_get}
+use Rattle.std.specs.Prelude.{Option, Some, None, if◌then◌else◌}
 use Rattle.object_faults.specs.declared.class.SectionClass.{SectionClass}
 use Rattle.object_faults.specs.declared.class.SectionClass.TheVariants.{Executable, ReadOnly, Tls, Writable}
 use Rattle.link_faults.specs.declared.image_kind.ImageKind.{ImageKind}

@@ -1,5 +1,6 @@
 -- A peek reaches the block that the thread held, or a fresh one.
-use Rattle.std.proofs.Common.{◌≡◌, ◌∙◌, ◌++◌, ℕ, suc, arith, Bool, true, false, List, [], ◌∷◌, Option, Some, None, refl, sym, ap, subst, inl, inr, append-nil, append_assoc}
+use Rattle.std.proofs.Common.{◌≡◌, ◌∙◌, ◌++◌, ℕ, suc, arith, Bool, true, false, List, [], ◌∷◌, Option, Some, None, refl}
+use Rattle.std.proofs.Common.{sym, ap, subst, inl, inr, append-nil, append_assoc}
 use Rattle.std.specs.Prelude.{◌==◌, All, is_some, unwrap_or}
 use Rattle.std.specs.List.{find, flat_map}
 use Rattle.std.specs.Option.{option_or}
@@ -7,10 +8,12 @@ use Rattle.std.proofs.lemmas.Bool.{cases_Bool, eqb-true, eq-eqb}
 use Rattle.guest_machine.specs.Ranges.{Range}
 use Rattle.loaded_modules.specs.declared.instance.Instance.{Instance}
 use Rattle.module_table.specs.declared.events.Event.{Event}
-use Rattle.module_table.specs.History.{IsLegal}
-use Rattle.thread_blocks.specs.Held.{Held, Owned, block_after, block_bytes, block_with, data_after, data_with, fresh_if, held_of, looked, looked_at, owned, owned_by, owners_of, ranges_in, reached, reached_at}
+use Rattle.module_table.specs.Past.{IsLegal}
+use Rattle.thread_blocks.specs.Held.{Held, Owned, block_after, block_bytes, block_with, data_after, data_with, fresh_if}
+use Rattle.thread_blocks.specs.Held.{held_of, looked, looked_at, owned, owned_by, owners_of, ranges_in, reached}
+use Rattle.thread_blocks.specs.Held.{reached_at}
 use Rattle.thread_blocks.specs.Instances.{Loads, instance_at, instances, numbered_instance}
-use Rattle.thread_blocks.specs.TurnsAlike.{IsFront}
+use Rattle.thread_blocks.specs.Turns.{IsFront}
 use Rattle.known_instances.proofs.Known.{numbered_at_image}
 use Rattle.known_instances.proofs.Live.{all_live}
 
@@ -53,7 +56,8 @@ module _ {B : Type 0} (l : Loads B) (thread : ℕ) (n : ℕ) where
   held wanted xs y = option_or (block_bytes y.number xs) (fresh_if (wanted y) (l.block y))
 
   -- the first with the number has a block: it is found
-  found_first : (wanted : Instance → Bool) (xs rest : List (Owned B)) (live : List Instance) (x : Instance) (bytes : List B)
+  found_first : (wanted : Instance → Bool) (xs rest : List (Owned B)) (live : List Instance) (x : Instance)
+      (bytes : List B)
       → find (λ (y : Instance). y.number == n) live ≡ Some x → held wanted xs x ≡ Some bytes
       → block_bytes n (flat_map (block_after l thread wanted xs) live ++ rest) ≡ Some bytes
   unfolding held
@@ -62,8 +66,12 @@ module _ {B : Type 0} (l : Loads B) (thread : ℕ) (n : ℕ) where
     | inl here ↦
         let same : Some y ≡ Some x = rw here at found in
         let this : y ≡ x = cc in
-        let mine : held wanted xs y ≡ Some bytes = subst (λ (z : Instance). held wanted xs z ≡ Some bytes) (sym this) has in
-        rw (append_assoc (block_with thread y (held wanted xs y)) (flat_map (block_after l thread wanted xs) ys) rest, mine)
+        let mine : held wanted xs y ≡ Some bytes =
+        subst (λ (z : Instance). held wanted xs z ≡ Some bytes) (sym this) has in
+        rw (
+          append_assoc (block_with thread y (held wanted xs y)) (flat_map (block_after l thread wanted xs) ys) rest,
+          mine,
+        )
         (this_block (flat_map (block_after l thread wanted xs) ys ++ rest) y bytes here)
     | inr other ↦
         rw (append_assoc (block_with thread y (held wanted xs y)) (flat_map (block_after l thread wanted xs) ys) rest)
@@ -79,8 +87,12 @@ module _ {B : Type 0} (l : Loads B) (thread : ℕ) (n : ℕ) where
   found_none wanted xs rest [] x this none end = end
   found_none wanted xs rest (y ∷ ys) x this none end = elim (cases_Bool (y.number == n)) [
     | inl here ↦
-        let mine : held wanted xs y ≡ None = subst (λ (z : Instance). held wanted xs z ≡ None) (sym (this.0 here)) none in
-        rw (append_assoc (block_with thread y (held wanted xs y)) (flat_map (block_after l thread wanted xs) ys) rest, mine)
+        let mine : held wanted xs y ≡ None =
+        subst (λ (z : Instance). held wanted xs z ≡ None) (sym (this.0 here)) none in
+        rw (
+          append_assoc (block_with thread y (held wanted xs y)) (flat_map (block_after l thread wanted xs) ys) rest,
+          mine,
+        )
         (found_none wanted xs rest ys x this.1 none end)
     | inr other ↦
         rw (append_assoc (block_with thread y (held wanted xs y)) (flat_map (block_after l thread wanted xs) ys) rest)
@@ -132,22 +144,26 @@ module _ {B : Type 0} (l : Loads B) (thread : ℕ) (seen : List Event) (legal : 
   )
 
   -- what a pass over the live instances leaves of one of them
-  pass : (wanted loads : Instance → Bool) (xs : List (Owned B)) (x : Instance) → numbered_instance l seen x.number ≡ Some x
+  pass : (wanted loads : Instance → Bool) (xs : List (Owned B)) (x : Instance)
+      → numbered_instance l seen x.number ≡ Some x
       → (o : Option (List B)) → held l thread x.number wanted xs x ≡ o
       → block_bytes x.number (held_of l thread wanted loads (instances l seen) xs) ≡ o
   pass wanted loads xs x e None has =
       found_none l thread x.number wanted xs (flat_map (data_after l loads xs) (instances l seen)) (instances l seen) x
       (are_this x e (instances l seen) all_numbered) has (data_none l thread x.number loads (instances l seen) xs)
   pass wanted loads xs x e (Some bytes) has =
-      found_first l thread x.number wanted xs (flat_map (data_after l loads xs) (instances l seen)) (instances l seen) x bytes e has
+      found_first l thread x.number wanted xs (flat_map (data_after l loads xs) (instances l seen))
+      (instances l seen) x bytes e has
 
-  or_fresh : (b : Bool) (o : Option (List B)) (fresh : List B) → unwrap_or (option_or o (fresh_if b fresh)) fresh ≡ unwrap_or o fresh
+  or_fresh : (b : Bool) (o : Option (List B)) (fresh : List B)
+      → unwrap_or (option_or o (fresh_if b fresh)) fresh ≡ unwrap_or o fresh
   or_fresh true None fresh = refl
   or_fresh false None fresh = refl
   or_fresh true (Some bytes) fresh = refl
   or_fresh false (Some bytes) fresh = refl
 
-  or_some : (b : Bool) → b ≡ true → (o : Option (List B)) (fresh : List B) → option_or o (fresh_if b fresh) ≡ Some (unwrap_or o fresh)
+  or_some : (b : Bool) → b ≡ true → (o : Option (List B)) (fresh : List B)
+      → option_or o (fresh_if b fresh) ≡ Some (unwrap_or o fresh)
   or_some b t None fresh = rw t refl
   or_some b t (Some bytes) fresh = refl
 
@@ -161,9 +177,11 @@ module _ {B : Type 0} (l : Loads B) (thread : ℕ) (seen : List Event) (legal : 
       let old : List (Owned B) = owned_by h in
       let now : List (Owned B) = looked_at l thread seen (owned_by h) in
       let again : owned (owners_of now) (ranges_in now) ≡ now = owned_again now in
-      let look : block_bytes x.number now ≡ option_or (block_bytes x.number old) (fresh_if (is_some x.offset) (l.block x)) =
+      let look : block_bytes x.number now
+      ≡ option_or (block_bytes x.number old) (fresh_if (is_some x.offset) (l.block x)) =
       pass (λ y. is_some y.offset) (λ y. false) old x there _ refl in
-      let reach : block_bytes x.number (reached_at l thread seen x now) ≡ Some (unwrap_or (block_bytes x.number now) (l.block x)) =
+      let reach : block_bytes x.number (reached_at l thread seen x now)
+      ≡ Some (unwrap_or (block_bytes x.number now) (l.block x)) =
       pass (λ y. y.number == x.number) (λ y. false) now x there _
       (or_some (x.number == x.number) (eq-eqb x.number x.number refl) (block_bytes x.number now) (l.block x)) in
       ap (block_bytes x.number) (owned_again (reached_at l thread seen x (owned (owners_of now) (ranges_in now))))

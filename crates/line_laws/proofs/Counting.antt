@@ -1,8 +1,10 @@
 -- How a line's turns count its steps, and its looks.
-use Rattle.std.proofs.Common.{◌≡◌, ◌-◌, ◌++◌, ℕ, List, [], ◌∷◌, length, map, refl, sym, ap, subst, ◌∙◌, append_assoc, append-nil}
+use Rattle.std.proofs.Common.{◌≡◌, ◌-◌, ◌++◌, ℕ, List, [], ◌∷◌, length, map, refl, sym, ap, subst, ◌∙◌, append_assoc}
+use Rattle.std.proofs.Common.{append-nil}
 use Rattle.guest_operands.specs.declared.stop.Stop.{Stop}
 use Rattle.guest_machine.specs.Run.{Ended, Outcome, Waits, run}
-use Rattle.thread_blocks.specs.Turns.{Begun, Calls, Ending, Mid, Said, Says, Stopped, Thread, Turns, after_look, after_run, turn, turn_at, turns, with_last}
+use Rattle.thread_blocks.specs.Turns.{Begun, Calls, Ending, Mid, Said, Says, Stopped, Thread, Turns, after_look}
+use Rattle.thread_blocks.specs.Turns.{after_run, turn, turn_at, turns, with_last}
 use Rattle.line_laws.specs.Counted.{IsSaid, PointsAreLooks, PointsAreTold, before}
 
 no_longer : {X : Type 0} (xs : List X) (x : X) → xs ++ x ∷ [] ≡ xs → ⊥
@@ -18,7 +20,8 @@ module _ {S L E : Type 0} (x : Turns S L E) where
 
   -- with these looks still to come the line is over, and not before
   pub record Still (t : Thread S L E) (said : List Said) (looks : List (List E)) (line : Said) : Type 0 where
-    pub waits : (front rest : List (List E)) (next : List E) → looks ≡ front ++ next ∷ rest → (turns x t front).said ≡ said
+    pub waits : (front rest : List (List E)) (next : List E) → looks ≡ front ++ next ∷ rest
+        → (turns x t front).said ≡ said
     pub says : (turns x t looks).said ≡ with_last said line
 
   one_more : {t : Thread S L E} {said : List Said} (seen : List E) (more : List (List E)) {line : Said}
@@ -49,7 +52,8 @@ module _ {S L E : Type 0} (x : Turns S L E) where
     pub left : ℕ
     pub at : S
     pub waits : run x.steps n start ≡ Waits left at
-    pub still : Still (after_look x (left - 1) todo said next (with_last points (length next)) (x.resume next at)) said more line
+    pub still : Still (after_look x (left - 1) todo said next (with_last points (length next))
+        (x.resume next at)) said more line
 
   ran_over : (n : ℕ) (todo : List L) (said : List Said) (seen : List E) (points : List ℕ) (s : S) (line : Said)
       (out : Outcome S) → run x.steps n s ≡ out → Still (after_run todo said seen points out) said [] line
@@ -58,7 +62,8 @@ module _ {S L E : Type 0} (x : Turns S L E) where
       AtStep s stop left t refl e (sym (same_last said _ line still.says))
   ran_over n todo said seen points s line (Waits left t) e still = absurd (no_longer said line (sym still.says))
 
-  pub is_over : (n : ℕ) (todo : List L) (said : List Said) (seen : List E) (points : List ℕ) (begun : Begun S) (line : Said)
+  pub is_over : (n : ℕ) (todo : List L) (said : List Said) (seen : List E) (points : List ℕ) (begun : Begun S)
+      (line : Said)
       → Still (after_look x n todo said seen points begun) said [] line → IsOver n points begun line
   is_over n todo said seen points (Says ending s) line still =
       AtLook ending s refl (sym (same_last said _ line still.says))
@@ -81,7 +86,8 @@ module _ {S L E : Type 0} (x : Turns S L E) where
         (one_more next more still);
   }
 
-  pub is_on : (n : ℕ) (todo : List L) (said : List Said) (seen : List E) (points : List ℕ) (begun : Begun S) (next : List E)
+  pub is_on : (n : ℕ) (todo : List L) (said : List Said) (seen : List E) (points : List ℕ) (begun : Begun S)
+      (next : List E)
       (more : List (List E)) (line : Said) → Still (after_look x n todo said seen points begun) said (next ∷ more) line
       → IsOn n todo said points begun next more line
   is_on n todo said seen points (Says ending s) next more line still =
@@ -91,7 +97,8 @@ module _ {S L E : Type 0} (x : Turns S L E) where
 
   -- ** points
 
-  over_points : (n : ℕ) (points : List ℕ) (begun : Begun S) (line : Said) → IsOver n points begun line → line.points ≡ points
+  over_points : (n : ℕ) (points : List ℕ) (begun : Begun S) (line : Said) → IsOver n points begun line
+      → line.points ≡ points
   over_points n points begun line (AtLook ending s b is) = ap (λ (l : Said). l.points) is
   over_points n points begun line (AtStep s stop left t b r is) = ap (λ (l : Said). l.points) is
 
@@ -105,7 +112,8 @@ module _ {S L E : Type 0} (x : Turns S L E) where
       look_points more (on.left - 1) todo said next (with_last points (length next)) (x.resume next on.at) line on.still
       ∙ append_assoc points (length next ∷ []) (map length more)
 
-  pub begun_still : (line : L) (todo : List L) (held : S) (earlier : List Said) (seen first : List E) (more : List (List E))
+  pub begun_still : (line : L) (todo : List L) (held : S) (earlier : List Said) (seen first : List E)
+      (more : List (List E))
       (said : Said) → IsSaid x (before x line todo held earlier seen) (first ∷ more) said
       → Still (after_look x x.fuel todo earlier first (length first ∷ []) (x.begin line first held)) earlier more said
   begun_still line todo held earlier seen first more said is =

@@ -1,5 +1,6 @@
 -- What a walk along the events keeps of each image is what counting finds.
-use Rattle.std.proofs.Common.{◌≡◌, ◌↔◌, ◌⊎◌, ◌∙◌, ◌+◌, ◌*◌, ◌<◌, ◌≤◌, ℕ, zero, suc, Bool, true, false, List, [], ◌∷◌, get_or, Option, Some, None, refl, sym, ap, subst, inl, inr, arith}
+use Rattle.std.proofs.Common.{◌≡◌, ◌↔◌, ◌⊎◌, ◌∙◌, ◌+◌, ◌*◌, ◌<◌, ◌≤◌, ℕ, zero, suc, Bool, true, false, List, [], ◌∷◌}
+use Rattle.std.proofs.Common.{get_or, Option, Some, None, refl, sym, ap, subst, inl, inr, arith}
 use Rattle.std.specs.Prelude.{◌&&◌, not, nat_le, nat_lt, slice_get, if◌then◌else◌}
 use Rattle.std.proofs.lemmas.Bool.{cases_Bool, lt-ltb, ltb-true, ltb-false, leb-true, leb-false, and_parts}
 use Rattle.std.proofs.lemmas.Option.{slice_get-get_or}
@@ -9,12 +10,15 @@ use Rattle.module_table.specs.declared.modules.ImageInfo.{ImageInfo}
 use Rattle.module_table.specs.declared.modules.Module.{Module}
 use Rattle.module_table.specs.declared.events.Event.{Event}
 use Rattle.module_table.specs.declared.events.CloseRefusal.{CloseRefusal}
-use Rattle.module_table.specs.declared.events.CloseRefusal.TheVariants.{Permanent, NotOpen, OutOfMemory as NoRoomToClose}
+use Rattle.module_table.specs.declared.events.CloseRefusal.TheVariants.{Permanent, NotOpen}
+use Rattle.module_table.specs.declared.events.CloseRefusal.TheVariants.{OutOfMemory as NoRoomToClose}
 use Rattle.module_table.specs.declared.events.OpenRefusal.{OpenRefusal}
-use Rattle.module_table.specs.declared.events.OpenRefusal.TheVariants.{Unknown, Full, StaticFull, OutOfMemory as NoRoomToOpen}
-use Rattle.module_table.specs.History.{IsLegal}
+use Rattle.module_table.specs.declared.events.OpenRefusal.TheVariants.{Unknown, Full, StaticFull}
+use Rattle.module_table.specs.declared.events.OpenRefusal.TheVariants.{OutOfMemory as NoRoomToOpen}
+use Rattle.module_table.specs.Past.{IsLegal}
 use Rattle.module_table.specs.Modules.{is_loaded, is_permanent, no_module}
-use Rattle.module_table.specs.Past.{Past, close_refusal, first_module, first_modules, module_of, next_offset, open_refusal, past, start}
+use Rattle.module_table.specs.Past.{Past, close_refusal, first_module, first_modules, module_of, next_offset}
+use Rattle.module_table.specs.Past.{open_refusal, past, start}
 use Rattle.module_table.proofs.Along.{past_legal}
 use Rattle.module_table.proofs.Infos.{info_of}
 use Rattle.module_table.proofs.LawsOfNumbers.{balances}
@@ -24,7 +28,8 @@ use Rattle.known_instances.proofs.Placed.{is_image}
 use Rattle.known_instances.proofs.Startup.{startup_kept}
 use Rattle.tls_layout.specs.Rounding.{round_up}
 use Rattle.tls_layout.proofs.Rounds.{least_multiple}
-use Rattle.line_laws.specs.Histories.{ClosesAreRuled, ComesLate, IsBeyond, IsCloseAnswer, IsGone, IsLive, IsNextBlock, IsOpenAnswer, IsStatic, IsWithin, Starts}
+use Rattle.line_laws.specs.Histories.{ClosesAreRuled, ComesLate, IsBeyond, IsCloseAnswer, IsGone, IsLive, IsNextBlock}
+use Rattle.line_laws.specs.Histories.{IsOpenAnswer, IsStatic, IsWithin, Starts}
 
 -- ** images before any event
 
@@ -43,12 +48,14 @@ first_at (x ∷ xs) from (suc k) =
     subst (λ (n : ℕ). IsFirst (slice_get xs k) n (get_or (first_modules xs (from + 1)) k no_module)) same
     (first_at xs (from + 1) k)
 
-image_at : (infos : List ImageInfo) (last : ℕ) (image : ℕ) → IsFirst (at_number infos image) image (module_of (start infos last) image)
+image_at : (infos : List ImageInfo) (last : ℕ) (image : ℕ)
+    → IsFirst (at_number infos image) image (module_of (start infos last) image)
 unfolding IsFirst start
 image_at infos last zero = refl
 image_at infos last (suc k) =
     let same : 1 + k ≡ suc k = omega arith in
-    subst (λ (n : ℕ). IsFirst (slice_get infos k) n (get_or (first_modules infos 1) k no_module)) same (first_at infos 1 k)
+    subst (λ (n : ℕ). IsFirst (slice_get infos k) n (get_or (first_modules infos 1) k no_module)) same
+    (first_at infos 1 k)
 
 first_info : (info : ImageInfo) (image : ℕ) → (first_module info image).info ≡ info
 first_info info image = elim (cases_Bool info.late) [ inl t ↦ rw t refl | inr f ↦ rw f refl ]
@@ -79,7 +86,8 @@ module _ (infos : List ImageInfo) (last : ℕ) (events : List Event) (legal : Is
   unfolding IsFirst
   info_is image info at =
       let first : module_of (start infos last) image ≡ first_module info image =
-      subst (λ (o : Option ImageInfo). IsFirst o image (module_of (start infos last) image)) at (image_at infos last image) in
+      subst (λ (o : Option ImageInfo). IsFirst o image (module_of (start infos last) image)) at
+      (image_at infos last image) in
       info_stays image ∙ (ap (λ (m : Module). m.info) first ∙ first_info info image)
 
   -- a fact of what is known, which no image has for a number without one
@@ -114,7 +122,8 @@ module _ (infos : List ImageInfo) (last : ℕ) (events : List Event) (legal : Is
   unfolding IsFirst start
   started image is =
       let first : module_of (start infos last) image ≡ first_module is.0 image =
-      subst (λ (o : Option ImageInfo). IsFirst o image (module_of (start infos last) image)) is.1.0 (image_at infos last image) in
+      subst (λ (o : Option ImageInfo). IsFirst o image (module_of (start infos last) image)) is.1.0
+      (image_at infos last image) in
       let uses : (module_of (start infos last) image).uses ≡ 1 =
       ap (λ (m : Module). m.uses) first ∙ early_uses is.0 image is.1.1 in
       let held : is_loaded (module_of (start infos last) image) ≡ true = ap (λ (n : ℕ). nat_lt 0 n) uses in
@@ -161,8 +170,10 @@ module _ (infos : List ImageInfo) (last : ℕ) (events : List Event) (legal : Is
       let there : at_number infos (suc found.index) ≡ Some (get_or infos found.index no_module.info) =
       slice_get-get_or infos found.index no_module.info found.within in
       let at : at_number infos image ≡ Some (get_or infos found.index no_module.info) =
-      ap (at_number infos) found.image ∙ there in
-      (get_or infos found.index no_module.info, (at, ap (λ (info : ImageInfo). info.late) (sym (info_is image _ at)) ∙ early))
+      ap (at_number infos) found.image ∙ there in (
+        get_or infos found.index no_module.info,
+        (at, ap (λ (info : ImageInfo). info.late) (sym (info_is image _ at)) ∙ early),
+      )
 
   not_both : (image : ℕ) → Starts infos image → ComesLate infos image → ⊥
   not_both image is late =
@@ -174,7 +185,8 @@ module _ (infos : List ImageInfo) (last : ℕ) (events : List Event) (legal : Is
   early_of : (image : ℕ) → Starts infos image → (state image).info.late ≡ false
   early_of image is = ap (λ (info : ImageInfo). info.late) (info_is image is.0 is.1.0) ∙ is.1.1
 
-  late_live : (image : ℕ) → is_loaded (state image) ≡ true → (is_loaded (state image) && not (state image).info.late) ≡ false
+  late_live : (image : ℕ) → is_loaded (state image) ≡ true
+      → (is_loaded (state image) && not (state image).info.late) ≡ false
       → (state image).info.late ≡ true
   late_live image held e = elim (cases_Bool (state image).info.late) [
     | inl t ↦ t
@@ -186,7 +198,8 @@ module _ (infos : List ImageInfo) (last : ℕ) (events : List Event) (legal : Is
   close_pick : Bool → Bool → Option CloseRefusal
   close_pick permanent held = if permanent then Some Permanent else (if held then None else Some NotOpen)
 
-  close_given : (image : ℕ) (permanent held : Bool) → is_permanent (state image) ≡ permanent → is_loaded (state image) ≡ held
+  close_given : (image : ℕ) (permanent held : Bool) → is_permanent (state image) ≡ permanent
+      → is_loaded (state image) ≡ held
       → IsCloseAnswer infos events image (close_pick permanent held)
   unfolding close_pick
   close_given image true held p h =
@@ -199,7 +212,8 @@ module _ (infos : List ImageInfo) (last : ℕ) (events : List Event) (legal : Is
   close_given image false true p h = (late_of image (late_live image h p), live_of image h)
   close_given image false false p h = gone_of image h
 
-  one_close : (image : ℕ) (a b : Option CloseRefusal) → IsCloseAnswer infos events image a → IsCloseAnswer infos events image b → a ≡ b
+  one_close : (image : ℕ) (a b : Option CloseRefusal) → IsCloseAnswer infos events image a
+      → IsCloseAnswer infos events image b → a ≡ b
   one_close image (Some NoRoomToClose) b h k = absurd h
   one_close image a (Some NoRoomToClose) h k = absurd k
   one_close image (Some Permanent) (Some Permanent) h k = refl
@@ -233,8 +247,10 @@ module _ (infos : List ImageInfo) (last : ℕ) (events : List Event) (legal : Is
       let is = info_is image info at in
       let sized : (state image).info.size ≡ info.size = ap (λ (i : ImageInfo). i.size) is in
       let aligned : (state image).info.align ≡ info.align = ap (λ (i : ImageInfo). i.align) is in
-      let some : 0 < (state image).info.align = (info_of (past infos last events) image (past_legal infos last events legal)).aligned in
-      let least = least_multiple ((past infos last events).taken + (state image).info.size) (state image).info.align some in
+      let some : 0 < (state image).info.align =
+      (info_of (past infos last events) image (past_legal infos last events legal)).aligned in
+      let least = least_multiple ((past infos last events).taken + (state image).info.size)
+      (state image).info.align some in
       record {
         info = info;
         is = at;
@@ -248,14 +264,16 @@ module _ (infos : List ImageInfo) (last : ℕ) (events : List Event) (legal : Is
       times : (a b : ℕ) → a * b ≡ b * a
       times a b = omega arith
 
-  pub one_block : (image reach place other : ℕ) → IsNextBlock infos image reach place → IsNextBlock infos image reach other → place ≡ other
+  pub one_block : (image reach place other : ℕ) → IsNextBlock infos image reach place
+      → IsNextBlock infos image reach other → place ≡ other
   one_block image reach place other a b =
       let same : a.info ≡ b.info = same_some (sym a.is ∙ b.is) in
       let low : place ≤ other = at_most image reach place other a b same in
       let high : other ≤ place = at_most image reach other place b a (sym same) in
       omega arith
     where
-      at_most : (image reach place other : ℕ) (a : IsNextBlock infos image reach place) (b : IsNextBlock infos image reach other)
+      at_most : (image reach place other : ℕ) (a : IsNextBlock infos image reach place)
+          (b : IsNextBlock infos image reach other)
           → a.info ≡ b.info → place ≤ other
       at_most image reach place other a b same =
           let align : a.info.align ≡ b.info.align = ap (λ (i : ImageInfo). i.align) same in
@@ -270,7 +288,8 @@ module _ (infos : List ImageInfo) (last : ℕ) (events : List Event) (legal : Is
     answers image = IsOpenAnswer infos last events (past infos last events).made (past infos last events).taken image
 
     open_pick : (late held full statics lacks : Bool) → Option OpenRefusal
-    open_pick late held full statics lacks = if not late then Some Unknown else (if held then None else (if full then Some Full else (if statics && lacks then Some StaticFull else None)))
+    open_pick late held full statics lacks = if not late then Some Unknown
+        else (if held then None else (if full then Some Full else (if statics && lacks then Some StaticFull else None)))
 
     -- the block of a static image
     placed : (image : ℕ) → (is : IsStatic infos image)
@@ -291,7 +310,10 @@ module _ (infos : List ImageInfo) (last : ℕ) (events : List Event) (legal : Is
       gone_of image h,
       leb-false 4095 _ f,
       static_of image s,
-      (next_offset (past infos last events) (state image), (placed image (static_of image s), rw (← full_is) (ltb-true _ _ r))),
+      (
+        next_offset (past infos last events) (state image),
+        (placed image (static_of image s), rw (← full_is) (ltb-true _ _ r)),
+      ),
     )
     open_given image true false false true false l h f s r = (
       late_of image l,
@@ -314,7 +336,8 @@ module _ (infos : List ImageInfo) (last : ℕ) (events : List Event) (legal : Is
     unfolding open_refusal open_pick
     open_found image = open_given image (state image).info.late (is_loaded (state image))
         (nat_le MOST_INSTANCES (past infos last events).made) (state image).info.statics
-        (nat_lt (past infos last events).limit (next_offset (past infos last events) (state image))) refl refl refl refl refl
+        (nat_lt (past infos last events).limit
+        (next_offset (past infos last events) (state image))) refl refl refl refl refl
 
     apart : (image reach limit : ℕ) → IsBeyond infos image reach limit → IsWithin infos image reach limit → ⊥
     apart image reach limit far near =
@@ -326,7 +349,8 @@ module _ (infos : List ImageInfo) (last : ℕ) (events : List Event) (legal : Is
     full_apart : (made : ℕ) → 4095 ≤ made → made < 4095 → ⊥
     full_apart made a b = absurd (omega arith)
 
-    no_none : (image : ℕ) → IsGone infos events image → (made : ℕ) → (reach limit : ℕ) → (4095 ≤ made) ⊎ (IsStatic infos image × IsBeyond infos image reach limit)
+    no_none : (image : ℕ) → IsGone infos events image → (made : ℕ) → (reach limit : ℕ)
+        → (4095 ≤ made) ⊎ (IsStatic infos image × IsBeyond infos image reach limit)
         → IsLive infos events image ⊎ ((made < 4095) × (IsStatic infos image → IsWithin infos image reach limit)) → ⊥
     no_none image gone made reach limit why (inl live) = gone live
     no_none image gone made reach limit (inl full) (inr some) = full_apart made full some.0
@@ -342,14 +366,16 @@ module _ (infos : List ImageInfo) (last : ℕ) (events : List Event) (legal : Is
     one_open image (Some Full) (Some Unknown) h k = absurd (k h.0)
     one_open image (Some Full) (Some Full) h k = refl
     one_open image (Some Full) (Some StaticFull) h k = absurd (full_apart _ h.2 k.2)
-    one_open image (Some Full) None h k = absurd (no_none image h.1 _ (past infos last events).taken (last + 4096) (inl h.2) k.1)
+    one_open image (Some Full) None h k =
+        absurd (no_none image h.1 _ (past infos last events).taken (last + 4096) (inl h.2) k.1)
     one_open image (Some StaticFull) (Some Unknown) h k = absurd (k h.0)
     one_open image (Some StaticFull) (Some Full) h k = absurd (full_apart _ k.2 h.2)
     one_open image (Some StaticFull) (Some StaticFull) h k = refl
     one_open image (Some StaticFull) None h k =
         absurd (no_none image h.1 (past infos last events).made _ _ (inr (h.3, h.4)) k.1)
     one_open image None (Some Unknown) h k = absurd (k h.0)
-    one_open image None (Some Full) h k = absurd (no_none image k.1 _ (past infos last events).taken (last + 4096) (inl k.2) h.1)
+    one_open image None (Some Full) h k =
+        absurd (no_none image k.1 _ (past infos last events).taken (last + 4096) (inl k.2) h.1)
     one_open image None (Some StaticFull) h k =
         absurd (no_none image k.1 (past infos last events).made _ _ (inr (k.3, k.4)) h.1)
     one_open image None None h k = refl

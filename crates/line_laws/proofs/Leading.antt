@@ -1,8 +1,10 @@
 -- Which steps a line has taken when its steps are spent, and what it says then.
-use Rattle.std.proofs.Common.{◌≡◌, ◌+◌, ◌-◌, ◌++◌, ◌≤◌, ℕ, zero, suc, List, [], ◌∷◌, length, map, Option, Some, None, refl, sym, ap, subst, ◌∙◌, inl, inr, arith, append_assoc, append-nil}
+use Rattle.std.proofs.Common.{◌≡◌, ◌+◌, ◌-◌, ◌++◌, ◌≤◌, ℕ, zero, suc, List, [], ◌∷◌, length, map, Option, Some, None}
+use Rattle.std.proofs.Common.{refl, sym, ap, subst, ◌∙◌, inl, inr, arith, append_assoc, append-nil}
 use Rattle.guest_operands.specs.declared.stop.Stop.{Stop}
 use Rattle.guest_machine.specs.Run.{Ended, Ends, Goes, Looks, Next, Waits, go_on, over_or, run}
-use Rattle.thread_blocks.specs.Turns.{Begun, Calls, Ending, Mid, Said, Says, Stopped, Thread, Turns, after_look, turn, turn_at, turns, with_last}
+use Rattle.thread_blocks.specs.Turns.{Begun, Calls, Ending, Mid, Said, Says, Stopped, Thread, Turns, after_look, turn}
+use Rattle.thread_blocks.specs.Turns.{turn_at, turns, with_last}
 use Rattle.line_laws.specs.Counted.{EndsSo, HasTaken, Leads, before}
 use Rattle.line_laws.proofs.Counting.{AtLook, AtStep, IsOver, Still, begun_still, is_on, is_over, turn_mid}
 
@@ -30,7 +32,8 @@ module _ {S L E : Type 0} (x : Turns S L E) where
       → Leads x taken u more t → Leads x (suc taken) s more t
   goes_first taken s u more t on goes rest = (on, (u, (more, (inl (goes, refl), rest))))
 
-  waiting_more : (n : ℕ) (s : S) (left : ℕ) (u : S) (rest : (t : S) → run x.steps n t ≡ Waits left u → IsWaiting n t left u)
+  waiting_more : (n : ℕ) (s : S) (left : ℕ) (u : S)
+      (rest : (t : S) → run x.steps n t ≡ Waits left u → IsWaiting n t left u)
       (next : Next S) → x.steps.over s ≡ None → x.steps.step s ≡ next
       → go_on (suc n) s (run x.steps n) next ≡ Waits left u → IsWaiting (suc n) s left u
   waiting_more n s left u rest (Goes t) on step e = let w = rest t e in record {
@@ -56,13 +59,16 @@ module _ {S L E : Type 0} (x : Turns S L E) where
         whole = omega arith;
       }
 
-  waiting_or : (n : ℕ) (s : S) (left : ℕ) (u : S) (rest : (t : S) → run x.steps n t ≡ Waits left u → IsWaiting n t left u)
+  waiting_or : (n : ℕ) (s : S) (left : ℕ) (u : S)
+      (rest : (t : S) → run x.steps n t ≡ Waits left u → IsWaiting n t left u)
       (over : Option Stop) → x.steps.over s ≡ over
-      → over_or (suc n) s over (go_on (suc n) s (run x.steps n) (x.steps.step s)) ≡ Waits left u → IsWaiting (suc n) s left u
+      → over_or (suc n) s over (go_on (suc n) s (run x.steps n) (x.steps.step s)) ≡ Waits left u
+      → IsWaiting (suc n) s left u
   waiting_or n s left u rest None on e = waiting_more n s left u rest (x.steps.step s) on refl e
   waiting_or n s left u rest (Some stop) on e = cc
 
-  not_waiting : (s : S) (left : ℕ) (u : S) (over : Option Stop) → over_or zero s over (Ended (x.steps.spent s) zero s) ≡ Waits left u → ⊥
+  not_waiting : (s : S) (left : ℕ) (u : S) (over : Option Stop)
+      → over_or zero s over (Ended (x.steps.spent s) zero s) ≡ Waits left u → ⊥
   not_waiting s left u None e = cc
   not_waiting s left u (Some stop) e = cc
 
@@ -71,7 +77,8 @@ module _ {S L E : Type 0} (x : Turns S L E) where
   waiting (suc n) s left u e = waiting_or n s left u (λ t. waiting n t left u) (x.steps.over s) refl e
 
   -- from a look on
-  pub through : (taken m : ℕ) (s at v : S) (next : List E) (w : S) (more : List (List E)) (t : S) → Leads x taken s [] at
+  pub through : (taken m : ℕ) (s at v : S) (next : List E) (w : S) (more : List (List E)) (t : S)
+      → Leads x taken s [] at
       → x.steps.over at ≡ None → x.steps.step at ≡ Looks v → x.resume next v ≡ Calls w → Leads x m w more t
       → Leads x (taken + suc m) s (next ∷ more) t
   through zero m s at v next w more t leads on looks calls rest =
@@ -84,7 +91,8 @@ module _ {S L E : Type 0} (x : Turns S L E) where
       subst (λ (n : ℕ). Leads x n s (next ∷ more) t) one (elim leads.1.1.1.0 [
         | inl goes ↦ goes_first (taken + suc m) s leads.1.0 (next ∷ more) t leads.0 goes.0
             (through taken m leads.1.0 at v next w more t
-            (subst (λ (looks : List (List E)). Leads x taken leads.1.0 looks at) (sym goes.1) leads.1.1.1.1) on looks calls rest)
+            (subst (λ (looks : List (List E)). Leads x taken leads.1.0 looks at)
+            (sym goes.1) leads.1.1.1.1) on looks calls rest)
         | inr asks ↦ absurd (not_empty asks.1.0 leads.1.1.0 asks.1.1.2)
       ])
 
@@ -94,7 +102,8 @@ module _ {S L E : Type 0} (x : Turns S L E) where
     pub record IsSpentAlone : Type 0 where
       pub over : (s : S) (stop : Stop) → x.steps.over s ≡ Some stop → P stop → ⊥
       pub step : (s : S) (stop : Stop) → x.steps.step s ≡ Ends stop → P stop → ⊥
-      pub begin : (line : L) (seen : List E) (held s : S) (stop : Stop) → x.begin line seen held ≡ Says (Stopped stop) s → P stop → ⊥
+      pub begin : (line : L) (seen : List E) (held s : S) (stop : Stop) → x.begin line seen held ≡ Says (Stopped stop) s
+          → P stop → ⊥
       pub resume : (seen : List E) (held s : S) (stop : Stop) → x.resume seen held ≡ Says (Stopped stop) s → P stop → ⊥
 
     -- a run with such a stop has made all steps
@@ -138,7 +147,8 @@ module _ {S L E : Type 0} (x : Turns S L E) where
       pub ran_out : (n : ℕ) (s : S) (stop : Stop) (left : ℕ) (u : S) → P stop → run x.steps n s ≡ Ended stop left u
           → IsSpent n s [] stop
       ran_out zero s stop left u p e = spent_now s stop left u p (x.steps.over s) refl e
-      ran_out (suc n) s stop left u p e = spent_or n s stop left u p (λ t. ran_out n t stop left u p) (x.steps.over s) refl e
+      ran_out (suc n) s stop left u p e =
+          spent_or n s stop left u p (λ t. ran_out n t stop left u p) (x.steps.over s) refl e
 
       -- a line with such an end began a call, which made all steps
       pub record Spends (n : ℕ) (begun : Begun S) (looks : List (List E)) (stop : Stop) : Type 0 where
@@ -158,14 +168,16 @@ module _ {S L E : Type 0} (x : Turns S L E) where
           record { start = s; calls = b; is = ran_out n s stop left t p (r ∙ ap (λ (o : Stop). Ended o left t) same) }
 
       pub spends : (more : List (List E)) (n : ℕ) (todo : List L) (said : List Said) (seen : List E) (points : List ℕ)
-          (begun : Begun S) (line : Said) (stop : Stop) → P stop → ((s : S) → begun ≡ Says (Stopped stop) s → P stop → ⊥)
+          (begun : Begun S) (line : Said) (stop : Stop) → P stop
+          → ((s : S) → begun ≡ Says (Stopped stop) s → P stop → ⊥)
           → line.ending ≡ Stopped stop → Still x (after_look x n todo said seen points begun) said more line
           → Spends n begun more stop
       spends [] n todo said seen points begun line stop p never so still =
           spends_now n points begun line stop p never so (is_over x n todo said seen points begun line still)
       spends (next ∷ more) n todo said seen points begun line stop p never so still =
           let on = is_on x n todo said seen points begun next more line still in
-          let rest = spends more (on.left - 1) todo said next (with_last points (length next)) (x.resume next on.at) line stop p
+          let rest = spends more (on.left - 1) todo said next (with_last points (length next))
+          (x.resume next on.at) line stop p
           (λ s. alone.resume next on.at s stop) so on.still in
           let w = waiting n on.start on.left on.at on.waits in
           let all : w.taken + suc (on.left - 1) ≡ n = omega (arith, w.some, w.whole) in
@@ -189,12 +201,18 @@ module _ {S L E : Type 0} (x : Turns S L E) where
           → (t : S) × (HasTaken x x.fuel line held first more t × (x.steps.spent t ≡ stop))
       has_taken line todo held earlier seen first more stop p is =
           let all = spends more x.fuel todo earlier first (length first ∷ []) (x.begin line first held) _ stop p
-          (λ s. alone.begin line first held s stop) refl (begun_still x line todo held earlier seen first more _ is) in
-          (all.is.at, (record { start = all.start; begins = all.calls; leads = all.is.leads; goes_on = all.is.goes_on }, all.is.spent))
+          (λ s. alone.begin line first held s stop) refl (begun_still x line todo held earlier seen first more _ is) in (
+            all.is.at,
+            (
+              record { start = all.start; begins = all.calls; leads = all.is.leads; goes_on = all.is.goes_on },
+              all.is.spent,
+            ),
+          )
 
   -- ** and what a line says that has taken all its steps
 
-  spent_run : (n : ℕ) (s t : S) → Leads x n s [] t → x.steps.over t ≡ None → run x.steps n s ≡ Ended (x.steps.spent t) zero t
+  spent_run : (n : ℕ) (s t : S) → Leads x n s [] t → x.steps.over t ≡ None
+      → run x.steps n s ≡ Ended (x.steps.spent t) zero t
   spent_run zero s t leads on =
       let here : x.steps.over s ≡ None = ap (λ (u : S). x.steps.over u) leads.0 ∙ on in
       rw here (ap (λ (u : S). Ended (x.steps.spent u) zero u) leads.0)
@@ -264,13 +282,15 @@ module _ {S L E : Type 0} (x : Turns S L E) where
     says = refl;
   })
 
-  waits_still : (n : ℕ) (todo : List L) (said : List Said) (seen : List E) (points : List ℕ) (s : S) (left : ℕ) (at start : S)
+  waits_still : (n : ℕ) (todo : List L) (said : List Said) (seen : List E) (points : List ℕ) (s : S) (left : ℕ)
+      (at start : S)
       (next : List E) (more : List (List E)) (line : Said) → run x.steps n s ≡ Waits (suc left) at
       → x.resume next at ≡ Calls start
       → Still x (after_look x left todo said next (with_last points (length next)) (Calls start)) said more line
       → Still x (after_look x n todo said seen points (Calls s)) said (next ∷ more) line
   waits_still n todo said seen points s left at start next more line waits calls still =
-      rw waits (still_more (record { todo = todo; phase = Mid (suc left) points at; said = said; seen = seen }) said next more line
+      rw waits (still_more (record
+      { todo = todo; phase = Mid (suc left) points at; said = said; seen = seen }) said next more line
       refl (subst (λ (t : Thread S L E). Still x t said more line) (sym turned) still))
     where
       turned : turn_at x todo (Mid (suc left) points at) said seen next
@@ -278,7 +298,8 @@ module _ {S L E : Type 0} (x : Turns S L E) where
       turned = turn_mid x todo (suc left) points at said seen next
           ∙ let one : suc left - 1 ≡ left = omega arith in rw (one, calls) refl
 
-  pub says_so : (more : List (List E)) (n : ℕ) (todo : List L) (said : List Said) (seen : List E) (points : List ℕ) (s t : S)
+  pub says_so : (more : List (List E)) (n : ℕ) (todo : List L) (said : List Said) (seen : List E) (points : List ℕ)
+      (s t : S)
       → Leads x n s more t → x.steps.over t ≡ None
       → Still x (after_look x n todo said seen points (Calls s)) said more
       (record { points = points ++ map length more; ending = Stopped (x.steps.spent t) })
@@ -287,7 +308,8 @@ module _ {S L E : Type 0} (x : Turns S L E) where
   says_so (next ∷ more) n todo said seen points s t leads on =
       let stops = stops_for n s next more t leads in
       waits_still n todo said seen points s stops.left stops.at stops.start next more _ stops.waits stops.calls
-      (subst (λ (all : List ℕ). Still x (after_look x stops.left todo said next (with_last points (length next)) (Calls stops.start))
+      (subst (λ (all : List ℕ). Still x
+      (after_look x stops.left todo said next (with_last points (length next)) (Calls stops.start))
       said more (record { points = all; ending = Stopped (x.steps.spent t) }))
       (append_assoc points (length next ∷ []) (map length more))
       (says_so more stops.left todo said next (with_last points (length next)) stops.start t stops.leads on))

@@ -18,7 +18,8 @@ use Rattle.line_laws.proofs.Ours.{IsForSteps, machine_alone, meaning_alone}
 
 -- ** the machine
 
-machine_spent : (l : Loads ℕ) (thread fuel : ℕ) (h : Runs) → (thread_turns l thread fuel).steps.spent h ≡ Steps h.after.state.place
+machine_spent : (l : Loads ℕ) (thread fuel : ℕ) (h : Runs)
+    → (thread_turns l thread fuel).steps.spent h ≡ Steps h.after.state.place
 unfolding thread_turns thread_steps machine
 machine_spent l thread fuel h = refl
 
@@ -33,17 +34,21 @@ pub machine_counted : MachineStepsAreCounted
 machine_counted l thread fuel line todo held earlier seen first more = record {
   taken = λ place is.
       let x = thread_turns l thread fuel in
-      let all = has_taken x IsForSteps (machine_alone l thread fuel) line todo held earlier seen first more (Steps place) (λ own. own) is in (
+      let all = has_taken x IsForSteps (machine_alone l thread fuel) line todo held earlier seen first more
+      (Steps place) (λ own. own) is in (
         all.0,
         (
-          subst (λ (n : ℕ). HasTaken (thread_turns l thread fuel) n line held first more all.0) (four_times l thread fuel) all.1.0,
+          subst (λ (n : ℕ). HasTaken (thread_turns l thread fuel) n line held first more all.0)
+              (four_times l thread fuel) all.1.0,
           same_place (sym (machine_spent l thread fuel all.0) ∙ all.1.1),
         ),
       );
-  said = λ t has. subst (λ (stop : Stop). EndsSo (thread_turns l thread fuel) line todo held earlier seen (first ∷ more) (Stopped stop))
+  said = λ t has. subst (λ (stop : Stop). EndsSo (thread_turns l thread fuel) line todo held earlier seen (first ∷ more)
+      (Stopped stop))
       (machine_spent l thread fuel t)
       (ends_so (thread_turns l thread fuel) line todo held earlier seen first more t
-      (subst (λ (n : ℕ). HasTaken (thread_turns l thread fuel) n line held first more t) (sym (four_times l thread fuel)) has));
+      (subst (λ (n : ℕ). HasTaken (thread_turns l thread fuel) n line held first more t)
+      (sym (four_times l thread fuel)) has));
 }
 
 -- ** the meaning
@@ -114,12 +119,15 @@ limit_alone m thread fuel h place e (ACause at why step) =
 pub meaning_counted : MeantStepsAreCounted
 meaning_counted m thread fuel line todo held earlier seen first more = record {
   taken = λ place is.
-      let all = has_taken (meant_turns m thread fuel) IsForSteps (meaning_alone m thread fuel) line todo held earlier seen first more
+      let all = has_taken (meant_turns m thread fuel) IsForSteps
+      (meaning_alone m thread fuel) line todo held earlier seen first more
       (Unclean place cause.Steps) (λ own. own) is in
-      let limit = limit_alone m thread fuel all.0 place all.1.1 (cause_of ((meant_turns m thread fuel).steps.step all.0)) in (
+      let limit = limit_alone m thread fuel all.0 place all.1.1
+      (cause_of ((meant_turns m thread fuel).steps.step all.0)) in (
         all.0,
         (
-          subst (λ (n : ℕ). HasTaken (meant_turns m thread fuel) n line held first more all.0) (all_steps m thread fuel) all.1.0,
+          subst (λ (n : ℕ). HasTaken (meant_turns m thread fuel) n line held first more all.0)
+              (all_steps m thread fuel) all.1.0,
           limit.0,
           limit.1,
         ),
@@ -131,6 +139,9 @@ meaning_counted m thread fuel line todo held earlier seen first more = record {
     at_end : (t : Meant) → HasTaken (meant_turns m thread fuel) fuel line held first more t → (stop : Stop)
         → (meant_turns m thread fuel).steps.spent t ≡ stop
         → EndsSo (meant_turns m thread fuel) line todo held earlier seen (first ∷ more) (Stopped stop)
-    at_end t has stop e = subst (λ (stop : Stop). EndsSo (meant_turns m thread fuel) line todo held earlier seen (first ∷ more) (Stopped stop)) e
+    at_end t has stop e = subst
+        (λ (stop : Stop). EndsSo (meant_turns m thread fuel) line todo held earlier seen (first ∷ more)
+        (Stopped stop)) e
         (ends_so (meant_turns m thread fuel) line todo held earlier seen first more t
-        (subst (λ (n : ℕ). HasTaken (meant_turns m thread fuel) n line held first more t) (sym (all_steps m thread fuel)) has))
+        (subst (λ (n : ℕ). HasTaken (meant_turns m thread fuel) n line held first more t)
+        (sym (all_steps m thread fuel)) has))

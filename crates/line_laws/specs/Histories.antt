@@ -1,14 +1,17 @@
 -- The rule of histories: which images are live, and which opens and closes are refused, by counting events. It watches
 -- `open_refusal`, `close_refusal` and the walk (module_table, Past), which keeps a record of each image.
-use Rattle.std.specs.Prelude.{◌≡◌, ◌↔◌, ◌⊎◌, ◌+◌, ◌*◌, ◌<◌, ◌≤◌, ℕ, suc, true, false, not, List, length, take, count_by, slice_get, Option, Some, None}
+use Rattle.std.specs.Prelude.{◌≡◌, ◌↔◌, ◌⊎◌, ◌+◌, ◌*◌, ◌<◌, ◌≤◌, ℕ, suc, true, false, not, List, length, take, count_by}
+use Rattle.std.specs.Prelude.{slice_get, Option, Some, None}
 use Rattle.job_text.specs.Numbering.{at_number}
 use Rattle.module_table.specs.declared.modules.ImageInfo.{ImageInfo}
 use Rattle.module_table.specs.declared.events.Event.{Event}
 use Rattle.module_table.specs.declared.events.CloseRefusal.{CloseRefusal}
-use Rattle.module_table.specs.declared.events.CloseRefusal.TheVariants.{Permanent, NotOpen, OutOfMemory as NoRoomToClose}
+use Rattle.module_table.specs.declared.events.CloseRefusal.TheVariants.{Permanent, NotOpen}
+use Rattle.module_table.specs.declared.events.CloseRefusal.TheVariants.{OutOfMemory as NoRoomToClose}
 use Rattle.module_table.specs.declared.events.OpenRefusal.{OpenRefusal}
-use Rattle.module_table.specs.declared.events.OpenRefusal.TheVariants.{Unknown, Full, StaticFull, OutOfMemory as NoRoomToOpen}
-use Rattle.module_table.specs.History.{IsLegal}
+use Rattle.module_table.specs.declared.events.OpenRefusal.TheVariants.{Unknown, Full, StaticFull}
+use Rattle.module_table.specs.declared.events.OpenRefusal.TheVariants.{OutOfMemory as NoRoomToOpen}
+use Rattle.module_table.specs.Past.{IsLegal}
 use Rattle.module_table.specs.Laws.{closes_of, opens_of}
 use Rattle.module_table.specs.Past.{close_refusal, open_refusal, past}
 

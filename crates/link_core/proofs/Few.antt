@@ -11,7 +11,7 @@ use Rattle.got_pairs.specs.declared.entry.Entry.TheVariants.{One, Two}
 use Rattle.got_pairs.specs.declared.need.Need.{Need}
 use Rattle.got_pairs.specs.declared.need.Need.TheVariants.{RuntimeWord}
 use Rattle.got_pairs.specs.Entries.{entry_of}
-use Rattle.got_pairs.specs.Plans.{starts_from}
+use Rattle.got_pairs.specs.Needs.{starts_from}
 use Rattle.got_pairs.specs.Needs.{size_of}
 use Rattle.elf_object.specs.Counts.{own_count, relocation_count}
 use Rattle.link_faults.specs.ImageKinds.{is_moved}

@@ -12,7 +12,7 @@ use Rattle.std.proofs.lemmas.Bool.{cases_lt}
 use Rattle.std.proofs.lemmas.Option.{same_Some}
 use Rattle.elf_records.specs.declared.relocation.RelocationKind.{RelocationKind}
 use Rattle.elf_records.specs.declared.relocation.RelocationKind.TheVariants.{Nothing}
-use Rattle.elf_records.specs.RelocationRows.{is_of_sequence}
+use Rattle.elf_records.specs.RowLaws.{is_of_sequence}
 use Rattle.elf_object.specs.declared.relocation.Relocation.{Relocation}
 use Rattle.elf_object.specs.Lent.{relocations}
 use Rattle.elf_object.specs.Object.{section_count}
@@ -30,7 +30,8 @@ use Rattle.link_faults.specs.declared.binding.Binding.{Binding}
 use Rattle.link_faults.specs.declared.binding.Binding.TheVariants.{Here}
 use Rattle.tls_symbols.proofs.SectionUses.{but_first, none_in_zero}
 use Rattle.link_needs.specs.Linking.{Linking, binding}
-use Rattle.link_needs.specs.Needs.{address_fields, address_needs, is_address_kind, object_needs, own_word, section_needs}
+use Rattle.link_needs.specs.Needs.{address_fields, address_needs, is_address_kind, object_needs, own_word}
+use Rattle.link_needs.specs.Needs.{section_needs}
 use Rattle.link_tables.specs.Dynamic.{field_relocations, is_absolute, object_relocations, section_relocations}
 use Rattle.link_core.proofs.FewLists.{contains_flat, length-each, length-sorted_by, no_longer}
 

@@ -20,7 +20,7 @@ use Rattle.placed_sections.proofs.Told.{files_end, gaps_are_zero}
 use Rattle.placed_sections.specs.Files.{offset_of, sections_file}
 use Rattle.placed_sections.specs.Laws.{IsOutside, sections_end}
 use Rattle.tls_layout.specs.declared.extent.Extent.{Extent}
-use Rattle.tls_layout.specs.Laws.{extent_for}
+use Rattle.tls_layout.specs.Places.{extent_for}
 use Rattle.tls_layout.specs.Places.{executable, read_only, tls_image, writable}
 use Rattle.tls_layout.specs.Sections.{Layout, is_class}
 use Rattle.tls_layout.proofs.LawsOfPlaces.{lie_in_classes}

@@ -19,7 +19,8 @@ use Rattle.got_pairs.specs.declared.need.Target.TheVariants.{Here, Import}
 use Rattle.got_pairs.specs.Entries.{entry_of}
 use Rattle.link_needs.specs.Linking.{Linking, block_offset}
 use Rattle.link_needs.specs.Needs.{uses_runtime}
-use Rattle.link_tables.specs.Dynamic.{entry_relocations, imports, loader_kind, need_relocations, number_of, relocation_of}
+use Rattle.link_tables.specs.Dynamic.{entry_relocations, imports, loader_kind, need_relocations, number_of}
+use Rattle.link_tables.specs.Dynamic.{relocation_of}
 use Rattle.link_tables.specs.Dynamic.{symbols}
 use Rattle.link_core.specs.Images.{contents, tls_part}
 use Rattle.link_core.proofs.GotRelocationsNeeds.{IsEntry, Suits}

@@ -9,7 +9,7 @@ use Rattle.got_pairs.specs.declared.need.Need.TheVariants.{ModulePair, SymbolPai
 use Rattle.got_pairs.specs.declared.need.Target.TheVariants.{Here, Import}
 use Rattle.got_pairs.specs.Entries.{entry_of}
 use Rattle.got_pairs.specs.Needs.{size_of, total_size}
-use Rattle.got_pairs.specs.Plans.{starts_from}
+use Rattle.got_pairs.specs.Needs.{starts_from}
 use Rattle.link_faults.specs.declared.image_kind.ImageKind.{ImageKind}
 use Rattle.link_faults.specs.declared.image_kind.ImageKind.TheVariants.{Exe, Pie}
 use Rattle.link_needs.specs.Linking.{Linking, block_offset}

@@ -25,7 +25,7 @@ use Rattle.sequence_match.specs.Sites.{first_of}
 use Rattle.relax_sites.specs.declared.choices.Choice.{Choice}
 use Rattle.relax_sites.specs.declared.choices.Choice.TheVariants.{Keep, GdLe, GdIe, IeLe, DescLe, DescIe}
 use Rattle.relax_sites.specs.declared.rows.NewField.{NewField}
-use Rattle.relax_sites.specs.Choices.{IsChoiceOf}
+use Rattle.relax_sites.specs.ChoiceLaws.{IsChoiceOf}
 use Rattle.relax_sites.specs.Rewriting.{rewritten}
 use Rattle.relax_sites.specs.Rows.{form_length, new_field}
 use Rattle.relax_sites.proofs.Tables.{field_end, own_choice, stays}

@@ -9,7 +9,7 @@ use Rattle.image_writer.specs.Contents.{Contents, part_in}
 use Rattle.link_needs.specs.Linking.{Linking, layout}
 use Rattle.link_core.specs.Bytes.{file}
 use Rattle.link_tables.specs.Dynamic.{image_relocations, is_flagged, names, symbols}
-use Rattle.link_tables.specs.Faults.{names_in, symbols_in}
+use Rattle.link_tables.specs.FaultLaws.{names_in, symbols_in}
 use Rattle.link_core.specs.Images.{contents, file_kind, got_number, places, tls_part}
 
 -- what a draft of these fields makes of a file

@@ -4,7 +4,8 @@ use Rattle.link_faults.specs.declared.fault.LinkFault.{LinkFault}
 use Rattle.link_faults.specs.declared.fault.LinkFault.TheVariants.{OutOfMemory, At}
 use Rattle.link_faults.specs.declared.fault.LinkFaultKind.TheVariants as fault
 use Rattle.link_needs.specs.Linking.{Linking}
-use Rattle.link_tables.specs.Faults.{IsLinkFault, IsSound, IsFirstOverflow}
+use Rattle.link_tables.specs.Faults.{IsLinkFault, IsSound}
+use Rattle.link_tables.specs.FaultLaws.{IsFirstOverflow}
 
 -- that of a field
 pub first_fault : (l : Linking) → IsSound l → (told : LinkFault) → IsFirstOverflow l told → IsLinkFault l told

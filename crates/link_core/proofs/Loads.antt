@@ -61,7 +61,8 @@ placed kind bytes (p ∷ xs) inside =
 -- the parts of the contents lie where they are said to
 pub contents_placed : (l : Linking) → IsGiven l → FitsLimits l → map place_of (contents l).parts ≡ places l
 unfolding contents
-contents_placed l given limits = placed (file_kind l.kind) (file l) (places l) (places_inside l given (table_fits l given limits))
+contents_placed l given limits =
+    placed (file_kind l.kind) (file l) (places l) (places_inside l given (table_fits l given limits))
 
 -- where the tables lie
 abbrev pub tables_place : Linking → PartPlace

@@ -88,4 +88,12 @@ pub whole_size : (l : Linking) (parts : List PlacedPart) (front back : List ℕ)
 whole_size l parts front back end page is =
     let made = joined (pieces_of l 4096 parts) in
     let all = ap (λ xs. length (laid_parts l 4096 xs)) (take-length parts) in
-    omega (arith, is, page, all, ap length (pieces_joined l 4096 parts), length-append front (made ++ back), length-append made back)
+    omega (
+      arith,
+      is,
+      page,
+      all,
+      ap length (pieces_joined l 4096 parts),
+      length-append front (made ++ back),
+      length-append made back,
+    )

@@ -6,7 +6,8 @@ use Rattle.std.proofs.lemmas.List.Elements.{All-nil, All-weaker}
 use Rattle.image_file.specs.declared.relocation.ImageRelocation.{ImageRelocation}
 use Rattle.image_writer.specs.Linkable.{AreRising, IsRightRelocation, width}
 use Rattle.link_faults.specs.ImageKinds.{is_moved}
-use Rattle.tls_layout.specs.Laws.{LiesAt, extent_for}
+use Rattle.tls_layout.specs.Laws.{LiesAt}
+use Rattle.tls_layout.specs.Places.{extent_for}
 use Rattle.tls_layout.specs.Places.{section_named}
 use Rattle.tls_layout.proofs.LawsOfPlaces.{lie_in_classes}
 use Rattle.link_needs.specs.Linking.{Linking, layout}

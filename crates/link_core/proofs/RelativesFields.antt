@@ -28,7 +28,8 @@ use Rattle.link_tables.specs.Dynamic.{field_relocations, is_absolute, object_rel
 use Rattle.link_tables.specs.Dynamic.{relative, section_relocations, sum_of}
 use Rattle.link_needs.specs.Given.{IsGiven}
 use Rattle.link_core.proofs.RelativesApart.{AreApart, IsApart, apart_append, apart_range}
-use Rattle.link_tables.proofs.RelativesTables.{IsPlaced, IsApart as FieldsApart, apart_first, apart_rest, placed_section}
+use Rattle.link_tables.proofs.RelativesTables.{IsPlaced, IsApart as FieldsApart, apart_first, apart_rest}
+use Rattle.link_tables.proofs.RelativesTables.{placed_section}
 use Rattle.link_core.proofs.GotRelocationsSites.{has_value}
 use Rattle.tls_symbols.specs.Definitions.{flat_map_from}
 

@@ -19,7 +19,7 @@ use Rattle.image_writer.specs.Page.{file_offset}
 use Rattle.image_writer.specs.Tables.{finished, tables_part}
 use Rattle.image_writer.proofs.SameBytes.{part_length}
 use Rattle.tls_layout.specs.declared.extent.Extent.{Extent}
-use Rattle.tls_layout.specs.Laws.{extent_for}
+use Rattle.tls_layout.specs.Places.{extent_for}
 use Rattle.tls_layout.specs.Places.{executable, read_only, tls_image, writable}
 use Rattle.tls_layout.specs.Sections.{Layout}
 use Rattle.link_needs.specs.Linking.{Linking, layout}

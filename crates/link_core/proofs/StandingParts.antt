@@ -3,7 +3,8 @@ use Rattle.std.proofs.Common.{◌≡◌, ◌+◌, ◌-◌, ◌<◌, ◌≤◌, �
 use Rattle.std.proofs.Common.{map, drop, inl, inr, refl, sym, ap, subst, arith}
 use Rattle.std.specs.Prelude.{option_map, slice_get, slice_index_or}
 use Rattle.std.proofs.lemmas.List.{length-append, length-take}
-use Rattle.std.proofs.lemmas.Option.{get_or_from_slice_get, same_Some, slice_get-get_or, slice_get-map, slice_get_within}
+use Rattle.std.proofs.lemmas.Option.{get_or_from_slice_get, same_Some, slice_get-get_or, slice_get-map}
+use Rattle.std.proofs.lemmas.Option.{slice_get_within}
 use Rattle.elf_object.specs.Lent.{section_size}
 use Rattle.elf_records.specs.Fields.{part_at}
 use Rattle.image_file.specs.declared.part.PartClass.TheVariants.{Executable, Writable}
@@ -106,7 +107,8 @@ pub gaps_are_zero : GapsAreZero
 gaps_are_zero l i k part given links few at below gap =
     let limits = table_fits l given links.sound.limits in
     let place = slice_index_or (section_places (layout l)) i (record { class = Writable; address = 0; size = 0 }) in
-    let listed = slice_get-get_or (section_places (layout l)) i (record { class = Writable; address = 0; size = 0 }) few in
+    let listed = slice_get-get_or (section_places (layout l)) i
+    (record { class = Writable; address = 0; size = 0 }) few in
     let same : part ≡ part_in (file_kind l.kind) (file l) place =
     same_Some _ _ (sym at ∙ part_at_index l i place (first_places l given limits i k place listed)) in
     let P : Part → Type 0 = λ p. k < length p.bytes → IsGap l (p.address + k) → slice_get p.bytes k ≡ Some 0 in

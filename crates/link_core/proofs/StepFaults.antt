@@ -6,11 +6,13 @@ use Rattle.link_faults.specs.declared.fault.LinkFault.{LinkFault}
 use Rattle.link_faults.specs.declared.image_kind.ImageKind.{ImageKind}
 use Rattle.link_faults.specs.declared.fault.LinkFault.TheVariants.{OutOfMemory, At}
 use Rattle.link_faults.specs.declared.fault.LinkFaultKind.TheVariants as fault
-use Rattle.link_needs.specs.Refusals.{FitsKind, IsStorageFault}
+use Rattle.link_needs.specs.Refusals.{FitsKind}
+use Rattle.link_needs.specs.RefusalLaws.{IsStorageFault}
 use Rattle.tls_layout.specs.Places.{tls_size}
 use Rattle.tls_symbols.specs.Faults.{AreResolved}
 use Rattle.link_needs.specs.Linking.{Linking, layout}
-use Rattle.link_tables.specs.Faults.{FitsLimits, IsCrowded, IsLinkFault, LacksStorage}
+use Rattle.link_tables.specs.Faults.{FitsLimits, IsCrowded, IsLinkFault}
+use Rattle.link_tables.specs.FaultLaws.{LacksStorage}
 
 module _ (l : Linking) (resolved : AreResolved l.objects l.startup) where
   module _ (fits : FitsKind l.objects l.kind) where

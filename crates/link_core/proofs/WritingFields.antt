@@ -12,7 +12,7 @@ use Rattle.elf_object.specs.Lent.{relocations}
 use Rattle.elf_object.specs.Parts.{symbol_count}
 use Rattle.tls_relocs.specs.declared.fields.Field.{Field}
 use Rattle.tls_relocs.specs.declared.fields.Field.TheVariants.{Empty}
-use Rattle.tls_relocs.specs.Fields.{field_patch}
+use Rattle.tls_relocs.specs.FieldLaws.{field_patch}
 use Rattle.tls_relocs.specs.Patches.{patched}
 use Rattle.tls_relocs.specs.Values.{stored_field}
 use Rattle.link_needs.specs.declared.symbol_values.SymbolValue.{SymbolValue}
@@ -20,7 +20,8 @@ use Rattle.link_needs.specs.Linking.{Linking, binding, object, place}
 use Rattle.link_core.specs.Bytes.{with_field}
 use Rattle.link_needs.specs.Given.{IsGiven}
 use Rattle.link_needs.specs.Plans.{goes_by, value_of}
-use Rattle.link_tables.specs.Faults.{IsFilled, IsOverflow}
+use Rattle.link_tables.specs.Faults.{IsOverflow}
+use Rattle.link_tables.specs.FaultLaws.{IsFilled}
 use Rattle.link_needs.specs.Values.{field, is_replaced, is_rewriting, other_number, own_number}
 use Rattle.link_core.proofs.LengthsInside.{is_object}
 use Rattle.link_needs.proofs.ValueLemmas.{takes_part}

@@ -1,6 +1,7 @@
 -- The parts behind the sections, put down piece by piece.
 use Rattle.std.proofs.Common.{◌≡◌, ◌+◌, ◌<◌, ◌∙◌, ℕ, zero, suc, List, [], ◌∷◌, ◌++◌, Option, Some, None, length, drop}
-use Rattle.std.proofs.Common.{◌≢◌, ◌-◌, Bool, Result, Ok, Err, true, false, append-nil, refl, sym, ap, append_assoc, arith}
+use Rattle.std.proofs.Common.{◌≢◌, ◌-◌, Bool, Result, Ok, Err, true, false, append-nil, refl, sym, ap, append_assoc}
+use Rattle.std.proofs.Common.{arith}
 use Rattle.std.proofs.Common.{length-append}
 use Rattle.std.specs.List.{flat_map}
 use Rattle.std.specs.Option.{option_map}
@@ -17,8 +18,10 @@ use Rattle.tls_relocs.specs.Fields.{field_bytes}
 use Rattle.tls_relocs.specs.Laid.{zeros}
 use Rattle.tls_relocs.specs.Values.{stored_field}
 use Rattle.link_needs.specs.Linking.{Linking, layout}
-use Rattle.link_needs.specs.Needs.{got_size, got_start, has_stub, need_address, stub_start, table}
-use Rattle.link_core.specs.Bytes.{got_bytes, stub_bytes, table_bytes, with_got, with_stub}
+use Rattle.link_needs.specs.Needs.{got_size, got_start, has_stub, need_address, stub_start}
+use Rattle.link_needs.specs.NeedLaws.{table}
+use Rattle.link_core.specs.Bytes.{got_bytes, stub_bytes, with_got, with_stub}
+use Rattle.link_core.specs.ByteLaws.{table_bytes}
 use Rattle.link_core.specs.Laying.{got_behind, made_behind, stub_behind}
 
 -- what follows from what holds where a step goes well
@@ -94,7 +97,8 @@ pub made_pushed : (l : Linking) (start : ℕ) (bytes : List ℕ)
     ≡ bytes ++ made_behind l (start + length bytes)
 made_pushed l start bytes =
     let own = got_behind l (start + length bytes) in
-    let long : start + length (bytes ++ own) ≡ start + length bytes + length own = omega (arith, length-append bytes own) in
+    let long : start + length (bytes ++ own) ≡ start + length bytes + length own =
+    omega (arith, length-append bytes own) in
     append_assoc bytes own (stub_behind l (start + length (bytes ++ own)))
     ∙ ap (λ n. bytes ++ (own ++ stub_behind l n)) long
 

@@ -1,5 +1,6 @@
 -- The fields of relocations and of sequences have room in their section.
-use Rattle.std.proofs.Common.{◌≡◌, ◌+◌, ◌<◌, ◌≤◌, ◌^◌, ℕ, List, [], ◌∷◌, Option, Some, None, length, refl, IsSome, arith}
+use Rattle.std.proofs.Common.{◌≡◌, ◌+◌, ◌<◌, ◌≤◌, ◌^◌, ℕ, List, [], ◌∷◌, Option, Some, None, length, refl, IsSome}
+use Rattle.std.proofs.Common.{arith}
 use Rattle.std.proofs.lemmas.List.{take-append-drop}
 use Rattle.std.proofs.lemmas.List.Elements.{All-contains}
 use Rattle.std.specs.List.{Contains}
@@ -23,7 +24,7 @@ use Rattle.tls_layout.proofs.Together.{page_up-above}
 use Rattle.tls_layout.specs.Places.{address_of}
 use Rattle.tls_relocs.specs.declared.fields.Field.{Field}
 use Rattle.tls_relocs.specs.declared.fields.Field.TheVariants.{Empty, Word32, Word64}
-use Rattle.tls_relocs.specs.Fields.{field_patch, width_of}
+use Rattle.tls_relocs.specs.FieldLaws.{field_patch, width_of}
 use Rattle.tls_relocs.specs.Patches.{patched}
 use Rattle.link_needs.proofs.UsableSites.{usable}
 use Rattle.link_needs.specs.Given.{FitsTable, IsGiven}
@@ -99,7 +100,8 @@ field_room l o t r given limits there is =
 -- what is known of each
 pub site_usable : (l : Linking) (o : ℕ) (site : Site) → IsGiven l → o < length l.objects
     → Contains (sites_at l o) site → IsUsable (object l o) site
-site_usable l o site given there has = All-contains (IsUsable (object l o)) (sites_at l o) site (usable l o given there) has
+site_usable l o site given there has =
+    All-contains (IsUsable (object l o)) (sites_at l o) site (usable l o given there) has
 
 -- the field of the bytes in its place has room, at a small offset
 pub record HasNewRoom (l : Linking) (o : ℕ) (site : Site) (f : NewField) : Type 0 where

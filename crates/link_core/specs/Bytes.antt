@@ -10,7 +10,6 @@ use Rattle.elf_object.specs.Lent.{relocations}
 use Rattle.got_pairs.specs.declared.need.Need.{Need}
 use Rattle.got_pairs.specs.declared.need.Need.TheVariants.{RuntimeWord}
 use Rattle.got_pairs.specs.Entries.{entry_of, words}
-use Rattle.got_pairs.specs.Plans.{Table}
 use Rattle.relax_sites.specs.declared.rows.NewField.{NewField}
 use Rattle.relax_sites.specs.Rewriting.{rewritten}
 use Rattle.relax_sites.specs.Rows.{new_field}
@@ -30,11 +29,6 @@ use Rattle.link_needs.specs.Values.{field, is_replaced}
 -- the words of an entry, as they are in the file
 abbrev pub need_bytes : Linking → Need → List ℕ
 need_bytes l need = flat_map (λ w. bytes_of 8 w.number) (words (entry_of l.kind (block_offset l) need))
-
--- the words of all entries of a table
-abbrev pub table_bytes : Table → List ℕ
-table_bytes t =
-    flat_map (λ need. flat_map (λ w. bytes_of 8 w.number) (words (entry_of t.kind t.block_offset need))) t.entries
 
 unfoldable pub got_bytes : Linking → List ℕ
 got_bytes l = flat_map (need_bytes l) (entries l)

@@ -3,7 +3,7 @@
 ghost use Rattle.std.specs.Prelude.{◌≡◌, ◌<◌, ◌++◌, IfOk, OnOk};
 ghost use Rattle.image_writer.specs.Contents.{contents_of};
 ghost use Rattle.link_tables.specs.Dynamic.{image_relocations, is_flagged, names, symbols as symbols_of_link};
-ghost use Rattle.link_tables.specs.Faults.{names_in, symbols_in};
+ghost use Rattle.link_tables.specs.FaultLaws.{names_in, symbols_in};
 ghost use Rattle.link_needs.specs.Linking.{layout};
 ghost use Rattle.link_core.specs.Bytes.{file};
 ghost use Rattle.link_core.specs.Images.{contents, file_kind, filled, got_number, got_places, places, section_places};

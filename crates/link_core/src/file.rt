@@ -9,7 +9,7 @@ ghost use Rattle.placed_sections.specs.Files.{offset_of as file_offset, placed};
 ghost use Rattle.tls_relocs.specs.Fields.{field_bytes};
 ghost use Rattle.tls_relocs.specs.Laid.{zeros};
 ghost use Rattle.link_needs.specs.Linking.{layout};
-ghost use Rattle.link_core.specs.Bytes.{table_bytes};
+ghost use Rattle.link_core.specs.ByteLaws.{table_bytes};
 ghost use Rattle.link_core.specs.Laying.{got_behind, made_behind, stub_behind, AreParts};
 
 use elf_object::RelocationKind;

@@ -2,7 +2,8 @@
 
 ghost use Rattle.std.specs.Prelude.{OnErr, OnOk};
 ghost use Rattle.tls_symbols.specs.Walks.{IsUse};
-ghost use Rattle.link_tables.specs.Faults.{IsFilled, IsOverflow, IsToldOverflow};
+ghost use Rattle.link_tables.specs.Faults.{IsOverflow};
+ghost use Rattle.link_tables.specs.FaultLaws.{IsFilled, IsToldOverflow};
 ghost use Rattle.link_core.specs.Overflows.{IsOfLink, IsOfSound, Overfills};
 
 use crate::ready::ReadyLink;

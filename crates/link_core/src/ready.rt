@@ -10,7 +10,8 @@ ghost use Rattle.tls_layout.specs.Sections.{layout_of};
 ghost use Rattle.tls_symbols.specs.Bindings.{object_at};
 ghost use Rattle.tls_symbols.specs.Faults.{AreResolved};
 ghost use Rattle.link_needs.specs.Linking.{choices_from, link_of};
-ghost use Rattle.link_tables.specs.Faults.{ArePrepared, IsLinkFault, IsSound, LacksStorage};
+ghost use Rattle.link_tables.specs.Faults.{IsLinkFault, IsSound};
+ghost use Rattle.link_tables.specs.FaultLaws.{ArePrepared, LacksStorage};
 ghost use Rattle.link_core.specs.Requests.{link_asked};
 
 use dynamic_symbols::{defined_symbols, imports, names_fit};

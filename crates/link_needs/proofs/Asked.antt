@@ -1,5 +1,6 @@
 -- What may be asked of an image's relocations.
-use Rattle.std.proofs.Common.{◌≡◌, ◌<◌, ◌⊎◌, ◌&&◌, inl, inr, ℕ, Bool, true, false, List, Option, length, refl, sym, subst}
+use Rattle.std.proofs.Common.{◌≡◌, ◌<◌, ◌⊎◌, ◌&&◌, inl, inr, ℕ, Bool, true, false, List, Option, length, refl, sym}
+use Rattle.std.proofs.Common.{subst}
 use Rattle.std.specs.List.{list_any}
 use Rattle.elf_object.specs.declared.relocation.Relocation.{Relocation}
 use Rattle.elf_object.specs.LawsOfNotes.{each_fails, every_relocation}
@@ -19,10 +20,12 @@ use Rattle.tls_symbols.specs.Faults.{NamesWithin}
 use Rattle.tls_symbols.specs.Searches.{IsUseIn, MayAsk, NoneIn}
 use Rattle.link_needs.specs.declared.charge.Charge.{Charge}
 use Rattle.link_needs.specs.declared.charge.Charge.TheVariants.{ByType, ByStorage}
-use Rattle.link_needs.specs.Refusals.{asks_among, entry_asks_storage, is_refused_by, IsAbout, IsAskedOf, IsAskedWithin}
+use Rattle.link_needs.specs.Refusals.{entry_asks_storage, is_refused_by}
+use Rattle.link_needs.specs.RefusalLaws.{asks_among, IsAbout, IsAskedOf, IsAskedWithin}
 
 -- a question that is asked of the objects may be asked of each of their relocations
-pub may_ask : (charge : Charge) (objects : List (List ℕ)) → IsAskedOf objects charge → MayAsk (IsAskedWithin charge) objects
+pub may_ask : (charge : Charge) (objects : List (List ℕ)) → IsAskedOf objects charge
+    → MayAsk (IsAskedWithin charge) objects
 may_ask (ByType fault image) objects of = λ u is. tt
 may_ask (ByStorage image bindings) objects of = λ u is. (
   subst (λ all. u.place.object < length all) (sym of) is.object,

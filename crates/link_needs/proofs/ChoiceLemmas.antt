@@ -8,7 +8,7 @@ use Rattle.link_faults.specs.declared.binding.Binding.{Binding}
 use Rattle.link_faults.specs.declared.binding.Binding.TheVariants.{Runtime}
 use Rattle.link_faults.specs.declared.image_kind.ImageKind.TheVariants.{Exe}
 use Rattle.relax_sites.specs.declared.choices.Choice.{Choice}
-use Rattle.relax_sites.specs.Choices.{IsChoiceOf}
+use Rattle.relax_sites.specs.ChoiceLaws.{IsChoiceOf}
 use Rattle.relax_sites.proofs.Tables.{own_choice}
 use Rattle.sequence_forms.specs.declared.forms.Form.{Form}
 use Rattle.sequence_forms.specs.declared.places.Site.{Site}

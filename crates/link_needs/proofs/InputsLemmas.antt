@@ -1,5 +1,6 @@
 -- Sections that have a place are kept, and what lies in them is small.
-use Rattle.std.proofs.Common.{◌≡◌, ◌<◌, ◌≤◌, ◌+◌, ◌^◌, ◌||◌, ℕ, Bool, List, [], ◌∷◌, map, length, Option, Some, None, refl, sym, ap, subst, ◌∙◌, arith, Fits, w64}
+use Rattle.std.proofs.Common.{◌≡◌, ◌<◌, ◌≤◌, ◌+◌, ◌^◌, ◌||◌, ℕ, Bool, List, [], ◌∷◌, map, length, Option, Some, None}
+use Rattle.std.proofs.Common.{refl, sym, ap, subst, ◌∙◌, arith, Fits, w64}
 use Rattle.std.specs.Prelude.{IsSome, unwrap_or}
 use Rattle.std.specs.List.{list_any}
 use Rattle.object_faults.specs.declared.class.SectionClass.{SectionClass}
@@ -8,7 +9,8 @@ use Rattle.elf_object.specs.declared.symbol.SymbolPlace.TheVariants.{InSection}
 use Rattle.elf_object.specs.Faults.{IsObject}
 use Rattle.elf_object.specs.Lawful.{IsPlaced}
 use Rattle.elf_object.specs.LawsOfSections.{kept_as}
-use Rattle.elf_object.specs.Lent.{section_class, symbol_place, symbol_value, IsSymbolPart}
+use Rattle.elf_object.specs.Lent.{section_class, symbol_place, symbol_value}
+use Rattle.elf_object.specs.LentLaws.{IsSymbolPart}
 use Rattle.tls_layout.proofs.Bounds.{address_bounds}
 use Rattle.tls_layout.specs.declared.sections.Section.{Section}
 use Rattle.tls_layout.specs.Places.{address_at, address_of, class_of, offset_at, offset_by, tls_offset_of, IsLawful}

@@ -3,7 +3,8 @@ use Rattle.std.proofs.Common.{◌≡◌, ◌≢◌, ◌∙◌, true, false, ap, 
 use Rattle.elf_records.specs.declared.relocation.RelocationKind.{RelocationKind}
 use Rattle.elf_records.specs.declared.relocation.RelocationKind.TheVariants.{Nothing}
 use Rattle.elf_records.specs.declared.relocation_row.RelocationRow.{RelocationRow}
-use Rattle.elf_records.specs.RelocationRows.{is_entry, row}
+use Rattle.elf_records.specs.RelocationRows.{row}
+use Rattle.elf_records.specs.RowLaws.{is_entry}
 
 pub named : (kind : RelocationKind) (given : RelocationRow) → given ≡ row kind → is_entry given.entry ≡ true
     → kind ≢ Nothing

@@ -1,5 +1,6 @@
 -- Walks that add what code needs, or look for a call of the stub: what is left of them.
-use Rattle.std.proofs.Common.{◌≡◌, ◌≢◌, ◌+◌, ◌-◌, ◌<◌, ◌≤◌, ◌∙◌, ℕ, refl, suc, zero, Bool, true, false, List, [], ◌∷◌, ◌++◌}
+use Rattle.std.proofs.Common.{◌≡◌, ◌≢◌, ◌+◌, ◌-◌, ◌<◌, ◌≤◌, ◌∙◌, ℕ, refl, suc, zero, Bool, true, false, List, [], ◌∷◌}
+use Rattle.std.proofs.Common.{◌++◌}
 use Rattle.std.proofs.Common.{drop, filter, length, map, sym, ap, append_assoc, append-nil, arith, subst}
 use Rattle.std.specs.Global.{Vec}
 use Rattle.std.specs.Prelude.{Err, IfOk, MatchResult, Ok, slice_index_or, if◌then◌else◌}
@@ -19,8 +20,10 @@ use Rattle.link_needs.specs.Linking.{Linking, choices_from}
 use Rattle.link_needs.specs.declared.needs.OwnWanted.{OwnWanted}
 use Rattle.link_needs.specs.Plans.{AreOwn}
 use Rattle.std.proofs.lemmas.List.Concat.{flat_map_single}
-use Rattle.link_needs.specs.Needs.{absolutes, absolutes_from, any_stub_call, is_address_kind, is_stub_call}
-use Rattle.link_needs.specs.Needs.{object_absolutes, object_needs, site_needs}
+use Rattle.link_needs.specs.Needs.{any_stub_call, is_address_kind, is_stub_call}
+use Rattle.link_needs.specs.NeedLaws.{absolutes, absolutes_from}
+use Rattle.link_needs.specs.Needs.{object_needs, site_needs}
+use Rattle.link_needs.specs.NeedLaws.{object_absolutes}
 use Rattle.tls_symbols.specs.Definitions.{flat_map_from}
 use Rattle.link_needs.specs.Linking.{choice}
 

@@ -21,7 +21,8 @@ use Rattle.link_needs.specs.Linking.{Linking, block_offset, layout, object, site
 use Rattle.link_needs.specs.Given.{FitsTable, IsGiven}
 use Rattle.link_needs.specs.Plans.{IsUsable}
 use Rattle.link_needs.specs.Values.{counts_from_thread_pointer, is_local, is_rewriting, number_beside}
-use Rattle.link_needs.specs.Needs.{entries, got_size, got_start, needs, need_address, relocation_need, table}
+use Rattle.link_needs.specs.Needs.{entries, got_size, got_start, needs, need_address, relocation_need}
+use Rattle.link_needs.specs.NeedLaws.{table}
 use Rattle.link_needs.proofs.UsableSites.{usable}
 
 -- a test of what is made of each

@@ -37,7 +37,8 @@ code_fits b object s = by_class (section_class b s) refl
     by_class c e = (omega arith, omega arith)
 
 -- a register that ModRM names is one of sixteen
-few_registers : (rex modrm : ℕ) → IsTrue ((modrm % 8 == 5) && nat_lt modrm 64) → modrm / 8 + (if rex == 0x4c then 8 else 0) ≤ 15
+few_registers : (rex modrm : ℕ) → IsTrue ((modrm % 8 == 5) && nat_lt modrm 64)
+    → modrm / 8 + (if rex == 0x4c then 8 else 0) ≤ 15
 few_registers rex modrm fits = grind (arith, nat_tests)
 
 few_of_form : (form : Form) (code : List ℕ) (xs : List _) (start : ℕ)

@@ -10,7 +10,8 @@ use Rattle.elf_records.specs.declared.relocation.RelocationKind.{RelocationKind}
 use Rattle.elf_records.specs.declared.relocation.RelocationKind.TheVariants.{Nothing}
 use Rattle.elf_records.specs.declared.relocation_row.TableEntry.{TableEntry}
 use Rattle.elf_records.specs.declared.relocation_row.TableEntry.TheVariants.{NoEntry}
-use Rattle.elf_records.specs.RelocationRows.{is_entry, row}
+use Rattle.elf_records.specs.RelocationRows.{row}
+use Rattle.elf_records.specs.RowLaws.{is_entry}
 use Rattle.elf_object.specs.declared.relocation.Relocation.{Relocation}
 use Rattle.elf_records.specs.declared.symbol.SymbolBinding.TheVariants.{Local}
 use Rattle.elf_object.specs.Parts.{symbol_count}
@@ -111,7 +112,8 @@ module _ (l : Linking) where
 
         by_definition : (found : Option SymbolRef)
             → value_by l (here_or found None)
-            ≡ value_by l (here_or found (if may_import r.kind then of_startup (first_export name 1 l.startup) else None))
+            ≡ value_by l (here_or found
+            (if may_import r.kind then of_startup (first_export name 1 l.startup) else None))
         by_definition (Some found) = refl
         by_definition None = elsewhere (may_import r.kind) (first_export name 1 l.startup)
 

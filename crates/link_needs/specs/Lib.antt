@@ -2,6 +2,8 @@ pub mod Given
 pub mod Laws
 pub mod Linking
 pub mod Needs
+pub mod NeedLaws
 pub mod Plans
 pub mod Refusals
+pub mod RefusalLaws
 pub mod Values

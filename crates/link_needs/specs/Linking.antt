@@ -1,6 +1,7 @@
 -- All that an image depends on: its kind, its objects with their sequences, what the startup images export, and whether
 -- sequences may be rewritten.
-use Rattle.std.specs.Prelude.{◌+◌, ℕ, Bool, true, List, [], ◌∷◌, Option, Some, None, map, nat_lt, slice_index_or, unwrap_or}
+use Rattle.std.specs.Prelude.{◌+◌, ℕ, Bool, true, List, [], ◌∷◌, Option, Some, None, map, nat_lt, slice_index_or}
+use Rattle.std.specs.Prelude.{unwrap_or}
 use Rattle.std.specs.Global.{Vec}
 use Rattle.elf_object.specs.declared.relocation.Relocation.{Relocation}
 use Rattle.elf_object.specs.declared.symbol.SymbolPlace.{SymbolPlace}
@@ -14,7 +15,7 @@ use Rattle.relax_sites.specs.declared.choices.Choice.TheVariants.{Keep}
 use Rattle.relax_sites.specs.Choices.{choice_of}
 use Rattle.sequence_forms.specs.declared.forms.Form.{Form}
 use Rattle.sequence_forms.specs.declared.places.Site.{Site}
-use Rattle.tls_layout.specs.Laws.{extent_for}
+use Rattle.tls_layout.specs.Places.{extent_for}
 use Rattle.tls_layout.specs.Places.{address_of, tls_offset_of, tls_size, tls_alignment}
 use Rattle.tls_layout.specs.Rounding.{round_up}
 use Rattle.tls_layout.specs.Sections.{Layout, layout_of}

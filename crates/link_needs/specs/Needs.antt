@@ -1,12 +1,12 @@
 -- What code needs of the global offset table, where the table, the stub and each entry are (Drepper, "ELF Handling For
 -- Thread-Local Storage", section 4; psABI, "Thread-Local Storage"), and which fields a loader fills in.
 use Rattle.std.specs.Prelude.{◌+◌, ◌&&◌, ◌++◌, ℕ, Bool, true, false, List, [], ◌∷◌, Option, Some, None, filter}
-use Rattle.std.specs.Prelude.{map, option_and_then, option_map, is_some, if◌then◌else◌, nat_le}
+use Rattle.std.specs.Prelude.{option_and_then, option_map, is_some, if◌then◌else◌, nat_le}
 use Rattle.std.specs.List.{flat_map, list_any, range_with_len}
 use Rattle.elf_records.specs.declared.relocation.RelocationKind.{RelocationKind}
 use Rattle.elf_records.specs.declared.relocation_row.TableEntry.{TableEntry}
 use Rattle.elf_records.specs.declared.relocation_row.TableEntry.TheVariants as entry
-use Rattle.elf_records.specs.RelocationRows.{is_absolute, row}
+use Rattle.elf_records.specs.RelocationRows.{row}
 pub use Rattle.elf_records.specs.RelocationRows.{is_address_kind}
 use Rattle.elf_object.specs.declared.relocation.Relocation.{Relocation}
 use Rattle.elf_object.specs.Lent.{relocations, symbol_name}
@@ -18,7 +18,6 @@ use Rattle.got_pairs.specs.declared.need.Need.TheVariants.{RuntimeWord}
 use Rattle.got_pairs.specs.declared.need.Target.{Target}
 use Rattle.got_pairs.specs.declared.need.Target.TheVariants as target
 use Rattle.got_pairs.specs.Needs.{entries as entries_of, start_of, total_size}
-use Rattle.got_pairs.specs.Plans.{Table}
 use Rattle.relax_sites.specs.declared.choices.Choice.{Choice}
 use Rattle.relax_sites.specs.declared.choices.Choice.TheVariants.{Keep}
 use Rattle.relax_sites.specs.declared.rows.NewField.{NewField}
@@ -31,9 +30,7 @@ use Rattle.tls_layout.specs.Rounding.{page_up}
 use Rattle.link_faults.specs.declared.binding.Binding.{Binding}
 use Rattle.tls_symbols.specs.Definitions.{flat_map_from}
 use Rattle.link_faults.specs.declared.binding.Binding.TheVariants.{Here, Startup, Runtime}
-use Rattle.link_faults.specs.ImageKinds.{is_moved}
-use Rattle.link_needs.specs.declared.needs.AbsoluteField.{AbsoluteField}
-use Rattle.link_needs.specs.Linking.{Linking, address, binding, choice, layout, block_offset, object, offset}
+use Rattle.link_needs.specs.Linking.{Linking, address, binding, choice, layout, object, offset}
 use Rattle.std.specs.Prelude.{option_to_list}
 
 -- ** what a relocation reaches
@@ -142,9 +139,6 @@ needs l = flat_map_from (λ o. flat_map (site_needs l o)) 0 l.sites ++ flat_map_
 unfoldable pub entries : Linking → List Need
 entries l = entries_of (needs l)
 
-abbrev pub table : Linking → Table
-table l = record { kind = l.kind; block_offset = block_offset l; entries = entries l }
-
 -- the table begins after all sections of objects, on a page of its own
 abbrev pub got_start : Linking → ℕ
 got_start l = room (layout l).kind (layout l).sections
@@ -179,25 +173,3 @@ has_stub l = any_stub_call l 0 l.sites
 -- the stub is on the page after the table
 abbrev pub stub_start : Linking → ℕ
 stub_start l = page_up (got_start l + got_size l)
-
--- ** the fields that hold an address in 8 bytes; a loader fills them in, in an image that may be loaded at any address
-
--- those among some relocations of section t of object o, and among all
-abbrev pub fields_among : Linking → ℕ → ℕ → List Relocation → List AbsoluteField
-fields_among l o t rs =
-    map (λ r. record { object = o; section = t; relocation = r })
-    (filter (λ r. is_moved l.kind && is_absolute r.kind) rs)
-
-abbrev pub section_absolutes : Linking → ℕ → List ℕ → ℕ → List AbsoluteField
-section_absolutes l o b t = fields_among l o t (relocations b t)
-
-unfoldable pub object_absolutes : Linking → ℕ → List ℕ → List AbsoluteField
-object_absolutes l o b = flat_map (section_absolutes l o b) (range_with_len 0 (section_count b))
-
-abbrev pub absolutes_from : Linking → ℕ → List (List ℕ) → List AbsoluteField
-absolutes_from l o [] = []
-absolutes_from l o (b ∷ more) = object_absolutes l o b ++ absolutes_from l (o + 1) more
-
--- those of all objects, in the order of their sections and of the file
-unfoldable pub absolutes : Linking → List AbsoluteField
-absolutes l = absolutes_from l 0 l.objects

@@ -8,14 +8,15 @@ use Rattle.link_needs.specs.declared.needs.AbsoluteField.{AbsoluteField}
 use Rattle.link_needs.specs.declared.needs.OwnWanted.{OwnWanted}
 use Rattle.link_needs.specs.Given.{FitsTable, IsGiven}
 use Rattle.link_needs.specs.Linking.{Linking, choices_from, address, object, offset, sites_at}
-use Rattle.link_needs.specs.Needs.{absolutes, got_start, has_stub, object_absolutes, object_needs, site_needs, stub_start}
-use Rattle.link_needs.specs.Needs.{table}
+use Rattle.link_needs.specs.Needs.{got_start, has_stub, object_needs, site_needs, stub_start}
+use Rattle.link_needs.specs.NeedLaws.{absolutes, object_absolutes}
+use Rattle.link_needs.specs.NeedLaws.{table}
 use Rattle.link_needs.specs.declared.symbol_values.SymbolValue.{SymbolValue}
 use Rattle.link_needs.specs.Values.{counts_from_thread_pointer, is_rewriting, goes_where}
 use Rattle.std.specs.List.{flat_map, range_with_len}
 use Rattle.elf_records.specs.declared.relocation.RelocationKind.{RelocationKind}
 use Rattle.elf_records.specs.RelocationRows.{row, is_offset}
-pub use Rattle.elf_records.specs.RelocationRows.{reaches_entry}
+pub use Rattle.elf_records.specs.RowLaws.{reaches_entry}
 use Rattle.elf_object.specs.Parts.{symbol_count}
 use Rattle.link_faults.specs.declared.binding.Binding.{Binding}
 use Rattle.link_faults.specs.declared.binding.Binding.TheVariants as bound

@@ -3,7 +3,8 @@
 ghost use Rattle.std.specs.Prelude.{◌≡◌, ◌≤◌, ◌↔◌, IsTrue, MatchOption, MatchResult};
 ghost use Rattle.std.specs.List.{All};
 ghost use Rattle.elf_object.specs.Faults.{IsObject};
-ghost use Rattle.link_needs.specs.Refusals.{test_of, FitsKind, FitsStorage, IsAskedOf, IsKindFault, IsStorageFault};
+ghost use Rattle.link_needs.specs.Refusals.{FitsKind, FitsStorage};
+ghost use Rattle.link_needs.specs.RefusalLaws.{test_of, IsAskedOf, IsKindFault, IsStorageFault};
 ghost use Rattle.elf_object.specs.Counts.{relocation_count};
 ghost use Rattle.tls_symbols.specs.Faults.{IsFirstCharged, NoneCharged};
 

@@ -3,8 +3,9 @@
 ghost use Rattle.std.specs.Prelude.{◌≡◌, ◌≢◌, ◌<◌, length};
 ghost use Rattle.elf_object.specs.Parts.{symbol_count};
 ghost use Rattle.tls_symbols.specs.Bindings.{binding_of, object_at};
-ghost use Rattle.link_needs.specs.Refusals.{asks_among, asks_storage, is_refused, test_of};
-ghost use Rattle.link_needs.specs.Refusals.{IsAbout, IsAskedIn, IsAskedWithin};
+ghost use Rattle.link_needs.specs.Refusals.{asks_storage, is_refused};
+ghost use Rattle.link_needs.specs.RefusalLaws.{asks_among, test_of};
+ghost use Rattle.link_needs.specs.RefusalLaws.{IsAbout, IsAskedIn, IsAskedWithin};
 ghost use Rattle.link_faults.specs.Bindings.{is_here};
 
 use elf_object::{Object, Relocation, RelocationKind, Traits};

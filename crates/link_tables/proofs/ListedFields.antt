@@ -1,10 +1,12 @@
 -- The relocations of fields as they are listed.
-use Rattle.std.proofs.Common.{◌≡◌, ◌≢◌, ◌∙◌, ◌<◌, ◌≤◌, ◌+◌, ◌^◌, ◌++◌, ◌&&◌, ℕ, Bool, true, false, List, [], ◌∷◌, length}
+use Rattle.std.proofs.Common.{◌≡◌, ◌≢◌, ◌∙◌, ◌<◌, ◌≤◌, ◌+◌, ◌^◌, ◌++◌, ◌&&◌, ℕ, Bool, true, false, List, [], ◌∷◌}
+use Rattle.std.proofs.Common.{length}
 use Rattle.std.proofs.Common.{drop, filter, map, refl, sym, ap, subst, arith}
 use Rattle.std.specs.Prelude.{if◌then◌else◌}
 use Rattle.std.specs.List.{All, Contains, flat_map, range_with_len}
 use Rattle.std.proofs.lemmas.List.{map-append}
-use Rattle.std.proofs.lemmas.List.Elements.{All-append, All-contains, All-contains_itself, All-filter, All-map, All-nil, filter_passes}
+use Rattle.std.proofs.lemmas.List.Elements.{All-append, All-contains, All-contains_itself, All-filter, All-map, All-nil}
+use Rattle.std.proofs.lemmas.List.Elements.{filter_passes}
 use Rattle.elf_records.specs.declared.relocation.RelocationKind.{RelocationKind}
 use Rattle.elf_records.specs.declared.relocation.RelocationKind.TheVariants.{Nothing}
 use Rattle.elf_object.specs.declared.relocation.Relocation.{Relocation}
@@ -21,7 +23,8 @@ use Rattle.link_faults.specs.ImageKinds.{is_moved}
 use Rattle.link_needs.specs.declared.needs.AbsoluteField.{AbsoluteField}
 use Rattle.link_needs.specs.Given.{IsGiven}
 use Rattle.link_needs.specs.Linking.{Linking, object}
-use Rattle.link_needs.specs.Needs.{absolutes, absolutes_from, fields_among, object_absolutes, section_absolutes, sorted_by}
+use Rattle.link_needs.specs.Needs.{sorted_by}
+use Rattle.link_needs.specs.NeedLaws.{absolutes, absolutes_from, fields_among, object_absolutes, section_absolutes}
 use Rattle.link_needs.proofs.Reached.{both}
 use Rattle.tls_symbols.proofs.Within.{dropped_is}
 use Rattle.link_tables.specs.Dynamic.{field_relocations, is_absolute, object_relocations}
@@ -118,7 +121,8 @@ module _ (l : Linking) where
     from_sections o b [] = refl
     from_sections o b (t ∷ ts) =
         map-append (relative_of l) (section_absolutes l o b t) (flat_map (section_absolutes l o b) ts)
-        ∙ ap (λ xs. xs ++ map (relative_of l) (flat_map (section_absolutes l o b) ts)) (from_section o t (relocations b t))
+        ∙ ap (λ xs. xs ++ map (relative_of l) (flat_map (section_absolutes l o b) ts))
+        (from_section o t (relocations b t))
         ∙ ap (λ xs. section_relocations l o b t ++ xs) (from_sections o b ts)
 
     from_objects : (o : ℕ) (bs : List (List ℕ))

@@ -70,7 +70,8 @@ unfolding relocations_from
 none_listed b at n none = rw none refl
 
 -- where it has bytes, its table has entries
-pub some_bytes : (b : List ℕ) (r : ℕ) → 0 < length (relocations_from b (section b r).offset 0 (entry_count (section b r)))
+pub some_bytes : (b : List ℕ) (r : ℕ)
+    → 0 < length (relocations_from b (section b r).offset 0 (entry_count (section b r)))
     → (section b r).size ≢ 0
 some_bytes b r some none =
     let empty : entry_count (section b r) ≡ 0 = rw none refl in

@@ -18,7 +18,7 @@ use Rattle.got_pairs.specs.declared.need.Need.TheVariants.{AddressWord, RuntimeW
 use Rattle.got_pairs.specs.declared.need.Target.TheVariants.{Here, Import}
 use Rattle.got_pairs.specs.Entries.{entry_of, words}
 use Rattle.got_pairs.specs.Needs.{size_of, total_size}
-use Rattle.got_pairs.specs.Plans.{starts_from}
+use Rattle.got_pairs.specs.Needs.{starts_from}
 use Rattle.link_needs.specs.Linking.{Linking, block_offset, layout}
 use Rattle.link_needs.specs.Needs.{entries, got_size, got_start}
 use Rattle.link_tables.specs.Dynamic.{entry_relocations, imports, need_relocations, own_symbols}

@@ -22,7 +22,7 @@ use Rattle.got_pairs.specs.declared.entry.Entry.{Entry}
 use Rattle.got_pairs.specs.declared.entry.Entry.TheVariants.{One, Two}
 use Rattle.got_pairs.specs.declared.need.Need.{Need}
 use Rattle.got_pairs.specs.Entries.{entry_of}
-use Rattle.got_pairs.specs.Plans.{starts_from}
+use Rattle.got_pairs.specs.Needs.{starts_from}
 use Rattle.image_faults.specs.declared.loader_kind.LoaderKind.{LoaderKind}
 use Rattle.image_faults.specs.declared.loader_kind.LoaderKind.TheVariants as loader
 use Rattle.image_file.specs.declared.relocation.ImageRelocation.{ImageRelocation}

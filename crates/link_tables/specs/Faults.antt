@@ -1,7 +1,6 @@
 -- Why objects can't be linked, and which fault is reported; the tables of a link as code has them.
-use Rattle.std.specs.Prelude.{◌≡◌, ◌<◌, ◌≤◌, ◌^◌, ◌⊎◌, ℕ, List, Option, Some, None, IsNone, IsSomeAnd, false, length}
-use Rattle.std.specs.Prelude.{map, slice_get}
-use Rattle.std.specs.List.{All}
+use Rattle.std.specs.Prelude.{◌≡◌, ◌<◌, ◌≤◌, ◌^◌, ◌⊎◌, ℕ, Option, Some, None, IsNone, IsSomeAnd, false, length}
+use Rattle.std.specs.Prelude.{slice_get}
 use Rattle.elf_object.specs.declared.relocation.Relocation.{Relocation}
 use Rattle.elf_object.specs.Lent.{relocation_target}
 use Rattle.elf_object.specs.Object.{section_count}
@@ -9,19 +8,13 @@ use Rattle.dynamic_symbols.specs.Names.{name_size}
 use Rattle.link_faults.specs.declared.fault.LinkFault.{LinkFault}
 use Rattle.link_faults.specs.declared.fault.LinkFault.TheVariants.{OutOfMemory, At}
 use Rattle.link_faults.specs.declared.fault.LinkFaultKind.TheVariants as fault
-use Rattle.link_needs.specs.Refusals.{by_storage, by_type, FitsKind, FitsStorage, IsStorageFault}
+use Rattle.link_needs.specs.Refusals.{by_storage, by_type, FitsKind, FitsStorage}
 use Rattle.elf_object.specs.Counts.{relocation_count}
 use Rattle.tls_layout.specs.Places.{span, tls_size, IsLawful}
-use Rattle.link_faults.specs.declared.image_kind.ImageKind.{ImageKind}
-use Rattle.link_faults.specs.declared.symbol_ref.SymbolRef.{SymbolRef}
-use Rattle.tls_symbols.specs.Definitions.{IsWithin}
 use Rattle.tls_symbols.specs.Faults.{held_in, AreResolved, Earlier, IsFirst, IsFirstCharged, NoneCharged}
-use Rattle.link_needs.specs.Given.{IsGiven}
 use Rattle.link_needs.specs.Linking.{Linking, layout, object}
 use Rattle.link_needs.specs.Values.{field, is_replaced}
 use Rattle.link_tables.specs.Dynamic.{imports, own_symbols}
-use Rattle.image_file.specs.declared.symbol.ImageSymbol.{ImageSymbol}
-use Rattle.image_writer.specs.declared.draft.NamedSymbol.{NamedSymbol}
 
 -- ** limits
 
@@ -40,33 +33,11 @@ pub record FitsLimits (l : Linking) : Type 0 where
 abbrev pub IsOverflow : Linking → ℕ → ℕ → Relocation → Type 0
 IsOverflow l o t r = (is_replaced l o r ≡ false) × IsNone (field l o t r)
 
--- it has no field, or one that holds its value
-abbrev pub IsFilled : Linking → ℕ → ℕ → Relocation → Type 0
-IsFilled l o t r = IsOverflow l o t r → ⊥
-
 -- entry e of section s of object o is such a relocation
 abbrev pub Overflows : Linking → ℕ → ℕ → ℕ → Type 0
 Overflows l o s e =
     (o < length l.objects) × (0 < s) × (s < section_count (object l o))
     × IsSomeAnd (slice_get (held_in (object l o) s) e) (IsOverflow l o (relocation_target (object l o) s))
-
--- the fault is the first such relocation
-abbrev pub IsFirstOverflow : Linking → LinkFault → Type 0
-IsFirstOverflow l (At fault.Overflow (Some o) s e) =
-    Overflows l o s e × ((p t f : ℕ) → Earlier p t f o s e → Overflows l p t f → ⊥)
-IsFirstOverflow l told = ⊥
-
--- the first field that can't hold its value; none if each holds it
-abbrev pub IsToldOverflow : Linking → Option LinkFault → Type 0
-IsToldOverflow l None = (o s e : ℕ) → Overflows l o s e → ⊥
-IsToldOverflow l (Some told) = IsFirstOverflow l told
-
--- ** storage
-
--- the fault of an image that asks for thread-local storage and finds none; of OutOfMemory nothing is said
-abbrev pub LacksStorage : List (List ℕ) → List (List (List ℕ)) → ImageKind → ℕ → LinkFault → Type 0
-LacksStorage objects startup kind size OutOfMemory = Unit {0}
-LacksStorage objects startup kind size told = IsStorageFault objects startup kind size told
 
 -- ** the first fault
 
@@ -112,20 +83,3 @@ IsLinkFault l (At fault.Undefined (Some o) s e) = IsFirst l.objects l.startup fa
 IsLinkFault l (At fault.Duplicate (Some o) s e) = IsFirst l.objects l.startup fault.Duplicate o s e
 IsLinkFault l (At fault.NotTls (Some o) s e) = IsFirst l.objects l.startup fault.NotTls o s e
 IsLinkFault l told = AreResolved l.objects l.startup × IsLaterFault l told
-
--- ** what the linker keeps
-
--- the symbols that the link defines and the names that it imports, all within the limits
-pub record ArePrepared (l : Linking) (own : List SymbolRef) (names : List (List ℕ)) : Type 0 where
-  pub given : IsGiven l
-  pub limits : FitsLimits l
-  pub own_are : own ≡ own_symbols l
-  pub within : All (IsWithin l.objects) own
-  pub imports_are : names ≡ imports l
-
--- symbols with their names, as code holds them
-abbrev pub symbols_in : List NamedSymbol → List ImageSymbol
-symbols_in all = map (λ (s : NamedSymbol). s.symbol) all
-
-abbrev pub names_in : List NamedSymbol → List (List ℕ)
-names_in all = map (λ (s : NamedSymbol). s.name.now) all

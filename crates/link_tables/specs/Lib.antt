@@ -1,2 +1,3 @@
 pub mod Dynamic
 pub mod Faults
+pub mod FaultLaws

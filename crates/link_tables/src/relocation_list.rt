@@ -9,7 +9,8 @@ ghost use Rattle.link_tables.specs.Dynamic.{entry_relocations, got_relocations, 
 ghost use Rattle.link_tables.specs.Dynamic.{number_of, own_symbols, relative_of, relatives, relocation_of};
 ghost use Rattle.link_tables.specs.Dynamic.{word_relocations};
 ghost use Rattle.link_needs.specs.Linking.{block_offset};
-ghost use Rattle.link_needs.specs.Needs.{absolutes, entries, got_size, got_start};
+ghost use Rattle.link_needs.specs.Needs.{entries, got_size, got_start};
+ghost use Rattle.link_needs.specs.NeedLaws.{absolutes};
 
 use crate::tables::Tables;
 use got_pairs::{DynamicKind, DynamicRelocation, DynamicSymbol, Entry, Word};

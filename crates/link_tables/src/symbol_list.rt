@@ -6,7 +6,7 @@ ghost use Rattle.tls_symbols.specs.Definitions.{IsWithin};
 ghost use Rattle.dynamic_symbols.specs.Names.{name_of};
 ghost use Rattle.elf_records.specs.declared.symbol.SymbolType.TheVariants.{Tls};
 ghost use Rattle.link_tables.specs.Dynamic.{defined, foreign, names, runtime_names, runtime_symbols, symbols};
-ghost use Rattle.link_tables.specs.Faults.{names_in, symbols_in};
+ghost use Rattle.link_tables.specs.FaultLaws.{names_in, symbols_in};
 ghost use Rattle.link_needs.specs.Linking.{address, offset};
 
 use crate::tables::Tables;

@@ -19,7 +19,7 @@ pub struct Tables<'l, 's, 'a> {
 impl<'l, 's, 'a> Model for Tables<'l, 's, 'a> {
     ghost use Rattle.std.specs.Prelude.{map};
     ghost use Rattle.link_needs.specs.Linking.{Linking};
-    ghost use Rattle.link_tables.specs.Faults.{ArePrepared};
+    ghost use Rattle.link_tables.specs.FaultLaws.{ArePrepared};
 
     ghost Value = { Linking };
 

@@ -1,5 +1,6 @@
 -- What general dynamic sequences and calls of descriptors leave in %rax, by meaning and by machine.
-use Rattle.std.proofs.Common.{◌≡◌, ◌∙◌, ◌⊎◌, ◌-◌, ◌^◌, ◌<◌, ◌≤◌, ℕ, zero, suc, Bool, true, false, List, Option, Some, None, Result, Ok, Err, refl, sym, ap, subst, inl, inr, arith}
+use Rattle.std.proofs.Common.{◌≡◌, ◌∙◌, ◌⊎◌, ◌-◌, ◌^◌, ◌<◌, ◌≤◌, ℕ, zero, suc, Bool, true, false, List, Option, Some}
+use Rattle.std.proofs.Common.{None, Result, Ok, Err, refl, sym, ap, subst, inl, inr, arith}
 use Rattle.std.specs.Prelude.{◌&&◌, option_and_then}
 use Rattle.address_map.specs.Map.{owner_at, pointer_of}
 use Rattle.guest_arithmetic.specs.declared.cause.Cause.{Cause}
@@ -21,15 +22,19 @@ use Rattle.thread_blocks.specs.Held.{looked, reached}
 use Rattle.thread_blocks.specs.Instances.{Loads, block_start, numbered_instance}
 use Rattle.thread_blocks.specs.RunTime.{Runs, resume_line, thread_steps, resumed}
 use Rattle.thread_blocks.specs.Turns.{Answered, Begun, Calls, Says}
-use Rattle.thread_blocks.specs.TurnsAlike.{IsFront, SameBegun}
+use Rattle.thread_blocks.specs.TurnsAlike.{SameBegun}
+use Rattle.thread_blocks.specs.Turns.{IsFront}
 use Rattle.transcript_text.specs.declared.outcomes.LineFault.TheVariants.{Unloaded}
 use Rattle.transcript_text.specs.declared.outcomes.Outcome.TheVariants.{Fault}
 use Rattle.whole_meaning.specs.declared.sequences.Sequence.{Sequence}
 use Rattle.whole_meaning.specs.Laws.{IsGeneral}
 use Rattle.whole_meaning.specs.Meanings.{Meaning}
 use Rattle.whole_meaning.specs.Running.{meaning}
-use Rattle.whole_meaning.specs.Sequences.{after_call, asks, descriptor_calls, does, looks_first, sequence_result, stack_use, variable_address, variable_distance, without_flags}
-use Rattle.whole_meaning.specs.Threads.{Meant, Memory, came_late, code_owner, held_next, meant_stack, meant_steps, resume_meant, resumed_at, resumed_by, resumed_for, sequence_at, sequence_does, sequence_next}
+use Rattle.whole_meaning.specs.Sequences.{after_call, asks, descriptor_calls, does, looks_first, sequence_result}
+use Rattle.whole_meaning.specs.Sequences.{stack_use, variable_address, variable_distance, without_flags}
+use Rattle.whole_meaning.specs.Threads.{Meant, Memory, came_late, code_owner, held_next, meant_stack, meant_steps}
+use Rattle.whole_meaning.specs.Threads.{resume_meant, resumed_at, resumed_by, resumed_for, sequence_at, sequence_does}
+use Rattle.whole_meaning.specs.Threads.{sequence_next}
 use Rattle.tied_meaning.specs.Numbers.{Setting, SameWord, alike}
 use Rattle.tied_meaning.specs.Ties.{AreTied, IsTied}
 use Rattle.tied_meaning.specs.Threads.{AtRest, InCall, Waiting}
@@ -152,7 +157,8 @@ module _ {g : Setting} {m : Meaning} {q : Loads ℕ} {history : List Event} {thr
       → does (meant_stack m thread) s thread (block_start thread y) s.form at.state at.memory ≡ Ok t.after
   unfolding sequence_result
   done_at at s y t target e = subst (λ (o : Option Instance).
-      does (meant_stack m thread) s thread (option_map_or (block_start thread) o 0) s.form at.state at.memory ≡ Ok t.after) target e
+      does (meant_stack m thread) s thread (option_map_or (block_start thread) o 0) s.form at.state at.memory
+      ≡ Ok t.after) target e
 
   module _ (seen : List Event) (front : IsFront seen history) (h : Meant) (h' : Runs) (call : Call h h') (s : Sequence)
       (here : sequence_at m thread h.after.memory.seen h.after.state.place ≡ Some s) (t : Meant) where

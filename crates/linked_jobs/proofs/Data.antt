@@ -6,9 +6,10 @@ use Rattle.loaded_bytes.specs.Laws.{images_of}
 use Rattle.loaded_names.proofs.Meant.{infos_meant}
 use Rattle.module_table.specs.declared.events.Event.{Event}
 use Rattle.module_table.specs.declared.modules.ImageInfo.{ImageInfo}
-use Rattle.module_table.specs.History.{IsLegal}
+use Rattle.module_table.specs.Past.{IsLegal}
 use Rattle.module_table.specs.Past.{is_legal, start}
-use Rattle.shared_data.proofs.Jobs.{machine_data_last, machine_reads_last, machine_there, meant_data_last, meant_reads_last, meant_there}
+use Rattle.shared_data.proofs.Jobs.{machine_data_last, machine_reads_last, machine_there, meant_data_last}
+use Rattle.shared_data.proofs.Jobs.{meant_reads_last, meant_there}
 use Rattle.shared_data.specs.Laws.{IsInOrder}
 use Rattle.thread_blocks.specs.JobLoads.{job_loads}
 use Rattle.tied_fields.specs.Settings.{setting_of}
@@ -45,7 +46,8 @@ share_data ls fuel lines job = (
     last = machine_data_last (job_loads (images_of ls)) fuel lines (in_order ls job);
     reads = machine_reads_last (job_loads (images_of ls)) fuel lines (in_order ls job);
     there =
-        machine_there.0 (job_loads (images_of ls)) fuel lines (in_order ls job) (machine_low ls (setting_of ls) (tied ls job));
+        machine_there.0 (job_loads (images_of ls)) fuel lines (in_order ls job)
+        (machine_low ls (setting_of ls) (tied ls job));
   },
   record {
     last = meant_data_last (meaning_of ls) fuel lines (meant_in_order ls job);

@@ -1,5 +1,6 @@
 -- All that is loaded of linked images lies below what threads have for themselves, in the machine and in the meaning.
-use Rattle.std.proofs.Common.{◌≡◌, ◌∙◌, ◌^◌, ◌≤◌, ◌==◌, ℕ, suc, Bool, true, false, List, [], ◌∷◌, length, Option, Some, None, if◌then◌else◌, refl, sym, ap, subst, inl, inr, arith, append-nil}
+use Rattle.std.proofs.Common.{◌≡◌, ◌∙◌, ◌^◌, ◌≤◌, ◌==◌, ℕ, suc, Bool, true, false, List, [], ◌∷◌, length, Option, Some}
+use Rattle.std.proofs.Common.{None, if◌then◌else◌, refl, sym, ap, subst, inl, inr, arith, append-nil}
 use Rattle.std.specs.List.{All, find, flat_map}
 use Rattle.std.proofs.lemmas.Bool.{cases_Bool}
 use Rattle.guest_operands.specs.declared.space.Access.{Access}
@@ -12,11 +13,11 @@ use Rattle.loaded_bytes.specs.Laws.{images_of}
 use Rattle.loaded_names.proofs.Meant.{infos_meant}
 use Rattle.module_table.specs.declared.events.Event.{Event}
 use Rattle.module_table.specs.declared.modules.ImageInfo.{ImageInfo}
-use Rattle.module_table.specs.History.{IsLegal}
+use Rattle.module_table.specs.Past.{IsLegal}
 use Rattle.module_table.specs.Past.{past}
 use Rattle.thread_blocks.specs.Instances.{Loads, fixed_at, instances, instances_in}
 use Rattle.thread_blocks.specs.JobLoads.{job_loads}
-use Rattle.thread_blocks.specs.Spaces.{SameRange}
+use Rattle.thread_blocks.specs.SpaceLaws.{SameRange}
 use Rattle.thread_blocks.specs.Turns.{at_number}
 use Rattle.whole_meaning.specs.Loads.{data_ranges, loads_of, meaning_of}
 use Rattle.link_needs.specs.Linking.{has_writable_data}
@@ -90,7 +91,8 @@ module _ (range : Range Byte) where
           (ap (λ (r : Range Byte). r.readable) (sym is) ∙ read, ap (λ (r : Range Byte). r.writable) (sym is) ∙ write)
       of_test own false e read write = cc
 
-  rights_in : (number : ℕ) (image : Option Linking) → option_map_or (λ (own : Linking). data_ranges own (bias_of own.kind number)) image None ≡ Some range → HasRights
+  rights_in : (number : ℕ) (image : Option Linking)
+      → option_map_or (λ (own : Linking). data_ranges own (bias_of own.kind number)) image None ≡ Some range → HasRights
   rights_in number None e = cc
   rights_in number (Some l) e = rights_of l (bias_of l.kind number) e
 
@@ -199,7 +201,8 @@ module _ (ls : List Linking) (settings : List Event → Setting)
     fixed = λ seen legal access place high.
         subst (λ (live : List Instance). byte_in access (flat_map meant.fixed live) place ≡ None) (same_instances seen)
         (none_in meant.fixed access place (instances machine seen)
-        (λ k d less. none_meant ls (settings seen) _ (each_tied seen (legal_too seen legal) k d less) access place high));
+        (λ k d less. none_meant ls (settings seen) _
+        (each_tied seen (legal_too seen legal) k d less) access place high));
     shared = λ seen legal x range live e.
         data_of_meaning ls (settings seen) x
         (all_found (IsTied (settings seen) (meaning_of ls) machine) (λ (y : Instance). y.number == x.number)

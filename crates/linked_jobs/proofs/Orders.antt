@@ -1,5 +1,6 @@
 -- In any order of turns of a job, where the meaning of a thread stands the machine's thread stands too.
-use Rattle.std.proofs.Common.{◌≡◌, ◌⊎◌, ◌++◌, ◌*◌, ◌≤◌, ℕ, Bool, zero, suc, List, [], ◌∷◌, length, Option, Some, None, refl, sym, subst, inl, inr, arith}
+use Rattle.std.proofs.Common.{◌≡◌, ◌⊎◌, ◌++◌, ◌*◌, ◌≤◌, ℕ, Bool, zero, suc, List, [], ◌∷◌, length, Option, Some, None}
+use Rattle.std.proofs.Common.{refl, sym, subst, inl, inr, arith}
 use Rattle.std.specs.Prelude.{option_and_then, slice_get}
 use Rattle.job_meaning.specs.declared.values.Byte.{Byte}
 use Rattle.job_meaning.specs.declared.values.Flag.{Flag}
@@ -11,9 +12,11 @@ use Rattle.thread_blocks.specs.Instances.{Loads}
 use Rattle.thread_blocks.specs.JobWorlds.{Shared, changed, shared_order, shared_turn, with_data, job_start}
 use Rattle.thread_blocks.specs.Lines.{Line, event_by}
 use Rattle.thread_blocks.specs.RunTime.{Runs, thread_turns}
-use Rattle.thread_blocks.specs.Spaces.{FoundAlike}
-use Rattle.thread_blocks.specs.Turns.{Idle, Mid, Phase, Thread, Turns, at_number, event_of, next_line, with_event, with_last}
-use Rattle.thread_blocks.specs.TurnsAlike.{IsFront, SamePhase}
+use Rattle.thread_blocks.specs.SpaceLaws.{FoundAlike}
+use Rattle.thread_blocks.specs.Turns.{Idle, Mid, Phase, Thread, Turns, at_number, event_of, next_line, with_event}
+use Rattle.thread_blocks.specs.Turns.{with_last}
+use Rattle.thread_blocks.specs.TurnsAlike.{SamePhase}
+use Rattle.thread_blocks.specs.Turns.{IsFront}
 use Rattle.thread_blocks.proofs.Orders.{front-trans, turn-front}
 use Rattle.whole_meaning.specs.Meanings.{Meaning}
 use Rattle.whole_meaning.specs.Threads.{Meant, meant_turns, ops}
@@ -134,7 +137,8 @@ module _ (g : Setting) (m : Meaning) (q : Loads ℕ) (history : List Event) (tie
         order_alike Call Wait Rest (SameData g q) (λ (i : ℕ). suc i ≤ 64) Fine by_meaning by_machine
         (λ (thread : ℕ). event_by m.loads thread) adds (λ i line seen. event_same g m q history i tied line seen)
         (λ i most. threads_alike (suc i) (omega arith) most) (λ i most. lent (suc i))
-        order (job_start ops m.loads lines) (job_start plain_operations q lines) (start_alike g m q history tied lines few)
+        order (job_start ops m.loads lines) (job_start plain_operations q lines)
+        (start_alike g m q history tied lines few)
         (λ e front. front-trans by_machine adds e w'.events history front now)
 
     abbrev Found : ℕ → Meant → Type 0

@@ -7,7 +7,7 @@ use Rattle.module_table.specs.declared.events.Event.{Event}
 use Rattle.thread_blocks.proofs.Histories.{histories_legal}
 use Rattle.thread_blocks.specs.JobLoads.{job_loads}
 use Rattle.thread_blocks.specs.JobWorlds.{job_world}
-use Rattle.thread_blocks.specs.TurnsAlike.{IsFront}
+use Rattle.thread_blocks.specs.Turns.{IsFront}
 use Rattle.whole_meaning.specs.Loads.{meaning_of}
 use Rattle.call_alike.proofs.Printing.{tied_jobs, tied_threads}
 use Rattle.tied_fields.specs.Settings.{setting_of}
@@ -20,7 +20,8 @@ whole events = ([], search (append-nil))
 
 pub linked_jobs : LinkedJobsPrint
 linked_jobs ls fuel lines order job few clean =
-    let legal = job_legal (images_of ls) (job_world (job_loads (images_of ls)) fuel lines order).events (are_infos ls job)
+    let legal = job_legal (images_of ls) (job_world (job_loads (images_of ls)) fuel lines order).events
+    (are_infos ls job)
     (histories_legal (job_loads (images_of ls)) fuel lines order) in
     tied_jobs (setting_of ls (job_world (job_loads (images_of ls)) fuel lines order).events) (meaning_of ls)
     (job_loads (images_of ls)) (job_world (job_loads (images_of ls)) fuel lines order).events

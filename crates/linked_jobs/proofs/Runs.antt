@@ -7,7 +7,8 @@ use Rattle.linked_jobs.proofs.Answers.{agree, finds}
 use Rattle.linked_jobs.proofs.Orders.{stands_among}
 use Rattle.linked_jobs.proofs.Standing.{stands}
 use Rattle.linked_jobs.proofs.Tied.{links_tied}
-use Rattle.linked_jobs.specs.Answers.{LinkedAnswersAgree, LinkedJobsStandAlike, LinkedSequencesFind, LinkedThreadsStandAlike}
+use Rattle.linked_jobs.specs.Answers.{LinkedAnswersAgree, LinkedJobsStandAlike, LinkedSequencesFind}
+use Rattle.linked_jobs.specs.Answers.{LinkedThreadsStandAlike}
 
 pub linked_stand : LinkedThreadsStandAlike
 linked_stand ls history ready legal fuel thread low high own points seen at clean left h =

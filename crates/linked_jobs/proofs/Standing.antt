@@ -1,5 +1,6 @@
 -- Where the meaning of a thread stands in a turn, the machine's thread stands too.
-use Rattle.std.proofs.Common.{◌≡◌, ◌+◌, ◌-◌, ◌*◌, ◌≤◌, ℕ, zero, suc, List, [], ◌∷◌, Option, Some, refl, sym, subst, inl, inr, arith}
+use Rattle.std.proofs.Common.{◌≡◌, ◌+◌, ◌-◌, ◌*◌, ◌≤◌, ℕ, zero, suc, List, [], ◌∷◌, Option, Some, refl, sym, subst, inl}
+use Rattle.std.proofs.Common.{inr, arith}
 use Rattle.std.specs.Prelude.{option_and_then}
 use Rattle.guest_machine.specs.Run.{Stepping, Goes}
 use Rattle.guest_machine.specs.Simulate.{Advances, IsSimulated, Moves}
@@ -10,8 +11,10 @@ use Rattle.thread_blocks.specs.Instances.{Loads}
 use Rattle.thread_blocks.specs.JobWorlds.{numbered_lines, thread_ready}
 use Rattle.thread_blocks.specs.Lines.{Line, event_by}
 use Rattle.thread_blocks.specs.RunTime.{Runs, thread_turns}
-use Rattle.thread_blocks.specs.Turns.{Begun, Calls, Idle, Mid, Phase, Says, Thread, Turns, event_of, next_line, ready, turn, turns, with_event, with_last}
-use Rattle.thread_blocks.specs.TurnsAlike.{HasUnclean, IsFront, SameBegun, SamePhase}
+use Rattle.thread_blocks.specs.Turns.{Begun, Calls, Idle, Mid, Phase, Says, Thread, Turns, event_of, next_line, ready}
+use Rattle.thread_blocks.specs.Turns.{turn, turns, with_event, with_last}
+use Rattle.thread_blocks.specs.TurnsAlike.{HasUnclean, SameBegun, SamePhase}
+use Rattle.thread_blocks.specs.Turns.{IsFront}
 use Rattle.whole_meaning.specs.Meanings.{Meaning}
 use Rattle.whole_meaning.specs.Threads.{Meant, meant_turns, ops}
 use Rattle.lawful_points.specs.Laws.{AtFronts}

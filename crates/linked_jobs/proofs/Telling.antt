@@ -1,5 +1,6 @@
 -- What a transcript's lines tell of each thread by itself.
-use Rattle.std.proofs.Common.{◌≡◌, ◌∙◌, ◌≤◌, ℕ, zero, suc, List, [], ◌∷◌, length, map, Some, None, inl, inr, refl, sym, ap, subst, arith}
+use Rattle.std.proofs.Common.{◌≡◌, ◌∙◌, ◌≤◌, ℕ, zero, suc, List, [], ◌∷◌, length, map, Some, None, inl, inr, refl, sym}
+use Rattle.std.proofs.Common.{ap, subst, arith}
 use Rattle.std.specs.Prelude.{◌⊎◌, take}
 use Rattle.std.proofs.lemmas.Option.{slice_get_within}
 use Rattle.begin_alike.proofs.Printed.{verdict_clean}
@@ -12,7 +13,7 @@ use Rattle.lawful_points.specs.Raced.{IsRacer, first_of, raced_of}
 use Rattle.lawful_points.specs.Printed.{printed_points}
 use Rattle.loaded_bytes.specs.Laws.{images_of}
 use Rattle.module_table.specs.declared.events.Event.{Event}
-use Rattle.module_table.specs.History.{IsLegal}
+use Rattle.module_table.specs.Past.{IsLegal}
 use Rattle.thread_blocks.proofs.Histories.{histories_legal}
 use Rattle.thread_blocks.specs.JobLoads.{job_loads}
 use Rattle.thread_blocks.specs.Lines.{Line, event_by}
@@ -67,7 +68,8 @@ threads_told ls fuel lines order transcript job few none told thread own said is
     ≡ (meant_thread (meaning_of ls) fuel thread own at).said)) (sym points) either)
   where
     meant : Thread Meant Line Event
-    meant = meant_thread (meaning_of ls) fuel thread own (map (λ (number : ℕ). take number transcript.events) (printed_points said))
+    meant = meant_thread (meaning_of ls) fuel thread own
+        (map (λ (number : ℕ). take number transcript.events) (printed_points said))
 
     told_at : (racer : IsRacer (job_loads (images_of ls)) fuel thread own transcript.events said)
         → HasUnclean meant.said ⊎ ((raced_of (job_loads (images_of ls)) fuel thread own racer.points).said ≡ meant.said)

@@ -59,5 +59,6 @@ module _ (ls : List Linking) (ready : AreReady ls) (none : All (λ (l : Linking)
       of_image : (found : Option Linking) → at_number ls x.image ≡ found → (job_loads (images_of ls)).shared x ≡ None
       of_image (Some l) e = of_link x l e
       of_image None e =
-          ap (λ image. find (λ (range : Range ℕ). range.writable) (option_map_or (λ own. parts_from (images_of ls) own x 0 own.parts) image []))
+          ap (λ image. find (λ (range : Range ℕ). range.writable)
+          (option_map_or (λ own. parts_from (images_of ls) own x 0 own.parts) image []))
           (no_image ls x.image e)

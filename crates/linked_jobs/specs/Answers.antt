@@ -13,7 +13,7 @@ use Rattle.known_instances.specs.Known.{known_in}
 use Rattle.loaded_bytes.specs.Laws.{images_of}
 use Rattle.loaded_modules.specs.declared.instance.Instance.{Instance}
 use Rattle.module_table.specs.declared.events.Event.{Event}
-use Rattle.module_table.specs.History.{IsLegal}
+use Rattle.module_table.specs.Past.{IsLegal}
 use Rattle.sequence_forms.specs.declared.forms.Form.TheVariants.{DescCall}
 use Rattle.shared_data.specs.Told.{steps_of}
 use Rattle.thread_blocks.specs.Instances.{Loads, block_start}
@@ -22,7 +22,8 @@ use Rattle.thread_blocks.specs.JobWorlds.{Shared, shared_order, with_data, job_s
 use Rattle.thread_blocks.specs.Lines.{Line, event_by}
 use Rattle.thread_blocks.specs.RunTime.{Runs, resume_line, thread_steps, thread_turns}
 use Rattle.thread_blocks.specs.Turns.{Begun, Calls, Thread, Turns, at_number, with_last}
-use Rattle.thread_blocks.specs.TurnsAlike.{HasUnclean, IsFront}
+use Rattle.thread_blocks.specs.TurnsAlike.{HasUnclean}
+use Rattle.thread_blocks.specs.Turns.{IsFront}
 use Rattle.whole_meaning.specs.declared.sequences.Sequence.{Sequence}
 use Rattle.whole_meaning.specs.Laws.{IsGeneral}
 use Rattle.whole_meaning.specs.Loads.{meaning_of}

@@ -5,7 +5,7 @@ use Rattle.job_text.specs.LateImages.{LateLast}
 use Rattle.link_core.specs.Laws.{HasNoStray}
 use Rattle.link_needs.specs.Linking.{Linking}
 use Rattle.linked_modules.specs.Together.{AreTogether}
-use Rattle.elf_records.specs.Fields.{AreBytes}
+use Rattle.elf_records.specs.FieldLaws.{AreBytes}
 use Rattle.job_text.specs.ProgramFirst.{ProgramFirst}
 
 -- each image links, together with the startup images; files are bytes, and no object has a loose relocation or a stray

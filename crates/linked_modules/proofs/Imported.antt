@@ -74,7 +74,8 @@ module _ (objects : List (List ℕ)) (startup : List (List (List ℕ))) where
       of_test : (t : Bool) → is_import objects startup o site ≡ t
           → All (IsAmong startup) (if t then symbol_name (object_at objects o) site.symbol ∷ [] else [])
       of_test true is =
-          all_cons (IsAmong startup) (symbol_name (object_at objects o) site.symbol) [] (bound_among o (first_of site) is)
+          all_cons (IsAmong startup) (symbol_name (object_at objects o) site.symbol) []
+          (bound_among o (first_of site) is)
           (all_nil (IsAmong startup))
       of_test false is = all_nil (IsAmong startup)
 

@@ -18,7 +18,8 @@ use Rattle.link_needs.specs.Linking.{Linking}
 use Rattle.link_core.specs.Dynamic.{imports}
 use Rattle.link_core.specs.Faults.{Links}
 use Rattle.link_core.specs.Images.{contents, file_kind, image_of}
-use Rattle.loaded_modules.specs.Given.{IsDynamic, NamesShared, file_kind_of, of_job}
+use Rattle.loaded_modules.specs.Given.{IsDynamic, NamesShared, file_kind_of}
+use Rattle.loaded_modules.specs.Loader.{of_job}
 use Rattle.loaded_modules.specs.Images.{is_late}
 use Rattle.loaded_modules.specs.Loader.{export_of, shared_from}
 use Rattle.linked_modules.specs.Together.{AreTogether, LinkedImagesAreModules, exports_among}
@@ -45,7 +46,8 @@ image_kinds (l ∷ ls) =
     ∙ ap (λ kinds. file_kind_of l.kind ∷ kinds) (image_kinds ls)
 
 job_kinds : (images : List Image)
-    → map file_kind_of (map (λ (image : Image). image.kind) images) ≡ map (λ (image : Image). file_kind_of image.kind) images
+    → map file_kind_of (map (λ (image : Image). image.kind) images)
+    ≡ map (λ (image : Image). file_kind_of image.kind) images
 job_kinds [] = refl
 job_kinds (image ∷ images) = ap (λ kinds. file_kind_of image.kind ∷ kinds) (job_kinds images)
 
@@ -59,7 +61,8 @@ module _ (job : JobParts) (ls : List Linking) (together : AreTogether ls)
       length-map ls image_of ∙ sym (length-map ls (λ (l : Linking). l.kind)) ∙ ap length kinds
       ∙ length-map job.images (λ (image : Image). image.kind)
 
-  file_kinds : map (λ (image : Spelled). image.kind) images ≡ map (λ (image : Image). file_kind_of image.kind) job.images
+  file_kinds : map (λ (image : Spelled). image.kind) images
+      ≡ map (λ (image : Image). file_kind_of image.kind) job.images
   file_kinds = image_kinds ls ∙ ap (map file_kind_of) kinds ∙ job_kinds job.images
 
   -- ** names

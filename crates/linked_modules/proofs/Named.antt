@@ -25,7 +25,8 @@ use Rattle.link_core.proofs.Linkable.{linkable}
 use Rattle.loaded_modules.specs.Loader.{name_of}
 
 -- a relocation with a symbol names an import, or the function of the run time
-import_of : (c : Contents) (kind : LoaderKind) (k : ℕ) → MayName c kind k → k ≢ 0 → kind ≢ loader.JumpSlot → IsImport c k
+import_of : (c : Contents) (kind : LoaderKind) (k : ℕ) → MayName c kind k → k ≢ 0 → kind ≢ loader.JumpSlot
+    → IsImport c k
 import_of c loader.JumpSlot k names some other = absurd (other refl)
 import_of c loader.Relative k names some other = absurd (some names)
 import_of c loader.Module k (inl none) some other = absurd (some none)

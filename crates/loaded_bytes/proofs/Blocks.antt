@@ -16,7 +16,7 @@ use Rattle.relocated_parts.proofs.Blocks.{blocks_left}
 use Rattle.relocated_parts.specs.Laws.{IsMade}
 use Rattle.thread_blocks.specs.JobLoads.{job_loads}
 use Rattle.tls_layout.proofs.LawsOfTls.{front_of_segment}
-use Rattle.tls_layout.specs.Laws.{extent_for}
+use Rattle.tls_layout.specs.Places.{extent_for}
 use Rattle.tls_layout.specs.Places.{initial_tls, tls_alignment, tls_image, tls_size}
 use Rattle.whole_meaning.specs.Spots.{bias_of, spot_in}
 use Rattle.loaded_bytes.specs.Laws.{BlocksAreLoaded, IsBlockOf, IsInstanceOf, images_of}
@@ -83,7 +83,8 @@ module _ (ls : List Linking) (l : Linking) (x : Instance) (is : IsInstanceOf ls 
       zero : (n : ℕ) → (n == 0) ≡ true → n ≡ 0
       zero n e = grind (arith, nat_tests)
 
-      tls_is : (t : Bool) → (tls_size (layout l).sections == 0) ≡ t → (contents l).tls ≡ (if t then None else Some segment)
+      tls_is : (t : Bool) → (tls_size (layout l).sections == 0) ≡ t
+          → (contents l).tls ≡ (if t then None else Some segment)
       tls_is t e = ap (λ (b : Bool). if b then None else Some segment) e
 
       of_test : (t : Bool) → (tls_size (layout l).sections == 0) ≡ t

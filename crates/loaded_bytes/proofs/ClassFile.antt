@@ -25,7 +25,7 @@ use Rattle.placed_sections.proofs.Standing.{HasPlace, has_place}
 use Rattle.placed_sections.specs.Files.{offset_of}
 use Rattle.tls_layout.proofs.LawsOfPlaces.{lie_in_classes}
 use Rattle.tls_layout.proofs.LawsOfSections.{finds_sections}
-use Rattle.tls_layout.specs.Laws.{extent_for}
+use Rattle.tls_layout.specs.Places.{extent_for}
 use Rattle.tls_layout.specs.Places.{address_of}
 use Rattle.whole_meaning.specs.Spots.{Spot, begin_of, spot_in}
 use Rattle.loaded_bytes.proofs.Classes.{class_above, class_before, class_ends, rank, same_rank}
@@ -66,7 +66,8 @@ module _ (l : Linking) (given : IsGiven l) (links : Links l) where
       let own = slice_index_or (section_bytes b t) k 0 in
       ap (λ site. site_byte l o k site (field_byte l o t k (find (is_in_field l o k) (relocations b t)) own))
       (no_site l given o t k there (λ code. let no = sym code ∙ is in cc))
-      ∙ ap (λ (rs : List Relocation). field_byte l o t k (find (is_in_field l o k) rs) own) (no_relocations b whole t is)
+      ∙ ap (λ (rs : List Relocation). field_byte l o t k (find (is_in_field l o k) rs) own)
+      (no_relocations b whole t is)
       ∙ no_byte b whole t k is
 
   -- ** none does

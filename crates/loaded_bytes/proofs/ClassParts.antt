@@ -23,7 +23,8 @@ use Rattle.link_core.proofs.Linkable.{linkable}
 use Rattle.link_core.proofs.LoadsTls.{same_base}
 use Rattle.link_core.specs.Bytes.{file, linked_section}
 use Rattle.link_core.specs.Faults.{Links}
-use Rattle.link_core.specs.Images.{contents, file_kind, filled, got_places, image_of, places, section_places, stub_places}
+use Rattle.link_core.specs.Images.{contents, file_kind, filled, got_places, image_of, places, section_places}
+use Rattle.link_core.specs.Images.{stub_places}
 use Rattle.link_core.specs.Laws.{HasNoStray}
 use Rattle.link_needs.specs.Given.{FitsTable, IsGiven}
 use Rattle.link_needs.specs.Linking.{Linking, layout}
@@ -37,7 +38,7 @@ use Rattle.relocated_parts.specs.Laws.{IsMade}
 use Rattle.placed_sections.proofs.Told.{files_end}
 use Rattle.placed_sections.specs.Files.{offset_of}
 use Rattle.tls_layout.specs.declared.extent.Extent.{Extent}
-use Rattle.tls_layout.specs.Laws.{extent_for}
+use Rattle.tls_layout.specs.Places.{extent_for}
 use Rattle.tls_layout.specs.Places.{executable, read_only, tls_image, writable}
 use Rattle.tls_layout.specs.Sections.{Layout}
 use Rattle.tls_relocs.specs.Elements.{slice_get-append, slice_get-drop, slice_get-take}
@@ -114,7 +115,8 @@ pub record IsPart (l : Linking) (c : SectionClass) : Type 0 where
   pub low : index < length (section_places (layout l))
   pub at : slice_get (image_of l).parts index ≡ Some (class_part l c)
 
-pub part_of : (l : Linking) (c : SectionClass) → (extent_for c (layout l)).start < (extent_for c (layout l)).end → IsPart l c
+pub part_of : (l : Linking) (c : SectionClass) → (extent_for c (layout l)).start < (extent_for c (layout l)).end
+    → IsPart l c
 unfolding image_of finished contents places
 part_of l c some =
     let has = listed (layout l) c some in
@@ -177,7 +179,8 @@ module _ (l : Linking) (given : IsGiven l) (links : Links l) (c : SectionClass) 
       let start = (extent_for c (layout l)).start in
       let made : IsMade m (contents l) y = record { linkable = linkable l given links.sound; image = image } in
       let part = part_of l c (omega (arith, below)) in
-      (part_left m (contents l) y part.index (class_part l c) made part.at).each k (filed_byte l (spot_in l c (start + k)))
+      (part_left m (contents l) y part.index (class_part l c) made part.at).each k
+      (filed_byte l (spot_in l c (start + k)))
       (part_byte range k below)
       ∙ ap Some
       (left_is l given links stray c range (start + k) (omega arith) (omega (arith, below)) m y)

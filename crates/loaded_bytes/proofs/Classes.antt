@@ -7,7 +7,7 @@ use Rattle.object_faults.specs.declared.class.SectionClass.{SectionClass}
 use Rattle.object_faults.specs.declared.class.SectionClass.TheVariants.{Executable, ReadOnly, Tls, Writable}
 use Rattle.placed_sections.specs.Laws.{end_or, sections_end}
 use Rattle.tls_layout.specs.declared.extent.Extent.{Extent}
-use Rattle.tls_layout.specs.Laws.{extent_for}
+use Rattle.tls_layout.specs.Places.{extent_for}
 use Rattle.tls_layout.specs.Places.{room}
 use Rattle.tls_layout.specs.Sections.{Layout}
 use Rattle.tls_layout.proofs.LawsOfPlaces.{classes_follow, has_address}
@@ -142,7 +142,8 @@ class_ends p c some = of_class c some
     w_rises : end_t ≤ end_or w end_t
     w_rises = end_rises w end_t t_early
 
-    of_class : (c : SectionClass) → (extent_for c p).start < (extent_for c p).end → (extent_for c p).end ≤ end_or w end_t
+    of_class : (c : SectionClass) → (extent_for c p).start < (extent_for c p).end
+        → (extent_for c p).end ≤ end_or w end_t
     of_class Executable some =
         let is = end_of_some x (base_of p.kind) some in omega (arith, is, r_rises, t_rises, w_rises)
     of_class ReadOnly some = let is = end_of_some r end_x some in omega (arith, is, t_rises, w_rises)

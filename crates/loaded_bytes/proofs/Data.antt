@@ -26,7 +26,7 @@ use Rattle.object_faults.specs.declared.class.SectionClass.TheVariants as class
 use Rattle.relocated_parts.proofs.Fold.{left_long}
 use Rattle.thread_blocks.specs.JobLoads.{instance_part, job_loads, parts_from}
 use Rattle.tls_layout.specs.declared.extent.Extent.{Extent}
-use Rattle.tls_layout.specs.Laws.{extent_for}
+use Rattle.tls_layout.specs.Places.{extent_for}
 use Rattle.tls_layout.specs.Places.{executable, read_only, tls_image, writable}
 use Rattle.link_needs.specs.Linking.{has_writable_data}
 use Rattle.whole_meaning.specs.Spots.{bias_of}
@@ -93,7 +93,8 @@ module _ (ls : List Linking) (l : Linking) (x : Instance) where
       of_test false = refl
 
   -- nor are the table, which is the loader's, the stub and the dynamic tables
-  none_got : Found (length (section_places (layout l))) (map (part_in (file_kind l.kind) (file l)) (got_places l)) ≡ None
+  none_got : Found (length (section_places (layout l))) (map (part_in (file_kind l.kind) (file l)) (got_places l))
+      ≡ None
   unfolding image_of finished contents got_number
   none_got = of_test (got_size l == 0) refl
     where
@@ -160,7 +161,8 @@ module _ (ls : List Linking) (l : Linking) (x : Instance) where
       ∙ ap (λ xs. map f code ++ xs) (map-append f constants (initial ++ written)
       ∙ ap (λ xs. map f constants ++ xs) (map-append f initial written)) in
       ap (λ xs. xs ++ (tables_part (contents l) ∷ [])) (split ∙ ap (λ xs. xs ++ map f added) sections)
-      ∙ joined (map f code) (map f constants) (map f initial) (map f written) (map f added) (tables_part (contents l) ∷ [])
+      ∙ joined (map f code) (map f constants) (map f initial) (map f written) (map f added)
+      (tables_part (contents l) ∷ [])
     where
       joined : (a b c d e g : List Part) → ((a ++ (b ++ (c ++ d))) ++ e) ++ g ≡ a ++ (b ++ (c ++ (d ++ (e ++ g))))
       joined a b c d e g = simp append_assoc
@@ -205,7 +207,8 @@ module _ (ls : List Linking) (l : Linking) (x : Instance) where
     abbrev extent : Extent
     extent = extent_for (class.Writable true) (layout l)
 
-    range_is : (n : ℕ) → option_map_or (λ (own : ℕ). own == n) (image_of l).got false ≡ false → (extent_for (class.Writable true) (layout l)).start
+    range_is : (n : ℕ) → option_map_or (λ (own : ℕ). own == n) (image_of l).got false ≡ false
+        → (extent_for (class.Writable true) (layout l)).start
         < (extent_for (class.Writable true) (layout l)).end
         → IsDataOf l (bias_of l.kind x.number)
         (instance_part (images_of ls) (image_of l) x n (class_part l (class.Writable true)))
@@ -218,7 +221,8 @@ module _ (ls : List Linking) (l : Linking) (x : Instance) where
           start_is = ap (λ b. (extent_for (class.Writable true) (layout l)).start + b) moved;
           long = omega (arith, left, long, moved, some);
           each = λ k below.
-              part_loaded l is.given is.links (class.Writable true) tt is.stray (images_of ls) x (image_is ls l x is.image) k
+              part_loaded l is.given is.links (class.Writable true) tt is.stray (images_of ls) x
+              (image_is ls l x is.image) k
               (omega (arith, left, long, below));
           readable = refl;
           writable = rw other refl;
@@ -236,7 +240,8 @@ module _ (ls : List Linking) (l : Linking) (x : Instance) where
         less a b e = grind (arith, nat_tests)
 
         of_test : (t : Bool)
-            → nat_lt (extent_for (class.Writable true) (layout l)).start (extent_for (class.Writable true) (layout l)).end ≡ t
+            → nat_lt (extent_for (class.Writable true) (layout l)).start
+            (extent_for (class.Writable true) (layout l)).end ≡ t
             → length (section_places (layout l))
             ≡ front_parts + length {A = PartPlace} (if t
             then record {
@@ -271,6 +276,7 @@ pub data_loaded : DataIsLoaded
 unfolding job_loads
 data_loaded ls l x is =
     subst (IsData l (bias_of l.kind x.number) (has_writable_data l))
-    (sym (ap (λ image. find (λ (range : Range ℕ). range.writable) (option_map_or (λ (own : Spelled). parts_from (images_of ls) own x 0 own.parts) image []))
+    (sym (ap (λ image. find (λ (range : Range ℕ). range.writable)
+    (option_map_or (λ (own : Spelled). parts_from (images_of ls) own x 0 own.parts) image []))
     (image_is ls l x is.image)))
     (data_is ls l x is)

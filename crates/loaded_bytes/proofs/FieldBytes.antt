@@ -91,7 +91,8 @@ module _ (l : Linking) (given : IsGiven l) (links : Links l) (stray : HasNoStray
         of_found None e = absurd (none_passes (is_in_field l o k) (relocations (object l o) t) r e has hits)
         of_found (Some y) e =
             let f = found_is (is_in_field l o k) (relocations (object l o) t) y e in
-            e ∙ ap Some (shared (relocations (object l o) t) r y k (fields_apart (object l o) (is_object l o given there) t)
+            e ∙ ap Some (shared (relocations (object l o) t) r y k
+            (fields_apart (object l o) (is_object l o given there) t)
             has f.among (low, high) (in_field k y f.passes))
 
     -- no sequence stands there

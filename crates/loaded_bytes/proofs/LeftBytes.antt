@@ -41,7 +41,7 @@ use Rattle.placed_sections.proofs.Standing.{HasPlace, has_place}
 use Rattle.sequence_match.specs.Sites.{Covers}
 use Rattle.tls_layout.proofs.LawsOfPlaces.{lie_in_classes}
 use Rattle.tls_layout.proofs.LawsOfSections.{finds_sections}
-use Rattle.tls_layout.specs.Laws.{extent_for}
+use Rattle.tls_layout.specs.Places.{extent_for}
 use Rattle.tls_relocs.specs.declared.fields.Field.TheVariants.{Empty}
 use Rattle.tls_relocs.specs.Fields.{field_bytes}
 use Rattle.tls_relocs.specs.Values.{modulo}
@@ -75,11 +75,13 @@ module _ (l : Linking) (given : IsGiven l) (links : Links l) (stray : HasNoStray
     none_of_table : find (is_written_at address) (got_relocations l) ≡ None
     none_of_table =
         none_found (is_written_at address) (got_relocations l) (λ r has passes.
-        let low = All-contains (λ (y : ImageRelocation). got_start l ≤ y.place) (got_relocations l) r (got_above l) has in
+        let low = All-contains (λ (y : ImageRelocation). got_start l ≤ y.place) (got_relocations l) r
+        (got_above l) has in
         let below = class_below (layout l) class in
         omega (arith, (written_from address r passes).0, low, below, to))
 
-    found_is_relative : find (is_written_at address) (image_of l).relocations ≡ find (is_written_at address) (relatives l)
+    found_is_relative : find (is_written_at address) (image_of l).relocations
+        ≡ find (is_written_at address) (relatives l)
     unfolding image_of finished contents image_relocations
     found_is_relative =
         find-append (is_written_at address) (relatives l) (got_relocations l)
@@ -94,7 +96,8 @@ module _ (l : Linking) (given : IsGiven l) (links : Links l) (stray : HasNoStray
         covered : (o k : ℕ) (y : Relocation) → is_in_field l o k y ≡ true → Covers y k
         covered o k y e = test y.offset k (y.offset + field_width y.kind) (is_replaced l o y) e
           where
-            test : (a b c : ℕ) (replaced : Bool) → ((nat_le a b && nat_lt b c) && not replaced) ≡ true → (a ≤ b) × (b < c)
+            test : (a b c : ℕ) (replaced : Bool) → ((nat_le a b && nat_lt b c) && not replaced) ≡ true
+                → (a ≤ b) × (b < c)
             test a b c replaced e = grind (arith, nat_tests)
 
         of_spot : (found : Option Spot) → spot_in l class address ≡ found
@@ -182,7 +185,8 @@ module _ (l : Linking) (given : IsGiven l) (links : Links l) (stray : HasNoStray
           let below : j < 8 = omega (arith, low, high) in
           let n : ℕ = own_number l r.kind (binding l o r) in
           let first : written_byte m (image_of l) x y (address - y.place)
-          ≡ written_byte m (image_of l) x (relative (place l o t r.offset) (sum_of l o r)) (address - place l o t r.offset) =
+          ≡ written_byte m (image_of l) x (relative (place l o t r.offset) (sum_of l o r))
+          (address - place l o t r.offset) =
           ap (λ (z : ImageRelocation). written_byte m (image_of l) x z (address - z.place)) is in
           let second : written_byte m (image_of l) x (relative (place l o t r.offset) (sum_of l o r))
           (address - place l o t r.offset)
@@ -204,7 +208,8 @@ module _ (l : Linking) (given : IsGiven l) (links : Links l) (stray : HasNoStray
           let wide = ap field_width (absolute_is r.kind absolute) in
           word_at
           ∙ ap
-          (λ j. slice_index_or (field_bytes (unwrap_or (loaded_field l (bias_of l.kind x.number) o t r) Empty)) j 0) same
+          (λ j. slice_index_or (field_bytes
+          (unwrap_or (loaded_field l (bias_of l.kind x.number) o t r) Empty)) j 0) same
           ∙ sym (loaded_is l given links stray o t k there r has (not_replaced l given links stray o r absolute)
           (omega (arith, low)) (omega (arith, low, high, wide)) (bias_of l.kind x.number))
           ∙ sym (ap (byte_of_spot l (bias_of l.kind x.number)) spot_is_own)

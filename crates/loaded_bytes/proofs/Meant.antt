@@ -1,5 +1,6 @@
 -- Constants, the initial image, data and blocks are loaded as the meaning of the job loads them.
-use Rattle.std.proofs.Common.{◌≡◌, ◌+◌, ◌-◌, ◌<◌, ◌≤◌, ◌&&◌, ◌∙◌, ℕ, suc, Bool, true, false, List, [], ◌∷◌, Option, Some}
+use Rattle.std.proofs.Common.{◌≡◌, ◌+◌, ◌-◌, ◌<◌, ◌≤◌, ◌&&◌, ◌∙◌, ℕ, suc, Bool, true, false, List, [], ◌∷◌, Option}
+use Rattle.std.proofs.Common.{Some}
 use Rattle.std.proofs.Common.{None, length, map, inl, inr, refl, sym, ap, arith, if◌then◌else◌, length-append}
 use Rattle.std.specs.Prelude.{nat_le, nat_lt, option_map, replicate, slice_get}
 use Rattle.std.specs.List.{range_with_len}
@@ -19,7 +20,7 @@ use Rattle.object_faults.specs.declared.class.SectionClass.TheVariants.{Executab
 use Rattle.thread_blocks.specs.JobLoads.{job_loads}
 use Rattle.tls_layout.proofs.LawsOfPlaces.{classes_follow}
 use Rattle.tls_layout.proofs.LawsOfTls.{front_of_segment}
-use Rattle.tls_layout.specs.Laws.{extent_for}
+use Rattle.tls_layout.specs.Places.{extent_for}
 use Rattle.tls_layout.specs.Places.{initial_tls, tls_size}
 use Rattle.tls_relocs.specs.Elements.{slice_get-append, slice_get-append_behind, slice_get-replicate}
 use Rattle.whole_meaning.specs.Bytes.{block_bytes, byte_of, class_bytes}
@@ -50,10 +51,12 @@ same_lists (x ∷ xs) (y ∷ ys) long same =
 -- ** a class of the meaning
 
 module _ (l : Linking) (bias : ℕ) (class : SectionClass) where
-  class_long : length (class_bytes l bias class) ≡ (extent_for class (layout l)).end - (extent_for class (layout l)).start
+  class_long : length (class_bytes l bias class)
+      ≡ (extent_for class (layout l)).end - (extent_for class (layout l)).start
   unfolding class_bytes
   class_long =
-      length-map-range_with_len (λ address. byte_of l bias (spot_in l class address)) (extent_for class (layout l)).start
+      length-map-range_with_len (λ address. byte_of l bias (spot_in l class address))
+      (extent_for class (layout l)).start
       ((extent_for class (layout l)).end - (extent_for class (layout l)).start)
 
   class_at : (k : ℕ) → k < (extent_for class (layout l)).end - (extent_for class (layout l)).start
@@ -69,12 +72,14 @@ module _ (l : Linking) (bias : ℕ) (class : SectionClass) where
 
 module _ (ls : List Linking) (l : Linking) (x : Instance) (is : IsInstanceOf ls l x) where
   same_byte : (class : SectionClass) (address : ℕ) → (class ≡ Executable → ⊥)
-      → byte_at l (bias_of l.kind x.number) class address ≡ byte_of l (bias_of l.kind x.number) (spot_in l class address)
+      → byte_at l (bias_of l.kind x.number) class address
+      ≡ byte_of l (bias_of l.kind x.number) (spot_in l class address)
   same_byte class address other = bytes_meant l x.number address class is.given is.links is.stray other
 
   -- ** blocks
 
-  blocks : (block : List ℕ) → IsBlockOf l (bias_of l.kind x.number) block → block ≡ block_bytes l (bias_of l.kind x.number)
+  blocks : (block : List ℕ) → IsBlockOf l (bias_of l.kind x.number) block
+      → block ≡ block_bytes l (bias_of l.kind x.number)
   blocks block b =
       same_lists block (block_bytes l (bias_of l.kind x.number)) long (λ k below. at k (omega (arith, below, b.long)))
     where
@@ -97,7 +102,8 @@ module _ (ls : List Linking) (l : Linking) (x : Instance) (is : IsInstanceOf ls 
           let rest : length {A = ℕ} (replicate
           (tls_size (layout l).sections - length (class_bytes l (bias_of l.kind x.number) (Tls true))) 0)
           ≡ tls_size (layout l).sections - length (class_bytes l (bias_of l.kind x.number) (Tls true)) =
-          length-replicate (tls_size (layout l).sections - length (class_bytes l (bias_of l.kind x.number) (Tls true))) 0 in
+          length-replicate (tls_size (layout l).sections - length
+          (class_bytes l (bias_of l.kind x.number) (Tls true))) 0 in
           let both = length-append (class_bytes l (bias_of l.kind x.number) (Tls true))
           (replicate (tls_size (layout l).sections - length (class_bytes l (bias_of l.kind x.number) (Tls true))) 0) in
           omega (arith, b.long, both, rest, front, inside)
@@ -118,7 +124,8 @@ module _ (ls : List Linking) (l : Linking) (x : Instance) (is : IsInstanceOf ls 
             ∙ sym (slice_get-append_behind (class_bytes l (bias_of l.kind x.number) (Tls true))
             (replicate (tls_size (layout l).sections - length (class_bytes l (bias_of l.kind x.number) (Tls true))) 0) k
             (omega (arith, front, high))
-            ∙ slice_get-replicate (tls_size (layout l).sections - length (class_bytes l (bias_of l.kind x.number) (Tls true)))
+            ∙ slice_get-replicate (tls_size (layout l).sections - length
+            (class_bytes l (bias_of l.kind x.number) (Tls true)))
             (k - length (class_bytes l (bias_of l.kind x.number) (Tls true))) 0 (omega (arith, front, high, below)))
       ]
 
@@ -136,7 +143,8 @@ module _ (ls : List Linking) (l : Linking) (x : Instance) (is : IsInstanceOf ls 
       (λ k below.
       d.each k below
       ∙ ap Some (same_byte (Writable true) ((extent_for (Writable true) (layout l)).start + k) (λ e. cc))
-      ∙ sym (class_at l (bias_of l.kind x.number) (Writable true) k (omega (arith, d.long, d.start_is, below, rise)))) in
+      ∙ sym (class_at l (bias_of l.kind x.number) (Writable true) k
+      (omega (arith, d.long, d.start_is, below, rise)))) in
       fields range.start _ (map Value range.bytes) _ range.readable true range.writable true range.runnable false d.start_is
       (ap (map Value) bytes) d.readable d.writable d.runnable
     where
@@ -165,8 +173,11 @@ module _ (ls : List Linking) (l : Linking) (x : Instance) (is : IsInstanceOf ls 
       let at = so (start + bias_of l.kind x.number) place
       (length (map Value (class_bytes l (bias_of l.kind x.number) class))) h in
       let mapped = length-map (class_bytes l (bias_of l.kind x.number) class) Value in
-      let long = class_long l (bias_of l.kind x.number) class in
-      (place - bias_of l.kind x.number, omega (arith, at.0), (omega (arith, at.0), omega (arith, at.0, at.1, mapped, long)))
+      let long = class_long l (bias_of l.kind x.number) class in (
+        place - bias_of l.kind x.number,
+        omega (arith, at.0),
+        (omega (arith, at.0), omega (arith, at.0, at.1, mapped, long)),
+      )
     where
       so : (start place n : ℕ) → (nat_le start place && nat_lt (place - start) n) ≡ true
           → (start ≤ place) × (place - start < n)
@@ -275,7 +286,8 @@ pub reads_meant : ReadsAreMeant
 reads_meant ls l x place is out = reads ls l x is place out
 
 pub data_meant : DataIsMeant
-data_meant ls l x is = data_either ls l x is (has_writable_data l) ((job_loads (images_of ls)).shared x) (data_loaded ls l x is)
+data_meant ls l x is = data_either ls l x is (has_writable_data l) ((job_loads (images_of ls)).shared x)
+    (data_loaded ls l x is)
 
 pub blocks_meant : BlocksAreMeant
 blocks_meant ls l x is = blocks ls l x is ((job_loads (images_of ls)).block x) (blocks_loaded ls l x is)

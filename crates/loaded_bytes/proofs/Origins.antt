@@ -1,5 +1,6 @@
 -- Each RELATIVE of an image is that of an address of 8 bytes in one of its sections, and each such address has one.
-use Rattle.std.proofs.Common.{◌≡◌, ◌+◌, ◌-◌, ◌<◌, ◌≤◌, ◌∙◌, ℕ, zero, suc, Bool, true, false, List, [], ◌∷◌, ◌++◌, length}
+use Rattle.std.proofs.Common.{◌≡◌, ◌+◌, ◌-◌, ◌<◌, ◌≤◌, ◌∙◌, ℕ, zero, suc, Bool, true, false, List, [], ◌∷◌, ◌++◌}
+use Rattle.std.proofs.Common.{length}
 use Rattle.std.proofs.Common.{refl, sym, ap, subst, arith, if◌then◌else◌}
 use Rattle.std.specs.Prelude.{nat_le, slice_index_or}
 use Rattle.std.specs.List.{All, Contains, flat_map, range_with_len}
@@ -134,7 +135,8 @@ module _ (l : Linking) (o t : ℕ) (r : Relocation) (within : t < section_count 
           Contains-append_left (object_relocations l i b) (flat_map_from (object_relocations l) (i + 1) more)
           (relative (place l o t r.offset) (sum_of l o r))
           (subst (λ (n : ℕ). Contains (object_relocations l n b) (relative (place l o t r.offset) (sum_of l o r))) same
-          (subst (λ (x : List ℕ). Contains (object_relocations l o x) (relative (place l o t r.offset) (sum_of l o r))) here
+          (subst (λ (x : List ℕ). Contains (object_relocations l o x)
+          (relative (place l o t r.offset) (sum_of l o r))) here
           in_object))
       of_index (suc d) far rest =
           Contains-append_right (object_relocations l i b) (flat_map_from (object_relocations l) (i + 1) more)

@@ -1,5 +1,6 @@
 -- All that is loaded of an instance lies among its own places, and its data apart from the rest.
-use Rattle.std.proofs.Common.{◌≡◌, ◌+◌, ◌-◌, ◌<◌, ◌≤◌, ◌⊎◌, ◌^◌, ◌&&◌, ◌∙◌, ℕ, suc, Bool, true, false, not, List, [], ◌∷◌}
+use Rattle.std.proofs.Common.{◌≡◌, ◌+◌, ◌-◌, ◌<◌, ◌≤◌, ◌⊎◌, ◌^◌, ◌&&◌, ◌∙◌, ℕ, suc, Bool, true, false, not, List, []}
+use Rattle.std.proofs.Common.{◌∷◌}
 use Rattle.std.proofs.Common.{Option, Some, None, length, inl, inr, refl, sym, ap, subst, arith, if◌then◌else◌}
 use Rattle.std.specs.Prelude.{IfSome, nat_le, nat_lt, slice_get}
 use Rattle.std.specs.List.{All, find}
@@ -101,7 +102,8 @@ module _ (ls : List Linking) (l : Linking) (x : Instance) (is : IsInstanceOf ls 
           → (byte_in access (still (Ranges (suc n) ps)) place ≡ Some byte → IsOwn l (bias_of l.kind x.number) place)
           → IsOwn l (bias_of l.kind x.number) place
       of_grant true g e later =
-          own_place n p (all 0 p refl) place (second_of (allows access (part_range n p)) (holds (part_range n p) place) g)
+          own_place n p (all 0 p refl) place
+          (second_of (allows access (part_range n p)) (holds (part_range n p) place) g)
       of_grant false g e later = later e
 
       of_written : (t : Bool)
@@ -180,17 +182,21 @@ module _ (ls : List Linking) (l : Linking) (x : Instance) (is : IsInstanceOf ls 
   none_still n [] access place none = refl
   none_still n (p ∷ ps) access place none =
       let same : n + 0 ≡ n = omega arith in
-      of_first (subst (λ i. ((part_range i p).writable ≡ true) ⊎ (holds (part_range i p) place ≡ false)) same (none 0 p refl))
+      of_first (subst (λ i. ((part_range i p).writable ≡ true) ⊎ (holds (part_range i p) place ≡ false)) same
+      (none 0 p refl))
       (none_still (suc n) ps access place (λ i q at.
       let next : n + suc i ≡ suc n + i = omega arith in
-      subst (λ k. ((part_range k q).writable ≡ true) ⊎ (holds (part_range k q) place ≡ false)) next (none (suc i) q at)))
+      subst (λ k. ((part_range k q).writable ≡ true) ⊎ (holds (part_range k q) place ≡ false)) next
+      (none (suc i) q at)))
     where
       no_other : (a : Bool) → (a && false) ≡ false
       no_other true = refl
       no_other false = refl
 
-      of_written : (t : Bool) → holds (part_range n p) place ≡ false → byte_in access (still (Ranges (suc n) ps)) place ≡ None
-          → byte_in access (if t then part_range n p ∷ still (Ranges (suc n) ps) else still (Ranges (suc n) ps)) place ≡ None
+      of_written : (t : Bool) → holds (part_range n p) place ≡ false
+          → byte_in access (still (Ranges (suc n) ps)) place ≡ None
+          → byte_in access (if t then part_range n p ∷ still (Ranges (suc n) ps) else still (Ranges (suc n) ps)) place
+          ≡ None
       of_written true out later =
           let away : grants access (part_range n p) place ≡ false =
           ap (λ b. allows access (part_range n p) && b) out ∙ no_other (allows access (part_range n p)) in
@@ -270,9 +276,12 @@ places_own ls l x is =
           found_own ls l x is 0 (image_of l).parts all access place byte
           (sym (ap (λ (ranges : List (Range ℕ)). byte_in access ranges place) fixed) ∙ e);
       tables = subst (λ (ranges : List (Range ℕ)). All (λ (range : Range ℕ). (place : ℕ) → holds range place ≡ true
-          → IsOwn l (bias_of l.kind x.number) place) ranges) (sym (ap (λ i. option_map_or (λ (own : Spelled). written_from own.parts (parts_from (images_of ls) own x 0 own.parts)) i []) image))
+          → IsOwn l (bias_of l.kind x.number) place) ranges)
+          (sym (ap (λ i. option_map_or
+          (λ (own : Spelled). written_from own.parts (parts_from (images_of ls) own x 0 own.parts)) i []) image))
           (tables_own ls l x is 0 (image_of l).parts all);
-      shared = shared_of (ap (λ i. find (λ (r : Range ℕ). r.writable) (option_map_or (λ (own : Spelled). parts_from (images_of ls) own x 0 own.parts) i [])) image) fixed;
+      shared = shared_of (ap (λ i. find (λ (r : Range ℕ). r.writable)
+          (option_map_or (λ (own : Spelled). parts_from (images_of ls) own x 0 own.parts) i [])) image) fixed;
     }
   where
     shared_of : (job_loads (images_of ls)).shared x
@@ -286,9 +295,11 @@ places_own ls l x is =
         (subst (λ (o : Option (Range ℕ)). IfSome o
         (IsApart l (bias_of l.kind x.number) (still (parts_from (images_of ls) (image_of l) x 0 (image_of l).parts))))
         (sym shared)
-        (of_found (find (λ (r : Range ℕ). r.writable) (parts_from (images_of ls) (image_of l) x 0 (image_of l).parts)) refl))
+        (of_found (find (λ (r : Range ℕ). r.writable)
+        (parts_from (images_of ls) (image_of l) x 0 (image_of l).parts)) refl))
       where
-        of_found : (o : Option (Range ℕ)) → find (λ (r : Range ℕ). r.writable) (parts_from (images_of ls) (image_of l) x 0
+        of_found : (o : Option (Range ℕ))
+            → find (λ (r : Range ℕ). r.writable) (parts_from (images_of ls) (image_of l) x 0
             (image_of l).parts) ≡ o
             → IfSome o (IsApart l (bias_of l.kind x.number)
             (still (parts_from (images_of ls) (image_of l) x 0 (image_of l).parts)))

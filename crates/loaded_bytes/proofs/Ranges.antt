@@ -57,7 +57,8 @@ module _ (m : JobImages) (image : Spelled) (x : Instance) (access : Access) (add
         → byte_in access (still (instance_part m image x n part ∷ more)) (address + bias image.kind x.number)
         ≡ slice_get (part_bytes m image x part) (address - part.address)
     here n more may not_written =
-        let index : address + bias image.kind x.number - (part.address + bias image.kind x.number) ≡ address - part.address =
+        let index : address + bias image.kind x.number - (part.address + bias image.kind x.number)
+        ≡ address - part.address =
         omega (arith, low) in
         let long = left_long m image x part in
         ap

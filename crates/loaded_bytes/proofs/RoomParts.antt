@@ -60,7 +60,8 @@ ends_added room at [] all low = low
 ends_added room at (p ∷ ps) all low =
     let first : room ≤ p.address = all 0 p (omega arith) in
     let up = page_up-above (p.address + p.size) in
-    ends_added room (p.address + p.size) ps (λ k d below. all (suc k) d (omega (arith, below))) (omega (arith, first, up))
+    ends_added room (p.address + p.size) ps (λ k d below. all (suc k) d (omega (arith, below)))
+    (omega (arith, first, up))
 
 -- ** the dynamic tables
 
@@ -78,7 +79,8 @@ module _ (l : Linking) (given : IsGiven l) (links : Links l) where
   written = filled Writable (writable (layout l).kind (layout l).sections)
 
   -- where the last of the sections ends is on the last page before the room
-  sections_reach : room (layout l).kind (layout l).sections ≤ page_up (last_end (base_of l.kind) (section_places (layout l)))
+  sections_reach : room (layout l).kind (layout l).sections ≤ page_up
+      (last_end (base_of l.kind) (section_places (layout l)))
   unfolding section_places room
   sections_reach =
       let base = base_of l.kind in
@@ -129,7 +131,8 @@ module _ (l : Linking) (given : IsGiven l) (links : Links l) where
   unfolding places
   tables_added =
       let t = tabled l given links.sound.limits in
-      let end = ends_added (room (layout l).kind (layout l).sections) (last_end (base_of l.kind) (section_places (layout l)))
+      let end = ends_added (room (layout l).kind (layout l).sections)
+      (last_end (base_of l.kind) (section_places (layout l)))
       (got_places l ++ stub_places l) (places_added l) sections_reach in
       let all = places_end in
       omega (arith, t.address, end, all)

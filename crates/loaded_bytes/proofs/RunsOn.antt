@@ -87,7 +87,8 @@ module _ (l : Linking) where
   stub_places_behind = of_test (has_stub l) refl
     where
       of_test : (t : Bool) → has_stub l ≡ t
-          → All IsBehind (if t then record { class = part_class.Executable; address = stub_start l; size = 6 } ∷ [] else [])
+          → All IsBehind (if t then record { class = part_class.Executable; address = stub_start l; size = 6 } ∷ []
+          else [])
       of_test true e =
           let far = stub_behind e in
           All-cons IsBehind (record { class = part_class.Executable; address = stub_start l; size = 6 }) []
@@ -148,7 +149,8 @@ module _ (ls : List Linking) (l : Linking) (x : Instance) (is : IsInstanceOf ls 
 in_bounds : (low high place : ℕ) → (nat_le low place && nat_lt place high) ≡ true → (low ≤ place) × (place < high)
 in_bounds low high place e = grind (arith, nat_tests)
 
-out_of_bounds : (low high place k : ℕ) → (nat_le low place && nat_lt place high) ≡ false → place + k < high → place < low
+out_of_bounds : (low high place k : ℕ) → (nat_le low place && nat_lt place high) ≡ false → place + k < high
+    → place < low
 out_of_bounds low high place k e below = grind (arith, nat_tests)
 
 -- the law

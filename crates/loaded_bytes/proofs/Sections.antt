@@ -21,7 +21,8 @@ sections_stand l bias class o t address k given links range at below =
     let inside = lie_in_classes (layout l) fits.lawful o t address class (found.class_is ∙ at.class_is) at.address_is in
     let size = found.size_is (rw at.class_is refl) in
     let spot : spot_in l class (address + k) ≡ Some (spot_at (layout l) o (address + k) t) =
-    section_stands l.kind l.objects class range o t (address + k) at.there place.below at.class_is (omega (arith, begins))
+    section_stands l.kind l.objects class range o t (address + k) at.there place.below at.class_is
+    (omega (arith, begins))
     (omega (arith, begins, below)) in
     let within : address + k - begin_of (layout l) o t ≡ k = omega (arith, begins) in (
       (omega (arith, inside.begins), omega (arith, inside.ends, size, below)),

@@ -10,7 +10,8 @@ use Rattle.elf_object.specs.declared.relocation.Relocation.{Relocation}
 use Rattle.elf_object.specs.Lent.{relocations, section_bytes}
 use Rattle.elf_object.specs.Parts.{is_section, section}
 use Rattle.elf_records.specs.declared.section_header.TheConstants.{SHT_NULL, SHT_NOBITS}
-use Rattle.elf_records.specs.Fields.{AreBytes, bytes_of, splice}
+use Rattle.elf_records.specs.Fields.{bytes_of, splice}
+use Rattle.elf_records.specs.FieldLaws.{AreBytes}
 use Rattle.link_core.specs.Meant.{is_in_field, is_in_rewritten, rewritten_bytes, row_with, site_byte}
 use Rattle.link_needs.specs.Linking.{Linking, choice, object, sites_at}
 use Rattle.link_needs.specs.Needs.{new_relocation}
@@ -89,7 +90,8 @@ rex_small reg a b first second = of_test (nat_lt reg 8)
 mov_small : (reg : ℕ) → AreBytes (mov_bytes reg)
 mov_small reg =
     let rest : reg % 8 < 8 = omega arith in
-    small_more (rex_rm reg) (0xc7 ∷ (0xc0 + reg % 8) ∷ field_of_zeros) (rex_small reg 0x48 0x49 (omega arith) (omega arith))
+    small_more (rex_rm reg) (0xc7 ∷ (0xc0 + reg % 8) ∷ field_of_zeros)
+    (rex_small reg 0x48 0x49 (omega arith) (omega arith))
     (small_more 0xc7 ((0xc0 + reg % 8) ∷ field_of_zeros) (omega arith)
     (small_more (0xc0 + reg % 8) field_of_zeros (omega (arith, rest)) zeros_small))
 
@@ -102,7 +104,8 @@ add_small reg = of_test (reg % 8 == 4)
         else (if nat_lt reg 8 then 0x48 else 0x4d) ∷ 0x8d ∷ (0x80 + 9 * (reg % 8)) ∷ field_of_zeros)
     of_test true =
         small_more (rex_rm reg) (0x81 ∷ 0xc4 ∷ field_of_zeros) (rex_small reg 0x48 0x49 (omega arith) (omega arith))
-        (small_more 0x81 (0xc4 ∷ field_of_zeros) (omega arith) (small_more 0xc4 field_of_zeros (omega arith) zeros_small))
+        (small_more 0x81 (0xc4 ∷ field_of_zeros) (omega arith)
+        (small_more 0xc4 field_of_zeros (omega arith) zeros_small))
     of_test false =
         let rest : reg % 8 < 8 = omega arith in
         small_more (if nat_lt reg 8 then 0x48 else 0x4d) (0x8d ∷ (0x80 + 9 * (reg % 8)) ∷ field_of_zeros)

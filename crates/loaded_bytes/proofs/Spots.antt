@@ -33,7 +33,8 @@ standing l class address spot e =
     let same : f.at ≡ spot.object = omega (arith, f.number) in
     let here : Stands l.kind l.objects class spot.object spot.section address =
     stands_so l.kind l.objects class spot.object spot.section address
-    (subst (λ (i : ℕ). stands_at (layout l) class spot.object (slice_index_or l.objects i []) address spot.section ≡ true)
+    (subst (λ (i : ℕ). stands_at (layout l) class spot.object (slice_index_or l.objects i []) address spot.section
+    ≡ true)
     same f.stands) in
     record {
       there = omega (arith, f.number, f.there);

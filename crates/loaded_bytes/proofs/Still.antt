@@ -20,7 +20,7 @@ use Rattle.object_faults.specs.declared.class.SectionClass.TheVariants.{Executab
 use Rattle.relocated_parts.proofs.Parts.{parts_follow}
 use Rattle.thread_blocks.specs.JobLoads.{instance_part, job_loads, parts_from}
 use Rattle.thread_blocks.specs.Turns.{at_number}
-use Rattle.tls_layout.specs.Laws.{extent_for}
+use Rattle.tls_layout.specs.Places.{extent_for}
 use Rattle.whole_meaning.specs.Spots.{bias_of}
 use Rattle.loaded_bytes.specs.Bytes.{byte_at}
 use Rattle.loaded_bytes.specs.Laws.{CodeIsLoaded, ConstantsAreLoaded, IsInstanceOf, images_of}
@@ -43,14 +43,17 @@ image_is ls l x e = of_number x.image e
 pub fixed_is : (ls : List Linking) (l : Linking) (x : Instance) → at_number ls x.image ≡ Some l
     → (job_loads (images_of ls)).fixed x ≡ still (parts_from (images_of ls) (image_of l) x 0 (image_of l).parts)
 unfolding job_loads
-fixed_is ls l x e = ap (λ image. still (option_map_or (λ (own : Spelled). parts_from (images_of ls) own x 0 own.parts) image [])) (image_is ls l x e)
+fixed_is ls l x e = ap (λ image. still
+    (option_map_or (λ (own : Spelled). parts_from (images_of ls) own x 0 own.parts) image [])) (image_is ls l x e)
 
 -- the part of a class is not the table
-pub not_table : (l : Linking) (i : ℕ) → i < length (section_places (layout l)) → option_map_or (λ (own : ℕ). own == i) (image_of l).got false ≡ false
+pub not_table : (l : Linking) (i : ℕ) → i < length (section_places (layout l))
+    → option_map_or (λ (own : ℕ). own == i) (image_of l).got false ≡ false
 unfolding image_of finished contents got_number
 not_table l i low = of_test (got_size l == 0)
   where
-    of_test : (t : Bool) → option_map_or (λ (own : ℕ). own == i) (if t then None else Some (length (section_places (layout l)))) false ≡ false
+    of_test : (t : Bool) → option_map_or (λ (own : ℕ). own == i)
+        (if t then None else Some (length (section_places (layout l)))) false ≡ false
     of_test true = refl
     of_test false = ne_eqb (length (section_places (layout l))) i (λ e. omega (arith, e, low))
 
@@ -69,7 +72,8 @@ module _ (ls : List Linking) (l : Linking) (x : Instance) (is : IsInstanceOf ls 
       let part : IsPart l class = part_of l class some in
       let long = part_long l is.given is.links class some in
       let again : start + (address - start) ≡ address = omega (arith, from) in
-      ap (λ (ranges : List (Range ℕ)). byte_in access ranges (address + bias_of l.kind x.number)) (fixed_is ls l x is.image)
+      ap (λ (ranges : List (Range ℕ)). byte_in access ranges (address + bias_of l.kind x.number))
+      (fixed_is ls l x is.image)
       ∙ ap
       (λ b. byte_in access (still (parts_from (images_of ls) (image_of l) x 0 (image_of l).parts)) (address + b))
       (sym (image_bias l x.number))
@@ -80,7 +84,8 @@ module _ (ls : List Linking) (l : Linking) (x : Instance) (is : IsInstanceOf ls 
       (class_part l class) there part.at less in
       omega (arith, before, from))
       (may part.index) (not_written part.index)
-      ∙ part_loaded l is.given is.links class range is.stray (images_of ls) x (image_is ls l x is.image) (address - start)
+      ∙ part_loaded l is.given is.links class range is.stray (images_of ls) x (image_is ls l x is.image)
+      (address - start)
       (omega (arith, from, to))
       ∙ ap (λ a. Some (byte_at l (bias_of l.kind x.number) class a)) again
 

@@ -128,7 +128,8 @@ module _ (l : Linking) (given : IsGiven l) (links : Links l) (stray : HasNoStray
     narrow = λ moved. of_test (is_refused NarrowInModule l.kind r.kind) refl;
   }
     where
-      of_test : (t : Bool) → is_refused NarrowInModule l.kind r.kind ≡ t → is_refused NarrowInModule l.kind r.kind ≡ false
+      of_test : (t : Bool) → is_refused NarrowInModule l.kind r.kind ≡ t
+          → is_refused NarrowInModule l.kind r.kind ≡ false
       of_test true e = absurd (not_refused e)
       of_test false e = e
 
@@ -145,7 +146,8 @@ module _ (l : Linking) (bias : ℕ) (still : is_moved l.kind ≡ false → bias 
 
   -- and what the meaning says
   abbrev meant : RelocationKind → Option Binding → Option Field
-  meant kind bound = stored_field kind (symbol_number l bias kind bound) a (at + bias) (subtracted l bias (row kind).value)
+  meant kind bound = stored_field kind (symbol_number l bias kind bound) a (at + bias)
+      (subtracted l bias (row kind).value)
 
   -- a field of 4 bytes with an address is in an image that is not moved
   zero_bias : (is_moved l.kind ≡ true → is_moved l.kind ≡ false) → bias ≡ 0
@@ -195,7 +197,8 @@ pub value_is : (l : Linking) (number o s : ℕ) (r : Relocation) → has_value r
     → loaded_field l (bias_of l.kind number) o s r ≡ value_of l (bias_of l.kind number) o s r
 unfolding value_of field
 value_is l number o s r value bound =
-    same l (bias_of l.kind number) (λ still. rw still refl) r.addend (place l o s r.offset) (other_number l o r) refl r.kind
+    same l (bias_of l.kind number) (λ still. rw still refl) r.addend (place l o s r.offset)
+    (other_number l o r) refl r.kind
     (binding l o r) value bound
 
 -- ** a byte
@@ -255,7 +258,8 @@ module _ (l : Linking) (given : IsGiven l) (links : Links l) (stray : HasNoStray
       let few = form_some site.form in
       data_here (is_code (object l o) (is_object l o given there) s (omega arith)).class_is
 
-  bound : (r : Relocation) → Contains (relocations (object l o) s) r → r.kind ≢ Nothing → IsBound l r.kind (binding l o r)
+  bound : (r : Relocation) → Contains (relocations (object l o) s) r → r.kind ≢ Nothing
+      → IsBound l r.kind (binding l o r)
   bound r has some = bound_is l given links stray o s r there has some (alone has.0)
 
   -- byte k has the same field
@@ -275,11 +279,13 @@ module _ (l : Linking) (given : IsGiven l) (links : Links l) (stray : HasNoStray
           no_other : (t : Bool) → (t && false) ≡ false
           no_other true = refl
           no_other false = refl
-      of_test false e = empty_field r.kind r.offset k (is_rewriting l && goes (binding l o r) r.kind) (names_nothing r.kind e)
+      of_test false e = empty_field r.kind r.offset k (is_rewriting l && goes (binding l o r) r.kind)
+          (names_nothing r.kind e)
 
   -- so it is the same
   byte_same : (k : ℕ) → loaded_byte l (bias_of l.kind number) o s k
-      ≡ byte_by l (bias_of l.kind number) o s k (find (λ r. has_value r.kind && covers k r) (relocations (object l o) s))
+      ≡ byte_by l (bias_of l.kind number) o s k
+      (find (λ r. has_value r.kind && covers k r) (relocations (object l o) s))
   unfolding loaded_byte
   byte_same k =
       let own = slice_index_or (section_bytes (object l o) s) k 0 in

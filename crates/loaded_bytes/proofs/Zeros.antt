@@ -88,7 +88,8 @@ site_class l given o site there has =
     (is_code b (is_object l o given there) site.section (omega arith)).class_is
 
 -- so none stands elsewhere
-pub no_site : (l : Linking) → IsGiven l → (o t k : ℕ) → o < length l.objects → section_class (object l o) t ≢ Some Executable
+pub no_site : (l : Linking) → IsGiven l → (o t k : ℕ) → o < length l.objects
+    → section_class (object l o) t ≢ Some Executable
     → find (is_in_rewritten l o t k) (sites_at l o) ≡ None
 no_site l given o t k there other =
     none_found (is_in_rewritten l o t k) (sites_at l o) (λ site has passes.

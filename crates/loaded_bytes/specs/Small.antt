@@ -1,7 +1,7 @@
 -- If objects are lists of bytes, what is loaded is bytes.
 use Rattle.std.specs.Prelude.{◌<◌, ℕ, List}
 use Rattle.std.specs.List.{All}
-use Rattle.elf_records.specs.Fields.{AreBytes}
+use Rattle.elf_records.specs.FieldLaws.{AreBytes}
 use Rattle.link_needs.specs.Linking.{Linking}
 use Rattle.object_faults.specs.declared.class.SectionClass.{SectionClass}
 use Rattle.loaded_bytes.specs.Bytes.{byte_at}

@@ -1,5 +1,6 @@
 -- What is left of a list from a number on, and the first of two that is there.
-use Rattle.std.proofs.Common.{◌≡◌, ◌∙◌, ℕ, zero, suc, ◌+◌, Bool, true, false, List, [], ◌∷◌, ◌++◌, drop, Option, Some, None, refl, sym, ap, add-one, append_assoc, append-nil, length, map, ◌≤◌, cond}
+use Rattle.std.proofs.Common.{◌≡◌, ◌∙◌, ℕ, zero, suc, ◌+◌, Bool, true, false, List, [], ◌∷◌, ◌++◌, drop, Option, Some}
+use Rattle.std.proofs.Common.{None, refl, sym, ap, add-one, append_assoc, append-nil, length, map, ◌≤◌, cond}
 use Rattle.std.proofs.lemmas.List.{drop_all}
 use Rattle.std.specs.Prelude.{option_map}
 use Rattle.std.specs.List.{find, slice_get}
@@ -14,7 +15,8 @@ pub or_or : {X : Type 0} (a b c : Option X) → option_or (option_or a b) c ≡ 
 or_or None b c = refl
 or_or (Some x) b c = refl
 
-pub map_or : {X Y : Type 0} (f : X → Y) (a b : Option X) → option_map f (option_or a b) ≡ option_or (option_map f a) (option_map f b)
+pub map_or : {X Y : Type 0} (f : X → Y) (a b : Option X)
+    → option_map f (option_or a b) ≡ option_or (option_map f a) (option_map f b)
 map_or f None b = refl
 map_or f (Some x) b = refl
 
@@ -22,8 +24,10 @@ map_or f (Some x) b = refl
 
 module _ {X Y : Type 0} (f : X → Y) (xs : List X) (i : ℕ) (row all : List Y) where
   -- one more
-  pub row_on : (x : X) → Some x ≡ slice_get xs i → row ++ map f (drop i xs) ≡ all → (row ++ f x ∷ []) ++ map f (drop (i + 1) xs) ≡ all
-  row_on x is left = append_assoc row (f x ∷ []) (map f (drop (i + 1) xs)) ∙ ap (λ ys. row ++ map f ys) (sym (left_at xs i x is)) ∙ left
+  pub row_on : (x : X) → Some x ≡ slice_get xs i → row ++ map f (drop i xs) ≡ all
+      → (row ++ f x ∷ []) ++ map f (drop (i + 1) xs) ≡ all
+  row_on x is left = append_assoc row (f x ∷ []) (map f (drop (i + 1) xs))
+      ∙ ap (λ ys. row ++ map f ys) (sym (left_at xs i x is)) ∙ left
 
   -- none is there
   pub row_same : None ≡ slice_get xs i → row ++ map f (drop i xs) ≡ all → row ++ map f (drop (i + 1) xs) ≡ all
@@ -41,16 +45,20 @@ map_same f g same (x ∷ xs) = rw (same x, map_same f g same xs) refl
 -- ** the first that passes a test
 
 module _ {X : Type 0} (xs : List X) (i : ℕ) (p : X → Bool) where
-  pub find_on : (x : X) (found : Option X) → Some x ≡ slice_get xs i → p x ≡ false → find p (drop i xs) ≡ found → find p (drop (i + 1) xs) ≡ found
+  pub find_on : (x : X) (found : Option X) → Some x ≡ slice_get xs i → p x ≡ false → find p (drop i xs) ≡ found
+      → find p (drop (i + 1) xs) ≡ found
   find_on x found is fails left = let step = ap (find p) (left_at xs i x is) in sym (rw fails at step) ∙ left
 
-  pub find_here : (x : X) (found : Option X) → Some x ≡ slice_get xs i → p x ≡ true → find p (drop i xs) ≡ found → Some x ≡ found
+  pub find_here : (x : X) (found : Option X) → Some x ≡ slice_get xs i → p x ≡ true → find p (drop i xs) ≡ found
+      → Some x ≡ found
   find_here x found is passes left = let step = ap (find p) (left_at xs i x is) in sym (rw passes at step) ∙ left
 
-  pub find_past : (found : Option X) → None ≡ slice_get xs i → find p (drop i xs) ≡ found → find p (drop (i + 1) xs) ≡ found
+  pub find_past : (found : Option X) → None ≡ slice_get xs i → find p (drop i xs) ≡ found
+      → find p (drop (i + 1) xs) ≡ found
   find_past found is left = let none = left_none xs i is in ap (find p) (none.1 ∙ sym none.0) ∙ left
 
-by_test : {X : Type 0} (p : X → Bool) (x y : X) (rest : Option X) (t : Bool) → p y ≡ t → Some x ≡ cond t (Some y) rest → (Some x ≡ rest → p x ≡ true) → p x ≡ true
+by_test : {X : Type 0} (p : X → Bool) (x y : X) (rest : Option X) (t : Bool) → p y ≡ t → Some x ≡ cond t (Some y) rest
+    → (Some x ≡ rest → p x ≡ true) → p x ≡ true
 by_test p x y rest true passes is below = ap p (same x y is) ∙ passes
   where
     same : {X : Type 0} (x y : X) → Some x ≡ Some y → x ≡ y

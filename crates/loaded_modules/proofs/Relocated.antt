@@ -1,5 +1,6 @@
 -- A part as the first relocations leave it.
-use Rattle.std.proofs.Common.{◌≡◌, ◌∙◌, ℕ, zero, suc, [], ◌∷◌, ◌+◌, ◌-◌, ◌<◌, ◌≤◌, Bool, true, false, List, fold, take, drop, length, get_or, Option, Some, None, refl, sym, ap, arith, inl, inr}
+use Rattle.std.proofs.Common.{◌≡◌, ◌∙◌, ℕ, zero, suc, [], ◌∷◌, ◌+◌, ◌-◌, ◌<◌, ◌≤◌, Bool, true, false, List, fold, take}
+use Rattle.std.proofs.Common.{drop, length, get_or, Option, Some, None, refl, sym, ap, arith, inl, inr}
 use Rattle.std.specs.Prelude.{slice_range}
 use Rattle.std.specs.List.{slice_get}
 use Rattle.std.proofs.lemmas.Bool.{cases_lt}
@@ -31,20 +32,26 @@ none_past xs n is = elim (cases_lt n (length xs)) [
 
 -- ** nothing grows
 
-pub inside : (part : Part) (place count : ℕ) → lies_in part place count ≡ true → (part.address ≤ place) × (place + count ≤ part.address + length part.bytes)
+pub inside : (part : Part) (place count : ℕ) → lies_in part place count ≡ true
+    → (part.address ≤ place) × (place + count ≤ part.address + length part.bytes)
 inside part place count h = grind (arith, nat_tests)
 
-written_long : (t : Bool) (part : Part) (bytes : List ℕ) (place : ℕ) (w : List ℕ) → lies_in part place (length w) ≡ t → length bytes ≡ length part.bytes
+written_long : (t : Bool) (part : Part) (bytes : List ℕ) (place : ℕ) (w : List ℕ) → lies_in part place (length w) ≡ t
+    → length bytes ≡ length part.bytes
     → length (with_written part bytes place w) ≡ length bytes
-written_long true part bytes place w is same = rw is (let at = inside part place (length w) is in length-splice (place - part.address) w bytes (omega (arith, at.0, at.1, same)))
+written_long true part bytes place w is same =
+    rw is (let at = inside part place (length w) is in
+    length-splice (place - part.address) w bytes (omega (arith, at.0, at.1, same)))
 written_long false part bytes place w is same = rw is refl
 
-fold_long : (m : JobImages) (image : Spelled) (x : Instance) (part : Part) (rs : List ImageRelocation) (bytes : List ℕ) → length bytes ≡ length part.bytes
+fold_long : (m : JobImages) (image : Spelled) (x : Instance) (part : Part) (rs : List ImageRelocation) (bytes : List ℕ)
+    → length bytes ≡ length part.bytes
     → length (fold (with_relocation m image x part) bytes rs) ≡ length part.bytes
 fold_long m image x part [] bytes same = same
 fold_long m image x part (r ∷ rs) bytes same =
     fold_long m image x part rs (with_relocation m image x part bytes r)
-    (written_long (lies_in part r.place (length (relocation_bytes m image x r))) part bytes r.place (relocation_bytes m image x r) refl same ∙ same)
+    (written_long (lies_in part r.place (length (relocation_bytes m image x r))) part bytes r.place
+    (relocation_bytes m image x r) refl same ∙ same)
 
 module _ (m : JobImages) (image : Spelled) (x : Instance) (part : Part) where
   pub length-relocated : (n : ℕ) → length (relocated m image x part n) ≡ length part.bytes
@@ -55,10 +62,13 @@ module _ (m : JobImages) (image : Spelled) (x : Instance) (part : Part) where
       → with_numbered m image x part (relocated m image x part n) r ≡ relocated m image x part (n + 1)
   relocated_on n None is =
       let past = none_past image.relocations n (sym is) in
-      ap (fold (with_relocation m image x part) part.bytes) (take_all n image.relocations past ∙ sym (take_all (n + 1) image.relocations (omega (arith, past))))
+      ap (fold (with_relocation m image x part) part.bytes)
+      (take_all n image.relocations past ∙ sym (take_all (n + 1) image.relocations (omega (arith, past))))
   relocated_on n (Some r) is =
-      sym (fold_more (with_relocation m image x part) part.bytes image.relocations n r (slice_get_within image.relocations n r (sym is))
-      ∙ ap (with_relocation m image x part (relocated m image x part n)) (get_or_from_slice_get image.relocations n r r (sym is)))
+      sym (fold_more (with_relocation m image x part) part.bytes image.relocations n r
+      (slice_get_within image.relocations n r (sym is))
+      ∙ ap (with_relocation m image x part (relocated m image x part n))
+      (get_or_from_slice_get image.relocations n r r (sym is)))
 
   -- all
   pub relocated_all : (n : ℕ) → length image.relocations ≤ n → relocated m image x part n ≡ part_bytes m image x part
@@ -71,18 +81,25 @@ module _ (m : JobImages) (image : Spelled) (x : Instance) (part : Part) where
 
 -- ** what a window is
 
-pub window_is : (whole : List ℕ) (from n : ℕ) (window : List ℕ) → IsWindow whole from window → length window ≡ n → window ≡ slice_range whole from (from + n)
+pub window_is : (whole : List ℕ) (from n : ℕ) (window : List ℕ) → IsWindow whole from window → length window ≡ n
+    → window ≡ slice_range whole from (from + n)
 window_is whole from n window shows same =
     let long : length (slice_range whole from (from + n)) ≡ n =
-    length-take-le (from + n - from) (drop from whole) (let rest = length-drop from whole in omega (arith, rest, shows.within, same)) ∙ omega arith in
+    length-take-le (from + n - from) (drop from whole)
+    (let rest = length-drop from whole in omega (arith, rest, shows.within, same)) ∙ omega arith in
     same_lists window (slice_range whole from (from + n)) (same ∙ sym long)
-    (λ k d lt. shows.same k d lt ∙ sym (get_or-take (from + n - from) (drop from whole) k d (omega (arith, lt, same)) ∙ get_or-drop from whole k d))
+    (λ k d lt. shows.same k d lt
+    ∙ sym (get_or-take (from + n - from) (drop from whole) k d (omega (arith, lt, same))
+    ∙ get_or-drop from whole k d))
 
-pub is_window : (whole : List ℕ) (from n : ℕ) (window : List ℕ) → from + n ≤ length whole → window ≡ slice_range whole from (from + n) → IsWindow whole from window
+pub is_window : (whole : List ℕ) (from n : ℕ) (window : List ℕ) → from + n ≤ length whole
+    → window ≡ slice_range whole from (from + n) → IsWindow whole from window
 is_window whole from n window inside is =
     let long : length window ≡ n =
-    ap length is ∙ length-take-le (from + n - from) (drop from whole) (let rest = length-drop from whole in omega (arith, rest, inside)) ∙ omega arith in
+    ap length is ∙ length-take-le (from + n - from) (drop from whole)
+    (let rest = length-drop from whole in omega (arith, rest, inside)) ∙ omega arith in
     record {
       within = omega (arith, long, inside);
-      same = λ k d lt. ap (λ (b : List ℕ). get_or b k d) is ∙ get_or-take (from + n - from) (drop from whole) k d (omega (arith, lt, long)) ∙ get_or-drop from whole k d;
+      same = λ k d lt. ap (λ (b : List ℕ). get_or b k d) is
+          ∙ get_or-take (from + n - from) (drop from whole) k d (omega (arith, lt, long)) ∙ get_or-drop from whole k d;
     }

@@ -1,5 +1,6 @@
 -- What an image keeps of its TLS segment.
-use Rattle.std.proofs.Common.{◌≡◌, ◌+◌, ◌^◌, ◌<◌, ◌≤◌, ℕ, Bool, true, false, List, Some, None, sym, subst, inl, inr, refl, arith}
+use Rattle.std.proofs.Common.{◌≡◌, ◌+◌, ◌^◌, ◌<◌, ◌≤◌, ℕ, Bool, true, false, List, Some, None, sym, subst, inl, inr}
+use Rattle.std.proofs.Common.{refl, arith}
 use Rattle.std.proofs.Common.{◌==◌, ◌&&◌, nat_lt, if◌then◌else◌}
 use Rattle.std.specs.Option.{IfSome, option_map}
 use Rattle.std.proofs.lemmas.Bool.{cases_lt}
@@ -16,11 +17,15 @@ use Rattle.image_file.specs.Spelled.{Spelled, spelled, tls_part}
 use Rattle.loaded_modules.specs.Ends.{IsTls}
 
 aligned : (n : ℕ) → IsAlignment n → (0 < n) × (n ≤ 2 ^ 12)
-aligned n is =
-    (let some = pow_pos is.0 in omega (arith, is.2), let most = pow-le-pow_right {n = 2} (omega arith) is.1 in omega (arith, is.2))
+aligned n is = (
+  let some = pow_pos is.0 in omega (arith, is.2),
+  let most = pow-le-pow_right {n = 2} (omega arith) is.1 in
+      omega (arith, is.2),
+)
 
 right : (b : List ℕ) (s : Segment) → IsRightTls b s → IsTls (tls_part s)
-right b s is = let a = aligned s.align is.4 in record { within = is.1; small = is.3; aligned = a.0; page = omega (arith, a.1) }
+right b s is = let a = aligned s.align is.4 in
+    record { within = is.1; small = is.3; aligned = a.0; page = omega (arith, a.1) }
 
 -- a test of a place and a type
 both_of : (n k t : ℕ) → (nat_lt n k && (t == PT_TLS)) ≡ true → (n < k) × (t ≡ PT_TLS)
@@ -59,7 +64,8 @@ module _ (b : List ℕ) (image : IsImage b) (has : has_tls b ≡ true) where
     page = at_most header.align 4096 (λ no. wrong (λ is. no is.page));
   }
 
-of_test : (t : Bool) (s : Segment) → (t ≡ true → IsTls (tls_part s)) → IfSome (option_map tls_part (if t then Some s else None)) IsTls
+of_test : (t : Bool) (s : Segment) → (t ≡ true → IsTls (tls_part s))
+    → IfSome (option_map tls_part (if t then Some s else None)) IsTls
 of_test true s h = h refl
 of_test false s h = tt
 

@@ -1,7 +1,9 @@
 -- Windows of a list of bytes, in which others are written.
-use Rattle.std.proofs.Common.{◌≡◌, ◌∙◌, ℕ, ◌+◌, ◌-◌, ◌<◌, ◌≤◌, List, ◌++◌, take, drop, get_or, length, refl, sym, ap, arith, inl, inr, length-append, ◌⊎◌}
+use Rattle.std.proofs.Common.{◌≡◌, ◌∙◌, ℕ, ◌+◌, ◌-◌, ◌<◌, ◌≤◌, List, ◌++◌, take, drop, get_or, length, refl, sym, ap}
+use Rattle.std.proofs.Common.{arith, inl, inr, length-append, ◌⊎◌}
 use Rattle.std.proofs.lemmas.Bool.{cases_lt}
-use Rattle.std.proofs.lemmas.List.{get_or-take, get_or-drop, get_or-append_right, get_or_append_left, length-take-le, length-drop}
+use Rattle.std.proofs.lemmas.List.{get_or-take, get_or-drop, get_or-append_right, get_or_append_left, length-take-le}
+use Rattle.std.proofs.lemmas.List.{length-drop}
 use borrow.Rule.Slice.PartMut.{put_mid}
 use Rattle.std.specs.Prelude.{slice_range}
 use Rattle.elf_records.specs.Fields.{splice}
@@ -16,10 +18,12 @@ module _ (a : ℕ) (xs ys rest : List ℕ) (j d : ℕ) (inside : a ≤ length xs
   below lt = get_or_append_left (take a xs) (ys ++ rest) d j (omega (arith, front, lt)) ∙ get_or-take a xs j d lt
 
   within : a ≤ j → j < a + length ys → get_or (take a xs ++ (ys ++ rest)) j d ≡ get_or ys (j - a) d
-  within ge lt = get_or-append_right (take a xs) (ys ++ rest) a j d front ge ∙ get_or_append_left ys rest d (j - a) (omega (arith, ge, lt))
+  within ge lt = get_or-append_right (take a xs) (ys ++ rest) a j d front ge
+      ∙ get_or_append_left ys rest d (j - a) (omega (arith, ge, lt))
 
   above : a + length ys ≤ j → get_or (take a xs ++ (ys ++ rest)) j d ≡ get_or rest (j - a - length ys) d
-  above ge = get_or-append_right (take a xs) (ys ++ rest) a j d front (omega (arith, ge)) ∙ get_or-append_right ys rest (length ys) (j - a) d refl (omega (arith, ge))
+  above ge = get_or-append_right (take a xs) (ys ++ rest) a j d front (omega (arith, ge))
+      ∙ get_or-append_right ys rest (length ys) (j - a) d refl (omega (arith, ge))
 
 -- ** a splice
 
@@ -41,9 +45,11 @@ module _ (at : ℕ) (new bytes : List ℕ) (j d : ℕ) (inside : at + length new
 
 -- ** a window in which the bytes are written that lie in it
 
-module _ (whole bytes window ys : List ℕ) (from place start end : ℕ) (shows : IsWindow whole from window) (inside : place + length bytes ≤ length whole) where
+module _ (whole bytes window ys : List ℕ) (from place start end : ℕ) (shows : IsWindow whole from window)
+    (inside : place + length bytes ≤ length whole) where
   -- none lies in it
-  pub window_kept : ((j : ℕ) → place ≤ from + j → from + j < place + length bytes → j < length window → ⊥) → IsWindow (splice place bytes whole) from window
+  pub window_kept : ((j : ℕ) → place ≤ from + j → from + j < place + length bytes → j < length window → ⊥)
+      → IsWindow (splice place bytes whole) from window
   window_kept apart = record {
     within = let long = length-splice place bytes whole inside in omega (arith, long, shows.within);
     same = λ j d lt. shows.same j d lt ∙ elim (cases_lt (from + j) place) [
@@ -55,7 +61,9 @@ module _ (whole bytes window ys : List ℕ) (from place start end : ℕ) (shows 
     ];
   }
 
-  module _ (bounds : (place ≤ start) × (from ≤ start) × (end ≤ place + length bytes) × (end ≤ from + length window) × (start < end)) (tight : ((start ≡ place) ⊎ (start ≡ from)) × ((end ≡ place + length bytes) ⊎ (end ≡ from + length window)))
+  module _ (bounds : (place ≤ start) × (from ≤ start) × (end ≤ place + length bytes) × (end ≤ from + length window)
+      × (start < end)) (tight : ((start ≡ place) ⊎ (start ≡ from))
+      × ((end ≡ place + length bytes) ⊎ (end ≡ from + length window)))
       (is : ys ≡ slice_range bytes (start - place) (end - place)) where
     abbrev a : ℕ
     a = start - from
@@ -64,7 +72,8 @@ module _ (whole bytes window ys : List ℕ) (from place start end : ℕ) (shows 
     count =
         ap length is
         ∙ length-take-le (end - place - (start - place)) (drop (start - place) bytes)
-        (let long = length-drop (start - place) bytes in omega (arith, long, bounds.0, bounds.1, bounds.2, bounds.3, bounds.4))
+        (let long = length-drop (start - place) bytes in
+        omega (arith, long, bounds.0, bounds.1, bounds.2, bounds.3, bounds.4))
         ∙ omega (arith, bounds.0, bounds.1, bounds.2, bounds.3, bounds.4)
 
     abbrev rest : List ℕ
@@ -82,16 +91,20 @@ module _ (whole bytes window ys : List ℕ) (from place start end : ℕ) (shows 
         let four = length-take-le a window in_window in
         omega (arith, one, two, three, four, count, bounds.1, bounds.3, bounds.4))
 
-    same_at : (j d : ℕ) → j < length window → get_or (put_mid a (end - from - a) window ys) j d ≡ get_or (splice place bytes whole) (from + j) d
+    same_at : (j d : ℕ) → j < length window
+        → get_or (put_mid a (end - from - a) window ys) j d ≡ get_or (splice place bytes whole) (from + j) d
     same_at j d lt = elim (cases_lt j a) [
-      | inl before ↦ below a window ys rest j d in_window before ∙ shows.same j d lt ∙ sym (splice_below place bytes whole (from + j) d inside (low before tight.0))
+      | inl before ↦ below a window ys rest j d in_window before ∙ shows.same j d lt
+          ∙ sym (splice_below place bytes whole (from + j) d inside (low before tight.0))
       | inr ge ↦ elim (cases_lt j (a + length ys)) [
         | inl between ↦ within a window ys rest j d in_window ge between
             ∙ ap (λ (zs : List ℕ). get_or zs (j - a) d) is
-            ∙ get_or-take (end - place - (start - place)) (drop (start - place) bytes) (j - a) d (omega (arith, count, between, ge, bounds.0, bounds.1, bounds.4))
+            ∙ get_or-take (end - place - (start - place)) (drop (start - place) bytes) (j - a) d
+            (omega (arith, count, between, ge, bounds.0, bounds.1, bounds.4))
             ∙ get_or-drop (start - place) bytes (j - a) d
             ∙ ap (λ i. get_or bytes i d) (omega (arith, ge, bounds.0, bounds.1))
-            ∙ sym (splice_within place bytes whole (from + j) d inside (omega (arith, ge, bounds.0, bounds.1)) (omega (arith, between, count, ge, bounds.1, bounds.2, bounds.4)))
+            ∙ sym (splice_within place bytes whole (from + j) d inside (omega (arith, ge, bounds.0, bounds.1))
+            (omega (arith, between, count, ge, bounds.1, bounds.2, bounds.4)))
         | inr behind ↦ above a window ys rest j d in_window behind
             ∙ get_or-drop (end - from - a) (drop a window) (j - a - length ys) d
             ∙ get_or-drop a window (end - from - a + (j - a - length ys)) d
@@ -105,7 +118,8 @@ module _ (whole bytes window ys : List ℕ) (from place start end : ℕ) (shows 
         low before (inl here) = omega (arith, before, here)
         low before (inr there) = absurd (omega (arith, before, there))
 
-        high : a + length ys ≤ j → (end ≡ place + length bytes) ⊎ (end ≡ from + length window) → place + length bytes ≤ from + j
+        high : a + length ys ≤ j → (end ≡ place + length bytes) ⊎ (end ≡ from + length window)
+            → place + length bytes ≤ from + j
         high behind (inl here) = omega (arith, behind, here, count, bounds.1, bounds.4)
         high behind (inr there) = absurd (omega (arith, behind, there, count, lt, bounds.1, bounds.4))
 

@@ -11,6 +11,7 @@ use Rattle.link_faults.specs.declared.image_kind.ImageKind.{ImageKind}
 use Rattle.link_faults.specs.declared.image_kind.ImageKind.TheVariants.{Exe, Pie, Start, Late}
 use Rattle.loaded_modules.specs.Images.{JobImages, is_late}
 use Rattle.loaded_modules.specs.Loader.{export_of, name_of}
+use Rattle.loaded_modules.specs.Loader.{of_job}
 
 -- the kind that the file of an image has
 abbrev pub file_kind_of : ImageKind → FileKind
@@ -18,10 +19,6 @@ file_kind_of Exe = ExeFile
 file_kind_of Pie = PieFile
 file_kind_of Start = ModuleFile
 file_kind_of Late = ModuleFile
-
--- the images of a job, with the job's kinds
-abbrev pub of_job : JobParts → List Spelled → JobImages
-of_job job images = record { kinds = map (λ image. image.kind) job.images; images = images }
 
 -- a startup image shares the symbol that the relocation names; JUMP_SLOT names the run time's function that
 -- finds thread-local data

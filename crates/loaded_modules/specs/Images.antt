@@ -9,7 +9,7 @@ use Rattle.job_text.specs.Numbering.{at_number}
 pub use Rattle.link_faults.specs.ImageKinds.{is_late}
 use Rattle.link_faults.specs.declared.image_kind.ImageKind.{ImageKind}
 use Rattle.module_table.specs.declared.modules.ImageInfo.{ImageInfo}
-use Rattle.module_table.specs.Laws.{startup_end}
+use Rattle.module_table.specs.Modules.{startup_end}
 
 -- the images of a job in image order, each with the kind that the job gives it: image 1 is the program
 pub record JobImages : Type 0 where

@@ -5,5 +5,6 @@ pub mod Holding
 pub mod Images
 pub mod Laws
 pub mod Loader
+pub mod LoaderLaws
 pub mod Places
 pub mod Words

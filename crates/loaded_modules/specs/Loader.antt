@@ -25,6 +25,9 @@ use Rattle.loaded_modules.specs.declared.exports.Export.{Export}
 use Rattle.loaded_modules.specs.declared.instance.Instance.{Instance}
 use Rattle.loaded_modules.specs.declared.relocating.Target.{Target}
 use Rattle.loaded_modules.specs.Images.{JobImages, image_at, is_late, static_offset}
+use Rattle.std.specs.Prelude.{map}
+use Rattle.job_text.specs.Jobs.{JobParts}
+use Rattle.link_faults.specs.declared.image_kind.ImageKind.TheVariants.{Exe, Pie}
 
 -- ---- where an instance lies
 
@@ -92,7 +95,8 @@ written_bytes kind x t Relative addend = bytes_of 8 ((bias kind x.number + cast_
 written_bytes kind x t Module addend = bytes_of 8 t.id
 written_bytes kind x t ModuleOffset addend = bytes_of 8 t.offset
 written_bytes kind x t ThreadOffset addend = bytes_of 8 ((t.offset + (2 ^ 64 - t.distance)) % 2 ^ 64)
-written_bytes kind x t Descriptor addend = bytes_of 8 descriptor_place ++ bytes_of 8 ((t.id * 2 ^ 32 + t.offset) % 2 ^ 64)
+written_bytes kind x t Descriptor addend =
+    bytes_of 8 descriptor_place ++ bytes_of 8 ((t.id * 2 ^ 32 + t.offset) % 2 ^ 64)
 
 unfoldable pub relocation_bytes : JobImages → Spelled → Instance → ImageRelocation → List ℕ
 relocation_bytes m image x r = written_bytes image.kind x (target_of m image x r) r.kind r.addend
@@ -114,34 +118,6 @@ with_relocation m image x part bytes r = with_written part bytes r.place (reloca
 -- the bytes of a part of an instance
 unfoldable pub part_bytes : JobImages → Spelled → Instance → Part → List ℕ
 part_bytes m image x part = fold (with_relocation m image x part) part.bytes image.relocations
-
--- the bytes of a part by its number, counted from 0; none if there is no such part
-abbrev pub bytes_or_none : JobImages → Spelled → Instance → Option Part → List ℕ
-bytes_or_none m image x None = []
-bytes_or_none m image x (Some part) = part_bytes m image x part
-
-abbrev pub loaded_in : JobImages → Instance → Option Spelled → ℕ → List ℕ
-loaded_in m x None part = []
-loaded_in m x (Some image) part = bytes_or_none m image x (slice_get image.parts part)
-
-unfoldable pub loaded_part : JobImages → Instance → ℕ → List ℕ
-loaded_part m x part = loaded_in m x (image_at m x.image) part
-
--- how far an instance's image is moved
-abbrev pub bias_in : Instance → Option Spelled → ℕ
-bias_in x None = 0
-bias_in x (Some image) = bias image.kind x.number
-
-unfoldable pub bias_of : JobImages → Instance → ℕ
-bias_of m x = bias_in x (image_at m x.image)
-
--- the parts of an instance's image
-abbrev pub parts_in : Option Spelled → List Part
-parts_in None = []
-parts_in (Some image) = image.parts
-
-unfoldable pub parts_of : JobImages → Instance → List Part
-parts_of m x = parts_in (image_at m x.image)
 
 -- ---- blocks
 
@@ -171,3 +147,7 @@ block_of_image m x (Some image) = block_of m image x image.tls
 -- a thread's block of an instance before any write
 unfoldable pub fresh_block : JobImages → Instance → List ℕ
 fresh_block m x = block_of_image m x (image_at m x.image)
+
+-- the images of a job, with the job's kinds
+abbrev pub of_job : JobParts → List Spelled → JobImages
+of_job job images = record { kinds = map (λ image. image.kind) job.images; images = images }

@@ -2,7 +2,8 @@
 
 ghost use Rattle.std.specs.Prelude.{◌≡◌, ◌<◌, ◌≤◌, ◌^◌, Some, IfOk, length, map, option_map};
 ghost use Rattle.module_table.specs.Modules.{AreInfos};
-ghost use Rattle.loaded_modules.specs.Given.{AreModules, of_job};
+ghost use Rattle.loaded_modules.specs.Given.{AreModules};
+ghost use Rattle.loaded_modules.specs.Loader.{of_job};
 ghost use Rattle.loaded_modules.specs.Loader.{export_of, name_of};
 ghost use Rattle.loaded_modules.specs.Images.{image_at, infos, last_offset, static_offset};
 

@@ -2,7 +2,8 @@
 
 ghost use Rattle.std.specs.Prelude.{◌≡◌, ◌^◌, ◌<◌, ◌≤◌, ◌+◌, ℕ, List, Some, length, slice_get, slice_range};
 ghost use Rattle.loaded_modules.specs.Images.{image_at};
-ghost use Rattle.loaded_modules.specs.Loader.{bias_of, loaded_part, part_bytes, parts_of, target_of};
+ghost use Rattle.loaded_modules.specs.Loader.{part_bytes, target_of};
+ghost use Rattle.loaded_modules.specs.LoaderLaws.{bias_of, loaded_part, parts_of};
 ghost use Rattle.loaded_modules.specs.Words.{with_numbered, IsWindow};
 ghost use Rattle.image_file.specs.Spelled.{lent_part};
 
@@ -98,7 +99,7 @@ impl LoadedImage<'_, '_, '_> {
 impl Modules {
     /// How far the image of an instance is moved: its load bias, which is added to each address of its file. It is less
     /// than 2^59.
-    #[tactic(auto, unfolding(crate::specs::Loader::bias_of))]
+    #[tactic(auto, unfolding(crate::specs::LoaderLaws::bias_of))]
     pub fn bias(&self, instance: &Instance) -> u64
         ensures value { result ≡ bias_of self.now instance.now }
         ensures low { result < 2 ^ 59 }
@@ -110,7 +111,7 @@ impl Modules {
     }
 
     /// How many parts the image of an instance has.
-    #[tactic(auto, unfolding(crate::specs::Loader::parts_of))]
+    #[tactic(auto, unfolding(crate::specs::LoaderLaws::parts_of))]
     pub fn part_count(&self, instance: &Instance) -> u64
         ensures { result ≡ length (parts_of self.now instance.now) }
     {

@@ -47,7 +47,8 @@ module _ (objects : List (List ℕ)) (name : List ℕ) (binding : SymbolBinding)
       at = dropped_is objects o [] b more left
 
       of_symbol : (x : Option ℕ) → first_in binding name b ≡ x
-          → (drop (o + 1) objects ≡ more → first_from binding name (o + 1) more ≡ Some found → name ≡ name_of objects found)
+          → (drop (o + 1) objects ≡ more → first_from binding name (o + 1) more ≡ Some found
+          → name ≡ name_of objects found)
           → found_or o x (first_from binding name (o + 1) more) ≡ Some found → name ≡ name_of objects found
       of_symbol (Some e) here rest is =
           subst (λ y. name ≡ name_of objects y) (same_Some _ _ is)

@@ -152,7 +152,8 @@ module _ (l : Linking) where
               → finds (own_symbols l) (other_symbols l name) (other_names l name)
               ≡ (if t then Some (offset l found) else None)
           of_exported found is true exported =
-              first found is exported (own_symbols l) (other_symbols l name) (other_names l name) (symbols_own l.objects)
+              first found is exported (own_symbols l) (other_symbols l name) (other_names l name)
+              (symbols_own l.objects)
               (ap (list_any (bytes_eq name)) (symbols_named l.objects) ∙ definition_listed l.objects name found is)
           of_exported found is false not_exported =
               never (own_symbols l) (other_symbols l name) (other_names l name) (symbols_own l.objects)
@@ -186,7 +187,8 @@ module _ (l : Linking) where
               ap (is_exported_by l.objects) none in
               absurd (cc)
           of_definition (Some found) some exported =
-              let its : is_exported_by l.objects (Some found) ≡ true = ap (is_exported_by l.objects) (sym some) ∙ exported in
+              let its : is_exported_by l.objects (Some found) ≡ true = ap (is_exported_by l.objects) (sym some)
+              ∙ exported in
               record {
                 found = found;
                 defined = some;

@@ -1,5 +1,6 @@
 -- A definition is a function of the image where it stands in the executable class, and else none.
-use Rattle.std.proofs.Common.{◌≡◌, ◌≢◌, ◌+◌, ◌≤◌, ◌&&◌, ◌∙◌, ℕ, Bool, true, false, not, Option, Some, None, IsSome, refl, sym}
+use Rattle.std.proofs.Common.{◌≡◌, ◌≢◌, ◌+◌, ◌≤◌, ◌&&◌, ◌∙◌, ℕ, Bool, true, false, not, Option, Some, None, IsSome}
+use Rattle.std.proofs.Common.{refl, sym}
 use Rattle.std.proofs.Common.{ap, subst, arith}
 use Rattle.std.specs.Prelude.{List, nat_le, nat_lt, option_and_then, option_map, unwrap_or, if◌then◌else◌}
 use Rattle.std.specs.List.{list_any}
@@ -26,7 +27,7 @@ use Rattle.loaded_names.proofs.Images.{image_is}
 use Rattle.loaded_modules.specs.Loader.{bias}
 use Rattle.thread_blocks.specs.JobLoads.{job_loads}
 use Rattle.tls_layout.specs.declared.extent.Extent.{Extent}
-use Rattle.tls_layout.specs.Laws.{extent_for}
+use Rattle.tls_layout.specs.Places.{extent_for}
 use Rattle.tls_layout.specs.Places.{address_of, class_of, room}
 use Rattle.tls_layout.specs.Sections.{is_class}
 use Rattle.tls_layout.proofs.LawsOfPlaces.{classes_follow, have_addresses, lie_in_classes}
@@ -48,120 +49,127 @@ none_before start end at behind = grind (arith, nat_tests)
 
 -- ** a definition
 
-module _ (l : Linking) (given : IsGiven l) (links : Links l) (found : SymbolRef) (shares : IsShared l.objects found) where
-  abbrev o : ℕ
-  o = found.object
+module _ (l : Linking) (given : IsGiven l) (links : Links l) (found : SymbolRef) (shares : IsShared l.objects found)
+  where
+    abbrev o : ℕ
+    o = found.object
 
-  abbrev e : ℕ
-  e = found.symbol
+    abbrev e : ℕ
+    e = found.symbol
 
-  abbrev b : List ℕ
-  b = object l found.object
+    abbrev b : List ℕ
+    b = object l found.object
 
-  abbrev code : Extent
-  code = extent_for class.Executable (layout l)
+    abbrev code : Extent
+    code = extent_for class.Executable (layout l)
 
-  is : IsPlacedIn l found
-  is = placed_in l given found shares
+    is : IsPlacedIn l found
+    is = placed_in l given found shares
 
-  -- where it stands if that is in section s: in the class, and not behind where the room begins
-  abbrev at_in : ℕ → ℕ
-  at_in s = begin_of (layout l) found.object s + symbol_value (object l found.object) found.symbol
+    -- where it stands if that is in section s: in the class, and not behind where the room begins
+    abbrev at_in : ℕ → ℕ
+    at_in s = begin_of (layout l) found.object s + symbol_value (object l found.object) found.symbol
 
-  record Stands (s : ℕ) (c : SectionClass) : Type 0 where
-    pub begins : (extent_for c (layout l)).start ≤ at_in s
-    pub below_room : at_in s ≤ room (layout l).kind (layout l).sections
+    record Stands (s : ℕ) (c : SectionClass) : Type 0 where
+      pub begins : (extent_for c (layout l)).start ≤ at_in s
+      pub below_room : at_in s ≤ room (layout l).kind (layout l).sections
 
-  stands : (s : ℕ) (c : SectionClass) → symbol_place b e ≡ InSection s → section_class b s ≡ Some c → c ≢ class.Tls false
-      → Stands s c
-  stands s c at class_is other = of_address (address_of (layout l) o s) refl (have_addresses (layout l) o s c known other)
-    where
-      known : class_of (layout l) o s ≡ Some c
-      known = (finds_sections l.kind l.objects o s shares.within.object).class_is ∙ class_is
+    stands : (s : ℕ) (c : SectionClass) → symbol_place b e ≡ InSection s → section_class b s ≡ Some c
+        → c ≢ class.Tls false
+        → Stands s c
+    stands s c at class_is other =
+        of_address (address_of (layout l) o s) refl (have_addresses (layout l) o s c known other)
+      where
+        known : class_of (layout l) o s ≡ Some c
+        known = (finds_sections l.kind l.objects o s shares.within.object).class_is ∙ class_is
 
-      of_address : (a : Option ℕ) → address_of (layout l) o s ≡ a → IsSome a → Stands s c
-      of_address None a some = absurd (cc)
-      of_address (Some begin) a some =
-          let lies = lie_in_classes (layout l) links.sound.limits.lawful o s begin c known a in
-          let kept : IsSome (section_class b s) = subst IsSome (sym class_is) (cc) in
-          let size = (finds_sections l.kind l.objects o s shares.within.object).size_is kept in
-          let inside = is.inside s at kept in
-          let begin_is : begin_of (layout l) o s ≡ begin = ap (λ x. unwrap_or x 0) a in
-          record {
-            begins = omega (arith, begin_is, lies.begins);
-            below_room = omega (arith, begin_is, lies.below, size, inside);
-          }
+        of_address : (a : Option ℕ) → address_of (layout l) o s ≡ a → IsSome a → Stands s c
+        of_address None a some = absurd (cc)
+        of_address (Some begin) a some =
+            let lies = lie_in_classes (layout l) links.sound.limits.lawful o s begin c known a in
+            let kept : IsSome (section_class b s) = subst IsSome (sym class_is) (cc) in
+            let size = (finds_sections l.kind l.objects o s shares.within.object).size_is kept in
+            let inside = is.inside s at kept in
+            let begin_is : begin_of (layout l) o s ≡ begin = ap (λ x. unwrap_or x 0) a in
+            record {
+              begins = omega (arith, begin_is, lies.begins);
+              below_room = omega (arith, begin_is, lies.below, size, inside);
+            }
 
-  -- what an image's symbol tells, of a variable of threads or of another definition
-  abbrev shown : Bool → ℕ → Option ℕ
-  shown tls at =
-      let kind = if tls then Tls else symbol_type (object l found.object) found.symbol in
-      let value = if tls then offset l found else at in
-      if not (is_tls kind) && list_any (runs_at value) (image_of l).parts then Some value else None
+    -- what an image's symbol tells, of a variable of threads or of another definition
+    abbrev shown : Bool → ℕ → Option ℕ
+    shown tls at =
+        let kind = if tls then Tls else symbol_type (object l found.object) found.symbol in
+        let value = if tls then offset l found else at in
+        if not (is_tls kind) && list_any (runs_at value) (image_of l).parts then Some value else None
 
-  -- what lies behind the code is not run
-  behind_code : (at : ℕ) → at ≤ room (layout l).kind (layout l).sections → code.end ≤ at → shown false at ≡ None
-  behind_code at low behind =
-      rw (code_runs l given links at low, none_before code.start code.end at behind)
-      (no_other (not (is_tls (symbol_type b e))))
-    where
-      no_other : (t : Bool) → (if t && false then Some at else None) ≡ None
-      no_other true = refl
-      no_other false = refl
+    -- what lies behind the code is not run
+    behind_code : (at : ℕ) → at ≤ room (layout l).kind (layout l).sections → code.end ≤ at → shown false at ≡ None
+    behind_code at low behind =
+        rw (code_runs l given links at low, none_before code.start code.end at behind)
+        (no_other (not (is_tls (symbol_type b e))))
+      where
+        no_other : (t : Bool) → (if t && false then Some at else None) ≡ None
+        no_other true = refl
+        no_other false = refl
 
-  -- code is of no type of thread-local storage
-  not_tls : (s : ℕ) → symbol_place b e ≡ InSection s → section_class b s ≡ Some class.Executable
-      → is_tls (symbol_type b e) ≡ false
-  not_tls s at class_is =
-      is.not_tls (ap (is_tls_place b) at ∙ ap is_tls_class class_is)
+    -- code is of no type of thread-local storage
+    not_tls : (s : ℕ) → symbol_place b e ≡ InSection s → section_class b s ≡ Some class.Executable
+        → is_tls (symbol_type b e) ≡ false
+    not_tls s at class_is =
+        is.not_tls (ap (is_tls_place b) at ∙ ap is_tls_class class_is)
 
-  in_section : (s : ℕ) → symbol_place b e ≡ InSection s → (c : Option SectionClass) → section_class b s ≡ c → IsSome c
-      → shown (is_tls_class c) (at_in s) ≡ (if is_class class.Executable c then below code.end (at_in s) else None)
-  in_section s at None class_is some = absurd (cc)
-  in_section s at (Some class.Executable) class_is some =
-      let x = stands s class.Executable at class_is (λ h. cc) in
-      rw (not_tls s at class_is, code_runs l given links (at_in s) x.below_room, le-leb code.start (at_in s) x.begins) refl
-  in_section s at (Some class.ReadOnly) class_is some =
-      let x = stands s class.ReadOnly at class_is (λ h. cc) in
-      behind_code (at_in s) x.below_room (omega (arith, x.begins, (classes_follow (layout l)).second))
-  in_section s at (Some (class.Tls initial)) class_is some = refl
-  in_section s at (Some (class.Writable initial)) class_is some =
-      let x = stands s (class.Writable initial) at class_is (λ h. cc) in
-      let follow = classes_follow (layout l) in
-      behind_code (at_in s) x.below_room
-      (omega (
-        arith,
-        x.begins,
-        follow.second,
-        follow.rise class.ReadOnly,
-        follow.third,
-        follow.rise (class.Tls true),
-        follow.fourth,
-      ))
+    in_section : (s : ℕ) → symbol_place b e ≡ InSection s → (c : Option SectionClass) → section_class b s ≡ c → IsSome c
+        → shown (is_tls_class c) (at_in s) ≡ (if is_class class.Executable c then below code.end (at_in s) else None)
+    in_section s at None class_is some = absurd (cc)
+    in_section s at (Some class.Executable) class_is some =
+        let x = stands s class.Executable at class_is (λ h. cc) in
+        rw (
+          not_tls s at class_is,
+          code_runs l given links (at_in s) x.below_room,
+          le-leb code.start (at_in s) x.begins,
+        ) refl
+    in_section s at (Some class.ReadOnly) class_is some =
+        let x = stands s class.ReadOnly at class_is (λ h. cc) in
+        behind_code (at_in s) x.below_room (omega (arith, x.begins, (classes_follow (layout l)).second))
+    in_section s at (Some (class.Tls initial)) class_is some = refl
+    in_section s at (Some (class.Writable initial)) class_is some =
+        let x = stands s (class.Writable initial) at class_is (λ h. cc) in
+        let follow = classes_follow (layout l) in
+        behind_code (at_in s) x.below_room
+        (omega (
+          arith,
+          x.begins,
+          follow.second,
+          follow.rise class.ReadOnly,
+          follow.third,
+          follow.rise (class.Tls true),
+          follow.fourth,
+        ))
 
-  -- a function of the objects, by where it is defined
-  abbrev meant : SymbolPlace → ℕ → Option ℕ
-  meant (InSection s) at = if is_class class.Executable (section_class (object l found.object) s)
-      then below (extent_for class.Executable (layout l)).end at
-      else None
-  meant place at = None
+    -- a function of the objects, by where it is defined
+    abbrev meant : SymbolPlace → ℕ → Option ℕ
+    meant (InSection s) at = if is_class class.Executable (section_class (object l found.object) s)
+        then below (extent_for class.Executable (layout l)).end at
+        else None
+    meant place at = None
 
-  same_code : (place : SymbolPlace) → code_place l found place ≡ meant place (address l found)
-  same_code Undefined = refl
-  same_code Absolute = refl
-  same_code (InSection s) = refl
+    same_code : (place : SymbolPlace) → code_place l found place ≡ meant place (address l found)
+    same_code Undefined = refl
+    same_code Absolute = refl
+    same_code (InSection s) = refl
 
-  -- a definition lies in a section that linking keeps
-  of_place : (place : SymbolPlace) → symbol_place b e ≡ place
-      → shown (is_tls_place b place) (placed_value (address_of (layout l) o) place (symbol_value b e))
-      ≡ meant place (placed_value (address_of (layout l) o) place (symbol_value b e))
-  of_place Undefined at = absurd (is.defined at)
-  of_place Absolute at = absurd (is.relative at)
-  of_place (InSection s) at = in_section s at (section_class b s) refl (is.kept s at)
+    -- a definition lies in a section that linking keeps
+    of_place : (place : SymbolPlace) → symbol_place b e ≡ place
+        → shown (is_tls_place b place) (placed_value (address_of (layout l) o) place (symbol_value b e))
+        ≡ meant place (placed_value (address_of (layout l) o) place (symbol_value b e))
+    of_place Undefined at = absurd (is.defined at)
+    of_place Absolute at = absurd (is.relative at)
+    of_place (InSection s) at = in_section s at (section_class b s) refl (is.kept s at)
 
-  place_alike : function_place (image_of l).parts (defined l found) ≡ function_at l found
-  unfolding defined address
-  place_alike = of_place (symbol_place b e) refl ∙ sym (same_code (symbol_place b e))
+    place_alike : function_place (image_of l).parts (defined l found) ≡ function_at l found
+    unfolding defined address
+    place_alike = of_place (symbol_place b e) refl ∙ sym (same_code (symbol_place b e))
 
 -- ** by name
 
@@ -186,7 +194,8 @@ pub functions_loaded : FunctionsAreLoaded
 unfolding job_loads
 functions_loaded ls l x name is =
     ap
-    (option_and_then (λ (image : Spelled). option_map (λ place. place + bias image.kind x.number) (entry_in image name)))
+    (option_and_then (λ (image : Spelled). option_map (λ place. place + bias image.kind x.number)
+    (entry_in image name)))
     (image_is ls l x.image is.image)
     ∙ ap (λ n. option_map (λ place. place + n) (entry_in (image_of l) name)) (image_bias l x.number)
     ∙ ap (option_map (λ at. at + bias_of l.kind x.number)) (entry_is l is.given is.links name)

@@ -1,5 +1,6 @@
 -- The image that a loader finds an import in is the one that the import is bound to.
-use Rattle.std.proofs.Common.{◌≡◌, ◌∙◌, ◌+◌, ◌<◌, ℕ, zero, suc, Bool, true, false, not, List, [], ◌∷◌, Option, Some, None}
+use Rattle.std.proofs.Common.{◌≡◌, ◌∙◌, ◌+◌, ◌<◌, ℕ, zero, suc, Bool, true, false, not, List, [], ◌∷◌, Option, Some}
+use Rattle.std.proofs.Common.{None}
 use Rattle.std.proofs.Common.{length, filter, map, refl, sym, ap, subst, arith}
 use Rattle.std.specs.Prelude.{cond, option_map, slice_get, slice_index_or, if◌then◌else◌}
 use Rattle.std.specs.List.{All, list_any}
@@ -71,7 +72,8 @@ module _ (name : List ℕ) where
         found = there.found;
         defined = there.defined;
         shared =
-            ap (λ late. option_or (if late then None else option_map (export_in n) (shared_offset name (image_of l))) more)
+            ap (λ late. option_or (if late then None
+            else option_map (export_in n) (shared_offset name (image_of l))) more)
             early
             ∙ ap (λ own. option_or (option_map (export_in n) own) more) there.shared
             ∙ ap (λ (number : ℕ). Some (export_in number (offset l there.found))) same;
@@ -90,7 +92,8 @@ module _ (name : List ℕ) where
         found = r.found;
         defined = r.defined;
         shared =
-            ap (λ late. option_or (if late then None else option_map (export_in n) (shared_offset name (image_of l))) more)
+            ap (λ late. option_or (if late then None
+            else option_map (export_in n) (shared_offset name (image_of l))) more)
             early
             ∙ ap (λ own. option_or (option_map (export_in n) own) more) (other_missed l given name other)
             ∙ ap (λ (number : ℕ). shared_from name number (kinds_of ls) (map image_of ls)) next
@@ -119,13 +122,15 @@ module _ (name : List ℕ) where
           let missing : first_export name n (exports_among ls) ≡ None = ap (first_export name n) none in
           absurd (cc)
       of_late false early is rest =
-          first_of n k l ls (All-head IsGiven l ls given) early (list_any (bytes_eq name) (exported_names l.objects)) refl is
+          first_of n k l ls (All-head IsGiven l ls given) early
+          (list_any (bytes_eq name) (exported_names l.objects)) refl is
           rest
 
 -- ** a name that is bound to a startup image
 
 module _ (l : Linking) (o k : ℕ) (r : Relocation) where
-  export_first : binding l o r ≡ Some (Startup k) → first_export (symbol_name (object l o) r.symbol) 1 l.startup ≡ Some k
+  export_first : binding l o r ≡ Some (Startup k)
+      → first_export (symbol_name (object l o) r.symbol) 1 l.startup ≡ Some k
   unfolding bound_to
   export_first is = of_local (same_binding Local (symbol_binding (object l o) r.symbol)) is
     where

@@ -8,7 +8,7 @@ use Rattle.link_needs.specs.Linking.{Linking, layout}
 use Rattle.loaded_modules.specs.Images.{block_alignment, block_size, infos, infos_of, last_offset}
 use Rattle.loaded_modules.specs.Images as loaded
 use Rattle.module_table.specs.declared.modules.ImageInfo.{ImageInfo}
-use Rattle.module_table.specs.Laws.{startup_end}
+use Rattle.module_table.specs.Modules.{startup_end}
 use Rattle.thread_blocks.specs.JobLoads.{job_loads}
 use Rattle.tls_layout.specs.Places.{tls_alignment, tls_size}
 use Rattle.tls_layout.specs.Sections.{Layout}

@@ -28,7 +28,8 @@ unfolding loads_of
 functions_meant ls l x name is =
     functions_loaded ls l x name is
     ∙ sym (ap (λ (image : Option Linking).
-    option_map_or (λ (own : Linking). option_map (λ at. at + bias_of own.kind x.number) (function_of own name)) image None) is.image)
+    option_map_or (λ (own : Linking). option_map (λ at. at + bias_of own.kind x.number)
+    (function_of own name)) image None) is.image)
 
 -- a link of a list, all of which are given
 given_at : (ls : List Linking) → All IsGiven ls → (number : ℕ) (l : Linking) → at_number ls number ≡ Some l → IsGiven l

@@ -63,7 +63,8 @@ module _ (l : Linking) (name : List ℕ) where
 
   -- the image's own symbols, before others
   abbrev first_of : List SymbolRef → List (List ℕ) → List ImageSymbol → Option ImageSymbol
-  first_of own others symbols = first_named test (map (name_of l.objects) own ++ others) (map (defined l) own ++ symbols)
+  first_of own others symbols =
+      first_named test (map (name_of l.objects) own ++ others) (map (defined l) own ++ symbols)
 
   own_first : (own : List SymbolRef) (others : List (List ℕ)) (symbols : List ImageSymbol) → All (IsOwn l.objects) own
       → list_any test (map (name_of l.objects) own) ≡ true
@@ -73,7 +74,8 @@ module _ (l : Linking) (name : List ℕ) where
       of_test (test (name_of l.objects found)) refl is
       (own_first own others symbols (all_rest (IsOwn l.objects) found own are))
     where
-      of_test : (t : Bool) → test (name_of l.objects found) ≡ t → (t || list_any test (map (name_of l.objects) own)) ≡ true
+      of_test : (t : Bool) → test (name_of l.objects found) ≡ t
+          → (t || list_any test (map (name_of l.objects) own)) ≡ true
           → (list_any test (map (name_of l.objects) own) ≡ true
           → first_of own others symbols ≡ option_map (defined l) (definition_of l.objects name))
           → first_of (found ∷ own) others symbols ≡ option_map (defined l) (definition_of l.objects name)
@@ -89,12 +91,14 @@ module _ (l : Linking) (name : List ℕ) where
           ∙ rest is
 
   own_behind : (own : List SymbolRef) (others : List (List ℕ)) (symbols : List ImageSymbol)
-      → list_any test (map (name_of l.objects) own) ≡ false → first_of own others symbols ≡ first_named test others symbols
+      → list_any test (map (name_of l.objects) own) ≡ false
+      → first_of own others symbols ≡ first_named test others symbols
   own_behind [] others symbols none = refl
   own_behind (found ∷ own) others symbols none =
       of_test (test (name_of l.objects found)) refl none (own_behind own others symbols)
     where
-      of_test : (t : Bool) → test (name_of l.objects found) ≡ t → (t || list_any test (map (name_of l.objects) own)) ≡ false
+      of_test : (t : Bool) → test (name_of l.objects found) ≡ t
+          → (t || list_any test (map (name_of l.objects) own)) ≡ false
           → (list_any test (map (name_of l.objects) own) ≡ false
           → first_of own others symbols ≡ first_named test others symbols)
           → first_of (found ∷ own) others symbols ≡ first_named test others symbols

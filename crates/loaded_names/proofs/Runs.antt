@@ -19,7 +19,8 @@ use Rattle.link_core.specs.Bytes.{file}
 use Rattle.link_core.proofs.Few.{table_fits}
 use Rattle.link_core.proofs.Lengths.{places_inside}
 use Rattle.link_core.specs.Faults.{Links}
-use Rattle.link_core.specs.Images.{contents, file_kind, filled, got_places, image_of, places, section_places, stub_places}
+use Rattle.link_core.specs.Images.{contents, file_kind, filled, got_places, image_of, places, section_places}
+use Rattle.link_core.specs.Images.{stub_places}
 use Rattle.got_pairs.specs.declared.need.Need.TheVariants.{RuntimeWord}
 use Rattle.link_needs.proofs.Reached.{stubs_have_their_word, table_some}
 use Rattle.link_needs.specs.Given.{IsGiven}
@@ -27,7 +28,7 @@ use Rattle.link_needs.specs.Linking.{Linking, layout}
 use Rattle.link_needs.specs.Needs.{got_size, got_start, has_stub, stub_start}
 use Rattle.object_faults.specs.declared.class.SectionClass.TheVariants as class
 use Rattle.tls_layout.specs.declared.extent.Extent.{Extent}
-use Rattle.tls_layout.specs.Laws.{extent_for}
+use Rattle.tls_layout.specs.Places.{extent_for}
 use Rattle.tls_layout.specs.Places.{executable, read_only, room, tls_image, writable}
 use Rattle.tls_layout.proofs.Together.{page_up-above}
 
@@ -42,7 +43,8 @@ module _ {X : Type 0} (test : X → Bool) where
   first_alone xs ys none =
       list_any-append test xs ys ∙ ap (λ t. list_any test xs || t) none ∙ or_false (list_any test xs)
 
-  pub none_of : (xs ys : List X) → list_any test xs ≡ false → list_any test ys ≡ false → list_any test (xs ++ ys) ≡ false
+  pub none_of : (xs ys : List X) → list_any test xs ≡ false → list_any test ys ≡ false
+      → list_any test (xs ++ ys) ≡ false
   none_of xs ys first second = first_alone xs ys second ∙ first
 
   pub any_map : {Y : Type 0} (f : Y → X) (ys : List Y) → list_any test (map f ys) ≡ list_any (λ y. test (f y)) ys
@@ -118,7 +120,8 @@ module _ (l : Linking) (given : IsGiven l) (links : Links l) where
     table_none = of_test (got_size l == 0)
       where
         of_test : (t : Bool)
-            → list_any runs (if t then [] else record { class = Writable; address = got_start l; size = got_size l } ∷ [])
+            → list_any runs (if t then []
+            else record { class = Writable; address = got_start l; size = got_size l } ∷ [])
             ≡ false
         of_test true = refl
         of_test false = refl
@@ -132,7 +135,8 @@ module _ (l : Linking) (given : IsGiven l) (links : Links l) where
             ≡ false
         of_test true has =
             let up = page_up-above (got_start l + got_size l) in
-            rw (lt-leb (stub_start l) at (omega (arith, low, table_some l RuntimeWord (stubs_have_their_word l has), up))) refl
+            rw (lt-leb (stub_start l) at
+            (omega (arith, low, table_some l RuntimeWord (stubs_have_their_word l has), up))) refl
         of_test false none = refl
 
     -- the part of the code runs what lies in the class

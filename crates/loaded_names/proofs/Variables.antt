@@ -59,5 +59,6 @@ module _ (l : Linking) (given : IsGiven l) where
 pub variables_loaded : VariablesAreLoaded
 unfolding job_loads
 variables_loaded ls l image name is given =
-    ap (λ found. offset_in (option_and_then (λ (image : Spelled). variable_in image name) found)) (image_is ls l image is)
+    ap (λ found. offset_in (option_and_then (λ (image : Spelled). variable_in image name) found))
+    (image_is ls l image is)
     ∙ variable_is l given name

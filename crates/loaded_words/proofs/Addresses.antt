@@ -26,7 +26,8 @@ use Rattle.loaded_names.proofs.Defined.{definition_shared}
 use Rattle.loaded_names.proofs.Symbols.{placed_in}
 use Rattle.object_rules.specs.declared.fault.FaultKind.TheVariants.{SymbolSection}
 use Rattle.tls_layout.specs.Places.{IsLawful as IsWithinLimits, address_of}
-use Rattle.tls_symbols.specs.Bindings.{binding_of, bound_to, first_export, here_or, may_import, name_binding, of_startup}
+use Rattle.tls_symbols.specs.Bindings.{binding_of, bound_to, first_export, here_or, may_import, name_binding}
+use Rattle.tls_symbols.specs.Bindings.{of_startup}
 use Rattle.elf_records.specs.Symbols.{get_address}
 use Rattle.tls_symbols.specs.Definitions.{definition_of, same_binding}
 use Rattle.link_core.proofs.GotRelocationsSites.{has_value}
@@ -107,7 +108,8 @@ module _ (l : Linking) (given : IsGiven l) (limits : IsWithinLimits (layout l)) 
       of_place (InSection s) at =
           let some = is.kept s at in
           let class = has_value (section_class (object l found.object) s) some in
-          let small = (kept_as (object l found.object) (given.are_objects found.object [] is.there) s class.0 class.1).small in
+          let small = (kept_as (object l found.object)
+          (given.are_objects found.object [] is.there) s class.0 class.1).small in
           let start = start_low found.object s (address_of (layout l) found.object s) refl in
           let inside = is.inside s at some in
           omega (arith, small, start, inside)

@@ -26,7 +26,8 @@ use Rattle.relocated_parts.proofs.Words.{low_digit}
 use Rattle.relocated_parts.specs.Left.{byte_by, is_written_at}
 use Rattle.whole_meaning.specs.Spots.{bias_of}
 use Rattle.loaded_bytes.proofs.Biases.{image_bias}
-use Rattle.loaded_words.proofs.Written.{behind, front, hit, imported, import_written, kept_addend, miss, own, own_written}
+use Rattle.loaded_words.proofs.Written.{behind, front, hit, imported, import_written, kept_addend, miss, own}
+use Rattle.loaded_words.proofs.Written.{own_written}
 use Rattle.loaded_words.specs.Laws.{IsPlaced}
 use Rattle.loaded_words.specs.Words.{exported, loaded_words}
 
@@ -46,7 +47,8 @@ module _ (m : JobImages) (l : Linking) (x : Instance) where
   -- byte i of a word at an address of an entry, of which this number stands in the file
   abbrev pub byte_left : ℕ → Entry → ℕ → ℕ → ℕ → ℕ
   byte_left at e address number i =
-      byte_by m (image_of l) x (address + i) (digit number i) (find (is_written_at (address + i)) (entry_relocations l at e))
+      byte_by m (image_of l) x (address + i) (digit number i)
+      (find (is_written_at (address + i)) (entry_relocations l at e))
 
   abbrev pub IsRow : ℕ → Entry → List ℕ → Type 0
   IsRow at (One v) (w ∷ []) = (i : ℕ) → i < 8 → byte_left at (One v) at v.number i ≡ digit w i
@@ -78,10 +80,12 @@ module _ (m : JobImages) (l : Linking) (x : Instance) where
         (digit 0 i) below
         ∙ import_written m l x at dynamic.DtpMod64 n named i ∙ front (exported m (export_of m n)).id _ i below,
     λ i below. ap (byte_by m (image_of l) x (at + 8 + i) (digit 0 i))
-        (miss m l x (at + 8 + i) (imported m l x at dynamic.DtpMod64 n) (imported m l x (at + 8) dynamic.DtpOff64 n ∷ [])
+        (miss m l x (at + 8 + i) (imported m l x at dynamic.DtpMod64 n)
+        (imported m l x (at + 8) dynamic.DtpOff64 n ∷ [])
         (inr (omega arith)))
         ∙ hit m l x (imported m l x (at + 8) dynamic.DtpOff64 n) [] i (digit 0 i) below
-        ∙ import_written m l x (at + 8) dynamic.DtpOff64 n named i ∙ front (exported m (export_of m n)).offset _ i below,
+        ∙ import_written m l x (at + 8) dynamic.DtpOff64 n named i
+        ∙ front (exported m (export_of m n)).offset _ i below,
   )
 
   -- ** descriptors
@@ -93,7 +97,8 @@ module _ (m : JobImages) (l : Linking) (x : Instance) where
         ∙ own_written m l x at dynamic.TlsDesc o i ∙ front 0x1800 _ i below,
     λ i below.
         let index : at + 8 + i ≡ at + (8 + i) = omega arith in
-        ap (λ a. byte_by m (image_of l) x a (digit 0 i) (find (is_written_at a) (own m l x at dynamic.TlsDesc o ∷ []))) index
+        ap (λ a. byte_by m (image_of l) x a (digit 0 i)
+        (find (is_written_at a) (own m l x at dynamic.TlsDesc o ∷ []))) index
         ∙ hit m l x (own m l x at dynamic.TlsDesc o) [] (8 + i) (digit 0 i) (omega (arith, below))
         ∙ own_written m l x at dynamic.TlsDesc o (8 + i) ∙ behind 0x1800 _ i below
         ∙ ap (λ n. digit (x.id * 2 ^ 32 + n) i) (kept_addend o small),
@@ -107,7 +112,8 @@ module _ (m : JobImages) (l : Linking) (x : Instance) where
         ∙ import_written m l x at dynamic.TlsDesc n named i ∙ front 0x1800 _ i below,
     λ i below.
         let index : at + 8 + i ≡ at + (8 + i) = omega arith in
-        ap (λ a. byte_by m (image_of l) x a (digit 0 i) (find (is_written_at a) (imported m l x at dynamic.TlsDesc n ∷ [])))
+        ap (λ a. byte_by m (image_of l) x a (digit 0 i)
+        (find (is_written_at a) (imported m l x at dynamic.TlsDesc n ∷ [])))
         index
         ∙ hit m l x (imported m l x at dynamic.TlsDesc n) [] (8 + i) (digit 0 i) (omega (arith, below))
         ∙ import_written m l x at dynamic.TlsDesc n named (8 + i) ∙ behind 0x1800 _ i below,
@@ -147,7 +153,8 @@ module _ (m : JobImages) (l : Linking) (x : Instance) where
 
   runtime_word : (at : ℕ) → IsRow at (entry_of l.kind (block_offset l) RuntimeWord) (0x1000 ∷ [])
   runtime_word at = λ i below.
-      hit m l x (relocation_of l at (record { kind = dynamic.JumpSlot; symbol = Runtime; addend = 0 })) [] i (digit 0 i) below
+      hit m l x (relocation_of l at (record { kind = dynamic.JumpSlot; symbol = Runtime; addend = 0 })) [] i
+      (digit 0 i) below
       ∙ front 0x1000 _ i below
 
   -- ** all kinds
@@ -163,7 +170,8 @@ module _ (m : JobImages) (l : Linking) (x : Instance) where
     program_distance : (kind : ImageKind) → l.kind ≡ kind → is_module kind ≡ false → (at o : ℕ)
         → IsRow at (One (held (less o (block_offset l)))) (less o (unwrap_or x.offset 0) ∷ [])
     program_distance kind e alone at o = λ i below.
-        ap (λ d. digit (less o d) i) (sym (ap (λ (p : Option ℕ). unwrap_or p 0) (placed.offset (ap is_module e ∙ alone))))
+        ap (λ d. digit (less o d) i)
+        (sym (ap (λ (p : Option ℕ). unwrap_or p 0) (placed.offset (ap is_module e ∙ alone))))
 
     pub row : (kind : ImageKind) → l.kind ≡ kind → (need : Need) → Fits l kind need → (at : ℕ)
         → IsRow at (entry_of kind (block_offset l) need) (loaded_words m kind x need)

@@ -1,5 +1,6 @@
 -- Numbers, ids and blocks of instances, by what their images are linked as.
-use Rattle.std.proofs.Common.{◌≡◌, ◌∙◌, ◌+◌, ◌<◌, ◌≤◌, ◌⊎◌, ℕ, zero, suc, Bool, true, false, List, [], ◌∷◌, Some, length}
+use Rattle.std.proofs.Common.{◌≡◌, ◌∙◌, ◌+◌, ◌<◌, ◌≤◌, ◌⊎◌, ℕ, zero, suc, Bool, true, false, List, [], ◌∷◌, Some}
+use Rattle.std.proofs.Common.{length}
 use Rattle.std.proofs.Common.{map, inl, inr, refl, sym, ap, cond, arith}
 use Rattle.std.specs.Prelude.{AllPairs, IsSome, option_map, slice_get, slice_index_or, not, take, if◌then◌else◌}
 use Rattle.std.specs.Int.{next_multiple_of}
@@ -26,7 +27,7 @@ use Rattle.loaded_modules.specs.Images.{is_late, static_offset}
 use Rattle.loaded_names.proofs.Infos.{infos_loaded}
 use Rattle.module_table.specs.declared.events.Event.{Event}
 use Rattle.module_table.specs.declared.modules.ImageInfo.{ImageInfo}
-use Rattle.module_table.specs.Laws.{startup_end}
+use Rattle.module_table.specs.Modules.{startup_end}
 use Rattle.module_table.specs.Modules.{no_module}
 use Rattle.module_table.specs.Past.{startup_count}
 use Rattle.thread_blocks.specs.Instances.{Loads, left_by}
@@ -202,13 +203,15 @@ module _ (ls : List Linking) (l : Linking) (x : Instance) (history : List Event)
   above : is_late l.kind ≡ true → startup_count q.infos < x.number
   above late = of_low (cases_lt (startup_count q.infos) x.number)
     where
-      of_low : (startup_count q.infos < x.number) ⊎ (x.number ≤ startup_count q.infos) → startup_count q.infos < x.number
+      of_low : (startup_count q.infos < x.number) ⊎ (x.number ≤ startup_count q.infos)
+          → startup_count q.infos < x.number
       of_low (inl higher) = higher
       of_low (inr low) =
           let number : x.image ≡ x.number = given.image low in
           let index = of_index x.image info_is in
           let place = index.1.0 in
-          let first = early_at q.infos index.0 no_module.info is.legal.images.late_last (omega (arith, low, number, place)) in
+          let first = early_at q.infos index.0 no_module.info is.legal.images.late_last
+          (omega (arith, low, number, place)) in
           let its : (slice_index_or q.infos index.0 no_module.info).late ≡ true =
           ap (λ (i : ImageInfo). i.late) index.1.1.1 ∙ late_is l ∙ late in
           let not_its = first.1 in

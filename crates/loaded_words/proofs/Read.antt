@@ -209,7 +209,8 @@ read_flat : {X : Type 0} (l : Linking) (Q : X → Type 0) (f : X → List Need) 
     → (xs : List X) → All Q xs → All (R l) (flat_map f xs)
 read_flat l Q f each [] all = All-nil (R l)
 read_flat l Q f each (x ∷ xs) all =
-    All-append (R l) (f x) (flat_map f xs) (each x (All-head Q x xs all)) (read_flat l Q f each xs (All-tail Q x xs all))
+    All-append (R l) (f x) (flat_map f xs) (each x (All-head Q x xs all))
+    (read_flat l Q f each xs (All-tail Q x xs all))
 
 sites_read : (l : Linking) (n : ℕ) (sites : List (List Site))
     → ((o : ℕ) → o < length sites → All (R l) (flat_map (site_needs l (n + o)) (slice_index_or sites o [])))
@@ -251,27 +252,29 @@ has_symbol : (kind : RelocationKind) → is_address_kind kind ≡ true → kind 
 has_symbol Nothing is = absurd (cc)
 has_symbol kind is = λ none. cc
 
-module _ (l : Linking) (given : IsGiven l) (limits : IsWithinLimits (layout l)) (o : ℕ) (there : o < length l.objects) where
-  -- a field that the linker fills with an entry's place
-  abbrev IsField : ℕ → Relocation → Type 0
-  IsField t r = IsLawful (object l o) t r × (is_address_kind r.kind ≡ true)
+module _ (l : Linking) (given : IsGiven l) (limits : IsWithinLimits (layout l)) (o : ℕ) (there : o < length l.objects)
+  where
+    -- a field that the linker fills with an entry's place
+    abbrev IsField : ℕ → Relocation → Type 0
+    IsField t r = IsLawful (object l o) t r × (is_address_kind r.kind ≡ true)
 
-  fields_are : (t : ℕ) → All (IsField t) (address_fields (object l o) t)
-  fields_are t =
-      let b = object l o in
-      let fields = filter (λ (r : Relocation). is_address_kind r.kind) (relocations b t) in
-      let lawful_fields = All-filter (λ (r : Relocation). is_address_kind r.kind) (IsLawful b t) (relocations b t)
-      (lawful b (given.are_objects o [] there) t) in
-      let passing = filter_passes (λ (r : Relocation). is_address_kind r.kind) (relocations b t) in
-      all_sorted (λ (r : Relocation). r.offset) (IsField t) fields (λ k d below. (lawful_fields k d below, passing k d below))
+    fields_are : (t : ℕ) → All (IsField t) (address_fields (object l o) t)
+    fields_are t =
+        let b = object l o in
+        let fields = filter (λ (r : Relocation). is_address_kind r.kind) (relocations b t) in
+        let lawful_fields = All-filter (λ (r : Relocation). is_address_kind r.kind) (IsLawful b t) (relocations b t)
+        (lawful b (given.are_objects o [] there) t) in
+        let passing = filter_passes (λ (r : Relocation). is_address_kind r.kind) (relocations b t) in
+        all_sorted (λ (r : Relocation). r.offset) (IsField t) fields
+        (λ k d below. (lawful_fields k d below, passing k d below))
 
-  object_read : All (R l) (object_needs l o (object l o))
-  unfolding object_needs
-  object_read =
-      all_flat (R l) (section_needs l o (object l o)) (range_with_len 0 (section_count (object l o))) (λ t.
-      read_flat l (IsField t) (address_needs l o) (λ r is.
-      own_read l (binding l o r) (bound_low l given limits o t there r is.0 (has_symbol r.kind is.1)))
-      (address_fields (object l o) t) (fields_are t))
+    object_read : All (R l) (object_needs l o (object l o))
+    unfolding object_needs
+    object_read =
+        all_flat (R l) (section_needs l o (object l o)) (range_with_len 0 (section_count (object l o))) (λ t.
+        read_flat l (IsField t) (address_needs l o) (λ r is.
+        own_read l (binding l o r) (bound_low l given limits o t there r is.0 (has_symbol r.kind is.1)))
+        (address_fields (object l o) t) (fields_are t))
 
 needs_read : (l : Linking) → IsGiven l → IsWithinLimits (layout l) → All (R l) (needs l)
 unfolding needs

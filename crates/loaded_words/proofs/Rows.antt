@@ -1,5 +1,6 @@
 -- The relocation of the table that writes at an address of an entry is one of the entry's own.
-use Rattle.std.proofs.Common.{◌≡◌, ◌∙◌, ◌+◌, ◌<◌, ◌≤◌, ◌⊎◌, ◌&&◌, ℕ, suc, Bool, true, false, List, [], ◌∷◌, Option, Some}
+use Rattle.std.proofs.Common.{◌≡◌, ◌∙◌, ◌+◌, ◌<◌, ◌≤◌, ◌⊎◌, ◌&&◌, ℕ, suc, Bool, true, false, List, [], ◌∷◌, Option}
+use Rattle.std.proofs.Common.{Some}
 use Rattle.std.proofs.Common.{None, inl, inr, refl, sym, ap, arith, if◌then◌else◌}
 use Rattle.std.specs.Prelude.{nat_eq}
 use Rattle.std.specs.List.{All, Contains, find}
@@ -91,13 +92,15 @@ module _ (l : Linking) where
     later at [] below = refl
     later at (need ∷ ks) below =
         find-append (is_written_at address) (need_relocations l (need, at)) (rows l (at + size_of need) ks)
-        ∙ ap (λ o. option_or o (find (is_written_at address) (rows l (at + size_of need) ks))) (outside need at (inl below))
+        ∙ ap (λ o. option_or o (find (is_written_at address) (rows l (at + size_of need) ks)))
+        (outside need at (inl below))
         ∙ later (at + size_of need) ks (omega (arith, below))
 
     module _ (need : Need) (at : ℕ) (low : at ≤ address) (high : address < at + size_of need) where
       pub row_found : (from : ℕ) (ks : List Need) → start_from from ks need ≡ Some at
           → (from ≤ at)
-          × (find (is_written_at address) (rows l from ks) ≡ find (is_written_at address) (need_relocations l (need, at)))
+          × (find (is_written_at address) (rows l from ks)
+          ≡ find (is_written_at address) (need_relocations l (need, at)))
       row_found from [] e = absurd (cc)
       row_found from (k ∷ ks) e = of_test (same_need need k) refl e (row_found (from + size_of k) ks)
         where

@@ -1,5 +1,6 @@
 -- The stub is one instruction, and jumps through the run time's word.
-use Rattle.std.proofs.Common.{◌≡◌, ◌∙◌, ◌+◌, ◌-◌, ◌*◌, ◌%◌, ◌^◌, ◌<◌, ◌≤◌, ℕ, suc, Bool, true, false, List, [], ◌∷◌, Option}
+use Rattle.std.proofs.Common.{◌≡◌, ◌∙◌, ◌+◌, ◌-◌, ◌*◌, ◌%◌, ◌^◌, ◌<◌, ◌≤◌, ℕ, suc, Bool, true, false, List, [], ◌∷◌}
+use Rattle.std.proofs.Common.{Option}
 use Rattle.std.proofs.Common.{None, Some, IsSome, refl, sym, ap, arith}
 use Rattle.std.specs.Prelude.{pos, negsuc, ◌+ℤ◌, ◌-ℤ◌, slice_index_or, unwrap_or, if◌then◌else◌}
 use Rattle.std.specs.Int.{w32, cast_unsigned}
@@ -11,13 +12,15 @@ use Rattle.amd64_subset.specs.declared.instr.Decoded.{Decoded}
 use Rattle.amd64_subset.specs.declared.instr.Operation.TheVariants.{Jump}
 use Rattle.amd64_subset.specs.declared.instr.Target.TheVariants.{Indirect}
 use Rattle.amd64_subset.specs.declared.operand.Operand.TheVariants.{InMemory}
-use Rattle.amd64_subset.specs.Decoding.{body_at, decoded, end_branch_at, escaped_at, instruction_at, operated_at, row_at}
+use Rattle.amd64_subset.specs.Decoding.{body_at, decoded, end_branch_at, escaped_at, instruction_at, operated_at}
+use Rattle.amd64_subset.specs.Decoding.{row_at}
 use Rattle.amd64_subset.specs.Meaning.{numbered_body, operand_body, operation_of}
 use Rattle.amd64_subset.specs.Number.{signed_of}
 use Rattle.amd64_subset.specs.Prefix.{prefixes_at, rex_at}
 use Rattle.amd64_subset.specs.Reading.{numbers_at}
 use Rattle.amd64_subset.specs.Register.{number_of, register_of}
-use Rattle.amd64_subset.specs.Row.{arithmetic_of, condition_of, escaped_row_of, fixed_row_of, group_action, row_of, shift_of}
+use Rattle.amd64_subset.specs.Row.{arithmetic_of, condition_of, escaped_row_of, fixed_row_of, group_action, row_of}
+use Rattle.amd64_subset.specs.Row.{shift_of}
 use Rattle.amd64_subset.specs.Row.{takes}
 use Rattle.amd64_subset.specs.Selectors.{allowed, displacement_size, memory_in, selectors_at, sib_at}
 use Rattle.amd64_subset.specs.Spelling.{field_of}
@@ -125,7 +128,8 @@ module _ (l : Linking) (given : IsGiven l) (limits : FitsTable l) where
       let long = stub_length l given limits in
       ap (λ bytes. 0xff ∷ 0x25 ∷ bytes) (sym (take_all 4 four (omega (arith, long))) ∙ stub_jumps l given limits)
 
-  is_read : decoded (stub_bytes l) ≡ Some (displaced 6 2 (Jump (Indirect (InMemory of_next))) (field_of (bytes_of 4 jump)))
+  is_read : decoded (stub_bytes l)
+      ≡ Some (displaced 6 2 (Jump (Indirect (InMemory of_next))) (field_of (bytes_of 4 jump)))
   unfolding bytes_of
   is_read = ap decoded bytes_are ∙ jump_read _ _ _ _
 
@@ -155,7 +159,8 @@ stub_loaded ls l x history known is has =
       read = is_read l is.given limits;
       there = λ k below.
           let own = slice_get-get_or (stub_bytes l) k 0 (omega (arith, long, below)) in
-          let order : stub_start l + bias_of l.kind x.number + k ≡ stub_start l + k + bias_of l.kind x.number = omega arith in
+          let order : stub_start l + bias_of l.kind x.number + k ≡ stub_start l + k + bias_of l.kind x.number =
+          omega arith in
           ap (byte_in Run ((job_loads m).fixed x)) order
           ∙ stub_byte ls l x k (slice_index_or (stub_bytes l) k 0) is has own
           ∙ sym own;

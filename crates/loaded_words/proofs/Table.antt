@@ -50,9 +50,11 @@ use Rattle.loaded_bytes.proofs.Still.{fixed_is, image_is}
 use Rattle.loaded_bytes.proofs.Ranges.{found_in_part, still}
 
 -- it is the part that the loader alone writes
-is_table : (l : Linking) → 0 < got_size l → option_map_or (λ (own : ℕ). own == got_index l) (image_of l).got false ≡ true
+is_table : (l : Linking) → 0 < got_size l
+    → option_map_or (λ (own : ℕ). own == got_index l) (image_of l).got false ≡ true
 unfolding image_of finished contents
-is_table l some = ap (λ n. option_map_or (λ (own : ℕ). own == (got_index l)) n false) (got_numbered l some) ∙ same (got_index l)
+is_table l some = ap (λ n. option_map_or (λ (own : ℕ). own == (got_index l)) n false) (got_numbered l some)
+    ∙ same (got_index l)
   where
     same : (n : ℕ) → (n == n) ≡ true
     same n = grind (arith, nat_tests)
@@ -92,7 +94,8 @@ module _ (ls : List Linking) (l : Linking) (x : Instance) (is : IsInstanceOf ls 
       ap (λ (ranges : List (Range ℕ)). byte_in Read ranges (got_start l + at + k + bias_of l.kind x.number))
       (fixed_is ls l x is.image)
       ∙ ap
-      (λ b. byte_in Read (still (parts_from (images_of ls) (image_of l) x 0 (image_of l).parts)) (got_start l + at + k + b))
+      (λ b. byte_in Read (still (parts_from (images_of ls) (image_of l) x 0 (image_of l).parts))
+      (got_start l + at + k + b))
       (sym (image_bias l x.number))
       ∙ found_in_part (images_of ls) (image_of l) x Read (got_start l + at + k) (got_part l) (omega arith)
       (omega (arith, long, inside, below)) 0 (got_index l) (got_index l) (image_of l).parts (omega arith)

@@ -1,5 +1,6 @@
 -- The table is among what the run time reads pairs and descriptors from.
-use Rattle.std.proofs.Common.{◌≡◌, ◌∙◌, ◌+◌, ◌<◌, ◌≤◌, ◌||◌, ℕ, zero, suc, Bool, true, false, List, [], ◌∷◌, Some, length}
+use Rattle.std.proofs.Common.{◌≡◌, ◌∙◌, ◌+◌, ◌<◌, ◌≤◌, ◌||◌, ℕ, zero, suc, Bool, true, false, List, [], ◌∷◌, Some}
+use Rattle.std.proofs.Common.{length}
 use Rattle.std.proofs.Common.{refl, ap, arith, if◌then◌else◌}
 use Rattle.std.specs.Prelude.{slice_get}
 use Rattle.std.specs.List.{list_any}
@@ -31,7 +32,8 @@ or_true false b e = e
 
 module _ (m : JobImages) (image : Spelled) (x : Instance) (address : ℕ) (part : Part) where
   -- a part that is written is among them
-  among : (n number i : ℕ) (parts : List Part) → number ≡ n + i → slice_get parts i ≡ Some part → is_writable part.class ≡ true
+  among : (n number i : ℕ) (parts : List Part) → number ≡ n + i → slice_get parts i ≡ Some part
+      → is_writable part.class ≡ true
       → has_words address (instance_part m image x number part) ≡ true
       → list_any (has_words address) (written_from parts (parts_from m image x n parts)) ≡ true
   among n number i [] e at written has = cc
@@ -44,7 +46,8 @@ module _ (m : JobImages) (image : Spelled) (x : Instance) (address : ℕ) (part 
   among n number (suc i) (p ∷ parts) e at written has =
       of_test (is_writable p.class) (among (suc n) number i parts (omega (arith, e)) at written has)
     where
-      of_test : (t : Bool) → list_any (has_words address) (written_from parts (parts_from m image x (suc n) parts)) ≡ true
+      of_test : (t : Bool) → list_any (has_words address) (written_from parts (parts_from m image x (suc n) parts))
+          ≡ true
           → list_any (has_words address)
           (if t then instance_part m image x n p ∷ written_from parts (parts_from m image x (suc n) parts)
           else written_from parts (parts_from m image x (suc n) parts)) ≡ true
@@ -67,7 +70,8 @@ tables_hold ls l x need at is starts wide =
     let ends : got_start l + at + bias_of l.kind x.number + 16
     ≤ got_start l + bias (image_of l).kind x.number + length (part_bytes m (image_of l) x (got_part l)) =
     omega (arith, moved, kept, long, inside, wide) in
-    ap (λ image. list_any (has_words (got_start l + at + bias_of l.kind x.number)) (option_map_or (λ (own : Spelled). written_from own.parts (parts_from m own x 0 own.parts)) image []))
+    ap (λ image. list_any (has_words (got_start l + at + bias_of l.kind x.number))
+    (option_map_or (λ (own : Spelled). written_from own.parts (parts_from m own x 0 own.parts)) image []))
     (image_is ls l x is.image)
     ∙ among m (image_of l) x (got_start l + at + bias_of l.kind x.number) (got_part l) 0 (got_index l) (got_index l)
     (image_of l).parts (omega arith) part refl

@@ -3,7 +3,8 @@ use Rattle.std.proofs.Common.{◌≡◌, ◌+◌, ◌<◌, ◌≤◌, suc, Bool,
 use Rattle.std.proofs.Common.{if◌then◌else◌}
 use Rattle.std.specs.List.{Contains, find}
 
-pub none_found : {X : Type 0} (p : X → Bool) (xs : List X) → ((x : X) → Contains xs x → p x ≡ true → ⊥) → find p xs ≡ None
+pub none_found : {X : Type 0} (p : X → Bool) (xs : List X) → ((x : X) → Contains xs x → p x ≡ true → ⊥)
+    → find p xs ≡ None
 none_found p [] none = refl
 none_found p (y ∷ ys) none =
     of_test (p y) refl (none_found p ys (λ x has. none x (suc has.0, (let lt = has.1 in omega arith), has.2)))

@@ -68,7 +68,8 @@ shifted c from [] need at e = cc
 shifted c from (k ∷ ks) need at e = of_test (same_need need k) e (shifted c (from + size_of k) ks need at)
   where
     of_test : (t : Bool) → (if t then Some from else start_from (from + size_of k) ks need) ≡ Some at
-        → (start_from (from + size_of k) ks need ≡ Some at → start_from (c + (from + size_of k)) ks need ≡ Some (c + at))
+        → (start_from (from + size_of k) ks need ≡ Some at
+        → start_from (c + (from + size_of k)) ks need ≡ Some (c + at))
         → (if t then Some (c + from) else start_from (c + from + size_of k) ks need) ≡ Some (c + at)
     of_test true e rest = ap (λ n. Some (c + n)) (same_Some from at e)
     of_test false e rest =

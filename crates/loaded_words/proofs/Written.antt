@@ -1,5 +1,6 @@
 -- The words that a loader writes over those of the table.
-use Rattle.std.proofs.Common.{◌≡◌, ◌∙◌, ◌+◌, ◌-◌, ◌^◌, ◌<◌, ◌≤◌, ◌⊎◌, ◌&&◌, ◌==◌, ℕ, false, List, ◌∷◌, Option, Some, None}
+use Rattle.std.proofs.Common.{◌≡◌, ◌∙◌, ◌+◌, ◌-◌, ◌^◌, ◌<◌, ◌≤◌, ◌⊎◌, ◌&&◌, ◌==◌, ℕ, false, List, ◌∷◌, Option, Some}
+use Rattle.std.proofs.Common.{None}
 use Rattle.std.proofs.Common.{inl, inr, refl, ap, arith}
 use Rattle.std.specs.Prelude.{nat_le, nat_lt, unwrap_or}
 use Rattle.std.specs.Int.{w64, cast_signed, cast_unsigned}
@@ -71,11 +72,16 @@ module _ (m : JobImages) (l : Linking) (x : Instance) where
   -- byte i of the words of a relocation that asks for a variable
   abbrev pub words_by : Variable → ImageRelocation → ℕ → ℕ
   words_by v r i =
-      digit_of_two (first_word (image_of l).kind x v.id v.offset v.distance r.kind r.addend) (second_word v.id v.offset) i
+      digit_of_two (first_word (image_of l).kind x v.id v.offset v.distance r.kind r.addend)
+      (second_word v.id v.offset) i
 
   pub own_written : (place : ℕ) (kind : DynamicKind) (addend i : ℕ)
       → written_byte m (image_of l) x (own place kind addend) i
-      ≡ words_by (record { id = x.id; offset = cast_unsigned w64 (cast_signed w64 addend); distance = unwrap_or x.offset 0 })
+      ≡ words_by (record {
+        id = x.id;
+        offset = cast_unsigned w64 (cast_signed w64 addend);
+        distance = unwrap_or x.offset 0;
+      })
       (own place kind addend) i
   unfolding target_of
   own_written place kind addend i = refl
@@ -83,9 +89,11 @@ module _ (m : JobImages) (l : Linking) (x : Instance) where
   abbrev by_export : ImageRelocation → ℕ → Option Export → ℕ
   by_export r i found =
       let t = export_target m found in
-      digit_of_two (first_word (image_of l).kind x t.id t.offset t.distance r.kind r.addend) (second_word t.id t.offset) i
+      digit_of_two (first_word (image_of l).kind x t.id t.offset t.distance r.kind r.addend)
+      (second_word t.id t.offset) i
 
-  same_export : (r : ImageRelocation) (i : ℕ) (found : Option Export) → by_export r i found ≡ words_by (exported m found) r i
+  same_export : (r : ImageRelocation) (i : ℕ) (found : Option Export)
+      → by_export r i found ≡ words_by (exported m found) r i
   same_export r i None = refl
   same_export r i (Some e) = refl
 

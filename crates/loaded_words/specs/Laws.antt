@@ -21,7 +21,7 @@ use Rattle.loaded_modules.specs.declared.instance.Instance.{Instance}
 use Rattle.loaded_modules.specs.Images.{is_late, static_offset}
 use Rattle.job_text.specs.ProgramFirst.{ProgramFirst}
 use Rattle.module_table.specs.declared.events.Event.{Event}
-use Rattle.module_table.specs.History.{IsLegal}
+use Rattle.module_table.specs.Past.{IsLegal}
 use Rattle.module_table.specs.Past.{startup_count}
 use Rattle.sequence_laws.specs.Instructions.{displaced, of_next}
 use Rattle.thread_blocks.specs.JobLoads.{job_loads}

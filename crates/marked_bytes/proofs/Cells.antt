@@ -1,9 +1,11 @@
 -- What a byte is, and what a write leaves of the bytes.
-use Rattle.std.proofs.Common.{◌≡◌, ◌∙◌, ◌+◌, ◌-◌, ◌++◌, ◌<◌, ◌≤◌, ◌≢◌, ◌⊎◌, ℕ, zero, suc, List, [], ◌∷◌, drop, length, map, replicate, take, Option, None, Some, refl, sym, ap, subst, arith, inl, inr}
+use Rattle.std.proofs.Common.{◌≡◌, ◌∙◌, ◌+◌, ◌-◌, ◌++◌, ◌<◌, ◌≤◌, ◌≢◌, ◌⊎◌, ℕ, zero, suc, List, [], ◌∷◌, drop, length}
+use Rattle.std.proofs.Common.{map, replicate, take, Option, None, Some, refl, sym, ap, subst, arith, inl, inr}
 use Rattle.std.specs.Prelude.{slice_get, slice_index_or, slice_set}
 use Rattle.std.proofs.lemmas.Bool.{cases_eq}
 use Rattle.std.proofs.lemmas.Grind.{elements}
-use Rattle.std.proofs.lemmas.List.{get_or-map, get_or-set_same, get_or-set_other, get_or_append_left, length-map, length-set}
+use Rattle.std.proofs.lemmas.List.{get_or-map, get_or-set_same, get_or-set_other, get_or_append_left, length-map}
+use Rattle.std.proofs.lemmas.List.{length-set}
 use Rattle.std.proofs.lemmas.List.FromFn.{fill_by_all, get_or-map-range_with_len, length-map-range_with_len}
 use Rattle.std.proofs.lemmas.Option.{slice_get-get_or}
 use Rattle.job_meaning.specs.declared.values.Byte.{Byte}
@@ -25,7 +27,8 @@ room_left (zero ∷ slots) k h plain = omega (arith, marked_few slots)
 room_left (suc n ∷ slots) zero h plain = absurd (omega (arith, plain))
 room_left (suc n ∷ slots) (suc k) h plain = omega (arith, room_left slots k (omega arith) plain)
 
-one_more : (slots : List ℕ) (k n : ℕ) → k < length slots → slice_index_or slots k 0 ≡ 0 → marked (slice_set slots k (suc n)) ≡ suc (marked slots)
+one_more : (slots : List ℕ) (k n : ℕ) → k < length slots → slice_index_or slots k 0 ≡ 0
+    → marked (slice_set slots k (suc n)) ≡ suc (marked slots)
 one_more [] k n h plain = absurd (omega arith)
 one_more (zero ∷ slots) zero n h plain = refl
 one_more (suc m ∷ slots) zero n h plain = absurd (omega (arith, plain))
@@ -46,7 +49,8 @@ zero_in_zeros zero k = refl
 zero_in_zeros (suc n) zero = refl
 zero_in_zeros (suc n) (suc k) = zero_in_zeros n k
 
-pub zeros_change_none : (slots : List ℕ) (n k : ℕ) → slice_index_or (slots ++ replicate n 0) k 0 ≡ slice_index_or slots k 0
+pub zeros_change_none : (slots : List ℕ) (n k : ℕ)
+    → slice_index_or (slots ++ replicate n 0) k 0 ≡ slice_index_or slots k 0
 zeros_change_none [] n k = zero_in_zeros n k
 zeros_change_none (m ∷ slots) n zero = refl
 zeros_change_none (m ∷ slots) n (suc k) = zeros_change_none slots n k
@@ -56,12 +60,14 @@ zeros_change_none (m ∷ slots) n (suc k) = zeros_change_none slots n k
 module _ (slots : List ℕ) (count : ℕ) (are : AreSlots slots count) where
   pub padded : (n : ℕ) → AreSlots (slots ++ replicate n 0) count
   padded n = record {
-    apart = λ k l number at also. are.apart k l number (sym (zeros_change_none slots n k) ∙ at) (sym (zeros_change_none slots n l) ∙ also);
+    apart = λ k l number at also. are.apart k l number (sym (zeros_change_none slots n k) ∙ at)
+        (sym (zeros_change_none slots n l) ∙ also);
     within = λ k number at. are.within k number (sym (zeros_change_none slots n k) ∙ at);
     each = zeros_add_none slots n ∙ are.each;
   }
 
-  pub added : (k : ℕ) → k < length slots → slice_index_or slots k 0 ≡ 0 → AreSlots (slice_set slots k (suc count)) (suc count)
+  pub added : (k : ℕ) → k < length slots → slice_index_or slots k 0 ≡ 0
+      → AreSlots (slice_set slots k (suc count)) (suc count)
   added i low plain = record {
     apart = λ k l number at also. apart k l number (cases_eq k i) (cases_eq l i) at also;
     within = λ k number at. within k number (cases_eq k i) at;
@@ -104,17 +110,20 @@ unfolding bytes_from
 long values slots marks = length-map-range_with_len (cell values slots marks) 0 (length values)
 
 module _ (values slots : List ℕ) (marks : List Byte) where
-  byte_or : (k : ℕ) (d : Byte) → k < length values → slice_index_or (bytes_from values slots marks) k d ≡ cell values slots marks k
+  byte_or : (k : ℕ) (d : Byte) → k < length values
+      → slice_index_or (bytes_from values slots marks) k d ≡ cell values slots marks k
   unfolding bytes_from
   byte_or k d low = get_or-map-range_with_len (cell values slots marks) 0 (length values) k k d low (omega arith)
 
-  pub byte_is : (k : ℕ) → k < length values → slice_get (bytes_from values slots marks) k ≡ Some (cell values slots marks k)
+  pub byte_is : (k : ℕ) → k < length values
+      → slice_get (bytes_from values slots marks) k ≡ Some (cell values slots marks k)
   byte_is k low =
       slice_get-get_or (bytes_from values slots marks) k Hidden (subst (λ n. k < n) (sym (long values slots marks)) low)
       ∙ ap Some (byte_or k Hidden low)
 
   -- bytes of which one alone differs
-  pub with_one : (values' slots' : List ℕ) (marks' : List Byte) (i : ℕ) (b : Byte) → i < length values → length values' ≡ length values
+  pub with_one : (values' slots' : List ℕ) (marks' : List Byte) (i : ℕ) (b : Byte) → i < length values
+      → length values' ≡ length values
       → cell values' slots' marks' i ≡ b
       → ((k : ℕ) → k < length values → k ≢ i → cell values' slots' marks' k ≡ cell values slots marks k)
       → bytes_from values' slots' marks' ≡ slice_set (bytes_from values slots marks) i b
@@ -123,13 +132,17 @@ module _ (values slots : List ℕ) (marks : List Byte) where
       let old = bytes_from values slots marks in
       let old_len = long values slots marks in
       let set_len = length-set old i b in
-      sym (fill_by_all (cell values' slots' marks') (slice_set old i b) (length values') b (omega (arith, old_len, set_len, count))
+      sym (fill_by_all (cell values' slots' marks') (slice_set old i b) (length values') b
+      (omega (arith, old_len, set_len, count))
       (λ k below. at k (omega (arith, below, count)) (cases_eq k i)))
     where
-      at : (k : ℕ) → k < length values → (k ≡ i) ⊎ (k ≢ i) → slice_index_or (slice_set (bytes_from values slots marks) i b) k b ≡ cell values' slots' marks' k
+      at : (k : ℕ) → k < length values → (k ≡ i) ⊎ (k ≢ i)
+          → slice_index_or (slice_set (bytes_from values slots marks) i b) k b ≡ cell values' slots' marks' k
       at k below (inl e) =
-          subst (λ j. slice_index_or (slice_set (bytes_from values slots marks) i b) j b ≡ cell values' slots' marks' j) (sym e)
-          (get_or-set_same (bytes_from values slots marks) i b b (subst (λ n. i < n) (sym (long values slots marks)) low) ∙ sym here)
+          subst (λ j. slice_index_or (slice_set (bytes_from values slots marks) i b) j b ≡ cell values' slots' marks' j)
+          (sym e)
+          (get_or-set_same (bytes_from values slots marks) i b b
+          (subst (λ n. i < n) (sym (long values slots marks)) low) ∙ sym here)
       at k below (inr e) =
           get_or-set_other (bytes_from values slots marks) i k b b e ∙ byte_or k b below ∙ sym (others k below e)
 
@@ -138,11 +151,14 @@ module _ (values slots : List ℕ) (marks : List Byte) where
       → bytes_from (slice_set values i v) slots marks ≡ slice_set (bytes_from values slots marks) i (Value v)
   value_set i v low plain =
       with_one (slice_set values i v) slots marks i (Value v) low (length-set values i v)
-      (ap (λ n. cell_of n (slice_index_or (slice_set values i v) i 0) marks) plain ∙ ap Value (get_or-set_same values i v 0 low))
-      (λ k below differs. ap (λ n. cell_of (slice_index_or slots k 0) n marks) (get_or-set_other values i k v 0 differs))
+      (ap (λ n. cell_of n (slice_index_or (slice_set values i v) i 0) marks) plain
+      ∙ ap Value (get_or-set_same values i v 0 low))
+      (λ k below differs. ap (λ n. cell_of (slice_index_or slots k 0) n marks)
+      (get_or-set_other values i k v 0 differs))
 
   -- a byte's mark is written
-  pub mark_set : (are : AreSlots slots (length marks)) (i number : ℕ) (b : Byte) → i < length values → slice_index_or slots i 0 ≡ suc number
+  pub mark_set : (are : AreSlots slots (length marks)) (i number : ℕ) (b : Byte) → i < length values
+      → slice_index_or slots i 0 ≡ suc number
       → bytes_from values slots (slice_set marks number b) ≡ slice_set (bytes_from values slots marks) i b
   mark_set are i number b low has =
       with_one values slots (slice_set marks number b) i b low refl
@@ -161,20 +177,25 @@ module _ (values slots : List ℕ) (marks : List Byte) where
           ∙ sym (ap (λ m. cell_of m (slice_index_or values k 0) marks) is)
 
   -- a byte gets a mark
-  pub mark_added : (are : AreSlots slots (length marks)) (i n : ℕ) (b : Byte) → i < length values → i < length (slots ++ replicate n 0)
+  pub mark_added : (are : AreSlots slots (length marks)) (i n : ℕ) (b : Byte) → i < length values
+      → i < length (slots ++ replicate n 0)
       → slice_index_or slots i 0 ≡ 0
-      → bytes_from values (slice_set (slots ++ replicate n 0) i (suc (length marks))) (marks ++ b ∷ []) ≡ slice_set (bytes_from values slots marks) i b
+      → bytes_from values (slice_set (slots ++ replicate n 0) i (suc (length marks))) (marks ++ b ∷ [])
+      ≡ slice_set (bytes_from values slots marks) i b
   mark_added are i n b low wide plain =
       with_one values (slice_set padded_slots i (suc (length marks))) (marks ++ b ∷ []) i b low refl
-      (ap (λ m. cell_of m (slice_index_or values i 0) (marks ++ b ∷ [])) (get_or-set_same padded_slots i (suc (length marks)) 0 wide)
+      (ap (λ m. cell_of m (slice_index_or values i 0) (marks ++ b ∷ []))
+      (get_or-set_same padded_slots i (suc (length marks)) 0 wide)
       ∙ grind (arith, elements))
       (λ k below differs. other k differs (slice_index_or slots k 0) refl)
     where
       padded_slots : List ℕ
       padded_slots = slots ++ replicate n 0
 
-      as_before : (k : ℕ) → k ≢ i → slice_index_or (slice_set padded_slots i (suc (length marks))) k 0 ≡ slice_index_or slots k 0
-      as_before k differs = get_or-set_other padded_slots i k (suc (length marks)) 0 differs ∙ zeros_change_none slots n k
+      as_before : (k : ℕ) → k ≢ i
+          → slice_index_or (slice_set padded_slots i (suc (length marks))) k 0 ≡ slice_index_or slots k 0
+      as_before k differs = get_or-set_other padded_slots i k (suc (length marks)) 0 differs
+          ∙ zeros_change_none slots n k
 
       other : (k : ℕ) → k ≢ i → (m : ℕ) → slice_index_or slots k 0 ≡ m
           → cell values (slice_set padded_slots i (suc (length marks))) (marks ++ b ∷ []) k ≡ cell values slots marks k
@@ -204,12 +225,14 @@ module _ (values slots : List ℕ) (marks bytes : List Byte) (seen : bytes_from 
   pub inside : (k : ℕ) → k < length bytes → k < length values
   inside k low = omega (arith, as_many, low)
 
-  pub plain_byte : (k : ℕ) → k < length bytes → slice_index_or slots k 0 ≡ 0 → slice_get bytes k ≡ Some (Value (slice_index_or values k 0))
+  pub plain_byte : (k : ℕ) → k < length bytes → slice_index_or slots k 0 ≡ 0
+      → slice_get bytes k ≡ Some (Value (slice_index_or values k 0))
   plain_byte k low plain =
       ap (λ xs. slice_get xs k) (sym seen) ∙ byte_is values slots marks k (inside k low)
       ∙ ap (λ n. Some (cell_of n (slice_index_or values k 0) marks)) plain
 
-  pub marked_byte : (k number : ℕ) → k < length bytes → slice_index_or slots k 0 ≡ suc number → slice_get bytes k ≡ Some (slice_index_or marks number Hidden)
+  pub marked_byte : (k number : ℕ) → k < length bytes → slice_index_or slots k 0 ≡ suc number
+      → slice_get bytes k ≡ Some (slice_index_or marks number Hidden)
   marked_byte k number low has =
       ap (λ xs. slice_get xs k) (sym seen) ∙ byte_is values slots marks k (inside k low)
       ∙ ap (λ n. Some (cell_of n (slice_index_or values k 0) marks)) has
@@ -220,7 +243,8 @@ module _ {B : Type 0} where
   pub none_taken : (xs : List B) (n : ℕ) → [] ≡ take (n - n) xs
   none_taken xs n = let none : 0 ≡ n - n = omega arith in ap (λ m. take m xs) none
 
-  one_more_taken : (xs : List B) (start n : ℕ) (b : B) → slice_get xs (start + n) ≡ Some b → take n (drop start xs) ++ b ∷ [] ≡ take (n + 1) (drop start xs)
+  one_more_taken : (xs : List B) (start n : ℕ) (b : B) → slice_get xs (start + n) ≡ Some b
+      → take n (drop start xs) ++ b ∷ [] ≡ take (n + 1) (drop start xs)
   one_more_taken [] start n b is = absurd (nothing is)
     where
       nothing : ◌≡◌ {A = Option B} None (Some b) → ⊥

@@ -1,5 +1,6 @@
 -- An address field that is an instruction's displacement, and what is read through it.
-use Rattle.std.proofs.Common.{◌≡◌, ℕ, ◌-◌, ◌≤◌, ◌⊎◌, inl, inr, Bool, true, false, List, take, drop, Option, Some, None, refl, sym, ap, subst, ◌∙◌, arith}
+use Rattle.std.proofs.Common.{◌≡◌, ℕ, ◌-◌, ◌≤◌, ◌⊎◌, inl, inr, Bool, true, false, List, take, drop, Option, Some, None}
+use Rattle.std.proofs.Common.{refl, sym, ap, subst, ◌∙◌, arith}
 use Rattle.std.specs.Prelude.{not, ◌&&◌, ◌==◌, ℤ}
 use Rattle.std.proofs.lemmas.Bool.{eqb-true}
 use Rattle.amd64_subset.specs.declared.operand.Memory.{Memory}
@@ -68,7 +69,8 @@ module _ (mark : ℕ → Mark) (here : ℕ) where
               subst (λ (j : ℕ). (j == 0) ≡ false) zeroth f in absurd cc))
 
   -- no offset field begins there
-  pub no-offset : (o : Option ℕ) (at number : ℕ) (addend : ℤ) → o ≡ Some at → mark (plus here at) ≡ Address number addend 0
+  pub no-offset : (o : Option ℕ) (at number : ℕ) (addend : ℤ) → o ≡ Some at
+      → mark (plus here at) ≡ Address number addend 0
       → field_at (λ place. starts_offset (mark place)) here o ≡ None
   no-offset None at number addend is marked = refl
   no-offset (Some j) at number addend is marked =

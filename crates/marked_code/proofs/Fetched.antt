@@ -74,7 +74,8 @@ module _ {M M' B B' : Type 0} (mark : ℕ → Mark) (acc : Accesses M B) (acc' :
   behind n place same k low = same (suc k) (omega (arith, low))
 
   -- as many bytes are fetched
-  pub code-as_long : (n place : ℕ) → SameFetched place n → length (code_at acc m place n) ≡ length (code_at acc' m' place n)
+  pub code-as_long : (n place : ℕ) → SameFetched place n
+      → length (code_at acc m place n) ≡ length (code_at acc' m' place n)
   code-as_long zero place same = refl
   code-as_long (suc n) place same =
       as_long (mark place) _ _ _ _ (same 0 (omega arith)) (code-as_long n (next_place place) (behind n place same))

@@ -1,5 +1,6 @@
 -- Fields in code: where one begins, in an instruction or at a place, and which bytes of an instruction it has.
-use Rattle.std.proofs.Common.{◌≡◌, ℕ, zero, suc, ◌-◌, ◌<◌, ◌≤◌, ◌⊎◌, Bool, true, false, ◌==◌, Option, Some, None, refl, sym, subst, arith}
+use Rattle.std.proofs.Common.{◌≡◌, ℕ, zero, suc, ◌-◌, ◌<◌, ◌≤◌, ◌⊎◌, Bool, true, false, ◌==◌, Option, Some, None, refl}
+use Rattle.std.proofs.Common.{sym, subst, arith}
 use Rattle.std.specs.Prelude.{if◌then◌else◌, ℤ, IfSome}
 use Rattle.std.proofs.lemmas.Bool.{eqb-true}
 use Rattle.amd64_subset.specs.declared.instr.Decoded.{Decoded}
@@ -40,7 +41,8 @@ module _ (mark : ℕ → Mark) (here : ℕ) where
   pub field_in-is : (starts : Mark → Bool) (o : Option ℕ) → IsIn (field_in starts o) o
   field_in-is starts None = tt
   field_in-is starts (Some k) =
-      (elim (starts (mark (plus here k))) as (λ b. IsIn (if b then Some k else None) (Some k)) [ true ↦ refl | false ↦ tt ])
+      (elim (starts (mark (plus here k))) as (λ b. IsIn (if b then Some k else None) (Some k))
+      [ true ↦ refl | false ↦ tt ])
 
   pub field_in-at : (starts : Mark → Bool) (o : Option ℕ) (len at : ℕ) → IfSome o (HasField len) → is_at o at ≡ true
       → starts (mark (place_at here at)) ≡ true → field_in starts o ≡ Some at
@@ -58,7 +60,8 @@ module _ (mark : ℕ → Mark) (here : ℕ) where
     pub small : (k : ℕ) → k < 15 → IsSmall (mark (place_at here k))
     pub offset : (k number byte : ℕ) → k < 15 → mark (place_at here k) ≡ Offset number byte → byte ≤ k
         → mark (place_at here (k - byte)) ≡ Offset number 0
-    pub address : (k number byte : ℕ) (addend : ℤ) → k < 15 → mark (place_at here k) ≡ Address number addend byte → byte ≤ k
+    pub address : (k number byte : ℕ) (addend : ℤ) → k < 15 → mark (place_at here k) ≡ Address number addend byte
+        → byte ≤ k
         → mark (place_at here (k - byte)) ≡ Address number addend 0
 
   -- byte k of an instruction is one of a field

@@ -1,12 +1,15 @@
 -- A word that is lent at address 0: the load of it, and what else an instruction that reads it touches.
-use Rattle.std.proofs.Common.{◌≡◌, ℕ, zero, suc, ◌+◌, ◌-◌, ◌%◌, ◌^◌, ◌<◌, Bool, true, false, List, [], ◌∷◌, ◌++◌, Option, Some, None, Ok, refl, sym, ap, subst, ◌∙◌, arith}
+use Rattle.std.proofs.Common.{◌≡◌, ℕ, zero, suc, ◌+◌, ◌-◌, ◌%◌, ◌^◌, ◌<◌, Bool, true, false, List, [], ◌∷◌, ◌++◌}
+use Rattle.std.proofs.Common.{Option, Some, None, Ok, refl, sym, ap, subst, ◌∙◌, arith}
 use Rattle.std.specs.Prelude.{if◌then◌else◌, nat_lt, not, ◌&&◌}
 use Rattle.std.specs.List.{list_any}
 use Rattle.std.proofs.lemmas.Bool.{lt-ltb, or_parts}
 use Rattle.std.proofs.lemmas.List.Folds.{list_any-append}
 use Rattle.amd64_subset.specs.declared.instr.Arithmetic.TheVariants.{Add, Or, And, Sub, Xor, Compare}
 use Rattle.amd64_subset.specs.declared.instr.Operation.{Operation}
-use Rattle.amd64_subset.specs.declared.instr.Operation.TheVariants.{Move, StoreByte, ExtendByte, ExtendLong, LoadAddress, Compute, Test, Multiply, Shift, Push, Pop, Leave, Call, Jump}
+use Rattle.amd64_subset.specs.declared.instr.Operation.TheVariants.{Move, StoreByte, ExtendByte, ExtendLong}
+use Rattle.amd64_subset.specs.declared.instr.Operation.TheVariants.{LoadAddress, Compute, Test, Multiply, Shift, Push}
+use Rattle.amd64_subset.specs.declared.instr.Operation.TheVariants.{Pop, Leave, Call, Jump}
 use Rattle.amd64_subset.specs.declared.instr.Operation.TheVariants.{JumpIf, Return, Nop, Undefined}
 use Rattle.amd64_subset.specs.declared.instr.Target.TheVariants.{Relative, Indirect}
 use Rattle.amd64_subset.specs.declared.instr.Width.TheVariants.{Long as LongWidth, Quad as QuadWidth}
@@ -23,7 +26,8 @@ use Rattle.guest_operands.specs.declared.frame.Frame.{Frame}
 use Rattle.guest_operands.specs.declared.space.Size.TheVariants.{Quad}
 use Rattle.guest_operands.specs.declared.state.Registers.{Registers}
 use Rattle.guest_operands.specs.declared.state.State.{State}
-use Rattle.guest_operands.specs.Access.{Accesses, next_place, both_reached, reached, bytes_in, bytes_from, bytes_at, all_write, put_all, load_of, store_of}
+use Rattle.guest_operands.specs.Access.{Accesses, next_place, both_reached, reached, bytes_in, bytes_from, bytes_at}
+use Rattle.guest_operands.specs.Access.{all_write, put_all, load_of, store_of}
 use Rattle.guest_operands.specs.Closed.{closed, unless_shut}
 use Rattle.guest_operands.specs.Operand.{charged, base_of, index_of, address_of}
 use Rattle.guest_operands.specs.Use.{plus}
@@ -31,7 +35,8 @@ use Rattle.guest_machine.specs.declared.touch.Direction.TheVariants.{Load}
 use Rattle.guest_machine.specs.declared.touch.Touch.{Touch}
 use Rattle.guest_machine.specs.declared.touch.Touches.{Touches}
 use Rattle.guest_machine.specs.Step.{act}
-use Rattle.guest_machine.specs.Touch.{paired, push_touch, places_from, refuses, touch_at, touched, touched_then, touches_of}
+use Rattle.guest_machine.specs.Touch.{paired, push_touch, places_from, refuses, touch_at, touched, touched_then}
+use Rattle.guest_machine.specs.Touch.{touches_of}
 use Rattle.guest_machine.proofs.Touching.{Free, act-open}
 use Rattle.whole_meaning.specs.Fields.{is_from_next, lent_at, lent_frame, operand_in, read_in, without_operand}
 
@@ -93,7 +98,8 @@ module _ {W F B : Type 0} (ops : Operations W F B) where
   address-with f s t Absolute i n e g = absurd cc
   address-with f s t (OfRegister name) i n e g = absurd cc
   address-with f s true NextInstruction i n e g = absurd cc
-  address-with f s false NextInstruction i n e g = next-parts f.displacement_field f.displacement f.next s.registers i n g
+  address-with f s false NextInstruction i n e g =
+      next-parts f.displacement_field f.displacement f.next s.registers i n g
 
   pub next-address : (f : Frame) (s : State W F) (memory : Memory) (a : ℕ) → f.displacement_field ≡ None
       → (is_from_next memory.base && not memory.from_thread_pointer) ≡ true
@@ -209,11 +215,13 @@ module _ {W F B M : Type 0} (ops : Operations W F B) (acc : Accesses M B) (shut 
   unfolding touched
   lent-free second e =
       let more = touched_then (lent_at ops acc number) m second [] in
-      both-none (places_from 0 8) (if refuses (lent_at ops acc number) m Load 0 8 then [] else more) (places-low 8 0 refl)
+      both-none (places_from 0 8) (if refuses (lent_at ops acc number) m Load 0 8 then [] else more)
+      (places-low 8 0 refl)
       (none-in (refuses (lent_at ops acc number) m Load 0 8) more (last-free second e))
 
   -- the law: an instruction that reads the word that is lent does the same where the linker's places are closed
-  pub lent_open : (f : Frame) (s : State W F) (operation : Operation) (memory : Memory) → read_in operation ≡ Some memory
+  pub lent_open : (f : Frame) (s : State W F) (operation : Operation) (memory : Memory)
+      → read_in operation ≡ Some memory
       → address_of ops (lent_frame (Some number) f) s memory ≡ Ok 0
       → Free acc shut m (without_operand (Some number) (touches_of ops f s operation))
       → act ops (closed shut (lent_at ops acc number)) (lent_frame (Some number) f) operation s m

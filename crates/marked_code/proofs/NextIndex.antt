@@ -1,5 +1,6 @@
 -- An operand that is read relative to the next instruction has no index.
-use Rattle.std.proofs.Common.{◌≡◌, ℕ, Bool, true, false, List, length, take, Option, Some, None, refl, sym, ap, subst, ◌∙◌}
+use Rattle.std.proofs.Common.{◌≡◌, ℕ, Bool, true, false, List, length, take, Option, Some, None, refl, sym, ap, subst}
+use Rattle.std.proofs.Common.{◌∙◌}
 use Rattle.std.specs.Prelude.{◌/◌, ◌%◌, ◌==◌, ◌&&◌, if◌then◌else◌}
 use Rattle.amd64_words.specs.declared.register.Register.{Register}
 use Rattle.amd64_words.specs.declared.size.Size.{Size}
@@ -54,7 +55,8 @@ no-index prefixes modrm (Some sib) e =
 -- ** what an action reads is its operand
 
 only-read : (action : Action) (width : Width) (r : Register) (rm : Operand) (m memory : Memory) (count : ℕ)
-    → ((x : Memory) → operand_in rm ≡ Some x → x ≡ m) → read_in (does action width r rm m count) ≡ Some memory → memory ≡ m
+    → ((x : Memory) → operand_in rm ≡ Some x → x ≡ m) → read_in (does action width r rm m count) ≡ Some memory
+    → memory ≡ m
 unfolding read_in
 only-read StoreByte width r rm m memory count h e = absurd cc
 only-read Store Long r (InRegister to) m memory count h e = absurd cc
@@ -113,7 +115,8 @@ only-read (ComputeFrom kind) width r rm m memory count h e = from_operand kind w
     from_operand kind Quad e = h memory e
 only-read (ComputeImmediate kind) width r rm m memory count h e = with_number kind width e
   where
-    with_number : (kind : Arithmetic) (width : Width) → read_in (operation.Compute kind width (Immediate rm)) ≡ Some memory
+    with_number : (kind : Arithmetic) (width : Width)
+        → read_in (operation.Compute kind width (Immediate rm)) ≡ Some memory
         → memory ≡ m
     with_number Add Long e = absurd cc
     with_number Add Quad e = absurd cc
@@ -197,7 +200,8 @@ had len None k e = absurd cc
 had len (Some back) k e = (back, refl)
 
 -- the law: an operand with a displacement of four bytes that is relative to the next instruction has no index
-pub next_has_no_index : (bytes : List ℕ) (d : Decoded) (k : ℕ) (memory : Memory) → decoded bytes ≡ Some d → d.disp ≡ Some k
+pub next_has_no_index : (bytes : List ℕ) (d : Decoded) (k : ℕ) (memory : Memory) → decoded bytes ≡ Some d
+    → d.disp ≡ Some k
     → read_in d.instr.operation ≡ Some memory → is_from_next memory.base ≡ true → memory.index ≡ None
 next_has_no_index bytes d k memory e at read from =
     let spells = (decoded_found bytes d e).spells in

@@ -1,5 +1,6 @@
 -- A step where the meaning has no code: there the machine has none.
-use Rattle.std.proofs.Common.{◌≡◌, ℕ, Bool, true, false, List, [], length, take, Option, Some, None, Err, refl, sym, ap, subst, ◌∙◌, arith}
+use Rattle.std.proofs.Common.{◌≡◌, ℕ, Bool, true, false, List, [], length, take, Option, Some, None, Err, refl, sym, ap}
+use Rattle.std.proofs.Common.{subst, ◌∙◌, arith}
 use Rattle.std.specs.Prelude.{if◌then◌else◌}
 use Rattle.amd64_subset.specs.declared.instr.Decoded.{Decoded}
 use Rattle.amd64_subset.specs.Beginning.{begins_of}
@@ -41,7 +42,8 @@ module _ {W F B W' F' B' : Type 0} (same : Alike W F B W' F' B') (ops : Operatio
 
   nothing-hinders : (xs : List ℕ) → xs ≡ [] → mark s.place ≡ Usual → hindrance ops mark s xs ≡ None
   unfolding hindrance
-  nothing-hinders xs e usual_there = rw e (no-hindrance (begins_of (take 0 [])) (completed []) (mark s.place) usual_there)
+  nothing-hinders xs e usual_there =
+      rw e (no-hindrance (begins_of (take 0 [])) (completed []) (mark s.place) usual_there)
 
   nothing-read : (xs : List ℕ) → xs ≡ [] → (o : Option Decoded) → decoded xs ≡ o → decoded xs ≡ None
   nothing-read xs e None f = f

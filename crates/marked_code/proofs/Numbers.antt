@@ -35,7 +35,8 @@ module _ {W F B W' F' B' : Type 0} (same : Alike W F B W' F' B') (plain : (n : �
   field-with (Offset number byte) place k n ys h never =
       field-if (byte == 0) place k number n ys (λ e. h number (ap (λ (j : ℕ). Offset number j) (eqb-true byte 0 e)))
   field-with (Address number addend byte) place k n ys h never =
-      field-none (byte == 0) k n ys (λ e. never number addend (ap (λ (j : ℕ). Address number addend j) (eqb-true byte 0 e)))
+      field-none (byte == 0) k n ys
+      (λ e. never number addend (ap (λ (j : ℕ). Address number addend j) (eqb-true byte 0 e)))
 
   -- an immediate: so too, and no address field is one
   pub number-with : (μ : Mark) (place k n : ℕ) (ys : List ℕ)

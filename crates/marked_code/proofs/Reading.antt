@@ -1,6 +1,7 @@
 -- What the machine reads where the meaning reads an instruction with fields in it: the same, with its own numbers in
 -- them.
-use Rattle.std.proofs.Common.{◌≡◌, ℕ, zero, suc, ◌+◌, ◌-◌, ◌<◌, ◌≤◌, ◌⊎◌, inl, inr, Bool, true, false, ◌&&◌, List, ◌++◌, length, take, drop, Option, Some, None, refl, sym, ap, subst, ◌∙◌, append_assoc, arith}
+use Rattle.std.proofs.Common.{◌≡◌, ℕ, zero, suc, ◌+◌, ◌-◌, ◌<◌, ◌≤◌, ◌⊎◌, inl, inr, Bool, true, false, ◌&&◌, List, ◌++◌}
+use Rattle.std.proofs.Common.{length, take, drop, Option, Some, None, refl, sym, ap, subst, ◌∙◌, append_assoc, arith}
 use Rattle.std.specs.Prelude.{if◌then◌else◌, nat_le, replicate, ℤ, IfSome}
 use Rattle.std.specs.List.{slice_get}
 use Rattle.std.specs.Option.{option_or}
@@ -19,12 +20,15 @@ use Rattle.guest_operands.specs.declared.state.State.{State}
 use Rattle.guest_machine.specs.Use.{plus}
 use Rattle.job_meaning.specs.Reading.{completed, is_at, place_at}
 use Rattle.job_meaning.proofs.Lists.{same-take, get-tails, get-front, first_false}
-use Rattle.job_meaning.proofs.Reading.{placed_of, length_of, field_place, front-begins, spelled-more, spelled-less, picked, with_numbers, Agrees, exchanged}
+use Rattle.job_meaning.proofs.Reading.{placed_of, length_of, field_place, front-begins, spelled-more, spelled-less}
+use Rattle.job_meaning.proofs.Reading.{picked, with_numbers, Agrees, exchanged}
 use Rattle.whole_meaning.specs.declared.marks.Mark.{Mark}
 use Rattle.whole_meaning.specs.declared.marks.Mark.TheVariants.{Usual, Offset, Address, Inside}
-use Rattle.whole_meaning.specs.Fields.{adds_to_base, has_address, is_minus, memory_in, read_in, reads_next, starts_offset, takes_address, takes_offset}
+use Rattle.whole_meaning.specs.Fields.{adds_to_base, has_address, is_minus, memory_in, read_in, reads_next}
+use Rattle.whole_meaning.specs.Fields.{starts_offset, takes_address, takes_offset}
 use Rattle.whole_meaning.specs.Reading.{first_hindrance, hindered, hindrance_of}
-use Rattle.marked_code.proofs.Fields.{AreFields, Covered, InFields, IsSmall, field_in, field_in-at, field_in-is, place-behind, starts_field}
+use Rattle.marked_code.proofs.Fields.{AreFields, Covered, InFields, IsSmall, field_in, field_in-at, field_in-is}
+use Rattle.marked_code.proofs.Fields.{place-behind, starts_field}
 
 abbrev zeros : List ℕ
 zeros = replicate 15 0
@@ -63,7 +67,8 @@ module _ {W F B : Type 0} (ops : Operations W F B) (mark : ℕ → Mark) (state 
       → mark (place_at state.place k) ≡ Offset number byte → takes_offset ops mark state (k - byte) d ≡ true
       → InFields mark state.place d k
   covered_offset fields d placed k number byte within small low is takes =
-      let first : mark (place_at state.place (k - byte)) ≡ Offset number 0 = fields.offset k number byte within is low in
+      let first : mark (place_at state.place (k - byte)) ≡ Offset number 0 =
+      fields.offset k number byte within is low in
       (elim (or_cases (is_at d.disp (k - byte) && has_address ops mark state d (memory_in d.instr.operation))
       (is_at d.imm (k - byte) && adds_to_base ops mark state d (k - byte) d.instr.operation) takes)
       as (λ c. InFields mark state.place d k) [
@@ -71,7 +76,8 @@ module _ {W F B : Type 0} (ops : Operations W F B) (mark : ℕ → Mark) (state 
           k - byte,
           (
             field_in-at mark state.place starts_field d.disp d.len (k - byte) placed.disp
-                (and_parts (is_at d.disp (k - byte)) (has_address ops mark state d (memory_in d.instr.operation)) disp).0
+                (and_parts (is_at d.disp (k - byte))
+                (has_address ops mark state d (memory_in d.instr.operation)) disp).0
                 (rw first refl),
             omega arith,
             omega arith,
@@ -135,7 +141,8 @@ module _ {W F B : Type 0} (ops : Operations W F B) (mark : ℕ → Mark) (state 
   -- ** two lists of code
 
   module _ (fields : AreFields mark state.place) (bytes bytes' : List ℕ) (few : length bytes ≤ 15)
-      (usual : (k : ℕ) → k < length bytes → mark (place_at state.place k) ≡ Usual → slice_get bytes k ≡ slice_get bytes' k)
+      (usual : (k : ℕ) → k < length bytes → mark (place_at state.place k) ≡ Usual
+      → slice_get bytes k ≡ slice_get bytes' k)
       (equal : length bytes ≡ length bytes')
       (free : (k : ℕ) → k ≤ length bytes → hindered ops mark state bytes k ≡ None) where
     placed-if : (o : Option Decoded) → completed bytes ≡ o → IfSome o IsPlaced
@@ -176,7 +183,8 @@ module _ {W F B : Type 0} (ops : Operations W F B) (mark : ℕ → Mark) (state 
         let more : completed bytes ≡ Some d = spelled-more bytes zeros d e in
         exchanged (field_in mark state.place starts_field d.disp)
         (field_in mark state.place starts_offset d.imm) bytes bytes' d e
-        (field_in-is mark state.place starts_field d.disp) (field_in-is mark state.place starts_offset d.imm) (omega arith)
+        (field_in-is mark state.place starts_field d.disp) (field_in-is mark state.place starts_offset d.imm)
+        (omega arith)
         (λ i low. agrees i (omega arith) d more (at_begun i (omega arith) (front-begins bytes d i e low)))
       where
         agrees : (i : ℕ) → i < length bytes → (d : Decoded) → completed bytes ≡ Some d
@@ -204,14 +212,16 @@ module _ {W F B : Type 0} (ops : Operations W F B) (mark : ℕ → Mark) (state 
         subst (λ (l : List ℕ). decoded l ≡ None) cut (none_lem (take k bytes) (drop k bytes ++ zeros) front fails) in
         let same : take k bytes ≡ take k bytes' = same-take k bytes bytes' low (omega arith)
         (λ i i-low. usual i (omega arith) (not_covered i never (at_begun i (omega arith) (before i i-low)))) in
-        let other : decoded (take k bytes ++ drop k bytes') ≡ None = none_lem (take k bytes) (drop k bytes') front fails in
+        let other : decoded (take k bytes ++ drop k bytes') ≡ None =
+        none_lem (take k bytes) (drop k bytes') front fails in
         subst (λ (l : List ℕ). decoded l ≡ None)
         (ap (λ (l : List ℕ). l ++ drop k bytes') same ∙ take-append-drop k bytes') other
       where
         no_front : (o : Option Decoded) → decoded (take k bytes) ≡ o → decoded (take k bytes) ≡ None
         no_front None e = e
         no_front (Some d) e =
-            let whole : decoded (take k bytes ++ drop k bytes) ≡ Some d = spelled-more (take k bytes) (drop k bytes) d e in
+            let whole : decoded (take k bytes ++ drop k bytes) ≡ Some d =
+            spelled-more (take k bytes) (drop k bytes) d e in
             let again : decoded bytes ≡ Some d =
             subst (λ (l : List ℕ). decoded l ≡ Some d) (take-append-drop k bytes) whole in
             absurd (cc)
@@ -234,7 +244,8 @@ module _ {W F B : Type 0} (ops : Operations W F B) (mark : ℕ → Mark) (state 
         length-append bytes zeros ∙ (ap (λ (n : ℕ). n + length zeros) equal ∙ sym (length-append bytes' zeros)) in
         let read = exchanged (field_in mark state.place starts_field d.disp)
         (field_in mark state.place starts_offset d.imm) (bytes ++ zeros) (bytes' ++ zeros) d more
-        (field_in-is mark state.place starts_field d.disp) (field_in-is mark state.place starts_offset d.imm) (omega arith)
+        (field_in-is mark state.place starts_field d.disp) (field_in-is mark state.place starts_offset d.imm)
+        (omega arith)
         (λ i low. agrees i d more (cases_lt i (length bytes))) in
         not_read _ read long (decoded bytes') refl
       where

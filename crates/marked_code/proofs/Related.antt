@@ -12,13 +12,15 @@ module _ {M M' : Type 0} (Same : M → M' → Type 0) where
   pub marked_step_follows : StepsFollow Same
   unfolding alike
   marked_step_follows g acc acc' shut mark kept s s' m m' h k low code =
-      marked_follows (alike g) ops plain_operations (values_follow g) acc acc' Same shut kept (λ n. (refl, refl)) (mark m)
+      marked_follows (alike g) ops plain_operations (values_follow g) acc acc' Same shut kept (λ n. (refl, refl))
+      (mark m)
       s s' m m' h k code low
 
   pub read_alike : ReadsAlike Same
   unfolding alike
   read_alike g acc acc' f f' next immediate s s' h m m' k stores operand a a' at at' reads operation e =
-      read_follows (alike g) ops plain_operations (values_follow g) acc acc' Same f f' next immediate s s' h m m' k stores
+      read_follows (alike g) ops plain_operations
+      (values_follow g) acc acc' Same f f' next immediate s s' h m m' k stores
       operand a a' at at' reads operation e
 
 pub steps_follow : MarkedStepsFollow

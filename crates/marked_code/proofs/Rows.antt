@@ -6,7 +6,9 @@ use Rattle.amd64_subset.specs.declared.instr.Arithmetic.{Arithmetic}
 use Rattle.amd64_subset.specs.declared.instr.Arithmetic.TheVariants.{Add, Or, And, Sub, Xor, Compare}
 use Rattle.amd64_subset.specs.declared.instr.Target.TheVariants.{Relative, Indirect}
 use Rattle.amd64_subset.specs.declared.instr.Operation.{Operation}
-use Rattle.amd64_subset.specs.declared.instr.Operation.TheVariants.{Move, StoreByte, ExtendByte, ExtendLong, LoadAddress, Compute, Test, Multiply, Shift as ShiftBy, Push, Pop, Leave, Call, Jump}
+use Rattle.amd64_subset.specs.declared.instr.Operation.TheVariants.{Move, StoreByte, ExtendByte, ExtendLong}
+use Rattle.amd64_subset.specs.declared.instr.Operation.TheVariants.{LoadAddress, Compute, Test, Multiply}
+use Rattle.amd64_subset.specs.declared.instr.Operation.TheVariants.{Shift as ShiftBy, Push, Pop, Leave, Call, Jump}
 use Rattle.amd64_subset.specs.declared.instr.Operation.TheVariants.{JumpIf, Return, Nop, Undefined}
 use Rattle.amd64_subset.specs.declared.operand.Memory.{Memory}
 use Rattle.amd64_subset.specs.declared.operand.Operand.{Operand}
@@ -27,9 +29,12 @@ use Rattle.guest_operands.specs.Operand.{address_of, number_at, carried, weighed
 use Rattle.guest_operands.specs.State.{register_of}
 use Rattle.guest_operands.specs.Use.{◌>>=◌, plus, After, left}
 use Rattle.guest_machine.specs.Follow.{Uses, Reaches, Follows, Alike, IsFollowed, SameState, SameAfter}
-use Rattle.guest_machine.specs.Step.{immediate_of, is_cleared, settled, finished, concluded, move_in, move_of, compute_in, compute_plain, compute_number, compute_of, test_of, multiply_of, pushed, call_of, jump_of, act}
+use Rattle.guest_machine.specs.Step.{immediate_of, is_cleared, settled, finished, concluded, move_in, move_of}
+use Rattle.guest_machine.specs.Step.{compute_in, compute_plain, compute_number, compute_of, test_of, multiply_of}
+use Rattle.guest_machine.specs.Step.{pushed, call_of, jump_of, act}
 use Rattle.guest_machine.proofs.FollowRows.{settled-same}
-use Rattle.guest_machine.proofs.Follow.{follows-then, follows-clean, follows-there, uses-same, uses-both, same_register, same_word, same_stack, same_place, number_at-uses, unmoved-uses}
+use Rattle.guest_machine.proofs.Follow.{follows-then, follows-clean, follows-there, uses-same, uses-both, same_register}
+use Rattle.guest_machine.proofs.Follow.{same_word, same_stack, same_place, number_at-uses, unmoved-uses}
 use Rattle.whole_meaning.specs.Fields.{operand_in, read_in}
 
 module _ {W F B W' F' B' : Type 0} (same : Alike W F B W' F' B') (ops : Operations W F B) (ops' : Operations W' F' B')
@@ -52,7 +57,8 @@ module _ {W F B W' F' B' : Type 0} (same : Alike W F B W' F' B') (ops : Operatio
         (uses-both (λ a b. a ≡ b) (λ a b. a ≡ b) _ _ _ _ (number_at-uses same ops ops' followed Quad w w' h) k)
     weighed-follows here here' e (Ok w) (Err why) h other other' k = absurd h
     weighed-follows here here' e (Err Refused) (Ok w') h other other' k = absurd h
-    weighed-follows here here' e (Err Refused) (Err Refused) h (Ok x) (Ok y) k = ap (λ place. Err (Address place)) (sym e)
+    weighed-follows here here' e (Err Refused) (Err Refused) h (Ok x) (Ok y) k =
+        ap (λ place. Err (Address place)) (sym e)
     weighed-follows here here' e (Err Refused) (Err Refused) h (Ok x) (Err cause) k = absurd k
     weighed-follows here here' e (Err Refused) (Err Refused) h (Err cause) other' k = tt
     weighed-follows here here' e (Err Refused) (Err Shut) h other other' k = absurd h
@@ -65,7 +71,8 @@ module _ {W F B W' F' B' : Type 0} (same : Alike W F B W' F' B') (ops : Operatio
 
       dropped : (changes changes' : Changes) → changes ≡ changes'
           → Then (left (settled ops changes f s) m) (left (settled ops' changes' f' s') m')
-      dropped changes changes' e = rw (← e) (record { state = settled-same same ops ops' followed changes f f' s s' next h; memory = k })
+      dropped changes changes' e =
+          rw (← e) (record { state = settled-same same ops ops' followed changes f f' s s' next h; memory = k })
 
       finished-same : (to : Register) (effect effect' : Effect) → effect ≡ effect'
           → Follows Then (finished ops acc Quad (OfSlot to) effect f s m)
@@ -82,7 +89,8 @@ module _ {W F B W' F' B' : Type 0} (same : Alike W F B W' F' B') (ops : Operatio
           → Follows Then (concluded ops acc arithmetic Quad (OfSlot to) effect f s m)
           (concluded ops' acc' arithmetic Quad (OfSlot to) effect' f' s' m')
       unfolding concluded
-      concluded-same Compare to effect effect' e = dropped effect.changes effect'.changes (ap (λ (x : Effect). x.changes) e)
+      concluded-same Compare to effect effect' e =
+          dropped effect.changes effect'.changes (ap (λ (x : Effect). x.changes) e)
       concluded-same Add to effect effect' e = finished-same to effect effect' e
       concluded-same Or to effect effect' e = finished-same to effect effect' e
       concluded-same And to effect effect' e = finished-same to effect effect' e
@@ -93,7 +101,8 @@ module _ {W F B W' F' B' : Type 0} (same : Alike W F B W' F' B') (ops : Operatio
 
       module _ (stores : (place : ℕ) (w : W) (w' : W') → same.word w w'
           → Reaches Same (store_of ops acc m place 8 w) (store_of ops' acc' m' place 8 w'))
-          (memory : Memory) (a a' : ℕ) (at : address_of ops f s memory ≡ Ok a) (at' : address_of ops' f' s' memory ≡ Ok a')
+          (memory : Memory) (a a' : ℕ) (at : address_of ops f s memory ≡ Ok a)
+          (at' : address_of ops' f' s' memory ≡ Ok a')
           (reads : Reaches same.word (load_of ops acc m a 8) (load_of ops' acc' m' a' 8)) where
         carried-read : Follows same.word (carried ops acc Quad f s m (InMemory memory))
             (carried ops' acc' Quad f' s' m' (InMemory memory))
@@ -124,7 +133,8 @@ module _ {W F B W' F' B' : Type 0} (same : Alike W F B W' F' B') (ops : Operatio
             (number_at ops Quad (register_of s.registers name)))
             (taken ops' acc' Quad f' s' m' (InMemory memory) (number_at ops' Quad (register_of s'.registers name)))
         taken-beside name = taken-read _ _
-            (number_at-uses same ops ops' followed Quad _ _ (same_register same s.registers s'.registers h.registers name))
+            (number_at-uses same ops ops' followed Quad _ _
+            (same_register same s.registers s'.registers h.registers name))
 
         effects : (arithmetic : Arithmetic) (a b c d : ℕ) → a ≡ b → c ≡ d
             → compute_effect arithmetic Quad a c ≡ compute_effect arithmetic Quad b d
@@ -176,7 +186,8 @@ module _ {W F B W' F' B' : Type 0} (same : Alike W F B W' F' B') (ops : Operatio
             (test_of ops' acc' Quad f' s' m' (InMemory memory) right)
         unfolding test_of
         tested right = follows-then TakenAlike Then _ _ _ _ (taken-beside right)
-            (λ p q x. dropped _ _ (ap (λ (t : Effect). t.changes) (effects And p.number q.number p.other q.other x.0 x.1)))
+            (λ p q x. dropped _ _ (ap (λ (t : Effect). t.changes)
+            (effects And p.number q.number p.other q.other x.0 x.1)))
 
         multiplied : (to : Register) → Follows Then (multiply_of ops acc Quad f s m to (InMemory memory))
             (multiply_of ops' acc' Quad f' s' m' to (InMemory memory))
@@ -194,12 +205,16 @@ module _ {W F B W' F' B' : Type 0} (same : Alike W F B W' F' B') (ops : Operatio
         next_word = subst (λ place. same.word (ops.word f.next) (ops'.word place)) next (followed.word f.next)
 
         pushed-next : (stack stack' : ℕ) → stack ≡ stack'
-            → Follows Then (pushed ops acc stack (ops.word f.next) s m) (pushed ops' acc' stack' (ops'.word f'.next) s' m')
+            → Follows Then (pushed ops acc stack (ops.word f.next) s m)
+            (pushed ops' acc' stack' (ops'.word f'.next) s' m')
         unfolding pushed
         pushed-next stack stack' e = rw (← e)
             (follows-then Same Then _ _ _ _
             (follows-there Same s.place s'.place _ _ h.place (stores (plus stack (2 ^ 64 - 8)) _ _ next_word))
-            (λ b b' y. record { state = same_stack same s s' h _ _ (followed.word (plus stack (2 ^ 64 - 8))); memory = y }))
+            (λ b b' y. record {
+              state = same_stack same s s' h _ _ (followed.word (plus stack (2 ^ 64 - 8)));
+              memory = y;
+            }))
 
         called : Follows Then (call_of ops acc f s m (Indirect (InMemory memory)))
             (call_of ops' acc' f' s' m' (Indirect (InMemory memory)))
@@ -230,7 +245,8 @@ module _ {W F B W' F' B' : Type 0} (same : Alike W F B W' F' B') (ops : Operatio
         read_follows (ExtendByte width to from) e = absurd cc
         read_follows (ExtendLong to from) e = absurd cc
         read_follows (LoadAddress width to from) e = absurd cc
-        read_follows (Compute arithmetic Quad (IntoRegister to from)) e = rw (is_memory from e) (computed-in arithmetic to)
+        read_follows (Compute arithmetic Quad (IntoRegister to from)) e =
+            rw (is_memory from e) (computed-in arithmetic to)
         read_follows (Compute Compare Quad (IntoMemory to from)) e = let same_memory : to ≡ memory = cc in
             rw same_memory (compared-out from)
         read_follows (Compute Add Quad (IntoMemory to from)) e = absurd cc

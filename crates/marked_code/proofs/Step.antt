@@ -1,6 +1,7 @@
 -- The machine's step follows the meaning's, whatever numbers a linker writes into fields, and wherever it puts the
 -- words that address fields stand for.
-use Rattle.std.proofs.Common.{◌≡◌, ℕ, ◌+◌, ◌-◌, ◌<◌, ◌≤◌, ◌⊎◌, inl, inr, Bool, true, false, List, length, take, drop, Option, Some, None, Result, Ok, Err, refl, sym, ap, subst, ◌∙◌, arith}
+use Rattle.std.proofs.Common.{◌≡◌, ℕ, ◌+◌, ◌-◌, ◌<◌, ◌≤◌, ◌⊎◌, inl, inr, Bool, true, false, List, length, take, drop}
+use Rattle.std.proofs.Common.{Option, Some, None, Result, Ok, Err, refl, sym, ap, subst, ◌∙◌, arith}
 use Rattle.std.specs.Prelude.{if◌then◌else◌, not, ◌&&◌}
 use Rattle.std.specs.List.{list_any, slice_get}
 use Rattle.std.proofs.lemmas.Bool.{and_parts}
@@ -30,9 +31,12 @@ use Rattle.job_meaning.proofs.Reading.{placed_of, length_of, length-four, field_
 use Rattle.tied_meaning.specs.Codes.{SameCode}
 use Rattle.whole_meaning.specs.declared.marks.Mark.{Mark}
 use Rattle.whole_meaning.specs.declared.marks.Mark.TheVariants.{Usual, Offset}
-use Rattle.whole_meaning.specs.Fields.{is_from_next, lent, lent_at, lent_frame, marked_frame, number_in, read_in, starts_offset, without_operand}
-use Rattle.whole_meaning.specs.Reading.{acted, done, hindered, hindrance, marked_step, own_touches, plain_step, reaches_linker}
-use Rattle.marked_code.proofs.AddressFields.{AddressIn, NoAddressIn, address_in, next-operand, no-offset, picked-at, sums}
+use Rattle.whole_meaning.specs.Fields.{is_from_next, lent, lent_at, lent_frame, marked_frame, number_in, read_in}
+use Rattle.whole_meaning.specs.Fields.{starts_offset, without_operand}
+use Rattle.whole_meaning.specs.Reading.{acted, done, hindered, hindrance, marked_step, own_touches, plain_step}
+use Rattle.whole_meaning.specs.Reading.{reaches_linker}
+use Rattle.marked_code.proofs.AddressFields.{AddressIn, NoAddressIn, address_in, next-operand, no-offset, picked-at}
+use Rattle.marked_code.proofs.AddressFields.{sums}
 use Rattle.marked_code.proofs.Fetched.{SameFetched, code-as_long, code-usual, small-byte}
 use Rattle.marked_code.proofs.Fields.{AreFields, field_in, place-behind, starts_field}
 use Rattle.marked_code.proofs.Lent.{lent-load, lent-store, lent-address, lent_open, next-address}
@@ -49,7 +53,8 @@ module _ {W F B W' F' B' : Type 0} (same : Alike W F B W' F' B') (ops : Operatio
     {M M' : Type 0} (acc : Accesses M B) (acc' : Accesses M' B') (Same : M → M' → Type 0) (shut : M → ℕ → Bool)
     (kept : StayRelated same (closed shut acc) acc' Same)
     (plain : (n : ℕ) → same.field None None n n) where
-  module _ (mark : ℕ → Mark) (s : State W F) (s' : State W' F') (m : M) (m' : M') (h : SameState same s s') (k : Same m m')
+  module _ (mark : ℕ → Mark) (s : State W F) (s' : State W' F') (m : M) (m' : M') (h : SameState same s s')
+      (k : Same m m')
       (code : SameCode same ops ops' mark (shut m) acc acc' m m') (low : (j : ℕ) → j < 8 → shut m j ≡ false)
       (outside : shut m s.place ≡ false) where
     abbrev Then : After W F M → After W' F' M' → Type 0
@@ -103,7 +108,8 @@ module _ {W F B W' F' B' : Type 0} (same : Alike W F B W' F' B') (ops : Operatio
           → (0 < at) × (at + 4 ≤ length read)
       within_read d o at e f = let long : d.len ≤ length read = length_of read d e in (f.0, omega (arith, f.1))
 
-      displacement-same : (d : Decoded) → decoded read ≡ Some d → (o : Option ℕ) → d.disp ≡ o → NoAddressIn mark s.place o
+      displacement-same : (d : Decoded) → decoded read ≡ Some d → (o : Option ℕ) → d.disp ≡ o
+          → NoAddressIn mark s.place o
           → same.field (field_at (λ place. starts_offset (mark place)) s.place o) None
           (number_in mark s.place o d.instr.displacement)
           (picked (field_in mark s.place starts_field o) read' d.instr.displacement)
@@ -181,7 +187,8 @@ module _ {W F B W' F' B' : Type 0} (same : Alike W F B W' F' B') (ops : Operatio
             → (memory : Memory) → read_in d.instr.operation ≡ Some memory
             → (is_from_next memory.base && not memory.from_thread_pointer) ≡ true → memory.index ≡ None
             → (word : W') → load_of ops' acc' m'
-            (plus (plus (plus s.place a.at) (d.len - a.at)) (field_of (code_at acc' m' (plus s.place a.at) 4))) 8 ≡ Ok word
+            (plus (plus (plus s.place a.at) (d.len - a.at)) (field_of (code_at acc' m' (plus s.place a.at) 4))) 8
+            ≡ Ok word
             → same.word (ops.joined (bytes_from ops (ops.word a.number) 0 8)) word → Goal d
         unfolding marked_frame frame_of
         lent-acts d e a untouched memory is_read from index word loads alike_word =
@@ -204,7 +211,8 @@ module _ {W F B W' F' B' : Type 0} (same : Alike W F B W' F' B') (ops : Operatio
             (sums s.place s'.place a.at d.len (field_of (code_at acc' m' (plus s.place a.at) 4))
             (picked (field_in mark s.place starts_field d.disp) read' d.instr.displacement) h.place
             (omega (arith, g.1)) distance) in
-            let free_there : Free acc shut m (without_operand (Some a.number) (touches_of ops mine s d.instr.operation)) =
+            let free_there : Free acc shut m
+            (without_operand (Some a.number) (touches_of ops mine s d.instr.operation)) =
             subst (λ (o : Option ℕ). Free acc shut m (without_operand o (touches_of ops mine s d.instr.operation)))
             a.stands untouched in
             let followed_there : Follows Then
@@ -216,7 +224,8 @@ module _ {W F B W' F' B' : Type 0} (same : Alike W F B W' F' B') (ops : Operatio
             (λ place w w' x. rw (lent-store ops acc shut m a.number low place 8 w)
             (store-reach same (closed shut acc) acc' Same kept ops ops' followed m m' k place 8
             (inr (inr refl)) w w' x))
-            memory 0 a' at0 at' (rw (lent-load ops acc shut m a.number low, loads) alike_word) d.instr.operation is_read in
+            memory 0 a' at0 at' (rw
+            (lent-load ops acc shut m a.number low, loads) alike_word) d.instr.operation is_read in
             let open_there : Follows Then
             (act ops (lent_at ops acc a.number) (lent_frame (Some a.number) mine) d.instr.operation s m)
             (act ops' acc' theirs d.instr.operation s' m') =
@@ -284,7 +293,8 @@ module _ {W F B W' F' B' : Type 0} (same : Alike W F B W' F' B') (ops : Operatio
             by_first mark s s' m m' h k code low parts.0 parts.1 (acc.code m s.place) refl
       ]) refl
     where
-      by_first : (mark : ℕ → Mark) (s : State W F) (s' : State W' F') (m : M) (m' : M') → SameState same s s' → Same m m'
+      by_first : (mark : ℕ → Mark) (s : State W F) (s' : State W' F') (m : M) (m' : M') → SameState same s s'
+          → Same m m'
           → SameCode same ops ops' mark (shut m) acc acc' m m' → ((j : ℕ) → j < 8 → shut m j ≡ false)
           → shut m s.place ≡ false
           → Free acc shut m (own_touches ops mark s (decoded (code_at acc m s.place 15)))

@@ -159,7 +159,7 @@ impl<'m> Bytes<MarkedValues> for MarkedMemory<'m> {
         }
     }
 
-    #[tactic(auto, unfolding(guest_operands::specs::Ranges::is_field_of, crate::specs::Kept::memory_of))]
+    #[tactic(auto, unfolding(guest_operands::specs::RangeLaws::is_field_of, crate::specs::Kept::memory_of))]
     fn is_field(&self, place: u64) -> bool {
         false
     }

@@ -15,13 +15,15 @@ use Rattle.whole_meaning.specs.Spots.{bias_of}
 
 -- an image at its place
 none_in : (ls : List Linking) (i number : ℕ) → All (λ l. has_writable_data l ≡ false) ls
-    → ◌≡◌ {A = Option (Range Byte)} (option_map_or (λ (own : Linking). data_ranges own (bias_of own.kind number)) (slice_get ls i) None) None
+    → ◌≡◌ {A = Option (Range Byte)}
+    (option_map_or (λ (own : Linking). data_ranges own (bias_of own.kind number)) (slice_get ls i) None) None
 none_in [] i number all = refl
 none_in (l ∷ ls) zero number all = rw (All-head (λ l. has_writable_data l ≡ false) l ls all) refl
 none_in (l ∷ ls) (suc i) number all = none_in ls i number (All-tail (λ l. has_writable_data l ≡ false) l ls all)
 
 none_at : (ls : List Linking) (image number : ℕ) → All (λ l. has_writable_data l ≡ false) ls
-    → ◌≡◌ {A = Option (Range Byte)} (option_map_or (λ (own : Linking). data_ranges own (bias_of own.kind number)) (at_number ls image) None) None
+    → ◌≡◌ {A = Option (Range Byte)}
+    (option_map_or (λ (own : Linking). data_ranges own (bias_of own.kind number)) (at_number ls image) None) None
 none_at ls zero number all = refl
 none_at ls (suc i) number all = none_in ls i number all
 

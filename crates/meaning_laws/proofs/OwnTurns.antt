@@ -1,5 +1,6 @@
 -- Where no image has data, what a thread of a job means is what it means alone, at fronts of the history.
-use Rattle.std.proofs.Common.{◌≡◌, ◌+◌, ◌*◌, ◌∙◌, ◌++◌, ℕ, zero, suc, true, List, [], ◌∷◌, Option, Some, None, refl, subst, arith}
+use Rattle.std.proofs.Common.{◌≡◌, ◌+◌, ◌*◌, ◌∙◌, ◌++◌, ℕ, zero, suc, true, List, [], ◌∷◌, Option, Some, None, refl}
+use Rattle.std.proofs.Common.{subst, arith}
 use Rattle.std.specs.Prelude.{slice_get}
 use Rattle.std.specs.List.{flat_map}
 use Rattle.guest_machine.specs.State.{start_of}
@@ -13,7 +14,7 @@ use Rattle.thread_blocks.specs.Instances.{instances}
 use Rattle.thread_blocks.specs.JobWorlds.{numbered_lines, ready_from, job_start, thread_ready}
 use Rattle.thread_blocks.specs.Lines.{Line, event_by}
 use Rattle.thread_blocks.specs.Turns.{Thread, Turns, ready, whole_order}
-use Rattle.thread_blocks.specs.TurnsAlike.{IsFront}
+use Rattle.thread_blocks.specs.Turns.{IsFront}
 use Rattle.whole_meaning.specs.Jobs.{meant_world}
 use Rattle.whole_meaning.specs.Meanings.{Meaning}
 use Rattle.whole_meaning.specs.Threads.{Meant, meant_turns, ops}
@@ -28,7 +29,8 @@ Ours = Thread Meant Line Event
 -- which thread stands where at first
 thread_at : (m : Meaning) (first : ℕ) (lines : List (List ThreadLine)) (i number : ℕ) (own : List ThreadLine)
     → number ≡ first + i → slice_get lines i ≡ Some own
-    → slice_get (ready_from ops m.loads first lines) i ≡ Some (ready (thread_ready ops m.loads number) (numbered_lines 1 own))
+    → slice_get (ready_from ops m.loads first lines) i
+    ≡ Some (ready (thread_ready ops m.loads number) (numbered_lines 1 own))
 thread_at m first [] i number own e at = cc
 thread_at m first (lines ∷ more) zero number own e at =
     let same : number ≡ first = omega arith in
@@ -91,5 +93,6 @@ own_turns m fuel lines order zero own none at = cc
 own_turns m fuel lines order (suc i) own none at =
     let points = order_points (λ thread. meant_turns m thread fuel) (λ thread. event_by m.loads thread)
     (λ thread. meant_keeps m none thread fuel) (whole_order (4 * fuel) lines order) i (job_start ops m.loads lines)
-    (ready (thread_ready ops m.loads (suc i)) (numbered_lines 1 own)) (thread_at m 1 lines i (suc i) own (omega arith) at)
+    (ready (thread_ready ops m.loads (suc i)) (numbered_lines 1 own))
+    (thread_at m 1 lines i (suc i) own (omega arith) at)
     (starts m none fuel lines) in (points.points, points.rises, points.fronts, points.thread)

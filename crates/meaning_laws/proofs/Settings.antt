@@ -8,7 +8,7 @@ use Rattle.link_faults.specs.declared.binding.Binding.{Binding}
 use Rattle.link_faults.specs.declared.binding.Binding.TheVariants.{Here, Startup, Runtime}
 use Rattle.link_needs.specs.Linking.{Linking, address, block_offset, offset, sites_at}
 use Rattle.module_table.specs.declared.modules.ImageInfo.{ImageInfo}
-use Rattle.module_table.specs.Laws.{startup_end}
+use Rattle.module_table.specs.Modules.{startup_end}
 use Rattle.object_faults.specs.declared.class.SectionClass.TheVariants.{Executable}
 use Rattle.sequence_forms.specs.declared.forms.Form.{Form}
 use Rattle.sequence_forms.specs.declared.forms.Form.TheVariants.{Ld, LdInd}
@@ -18,7 +18,8 @@ use Rattle.whole_meaning.specs.declared.marks.Mark.{Mark}
 use Rattle.whole_meaning.specs.declared.marks.Mark.TheVariants.{Usual}
 use Rattle.whole_meaning.specs.declared.sequences.Sequence.{Sequence}
 use Rattle.whole_meaning.specs.Bytes.{block_bytes, class_bytes, function_of, value_of, variable_of}
-use Rattle.whole_meaning.specs.Code.{mark_of, no_variable, sequence_of, sequence_with, shared_by, starts_at, variable_by, variable_for}
+use Rattle.whole_meaning.specs.Code.{mark_of, no_variable, sequence_of, sequence_with, shared_by, starts_at}
+use Rattle.whole_meaning.specs.Code.{variable_by, variable_for}
 use Rattle.whole_meaning.specs.Jobs.{lines_of, meant_world, verdict_of}
 use Rattle.whole_meaning.specs.Loads.{data_ranges, info_of, loads_of, meaning_of, still_ranges, wants_surplus}
 use Rattle.whole_meaning.specs.Meanings.{Meaning}

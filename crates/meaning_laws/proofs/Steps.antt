@@ -27,7 +27,8 @@ use Rattle.sequence_forms.specs.declared.forms.Form.TheVariants.{Gd, Ld, IeMov, 
 use Rattle.thread_blocks.specs.Held.{Owner, looked, reached}
 use Rattle.thread_blocks.specs.Instances.{numbered_instance}
 use Rattle.thread_blocks.specs.Lines.{Line}
-use Rattle.thread_blocks.specs.Spaces.{IsImage, mapped, space_accesses, stack_range}
+use Rattle.thread_blocks.specs.Spaces.{space_accesses, stack_range}
+use Rattle.thread_blocks.specs.SpaceLaws.{IsImage, mapped}
 use Rattle.thread_blocks.proofs.Image.{act_image}
 use Rattle.thread_blocks.proofs.Alone.{KeepsBlocks, NextHolds}
 use Rattle.thread_blocks.proofs.Blocks.{AreBlocks, HoldsBlocks, look_holds, reach_holds, written_are}
@@ -38,8 +39,13 @@ use Rattle.whole_meaning.specs.Fields.{address_at, lent, lent_frame, marked_fram
 use Rattle.whole_meaning.specs.Meanings.{Meaning}
 use Rattle.whole_meaning.specs.Reading.{acted, done, marked_step, plain_step}
 use Rattle.whole_meaning.specs.Running.{meaning}
-use Rattle.whole_meaning.specs.Sequences.{Stack, added, after_call, called_with, descriptor_called, descriptor_calls, does, looks_first, own_base, sequence_result, stack_use, variable_address, variable_distance, with_sum, without_flags}
-use Rattle.whole_meaning.specs.Threads.{Meant, Memory, begin_meant, held_next, meant_accesses, meant_mark, meant_sequence, meant_shut, meant_show, meant_stack, meant_steps, meant_turns, ops, resume_meant, resumed_at, resumed_by, resumed_for, sequence_at, sequence_does, sequence_next}
+use Rattle.whole_meaning.specs.Sequences.{Stack, added, after_call, called_with, descriptor_called, descriptor_calls}
+use Rattle.whole_meaning.specs.Sequences.{does, looks_first, own_base, sequence_result, stack_use, variable_address}
+use Rattle.whole_meaning.specs.Sequences.{variable_distance, with_sum, without_flags}
+use Rattle.whole_meaning.specs.Threads.{Meant, Memory, begin_meant, held_next, meant_accesses, meant_mark}
+use Rattle.whole_meaning.specs.Threads.{meant_sequence, meant_shut, meant_show, meant_stack, meant_steps, meant_turns}
+use Rattle.whole_meaning.specs.Threads.{ops, resume_meant, resumed_at, resumed_by, resumed_for, sequence_at}
+use Rattle.whole_meaning.specs.Threads.{sequence_does, sequence_next}
 use Rattle.meaning_laws.specs.Laws.{HasNoData}
 use Rattle.guest_machine.specs.Machine.{with_answer}
 use Rattle.thread_blocks.specs.RunTime.{resumed}

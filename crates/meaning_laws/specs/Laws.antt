@@ -7,7 +7,8 @@ use Rattle.loaded_modules.specs.declared.instance.Instance.{Instance}
 use Rattle.module_table.specs.declared.events.Event.{Event}
 use Rattle.thread_blocks.specs.JobWorlds.{numbered_lines, thread_ready}
 use Rattle.thread_blocks.specs.Turns.{at_number, ready, turns}
-use Rattle.thread_blocks.specs.TurnsAlike.{AllFronts, IsFront, Rises}
+use Rattle.thread_blocks.specs.TurnsAlike.{Rises}
+use Rattle.thread_blocks.specs.Turns.{AllFronts, IsFront}
 use Rattle.whole_meaning.specs.Jobs.{lines_of, meant_world, verdict_of}
 use Rattle.whole_meaning.specs.Loads.{meaning_of}
 use Rattle.link_needs.specs.Linking.{has_writable_data}

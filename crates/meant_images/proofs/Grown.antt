@@ -1,5 +1,6 @@
 -- Entries as they are added: what was there stays.
-use Rattle.std.proofs.Common.{◌≡◌, ◌∙◌, ◌+◌, ◌-◌, ℕ, List, [], ◌∷◌, ◌++◌, length, Some, inl, inr, sym, ap, subst, arith, length-append}
+use Rattle.std.proofs.Common.{◌≡◌, ◌∙◌, ◌+◌, ◌-◌, ℕ, List, [], ◌∷◌, ◌++◌, length, Some, inl, inr, sym, ap, subst, arith}
+use Rattle.std.proofs.Common.{length-append}
 use Rattle.std.specs.Prelude.{◌⊎◌, slice_get, slice_index_or, unwrap_or}
 use Rattle.std.proofs.lemmas.Bool.{cases_lt}
 use Rattle.std.proofs.lemmas.List.Elements.{All-push}
@@ -11,7 +12,8 @@ use Rattle.link_needs.specs.Linking.{Linking, object}
 use Rattle.meant_images.specs.declared.entries.Entry.{Entry}
 use Rattle.meant_images.specs.declared.kept.KeptObject.{KeptObject}
 use Rattle.meant_images.specs.Entries.{IsFieldEntry, IsNumberedEntry, IsSiteEntry}
-use Rattle.meant_images.specs.Kept.{AreEntries, AreFields, AreSequences, FieldsBelow, Grows, KeepAll, Keeps, KeepsFields, SequencesBelow}
+use Rattle.meant_images.specs.Kept.{AreEntries, AreFields, AreSequences, FieldsBelow, Grows, KeepAll, Keeps}
+use Rattle.meant_images.specs.Kept.{KeepsFields, SequencesBelow}
 use Rattle.object_faults.specs.declared.class.SectionClass.TheVariants.{Executable}
 use Rattle.sequence_forms.specs.declared.places.Site.{Site}
 
@@ -57,7 +59,8 @@ entries_push xs x are numbered = record {
   numbered = All-push IsNumberedEntry xs x are.numbered numbered;
 }
 
-pub fields_more : (l : Linking) (o : ℕ) (entries : List Entry) (rs : List Relocation) (first n : ℕ) (it : Entry) (r : Relocation)
+pub fields_more : (l : Linking) (o : ℕ) (entries : List Entry) (rs : List Relocation) (first n : ℕ) (it : Entry)
+    (r : Relocation)
     → slice_get rs n ≡ Some r → IsFieldEntry l o r it → length entries ≡ first + n → FieldsBelow l o entries rs first n
     → FieldsBelow l o (entries ++ it ∷ []) rs first (n + 1)
 fields_more l o entries rs first n it r at is long so_far i x below there = elim (cases_lt i n) [
@@ -70,8 +73,10 @@ fields_more l o entries rs first n it r at is long so_far i x below there = elim
       (it, (last entries it (first + i) (omega (arith, long, same)), subst (λ y. IsFieldEntry l o y it) one is))
 ]
 
-pub sequences_more : (ls : List Linking) (l : Linking) (o : ℕ) (entries : List Entry) (sites : List Site) (first n : ℕ) (it : Entry) (site : Site)
-    → slice_get sites n ≡ Some site → IsSiteEntry ls l o site it → length entries ≡ first + n → SequencesBelow ls l o entries sites first n
+pub sequences_more : (ls : List Linking) (l : Linking) (o : ℕ) (entries : List Entry) (sites : List Site) (first n : ℕ)
+    (it : Entry) (site : Site)
+    → slice_get sites n ≡ Some site → IsSiteEntry ls l o site it → length entries ≡ first + n
+    → SequencesBelow ls l o entries sites first n
     → SequencesBelow ls l o (entries ++ it ∷ []) sites first (n + 1)
 sequences_more ls l o entries sites first n it site at is long so_far i x below there = elim (cases_lt i n) [
   | inl less ↦
@@ -92,7 +97,8 @@ fields_grow l o old new rs first grows are = record {
   each = λ i r below is. let x = are.each i r below is in (x.0, (grows.kept (first + i) x.0 x.1.0, x.1.1));
 }
 
-sequences_grow : (ls : List Linking) (l : Linking) (o : ℕ) (old new : List Entry) (sites : List Site) (first : ℕ) → Grows old new
+sequences_grow : (ls : List Linking) (l : Linking) (o : ℕ) (old new : List Entry) (sites : List Site) (first : ℕ)
+    → Grows old new
     → AreSequences ls l o old sites first → AreSequences ls l o new sites first
 sequences_grow ls l o old new sites first grows are = record {
   inside = let a = are.inside in let b = grows.longer in omega (arith, a, b);
@@ -113,25 +119,29 @@ keep_grow ls l o old new it grows keeps = record {
 }
 
 -- a section more
-pub keeps_more : (l : Linking) (o : ℕ) (old new : List Entry) (firsts : List ℕ) (first n : ℕ) → Grows old new → length firsts ≡ n
+pub keeps_more : (l : Linking) (o : ℕ) (old new : List Entry) (firsts : List ℕ) (first n : ℕ) → Grows old new
+    → length firsts ≡ n
     → KeepsFields l o old firsts n
     → (section_class (object l o) n ≡ Some Executable → AreFields l o new (relocations (object l o) n) first)
     → KeepsFields l o new (firsts ++ first ∷ []) (n + 1)
 keeps_more l o old new firsts first n grows long keeps here s below code = elim (cases_lt s n) [
   | inl less ↦
       let same : slice_index_or (firsts ++ first ∷ []) s 0 ≡ slice_index_or firsts s 0 =
-      sym (unwrap_or-slice_get (firsts ++ first ∷ []) s 0) ∙ ap (λ x. unwrap_or x 0) (slice_get-append firsts (first ∷ []) s (omega (arith, less, long)))
+      sym (unwrap_or-slice_get (firsts ++ first ∷ []) s 0)
+      ∙ ap (λ x. unwrap_or x 0) (slice_get-append firsts (first ∷ []) s (omega (arith, less, long)))
       ∙ unwrap_or-slice_get firsts s 0 in
       rw same (keeps_grow l o old new firsts n grows keeps s less code)
   | inr most ↦
       let at : n ≡ s = omega (arith, below, most) in
       let same : slice_index_or (firsts ++ first ∷ []) s 0 ≡ first =
       get_or_from_slice_get (firsts ++ first ∷ []) s first 0 (last firsts first s (omega (arith, long, at))) in
-      rw same (subst (λ m. section_class (object l o) m ≡ Some Executable → AreFields l o new (relocations (object l o) m) first) at here code)
+      rw same (subst (λ m. section_class (object l o) m ≡ Some Executable
+      → AreFields l o new (relocations (object l o) m) first) at here code)
 ]
 
 -- an object more
-pub all_more : (ls : List Linking) (l : Linking) (old new : List Entry) (kept : List KeptObject) (it : KeptObject) (n : ℕ) → Grows old new
+pub all_more : (ls : List Linking) (l : Linking) (old new : List Entry) (kept : List KeptObject) (it : KeptObject)
+    (n : ℕ) → Grows old new
     → KeepAll ls l old kept n → Keeps ls l n new it → KeepAll ls l new (kept ++ it ∷ []) (n + 1)
 all_more ls l old new kept it n grows keep here = record {
   count = let a = keep.count in omega (arith, a, length-append kept (it ∷ []));

@@ -1,5 +1,6 @@
 -- The table of an image's code says what stands at each address.
-use Rattle.std.proofs.Common.{◌≡◌, ◌≢◌, ◌∙◌, ◌+◌, ◌-◌, ◌<◌, ◌≤◌, ◌^◌, ℕ, Bool, true, false, List, [], Option, None, Some, length, get_or, inl, inr, refl, sym, ap, subst, arith}
+use Rattle.std.proofs.Common.{◌≡◌, ◌≢◌, ◌∙◌, ◌+◌, ◌-◌, ◌<◌, ◌≤◌, ◌^◌, ℕ, Bool, true, false, List, [], Option, None}
+use Rattle.std.proofs.Common.{Some, length, get_or, inl, inr, refl, sym, ap, subst, arith}
 use Rattle.std.specs.Prelude.{◌&&◌, IsSome, if◌then◌else◌, nat_le, nat_lt, slice_get, slice_index_or, unwrap_or}
 use Rattle.std.proofs.lemmas.Bool.{cases_lt}
 use Rattle.std.proofs.lemmas.Bool.Decides.{nat_tests}
@@ -59,7 +60,8 @@ some_of (Some n) h = (n, refl)
 not_zero : Executable ≢ Tls false
 not_zero e = cc
 
-pub in_code : (l : Linking) (a : ℕ) (spot : Spot) → IsLawful (layout l) → spot_in l Executable a ≡ Some spot → IsInCode l a spot
+pub in_code : (l : Linking) (a : ℕ) (spot : Spot) → IsLawful (layout l) → spot_in l Executable a ≡ Some spot
+    → IsInCode l a spot
 unfolding spot_in
 in_code l a spot lawful e =
     let p = layout l in
@@ -93,7 +95,8 @@ in_code l a spot lawful e =
 
 -- ** the table
 
-module _ (ls : List Linking) (l : Linking) (entries : List Entry) (kept : List KeptObject) (given : IsGiven l) (lawful : IsLawful (layout l))
+module _ (ls : List Linking) (l : Linking) (entries : List Entry) (kept : List KeptObject) (given : IsGiven l)
+    (lawful : IsLawful (layout l))
     (are : AreEntries entries) (keep : KeepAll ls l entries kept (length l.objects)) where
   abbrev start : ℕ
   start = (executable (layout l).kind (layout l).sections).start
@@ -118,10 +121,12 @@ module _ (ls : List Linking) (l : Linking) (entries : List Entry) (kept : List K
         begins = λ image number place. rw got refl;
       }
 
-  address_shows : (a : ℕ) → Shows ls l entries (spot_in l Executable a) (cell_of (code_cell kept l) no_cell (spot_in l Executable a))
+  address_shows : (a : ℕ)
+      → Shows ls l entries (spot_in l Executable a) (cell_of (code_cell kept l) no_cell (spot_in l Executable a))
   address_shows a = by_spot (spot_in l Executable a) refl
     where
-      by_spot : (spot : Option Spot) → spot_in l Executable a ≡ spot → Shows ls l entries spot (cell_of (code_cell kept l) no_cell spot)
+      by_spot : (spot : Option Spot) → spot_in l Executable a ≡ spot
+          → Shows ls l entries spot (cell_of (code_cell kept l) no_cell spot)
       by_spot None e = gap_shows
       by_spot (Some spot) e =
           let x = (in_code l a spot lawful e).of_class in
@@ -130,7 +135,8 @@ module _ (ls : List Linking) (l : Linking) (entries : List Entry) (kept : List K
   module _ (cells : List Cell) (table : cells ≡ class_cells (code_cell kept l) l Executable no_cell) where
     long : length cells ≡ end - start
     unfolding cells_from
-    long = ap length table ∙ length-map-range_with_len (λ a. cell_of (code_cell kept l) no_cell (spot_in l Executable a)) start (end - start)
+    long = ap length table ∙ length-map-range_with_len
+        (λ a. cell_of (code_cell kept l) no_cell (spot_in l Executable a)) start (end - start)
 
     in_table : (a : ℕ) → start ≤ a → a - start < end - start
         → slice_get cells (a - start) ≡ Some (cell_of (code_cell kept l) no_cell (spot_in l Executable a))
@@ -150,7 +156,8 @@ module _ (ls : List Linking) (l : Linking) (entries : List Entry) (kept : List K
     from_start a from = elim (cases_lt (a - start) (end - start)) [
       | inl to ↦ subst (said a) (sym (in_table a from to)) (address_shows a)
       | inr past ↦
-          let none : slice_get cells (a - start) ≡ None = slice_get_past cells (a - start) (omega (arith, past, long)) in
+          let none : slice_get cells (a - start) ≡ None =
+          slice_get_past cells (a - start) (omega (arith, past, long)) in
           subst (said a) (sym none) (none_outside a (λ low high. omega (arith, past, low, high)))
     ]
 
@@ -158,24 +165,28 @@ module _ (ls : List Linking) (l : Linking) (entries : List Entry) (kept : List K
     all_said a = elim (cases_lt a start) [
       | inl below ↦
           let no : nat_le start a ≡ false = grind (arith, nat_tests) in
-          let none : cell_at start cells a ≡ None = ap (λ (t : Bool). if t then slice_get cells (a - start) else None) no in
+          let none : cell_at start cells a ≡ None =
+          ap (λ (t : Bool). if t then slice_get cells (a - start) else None) no in
           subst (said a) (sym none) (none_outside a (λ low high. omega (arith, below, low)))
       | inr from ↦
           let yes : nat_le start a ≡ true = grind (arith, nat_tests) in
-          let some : cell_at start cells a ≡ slice_get cells (a - start) = ap (λ (t : Bool). if t then slice_get cells (a - start) else None) yes in
+          let some : cell_at start cells a ≡ slice_get cells (a - start) =
+          ap (λ (t : Bool). if t then slice_get cells (a - start) else None) yes in
           subst (said a) (sym some) (from_start a from)
     ]
 
     pub are_marks : AreMarks ls l start cells entries
     are_marks = record {
-      low = let rises = extent_rises Executable (layout l) in let most = extent_low Executable (layout l) lawful in omega (arith, rises, most, long);
+      low = let rises = extent_rises Executable (layout l) in let most = extent_low Executable (layout l) lawful in
+          omega (arith, rises, most, long);
       numbered = are.numbered;
       say = all_said;
     }
 
 -- ** what is read from it
 
-module _ (ls : List Linking) (l : Linking) (first : ℕ) (cells : List Cell) (entries : List Entry) (marks : AreMarks ls l first cells entries) where
+module _ (ls : List Linking) (l : Linking) (first : ℕ) (cells : List Cell) (entries : List Entry)
+    (marks : AreMarks ls l first cells entries) where
   says_where : (address : ℕ) (is_below : Bool) → Says ls l entries
       (if is_below then None else spot_in l Executable address) (if is_below then None else cell_at first cells address)
   says_where address true = refl
@@ -187,11 +198,13 @@ module _ (ls : List Linking) (l : Linking) (first : ℕ) (cells : List Cell) (en
   pub shown_at : (bias place : ℕ) (cell : Cell) → moved_cell first cells bias place ≡ Some cell
       → Shows ls l entries (moved_spot l Executable bias place) cell
   shown_at bias place cell is =
-      subst (λ (found : Option Cell). Says ls l entries (moved_spot l Executable bias place) found) is (moved bias place)
+      subst (λ (found : Option Cell). Says ls l entries (moved_spot l Executable bias place) found) is
+      (moved bias place)
 
   none_at : (bias place : ℕ) → moved_cell first cells bias place ≡ None → moved_spot l Executable bias place ≡ None
   none_at bias place is =
-      subst (λ (found : Option Cell). Says ls l entries (moved_spot l Executable bias place) found) is (moved bias place)
+      subst (λ (found : Option Cell). Says ls l entries (moved_spot l Executable bias place) found) is
+      (moved bias place)
 
   pub mark_some : (bias place : ℕ) (cell : Cell) → moved_cell first cells bias place ≡ Some cell
       → mark_by bias (slice_index_or entries cell.entry Usual) cell.byte ≡ mark_of l bias place
@@ -202,8 +215,10 @@ module _ (ls : List Linking) (l : Linking) (first : ℕ) (cells : List Cell) (en
   unfolding mark_of
   mark_none bias place is = rw (none_at bias place is) refl
 
-  pub sequence_some : (image number place : ℕ) (cell : Cell) → moved_cell first cells (bias_of l.kind number) place ≡ Some cell
-      → sequence_by image number place (slice_index_or entries cell.entry Usual) cell.byte ≡ sequence_of ls image number l place
+  pub sequence_some : (image number place : ℕ) (cell : Cell)
+      → moved_cell first cells (bias_of l.kind number) place ≡ Some cell
+      → sequence_by image number place (slice_index_or entries cell.entry Usual) cell.byte
+      ≡ sequence_of ls image number l place
   unfolding sequence_of
   sequence_some image number place cell is = (shown_at (bias_of l.kind number) place cell is).begins image number place
 
@@ -212,7 +227,8 @@ module _ (ls : List Linking) (l : Linking) (first : ℕ) (cells : List Cell) (en
   unfolding sequence_of
   sequence_none image number place is = rw (none_at (bias_of l.kind number) place is) refl
 
-  low_above : (bias place : ℕ) (cell : Cell) → bias ≤ 2 ^ 60 → cell_at first cells (place - bias) ≡ Some cell → place < 2 ^ 63
+  low_above : (bias place : ℕ) (cell : Cell) → bias ≤ 2 ^ 60 → cell_at first cells (place - bias) ≡ Some cell
+      → place < 2 ^ 63
   low_above bias place cell few is = elim (cases_lt (place - bias) first) [
     | inl below ↦ let low = marks.low in omega (arith, below, low)
     | inr from ↦
@@ -225,7 +241,8 @@ module _ (ls : List Linking) (l : Linking) (first : ℕ) (cells : List Cell) (en
   ]
 
   -- a place that has a cell is low
-  pub low_at : (bias place : ℕ) (cell : Cell) → bias ≤ 2 ^ 60 → moved_cell first cells bias place ≡ Some cell → place < 2 ^ 63
+  pub low_at : (bias place : ℕ) (cell : Cell) → bias ≤ 2 ^ 60 → moved_cell first cells bias place ≡ Some cell
+      → place < 2 ^ 63
   low_at bias place cell few is = elim (cases_lt place bias) [
     | inl below ↦ omega (arith, below, few)
     | inr above ↦

@@ -11,7 +11,8 @@ use Rattle.thread_blocks.specs.Turns.{at_number}
 use Rattle.tls_symbols.specs.Definitions.{IsWithin, definition_of}
 use Rattle.whole_meaning.specs.Code.{no_variable, shared_by}
 
-pub has_number : (l : Linking) (found : SymbolRef) → HasFewObjects l → IsGiven l → IsWithin l.objects found → HasNumber found
+pub has_number : (l : Linking) (found : SymbolRef) → HasFewObjects l → IsGiven l → IsWithin l.objects found
+    → HasNumber found
 has_number l found few given within =
     let inside = within.object in
     let below = within.symbol in
@@ -19,12 +20,14 @@ has_number l found few given within =
     record { object = omega (arith, few, inside); symbol = omega (arith, below, small) }
 
 -- a startup image by its number
-pub image_found : (ls : List Linking) (k : ℕ) (l : Linking) → All HasFewObjects ls → at_number ls k ≡ Some l → (k ≤ length ls) × HasFewObjects l
+pub image_found : (ls : List Linking) (k : ℕ) (l : Linking) → All HasFewObjects ls → at_number ls k ≡ Some l
+    → (k ≤ length ls) × HasFewObjects l
 image_found ls zero l few at = absurd (cc at)
 image_found ls (suc i) l few at =
     let within = slice_get_within ls i l at in
     (omega (arith, within), subst HasFewObjects (get_or_from_slice_get ls i l l at) (few i l within))
 
 pub shared_none : (ls : List Linking) (k : ℕ) (l : Linking) (name : List ℕ) → at_number ls k ≡ Some l
-    → definition_of l.objects name ≡ None → no_variable ≡ unwrap_or (option_and_then (shared_by name k) (at_number ls k)) no_variable
+    → definition_of l.objects name ≡ None
+    → no_variable ≡ unwrap_or (option_and_then (shared_by name k) (at_number ls k)) no_variable
 shared_none ls k l name at none = rw (at, none) refl

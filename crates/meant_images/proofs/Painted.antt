@@ -1,5 +1,7 @@
 -- Cells as they are written, the last field or sequence first.
-use Rattle.std.proofs.Common.{◌≡◌, ◌∙◌, ◌+◌, ◌-◌, ◌<◌, ◌≤◌, ℕ, suc, Bool, true, false, List, [], ◌∷◌, ◌++◌, length, take, drop, get_or, set, inl, inr, refl, sym, ap, subst, arith, get_or-set_same, get_or-set_other}
+use Rattle.std.proofs.Common.{◌≡◌, ◌∙◌, ◌+◌, ◌-◌, ◌<◌, ◌≤◌, ℕ, suc, Bool, true, false, List, [], ◌∷◌, ◌++◌, length}
+use Rattle.std.proofs.Common.{take, drop, get_or, set, inl, inr, refl, sym, ap, subst, arith, get_or-set_same}
+use Rattle.std.proofs.Common.{get_or-set_other}
 use Rattle.std.proofs.lemmas.Bool.{cases_eq}
 use Rattle.std.proofs.lemmas.Bool.Decides.{nat_tests}
 use Rattle.std.proofs.lemmas.List.{get_or-drop, get_or-take, length-take, take-append-drop}
@@ -52,7 +54,8 @@ elsewhere : (s k : ℕ) (site : Site) → (site.section ≡ s → ⊥) → is_in
 elsewhere s k site other = grind (arith, nat_tests)
 
 none_of : (first s k : ℕ) (sites : List Site) (other : Cell)
-    → ((i : ℕ) (d : Site) → i < length sites → (get_or sites i d).section ≡ s → ⊥) → site_cell first sites s k other ≡ other
+    → ((i : ℕ) (d : Site) → i < length sites → (get_or sites i d).section ≡ s → ⊥)
+    → site_cell first sites s k other ≡ other
 none_of first s k [] other not = refl
 none_of first s k (site ∷ more) other not =
     rw (elsewhere s k site (not 0 site (omega arith)))
@@ -62,12 +65,15 @@ both : (first s k : ℕ) (xs ys : List Site) (other : Cell)
     → site_cell first (xs ++ ys) s k other ≡ site_cell first xs s k (site_cell (first + length xs) ys s k other)
 both first s k [] ys other = ap (λ n. site_cell n ys s k other) (omega arith)
 both first s k (x ∷ xs) ys other =
-    next_if (is_in_site s k x) (cell_from first x.start k) _ _ (both (first + 1) s k xs ys other ∙ ap (λ n. site_cell (first + 1) xs s k (site_cell n ys s k other)) (omega arith))
+    next_if (is_in_site s k x) (cell_from first x.start k) _ _
+    (both (first + 1) s k xs ys other
+    ∙ ap (λ n. site_cell (first + 1) xs s k (site_cell n ys s k other)) (omega arith))
 
 taken : (n : ℕ) (sites : List Site) → n ≤ length sites → length (take n sites) ≡ n
 taken n sites few = omega (arith, length-take n sites)
 
-below_not : (s : ℕ) (sites : List Site) (n i : ℕ) (d : Site) → AllWithin (λ (site : Site). site.section < s) sites 0 n → n ≤ length sites
+below_not : (s : ℕ) (sites : List Site) (n i : ℕ) (d : Site) → AllWithin (λ (site : Site). site.section < s) sites 0 n
+    → n ≤ length sites
     → i < length (take n sites) → (get_or (take n sites) i d).section ≡ s → ⊥
 below_not s sites n i d below few inside own =
     let short : i < n = omega (arith, inside, taken n sites few) in
@@ -76,7 +82,8 @@ below_not s sites n i d below few inside own =
     ap (λ (site : Site). site.section) (get_or-take n sites i d short) in
     omega (arith, less, same, own)
 
-above_not : (s : ℕ) (sites : List Site) (n i : ℕ) (d : Site) → AllWithin (λ (site : Site). s + 1 ≤ site.section) sites n (length sites)
+above_not : (s : ℕ) (sites : List Site) (n i : ℕ) (d : Site)
+    → AllWithin (λ (site : Site). s + 1 ≤ site.section) sites n (length sites)
     → n ≤ length sites → i < length (drop n sites) → (get_or (drop n sites) i d).section ≡ s → ⊥
 above_not s sites n i d above few inside own =
     let there : n + i < length sites = omega (arith, inside, length-drop n sites) in
@@ -94,17 +101,20 @@ own_part first s k begin count sites other low high =
     let rest = drop begin sites in
     let parts : sites ≡ front ++ (take count rest ++ drop count rest) =
     sym (ap (λ ys. front ++ ys) (take-append-drop count rest) ∙ take-append-drop begin sites) in
-    let all : site_cell first sites s k other ≡ site_cell first (front ++ (take count rest ++ drop count rest)) s k other =
+    let all : site_cell first sites s k other
+    ≡ site_cell first (front ++ (take count rest ++ drop count rest)) s k other =
     ap (λ xs. site_cell first xs s k other) parts in
     all
     ∙ both first s k front (take count rest ++ drop count rest) other
     ∙ none_of first s k front _ (λ i d. below_not s sites begin i d low.below low.few)
     ∙ ap (λ n. site_cell (first + n) (take count rest ++ drop count rest) s k other) (taken begin sites low.few)
     ∙ both (first + begin) s k (take count rest) (drop count rest) other
-    ∙ ap (λ c. site_cell (first + begin) (take count rest) s k c) (none_of _ s k (drop count rest) other (λ i d. above_not s rest count i d high.above high.few))
+    ∙ ap (λ c. site_cell (first + begin) (take count rest) s k c)
+    (none_of _ s k (drop count rest) other (λ i d. above_not s rest count i d high.above high.few))
 
 -- what holds of all sequences holds of these
-pub of_part : (P : Site → Type 0) (begin count : ℕ) (sites : List Site) → All P sites → count ≤ length (drop begin sites)
+pub of_part : (P : Site → Type 0) (begin count : ℕ) (sites : List Site) → All P sites
+    → count ≤ length (drop begin sites)
     → All P (take count (drop begin sites))
 of_part P begin count sites all few i d inside =
     let rest = drop begin sites in
@@ -113,7 +123,8 @@ of_part P begin count sites all few i d inside =
     subst P (sym (get_or-take count rest i d short ∙ get_or-drop begin sites i d)) (all (begin + i) d there)
 
 -- and they are of the section
-pub own_ones : (s begin count : ℕ) (sites : List Site) → IsSplit sites s begin → IsSplit (drop begin sites) (s + 1) count
+pub own_ones : (s begin count : ℕ) (sites : List Site) → IsSplit sites s begin
+    → IsSplit (drop begin sites) (s + 1) count
     → All (λ (site : Site). site.section ≡ s) (take count (drop begin sites))
 own_ones s begin count sites low high i d inside =
     let rest = drop begin sites in
@@ -129,7 +140,8 @@ own_ones s begin count sites low high i d inside =
     omega (arith, over, under, same, first)
 
 -- such that lie inside do so
-pub inside_ones : (s size begin count : ℕ) (sites : List Site) → IsSplit sites s begin → IsSplit (drop begin sites) (s + 1) count
+pub inside_ones : (s size begin count : ℕ) (sites : List Site) → IsSplit sites s begin
+    → IsSplit (drop begin sites) (s + 1) count
     → All (λ (site : Site). site.section ≡ s → site.start + site.len ≤ size) sites
     → All (λ (site : Site). site.start + site.len ≤ size) (take count (drop begin sites))
 inside_ones s size begin count sites low high all i d inside =

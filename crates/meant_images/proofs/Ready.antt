@@ -1,5 +1,6 @@
 -- What is ready of an instance is what the meaning loads of it.
-use Rattle.std.proofs.Common.{◌≡◌, ◌∙◌, ℕ, zero, suc, List, [], ◌∷◌, ◌++◌, All, length, map, Option, Some, Result, Ok, Err, IfSome, refl, sym, ap, subst}
+use Rattle.std.proofs.Common.{◌≡◌, ◌∙◌, ℕ, zero, suc, List, [], ◌∷◌, ◌++◌, All, length, map, Option, Some, Result, Ok}
+use Rattle.std.proofs.Common.{Err, IfSome, refl, sym, ap, subst}
 use Rattle.std.specs.Prelude.{IfOk, option_map, slice_get}
 use Rattle.std.proofs.lemmas.Option.{get_or_from_slice_get, slice_get_within}
 use Rattle.memory_image.specs.Tables.{Keeps}
@@ -15,7 +16,8 @@ use Rattle.whole_meaning.specs.Loads.{data_ranges, loads_of, still_ranges}
 use Rattle.whole_meaning.specs.Spots.{bias_of}
 use Rattle.meant_images.specs.Images.{AreSound}
 
-pub found_at : {X Y : Type 0} (f : X → Y) (r : Option X) (o : Option Y) (x : X) → option_map f r ≡ o → r ≡ Some x → o ≡ Some (f x)
+pub found_at : {X Y : Type 0} (f : X → Y) (r : Option X) (o : Option Y) (x : X) → option_map f r ≡ o → r ≡ Some x
+    → o ≡ Some (f x)
 found_at f r o x e is = sym e ∙ ap (option_map f) is
 
 pub some_of : {X : Type 0} (P : X → Type 0) (r : Option X) (x : X) → r ≡ Some x → IfSome r P → P x
@@ -31,7 +33,8 @@ of_all P ls zero l all at = cc
 of_all P ls (suc i) l all at = subst P (get_or_from_slice_get ls i l l at) (all i l (slice_get_within ls i l at))
 
 module _ (ls : List Linking) (x : Instance) (l : Linking) (at : at_number ls x.image ≡ Some l) where
-  pub keeps_at : ((l : Linking) (number : ℕ) → IsGiven l → IsSound l → HasNoStray l → Keeps l (bias_of l.kind number)) → AreSound ls
+  pub keeps_at : ((l : Linking) (number : ℕ) → IsGiven l → IsSound l → HasNoStray l → Keeps l (bias_of l.kind number))
+      → AreSound ls
       → Keeps l (bias_of l.kind x.number)
   keeps_at law sound =
       law l x.number (of_all IsGiven ls x.image l sound.given at) (of_all IsSound ls x.image l sound.sound at)
@@ -50,7 +53,8 @@ module _ (ls : List Linking) (x : Instance) (l : Linking) (at : at_number ls x.i
   block_is = rw at refl
 
 -- one more, at the end of both lists
-pub pushed : {X Y : Type 0} (P : X → Y → Type 0) (xs : List X) (ys : List Y) (x : X) (y : Y) → slice_get xs (length ys) ≡ Some x → P x y
+pub pushed : {X Y : Type 0} (P : X → Y → Type 0) (xs : List X) (ys : List Y) (x : X) (y : Y)
+    → slice_get xs (length ys) ≡ Some x → P x y
     → ((i : ℕ) (a : X) (b : Y) → slice_get xs i ≡ Some a → slice_get ys i ≡ Some b → P a b)
     → (i : ℕ) (a : X) (b : Y) → slice_get xs i ≡ Some a → slice_get (ys ++ y ∷ []) i ≡ Some b → P a b
 pushed P xs [] x y at p old zero a b xa yb =
@@ -60,4 +64,5 @@ pushed P xs [] x y at p old zero a b xa yb =
 pushed P xs [] x y at p old (suc i) a b xa yb = cc
 pushed P [] (z ∷ ys) x y at p old i a b xa yb = cc
 pushed P (w ∷ xs) (z ∷ ys) x y at p old zero a b xa yb = old zero a b xa yb
-pushed P (w ∷ xs) (z ∷ ys) x y at p old (suc i) a b xa yb = pushed P xs ys x y at p (λ j a b. old (suc j) a b) i a b xa yb
+pushed P (w ∷ xs) (z ∷ ys) x y at p old (suc i) a b xa yb =
+    pushed P xs ys x y at p (λ j a b. old (suc j) a b) i a b xa yb

@@ -1,5 +1,6 @@
 -- What the cell of a byte says of it.
-use Rattle.std.proofs.Common.{◌≡◌, ◌+◌, ◌-◌, ◌<◌, ◌≤◌, ℕ, zero, suc, Bool, true, false, List, [], ◌∷◌, Option, None, Some, length, refl, subst, arith}
+use Rattle.std.proofs.Common.{◌≡◌, ◌+◌, ◌-◌, ◌<◌, ◌≤◌, ℕ, zero, suc, Bool, true, false, List, [], ◌∷◌, Option, None}
+use Rattle.std.proofs.Common.{Some, length, refl, subst, arith}
 use Rattle.std.specs.Prelude.{◌==◌, cond, if◌then◌else◌, option_map, slice_get, slice_index_or, unwrap_or}
 use Rattle.std.specs.List.{All, find}
 use Rattle.std.proofs.lemmas.Bool.Decides.{nat_tests}
@@ -87,7 +88,8 @@ module _ (ls : List Linking) (l : Linking) (o : ℕ) (entries : List Entry) wher
   -- it says of byte k what a sequence is, or else a field
   record SaysSite (k : ℕ) (site : Option Site) (field : Option Relocation) (cell : Cell) : Type 0 where
     there : cell.entry < length entries
-    marked : (bias : ℕ) → mark_by bias (entry_of cell) cell.byte ≡ site_mark l bias site (relocated_mark l bias o k field)
+    marked : (bias : ℕ) → mark_by bias (entry_of cell) cell.byte
+        ≡ site_mark l bias site (relocated_mark l bias o k field)
     begins : (image number place : ℕ) → sequence_by image number place (entry_of cell) cell.byte
         ≡ option_map (meant image number place) (starting k site)
 
@@ -95,9 +97,11 @@ module _ (ls : List Linking) (l : Linking) (o : ℕ) (entries : List Entry) wher
   EachSite sites first = (i : ℕ) (site : Site) → slice_get sites i ≡ Some site
       → (it : Entry) × ((slice_get entries (first + i) ≡ Some it) × IsSiteEntry ls l o site it)
 
-  begins_at : (k image number place : ℕ) (site : Site) (it : Entry) (t : Bool) → IsSiteEntry ls l o site it → site.start ≤ k
+  begins_at : (k image number place : ℕ) (site : Site) (it : Entry) (t : Bool) → IsSiteEntry ls l o site it
+      → site.start ≤ k
       → (site.start == k) ≡ t
-      → sequence_by image number place it (k - site.start) ≡ option_map (meant image number place) (if t then Some site else None)
+      → sequence_by image number place it (k - site.start)
+      ≡ option_map (meant image number place) (if t then Some site else None)
   begins_at k image number place site it true is from here =
       let same : site.start ≡ k = grind (arith, nat_tests) in
       let none : k - site.start ≡ 0 = omega arith in
@@ -107,7 +111,8 @@ module _ (ls : List Linking) (l : Linking) (o : ℕ) (entries : List Entry) wher
       is.goes_on image number place (k - site.start) (omega (arith, from, other))
 
   here_site : (first s k : ℕ) (site : Site) (field : Option Relocation) (it : Entry) → slice_get entries first ≡ Some it
-      → IsSiteEntry ls l o site it → is_in_site s k site ≡ true → SaysSite k (Some site) field (cell_from first site.start k)
+      → IsSiteEntry ls l o site it → is_in_site s k site ≡ true
+      → SaysSite k (Some site) field (cell_from first site.start k)
   here_site first s k site field it at is covered =
       let got : slice_index_or entries first Usual ≡ it = get_or_from_slice_get entries first it Usual at in
       record {
@@ -117,9 +122,11 @@ module _ (ls : List Linking) (l : Linking) (o : ℕ) (entries : List Entry) wher
             (begins_at k image number place site it (site.start == k) is (covers_by s k site covered).from refl);
       }
 
-  says_sites : (first : ℕ) (sites : List Site) (s k : ℕ) (field : Option Relocation) (other : Cell) → SaysField k field other
+  says_sites : (first : ℕ) (sites : List Site) (s k : ℕ) (field : Option Relocation) (other : Cell)
+      → SaysField k field other
       → EachSite sites first → SaysSite k (find (is_in_site s k) sites) field (site_cell first sites s k other)
-  says_sites first [] s k field other says each = record { there = says.there; marked = says.marked; begins = says.begins }
+  says_sites first [] s k field other says each =
+      record { there = says.there; marked = says.marked; begins = says.begins }
   says_sites first (site ∷ more) s k field other says each =
       by_cover (is_in_site s k site) refl (says_sites (first + 1) more s k field other says later)
     where
@@ -158,8 +165,10 @@ long_sites l o given there i d inside =
       long = let whole = ok.whole in let short = form_short site.form in omega (arith, whole, short.0);
     }
 
-pub code_shows : (ls : List Linking) (l : Linking) (entries : List Entry) (kept : List KeptObject) (o s k : ℕ) → IsGiven l
-    → AreEntries entries → KeepAll ls l entries kept (length l.objects) → o < length l.objects → s < section_count (object l o)
+pub code_shows : (ls : List Linking) (l : Linking) (entries : List Entry) (kept : List KeptObject) (o s k : ℕ)
+    → IsGiven l
+    → AreEntries entries → KeepAll ls l entries kept (length l.objects) → o < length l.objects
+    → s < section_count (object l o)
     → section_class (object l o) s ≡ Some Executable
     → Shows ls l entries (Some (record { object = o; section = s; within = k })) (code_cell kept l o s k)
 unfolding code_cell

@@ -1,5 +1,6 @@
 -- A sequence begins where it is the first to cover a byte, and that byte is its first one.
-use Rattle.std.proofs.Common.{◌≡◌, ◌∙◌, ◌+◌, ◌<◌, ◌≤◌, ℕ, suc, Bool, true, false, List, [], ◌∷◌, Option, None, Some, length, get_or, refl, sym, ap, arith}
+use Rattle.std.proofs.Common.{◌≡◌, ◌∙◌, ◌+◌, ◌<◌, ◌≤◌, ℕ, suc, Bool, true, false, List, [], ◌∷◌, Option, None, Some}
+use Rattle.std.proofs.Common.{length, get_or, refl, sym, ap, arith}
 use Rattle.std.specs.Prelude.{◌==◌, if◌then◌else◌}
 use Rattle.std.specs.List.{All, find}
 use Rattle.std.proofs.lemmas.Bool.{false_from_ne_true}
@@ -43,7 +44,8 @@ pub record Covers (s k : ℕ) (site : Site) : Type 0 where
   pub to : k < site.start + site.len
 
 pub covers_by : (s k : ℕ) (site : Site) → is_in_site s k site ≡ true → Covers s k site
-covers_by s k site h = record { own = grind (arith, nat_tests); from = grind (arith, nat_tests); to = grind (arith, nat_tests) }
+covers_by s k site h = record
+    { own = grind (arith, nat_tests); from = grind (arith, nat_tests); to = grind (arith, nat_tests) }
 
 starts_in : (s k : ℕ) (site : Site) → 0 < site.len → starts_at s k site ≡ true → is_in_site s k site ≡ true
 starts_in s k site long h = grind (arith, nat_tests)
@@ -57,22 +59,26 @@ starts_as s k site h = grind (arith, nat_tests)
 
 -- ** search
 
-none_found : {X : Type 0} (p : X → Bool) (xs : List X) → ((i : ℕ) (d : X) → i < length xs → p (get_or xs i d) ≡ false) → find p xs ≡ None
+none_found : {X : Type 0} (p : X → Bool) (xs : List X) → ((i : ℕ) (d : X) → i < length xs → p (get_or xs i d) ≡ false)
+    → find p xs ≡ None
 none_found p [] none = refl
 none_found p (x ∷ xs) none = rw (none 0 x (omega arith)) (none_found p xs (λ i d h. none (suc i) d (omega (arith, h))))
 
 -- of two sequences that cover a byte of one section one is the other
-same_site : (b : List ℕ) (s k : ℕ) (x y : Site) → IsLong b x → IsLong b y → is_in_site s k x ≡ true → is_in_site s k y ≡ true → x ≡ y
+same_site : (b : List ℕ) (s k : ℕ) (x y : Site) → IsLong b x → IsLong b y → is_in_site s k x ≡ true
+    → is_in_site s k y ≡ true → x ≡ y
 same_site b s k x y x_is y_is x_in y_in =
     let p = covers_by s k x x_in in
     let q = covers_by s k y y_in in
     sites_apart b x y k x_is.site_is y_is.site_is (p.own ∙ sym q.own) p.from p.to q.from q.to
 
-starts_in_front : (b : List ℕ) (s k : ℕ) (site : Site) (more : List Site) → IsLong b site → All (IsLong b) more → is_in_site s k site ≡ true
+starts_in_front : (b : List ℕ) (s k : ℕ) (site : Site) (more : List Site) → IsLong b site → All (IsLong b) more
+    → is_in_site s k site ≡ true
     → find (starts_at s k) (site ∷ more) ≡ starting k (Some site)
 starts_in_front b s k site more is all covered = by_start (site.start == k) refl
   where
-    none_behind : (site.start == k) ≡ false → (i : ℕ) (d : Site) → i < length more → starts_at s k (get_or more i d) ≡ false
+    none_behind : (site.start == k) ≡ false → (i : ℕ) (d : Site) → i < length more
+        → starts_at s k (get_or more i d) ≡ false
     none_behind unlike i d inside =
         let y = get_or more i d in
         let y_is : IsLong b y = all i d inside in
@@ -96,7 +102,8 @@ starts_found b s k (site ∷ more) all = by_cover (is_in_site s k site) refl (st
     first : IsLong b site
     first = all 0 site (omega arith)
 
-    by_cover : (t : Bool) → is_in_site s k site ≡ t → find (starts_at s k) more ≡ starting k (find (is_in_site s k) more)
+    by_cover : (t : Bool) → is_in_site s k site ≡ t
+        → find (starts_at s k) more ≡ starting k (find (is_in_site s k) more)
         → find (starts_at s k) (site ∷ more) ≡ starting k (find (is_in_site s k) (site ∷ more))
     by_cover true covered later = rw covered (starts_in_front b s k site more first rest covered)
     by_cover false covered later =

@@ -6,7 +6,7 @@ ghost use Rattle.job_meaning.specs.declared.values.Byte.{Byte};
 ghost use Rattle.job_meaning.specs.declared.values.Byte.TheVariants.{Value};
 ghost use Rattle.job_text.specs.LateImages.{LateLast};
 ghost use Rattle.loaded_modules.specs.Ends.{end_behind};
-ghost use Rattle.module_table.specs.Laws.{startup_end};
+ghost use Rattle.module_table.specs.Modules.{startup_end};
 ghost use Rattle.module_table.specs.Modules.{AreInfos, IsInfo};
 ghost use Rattle.thread_blocks.specs.Turns.{at_number};
 ghost use Rattle.memory_image.specs.Tables.{IsClass, Keeps};

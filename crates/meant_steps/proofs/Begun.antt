@@ -1,5 +1,6 @@
 -- Which fronts of some bytes may yet begin an instruction: those before the end of the one that they spell.
-use Rattle.std.proofs.Common.{◌≡◌, ℕ, ◌+◌, ◌-◌, ◌<◌, ◌≤◌, Bool, true, false, List, [], ◌++◌, length, take, drop, Some, refl, sym, ap, ◌∙◌, subst, append-nil, append_assoc, arith}
+use Rattle.std.proofs.Common.{◌≡◌, ℕ, ◌+◌, ◌-◌, ◌<◌, ◌≤◌, Bool, true, false, List, [], ◌++◌, length, take, drop, Some}
+use Rattle.std.proofs.Common.{refl, sym, ap, ◌∙◌, subst, append-nil, append_assoc, arith}
 use Rattle.std.specs.Prelude.{replicate}
 use Rattle.std.proofs.lemmas.List.{drop-replicate, length-append, length-take-le, take-append-le, take-replicate}
 use Rattle.std.proofs.Math.Seq.{take-append-add}
@@ -42,7 +43,8 @@ module _ (bytes : List ℕ) where
       let whole : take k bytes ++ more ≡ take j bytes ++ h.more =
       sym (append_assoc (take k bytes) (drop k (take j bytes)) h.more) ∙ ap (λ (l : List ℕ). l ++ h.more) cut in
       let begins : begins_of (take k bytes) ≡ true =
-      spelling_begins (take k bytes) more h.decoded some (subst (λ (l : List ℕ). Spells l h.decoded) (sym whole) h.spells) in
+      spelling_begins (take k bytes) more h.decoded some
+      (subst (λ (l : List ℕ). Spells l h.decoded) (sym whole) h.spells) in
       cc)
 
 module _ (bytes : List ℕ) (it : Decoded) (spelled : completed bytes ≡ Some it) where
@@ -55,20 +57,23 @@ module _ (bytes : List ℕ) (it : Decoded) (spelled : completed bytes ≡ Some i
 
   -- a front before the instruction's end begins it
   pub begun : (j : ℕ) → j ≤ length bytes → j < it.len → begins_of (take j bytes) ≡ true
-  begun j low short = subst (λ (l : List ℕ). begins_of l ≡ true) (front-is j low) (front-begins (bytes ++ zeros) it j decoded-is short)
+  begun j low short = subst (λ (l : List ℕ). begins_of l ≡ true) (front-is j low)
+      (front-begins (bytes ++ zeros) it j decoded-is short)
 
   -- and one behind it begins none
   pub ended : (j : ℕ) → it.len ≤ j → j ≤ length bytes → begins_of (take j bytes) ≡ false
   ended j long low = false-unless (begins_of (take j bytes)) (λ e.
       let h = begins_spelling (take j bytes) e in
       let own : Spells (take it.len bytes) it =
-      subst (λ (l : List ℕ). Spells l it) (front-is it.len (omega arith)) (decoded_found (bytes ++ zeros) it decoded-is).spells in
+      subst (λ (l : List ℕ). Spells l it) (front-is it.len (omega arith))
+      (decoded_found (bytes ++ zeros) it decoded-is).spells in
       let cut : take it.len bytes ++ drop it.len (take j bytes) ≡ take j bytes = take-cut it.len j bytes long in
       let whole : take it.len bytes ++ (drop it.len (take j bytes) ++ h.more) ≡ (take j bytes ++ h.more) ++ [] =
       sym (append_assoc (take it.len bytes) (drop it.len (take j bytes)) h.more)
       ∙ (ap (λ (l : List ℕ). l ++ h.more) cut ∙ sym (append-nil (take j bytes ++ h.more))) in
       let same : take it.len bytes ≡ take j bytes ++ h.more =
-      (one_spelling_lem (take it.len bytes) (take j bytes ++ h.more) (drop it.len (take j bytes) ++ h.more) [] it h.decoded own h.spells whole).0 in
+      (one_spelling_lem (take it.len bytes) (take j bytes ++ h.more) (drop it.len (take j bytes) ++ h.more)
+      [] it h.decoded own h.spells whole).0 in
       let some = h.some in
       let size : length (take it.len bytes) ≡ length (take j bytes ++ h.more) = ap length same in
       let a : length (take it.len bytes) ≡ it.len = length-take-le it.len bytes (omega arith) in

@@ -1,5 +1,6 @@
 -- The walk over the bytes of an instruction finds the hindrance that is defined.
-use Rattle.std.proofs.Common.{◌≡◌, ℕ, zero, suc, ◌+◌, ◌-◌, ◌^◌, ◌<◌, ◌≤◌, Bool, true, false, List, length, take, Option, Some, None, refl, sym, ap, ◌∙◌, arith}
+use Rattle.std.proofs.Common.{◌≡◌, ℕ, zero, suc, ◌+◌, ◌-◌, ◌^◌, ◌<◌, ◌≤◌, Bool, true, false, List, length, take, Option}
+use Rattle.std.proofs.Common.{Some, None, refl, sym, ap, ◌∙◌, arith}
 use Rattle.std.specs.Prelude.{if◌then◌else◌, is_some, min}
 use Rattle.std.specs.Option.{option_or}
 use Rattle.amd64_subset.specs.declared.instr.Decoded.{Decoded}
@@ -37,7 +38,8 @@ module _ (f : ℕ → Option Cause) where
   step : (k end : ℕ) → k < end → first_from f k (end - k) ≡ option_or (f k) (first_from f (k + 1) (end - (k + 1)))
   step k end low = steps k (end - k) (end - (k + 1)) (omega arith)
 
-  pub found : (k end : ℕ) (why : Option Cause) → k < end → why ≡ f k → is_some why ≡ true → first_from f k (end - k) ≡ why
+  pub found : (k end : ℕ) (why : Option Cause) → k < end → why ≡ f k → is_some why ≡ true
+      → first_from f k (end - k) ≡ why
   found k end why low is some =
       let some : is_some (f k) ≡ true = ap is_some (sym is) ∙ some in
       step k end low ∙ (or-some (f k) (first_from f (k + 1) (end - (k + 1))) some ∙ sym is)
@@ -72,7 +74,8 @@ cut f g zero t k low same none = nowhere f k t (λ j high below. none j (omega a
 cut f g (suc n) zero k low same none = absurd (omega arith)
 cut f g (suc n) (suc t) k low same none =
     let here : f k ≡ g k = same k (omega arith) (omega arith) in
-    let rest = cut f g n t (k + 1) (omega arith) (λ j high below. same j (omega arith) (omega arith)) (λ j high below. none j (omega arith) (omega arith)) in
+    let rest = cut f g n t (k + 1) (omega arith) (λ j high below. same j (omega arith) (omega arith))
+    (λ j high below. none j (omega arith) (omega arith)) in
     rw (here, rest) refl
 
 -- ** places and marks
@@ -111,7 +114,8 @@ module _ {W F B : Type 0} (ops : Operations W F B) (mark : ℕ → Mark) (state 
 
   pub walk-from : (k : ℕ) → k ≤ length bytes
       → first_hindrance ops mark state bytes k (length bytes - k) ≡ first_from asked k (length bytes + 1 - k)
-  walk-from k low = let e : suc (length bytes - k) ≡ length bytes + 1 - k = omega arith in walk-is k (length bytes - k) ∙ ap (first_from asked k) e
+  walk-from k low = let e : suc (length bytes - k) ≡ length bytes + 1 - k = omega arith in
+      walk-is k (length bytes - k) ∙ ap (first_from asked k) e
 
   -- ** single bytes
 
@@ -133,11 +137,13 @@ module _ {W F B : Type 0} (ops : Operations W F B) (mark : ℕ → Mark) (state 
     -- where all are usual, nothing hinders
     pub all-usual : ((j : ℕ) → j < length bytes + 1 → is_usual (mark (plus state.place j)) ≡ true)
         → first_hindrance ops mark state bytes 0 (length bytes) ≡ None
-    all-usual usual = walk-is 0 (length bytes) ∙ nowhere asked 0 (suc (length bytes)) (λ j at below. usual-none j (usual j (omega arith)))
+    all-usual usual = walk-is 0 (length bytes)
+        ∙ nowhere asked 0 (suc (length bytes)) (λ j at below. usual-none j (usual j (omega arith)))
 
     -- the usual ones in front are left out
     pub from-marked : (k : ℕ) → k ≤ length bytes → ((j : ℕ) → j < k → is_usual (mark (plus state.place j)) ≡ true)
-        → first_hindrance ops mark state bytes 0 (length bytes) ≡ first_hindrance ops mark state bytes k (length bytes - k)
+        → first_hindrance ops mark state bytes 0 (length bytes)
+        ≡ first_hindrance ops mark state bytes k (length bytes - k)
     from-marked k within usual =
         let e : suc (length bytes) ≡ length bytes + 1 - 0 = omega arith in
         let at : 0 + k ≡ k = omega arith in

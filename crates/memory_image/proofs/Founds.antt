@@ -1,5 +1,6 @@
 -- What a search found: a section at an address, a field at a byte.
-use Rattle.std.proofs.Common.{◌≡◌, ◌<◌, ◌≤◌, ◌+◌, ◌∙◌, ℕ, zero, suc, List, [], ◌∷◌, Bool, true, false, Option, None, Some, length, refl, sym, ap, subst, arith}
+use Rattle.std.proofs.Common.{◌≡◌, ◌<◌, ◌≤◌, ◌+◌, ◌∙◌, ℕ, zero, suc, List, [], ◌∷◌, Bool, true, false, Option, None}
+use Rattle.std.proofs.Common.{Some, length, refl, sym, ap, subst, arith}
 use Rattle.std.specs.Prelude.{slice_index_or, option_map, if◌then◌else◌}
 use Rattle.std.specs.List.{Contains, find, range_with_len}
 use Rattle.std.specs.Option.{option_or}
@@ -35,22 +36,26 @@ find_range p a (suc n) s e = by_first (p a) refl e (find_range p (a + 1) n s)
         record { passes = x.passes; from = omega (arith, x.from); to = omega (arith, x.to) }
 
 -- the spot is of a section that stands there
-pub record IsSpot (p : Layout) (class : SectionClass) (address n : ℕ) (objects : List (List ℕ)) (spot : Spot) : Type 0 where
-  pub at : ℕ
-  pub number : spot.object ≡ n + at
-  pub there : at < length objects
-  pub within : spot.section < section_count (slice_index_or objects at [])
-  pub stands : stands_at p class spot.object (slice_index_or objects at []) address spot.section ≡ true
-  pub is : spot ≡ spot_at p spot.object address spot.section
+pub record IsSpot (p : Layout) (class : SectionClass) (address n : ℕ) (objects : List (List ℕ)) (spot : Spot) : Type 0
+  where
+    pub at : ℕ
+    pub number : spot.object ≡ n + at
+    pub there : at < length objects
+    pub within : spot.section < section_count (slice_index_or objects at [])
+    pub stands : stands_at p class spot.object (slice_index_or objects at []) address spot.section ≡ true
+    pub is : spot ≡ spot_at p spot.object address spot.section
 
-pub spot_is : (p : Layout) (class : SectionClass) (address n : ℕ) (objects : List (List ℕ)) (spot : Spot) → spot_from p class n objects address ≡ Some spot → IsSpot p class address n objects spot
+pub spot_is : (p : Layout) (class : SectionClass) (address n : ℕ) (objects : List (List ℕ)) (spot : Spot)
+    → spot_from p class n objects address ≡ Some spot → IsSpot p class address n objects spot
 spot_is p class address n [] spot e = absurd (no_option spot e)
 spot_is p class address n (b ∷ more) spot e =
-    by_find (find (stands_at p class n b address) (range_with_len 0 (section_count b))) refl e (spot_is p class address (n + 1) more spot)
+    by_find (find (stands_at p class n b address) (range_with_len 0 (section_count b))) refl e
+    (spot_is p class address (n + 1) more spot)
   where
     by_find : (found : Option ℕ) → find (stands_at p class n b address) (range_with_len 0 (section_count b)) ≡ found
         → option_or (option_map (spot_at p n address) found) (spot_from p class (n + 1) more address) ≡ Some spot
-        → (spot_from p class (n + 1) more address ≡ Some spot → IsSpot p class address (n + 1) more spot) → IsSpot p class address n (b ∷ more) spot
+        → (spot_from p class (n + 1) more address ≡ Some spot → IsSpot p class address (n + 1) more spot)
+        → IsSpot p class address n (b ∷ more) spot
     by_find (Some s) here e rest =
         let x = find_range (stands_at p class n b address) 0 (section_count b) s here in
         let same : spot_at p n address s ≡ spot = same_Some _ _ e in
@@ -65,7 +70,14 @@ spot_is p class address n (b ∷ more) spot e =
         subst (λ (y : Spot). IsSpot p class address n (b ∷ more) y) same made
     by_find None here e rest =
         let x = rest e in
-        record { at = suc x.at; number = omega (arith, x.number); there = omega (arith, x.there); within = x.within; stands = x.stands; is = x.is }
+        record {
+          at = suc x.at;
+          number = omega (arith, x.number);
+          there = omega (arith, x.there);
+          within = x.within;
+          stands = x.stands;
+          is = x.is;
+        }
 
 -- ** fields
 
@@ -73,16 +85,20 @@ pub found_hits : (k : ℕ) (rs : List Relocation) (r : Relocation) → find (hit
 found_hits k [] r e = absurd (no_option r e)
 found_hits k (y ∷ rs) r e = by_hit (hits k y) refl (found_hits k rs r) e
   where
-    by_hit : (t : Bool) → hits k y ≡ t → (find (hits k) rs ≡ Some r → hits k r ≡ true) → (if t then Some y else find (hits k) rs) ≡ Some r → hits k r ≡ true
+    by_hit : (t : Bool) → hits k y ≡ t → (find (hits k) rs ≡ Some r → hits k r ≡ true)
+        → (if t then Some y else find (hits k) rs) ≡ Some r → hits k r ≡ true
     by_hit true h later e = subst (λ (x : Relocation). hits k x ≡ true) (same_Some y r e) h
     by_hit false h later e = later e
 
 -- a field is found at each of its bytes
-pub found_again : (k k' : ℕ) (rs : List Relocation) (r : Relocation) → AreApart rs → find (hits k) rs ≡ Some r → hits k' r ≡ true → find (hits k') rs ≡ Some r
+pub found_again : (k k' : ℕ) (rs : List Relocation) (r : Relocation) → AreApart rs → find (hits k) rs ≡ Some r
+    → hits k' r ≡ true → find (hits k') rs ≡ Some r
 found_again k k' [] r apart e h = absurd (no_option r e)
-found_again k k' (y ∷ rs) r apart e h = by_hit (hits k y) refl (λ later. found_again k k' rs r (apart_rest y rs apart) later h) e
+found_again k k' (y ∷ rs) r apart e h =
+    by_hit (hits k y) refl (λ later. found_again k k' rs r (apart_rest y rs apart) later h) e
   where
-    by_hit : (t : Bool) → hits k y ≡ t → (find (hits k) rs ≡ Some r → find (hits k') rs ≡ Some r) → (if t then Some y else find (hits k) rs) ≡ Some r
+    by_hit : (t : Bool) → hits k y ≡ t → (find (hits k) rs ≡ Some r → find (hits k') rs ≡ Some r)
+        → (if t then Some y else find (hits k) rs) ≡ Some r
         → find (hits k') (y ∷ rs) ≡ Some r
     by_hit true first later e =
         let same : y ≡ r = same_Some y r e in
@@ -98,6 +114,7 @@ pub found_in : (k : ℕ) (rs : List Relocation) (r : Relocation) → find (hits 
 found_in k [] r e = absurd (no_option r e)
 found_in k (y ∷ rs) r e = by_hit (hits k y) e (found_in k rs r)
   where
-    by_hit : (t : Bool) → (if t then Some y else find (hits k) rs) ≡ Some r → (find (hits k) rs ≡ Some r → Contains rs r) → Contains (y ∷ rs) r
+    by_hit : (t : Bool) → (if t then Some y else find (hits k) rs) ≡ Some r
+        → (find (hits k) rs ≡ Some r → Contains rs r) → Contains (y ∷ rs) r
     by_hit true e later = (0, omega arith, same_Some y r e)
     by_hit false e later = let x = later e in (suc x.0, omega (arith, x.1), x.2)

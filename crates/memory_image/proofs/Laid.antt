@@ -1,5 +1,6 @@
 -- A table that is laid section by section is that of the class.
-use Rattle.std.proofs.Common.{◌≡◌, ◌<◌, ◌≤◌, ◌+◌, ◌-◌, ℕ, List, [], ◌++◌, true, false, None, Some, length, take, refl, sym, ap, ◌∙◌, arith, replicate, map, slice_index}
+use Rattle.std.proofs.Common.{◌≡◌, ◌<◌, ◌≤◌, ◌+◌, ◌-◌, ℕ, List, [], ◌++◌, true, false, None, Some, length, take, refl}
+use Rattle.std.proofs.Common.{sym, ap, ◌∙◌, arith, replicate, map, slice_index}
 use Rattle.std.specs.Prelude.{◌^◌, sum}
 use Rattle.std.specs.List.{range_with_len}
 use Rattle.std.proofs.lemmas.List.{get_or-map, length-map, take_all}
@@ -10,7 +11,7 @@ use Rattle.elf_object.specs.Object.{section_count}
 use Rattle.object_faults.specs.declared.class.SectionClass.{SectionClass}
 use Rattle.object_faults.specs.declared.class.SectionClass.TheVariants.{Executable, ReadOnly, Tls, Writable}
 use Rattle.link_needs.specs.Linking.{Linking, layout, object}
-use Rattle.tls_layout.specs.Laws.{extent_for}
+use Rattle.tls_layout.specs.Places.{extent_for}
 use Rattle.tls_layout.specs.Places.{IsLawful, end_of}
 use Rattle.tls_layout.specs.Sections.{Layout, is_class, section_at, section_counts}
 use Rattle.tls_layout.proofs.Ends.{end_of-all, end_of-none, end_of-rises}
@@ -19,9 +20,11 @@ use Rattle.tls_layout.proofs.LawsOfPlaces.{classes_follow, group_end, within}
 use Rattle.tls_layout.proofs.Listed.{length-all_sections}
 use Rattle.tls_layout.proofs.Together.{ascend}
 use Rattle.whole_meaning.specs.Spots.{begin_of, spot_at, spot_from, spot_in}
-use Rattle.memory_image.specs.Laying.{HasRange, IsOfClass, cell_of, cells_from, class_cells, end_before, laid_before, section_cells}
+use Rattle.memory_image.specs.Laying.{HasRange, IsOfClass, cell_of, cells_from, class_cells, end_before, laid_before}
+use Rattle.memory_image.specs.Laying.{section_cells}
 use Rattle.memory_image.proofs.RangeLists.{map_constant, map_more, map_same}
-use Rattle.memory_image.proofs.Placing.{begins_after, end_after, end_moves, end_skips, gap_at, number, placed_at, rises, section_stands}
+use Rattle.memory_image.proofs.Placing.{begins_after, end_after, end_moves, end_skips, gap_at, number, placed_at, rises}
+use Rattle.memory_image.proofs.Placing.{section_stands}
 
 pub extent_rises : (class : SectionClass) (q : Layout) → (extent_for class q).start ≤ (extent_for class q).end
 extent_rises class q = (classes_follow q).rise class
@@ -49,17 +52,20 @@ module _ (l : Linking) (class : SectionClass) where
 
   end_next : (o s : ℕ) → end_before l class o (s + 1) ≡ ends (nth o s + 1)
   unfolding end_before
-  end_next o s = let same : sum (take o p.counts) + (s + 1) ≡ sum (take o p.counts) + s + 1 = omega arith in ap ends same
+  end_next o s = let same : sum (take o p.counts) + (s + 1) ≡ sum (take o p.counts) + s + 1 = omega arith in
+      ap ends same
 
   end_rises : (o s : ℕ) → start ≤ end_before l class o s
   unfolding end_before
   end_rises o s = end_of-rises class start (take (nth o s) p.sections)
 
   -- an object's last section is followed by the first of the next object
-  end_next_object : (o : ℕ) → o < length l.objects → end_before l class o (section_count (object l o)) ≡ end_before l class (o + 1) 0
+  end_next_object : (o : ℕ) → o < length l.objects
+      → end_before l class o (section_count (object l o)) ≡ end_before l class (o + 1) 0
   unfolding end_before section_counts
   end_next_object o there =
-      let count : slice_index p.counts o ≡ section_count (object l o) = get_or-map section_count l.objects o [] 0 there in
+      let count : slice_index p.counts o ≡ section_count (object l o) =
+      get_or-map section_count l.objects o [] 0 there in
       let len : length p.counts ≡ length l.objects = length-map l.objects section_count in
       let more = sum_by_more (λ x. x) p.counts o 0 (omega arith) in
       let same : sum (take o p.counts) + section_count (object l o) ≡ sum (take (o + 1) p.counts) + 0 = omega arith in
@@ -71,7 +77,8 @@ module _ (l : Linking) (class : SectionClass) where
 
   few : length p.counts ≤ length l.objects
   unfolding section_counts
-  few = let len : length (section_counts l.objects) ≡ length l.objects = length-map l.objects section_count in omega arith
+  few = let len : length (section_counts l.objects) ≡ length l.objects = length-map l.objects section_count in
+      omega arith
 
   -- no section comes behind the last object's
   none_behind : length p.sections ≤ nth (length l.objects) 0
@@ -84,7 +91,8 @@ module _ (l : Linking) (class : SectionClass) where
   pub all_inside : HasRange class → end_of class start p.sections ≤ (extent_for class p).end
   all_inside range = by_class class range
     where
-      by_class : (class : SectionClass) → HasRange class → end_of class (extent_for class p).start p.sections ≤ (extent_for class p).end
+      by_class : (class : SectionClass) → HasRange class
+          → end_of class (extent_for class p).start p.sections ≤ (extent_for class p).end
       by_class Executable range = let e = group_end p.kind p.sections Executable refl in omega (arith, e)
       by_class ReadOnly range = let e = group_end p.kind p.sections ReadOnly refl in omega (arith, e)
       by_class (Tls true) range = let e = group_end p.kind p.sections (Tls true) refl in omega (arith, e)
@@ -98,7 +106,8 @@ module _ (l : Linking) (class : SectionClass) where
   pub end_inside : HasRange class → end_before l class (length l.objects) 0 ≤ (extent_for class p).end
   unfolding end_before
   end_inside range =
-      let all : ends (nth (length l.objects) 0) ≡ end_of class start p.sections = end_of-all class start p.sections (nth (length l.objects) 0) none_behind in
+      let all : ends (nth (length l.objects) 0) ≡ end_of class start p.sections =
+      end_of-all class start p.sections (nth (length l.objects) 0) none_behind in
       let inside = all_inside range in
       omega arith
 
@@ -114,17 +123,21 @@ module _ {A : Type 0} (cell : ℕ → ℕ → ℕ → A) (l : Linking) (class : 
   unfolding cells_from
   length_cells a n = length-map-range_with_len (λ address. cell_of cell gap (spot_in l class address)) a n
 
-  pub length_class : length (class_cells cell l class gap) ≡ (extent_for class (layout l)).end - (extent_for class (layout l)).start
-  length_class = length_cells (extent_for class (layout l)).start ((extent_for class (layout l)).end - (extent_for class (layout l)).start)
+  pub length_class : length (class_cells cell l class gap)
+      ≡ (extent_for class (layout l)).end - (extent_for class (layout l)).start
+  length_class = length_cells (extent_for class (layout l)).start
+      ((extent_for class (layout l)).end - (extent_for class (layout l)).start)
 
   no_cells : (a n : ℕ) → n ≡ 0 → [] ≡ cells a n
   unfolding cells_from
   no_cells a n e = rw e refl
 
-  gap_cells : (a n : ℕ) → ((x : ℕ) → a ≤ x → x < a + n → spot_from (layout l) class 0 l.objects x ≡ None) → cells a n ≡ replicate n gap
+  gap_cells : (a n : ℕ) → ((x : ℕ) → a ≤ x → x < a + n → spot_from (layout l) class 0 l.objects x ≡ None)
+      → cells a n ≡ replicate n gap
   unfolding cells_from spot_in
   gap_cells a n none =
-      map_constant (λ address. cell_of cell gap (spot_in l class address)) gap a n (λ x above below. ap (cell_of cell gap) (none x above below))
+      map_constant (λ address. cell_of cell gap (spot_in l class address)) gap a n
+      (λ x above below. ap (cell_of cell gap) (none x above below))
 
   own_cells : (o s a n : ℕ) → a ≡ begin_of (layout l) o s
       → ((x : ℕ) → a ≤ x → x < a + n → spot_from (layout l) class 0 l.objects x ≡ Some (spot_at (layout l) o x s))
@@ -153,24 +166,30 @@ module _ {A : Type 0} (cell : ℕ → ℕ → ℕ → A) (l : Linking) (class : 
       let size = section_size (object l o) s in
       let long : length t ≡ end - first = ap length e ∙ length_cells first (end - first) in
       let padded : cells end (begin - end) ≡ replicate (begin - first - length t) gap =
-      gap_cells end (begin - end) (λ x above below. gap_at l.kind l.objects class range (nth l class o s) x (omega arith)
-      (λ o' s' m there le. let up = rises l.kind l.objects class o s (nth l class o s) o' s' m here there le in omega arith))
+      gap_cells end (begin - end)
+      (λ x above below. gap_at l.kind l.objects class range (nth l class o s) x (omega arith)
+      (λ o' s' m there le. let up = rises l.kind l.objects class o s (nth l class o s) o' s' m here there le in
+      omega arith))
       ∙ ap (λ n. replicate n gap) (same end begin first (length t) low now after long) in
       let own : cells begin size ≡ section_cells cell l o s =
-      own_cells o s begin size refl (λ x above below. section_stands l.kind l.objects class range o s x is.object_there is.section_there is.class_is above below) in
+      own_cells o s begin size refl
+      (λ x above below. section_stands l.kind l.objects class range o s x is.object_there is.section_there is.class_is above below) in
       let one = cells_more first end (end - first) (begin - end) (omega arith) in
       let two = cells_more first begin ((end - first) + (begin - end)) size (omega arith) in
       let all : end_before l class o (s + 1) - first ≡ (end - first) + (begin - end) + size = omega arith in
       joined (cells first) _ _ _ _ _ _ _ _ all two one padded own e e' e''
     where
-      same : (end begin first n : ℕ) → first ≤ end → end ≡ ends l class (nth l class o s) → ends l class (nth l class o s) ≤ begin → n ≡ end - first → begin - end ≡ begin - first - n
+      same : (end begin first n : ℕ) → first ≤ end → end ≡ ends l class (nth l class o s)
+          → ends l class (nth l class o s) ≤ begin → n ≡ end - first → begin - end ≡ begin - first - n
       same end begin first n low now after long = omega arith
 
-      joined : (f : ℕ → List A) (n m j k : ℕ) (w x y z : List A) → n ≡ m → f m ≡ f j ++ w → f j ≡ f k ++ x → x ≡ y → w ≡ z
+      joined : (f : ℕ → List A) (n m j k : ℕ) (w x y z : List A) → n ≡ m → f m ≡ f j ++ w → f j ≡ f k ++ x → x ≡ y
+          → w ≡ z
           → t ≡ f k → t' ≡ t ++ y → t'' ≡ t' ++ z → t'' ≡ f n
       joined f n m j k w x y z a b c d e g h i = cc
 
-  pub section_skipped : (o s : ℕ) → o < length l.objects → s < section_count (object l o) → is_class class (section_class (object l o) s) ≡ false
+  pub section_skipped : (o s : ℕ) → o < length l.objects → s < section_count (object l o)
+      → is_class class (section_class (object l o) s) ≡ false
       → laid_before cell l class gap o s ≡ laid_before cell l class gap o (s + 1)
   section_skipped o s there below other =
       let same : end_before l class o s ≡ end_before l class o (s + 1) =
@@ -186,9 +205,11 @@ module _ {A : Type 0} (cell : ℕ → ℕ → ℕ → A) (l : Linking) (class : 
   pub none_laid : [] ≡ laid_before cell l class gap 0 0
   none_laid =
       let first = end_first l class in
-      no_cells (extent_for class (layout l)).start (end_before l class 0 0 - (extent_for class (layout l)).start) (omega arith)
+      no_cells (extent_for class (layout l)).start (end_before l class 0 0 - (extent_for class (layout l)).start)
+      (omega arith)
 
-  pub class_laid : (n : ℕ) (t t' : List A) → HasRange class → n ≡ length l.objects → t ≡ laid_before cell l class gap n 0
+  pub class_laid : (n : ℕ) (t t' : List A) → HasRange class → n ≡ length l.objects
+      → t ≡ laid_before cell l class gap n 0
       → t' ≡ t ++ replicate ((extent_for class (layout l)).end - (extent_for class (layout l)).start - length t) gap
       → t' ≡ class_cells cell l class gap
   class_laid n t t' range all e e' =
@@ -200,7 +221,9 @@ module _ {A : Type 0} (cell : ℕ → ℕ → ℕ → A) (l : Linking) (class : 
       let now : t ≡ cells first (end - first) = e ∙ ap (λ m. laid_before cell l class gap m 0) all in
       let long : length t ≡ end - first = ap length now ∙ length_cells first (end - first) in
       let padded : cells end (last - end) ≡ replicate (last - first - length t) gap =
-      gap_cells end (last - end) (λ x above below. gap_at l.kind l.objects class range (nth l class (length l.objects) 0) x (omega (arith, end_is l class (length l.objects) 0))
+      gap_cells end (last - end)
+      (λ x above below. gap_at l.kind l.objects class range (nth l class (length l.objects) 0) x
+      (omega (arith, end_is l class (length l.objects) 0))
       (λ o s m there le. absurd (past m there.is le)))
       ∙ ap (λ k. replicate k gap) (same end last first (length t) low long) in
       let one = cells_more first end (end - first) (last - end) (omega arith) in
@@ -216,5 +239,6 @@ module _ {A : Type 0} (cell : ℕ → ℕ → ℕ → A) (l : Linking) (class : 
       same : (end last first n : ℕ) → first ≤ end → n ≡ end - first → last - end ≡ last - first - n
       same end last first n low long = omega arith
 
-      joined : (f : ℕ → List A) (n m k : ℕ) (x y : List A) → n ≡ m → f m ≡ f k ++ x → x ≡ y → t ≡ f k → t' ≡ t ++ y → t' ≡ f n
+      joined : (f : ℕ → List A) (n m k : ℕ) (x y : List A) → n ≡ m → f m ≡ f k ++ x → x ≡ y → t ≡ f k → t' ≡ t ++ y
+          → t' ≡ f n
       joined f n m k x y a b c d e = cc

@@ -1,5 +1,6 @@
 -- Objects that link make images that may be moved.
-use Rattle.std.proofs.Common.{◌≡◌, ◌≢◌, ◌<◌, ◌^◌, ◌&&◌, ◌∙◌, ℕ, pos, negsuc, true, false, List, [], Option, None, Some, length, refl, ap, subst, arith}
+use Rattle.std.proofs.Common.{◌≡◌, ◌≢◌, ◌<◌, ◌^◌, ◌&&◌, ◌∙◌, ℕ, pos, negsuc, true, false, List, [], Option, None, Some}
+use Rattle.std.proofs.Common.{length, refl, ap, subst, arith}
 use Rattle.std.specs.Prelude.{◌<ℤ◌, ◌≤ℤ◌, is_none}
 use Rattle.std.specs.List.{Contains}
 use Rattle.std.proofs.lemmas.Int.{by_lt_z, ints}
@@ -53,7 +54,8 @@ addend_of None getter xs start f r is entry = absurd is
 addend_of (Some second) getter xs start f r is entry =
     subst (λ (y : Relocation). y.addend ≡ negsuc 3) (same_entry xs f is.0 r is.1 entry) is.2.addend_is
 
-module _ (l : Linking) (given : IsGiven l) (fits : FitsKind l.objects l.kind) (resolved : AreResolved l.objects l.startup) (stray : HasNoStray l)
+module _ (l : Linking) (given : IsGiven l) (fits : FitsKind l.objects l.kind)
+    (resolved : AreResolved l.objects l.startup) (stray : HasNoStray l)
     (o s : ℕ) (r : Relocation) (there : o < length l.objects) (has : Contains (relocations (object l o) s) r) where
   abbrev own : List ℕ
   own = object l o
@@ -67,19 +69,22 @@ module _ (l : Linking) (given : IsGiven l) (fits : FitsKind l.objects l.kind) (r
   not_refused : is_refused NarrowInModule l.kind r.kind ≡ true → ⊥
   not_refused wrong =
       let place = held own s has.0 r entry in
-      fits.no_narrow.nowhere o place.table place.entry (there, place.above, place.below, passes own r (by_type NarrowInModule l.kind o) place wrong)
+      fits.no_narrow.nowhere o place.table place.entry
+      (there, place.above, place.below, passes own r (by_type NarrowInModule l.kind o) place wrong)
 
   not_undefined : is_faulty Undefined l.objects l.startup o r ≡ true → ⊥
   unfolding Stands
   not_undefined wrong =
       let place = held own s has.0 r entry in
-      resolved Undefined (omega arith) o place.table place.entry (there, place.above, place.below, passes own r (is_faulty Undefined l.objects l.startup o) place wrong)
+      resolved Undefined (omega arith) o place.table place.entry
+      (there, place.above, place.below, passes own r (is_faulty Undefined l.objects l.startup o) place wrong)
 
   not_mismatched : is_faulty NotTls l.objects l.startup o r ≡ true → ⊥
   unfolding Stands
   not_mismatched wrong =
       let place = held own s has.0 r entry in
-      resolved NotTls (omega arith) o place.table place.entry (there, place.above, place.below, passes own r (is_faulty NotTls l.objects l.startup o) place wrong)
+      resolved NotTls (omega arith) o place.table place.entry
+      (there, place.above, place.below, passes own r (is_faulty NotTls l.objects l.startup o) place wrong)
 
   -- a call of the run time's function is one of a sequence
   called : Plain r.kind → binding l o r ≡ Some Runtime → r.addend <ℤ pos (2 ^ 31)
@@ -87,7 +92,18 @@ module _ (l : Linking) (given : IsGiven l) (fits : FitsKind l.objects l.kind) (r
       by_lt_z r.addend (pos (2 ^ 31)) (λ h. h) (λ big. absurd (
       (stray o there).1 (kept_relocation_table own s) has.0 (
         has_table own (kept_relocation_table own s) has.0 r entry,
-        (s, refl, (r, entry, kind.some, getter, λ e site is second. clash big (addend_of (row site.form).second (IsGetter own) xs site.start has.0 r second entry))),
+        (
+          s,
+          refl,
+          (
+            r,
+            entry,
+            kind.some,
+            getter,
+            λ e site is second. clash big
+                (addend_of (row site.form).second (IsGetter own) xs site.start has.0 r second entry),
+          ),
+        ),
       )))
     where
       getter : IsGetter own r.symbol
@@ -113,7 +129,8 @@ module _ (l : Linking) (given : IsGiven l) (fits : FitsKind l.objects l.kind) (r
           ∙ ap (is_mismatched l.objects r.kind) e ∙ rw kind.other refl))
       by_bound (Some Runtime) e h = called kind e
 
-pub movable : (l : Linking) → IsGiven l → FitsKind l.objects l.kind → AreResolved l.objects l.startup → HasNoStray l → is_moved l.kind ≡ true → IsMovable l
+pub movable : (l : Linking) → IsGiven l → FitsKind l.objects l.kind → AreResolved l.objects l.startup → HasNoStray l
+    → is_moved l.kind ≡ true → IsMovable l
 movable l given fits resolved stray moved = record {
   wide = λ o s r there has e.
       not_refused l given fits resolved stray o s r there has (ap (is_refused_by NarrowInModule l.kind) e ∙ moved);

@@ -1,7 +1,9 @@
 -- Where the sections of a class stand, and what stands at an address by that.
-use Rattle.std.proofs.Common.{◌≡◌, ◌<◌, ◌≤◌, ◌+◌, ℕ, List, [], true, false, None, Some, IsSome, length, take, refl, sym, ap, subst, ◌∙◌, arith, inl, inr, slice_index}
+use Rattle.std.proofs.Common.{◌≡◌, ◌<◌, ◌≤◌, ◌+◌, ℕ, List, [], true, false, None, Some, IsSome, length, take, refl, sym}
+use Rattle.std.proofs.Common.{ap, subst, ◌∙◌, arith, inl, inr, slice_index}
 use Rattle.std.specs.Prelude.{slice_index_or, sum, unwrap_or, nat_lt, nat_le}
-use Rattle.std.proofs.lemmas.Bool.{and_from, and_parts, cases_lt, false_from_ne_true, lt-ltb, ltb-true, le-leb, leb-true}
+use Rattle.std.proofs.lemmas.Bool.{and_from, and_parts, cases_lt, false_from_ne_true, lt-ltb, ltb-true, le-leb}
+use Rattle.std.proofs.lemmas.Bool.{leb-true}
 use Rattle.std.proofs.lemmas.List.{get_or-map, take-take}
 use Rattle.elf_object.specs.Lent.{section_class, section_size}
 use Rattle.elf_object.specs.Object.{section_count}
@@ -10,7 +12,8 @@ use Rattle.object_faults.specs.declared.class.SectionClass.TheVariants.{Executab
 use Rattle.link_faults.specs.declared.image_kind.ImageKind.{ImageKind}
 use Rattle.placed_sections.proofs.Rising.{class_is}
 use Rattle.tls_layout.specs.declared.sections.Section.{Section}
-use Rattle.tls_layout.specs.Laws.{IsSectionOf, extent_for}
+use Rattle.tls_layout.specs.Laws.{IsSectionOf}
+use Rattle.tls_layout.specs.Places.{extent_for}
 use Rattle.tls_layout.specs.Places.{end_of, place_in, address_of, address_at, address_by, section_named}
 use Rattle.tls_layout.specs.Sections.{Layout, layout_of, section_at, section_counts, position, is_class, is_in, dropped}
 use Rattle.tls_layout.proofs.Ends.{end_of-more, end_of-all, end_of-front}
@@ -43,27 +46,33 @@ module _ (kind : ImageKind) (objects : List (List ℕ)) (class : SectionClass) w
     pub size_is : (section_at p.sections k).size ≡ section_size (slice_index_or objects o []) s
     pub begin_is : begin_of p o s ≡ place_in class start p.sections k
 
-  numbered_is : (o s : ℕ) → o < length objects → s < section_count (slice_index_or objects o []) → position p.counts o s ≡ Some (number o s)
+  numbered_is : (o s : ℕ) → o < length objects → s < section_count (slice_index_or objects o [])
+      → position p.counts o s ≡ Some (number o s)
   unfolding position section_counts
   numbered_is o s there below =
-      let count : slice_index p.counts o ≡ section_count (slice_index_or objects o []) = get_or-map section_count objects o [] 0 there in
+      let count : slice_index p.counts o ≡ section_count (slice_index_or objects o []) =
+      get_or-map section_count objects o [] 0 there in
       rw (count, lt-ltb s (section_count (slice_index_or objects o [])) below) refl
 
-  named_is : (o s : ℕ) → o < length objects → s < section_count (slice_index_or objects o []) → section_named p o s ≡ section_at p.sections (number o s)
+  named_is : (o s : ℕ) → o < length objects → s < section_count (slice_index_or objects o [])
+      → section_named p o s ≡ section_at p.sections (number o s)
   unfolding section_named
   named_is o s there below = rw (numbered_is o s there below) refl
 
   section_is : (o s : ℕ) → o < length objects → s < section_count (slice_index_or objects o [])
       → IsSectionOf (slice_index_or objects o []) s (section_at p.sections (number o s))
   section_is o s there below =
-      subst (λ (x : Section). IsSectionOf (slice_index_or objects o []) s x) (named_is o s there below) (finds_sections kind objects o s there)
+      subst (λ (x : Section). IsSectionOf (slice_index_or objects o []) s x) (named_is o s there below)
+      (finds_sections kind objects o s there)
 
-  address_is : HasRange class → (o s k : ℕ) → position p.counts o s ≡ Some k → (section_at p.sections k).class ≡ Some class
+  address_is : HasRange class → (o s k : ℕ) → position p.counts o s ≡ Some k
+      → (section_at p.sections k).class ≡ Some class
       → address_of p o s ≡ Some (place_in class start p.sections k)
   unfolding address_of address_at
   address_is range o s k at is = rw (at, is) (by_class class range)
     where
-      by_class : (class : SectionClass) → HasRange class → address_by (Some class) p.kind p.sections k ≡ Some (place_in class (extent_for class p).start p.sections k)
+      by_class : (class : SectionClass) → HasRange class
+          → address_by (Some class) p.kind p.sections k ≡ Some (place_in class (extent_for class p).start p.sections k)
       by_class Executable range = refl
       by_class ReadOnly range = refl
       by_class (Tls true) range = refl
@@ -86,17 +95,20 @@ module _ (kind : ImageKind) (objects : List (List ℕ)) (class : SectionClass) w
 
   -- a section of another class moves no end
   pub end_skips : (o s : ℕ) → o < length objects → s < section_count (slice_index_or objects o [])
-      → is_class class (section_class (slice_index_or objects o []) s) ≡ false → end_after (number o s + 1) ≡ end_after (number o s)
+      → is_class class (section_class (slice_index_or objects o []) s) ≡ false
+      → end_after (number o s + 1) ≡ end_after (number o s)
   end_skips o s there below other =
       let seen = section_is o s there below in
       let out : is_in class (section_at p.sections (number o s)) ≡ false = ap (is_class class) seen.class_is ∙ other in
       elim (cases_lt (number o s) (length p.sections)) [
         | inl inside ↦ end_of-more class start p.sections (number o s) dropped inside ∙ rw out refl
-        | inr past ↦ end_of-all class start p.sections (number o s + 1) (omega arith) ∙ sym (end_of-all class start p.sections (number o s) past)
+        | inr past ↦ end_of-all class start p.sections (number o s + 1) (omega arith)
+            ∙ sym (end_of-all class start p.sections (number o s) past)
       ]
 
   -- one of the class begins behind those before it, and the next end is its own
-  pub end_moves : (o s k : ℕ) → Placed o s k → end_after (k + 1) ≡ begin_of p o s + section_size (slice_index_or objects o []) s
+  pub end_moves : (o s k : ℕ) → Placed o s k
+      → end_after (k + 1) ≡ begin_of p o s + section_size (slice_index_or objects o []) s
   end_moves o s k x = let ends = ends_at class start p.sections k x.is in omega (arith, x.begin_is, x.size_is)
 
   pub begins_after : (o s k : ℕ) → Placed o s k → end_after k ≤ begin_of p o s
@@ -106,7 +118,8 @@ module _ (kind : ImageKind) (objects : List (List ℕ)) (class : SectionClass) w
       omega (arith, x.begin_is)
 
   -- it ends before a later one begins, and before that the sections so far end
-  ends_before : (o s k m : ℕ) → Placed o s k → k < m → begin_of p o s + section_size (slice_index_or objects o []) s ≤ end_after m
+  ends_before : (o s k m : ℕ) → Placed o s k → k < m
+      → begin_of p o s + section_size (slice_index_or objects o []) s ≤ end_after m
   ends_before o s k m x less =
       let moves = end_moves o s k x in
       let more : end_after (k + 1) ≤ end_after m =
@@ -118,7 +131,8 @@ module _ (kind : ImageKind) (objects : List (List ℕ)) (class : SectionClass) w
   rises o s k o' s' m x y le = elim (cases_lt k m) [
     | inl less ↦ let ends = ends_before o s k m x less in let begins = begins_after o' s' m y in omega arith
     | inr more ↦
-        let same : place_in class start p.sections k ≡ place_in class start p.sections m = ap (place_in class start p.sections) (omega arith) in
+        let same : place_in class start p.sections k ≡ place_in class start p.sections m =
+        ap (place_in class start p.sections) (omega arith) in
         omega (arith, x.begin_is, y.begin_is)
   ]
 
@@ -130,10 +144,12 @@ module _ (kind : ImageKind) (objects : List (List ℕ)) (class : SectionClass) w
     pub from : begin_of p o s ≤ address
     pub to : address < begin_of p o s + section_size (slice_index_or objects o []) s
 
-  pub stands_so : (o s address : ℕ) → stands_at p class o (slice_index_or objects o []) address s ≡ true → Stands o s address
+  pub stands_so : (o s address : ℕ) → stands_at p class o (slice_index_or objects o []) address s ≡ true
+      → Stands o s address
   stands_so o s address e =
       let both = and_parts (is_class class (section_class (slice_index_or objects o []) s)) _ e in
-      let ends = and_parts (nat_le (begin_of p o s) address) (nat_lt address (begin_of p o s + section_size (slice_index_or objects o []) s)) both.1 in
+      let ends = and_parts (nat_le (begin_of p o s) address)
+      (nat_lt address (begin_of p o s + section_size (slice_index_or objects o []) s)) both.1 in
       record {
         of_class = class_is class (section_class (slice_index_or objects o []) s) both.0;
         from = leb-true (begin_of p o s) address ends.0;
@@ -146,9 +162,11 @@ module _ (kind : ImageKind) (objects : List (List ℕ)) (class : SectionClass) w
   gap_at range k address above below =
       spot_none p class address 0 objects (λ o i s at there within. none o i s (omega arith) there within)
     where
-      none : (o i s : ℕ) → o ≡ i → i < length objects → s < section_count (slice_index_or objects i []) → stands_at p class o (slice_index_or objects i []) address s ≡ false
+      none : (o i s : ℕ) → o ≡ i → i < length objects → s < section_count (slice_index_or objects i [])
+          → stands_at p class o (slice_index_or objects i []) address s ≡ false
       none o i s at there within =
-          rw at (false_from_ne_true (stands_at p class i (slice_index_or objects i []) address s) (λ is. clash (stands_so i s address is)))
+          rw at (false_from_ne_true (stands_at p class i (slice_index_or objects i []) address s)
+          (λ is. clash (stands_so i s address is)))
         where
           clash : Stands i s address → ⊥
           clash x =
@@ -159,7 +177,8 @@ module _ (kind : ImageKind) (objects : List (List ℕ)) (class : SectionClass) w
               ]
 
   -- a section stands at each of its addresses alone
-  pub section_stands : HasRange class → (o s address : ℕ) → o < length objects → s < section_count (slice_index_or objects o [])
+  pub section_stands : HasRange class → (o s address : ℕ) → o < length objects
+      → s < section_count (slice_index_or objects o [])
       → section_class (slice_index_or objects o []) s ≡ Some class → begin_of p o s ≤ address
       → address < begin_of p o s + section_size (slice_index_or objects o []) s
       → spot_from p class 0 objects address ≡ Some (spot_at p o address s)
@@ -172,7 +191,8 @@ module _ (kind : ImageKind) (objects : List (List ℕ)) (class : SectionClass) w
 
       stands : stands_at p class o (slice_index_or objects o []) address s ≡ true
       stands = rw (is, in_class class (record { class = Some class; size = 0; alignment = 1 }) refl)
-          (and_from _ _ (le-leb (begin_of p o s) address from) (lt-ltb address (begin_of p o s + section_size (slice_index_or objects o []) s) to))
+          (and_from _ _ (le-leb (begin_of p o s) address from)
+          (lt-ltb address (begin_of p o s + section_size (slice_index_or objects o []) s) to))
 
       one : (i s' : ℕ) → Stands i s' address → Placed i s' (number i s') → (i ≡ o) × (s' ≡ s)
       one i s' x placed = elim (cases_lt (number i s') (number o s)) [
@@ -194,5 +214,6 @@ module _ (kind : ImageKind) (objects : List (List ℕ)) (class : SectionClass) w
       alone : (o' i s' : ℕ) → o' ≡ i → i < length objects → s' < section_count (slice_index_or objects i [])
           → stands_at p class o' (slice_index_or objects i []) address s' ≡ true → (i ≡ o) × (s' ≡ s)
       alone o' i s' at there' within' stands' =
-          let x = stands_so i s' address (subst (λ (m : ℕ). stands_at p class m (slice_index_or objects i []) address s' ≡ true) at stands') in
+          let x = stands_so i s' address
+          (subst (λ (m : ℕ). stands_at p class m (slice_index_or objects i []) address s' ≡ true) at stands') in
           one i s' x (placed_at range i s' there' within' x.of_class)

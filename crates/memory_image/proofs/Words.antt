@@ -1,5 +1,6 @@
 -- Numbers of eight bytes, and sums modulo 2^64.
-use Rattle.std.proofs.Common.{◌≡◌, ◌<◌, ◌+◌, ◌-◌, ◌*◌, ◌^◌, ◌%◌, ◌/◌, ◌∙◌, ℕ, ℤ, pos, negsuc, zero, suc, List, [], ◌∷◌, refl, sym, ap, arith, append-nil}
+use Rattle.std.proofs.Common.{◌≡◌, ◌<◌, ◌+◌, ◌-◌, ◌*◌, ◌^◌, ◌%◌, ◌/◌, ◌∙◌, ℕ, ℤ, pos, negsuc, zero, suc, List, [], ◌∷◌}
+use Rattle.std.proofs.Common.{refl, sym, ap, arith, append-nil}
 use Rattle.std.specs.Prelude.{◌+ℤ◌, ◌-ℤ◌, slice_index, slice_index_or}
 use Rattle.std.specs.Int.{int_rem_euclid}
 use Rattle.std.proofs.lemmas.Int.{int_rem_euclid_is, ints}
@@ -12,15 +13,19 @@ use Rattle.tls_relocs.specs.Values.{modulo}
 -- ** numbers
 
 -- equal bytes are equal numbers
-little_same : (n i j : ℕ) (xs ys : List ℕ) → ((m a b : ℕ) → m < n → a ≡ i + m → b ≡ j + m → slice_index xs a ≡ slice_index ys b) → little_from i n xs ≡ little_from j n ys
+little_same : (n i j : ℕ) (xs ys : List ℕ)
+    → ((m a b : ℕ) → m < n → a ≡ i + m → b ≡ j + m → slice_index xs a ≡ slice_index ys b)
+    → little_from i n xs ≡ little_from j n ys
 little_same zero i j xs ys same = refl
 little_same (suc n) i j xs ys same =
     let first : slice_index xs i ≡ slice_index ys j = same 0 i j (omega arith) (omega arith) (omega arith) in
-    let rest = little_same n (suc i) (suc j) xs ys (λ m a b below at to. same (suc m) a b (omega arith) (omega arith) (omega arith)) in
+    let rest = little_same n (suc i) (suc j) xs ys
+    (λ m a b below at to. same (suc m) a b (omega arith) (omega arith) (omega arith)) in
     cc
 
 -- eight bytes that are those of a number
-pub number_is : (bytes : List ℕ) (at w : ℕ) → w < 2 ^ 64 → ((m : ℕ) → m < 8 → slice_index_or bytes (at + m) 0 ≡ slice_index_or (bytes_of 8 w) m 0) → number_at 8 at bytes ≡ w
+pub number_is : (bytes : List ℕ) (at w : ℕ) → w < 2 ^ 64
+    → ((m : ℕ) → m < 8 → slice_index_or bytes (at + m) 0 ≡ slice_index_or (bytes_of 8 w) m 0) → number_at 8 at bytes ≡ w
 unfolding number_at
 number_is bytes at w small same =
     little_same 8 at 0 bytes (bytes_of 8 w) (λ m a b below x y.
@@ -28,7 +33,8 @@ number_is bytes at w small same =
     ∙ ap (little_from 0 8) (sym (append-nil (bytes_of 8 w))) ∙ number_again 8 w 0 [] [] refl small
 
 -- eight bytes in a row
-pub eight_bytes : (bytes : List ℕ) (at b0 b1 b2 b3 b4 b5 b6 b7 : ℕ) → b0 ≡ slice_index_or bytes at 0 → b1 ≡ slice_index_or bytes (at + 1) 0
+pub eight_bytes : (bytes : List ℕ) (at b0 b1 b2 b3 b4 b5 b6 b7 : ℕ) → b0 ≡ slice_index_or bytes at 0
+    → b1 ≡ slice_index_or bytes (at + 1) 0
     → b2 ≡ slice_index_or bytes (at + 2) 0 → b3 ≡ slice_index_or bytes (at + 3) 0 → b4 ≡ slice_index_or bytes (at + 4) 0
     → b5 ≡ slice_index_or bytes (at + 5) 0 → b6 ≡ slice_index_or bytes (at + 6) 0 → b7 ≡ slice_index_or bytes (at + 7) 0
     → little_from 0 8 (b0 ∷ b1 ∷ b2 ∷ b3 ∷ b4 ∷ b5 ∷ b6 ∷ b7 ∷ []) ≡ number_at 8 at bytes
@@ -53,7 +59,8 @@ is_rem (negsuc n) = refl
 -- a whole number is what is left of one that is a multiple above it
 modulo_of : (z : ℤ) (k m : ℕ) → z +ℤ pos (k * 2 ^ 64) ≡ pos m → modulo (2 ^ 64) z ≡ m % 2 ^ 64
 modulo_of z k m e =
-    let same : pos (modulo (2 ^ 64) z) ≡ pos (m % 2 ^ 64) = sym (is_rem z) ∙ int_rem_euclid_is z (pos (2 ^ 64)) (2 ^ 64) k m (omega arith) refl e in
+    let same : pos (modulo (2 ^ 64) z) ≡ pos (m % 2 ^ 64) = sym (is_rem z)
+    ∙ int_rem_euclid_is z (pos (2 ^ 64)) (2 ^ 64) k m (omega arith) refl e in
     cc
 
 mod_add : (m b : ℕ) → (m % 2 ^ 64 + b) % 2 ^ 64 ≡ (m + b) % 2 ^ 64

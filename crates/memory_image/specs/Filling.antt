@@ -15,7 +15,8 @@ use Rattle.link_faults.specs.declared.image_kind.ImageKind.{ImageKind}
 use Rattle.link_needs.specs.Linking.{Linking, address, binding, object, offset, place}
 use Rattle.tls_relocs.specs.declared.fields.Field.{Field}
 use Rattle.tls_relocs.specs.declared.fields.Field.TheVariants.{Empty, Word32, Word64}
-use Rattle.tls_relocs.specs.Fields.{field_bytes, field_patch}
+use Rattle.tls_relocs.specs.Fields.{field_bytes}
+use Rattle.tls_relocs.specs.FieldLaws.{field_patch}
 use Rattle.tls_relocs.specs.Patches.{patched}
 use Rattle.tls_relocs.specs.Values.{stored_field}
 use Rattle.whole_meaning.specs.Bytes.{covers, has_value, subtracted}

@@ -7,7 +7,7 @@ use Rattle.elf_object.specs.Object.{section_count}
 use Rattle.link_needs.specs.Linking.{Linking, layout, object}
 use Rattle.object_faults.specs.declared.class.SectionClass.{SectionClass}
 use Rattle.object_faults.specs.declared.class.SectionClass.TheVariants.{Executable, ReadOnly, Tls, Writable}
-use Rattle.tls_layout.specs.Laws.{extent_for}
+use Rattle.tls_layout.specs.Places.{extent_for}
 use Rattle.tls_layout.specs.Places.{end_of}
 use Rattle.whole_meaning.specs.Spots.{Spot, spot_in}
 

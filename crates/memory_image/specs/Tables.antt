@@ -7,13 +7,13 @@ use Rattle.elf_object.specs.declared.relocation.Relocation.{Relocation}
 use Rattle.elf_object.specs.Lent.{relocations}
 use Rattle.elf_records.specs.declared.relocation_row.Refused.TheVariants.{WhereMoved}
 use Rattle.elf_records.specs.RelocationRows.{row}
-pub use Rattle.elf_records.specs.RelocationRows.{is_distance}
+pub use Rattle.elf_records.specs.RowLaws.{is_distance}
 use Rattle.elf_records.specs.Fields.{bytes_of, number_at}
 use Rattle.link_faults.specs.declared.binding.Binding.{Binding}
 use Rattle.link_faults.specs.declared.binding.Binding.TheVariants.{Here}
 use Rattle.link_needs.specs.Linking.{Linking, binding, layout, object}
 use Rattle.object_faults.specs.declared.class.SectionClass.{SectionClass}
-use Rattle.tls_layout.specs.Laws.{extent_for}
+use Rattle.tls_layout.specs.Places.{extent_for}
 use Rattle.tls_relocs.specs.declared.fields.Field.TheVariants.{Word32}
 use Rattle.whole_meaning.specs.Bytes.{class_bytes, has_value, value_of}
 use Rattle.memory_image.specs.Filling.{is_moving, own_field}

@@ -3,7 +3,8 @@
 ghost use Rattle.std.specs.Prelude.{◌≡◌, ◌+◌, ◌<◌, ◌≤◌, ◌^◌, IfOk, IfSome, length};
 ghost use Rattle.elf_object.specs.Faults.{IsObject};
 ghost use Rattle.elf_object.specs.Lawful.{IsLawful};
-ghost use Rattle.elf_object.specs.Lent.{IsSectionPart, relocations, section_size};
+ghost use Rattle.elf_object.specs.Lent.{relocations, section_size};
+ghost use Rattle.elf_object.specs.LentLaws.{IsSectionPart};
 ghost use Rattle.elf_object.specs.Parts.{symbol_count};
 ghost use Rattle.link_needs.specs.Linking.{binding as binding_in, object as object_in};
 ghost use Rattle.memory_image.specs.Filling.{cell_in, filled_field, marks_of as marks_in};

@@ -6,7 +6,7 @@ ghost use Rattle.elf_object.specs.Object.{section_count};
 ghost use Rattle.link_needs.specs.Linking.{Linking, layout, object};
 ghost use Rattle.memory_image.specs.Laying.{HasRange, IsOfClass, class_cells, laid_before, section_cells};
 ghost use Rattle.object_faults.specs.declared.class.SectionClass.{SectionClass};
-ghost use Rattle.tls_layout.specs.Laws.{extent_for};
+ghost use Rattle.tls_layout.specs.Places.{extent_for};
 
 use elf_object::SectionClass;
 use link_needs::Inputs;

@@ -1,5 +1,6 @@
 -- Data that an image has of an instance.
-use Rattle.std.proofs.Common.{◌≡◌, ◌∙◌, ◌<◌, ℕ, zero, suc, Bool, true, false, List, [], ◌∷◌, length, Option, Some, None, refl, sym, ap, arith}
+use Rattle.std.proofs.Common.{◌≡◌, ◌∙◌, ◌<◌, ℕ, zero, suc, Bool, true, false, List, [], ◌∷◌, length, Option, Some, None}
+use Rattle.std.proofs.Common.{refl, sym, ap, arith}
 use Rattle.std.specs.Prelude.{is_some, if◌then◌else◌, option_and_then, slice_get, slice_set}
 use Rattle.std.proofs.lemmas.List.{length-set}
 use Rattle.module_data.specs.Laws.{byte_read, written}
@@ -7,7 +8,8 @@ use Rattle.module_data.specs.Pieces.{Piece, data_of, is_of}
 use Rattle.module_data.specs.Lending.{piece_of, refilled, with_bytes}
 use Rattle.module_data.proofs.Refilled.{refilled_same}
 
-some_of : (b : Bool) (bytes : List ℕ) → is_some (if b then Some bytes else None) ≡ true → (if b then Some bytes else None) ≡ Some bytes
+some_of : (b : Bool) (bytes : List ℕ) → is_some (if b then Some bytes else None) ≡ true
+    → (if b then Some bytes else None) ≡ Some bytes
 some_of true bytes h = refl
 some_of false bytes h = cc
 
@@ -26,7 +28,8 @@ held_bytes (p ∷ d) instance (suc image) h = held_bytes d instance image h
 
 -- ** one byte of them
 
-some_inside : (o : Option (List ℕ)) (at : ℕ) → is_some (option_and_then (λ bytes. slice_get bytes at) o) ≡ true → is_some o ≡ true
+some_inside : (o : Option (List ℕ)) (at : ℕ) → is_some (option_and_then (λ bytes. slice_get bytes at) o) ≡ true
+    → is_some o ≡ true
 some_inside None at h = cc
 some_inside (Some bytes) at h = refl
 

@@ -1,5 +1,6 @@
 -- The byte that a sequence of writes leaves at an offset.
-use Rattle.std.proofs.Common.{◌≡◌, ◌∙◌, ◌<◌, ◌==◌, ◌++◌, ℕ, Bool, true, false, cond, List, [], ◌∷◌, length, fold, reverse, Some, None, Option, refl, sym, ap, inl, inr, arith}
+use Rattle.std.proofs.Common.{◌≡◌, ◌∙◌, ◌<◌, ◌==◌, ◌++◌, ℕ, Bool, true, false, cond, List, [], ◌∷◌, length, fold}
+use Rattle.std.proofs.Common.{reverse, Some, None, Option, refl, sym, ap, inl, inr, arith}
 use Rattle.std.specs.Prelude.{option_map, unwrap_or, slice_get, slice_set, slice_index}
 use Rattle.std.specs.List.{find}
 use Rattle.std.proofs.lemmas.Bool.{cases_eq, eq-eqb, ne_eqb}
@@ -22,7 +23,8 @@ put_at bytes w at within = elim (cases_eq w.at at) [
 ]
 
 -- the last that passes, or one before all of them
-here : (b : Bool) (w : Write) (z : ℕ) → unwrap_or (option_map (λ (v : Write). v.byte) (cond b (Some w) None)) z ≡ cond b w.byte z
+here : (b : Bool) (w : Write) (z : ℕ)
+    → unwrap_or (option_map (λ (v : Write). v.byte) (cond b (Some w) None)) z ≡ cond b w.byte z
 here true w z = refl
 here false w z = refl
 

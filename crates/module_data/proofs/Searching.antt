@@ -1,5 +1,6 @@
 -- The first number of those that are left.
-use Rattle.std.proofs.Common.{◌≡◌, ◌∙◌, ◌<◌, ◌≤◌, ℕ, suc, ◌+◌, ◌-◌, Bool, true, false, cond, Option, Some, None, refl, sym, ap, arith}
+use Rattle.std.proofs.Common.{◌≡◌, ◌∙◌, ◌<◌, ◌≤◌, ℕ, suc, ◌+◌, ◌-◌, Bool, true, false, cond, Option, Some, None, refl}
+use Rattle.std.proofs.Common.{sym, ap, arith}
 use Rattle.std.specs.List.{find, range_with_len}
 
 module _ (p : ℕ → Bool) (a n : ℕ) where
@@ -15,4 +16,5 @@ module _ (p : ℕ → Bool) (a n : ℕ) where
   found_on r lt is same = sym (next lt ∙ rw is refl) ∙ same
 
   pub found_none : (r : Option ℕ) → n ≤ a → find p (range_with_len a (n - a)) ≡ r → None ≡ r
-  found_none r past same = let e : n - a ≡ 0 = omega (arith, past) in ap (λ k. find p (range_with_len a k)) (sym e) ∙ same
+  found_none r past same = let e : n - a ≡ 0 = omega (arith, past) in
+      ap (λ k. find p (range_with_len a k)) (sym e) ∙ same

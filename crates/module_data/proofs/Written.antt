@@ -1,5 +1,6 @@
 -- Loads and writes, one image's data at a time.
-use Rattle.std.proofs.Common.{◌≡◌, ◌∙◌, ◌<◌, ◌≤◌, ◌==◌, ◌&&◌, ℕ, zero, suc, Bool, true, false, List, [], ◌∷◌, length, Some, None, refl, sym, ap, arith, ◌+◌, map}
+use Rattle.std.proofs.Common.{◌≡◌, ◌∙◌, ◌<◌, ◌≤◌, ◌==◌, ◌&&◌, ℕ, zero, suc, Bool, true, false, List, [], ◌∷◌, length}
+use Rattle.std.proofs.Common.{Some, None, refl, sym, ap, arith, ◌+◌, map}
 use Rattle.std.specs.Prelude.{nat_lt, option_and_then, slice_get, slice_set}
 use Rattle.std.proofs.lemmas.Bool.{eq-eqb, ne_eqb}
 use Rattle.std.proofs.lemmas.Bool.Decides.{nat_tests}
@@ -9,7 +10,8 @@ use Rattle.std.proofs.lemmas.Option.{get_or_from_slice_get, slice_get-get_or, sl
 use Rattle.loaded_modules.specs.declared.instance.Instance.{Instance}
 use Rattle.loaded_modules.specs.Images.{JobImages}
 use Rattle.module_data.specs.Parts.{fresh_data}
-use Rattle.module_data.specs.Pieces.{Piece, bytes_of_instance, data_of, first_data, first_instance, first_piece, fresh_piece, loaded, no_piece, starts_at}
+use Rattle.module_data.specs.Pieces.{Piece, bytes_of_instance, data_of, first_data, first_instance, first_piece}
+use Rattle.module_data.specs.Pieces.{fresh_piece, loaded, no_piece, starts_at}
 use Rattle.module_data.specs.Lending.{piece_of}
 use Rattle.module_data.specs.Laws.{Write, ReadsLast, after_writes, byte_read, written}
 use Rattle.module_data.proofs.LastBytes.{all_put, put, last_byte}
@@ -47,7 +49,8 @@ others n instance bytes apart =
 
 -- ** a program that begins
 
-pub first_at : (m : JobImages) (number : ℕ) → number ≤ length m.images → slice_get (first_data m) number ≡ Some (first_piece m number)
+pub first_at : (m : JobImages) (number : ℕ) → number ≤ length m.images
+    → slice_get (first_data m) number ≡ Some (first_piece m number)
 unfolding first_data
 first_at m number within =
     let n = length m.images + 1 in
@@ -114,7 +117,8 @@ write_puts : (d : List Piece) (w : Write) (image n : ℕ) (bytes : List ℕ)
     → slice_get (written image d w) image ≡ Some (record { instance = n; bytes = put bytes w })
 unfolding written
 write_puts d w image n bytes is =
-    let piece : piece_of d image ≡ record { instance = n; bytes = bytes } = get_or_from_slice_get d image _ no_piece is in
+    let piece : piece_of d image ≡ record { instance = n; bytes = bytes } =
+    get_or_from_slice_get d image _ no_piece is in
     get_same d image _ (slice_get_within d image _ is)
     ∙ ap (λ p. Some (record { instance = p.instance; bytes = slice_set p.bytes w.at w.byte })) piece
 

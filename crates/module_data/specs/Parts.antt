@@ -6,7 +6,7 @@ use Rattle.image_file.specs.Spelled.{Part, Spelled, is_writable}
 use Rattle.loaded_modules.specs.declared.instance.Instance.{Instance}
 use Rattle.loaded_modules.specs.Images.{JobImages, image_at}
 use Rattle.loaded_modules.specs.Laws.{start_of}
-use Rattle.loaded_modules.specs.Loader.{loaded_part}
+use Rattle.loaded_modules.specs.LoaderLaws.{loaded_part}
 
 -- ---- which part
 

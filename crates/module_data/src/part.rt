@@ -58,7 +58,7 @@ fn address_of(image: &Image, part: u64) -> Option<u64>
 }
 
 /// The address of the first byte of an instance's data, if its image has any.
-#[tactic(auto, unfolding(crate::specs::Parts::data_start, loaded_modules::specs::Loader::bias_of))]
+#[tactic(auto, unfolding(crate::specs::Parts::data_start, loaded_modules::specs::LoaderLaws::bias_of))]
 pub(crate) fn data_start(modules: &Modules, instance: &Instance) -> Option<u64>
     ensures { result ≡ data_start modules.now instance.now }
 {

@@ -4,8 +4,9 @@ use Rattle.std.proofs.lemmas.Bool.{cases_Bool, and_parts}
 use Rattle.module_table.specs.declared.modules.ImageInfo.{ImageInfo}
 use Rattle.module_table.specs.declared.events.Event.{Event}
 use Rattle.module_table.specs.Modules.{is_loaded}
-use Rattle.module_table.specs.Past.{Past, module_of, start, past, after_one, after, opened, loaded, retained, released, accepts, is_legal}
-use Rattle.module_table.specs.History.{IsLegal}
+use Rattle.module_table.specs.Past.{Past, module_of, start, past, after_one, after, opened, loaded, retained, released}
+use Rattle.module_table.specs.Past.{accepts, is_legal}
+use Rattle.module_table.specs.Past.{IsLegal}
 use Rattle.module_table.specs.Tables.{IsPast, CanLoad}
 use Rattle.module_table.proofs.Refusals.{can_load, held, accepts_open, accepts_close}
 use Rattle.module_table.proofs.Starting.{past_start}
@@ -27,7 +28,8 @@ kept_step P is p e here accepted = elim (cases_Bool e.opens) [
   | inr closes ↦ rw closes (is.released p e.image here (held p e.image (accepts_close p e accepted closes)))
 ]
 
-pub kept_along : (P : Past → Type 0) → IsKept P → (p : Past) (events : List Event) → P p → is_legal p events ≡ true → P (after p events)
+pub kept_along : (P : Past → Type 0) → IsKept P → (p : Past) (events : List Event) → P p → is_legal p events ≡ true
+    → P (after p events)
 unfolding is_legal
 kept_along P is p [] here legal = here
 kept_along P is p (e ∷ es) here legal = let parts = and_parts (accepts p e) (is_legal (after_one p e) es) legal in
@@ -46,6 +48,8 @@ past_step = kept_step IsPast past_kept
 pub past_along : (p : Past) (events : List Event) → IsPast p → is_legal p events ≡ true → IsPast (after p events)
 past_along = kept_along IsPast past_kept
 
-pub past_legal : (infos : List ImageInfo) (last_offset : ℕ) (events : List Event) → IsLegal infos last_offset events → IsPast (past infos last_offset events)
+pub past_legal : (infos : List ImageInfo) (last_offset : ℕ) (events : List Event) → IsLegal infos last_offset events
+    → IsPast (past infos last_offset events)
 unfolding past
-past_legal infos last_offset events is = past_along (start infos last_offset) events (past_start infos last_offset is.images is.low) is.each
+past_legal infos last_offset events is =
+    past_along (start infos last_offset) events (past_start infos last_offset is.images is.low) is.each

@@ -3,7 +3,8 @@ use Rattle.std.proofs.Common.{◌≡◌, ℕ, ◌+◌, ◌-◌, ◌*◌, ◌%◌
 use Rattle.std.specs.Prelude.{bit_and, bit_or}
 use Rattle.std.specs.Int.{bit_at, bit_not, trailing_ones}
 use Rattle.std.proofs.lemmas.Bool.{cases_eq, cases_lt, eq-eqb, ne_eqb}
-use Rattle.std.proofs.lemmas.Nat.Bits.{bit_at_set_same, bit_at_set_other, bit_at_clear_same, bit_at_clear_other, bit_at-trailing_ones, bit_at_ones}
+use Rattle.std.proofs.lemmas.Nat.Bits.{bit_at_set_same, bit_at_set_other, bit_at_clear_same, bit_at_clear_other}
+use Rattle.std.proofs.lemmas.Nat.Bits.{bit_at-trailing_ones, bit_at_ones}
 use Rattle.module_table.specs.Marks.{AddsId, RemovesId, IsLeastAbsent, HasRoom}
 
 pub adds : (word id : ℕ) → 1 ≤ id → id ≤ 64 → AddsId word id (bit_or word (1 * 2 ^ (id - 1) % 2 ^ 64))
@@ -13,7 +14,8 @@ adds word id low high k l = elim (cases_eq (k + 1) id) [
   | inr ne ↦ rw (ne_eqb (k + 1) id ne) (bit_at_set_other w64 word (id - 1) (omega arith) k (λ h. ne (omega arith)))
 ]
 
-pub removes : (word id : ℕ) → 1 ≤ id → id ≤ 64 → RemovesId word id (bit_and word (bit_not w64 (1 * 2 ^ (id - 1) % 2 ^ 64)))
+pub removes : (word id : ℕ) → 1 ≤ id → id ≤ 64
+    → RemovesId word id (bit_and word (bit_not w64 (1 * 2 ^ (id - 1) % 2 ^ 64)))
 removes word id low high k l = elim (cases_eq (k + 1) id) [
   | inl e ↦ let at : k ≡ id - 1 = omega arith in
       rw (eq-eqb (k + 1) id e, at) (bit_at_clear_same w64 word (id - 1) (omega arith))

@@ -18,19 +18,25 @@ pub record Picked (late full statics lacks : Bool) : Type 0 where
   pub has_room : statics ≡ true → lacks ≡ false
 
 picked : (late loaded full statics lacks : Bool)
-    → ◌≡◌ {A = Option OpenRefusal} (if not late then Some Unknown else (if loaded then None else (if full then Some Full else (if statics && lacks then Some StaticFull else None)))) None
+    → ◌≡◌ {A = Option OpenRefusal}
+    (if not late then Some Unknown
+    else (if loaded then None
+    else (if full then Some Full else (if statics && lacks then Some StaticFull else None)))) None
     → loaded ≡ false → Picked late full statics lacks
 picked false loaded full statics lacks e f = cc
 picked true true full statics lacks e f = cc
 picked true false true statics lacks e f = cc
 picked true false false true true e f = cc
 picked true false false true false e f = record { is_late = refl; not_full = refl; has_room = λ _. refl }
-picked true false false false lacks e f = record { is_late = refl; not_full = refl; has_room = λ t. absurd (false≢true t) }
+picked true false false false lacks e f =
+    record { is_late = refl; not_full = refl; has_room = λ t. absurd (false≢true t) }
 
-pub can_load : (p : Past) (image : ℕ) → open_refusal p image ≡ None → is_loaded (module_of p image) ≡ false → CanLoad p image
+pub can_load : (p : Past) (image : ℕ) → open_refusal p image ≡ None → is_loaded (module_of p image) ≡ false
+    → CanLoad p image
 unfolding open_refusal
 can_load p image none unloaded =
-    let is = picked (module_of p image).info.late (is_loaded (module_of p image)) (nat_le MOST_INSTANCES p.made) (module_of p image).info.statics
+    let is = picked (module_of p image).info.late (is_loaded (module_of p image)) (nat_le MOST_INSTANCES p.made)
+    (module_of p image).info.statics
     (nat_lt p.limit (next_offset p (module_of p image))) none unloaded in
     record {
       late = is.is_late;
@@ -39,7 +45,9 @@ can_load p image none unloaded =
       room = λ t. ltb-false p.limit (next_offset p (module_of p image)) (is.has_room t);
     }
 
-kept : (permanent loaded : Bool) → ◌≡◌ {A = Option CloseRefusal} (if permanent then Some Permanent else (if loaded then None else Some NotOpen)) None → loaded ≡ true
+kept : (permanent loaded : Bool)
+    → ◌≡◌ {A = Option CloseRefusal} (if permanent then Some Permanent else (if loaded then None else Some NotOpen)) None
+    → loaded ≡ true
 kept true loaded e = cc
 kept false true e = refl
 kept false false e = cc
@@ -47,7 +55,8 @@ kept false false e = cc
 -- what is closed is loaded
 pub held : (p : Past) (image : ℕ) → close_refusal p image ≡ None → 0 < (module_of p image).uses
 unfolding close_refusal
-held p image none = ltb-true 0 (module_of p image).uses (kept (is_permanent (module_of p image)) (is_loaded (module_of p image)) none)
+held p image none = ltb-true 0 (module_of p image).uses
+    (kept (is_permanent (module_of p image)) (is_loaded (module_of p image)) none)
 
 is_none-true : {X : Type 0} (o : Option X) → is_none o ≡ true → o ≡ None
 is_none-true None e = refl

@@ -1,5 +1,5 @@
 -- What contracts see of a registry, and its answers as functions of the history.
-use Rattle.std.specs.Prelude.{◌≡◌, ◌<◌, ◌^◌, ℕ, true, false, not, List, [], ◌∷◌, ◌++◌, length, Option, Some, None}
+use Rattle.std.specs.Prelude.{◌≡◌, ℕ, true, false, not, List, [], ◌∷◌, ◌++◌, length, Option, Some, None}
 use Rattle.std.specs.Prelude.{Result, Ok, Err, IsOk}
 use Rattle.module_table.specs.declared.modules.ImageInfo.{ImageInfo}
 use Rattle.module_table.specs.declared.events.Event.{Event}
@@ -9,9 +9,8 @@ use Rattle.module_table.specs.declared.events.OpenRefusal.{OpenRefusal}
 use Rattle.module_table.specs.declared.events.OpenRefusal.TheVariants.{OutOfMemory as NoRoomToOpen}
 use Rattle.module_table.specs.declared.events.CloseRefusal.{CloseRefusal}
 use Rattle.module_table.specs.declared.events.CloseRefusal.TheVariants.{OutOfMemory as NoRoomToClose}
-use Rattle.module_table.specs.Modules.{AreInfos, is_loaded}
-use Rattle.module_table.specs.Past.{Past, module_of, start, past, opened, released, open_refusal, close_refusal}
-use Rattle.module_table.specs.Past.{is_legal}
+use Rattle.module_table.specs.Modules.{is_loaded}
+use Rattle.module_table.specs.Past.{Past, module_of, past, opened, released, open_refusal, close_refusal}
 
 -- the images, how far below the thread pointer the last startup image's block begins, the events so far, and for how
 -- many more events there is memory
@@ -24,12 +23,6 @@ pub record History : Type 0 where
 -- the state after the events so far
 unfoldable pub left : History → Past
 left h = past h.infos h.last_offset h.events
-
--- a history of images that a registry may have: each event is accepted after those before it
-pub record IsLegal (infos : List ImageInfo) (last_offset : ℕ) (events : List Event) : Type 0 where
-  pub images : AreInfos infos
-  pub low : last_offset < 2 ^ 27
-  pub each : is_legal (start infos last_offset) events ≡ true
 
 -- ---- events: a thread's line opens an image, or closes it
 

@@ -8,7 +8,8 @@ use Rattle.module_table.specs.declared.modules.Module.{Module}
 use Rattle.module_table.specs.declared.events.Event.{Event}
 use Rattle.module_table.specs.Modules.{is_loaded}
 use Rattle.module_table.specs.Past.{Past, module_of, startup_count, start, past, after_one, opened, open_refusal}
-use Rattle.module_table.specs.Past.{live, next_offset, IsLeastFree}
+use Rattle.module_table.specs.Past.{next_offset}
+use Rattle.module_table.specs.PastLaws.{live, IsLeastFree}
 
 -- ---- opens and closes
 
@@ -76,12 +77,6 @@ startup_blocks [] taken = []
 startup_blocks (info ∷ infos) taken = if info.late then startup_blocks infos taken else (
     let offset = next_multiple_of (taken + info.size) info.align in
     record { offset = offset; size = info.size } ∷ startup_blocks infos offset)
-
--- how far below the thread pointer the last of them begins
-abbrev pub startup_end : List ImageInfo → ℕ → ℕ
-startup_end [] taken = taken
-startup_end (info ∷ infos) taken =
-    if info.late then startup_end infos taken else startup_end infos (next_multiple_of (taken + info.size) info.align)
 
 -- the blocks of the static surplus, in the order of the loads that gave them
 abbrev pub surplus_blocks : Past → List Event → List Block

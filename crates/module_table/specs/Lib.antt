@@ -3,6 +3,7 @@ pub mod Laws
 pub mod Marks
 pub mod Modules
 pub mod Past
+pub mod PastLaws
 pub mod Registries
 pub mod Start
 pub mod Tables

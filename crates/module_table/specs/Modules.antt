@@ -3,6 +3,9 @@ use Rattle.std.specs.Prelude.{◌≡◌, ◌≤◌, ◌<◌, ◌^◌, Bool, true
 use Rattle.std.specs.Prelude.{AllPairs}
 use Rattle.module_table.specs.declared.modules.ImageInfo.{ImageInfo}
 use Rattle.module_table.specs.declared.modules.Module.{Module}
+use Rattle.std.specs.Prelude.{◌+◌, ℕ, if◌then◌else◌, []}
+use Rattle.std.specs.Prelude.{◌∷◌}
+use Rattle.std.specs.Int.{next_multiple_of}
 
 -- a TLS segment of at most 2^20 bytes, with an alignment from 1 to 4,096
 pub record IsInfo (info : ImageInfo) : Type 0 where
@@ -34,3 +37,9 @@ is_loaded m = nat_lt 0 m.uses
 -- it started with the program, and stays
 abbrev pub is_permanent : Module → Bool
 is_permanent m = is_loaded m && not m.info.late
+
+-- how far below the thread pointer the last of them begins
+abbrev pub startup_end : List ImageInfo → ℕ → ℕ
+startup_end [] taken = taken
+startup_end (info ∷ infos) taken =
+    if info.late then startup_end infos taken else startup_end infos (next_multiple_of (taken + info.size) info.align)

@@ -3,9 +3,9 @@
 -- Drepper, "ELF Handling For Thread-Local Storage", section 3: blocks of modules that start with the program lie
 -- below the thread pointer (variant II), and a late module may ask for one there by `DF_STATIC_TLS` (gABI, "Dynamic
 -- Section"). How many bytes are reserved for those, and that none is given twice, is this linker's own rule.
-use Rattle.std.specs.Prelude.{◌≡◌, ◌==◌, ◌+◌, ◌-◌, ◌<◌, ◌≤◌, ℕ, Bool, true, false, not, ◌&&◌, nat_lt, nat_le}
+use Rattle.std.specs.Prelude.{◌≡◌, ◌==◌, ◌+◌, ◌-◌, ◌<◌, ℕ, Bool, true, not, ◌&&◌, nat_lt, nat_le}
 use Rattle.std.specs.Prelude.{zero, suc, if◌then◌else◌, List, [], ◌∷◌, length, slice_index_or, slice_set, fold}
-use Rattle.std.specs.Prelude.{count_by, position, Option, Some, None, is_some, is_none, option_map, option_and_then}
+use Rattle.std.specs.Prelude.{count_by, Option, Some, None, is_none}
 use Rattle.std.specs.Prelude.{unwrap_or}
 use Rattle.std.specs.Int.{next_multiple_of}
 use Rattle.std.specs.List.{list_any}
@@ -18,6 +18,8 @@ use Rattle.module_table.specs.declared.events.OpenRefusal.TheVariants.{Unknown, 
 use Rattle.module_table.specs.declared.events.CloseRefusal.{CloseRefusal}
 use Rattle.module_table.specs.declared.events.CloseRefusal.TheVariants.{Permanent, NotOpen}
 use Rattle.module_table.specs.Modules.{no_module, is_loaded, is_permanent}
+use Rattle.std.specs.Prelude.{◌^◌}
+use Rattle.module_table.specs.Modules.{AreInfos}
 
 -- how many events there were, how many instances were made, how far below the thread pointer the static blocks reach
 -- and may reach, and each image, numbered from 1 (entry 0 is no image)
@@ -61,33 +63,9 @@ start infos last_offset = record {
 
 -- ---- questions
 
--- it is loaded as this instance
-abbrev pub has_instance : ℕ → Module → Bool
-has_instance instance m = is_loaded m && (m.instance == instance)
-
 -- it is loaded with this module id
 abbrev pub has_id : ℕ → Module → Bool
 has_id id m = is_loaded m && (m.id == id)
-
--- the image of a live instance
-unfoldable pub image_of : Past → ℕ → Option ℕ
-image_of p instance = position (has_instance instance) p.modules
-
--- whether an instance is live
-unfoldable pub live : Past → ℕ → Bool
-live p instance = is_some (image_of p instance)
-
--- how far below the thread pointer a live instance's block begins, if the block is in the static surplus
-unfoldable pub offset : Past → ℕ → Option ℕ
-offset p instance = option_and_then (λ image. (module_of p image).offset) (image_of p instance)
-
--- the live instance of an image
-unfoldable pub current : Past → ℕ → Option ℕ
-current p image = if is_loaded (module_of p image) then Some (module_of p image).instance else None
-
--- the live instance with a module id
-unfoldable pub instance_of : Past → ℕ → Option ℕ
-instance_of p id = option_map (λ image. (module_of p image).instance) (position (has_id id) p.modules)
 
 -- ---- refusals
 
@@ -121,12 +99,6 @@ least_from modules (suc more) id = if list_any (has_id id) modules then least_fr
 -- the least id from 1 on that no live instance has
 unfoldable pub least_free : List Module → ℕ
 least_free modules = least_from modules (length modules) 1
-
--- no live instance has the id, and each id from 1 up to it belongs to one
-pub record IsLeastFree (modules : List Module) (id : ℕ) : Type 0 where
-  pub low : 1 ≤ id
-  pub free : list_any (has_id id) modules ≡ false
-  pub least : (k : ℕ) → 1 ≤ k → k < id → list_any (has_id k) modules ≡ true
 
 -- a new instance of an image: the next number, the least free id, and an offset in the surplus if its blocks are
 -- static
@@ -186,3 +158,9 @@ accepts p e = if e.opens then is_none (open_refusal p e.image) else is_none (clo
 unfoldable pub is_legal : Past → List Event → Bool
 is_legal p [] = true
 is_legal p (e ∷ es) = accepts p e && is_legal (after_one p e) es
+
+-- a history of images that a registry may have: each event is accepted after those before it
+pub record IsLegal (infos : List ImageInfo) (last_offset : ℕ) (events : List Event) : Type 0 where
+  pub images : AreInfos infos
+  pub low : last_offset < 2 ^ 27
+  pub each : is_legal (start infos last_offset) events ≡ true

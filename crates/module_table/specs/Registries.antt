@@ -2,7 +2,8 @@
 use Rattle.std.specs.Prelude.{◌≡◌, ◌-◌, vec_len, vec_capacity}
 use Rattle.module_table.specs.declared.registry.Registry.TheInside.{Inside}
 use Rattle.module_table.specs.Past.{past}
-use Rattle.module_table.specs.History.{History, IsLegal}
+use Rattle.module_table.specs.History.{History}
+use Rattle.module_table.specs.Past.{IsLegal}
 
 abbrev pub history_of : Inside → History
 history_of r = record {

@@ -6,7 +6,8 @@ use Rattle.module_table.specs.declared.modules.Module.{Module}
 use Rattle.module_table.specs.declared.table.ModuleTable.TheInside.{Inside}
 use Rattle.module_table.specs.Modules.{IsInfo, no_module, is_loaded}
 use Rattle.module_table.specs.Start.{HasSmallId, MarksIds}
-use Rattle.module_table.specs.Past.{Past, module_of, image_of, instance_of, has_instance, has_id, next_offset}
+use Rattle.module_table.specs.Past.{Past, module_of, has_id, next_offset}
+use Rattle.module_table.specs.PastLaws.{image_of, instance_of, has_instance}
 
 abbrev pub past_of : Inside → Past
 past_of t = record { seen = t.seen; made = t.made; taken = t.taken; limit = t.limit; modules = t.modules.items }

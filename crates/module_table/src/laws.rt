@@ -4,9 +4,10 @@ ghost use Rattle.std.specs.Prelude.{ℕ, ◌≤◌, ◌++◌, List};
 ghost use Rattle.module_table.specs.declared.modules.ImageInfo.{ImageInfo};
 ghost use Rattle.module_table.specs.declared.events.Event.{Event};
 ghost use Rattle.module_table.specs.Past.{past};
-ghost use Rattle.module_table.specs.History.{IsLegal};
+ghost use Rattle.module_table.specs.Past.{IsLegal};
 ghost use Rattle.module_table.specs.Laws.{Balances, CountsInstances, HaveOwnNumbers, LoadsTakeLeastId, EndsForGood};
-ghost use Rattle.module_table.specs.Laws.{BlocksAreApart, BlocksFit, InstancesAreApart, startup_end};
+ghost use Rattle.module_table.specs.Laws.{BlocksAreApart, BlocksFit, InstancesAreApart};
+ghost use Rattle.module_table.specs.Modules.{startup_end};
 
 use crate::modules::Module;
 use crate::registry::Registry;

@@ -32,7 +32,8 @@ pub struct Module {
 
 impl Module {
     ghost use Rattle.module_table.specs.Modules.{is_loaded, is_permanent};
-    ghost use Rattle.module_table.specs.Past.{first_module, has_instance, has_id};
+    ghost use Rattle.module_table.specs.Past.{first_module, has_id};
+    ghost use Rattle.module_table.specs.PastLaws.{has_instance};
 
     /// The module of a number without an image: it is not loaded, and cannot be.
     pub const NONE: Module = Module {

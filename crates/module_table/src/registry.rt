@@ -2,8 +2,10 @@
 
 ghost use Rattle.std.specs.Prelude.{◌≡◌, ◌<◌, ◌≤◌, ◌^◌, [], drop, length, is_none, IfOk, IfErr, OnErr, OnOk, Ok, None};
 ghost use Rattle.module_table.specs.Modules.{AreInfos};
-ghost use Rattle.module_table.specs.Past.{live, offset, current, instance_of, accepts};
-ghost use Rattle.module_table.specs.History.{left, IsLegal, IsSame, Adds, open_answer, close_answer, OpenRefused};
+ghost use Rattle.module_table.specs.Past.{accepts};
+ghost use Rattle.module_table.specs.PastLaws.{live, offset, current, instance_of};
+ghost use Rattle.module_table.specs.History.{left, IsSame, Adds, open_answer, close_answer, OpenRefused};
+ghost use Rattle.module_table.specs.Past.{IsLegal};
 ghost use Rattle.module_table.specs.History.{CloseRefused, IsRefusal, open_event, close_event};
 
 use crate::events::{CloseRefusal, Closed, Event, OpenRefusal, Opened};

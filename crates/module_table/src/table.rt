@@ -2,7 +2,8 @@
 
 ghost use Rattle.std.specs.Prelude.{◌≡◌, ◌<◌, ◌^◌, true, ◌+◌, ◌≤◌, IfOk, None, nat_lt, slice_get};
 ghost use Rattle.module_table.specs.Modules.{AreInfos};
-ghost use Rattle.module_table.specs.Past.{start, live, offset, current, instance_of, image_of, module_of};
+ghost use Rattle.module_table.specs.Past.{start, module_of};
+ghost use Rattle.module_table.specs.PastLaws.{live, offset, current, instance_of, image_of};
 ghost use Rattle.module_table.specs.Past.{open_refusal, close_refusal, accepts, after_one, loaded, retained};
 ghost use Rattle.module_table.specs.Past.{released, next_offset, opened};
 
@@ -57,7 +58,8 @@ fn image_in(images: &[u32], key: usize) -> Option<u32>
 
 impl ModuleTable {
     ghost use Rattle.module_table.specs.Modules.{is_loaded};
-    ghost use Rattle.module_table.specs.Past.{new_instance, least_free, IsLeastFree};
+    ghost use Rattle.module_table.specs.Past.{new_instance, least_free};
+    ghost use Rattle.module_table.specs.PastLaws.{IsLeastFree};
     ghost use Rattle.module_table.specs.Tables.{IsTheImage, IsTheImageUnder, CanLoad, HasFreeId};
 
     /// The tables before any event, for these images; the last startup image's block begins `last_offset` bytes
@@ -183,7 +185,7 @@ impl ModuleTable {
     }
 
     /// The live instance of an image.
-    #[tactic(auto, unfolding(crate::specs::Past::current))]
+    #[tactic(auto, unfolding(crate::specs::PastLaws::current))]
     pub fn current(&self, image: u32) -> Option<u32>
         ensures { result ≡ current self.now image }
     {
@@ -234,7 +236,7 @@ impl ModuleTable {
     }
 
     /// Whether an instance is live.
-    #[tactic(auto, unfolding(crate::specs::Past::live))]
+    #[tactic(auto, unfolding(crate::specs::PastLaws::live))]
     pub fn live(&self, instance: u32) -> bool
         ensures { result ≡ live self.now instance }
     {
@@ -243,7 +245,7 @@ impl ModuleTable {
 
     /// How far below the thread pointer the block of a live instance begins; `None` if the block is not
     /// in the static surplus.
-    #[tactic(auto, unfolding(crate::specs::Past::offset))]
+    #[tactic(auto, unfolding(crate::specs::PastLaws::offset))]
     pub fn offset(&self, instance: u32) -> Option<u64>
         ensures { result ≡ offset self.now instance }
     {

@@ -5,7 +5,8 @@ use Rattle.std.proofs.lemmas.List.{append-nil, drop_all, flat_map_more, length-t
 use Rattle.std.specs.List.{flat_map}
 use Rattle.elf_records.specs.Fields.{part_at, splice}
 use Rattle.elf_records.specs.Records.{header_at, header_bytes, section_bytes, symbol_bytes, rela_bytes}
-use Rattle.elf_records.specs.RecordLaws.{length-header_bytes, length-section_bytes, length-symbol_bytes, length-rela_bytes}
+use Rattle.elf_records.specs.RecordLaws.{length-header_bytes, length-section_bytes, length-symbol_bytes}
+use Rattle.elf_records.specs.RecordLaws.{length-rela_bytes}
 use Rattle.elf_records.specs.declared.file_header.Header.{Header}
 use Rattle.elf_records.specs.declared.section_header.SectionHeader.{SectionHeader}
 use Rattle.elf_records.specs.declared.symbol.SymbolEntry.{SymbolEntry}
@@ -17,10 +18,12 @@ whole n new old e f =
     let short : length old ≤ 0 + length new = omega arith in
     ap (λ zs. new ++ zs) (drop_all (0 + length new) old short) ∙ append-nil new
 
-pub whole_header : (r : Header) (old : List ℕ) → length r.ident ≡ 16 → length old ≡ 64 → splice 0 (header_bytes r) old ≡ header_bytes r
+pub whole_header : (r : Header) (old : List ℕ) → length r.ident ≡ 16 → length old ≡ 64
+    → splice 0 (header_bytes r) old ≡ header_bytes r
 whole_header r old i e = whole 64 (header_bytes r) old (length-header_bytes r i) e
 
-pub whole_section : (r : SectionHeader) (old : List ℕ) → length old ≡ 64 → splice 0 (section_bytes r) old ≡ section_bytes r
+pub whole_section : (r : SectionHeader) (old : List ℕ) → length old ≡ 64
+    → splice 0 (section_bytes r) old ≡ section_bytes r
 whole_section r old e = whole 64 (section_bytes r) old (length-section_bytes r) e
 
 pub whole_symbol : (r : SymbolEntry) (old : List ℕ) → length old ≡ 24 → splice 0 (symbol_bytes r) old ≡ symbol_bytes r
@@ -37,7 +40,8 @@ ident_read r b h e =
     ap (λ (r : Header). length r.ident) (sym e) ∙ length-take-le 16 b enough
 
 -- one more record behind those that stand there
-pub one_more : {X : Type 0} (f : X → List ℕ) (start before after written : List ℕ) (xs : List X) (i : ℕ) (x : X) → i < length xs
+pub one_more : {X : Type 0} (f : X → List ℕ) (start before after written : List ℕ) (xs : List X) (i : ℕ) (x : X)
+    → i < length xs
     → before ≡ start ++ flat_map f (take i xs) → after ≡ before ++ written → written ≡ f (get_or xs i x)
     → after ≡ start ++ flat_map f (take (i + 1) xs)
 one_more f start before after written xs i x h b a w =

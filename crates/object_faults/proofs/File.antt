@@ -30,13 +30,15 @@ not_elf b long other = record {
 }
 
 -- a file of ELF that is no object
-pub not_relocatable : (b : List ℕ) → 64 ≤ length b → IsElf (header b) → (IsRelocatable (header b) → ⊥) → IsFirst Stands b 0 0 NotRelocatable
+pub not_relocatable : (b : List ℕ) → 64 ≤ length b → IsElf (header b) → (IsRelocatable (header b) → ⊥)
+    → IsFirst Stands b 0 0 NotRelocatable
 unfolding Stands
 not_relocatable b long elf other = record {
   here = (refl, refl, long, other);
   nowhere_earlier = λ t f h _. absurd (omega arith);
   earlier_kinds =
-      let first = none_more Truncated b (none_at_first b) (λ s e h. elim h.1 [ inl short ↦ absurd (omega arith) | inr w ↦ other w.2 ]) in
+      let first = none_more Truncated b (none_at_first b)
+      (λ s e h. elim h.1 [ inl short ↦ absurd (omega arith) | inr w ↦ other w.2 ]) in
       none_more NotElf b first (λ s e h. h.3 elf);
 }
 
@@ -58,7 +60,11 @@ unfolding Stands
 section_passes b s long elf object inside past none = record {
   here = (refl, inr (long, elf, object, inr past));
   nowhere_earlier = λ t f h w. elim h [
-    | inl lt ↦ elim w.1 [ inl short ↦ omega arith | inr v ↦ elim v.3 [ inl table ↦ omega arith | inr part ↦ none t lt part ] ]
+    | inl lt ↦ elim w.1 [
+      | inl short ↦ omega arith
+      | inr v ↦ elim v.3
+          [ inl table ↦ omega arith | inr part ↦ none t lt part ]
+    ]
     | inr same ↦ omega arith
   ];
   earlier_kinds = none_at_first b;
@@ -72,6 +78,10 @@ unfolding Stands
 none_passes b long elf object inside none =
     let whole : NoneBelow 1 b =
     none_more Truncated b (none_at_first b)
-    (λ s e h. elim h.1 [ inl short ↦ omega arith | inr v ↦ elim v.3 [ inl table ↦ omega arith | inr part ↦ none s part ] ]) in
+    (λ s e h. elim h.1 [
+      | inl short ↦ omega arith
+      | inr v ↦ elim v.3
+          [ inl table ↦ omega arith | inr part ↦ none s part ]
+    ]) in
     let known : NoneBelow 2 b = none_more NotElf b whole (λ s e h. h.3 elf) in
     none_more NotRelocatable b known (λ s e h. h.3 object)

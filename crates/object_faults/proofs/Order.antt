@@ -1,7 +1,11 @@
 -- The order of the kinds: what is asked in turn, kind after kind, place after place, finds the first fault.
 use Rattle.std.proofs.Common.{◌≡◌, ◌+◌, ◌<◌, ◌⊎◌, ◌∙◌, ℕ, List, [], ◌∷◌, get_or, inl, inr, refl, sym, ap, subst, arith}
 use Rattle.object_rules.specs.declared.fault.FaultKind.{FaultKind}
-use Rattle.object_rules.specs.declared.fault.FaultKind.TheVariants.{Truncated, NotElf, NotRelocatable, SectionName, SectionKind, SectionAlign, TooLarge, SymbolTable, SymbolName, SymbolSection, SymbolRange, SymbolKind, RelocTarget, RelocSymbol, RelocKind, RelocRange, RelocOverlap, Sequence, StrayCall, WritableData}
+use Rattle.object_rules.specs.declared.fault.FaultKind.TheVariants.{Truncated, NotElf, NotRelocatable, SectionName}
+use Rattle.object_rules.specs.declared.fault.FaultKind.TheVariants.{SectionKind, SectionAlign, TooLarge, SymbolTable}
+use Rattle.object_rules.specs.declared.fault.FaultKind.TheVariants.{SymbolName, SymbolSection, SymbolRange, SymbolKind}
+use Rattle.object_rules.specs.declared.fault.FaultKind.TheVariants.{RelocTarget, RelocSymbol, RelocKind, RelocRange}
+use Rattle.object_rules.specs.declared.fault.FaultKind.TheVariants.{RelocOverlap, Sequence, StrayCall, WritableData}
 use Rattle.object_rules.specs.declared.kinds.SectionFault.{SectionFault}
 use Rattle.object_rules.specs.declared.kinds.SectionFault.TheVariants as section
 use Rattle.object_rules.specs.declared.kinds.SymbolFault.{SymbolFault}
@@ -15,7 +19,9 @@ use Rattle.object_faults.specs.Faults.{number, Stands, Nowhere, NoneBelow, IsObj
 
 -- the kinds in their order
 abbrev pub kinds : List FaultKind
-kinds = Truncated ∷ NotElf ∷ NotRelocatable ∷ SectionName ∷ SectionKind ∷ SectionAlign ∷ TooLarge ∷ SymbolTable ∷ SymbolName ∷ SymbolSection ∷ SymbolRange ∷ SymbolKind ∷ RelocTarget ∷ RelocSymbol ∷ RelocKind ∷ RelocRange ∷ RelocOverlap ∷ Sequence ∷ StrayCall ∷ WritableData ∷ []
+kinds = Truncated ∷ NotElf ∷ NotRelocatable ∷ SectionName ∷ SectionKind ∷ SectionAlign ∷ TooLarge ∷ SymbolTable
+    ∷ SymbolName ∷ SymbolSection ∷ SymbolRange ∷ SymbolKind ∷ RelocTarget ∷ RelocSymbol ∷ RelocKind ∷ RelocRange
+    ∷ RelocOverlap ∷ Sequence ∷ StrayCall ∷ WritableData ∷ []
 
 pub kind_at_number : (kind : FaultKind) → get_or kinds (number kind) Truncated ≡ kind
 kind_at_number Truncated = refl
@@ -83,13 +89,20 @@ object_of b below StrayCall = λ s e h. h
 object_of b below WritableData = λ s e h. h
 
 -- a kind of fault of sections stands at no entry but number 0, and at sections alone
-pub in_section : (fault : SectionFault) (b : List ℕ) (s e : ℕ) → Stands (of_section fault) b s e → (e ≡ 0) × IsSection b s
+pub in_section : (fault : SectionFault) (b : List ℕ) (s e : ℕ) → Stands (of_section fault) b s e
+    → (e ≡ 0) × IsSection b s
 unfolding Stands
 in_section section.Name b s e h = (h.0, h.1)
 in_section section.Kind b s e h = (h.0, h.1)
 in_section section.Align b s e h = (h.0, h.1.0)
-in_section section.Large b s e h =
-    (h.0, elim h.1 [ inl kept ↦ kept.0.0 | inr table ↦ elim table.0 [ inl symbols ↦ symbols.0 | inr relocs ↦ relocs.0.0 ] ])
+in_section section.Large b s e h = (
+  h.0,
+  elim h.1 [
+    | inl kept ↦ kept.0.0
+    | inr table ↦ elim table.0
+        [ inl symbols ↦ symbols.0 | inr relocs ↦ relocs.0.0 ]
+  ],
+)
 
 -- a kind of fault of symbols stands at symbols alone
 pub at_symbol : (fault : SymbolFault) (b : List ℕ) (s e : ℕ) → Stands (of_symbol fault) b s e → IsSymbol b s e
@@ -113,7 +126,8 @@ at_reloc reloc.Range b s e h = h.0
 
 -- a fault that stands in no section before this one, and at no entry of it before this one, is the first
 pub first_of : (kind : FaultKind) (b : List ℕ) (s e : ℕ) → NoneBelow (number kind) b → Stands kind b s e
-    → ((t : ℕ) → t < s → (f : ℕ) → Stands kind b t f → ⊥) → ((f : ℕ) → f < e → Stands kind b s f → ⊥) → IsFirst Stands b s e kind
+    → ((t : ℕ) → t < s → (f : ℕ) → Stands kind b t f → ⊥) → ((f : ℕ) → f < e → Stands kind b s f → ⊥)
+    → IsFirst Stands b s e kind
 first_of kind b s e below here sections entries = record {
   here = here;
   nowhere_earlier = λ t f h w. elim h [

@@ -11,8 +11,13 @@ in_tables : (b : List ℕ) (s e : ℕ) → Stands SymbolTable b s e
     → (0 < symbol_table b) × (symbol_table b ≤ s) × (symbol_table b < s → (e ≡ 0) × IsTable b s)
 unfolding Stands
 in_tables b s e h = elim h [
-  | inl table ↦ let least = table_least b s table.1.0.0 table.1.0.1 table.1.1 in (least.0, least.1, λ _. (table.0, table.1))
-  | inr symbol ↦ (omega (arith, symbol.0.0, symbol.0.1), omega (arith, symbol.0.1), λ past. absurd (omega (arith, symbol.0.1)))
+  | inl table ↦ let least = table_least b s table.1.0.0 table.1.0.1 table.1.1 in
+      (least.0, least.1, λ _. (table.0, table.1))
+  | inr symbol ↦ (
+    omega (arith, symbol.0.0, symbol.0.1),
+    omega (arith, symbol.0.1),
+    λ past. absurd (omega (arith, symbol.0.1)),
+  )
 ]
 
 -- without a section of symbols
@@ -32,10 +37,12 @@ none_before : (b : List ℕ) (t u f : ℕ) → t ≡ symbol_table b → u < t �
 none_before b t u f same h w = let found = in_tables b u f w in omega (arith, found.1)
 
 -- a fault of the symbol table itself
-pub bad_table : (b : List ℕ) (t : ℕ) → t ≡ symbol_table b → NoneBelow 7 b → IsTable b t → IsBadTable b t → IsFirst Stands b t 0 SymbolTable
+pub bad_table : (b : List ℕ) (t : ℕ) → t ≡ symbol_table b → NoneBelow 7 b → IsTable b t → IsBadTable b t
+    → IsFirst Stands b t 0 SymbolTable
 unfolding Stands
 bad_table b t same below table bad =
-    first_of SymbolTable b t 0 below (inl (refl, table, bad)) (λ u h f w. none_before b t u f same h w) (λ f h w. omega arith)
+    first_of SymbolTable b t 0 below (inl (refl, table, bad)) (λ u h f w. none_before b t u f same h w)
+    (λ f h w. omega arith)
 
 -- at the symbol table, a fault is its own or that of a symbol
 at_table : (b : List ℕ) (t f : ℕ) → (IsBadTable b t → ⊥) → Stands SymbolTable b t f → 0 < f
@@ -43,13 +50,16 @@ unfolding Stands
 at_table b t f fine h = elim h [ inl table ↦ absurd (fine table.2) | inr symbol ↦ symbol.0.2 ]
 
 -- a fault of a symbol
-pub bad_symbol : (b : List ℕ) (t e : ℕ) → t ≡ symbol_table b → NoneBelow 7 b → (IsBadTable b t → ⊥) → Stands SymbolTable b t e
+pub bad_symbol : (b : List ℕ) (t e : ℕ) → t ≡ symbol_table b → NoneBelow 7 b → (IsBadTable b t → ⊥)
+    → Stands SymbolTable b t e
     → ((f : ℕ) → f < e → (0 < f) × Stands SymbolTable b t f → ⊥) → IsFirst Stands b t e SymbolTable
 bad_symbol b t e same below fine here none =
-    first_of SymbolTable b t e below here (λ u h f w. none_before b t u f same h w) (λ f h w. none f h (at_table b t f fine w, w))
+    first_of SymbolTable b t e below here (λ u h f w. none_before b t u f same h w)
+    (λ f h w. none f h (at_table b t f fine w, w))
 
 -- where the symbol table and its symbols are fine, the kind stands at second tables alone
-only_second : (b : List ℕ) (t u f : ℕ) → t ≡ symbol_table b → (IsBadTable b t → ⊥) → ((f : ℕ) → (0 < f) × Stands SymbolTable b t f → ⊥)
+only_second : (b : List ℕ) (t u f : ℕ) → t ≡ symbol_table b → (IsBadTable b t → ⊥)
+    → ((f : ℕ) → (0 < f) × Stands SymbolTable b t f → ⊥)
     → Stands SymbolTable b u f → (t < u) × IsTable b u
 only_second b t u f same fine none w =
     let found = in_tables b u f w in

@@ -1,5 +1,6 @@
 -- One walk over the relocations: what it goes by has no fault, and fields that rise share no byte.
-use Rattle.std.proofs.Common.{◌≡◌, ◌+◌, ◌<◌, ◌≤◌, ◌⊎◌, ◌↔◌, ◌&&◌, ℕ, zero, suc, List, Bool, IsTrue, nat_le, inl, inr, refl, sym, subst, arith}
+use Rattle.std.proofs.Common.{◌≡◌, ◌+◌, ◌<◌, ◌≤◌, ◌⊎◌, ◌↔◌, ◌&&◌, ℕ, zero, suc, List, Bool, IsTrue, nat_le, inl, inr}
+use Rattle.std.proofs.Common.{refl, sym, subst, arith}
 use Rattle.std.proofs.lemmas.Bool.Decides.{nat_tests}
 use Rattle.object_rules.specs.declared.fault.FaultKind.TheVariants.{RelocOverlap}
 use Rattle.object_faults.specs.Parts.{section, rela, entry_count, IsRela}
@@ -39,7 +40,8 @@ end_of_field b r n end here = (
 )
 
 -- one field more rises where it begins no earlier than the one before it ended
-rise_more : (b : List ℕ) (r n end : ℕ) → IsEndBefore b r n end → RiseBelow b r n → end ≤ (rela b r n).offset → RiseBelow b r (n + 1)
+rise_more : (b : List ℕ) (r n end : ℕ) → IsEndBefore b r n end → RiseBelow b r n → end ≤ (rela b r n).offset
+    → RiseBelow b r (n + 1)
 rise_more b r n end before risen here e below =
     elim (cases_of (e + 1) n below) [
       | inl lt ↦ risen e lt
@@ -86,7 +88,8 @@ rises_on b r n end t start at before known = (
     to_and t m n h below = grind (arith, nat_tests)
 
 -- what the walk found at the end of n entries, all that there are
-pub all_fine : (b : List ℕ) (r n : ℕ) → n ≡ entry_count (section b r) → ((e : ℕ) → e < n → IsFaulty b r e → ⊥) → IsFaultless b r
+pub all_fine : (b : List ℕ) (r n : ℕ) → n ≡ entry_count (section b r) → ((e : ℕ) → e < n → IsFaulty b r e → ⊥)
+    → IsFaultless b r
 all_fine b r n all fine e h = let reloc = at_faulty b r e h in fine e (omega (arith, reloc.2, all)) h
 
 pub has_risen : (b : List ℕ) (r n : ℕ) → n ≡ entry_count (section b r) → RiseBelow b r n → Rise b r

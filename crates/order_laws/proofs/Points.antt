@@ -4,7 +4,8 @@ use Rattle.std.specs.Prelude.{map, take}
 use Rattle.std.proofs.lemmas.List.{append-nil, flat_map_more}
 use Rattle.std.proofs.Math.Seq.{take-append_seam}
 use Rattle.guest_machine.specs.Run.{Outcome, Ended, Waits, run}
-use Rattle.thread_blocks.specs.Turns.{Begun, Calls, Ending, Idle, IsFinished, Mid, Phase, Said, Says, Stopped, Thread, Turns, after_look, after_run, over_with, turn, turn_at, turns, with_last}
+use Rattle.thread_blocks.specs.Turns.{Begun, Calls, Ending, Idle, IsFinished, Mid, Phase, Said, Says, Stopped, Thread}
+use Rattle.thread_blocks.specs.Turns.{Turns, after_look, after_run, over_with, turn, turn_at, turns, with_last}
 use Rattle.order_laws.specs.Points.{AreTaken, FrontsAreTold, PointsKeep, points_in, points_of}
 
 module _ {S L E : Type 0} (x : Turns S L E) where

@@ -4,7 +4,8 @@ use Rattle.module_table.specs.declared.events.Event.{Event}
 use Rattle.thread_blocks.specs.Held.{Held, Owned}
 use Rattle.thread_blocks.specs.Lines.{Line}
 use Rattle.thread_blocks.specs.RunTime.{Runs}
-use Rattle.order_laws.specs.Laws.{BothPass, OrdersKeep, OrdersStayAlike, Passes, PointsAreTold, TurnsKeep, TurnsStayAlike}
+use Rattle.order_laws.specs.Laws.{BothPass, OrdersKeep, OrdersStayAlike, Passes, PointsAreTold, TurnsKeep}
+use Rattle.order_laws.specs.Laws.{TurnsStayAlike}
 use Rattle.order_laws.proofs.Points.{fronts_told, points_keep}
 use Rattle.order_laws.proofs.Turns.{turns_alike}
 use Rattle.order_laws.proofs.Worlds.{order_alike}

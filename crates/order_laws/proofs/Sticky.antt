@@ -4,7 +4,7 @@ use Rattle.std.specs.Prelude.{slice_get, slice_set}
 use Rattle.module_table.specs.declared.events.Event.{Event}
 use Rattle.thread_blocks.specs.Held.{Held}
 use Rattle.thread_blocks.specs.JobWorlds.{Shared, shared_order, shared_turn, with_data, without_data}
-use Rattle.thread_blocks.specs.Spaces.{FoundAlike}
+use Rattle.thread_blocks.specs.SpaceLaws.{FoundAlike}
 use Rattle.thread_blocks.specs.Turns.{Thread, Turns, at_number, turn}
 use Rattle.thread_blocks.specs.TurnsAlike.{HasUnclean}
 use Rattle.thread_blocks.proofs.Turns.{turn-sticky}
@@ -23,7 +23,8 @@ found_set R (x ∷ xs) [] i u u' all r j = absurd (all zero)
 found_set R (x ∷ xs) (y ∷ ys) zero u u' all r zero = r
 found_set R (x ∷ xs) (y ∷ ys) zero u u' all r (suc j) = all (suc j)
 found_set R (x ∷ xs) (y ∷ ys) (suc i) u u' all r zero = all zero
-found_set R (x ∷ xs) (y ∷ ys) (suc i) u u' all r (suc j) = found_set (λ k. R (suc k)) xs ys i u u' (λ k. all (suc k)) r j
+found_set R (x ∷ xs) (y ∷ ys) (suc i) u u' all r (suc j) =
+    found_set (λ k. R (suc k)) xs ys i u u' (λ k. all (suc k)) r j
 
 -- places where there is an element are places where there was one
 pub within_set : {X : Type 0} (P : ℕ → Type 0) (xs : List X) (i : ℕ) (u : X)
@@ -72,6 +73,8 @@ module _ {W F B L : Type 0} (x : ℕ → Turns (Held W F B) L Event) (event : �
         | Some u ↦ λ e. some_sticky w j u e h
       ]) refl
 
-  pub order_sticky : (order : List ℕ) (w : Shared W F B L) → IsSomeUnclean w → IsSomeUnclean (shared_order x event order w)
+  pub order_sticky : (order : List ℕ) (w : Shared W F B L) → IsSomeUnclean w
+      → IsSomeUnclean (shared_order x event order w)
   order_sticky [] w h = h
-  order_sticky (i ∷ order) w h = order_sticky order (shared_turn x event w i (at_number w.threads i)) (turn_sticky w i h)
+  order_sticky (i ∷ order) w h =
+      order_sticky order (shared_turn x event w i (at_number w.threads i)) (turn_sticky w i h)

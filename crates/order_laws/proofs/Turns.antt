@@ -1,11 +1,14 @@
 -- Threads of one kind follow threads of another, turn by turn, along a history.
-use Rattle.std.proofs.Common.{◌≡◌, ℕ, ◌+◌, ◌-◌, ◌*◌, ◌≤◌, List, [], ◌∷◌, Option, length, refl, ap, subst, inl, inr, arith}
+use Rattle.std.proofs.Common.{◌≡◌, ℕ, ◌+◌, ◌-◌, ◌*◌, ◌≤◌, List, [], ◌∷◌, Option, length, refl, ap, subst, inl, inr}
+use Rattle.std.proofs.Common.{arith}
 use Rattle.std.specs.Prelude.{option_and_then}
 use Rattle.guest_operands.specs.declared.stop.Stop.{Stop}
 use Rattle.guest_machine.specs.Run.{Outcome, Ended, Waits, run}
 use Rattle.guest_machine.specs.Simulate.{SameOut}
 use Rattle.guest_machine.proofs.Simulate.{same_run}
-use Rattle.thread_blocks.specs.Turns.{Ending, Stopped, Said, Begun, Says, Calls, Turns, Phase, Idle, Mid, Thread, with_last, over_with, after_run, after_look, turn_at, turn, turns, next_line, event_of, with_event}
+use Rattle.thread_blocks.specs.Turns.{Ending, Stopped, Said, Begun, Says, Calls, Turns, Phase, Idle, Mid, Thread}
+use Rattle.thread_blocks.specs.Turns.{with_last, over_with, after_run, after_look, turn_at, turn, turns, next_line}
+use Rattle.thread_blocks.specs.Turns.{event_of, with_event}
 use Rattle.thread_blocks.specs.TurnsAlike.{IsUncleanEnding, HasUnclean, SameBegun, SamePhase, SameThread}
 use Rattle.thread_blocks.proofs.Turns.{turn-sticky}
 use Rattle.order_laws.specs.Alike.{AreAlike, AtHistory}
@@ -61,7 +64,8 @@ module _ {S S' L E : Type 0} (Rel0 Wait0 Rest0 : S → S' → Type 0) (Fine : Li
         seen = refl;
         phase = h.1;
       })
-  look_alike steps steps' enough todo said seen points (Says ending s) (Calls s') h = run-unclean (run y.steps steps' s')
+  look_alike steps steps' enough todo said seen points (Says ending s) (Calls s') h =
+      run-unclean (run y.steps steps' s')
     where
       run-unclean : (out : Outcome S')
           → SameThread Wait Rest (over_with todo said seen points ending s) (after_run todo said seen points out)
@@ -81,7 +85,8 @@ module _ {S S' L E : Type 0} (Rel0 Wait0 Rest0 : S → S' → Type 0) (Fine : Li
       rw e (look_alike (left - 1) (left' - 1) (omega arith) todo said seen _ _ _ (alike.resume seen fine s s' wait))
 
   -- a turn, by where the threads stand
-  turn_at_alike : (todo : List L) (phase : Phase S) (phase' : Phase S') (said : List Said) (old seen : List E) → Fine seen
+  turn_at_alike : (todo : List L) (phase : Phase S) (phase' : Phase S') (said : List Said) (old seen : List E)
+      → Fine seen
       → Fine (with_event seen (option_and_then (λ line. event line seen) (next_line todo phase')))
       → SamePhase Wait Rest old phase phase'
       → SameThread Wait Rest (turn_at x todo phase said old seen) (turn_at y todo phase' said old seen)

@@ -1,12 +1,15 @@
 -- Worlds of threads stay related, turn by turn, up to the first unclean line.
-use Rattle.std.proofs.Common.{◌≡◌, ◌⊎◌, ◌∙◌, ◌++◌, ℕ, zero, suc, List, [], ◌∷◌, Option, Some, None, refl, sym, ap, subst, inl, inr}
+use Rattle.std.proofs.Common.{◌≡◌, ◌⊎◌, ◌∙◌, ◌++◌, ℕ, zero, suc, List, [], ◌∷◌, Option, Some, None, refl, sym, ap}
+use Rattle.std.proofs.Common.{subst, inl, inr}
 use Rattle.std.specs.Prelude.{option_and_then, slice_get}
 use Rattle.module_table.specs.declared.events.Event.{Event}
 use Rattle.thread_blocks.specs.Held.{Held, Owned, owned_by, with_owned}
-use Rattle.thread_blocks.specs.JobWorlds.{Shared, blocks_in, changed, data_in, held_in, shared_order, shared_turn, with_data, without_data}
-use Rattle.thread_blocks.specs.Spaces.{FoundAlike}
+use Rattle.thread_blocks.specs.JobWorlds.{Shared, blocks_in, changed, data_in, held_in, shared_order, shared_turn}
+use Rattle.thread_blocks.specs.JobWorlds.{with_data, without_data}
+use Rattle.thread_blocks.specs.SpaceLaws.{FoundAlike}
 use Rattle.thread_blocks.specs.Turns.{Phase, Idle, Mid, Thread, Turns, at_number, event_of, next_line, turn, with_event}
-use Rattle.thread_blocks.specs.TurnsAlike.{IsFront, Level, SamePhase}
+use Rattle.thread_blocks.specs.TurnsAlike.{Level, SamePhase}
+use Rattle.thread_blocks.specs.Turns.{IsFront}
 use Rattle.thread_blocks.proofs.Turns.{turn-sticky}
 use Rattle.thread_blocks.proofs.Orders.{front-trans, get-set_same, order-front, turn-front}
 use Rattle.order_laws.specs.Alike.{AreAlike, SameOne}
@@ -109,7 +112,8 @@ module _ {W F B W' F' B' L : Type 0} (Rel Wait Rest : ℕ → Held W F B → Hel
       → Level (λ (e : List Event). Wait (suc i)) (λ (e : List Event). Rest (suc i)) t t'
       → event_of (event' (suc i)) t' events ≡ event_of (event (suc i)) t events
   event_alike i t t' events h =
-      ap (λ (todo : List L). option_and_then (λ (line : L). event' (suc i) line events) (next_line todo t'.phase)) h.todo
+      ap (λ (todo : List L). option_and_then (λ (line : L). event' (suc i) line events)
+      (next_line todo t'.phase)) h.todo
       ∙ (ap (option_and_then (λ (line : L). event' (suc i) line events))
       (next_alike i t.seen t.todo t.phase t'.phase h.phase)
       ∙ added_alike (suc i) (next_line t.todo t.phase) events)
@@ -131,11 +135,13 @@ module _ {W F B W' F' B' L : Type 0} (Rel Wait Rest : ℕ → Held W F B → Hel
         let mine = subst (λ (o : Option L). Fine
         (with_event w'.events (option_and_then (λ (line : L). event' (suc i) line w'.events) o))) (sym line) own in
         subst (λ (e : List Event). Same i (turn (x (suc i)) (with_data w.shared t) e) u') same.events
-        (turn_alike (Rel (suc i)) (Wait (suc i)) (Rest (suc i)) Fine (x (suc i)) (y (suc i)) (event' (suc i)) (alike i ok)
+        (turn_alike (Rel (suc i)) (Wait (suc i)) (Rest (suc i)) Fine (x (suc i)) (y (suc i)) (event' (suc i))
+        (alike i ok)
         (with_data w.shared t) (with_data w'.shared t') w'.events fine mine
         (lend_thread i ok w.shared w'.shared same.shared t t' s))
 
-    turned_on : Same i t t' → Level (λ (e : List Event). Wait (suc i)) (λ (e : List Event). Rest (suc i)) t t' → Same i u u'
+    turned_on : Same i t t' → Level (λ (e : List Event). Wait (suc i)) (λ (e : List Event). Rest (suc i)) t t'
+        → Same i u u'
         → IsSomeUnclean (shared_turn x event w (suc i) (Some t))
         ⊎ Worlds (shared_turn x event w (suc i) (Some t)) (shared_turn y event' w' (suc i) (Some t'))
     turned_on s level (inl h) =
@@ -175,7 +181,8 @@ module _ {W F B W' F' B' L : Type 0} (Rel Wait Rest : ℕ → Held W F B → Hel
 
   -- ** a turn of the thread of a number, if there is one
 
-  either_turn : (w : Shared W F B L) (w' : Shared W' F' B' L) → Worlds w w' → (i : ℕ) (o : Option One) (o' : Option One')
+  either_turn : (w : Shared W F B L) (w' : Shared W' F' B' L) → Worlds w w'
+      → (i : ℕ) (o : Option One) (o' : Option One')
       → slice_get w.threads i ≡ o → FoundAlike (Same i) o o'
       → ((e : List Event) → IsFront e (shared_turn y event' w' (suc i) o').events → Fine e)
       → IsSomeUnclean (shared_turn x event w (suc i) o)

@@ -10,7 +10,7 @@ use Rattle.thread_blocks.specs.JobWorlds.{Shared, shared_order}
 use Rattle.thread_blocks.specs.Lines.{Line}
 use Rattle.thread_blocks.specs.RunTime.{Runs}
 use Rattle.thread_blocks.specs.Turns.{Thread, Turns, turns}
-use Rattle.thread_blocks.specs.TurnsAlike.{IsFront}
+use Rattle.thread_blocks.specs.Turns.{IsFront}
 use Rattle.order_laws.specs.Alike.{AreAlike, AtHistory, SameOne}
 use Rattle.order_laws.specs.Points.{FrontsAreTold, PointsKeep}
 use Rattle.order_laws.specs.Worlds.{AreLent, IsSomeUnclean, SameWorld}

@@ -2,7 +2,7 @@
 use Rattle.std.specs.Prelude.{◌≡◌, ◌++◌, ℕ, List, [], ◌∷◌, length, map, take}
 use Rattle.std.specs.List.{flat_map}
 use Rattle.thread_blocks.specs.Turns.{IsFinished, Mid, Idle, Phase, Said, Thread, Turns, turn, turns}
-use Rattle.thread_blocks.specs.TurnsAlike.{AllFronts}
+use Rattle.thread_blocks.specs.Turns.{AllFronts}
 
 -- the points that lines tell, one line after the other
 abbrev pub points_of : List Said → List ℕ

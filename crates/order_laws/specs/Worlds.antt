@@ -3,7 +3,7 @@ use Rattle.std.specs.Prelude.{◌≡◌, ◌++◌, ℕ, suc, List, Some, slice_g
 use Rattle.module_table.specs.declared.events.Event.{Event}
 use Rattle.thread_blocks.specs.Held.{Held, Owned, owned_by, with_owned}
 use Rattle.thread_blocks.specs.JobWorlds.{Shared, blocks_in, data_in}
-use Rattle.thread_blocks.specs.Spaces.{FoundAlike}
+use Rattle.thread_blocks.specs.SpaceLaws.{FoundAlike}
 use Rattle.thread_blocks.specs.Turns.{Thread}
 use Rattle.thread_blocks.specs.TurnsAlike.{HasUnclean}
 use Rattle.order_laws.specs.Alike.{SameOne}

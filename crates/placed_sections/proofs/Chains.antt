@@ -1,5 +1,6 @@
 -- Sections that follow each other.
-use Rattle.std.proofs.Common.{◌≡◌, ◌+◌, ◌-◌, ◌<◌, ◌≤◌, ◌∙◌, ℕ, Bool, true, List, [], ◌∷◌, ◌++◌, length, refl, sym, ap, append_assoc, arith, inl, inr}
+use Rattle.std.proofs.Common.{◌≡◌, ◌+◌, ◌-◌, ◌<◌, ◌≤◌, ◌∙◌, ℕ, Bool, true, List, [], ◌∷◌, ◌++◌, length, refl, sym, ap}
+use Rattle.std.proofs.Common.{append_assoc, arith, inl, inr}
 use Rattle.std.specs.Prelude.{nat_lt, if◌then◌else◌}
 use Rattle.std.proofs.lemmas.Bool.{cases_lt, lt-ltb, le-ltb}
 use Rattle.tls_relocs.specs.Laid.{Placed, Rising, end_of, laid, zeros}
@@ -56,7 +57,8 @@ end_of-below at low end (x ∷ xs) below within = within
 both_none : (xs ys : List Placed) → xs ≡ [] → ys ≡ [] → xs ++ ys ≡ []
 both_none xs ys e f = rw (e, f) refl
 
-pub lies-append : (full : Bool) (at mid end : ℕ) (xs ys : List Placed) → Lies full at xs mid → Lies full mid ys end → Lies full at (xs ++ ys) end
+pub lies-append : (full : Bool) (at mid end : ℕ) (xs ys : List Placed) → Lies full at xs mid → Lies full mid ys end
+    → Lies full at (xs ++ ys) end
 lies-append full at mid end xs ys front back =
     let first = end_of-above at xs front.rising in
     let second = end_of-above mid ys back.rising in
@@ -76,8 +78,14 @@ pub record Follows (from at end : ℕ) (xs : List Placed) : Type 0 where
 
 pub follows : (from at end : ℕ) (xs : List Placed) → from ≤ at → Lies true at xs end → Follows from at end xs
 follows from at end xs low lies = elim (cases_lt at end) [
-  | inl some ↦ record { rising = rising-below at from xs low lies.rising; ends = rw (lt-ltb at end some) (same xs (lies.ends refl) some) }
-  | inr none ↦ record { rising = rising-below at from xs low lies.rising; ends = rw (le-ltb at end none) (rw (lies.none none) refl) }
+  | inl some ↦ record {
+    rising = rising-below at from xs low lies.rising;
+    ends = rw (lt-ltb at end some) (same xs (lies.ends refl) some);
+  }
+  | inr none ↦ record {
+    rising = rising-below at from xs low lies.rising;
+    ends = rw (le-ltb at end none) (rw (lies.none none) refl);
+  }
 ]
   where
     same : (xs : List Placed) → end_of at xs ≡ end → at < end → end_of from xs ≡ end

@@ -11,13 +11,16 @@ pub record Pages (p : Layout) (contents : Contents) (objects : List (List ℕ)) 
   pub whole : sections_file p contents objects ≡ page ++ laid (length page) (placed (filled contents) p objects)
 
 -- with a page, whatever its length
-paged : (p : Layout) (contents : Contents) (objects : List (List ℕ)) (n : ℕ) → n ≡ 4096 → zeros n ++ laid n (placed (filled contents) p objects) ≡ sections_file p contents objects
+paged : (p : Layout) (contents : Contents) (objects : List (List ℕ)) (n : ℕ) → n ≡ 4096
+    → zeros n ++ laid n (placed (filled contents) p objects) ≡ sections_file p contents objects
 unfolding sections_file
 paged p contents objects n e = ap (λ m. zeros m ++ laid m (placed (filled contents) p objects)) e
 
-pub page_of : (p : Layout) (contents : Contents) (objects : List (List ℕ)) (page : List ℕ) → length page ≡ 4096 → page ≡ zeros (length page) → Pages p contents objects page
+pub page_of : (p : Layout) (contents : Contents) (objects : List (List ℕ)) (page : List ℕ) → length page ≡ 4096
+    → page ≡ zeros (length page) → Pages p contents objects page
 page_of p contents objects page len zero = record {
   len = len;
   zero = zero;
-  whole = sym (ap (λ x. x ++ laid (length page) (placed (filled contents) p objects)) zero ∙ paged p contents objects (length page) len);
+  whole = sym (ap (λ x. x ++ laid (length page) (placed (filled contents) p objects)) zero
+      ∙ paged p contents objects (length page) len);
 }

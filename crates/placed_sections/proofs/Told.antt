@@ -12,15 +12,20 @@ use Rattle.placed_sections.proofs.Standing.{stood, is_among, all_clear}
 use Rattle.placed_sections.proofs.Whole.{all_end, all_rise}
 
 pub files_end : FilesEnd
-files_end kind contents objects laid = file_len kind contents objects laid.whole ∙ all_end kind contents objects laid.whole
+files_end kind contents objects laid = file_len kind contents objects laid.whole
+    ∙ all_end kind contents objects laid.whole
 
-place_is : (kind : ImageKind) (contents : Contents) (objects : List (List ℕ)) (o s address : ℕ) → StandsAt kind objects o s address → (stood (layout_of kind objects) contents o s).place ≡ offset_of (layout_of kind objects) address
-place_is kind contents objects o s address stands = ap (λ a. offset_of (layout_of kind objects) (unwrap_or a 0)) stands.1
+place_is : (kind : ImageKind) (contents : Contents) (objects : List (List ℕ)) (o s address : ℕ)
+    → StandsAt kind objects o s address
+    → (stood (layout_of kind objects) contents o s).place ≡ offset_of (layout_of kind objects) address
+place_is kind contents objects o s address stands =
+    ap (λ a. offset_of (layout_of kind objects) (unwrap_or a 0)) stands.1
 
 pub sections_fit : SectionsFit
 sections_fit kind contents objects o s address laid stands some =
     let p = layout_of kind objects in
-    let within = lies_within 4096 (placed (filled contents) p objects) (stood p contents o s) (all_rise kind contents objects laid.whole) (is_among kind contents objects o s address stands some) in
+    let within = lies_within 4096 (placed (filled contents) p objects) (stood p contents o s)
+    (all_rise kind contents objects laid.whole) (is_among kind contents objects o s address stands some) in
     let place = place_is kind contents objects o s address stands in
     omega (arith, within.below, place, laid.whole o s stands.0, file_len kind contents objects laid.whole)
 
@@ -35,7 +40,8 @@ sections_stand kind contents objects o s address k laid stands below =
     let long = laid.whole o s stands.0 in
     let at : offset_of p address + k - x.place ≡ k = omega (arith, place) in
     file_unit kind contents objects laid.whole (offset_of p address + k) (omega (arith, within.above, place))
-    ∙ unit_among 4096 (placed (filled contents) p objects) x (offset_of p address + k) rises among (omega (arith, place)) (omega (arith, place, long))
+    ∙ unit_among 4096 (placed (filled contents) p objects) x (offset_of p address + k) rises among
+    (omega (arith, place)) (omega (arith, place, long))
     ∙ ap (slice_get (contents o s)) at
 
 pub gaps_are_zero : GapsAreZero
@@ -43,6 +49,7 @@ gaps_are_zero kind contents objects k laid below outside = elim (cases_lt k 4096
   | inl in_page ↦ file_page kind contents objects laid.whole k in_page
   | inr past ↦
       file_unit kind contents objects laid.whole k past
-      ∙ unit_clear 4096 (placed (filled contents) (layout_of kind objects) objects) k (all_rise kind contents objects laid.whole) past
+      ∙ unit_clear 4096 (placed (filled contents) (layout_of kind objects) objects) k
+      (all_rise kind contents objects laid.whole) past
       (omega (arith, file_len kind contents objects laid.whole)) (all_clear kind contents objects laid.whole k outside)
 ]

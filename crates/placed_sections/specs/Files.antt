@@ -10,7 +10,7 @@ use Rattle.elf_object.specs.Object.{section_count}
 use Rattle.link_faults.specs.ImageKinds.{base_of}
 use Rattle.placed_sections.specs.declared.part.SectionRef.{SectionRef}
 use Rattle.placed_sections.specs.declared.part.PlacedPart.{PlacedPart}
-use Rattle.tls_layout.specs.Laws.{extent_for}
+use Rattle.tls_layout.specs.Places.{extent_for}
 use Rattle.tls_layout.specs.Places.{address_of}
 use Rattle.tls_layout.specs.Sections.{Layout, is_class}
 use Rattle.tls_relocs.specs.Laid.{Placed, laid, zeros}

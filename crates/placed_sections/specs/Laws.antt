@@ -9,7 +9,7 @@ use Rattle.elf_object.specs.Lent.{section_class, section_size}
 use Rattle.link_faults.specs.declared.image_kind.ImageKind.{ImageKind}
 use Rattle.link_faults.specs.ImageKinds.{base_of}
 use Rattle.tls_layout.specs.declared.extent.Extent.{Extent}
-use Rattle.tls_layout.specs.Laws.{extent_for}
+use Rattle.tls_layout.specs.Places.{extent_for}
 use Rattle.tls_layout.specs.Places.{address_of, IsLawful}
 use Rattle.tls_layout.specs.Sections.{Layout, layout_of}
 use Rattle.elf_object.specs.Object.{section_count}

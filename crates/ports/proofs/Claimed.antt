@@ -1,5 +1,6 @@
 -- Claims before and after their files are read.
-use Rattle.std.proofs.Common.{◌≡◌, ◌∙◌, ◌<◌, ◌+◌, ◌++◌, ℕ, List, [], ◌∷◌, Option, None, Some, Result, Ok, Err, Vec, Bor, Global}
+use Rattle.std.proofs.Common.{◌≡◌, ◌∙◌, ◌<◌, ◌+◌, ◌++◌, ℕ, List, [], ◌∷◌, Option, None, Some, Result, Ok, Err, Vec, Bor}
+use Rattle.std.proofs.Common.{Global}
 use Rattle.std.proofs.Common.{append-nil, arith, ap, drop, get_or, length, refl, subst, suc, sym, take, zero}
 use Rattle.std.specs.Prelude.{IfOk, slice_index_or}
 use Rattle.std.specs.List.{All, AllZip}
@@ -7,13 +8,15 @@ use Rattle.std.proofs.lemmas.List.{drop_all, take_all, take_more}
 use Rattle.rayon.proofs.ListFacts.{AllZip-append}
 use Rattle.ports.specs.declared.faults.FetchFault.{FetchFault}
 use Rattle.ports.specs.declared.claims.Claim.{Claim}
-use Rattle.ports.specs.Claims.{HasCome, IsFileOf, IsFor, IsFresh, IsRead, Reads, fewer, more}
+use Rattle.ports.specs.Claims.{HasCome, IsFileOf, IsFor, IsFresh, IsRead, fewer, more}
+use Rattle.ports.specs.ClaimLaws.{Reads}
 use Rattle.ports.specs.Files.{Fetches, Files, IsFile, with_names}
 
 -- ---- what is asked for, and what is out
 
 -- all names were asked for, whatever came
-pub asks_for_all : {T : Type 0} (names : List (List ℕ)) (old new : Option (List (List ℕ))) (result : Result T FetchFault)
+pub asks_for_all : {T : Type 0} (names : List (List ℕ)) (old new : Option (List (List ℕ)))
+    (result : Result T FetchFault)
     → new ≡ with_names names old → Fetches names old new result
 asks_for_all names old new (Ok x) h = h
 asks_for_all names old new (Err fault) h =
@@ -86,7 +89,8 @@ beside P (x ∷ xs) h = ((h zero x (omega arith), refl), beside P xs (λ k d lt.
 
 -- one more of each of two lists that go together
 pub one_more : {X Y : Type 0} (R : X → Y → Type 0) (xs : List X) (ys more : List Y) (i : ℕ) (x : X) (y : Y)
-    → i < length xs → R (get_or xs i x) y → more ≡ ys ++ y ∷ [] → AllZip R (take i xs) ys → AllZip R (take (i + 1) xs) more
+    → i < length xs → R (get_or xs i x) y → more ≡ ys ++ y ∷ [] → AllZip R (take i xs) ys
+    → AllZip R (take (i + 1) xs) more
 one_more R xs ys more i x y inside one grew so =
     rw (grew, take_more xs i x inside) (AllZip-append R (take i xs) (get_or xs i x ∷ []) ys (y ∷ []) so (one, tt))
 

@@ -1,12 +1,13 @@
 -- Claims that are taken back, one by one.
-use Rattle.std.proofs.Common.{◌≡◌, ◌∙◌, ap, ◌≢◌, ◌-◌, ℕ, List, ◌∷◌, Some, Result, Ok, Err, Vec, Global, inl, inr, refl, subst, suc, sym, zero}
+use Rattle.std.proofs.Common.{◌≡◌, ◌∙◌, ap, ◌≢◌, ◌-◌, ℕ, List, ◌∷◌, Some, Result, Ok, Err, Vec, Global, inl, inr, refl}
+use Rattle.std.proofs.Common.{subst, suc, sym, zero}
 use Rattle.std.proofs.Common.{arith}
 use Rattle.std.specs.Prelude.{IsErrOf}
 use Rattle.std.proofs.lemmas.Result.{IfErr-at_err}
 use Rattle.ports.specs.declared.faults.FetchFault.{FetchFault}
 use Rattle.ports.specs.declared.faults.FetchFault.TheVariants as fetch
 use Rattle.ports.specs.declared.claims.Claim.{Claim}
-use Rattle.ports.specs.Claims.{Goes, Settles}
+use Rattle.ports.specs.ClaimLaws.{Goes, Settles}
 
 ok_is_no_refusal : {T E : Type 0} (x : T) (e : E) → IsErrOf (Ok x) e → ⊥
 ok_is_no_refusal x e same = IfErr-at_err (λ _. ⊥) {r = Ok x} same tt
@@ -17,7 +18,8 @@ not_due due file fails e = ok_is_no_refusal file fetch.Failed (fails e)
 
 -- a file came, and the rest are settled
 pub settles_more : {B T : Type 0} (due after now : ℕ) (claim : Claim B) (claims : List (Claim B)) (file : Vec ℕ Global)
-    (result : Result T FetchFault) → claim.came ≡ Some (Ok file) → due ≢ 1 → after ≡ due - 1 → Settles after now claims result
+    (result : Result T FetchFault) → claim.came ≡ Some (Ok file) → due ≢ 1 → after ≡ due - 1
+    → Settles after now claims result
     → Settles due now (claim ∷ claims) result
 settles_more due after now claim claims file result came late next rest =
     inr (
@@ -33,7 +35,8 @@ pub settles_short : {B T : Type 0} (due after : ℕ) (claim : Claim B) (claims :
 settles_short {B} {T} due after claim claims file came late next =
     inr (
       late,
-      subst (λ c. Goes {T = T} c (Err fetch.OutOfMemory) (after ≡ due - 1) (Settles {B = B} {T = T} (due - 1) after claims (Err fetch.OutOfMemory)))
+      subst (λ c. Goes {T = T} c (Err fetch.OutOfMemory) (after ≡ due - 1)
+          (Settles {B = B} {T = T} (due - 1) after claims (Err fetch.OutOfMemory)))
           (sym came) (inr (refl, next)),
     )
 
@@ -55,6 +58,7 @@ settles_refused {B} {T} (suc (suc n)) after claim claims read fault came fails g
     let late : suc (suc n) ≢ 1 = λ e. absurd (omega (arith, e)) in
     inr (
       late,
-      subst (λ c. Goes {T = T} c (Err fault) (after ≡ suc (suc n) - 1) (Settles {B = B} {T = T} (suc (suc n) - 1) after claims (Err fault)))
+      subst (λ c. Goes {T = T} c (Err fault) (after ≡ suc (suc n) - 1)
+          (Settles {B = B} {T = T} (suc (suc n) - 1) after claims (Err fault)))
           (sym (came ∙ ap Some (sym (given late)))) (refl, next),
     )

@@ -1,5 +1,6 @@
 -- A list that goes together with another, taken item by item.
-use Rattle.std.proofs.Common.{◌≡◌, ◌∙◌, ◌+◌, ◌<◌, List, [], ◌∷◌, ◌++◌, arith, ap, get_or, length, refl, subst, suc, take}
+use Rattle.std.proofs.Common.{◌≡◌, ◌∙◌, ◌+◌, ◌<◌, List, [], ◌∷◌, ◌++◌, arith, ap, get_or, length, refl, subst, suc}
+use Rattle.std.proofs.Common.{take}
 use Rattle.std.proofs.lemmas.List.{take_all}
 use Rattle.std.specs.Iterator.{Yields}
 use Rattle.std.specs.List.{AllZip}
@@ -28,7 +29,8 @@ zipped_at R (x ∷ xs) (b ∷ before) y after d h =
     (omega (arith, more.0), more.1)
 
 -- the next item of a list that goes together with another
-pub next_of : {X Y Z : Type 0} (R : X → Y → Type 0) (xs : List X) (s t u : IntoIter Y Z) (before : List Y) (y : Y) (d : X)
+pub next_of : {X Y Z : Type 0} (R : X → Y → Type 0) (xs : List X) (s t u : IntoIter Y Z) (before : List Y) (y : Y)
+    (d : X)
     → AllZip R xs (into_iter_items s) → Yields into_iter_steps s before t → into_iter_items t ≡ y ∷ into_iter_items u
     → (length before < length xs) × R (get_or xs (length before) d) y
 next_of R xs s t u before y d all gave next =
@@ -36,12 +38,14 @@ next_of R xs s t u before y d all gave next =
     (subst (AllZip R xs) (given_first before s t gave ∙ ap (λ l. before ++ l) next) all)
 
 -- a list up to as many as there are of another that goes together with it
-pub same_length : {X Y : Type 0} (R : X → Y → Type 0) (xs : List X) (ys : List Y) → AllZip R xs ys → length ys ≡ length xs
+pub same_length : {X Y : Type 0} (R : X → Y → Type 0) (xs : List X) (ys : List Y) → AllZip R xs ys
+    → length ys ≡ length xs
 same_length R [] [] h = refl
 same_length R [] (y ∷ ys) h = absurd h
 same_length R (x ∷ xs) [] h = absurd h
 same_length R (x ∷ xs) (y ∷ ys) h = ap suc (same_length R xs ys h.1)
 
-pub as_many : {X Y : Type 0} (R : X → Y → Type 0) (xs : List X) (ys zs : List Y) → AllZip R xs ys → length zs ≡ length ys
+pub as_many : {X Y : Type 0} (R : X → Y → Type 0) (xs : List X) (ys zs : List Y) → AllZip R xs ys
+    → length zs ≡ length ys
     → take (length zs) xs ≡ xs
 as_many R xs ys zs all e = ap (λ n. take n xs) (e ∙ same_length R xs ys all) ∙ take_all (length xs) xs (omega arith)

@@ -1,4 +1,5 @@
 pub mod Claims
+pub mod ClaimLaws
 pub mod Counts
 pub mod Entries
 pub mod Errors

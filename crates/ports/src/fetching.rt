@@ -1,7 +1,8 @@
 //! Fetches several files, side by side.
 ghost use Rattle.std.specs.Prelude.{◌≡◌, ◌<◌, ℕ, IfOk, length, slice_index_or};
 ghost use Rattle.std.specs.List.{AllZip};
-ghost use Rattle.ports.specs.Claims.{IsFresh, Reads, texts};
+ghost use Rattle.ports.specs.Claims.{IsFresh, texts};
+ghost use Rattle.ports.specs.ClaimLaws.{Reads};
 ghost use Rattle.ports.specs.Counts.{FetchCounts};
 ghost use Rattle.ports.specs.Files.{Fetches, IsFile};
 

@@ -1,7 +1,8 @@
 //! Takes claims back, and counts what came of them, one by one.
 ghost use Rattle.std.specs.Prelude.{◌≡◌, ◌≢◌, ◌-◌, ℕ, IfOk, IsErrOf, Option};
 ghost use Rattle.std.specs.List.{All, AllZip};
-ghost use Rattle.ports.specs.Claims.{Brings, IsFileOf, IsRead, Settles};
+ghost use Rattle.ports.specs.Claims.{Brings, IsFileOf, IsRead};
+ghost use Rattle.ports.specs.ClaimLaws.{Settles};
 ghost use Rattle.ports.specs.Counts.{FetchCounts, faults_after_fetch};
 ghost use Rattle.ports.specs.Files.{Files, IsFile};
 

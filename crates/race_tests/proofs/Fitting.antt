@@ -1,5 +1,6 @@
 -- Images of plain relocations, each of the kind that a job gives it, are those of the job.
-use Rattle.std.proofs.Common.{◌≡◌, ◌+◌, ◌<◌, ℕ, zero, suc, List, [], ◌∷◌, length, get_or, map, All, Some, inl, inr, sym, subst, refl, ◌∙◌, below_more, arith}
+use Rattle.std.proofs.Common.{◌≡◌, ◌+◌, ◌<◌, ℕ, zero, suc, List, [], ◌∷◌, length, get_or, map, All, Some, inl, inr, sym}
+use Rattle.std.proofs.Common.{subst, refl, ◌∙◌, below_more, arith}
 use Rattle.std.specs.Prelude.{slice_get}
 use Rattle.std.proofs.lemmas.Option.{get_or_from_slice_get}
 use Rattle.image_file.specs.declared.relocation.ImageRelocation.{ImageRelocation}
@@ -7,7 +8,8 @@ use Rattle.image_file.specs.Spelled.{Spelled}
 use Rattle.job_text.specs.declared.images.Image.{Image}
 use Rattle.job_text.specs.Jobs.{JobParts}
 use Rattle.job_text.specs.LateImages.{LateLast}
-use Rattle.loaded_modules.specs.Given.{AreModules, NamesShared, file_kind_of, of_job}
+use Rattle.loaded_modules.specs.Given.{AreModules, NamesShared, file_kind_of}
+use Rattle.loaded_modules.specs.Loader.{of_job}
 use Rattle.loaded_modules.specs.Images.{JobImages}
 use Rattle.race_tests.specs.Plain.{IsPlain, IsPlainImage}
 

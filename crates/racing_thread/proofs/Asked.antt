@@ -71,17 +71,20 @@ by_action number image Open = refl
 by_action number image Close = refl
 by_action number image (Peek symbol size) = refl
 
-mid_asks : (todo : List Line) (steps : ℕ) (points : List ℕ) (h : Runs) → asks_registry (next_line todo (Mid steps points h)) ≡ false
+mid_asks : (todo : List Line) (steps : ℕ) (points : List ℕ) (h : Runs)
+    → asks_registry (next_line todo (Mid steps points h)) ≡ false
 mid_asks [] steps points h = refl
 mid_asks (line ∷ todo) steps points h = refl
 
 next_asks : (begun : ℕ) (lines : List ThreadLine) (h : Runs) (line : Option ThreadLine) → slice_get lines begun ≡ line
-    → asks_registry (next_line (numbered_lines (begun + 1) (drop begun lines)) (Idle h)) ≡ is_registry (ask_next (begun + 1) line)
+    → asks_registry (next_line (numbered_lines (begun + 1) (drop begun lines)) (Idle h))
+    ≡ is_registry (ask_next (begun + 1) line)
 next_asks begun lines h None at = rw (none_drop lines begun at) refl
 next_asks begun lines h (Some line) at =
     rw (at_drop lines begun line at) (by_action (begun + 1) line.image line.action)
 
-phase_asks : (k : Kept) (fuel begun : ℕ) (lines : List ThreadLine) (call : Option Waiting) (todo : List Line) (phase : Phase Runs)
+phase_asks : (k : Kept) (fuel begun : ℕ) (lines : List ThreadLine) (call : Option Waiting) (todo : List Line)
+    (phase : Phase Runs)
     → todo ≡ numbered_lines (begun + 1) (drop begun lines) → PhaseIs k fuel call phase
     → asks_registry (next_line todo phase) ≡ is_registry (ask_now begun lines call)
 phase_asks k fuel begun lines None todo (Idle h) are is = rw are (next_asks begun lines h (slice_get lines begun) refl)

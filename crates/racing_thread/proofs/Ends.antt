@@ -6,7 +6,7 @@ use Rattle.job_text.specs.Jobs.{JobParts}
 use Rattle.job_text.specs.Threads.{IsThread, of_thread}
 use Rattle.loaded_modules.specs.Images.{JobImages, infos, last_offset}
 use Rattle.module_table.specs.declared.events.Event.{Event}
-use Rattle.module_table.specs.History.{IsLegal}
+use Rattle.module_table.specs.Past.{IsLegal}
 use Rattle.shared_modules.specs.declared.board.Images.{Images}
 use Rattle.shared_modules.specs.Passes.{IsSamePass, PassView}
 use Rattle.lawful_points.specs.Raced.{IsRacer, raced_looks, raced_of}
@@ -98,7 +98,8 @@ module _ (m : JobImages) (job : JobParts) (thread : ℕ) (first : PassView) (r :
         ∙ last_told thread (thread_turns (job_loads m) thread job.fuel) (event_by (job_loads m) thread)
         (λ line seen h. turns_tell (job_loads m) job.fuel thread line seen h) (lines_in job thread)
         last.todo last.phase last.said
-        (points_of (raced_looks (job_loads m) job.fuel thread (of_thread job.lines thread) g.points)) over g.behind.told;
+        (points_of (raced_looks (job_loads m) job.fuel thread
+        (of_thread job.lines thread) g.points)) over g.behind.told;
   }
 
   marks_are : g.marks ≡ marks_of thread (lines_in job thread) r.said

@@ -1,5 +1,6 @@
 -- What the calls of the shared history tell, as a turn has it.
-use Rattle.std.proofs.Common.{◌≡◌, ◌∙◌, ◌+◌, ◌++◌, ◌<◌, ℕ, Bool, true, false, List, [], ◌∷◌, length, drop, Option, Some, None, Ok, Err, refl, sym, ap, subst, arith, append-nil, length-append}
+use Rattle.std.proofs.Common.{◌≡◌, ◌∙◌, ◌+◌, ◌++◌, ◌<◌, ℕ, Bool, true, false, List, [], ◌∷◌, length, drop, Option, Some}
+use Rattle.std.proofs.Common.{None, Ok, Err, refl, sym, ap, subst, arith, append-nil, length-append}
 use Rattle.std.specs.Prelude.{if◌then◌else◌}
 use Rattle.std.proofs.lemmas.Bool.{and_parts, le-ltb, lt-ltb}
 use Rattle.std.proofs.Math.Seq.{drop-append_seam}
@@ -7,14 +8,18 @@ use Rattle.module_table.specs.declared.events.Event.{Event}
 use Rattle.module_table.specs.declared.events.Opened.{Opened}
 use Rattle.module_table.specs.declared.events.Closed.{Closed}
 use Rattle.module_table.specs.declared.events.OpenRefusal.{OpenRefusal}
-use Rattle.module_table.specs.declared.events.OpenRefusal.TheVariants.{Unknown, Full, StaticFull, OutOfMemory as NoRoomToOpen}
+use Rattle.module_table.specs.declared.events.OpenRefusal.TheVariants.{Unknown, Full, StaticFull}
+use Rattle.module_table.specs.declared.events.OpenRefusal.TheVariants.{OutOfMemory as NoRoomToOpen}
 use Rattle.module_table.specs.declared.events.CloseRefusal.{CloseRefusal}
-use Rattle.module_table.specs.declared.events.CloseRefusal.TheVariants.{Permanent, NotOpen, OutOfMemory as NoRoomToClose}
-use Rattle.module_table.specs.History.{History, IsLegal, close_answer, left, open_answer, unless}
+use Rattle.module_table.specs.declared.events.CloseRefusal.TheVariants.{Permanent, NotOpen}
+use Rattle.module_table.specs.declared.events.CloseRefusal.TheVariants.{OutOfMemory as NoRoomToClose}
+use Rattle.module_table.specs.History.{History, close_answer, left, open_answer, unless}
+use Rattle.module_table.specs.Past.{IsLegal}
 use Rattle.module_table.specs.Past.{close_refusal, open_refusal, start}
 use Rattle.module_table.specs.Walks.{is_legal-append}
 use Rattle.shared_modules.specs.declared.board.Images.{Images}
-use Rattle.shared_modules.specs.Passes.{PassView, IsAccepted, IsCaught, IsCloseRefused, IsClosed, IsOpenRefused, IsOpened, IsRefused, IsTold}
+use Rattle.shared_modules.specs.Passes.{PassView, IsAccepted, IsCaught, IsCloseRefused, IsClosed, IsOpenRefused}
+use Rattle.shared_modules.specs.Passes.{IsOpened, IsRefused, IsTold}
 use Rattle.shared_modules.specs.Views.{Knows, history_at}
 use Rattle.thread_blocks.specs.Lines.{event_at, refused_close, refused_open, unless_refused}
 use Rattle.job_turns.specs.declared.asking.Ask.TheVariants.{Opens, Closes}
@@ -56,11 +61,13 @@ module _ (p : PassView) (before : List Event) (all : before ≡ p.seen) where
       let cost = no_news (length p.seen) (length before) (ap length (sym all)) in
       record {
         known = record { rest = []; whole = all ∙ sym (append-nil p.seen); others = tt };
-        legal = subst (λ (es : List Event). IsLegal p.shared.images.infos p.shared.images.last_offset es) (sym all) legal;
+        legal = subst (λ (es : List Event). IsLegal p.shared.images.infos p.shared.images.last_offset es)
+            (sym all) legal;
         seen_is = sym all;
         whole = whole;
         loads_are = ap (λ (t : Tally). p.loads + t.loads) (sym cost);
-        turns_are = (let none : p.turns ≡ p.turns + 0 = omega arith in none) ∙ ap (λ (t : Tally). p.turns + t.turns) (sym cost);
+        turns_are = (let none : p.turns ≡ p.turns + 0 = omega arith in none)
+            ∙ ap (λ (t : Tally). p.turns + t.turns) (sym cost);
       }
 
   -- there was, and now it is seen
@@ -77,7 +84,8 @@ module _ (p : PassView) (before : List Event) (all : before ≡ p.seen) where
       let two : p.loads + 1 + 1 ≡ p.loads + 2 = omega arith in
       record {
         known = subst (λ (es : List Event). Knows es p.threads p.seen) (sym now) caught.seen;
-        legal = subst (λ (es : List Event). IsLegal p.shared.images.infos p.shared.images.last_offset es) (sym now) caught.legal;
+        legal = subst (λ (es : List Event). IsLegal p.shared.images.infos p.shared.images.last_offset es)
+            (sym now) caught.legal;
         seen_is = sym now;
         whole = ap (λ (x : PassView). x.told) caught.rest;
         loads_are = loads ∙ (two ∙ ap (λ (t : Tally). p.loads + t.loads) (sym cost));
@@ -99,7 +107,8 @@ legal_before : (images : Images) (history : List Event) (e : Event)
 legal_before images history e legal = record {
   images = legal.images;
   low = legal.low;
-  each = (and_parts _ _ (sym (is_legal-append (start images.infos images.last_offset) history (e ∷ [])) ∙ legal.each)).0;
+  each = (and_parts _ _ (sym (is_legal-append (start images.infos images.last_offset) history (e ∷ []))
+      ∙ legal.each)).0;
 }
 
 left_is : (p : PassView) (history : List Event) → left (history_at p.shared.images history) ≡ left_by p history
@@ -136,7 +145,8 @@ module _ (p : PassView) (before : List Event) (all : before ≡ p.seen) (q : Pas
     pub refused_finds : Finds true p after None q
     refused_finds = record {
       known = subst (λ (es : List Event). Knows es p.threads p.seen) (sym refused_at) is.caught.seen;
-      legal = subst (λ (es : List Event). IsLegal p.shared.images.infos p.shared.images.last_offset es) (sym refused_at) is.caught.legal;
+      legal = subst (λ (es : List Event). IsLegal p.shared.images.infos p.shared.images.last_offset es)
+          (sym refused_at) is.caught.legal;
       seen_is = sym refused_at;
       whole = ap (λ (x : PassView). x.told) is.caught.rest;
       loads_are = ap (λ (x : PassView). x.loads) is.caught.rest;
@@ -163,25 +173,31 @@ module _ (p : PassView) (history : List Event) (image : ℕ) where
   h = history_at p.shared.images history
 
   open_is : unless (open_refusal (left_by p history) image) (opened_at (left_by p history) image) ≡ open_answer h image
-  open_is = subst (λ left. unless (open_refusal left image) (opened_at left image) ≡ open_answer h image) (left_is p history)
+  open_is = subst (λ left. unless (open_refusal left image) (opened_at left image) ≡ open_answer h image)
+      (left_is p history)
       (open_same h image)
 
-  close_is : unless (close_refusal (left_by p history) image) (closed_at (left_by p history) image) ≡ close_answer h image
-  close_is = subst (λ left. unless (close_refusal left image) (closed_at left image) ≡ close_answer h image) (left_is p history)
+  close_is : unless (close_refusal (left_by p history) image) (closed_at (left_by p history) image)
+      ≡ close_answer h image
+  close_is = subst (λ left. unless (close_refusal left image) (closed_at left image) ≡ close_answer h image)
+      (left_is p history)
       (close_same h image)
 
 module _ (p : PassView) (before : List Event) (all : before ≡ p.seen) (q : PassView) (after : List Event)
     (thread line image : ℕ) where
   pub opens : (opened : Opened) → IsOpened p (event_at thread line true image) opened q before after
-      → Answers thread (Opens line image) p after q (Some (answer.Opened (Ok opened))) (Some (event_at thread line true image))
+      → Answers thread (Opens line image) p after q (Some (answer.Opened (Ok opened)))
+      (Some (event_at thread line true image))
   opens opened is =
       let says = λ (h : History). open_answer h image ≡ Ok opened in
-      let found = open_is p after image ∙ accepted_answer p before all q after (event_at thread line true image) says is in
+      let found = open_is p after image
+      ∙ accepted_answer p before all q after (event_at thread line true image) says is in
       let none = unless_ok (open_refusal (left_by p after) image) (opened_at (left_by p after) image) opened found in
       record {
         finds = accepted_finds p before all q after (event_at thread line true image) says is;
         answer_is = ap (λ r. Some (answer.Opened r))
-            (sym (handed_ok refused_open (open_refusal (left_by p after) image) (opened_at (left_by p after) image) opened found));
+            (sym (handed_ok refused_open (open_refusal (left_by p after) image)
+            (opened_at (left_by p after) image) opened found));
         own_is = ap (λ (r : Option OpenRefusal). unless_refused r (event_at thread line true image)) (sym none);
       }
 
@@ -194,20 +210,24 @@ module _ (p : PassView) (before : List Event) (all : before ≡ p.seen) (q : Pas
       record {
         finds = refused_finds p before all q after says is;
         answer_is = ap (λ r. Some (answer.Opened r))
-            (sym (handed_err refused_open (open_refusal (left_by p after) image) (opened_at (left_by p after) image) refusal found));
+            (sym (handed_err refused_open (open_refusal (left_by p after) image)
+            (opened_at (left_by p after) image) refusal found));
         own_is = ap (λ (r : Option OpenRefusal). unless_refused r (event_at thread line true image)) (sym some);
       }
 
   pub closes : (closed : Closed) → IsClosed p (event_at thread line false image) closed q before after
-      → Answers thread (Closes line image) p after q (Some (answer.Closed (Ok closed))) (Some (event_at thread line false image))
+      → Answers thread (Closes line image) p after q (Some (answer.Closed (Ok closed)))
+      (Some (event_at thread line false image))
   closes closed is =
       let says = λ (h : History). close_answer h image ≡ Ok closed in
-      let found = close_is p after image ∙ accepted_answer p before all q after (event_at thread line false image) says is in
+      let found = close_is p after image
+      ∙ accepted_answer p before all q after (event_at thread line false image) says is in
       let none = unless_ok (close_refusal (left_by p after) image) (closed_at (left_by p after) image) closed found in
       record {
         finds = accepted_finds p before all q after (event_at thread line false image) says is;
         answer_is = ap (λ r. Some (answer.Closed r))
-            (sym (handed_ok refused_close (close_refusal (left_by p after) image) (closed_at (left_by p after) image) closed found));
+            (sym (handed_ok refused_close (close_refusal (left_by p after) image)
+            (closed_at (left_by p after) image) closed found));
         own_is = ap (λ (r : Option CloseRefusal). unless_refused r (event_at thread line false image)) (sym none);
       }
 
@@ -220,6 +240,7 @@ module _ (p : PassView) (before : List Event) (all : before ≡ p.seen) (q : Pas
       record {
         finds = refused_finds p before all q after says is;
         answer_is = ap (λ r. Some (answer.Closed r))
-            (sym (handed_err refused_close (close_refusal (left_by p after) image) (closed_at (left_by p after) image) refusal found));
+            (sym (handed_err refused_close (close_refusal (left_by p after) image)
+            (closed_at (left_by p after) image) refusal found));
         own_is = ap (λ (r : Option CloseRefusal). unless_refused r (event_at thread line false image)) (sym some);
       }

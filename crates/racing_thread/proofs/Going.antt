@@ -1,5 +1,6 @@
 -- How far a thread that races has come, and one turn more.
-use Rattle.std.proofs.Common.{◌≡◌, ◌∙◌, ◌+◌, ◌++◌, ℕ, Bool, false, List, [], ◌∷◌, length, drop, Option, Some, None, refl, sym, ap, subst, arith}
+use Rattle.std.proofs.Common.{◌≡◌, ◌∙◌, ◌+◌, ◌++◌, ℕ, Bool, false, List, [], ◌∷◌, length, drop, Option, Some, None}
+use Rattle.std.proofs.Common.{refl, sym, ap, subst, arith}
 use Rattle.std.specs.Prelude.{All, option_and_then}
 use Rattle.std.proofs.Math.Seq.{drop-append_seam}
 use Rattle.job_text.specs.declared.thread_lines.ThreadLine.{ThreadLine}
@@ -84,7 +85,8 @@ points_more : (looks : List Look) (look : Look)
     → points_of (looks ++ look ∷ []) ≡ points_of looks ++ record { number = length look.seen; added = look.added } ∷ []
 points_more [] look = refl
 points_more (first ∷ looks) look =
-    ap (λ (more : List Point). record { number = length first.seen; added = first.added } ∷ more) (points_more looks look)
+    ap (λ (more : List Point). record { number = length first.seen; added = first.added } ∷ more)
+    (points_more looks look)
 
 line_named : (m : JobImages) (thread : ℕ) (line : Option Line) (seen : List Event) (e : Event)
     → option_and_then (λ (x : Line). event_by (job_loads m) thread x seen) line ≡ Some e → e.thread ≡ thread
@@ -118,7 +120,8 @@ module _ (m : JobImages) (job : JobParts) (thread : ℕ) (seen history : List Ev
   then_is : raced_of (job_loads m) job.fuel thread own (points ++ history ∷ []) ≡ turn x old history
   then_is = turns_more x event points (first_of (job_loads m) thread own) history
 
-  looks_are : raced_looks (job_loads m) job.fuel thread own (points ++ history ∷ []) ≡ looks ++ look_at event old history ∷ []
+  looks_are : raced_looks (job_loads m) job.fuel thread own (points ++ history ∷ []) ≡ looks
+      ++ look_at event old history ∷ []
   looks_are = looks_more x event points (first_of (job_loads m) thread own) history
 
   module _ (knows : Knows history (thread ∷ []) seen) (going : is_over old.todo old.phase ≡ false) where
@@ -129,11 +132,13 @@ module _ (m : JobImages) (job : JobParts) (thread : ℕ) (seen history : List Ev
           (λ e same. line_named m thread (next_line old.todo old.phase) history e same) b.lawful b.known);
       known = rw looks_are (known_more looks [] (look_at event old history));
       told = rw (then_is, looks_are, points_more looks (look_at event old history))
-          (turn_told thread x event (λ line seen h. turns_tell (job_loads m) job.fuel thread line seen h) (lines_in job thread)
+          (turn_told thread x event (λ line seen h. turns_tell (job_loads m) job.fuel thread line seen h)
+          (lines_in job thread)
           old history (points_of looks) b.told going);
       marked = rw then_is
           (turn_marks thread x event (λ line seen h. turns_tell (job_loads m) job.fuel thread line seen h)
-          (λ line seen h. goes (job_loads m) job.fuel thread line seen h) (lines_in job thread) old history marks b.marked going);
+          (λ line seen h. goes (job_loads m) job.fuel thread line seen h)
+          (lines_in job thread) old history marks b.marked going);
       reached = behind_more marks 0 last ∙ after_is (asks_registry (next_line old.todo old.phase)) history added;
     }
 
@@ -157,13 +162,16 @@ module _ (m : JobImages) (job : JobParts) (thread : ℕ) (first : PassView) (r :
   rest_taken = ap (drop (length p.seen)) takes.finds.known.whole ∙ drop-append_seam p.seen takes.finds.known.rest
 
   leaves : past (infos m) (last_offset m) history ≡ after r.kept.vector.past (drop (length p.seen) history)
-  leaves = subst (λ (i : JobImages). past (infos i) (last_offset i) history ≡ after r.kept.vector.past (drop (length p.seen) history))
+  leaves = subst (λ (i : JobImages). past (infos i) (last_offset i) history
+      ≡ after r.kept.vector.past (drop (length p.seen) history))
       g.images_are
       (rest_leaves r history p.seen takes.finds.known.rest takes.finds.known.whole g.level.has_seen
       ∙ ap (after r.kept.vector.past) (sym rest_taken))
 
-  stands_then : StandsAlone r' (with_event history adds) (turn (thread_turns (job_loads m) thread job.fuel) before history)
-  stands_then = alone_as m job.fuel thread r r' (drop (length p.seen) history) history before g.images_are g.thread_is g.fuel_is
+  stands_then : StandsAlone r' (with_event history adds)
+      (turn (thread_turns (job_loads m) thread job.fuel) before history)
+  stands_then = alone_as m job.fuel thread r r'
+      (drop (length p.seen) history) history before g.images_are g.thread_is g.fuel_is
       g.stands takes.takes leaves
 
   left_is : left_by p history ≡ past (infos m) (last_offset m) history
@@ -185,7 +193,8 @@ module _ (m : JobImages) (job : JobParts) (thread : ℕ) (first : PassView) (r :
     threads_are = same.threads ∙ (g.level.threads_are ∙ ap (λ (n : ℕ). n ∷ []) (sym takes.takes.same.thread));
     images_are = ap (λ (s : SharedView). s.images) same.shared
         ∙ (g.level.images_are
-        ∙ ap (λ (i : JobImages). record { infos = infos i; last_offset = last_offset i }) (sym takes.takes.same.images));
+        ∙ ap (λ (i : JobImages). record { infos = infos i; last_offset = last_offset i })
+        (sym takes.takes.same.images));
     no_data = ap has_data takes.takes.same.images ∙ g.level.no_data;
   }
 
@@ -212,7 +221,8 @@ module _ (m : JobImages) (job : JobParts) (thread : ℕ) (first : PassView) (r :
       }
 
   behind_then : Behind m job thread q.seen (g.points ++ history ∷ []) (g.marks ++ next ∷ [])
-  behind_then = subst (λ (seen : List Event). Behind m job thread seen (g.points ++ history ∷ []) (g.marks ++ next ∷ []))
+  behind_then = subst (λ (seen : List Event). Behind m job thread seen (g.points ++ history ∷ [])
+      (g.marks ++ next ∷ []))
       (sym seen_then)
       (one_more m job thread p.seen history g.points g.marks g.behind knows (is_going r before g.stands going))
 

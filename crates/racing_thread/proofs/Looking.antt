@@ -1,5 +1,6 @@
 -- One look more, at a history that others continued: the looks so far are lawful there still, and so they are with it.
-use Rattle.std.proofs.Common.{◌≡◌, ◌∙◌, ◌+◌, ◌++◌, ◌==◌, ℕ, Bool, true, false, List, [], ◌∷◌, length, Option, Some, None, refl, sym, ap, subst, arith, append-nil, append_assoc, eq-eqb}
+use Rattle.std.proofs.Common.{◌≡◌, ◌∙◌, ◌+◌, ◌++◌, ◌==◌, ℕ, Bool, true, false, List, [], ◌∷◌, length, Option, Some}
+use Rattle.std.proofs.Common.{None, refl, sym, ap, subst, arith, append-nil, append_assoc, eq-eqb}
 use Rattle.std.specs.Prelude.{if◌then◌else◌}
 use Rattle.module_table.specs.declared.events.Event.{Event}
 use Rattle.shared_modules.specs.Laws.{Placed, own_events, own_from}
@@ -7,7 +8,7 @@ use Rattle.shared_modules.specs.Stable.{own_events_stay}
 use Rattle.shared_modules.specs.Threads.{first_named}
 use Rattle.shared_modules.specs.Views.{Knows}
 use Rattle.thread_blocks.specs.Turns.{Thread, Turns, turn, turns, with_event}
-use Rattle.thread_blocks.specs.TurnsAlike.{AllFronts, IsFront}
+use Rattle.thread_blocks.specs.Turns.{AllFronts, IsFront}
 use Rattle.lawful_points.specs.Orders.{look_at, looks_of}
 use Rattle.lawful_points.specs.Points.{AreLawful, Follows, Look, made, placed, seen_by}
 
@@ -118,7 +119,8 @@ module _ {S L : Type 0} (x : Turns S L Event) (event : L → List Event → Opti
   turns_more (first ∷ points) t seen = turns_more points (turn x t first) seen
 
   pub looks_more : (points : List (List Event)) (t : Thread S L Event) (seen : List Event)
-      → looks_of x event t (points ++ seen ∷ []) ≡ looks_of x event t points ++ look_at event (turns x t points) seen ∷ []
+      → looks_of x event t (points ++ seen ∷ []) ≡ looks_of x event t points ++ look_at event (turns x t points) seen
+      ∷ []
   looks_more [] t seen = refl
   looks_more (first ∷ points) t seen =
       ap (λ (more : List Look). look_at event t first ∷ more) (looks_more points (turn x t first) seen)

@@ -1,5 +1,6 @@
 -- Each turn of a thread that is not over tells one mark more: that of its look.
-use Rattle.std.proofs.Common.{◌≡◌, ◌∙◌, ◌+◌, ◌-◌, ◌++◌, ℕ, Bool, false, List, [], ◌∷◌, map, length, Option, Some, None, refl, sym, ap, arith, append-nil, append_assoc, length-append}
+use Rattle.std.proofs.Common.{◌≡◌, ◌∙◌, ◌+◌, ◌-◌, ◌++◌, ℕ, Bool, false, List, [], ◌∷◌, map, length, Option, Some, None}
+use Rattle.std.proofs.Common.{refl, sym, ap, arith, append-nil, append_assoc, length-append}
 use Rattle.std.specs.Prelude.{option_and_then, option_map}
 use Rattle.std.proofs.lemmas.List.{map-append}
 use Rattle.guest_machine.specs.Run.{Outcome, Ended, Waits, run}
@@ -11,7 +12,8 @@ use Rattle.lawful_points.specs.Told.{added_by}
 use Rattle.lawful_points.proofs.Telling.{IsSilent, TellsBegun, added_in}
 use Rattle.thread_blocks.specs.Lines.{Line}
 use Rattle.thread_blocks.specs.MachineTurns.{answer_of, shown}
-use Rattle.thread_blocks.specs.Turns.{Ending, Stopped, Said, Begun, Says, Calls, Turns, Phase, Idle, Mid, Thread, IsFinished, after_look, after_run, event_of, next_line, turn, turn_at, with_last}
+use Rattle.thread_blocks.specs.Turns.{Ending, Stopped, Said, Begun, Says, Calls, Turns, Phase, Idle, Mid, Thread}
+use Rattle.thread_blocks.specs.Turns.{IsFinished, after_look, after_run, event_of, next_line, turn, turn_at, with_last}
 use Rattle.racing_thread.specs.Tallies.{Mark, is_registry_line, marks_of, marks_of_line}
 
 -- ** what is said of lines
@@ -48,11 +50,13 @@ shown_marks thread (line ∷ lines) (x ∷ shows) [] e = cc
 shown_marks thread (line ∷ lines) (x ∷ shows) (s ∷ said) e =
     let first : Some x ≡ shown s = cc in
     let rest : map Some shows ≡ map shown said = cc in
-    ap (λ (ms : List Mark). ms ++ marks_of thread lines shows) (line_shown thread line s.points (answer_of s.ending) x first)
+    ap (λ (ms : List Mark). ms ++ marks_of thread lines shows)
+    (line_shown thread line s.points (answer_of s.ending) x first)
     ∙ ap (λ (ms : List Mark). said_line thread line s ++ ms) (shown_marks thread lines shows said rest)
 
 told_last : (thread : ℕ) (done : List Line) (said : List Said) (line : Line) (last : Said) → length said ≡ length done
-    → said_marks thread (done ++ line ∷ []) (with_last said last) ≡ said_marks thread done said ++ said_line thread line last
+    → said_marks thread (done ++ line ∷ []) (with_last said last) ≡ said_marks thread done said
+    ++ said_line thread line last
 told_last thread [] [] line last e = append-nil (said_line thread line last)
 told_last thread [] (s ∷ said) line last e = absurd (omega (arith, e))
 told_last thread (d ∷ done) [] line last e = absurd (omega (arith, e))
@@ -75,7 +79,8 @@ pub record IsBetween (thread : ℕ) (own todo : List Line) (said : List Said) (m
   pub marks_are : said_marks thread done said ≡ marks
 
 -- in the middle of a line
-pub record IsWithin (thread : ℕ) (own todo : List Line) (said : List Said) (points : List ℕ) (marks : List Mark) : Type 0 where
+pub record IsWithin (thread : ℕ) (own todo : List Line) (said : List Said) (points : List ℕ)
+    (marks : List Mark) : Type 0 where
   pub done : List Line
   pub line : Line
   pub lines : own ≡ done ++ (line ∷ todo)
@@ -105,13 +110,15 @@ plain_marks thread line plain ending points =
     ∙ ap (λ (added : Option Event). marks_in false added points) (plain.silent ending)
 
 module _ {S : Type 0} (thread : ℕ) (x : Turns S Line Event) (event : Line → List Event → Option Event)
-    (begins : (line : Line) (seen : List Event) (s : S) → TellsBegun thread line (event line seen) (x.begin line seen s))
+    (begins : (line : Line) (seen : List Event) (s : S)
+    → TellsBegun thread line (event line seen) (x.begin line seen s))
     (goes : (line : Line) (seen : List Event) (s : S) → Goes line (x.begin line seen s)) where
   abbrev Marks : List Line → Thread S Line Event → List Mark → Type 0
   Marks own t marks = HasMarked thread own t.todo t.phase t.said marks
 
   -- a line that is over
-  line_marks : (own todo : List Line) (said : List Said) (done : List Line) (line : Line) (last : Said) (marks : List Mark)
+  line_marks : (own todo : List Line) (said : List Said) (done : List Line) (line : Line) (last : Said)
+      (marks : List Mark)
       → own ≡ done ++ (line ∷ todo) → length said ≡ length done
       → said_marks thread done said ++ said_line thread line last ≡ marks
       → IsBetween thread own todo (with_last said last) marks
@@ -157,7 +164,8 @@ module _ {S : Type 0} (thread : ℕ) (x : Turns S Line Event) (event : Line → 
         lines = at.lines;
         each = at.each;
         plain = record { silent = tells.1; apart = goes_on };
-        marks_are = ap (λ (added : Option Event). said_marks thread at.done said ++ mark false (length seen) added ∷ []) (sym tells.0)
+        marks_are = ap (λ (added : Option Event). said_marks thread at.done said ++ mark false (length seen) added ∷ [])
+            (sym tells.0)
             ∙ (ap (λ (r : Bool). said_marks thread at.done said ++ mark r (length seen) e ∷ []) (sym goes_on)
             ∙ ap (λ (before : List Mark). before ++ mark registry (length seen) e ∷ []) at.marks_are);
       }) (run x.steps x.fuel s)
@@ -174,27 +182,32 @@ module _ {S : Type 0} (thread : ℕ) (x : Turns S Line Event) (event : Line → 
     plain = at.plain;
     marks_are = ap (λ (more : List Mark). said_marks thread at.done said ++ more)
         (map-append (λ (n : ℕ). mark false n None) points (number ∷ []))
-        ∙ (sym (append_assoc (said_marks thread at.done said) (marks_in false None points) (mark false number None ∷ []))
+        ∙ (sym (append_assoc (said_marks thread at.done said) (marks_in false None points)
+        (mark false number None ∷ []))
         ∙ ap (λ (before : List Mark). before ++ mark false number None ∷ []) at.marks_are);
   }
 
   resume_marks : (own todo : List Line) (said : List Said) (seen : List Event) (steps : ℕ) (points : List ℕ)
       (marks : List Mark) → IsWithin thread own todo said points marks → (b : Begun S)
       → Marks own (after_look x steps todo said seen points b) marks
-  resume_marks own todo said seen steps points marks at (Says ending s) = over_marks own todo said points marks ending at
+  resume_marks own todo said seen steps points marks at (Says ending s) =
+      over_marks own todo said points marks ending at
   resume_marks own todo said seen steps points marks at (Calls s) =
       run_marks own todo said seen points marks at (run x.steps steps s)
 
-  turn_at_marks : (own todo : List Line) (phase : Phase S) (said : List Said) (old seen : List Event) (marks : List Mark)
+  turn_at_marks : (own todo : List Line) (phase : Phase S) (said : List Said) (old seen : List Event)
+      (marks : List Mark)
       → HasMarked thread own todo phase said marks → is_over todo phase ≡ false
       → Marks own (turn_at x todo phase said old seen)
       (marks ++ mark (asks_registry (next_line todo phase)) (length seen)
       (event_of event (record { todo = todo; phase = phase; said = said; seen = old }) seen) ∷ [])
   turn_at_marks own [] (Idle s) said old seen marks at over = cc
   turn_at_marks own (line ∷ todo) (Idle s) said old seen marks at over =
-      begin_marks own todo said seen line marks (event line seen) at (x.begin line seen s) (begins line seen s) (goes line seen s)
+      begin_marks own todo said seen line marks (event line seen) at (x.begin line seen s) (begins line seen s)
+      (goes line seen s)
   turn_at_marks own [] (Mid left points s) said old seen marks at over =
-      resume_marks own [] said seen (left - 1) (with_last points (length seen)) (marks ++ mark false (length seen) None ∷ [])
+      resume_marks own [] said seen (left - 1) (with_last points (length seen))
+      (marks ++ mark false (length seen) None ∷ [])
       (more_marks own [] said points (length seen) marks at) (x.resume seen s)
   turn_at_marks own (line ∷ todo) (Mid left points s) said old seen marks at over =
       resume_marks own (line ∷ todo) said seen (left - 1) (with_last points (length seen))
@@ -213,7 +226,8 @@ pub first_marks : {S : Type 0} (thread : ℕ) (own : List Line) (s : S) → HasM
 first_marks thread own s = record { done = []; lines = refl; each = refl; marks_are = refl }
 
 -- and one that is over has told what its lines tell
-pub last_marks : {S : Type 0} (thread : ℕ) (own todo : List Line) (phase : Phase S) (said : List Said) (marks : List Mark)
+pub last_marks : {S : Type 0} (thread : ℕ) (own todo : List Line) (phase : Phase S) (said : List Said)
+    (marks : List Mark)
     → IsFinished todo phase → HasMarked thread own todo phase said marks → said_marks thread own said ≡ marks
 last_marks thread own [] (Idle s) said marks over at =
     ap (λ (lines : List Line). said_marks thread lines said) (at.lines ∙ append-nil at.done) ∙ at.marks_are

@@ -1,5 +1,6 @@
 -- What a turn of the runner needs, from what the shared history answered, and what it leaves.
-use Rattle.std.proofs.Common.{◌≡◌, ◌∙◌, ◌+◌, ◌++◌, ◌<◌, ◌-◌, ◌^◌, ℕ, true, List, length, take, drop, Option, sym, ap, subst, arith, length-append}
+use Rattle.std.proofs.Common.{◌≡◌, ◌∙◌, ◌+◌, ◌++◌, ◌<◌, ◌-◌, ◌^◌, ℕ, true, List, length, take, drop, Option, sym, ap}
+use Rattle.std.proofs.Common.{subst, arith, length-append}
 use Rattle.std.proofs.lemmas.Bool.{and_parts}
 use Rattle.std.proofs.lemmas.List.{length-drop, take_all}
 use Rattle.std.proofs.Math.Seq.{drop-append_seam}
@@ -21,7 +22,8 @@ use Rattle.racing_thread.specs.Tallies.{is_registry}
 
 -- known: the list before, all: the list now, of which the turn sees what is behind `known`
 module _ {r : Run} {p : PassView} {events : List Event} (level : IsLevel r p events) {found : List Event} {q : PassView}
-    {answer : Option LineAnswer} {own : Option Event} {thread : ℕ} {ask : Ask} (thread_is : thread ≡ r.kept.vector.thread)
+    {answer : Option LineAnswer} {own : Option Event} {thread : ℕ} {ask : Ask}
+    (thread_is : thread ≡ r.kept.vector.thread)
     (ask_is : ask ≡ ask_of r) (answers : Answers thread ask p found q answer own) {known all : List Event}
     (known_is : known ≡ events) (all_is : all ≡ found) where
   pub asked : Answers r.kept.vector.thread (ask_of r) p found q answer own
@@ -45,7 +47,8 @@ module _ {r : Run} {p : PassView} {events : List Event} (level : IsLevel r p eve
   new_is =
       let cut = length-drop (length known) all in
       take_all (length all - length known) (drop (length known) all) (omega (arith, cut))
-      ∙ (ap (λ (es : List Event). drop (length es) all) (known_is ∙ level.events_are) ∙ ap (drop (length p.seen)) all_is)
+      ∙ (ap (λ (es : List Event). drop (length es) all) (known_is ∙ level.events_are)
+      ∙ ap (drop (length p.seen)) all_is)
 
   rest_is : fresh ≡ rest
   rest_is = new_is ∙ (ap (drop (length p.seen)) asked.finds.known.whole ∙ drop-append_seam p.seen rest)
@@ -57,7 +60,8 @@ module _ {r : Run} {p : PassView} {events : List Event} (level : IsLevel r p eve
 
   legal_all : is_legal (start (infos r.kept.vector.images) (last_offset r.kept.vector.images)) (p.seen ++ rest) ≡ true
   legal_all =
-      subst (λ (es : List Event). is_legal (start (infos r.kept.vector.images) (last_offset r.kept.vector.images)) es ≡ true)
+      subst (λ (es : List Event). is_legal (start (infos r.kept.vector.images) (last_offset r.kept.vector.images)) es
+      ≡ true)
       asked.finds.known.whole
       (subst (λ (images : Images). is_legal (start images.infos images.last_offset) found ≡ true) level.images_are
       asked.finds.legal.each)
@@ -74,7 +78,8 @@ module _ {r : Run} {p : PassView} {events : List Event} (level : IsLevel r p eve
   leaves : left_by p found ≡ after r.kept.vector.past fresh
   leaves =
       ap (λ (images : Images). past images.infos images.last_offset found) level.images_are
-      ∙ (rest_leaves r found p.seen rest asked.finds.known.whole level.has_seen ∙ ap (after r.kept.vector.past) (sym rest_is))
+      ∙ (rest_leaves r found p.seen rest asked.finds.known.whole level.has_seen
+      ∙ ap (after r.kept.vector.past) (sym rest_is))
 
   pub answers_then : answer ≡ answer_to (after r.kept.vector.past fresh) (ask_of r)
   answers_then = asked.answer_is ∙ ap (λ (at : Past). answer_to at (ask_of r)) leaves

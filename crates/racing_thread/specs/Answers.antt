@@ -2,7 +2,7 @@
 use Rattle.std.specs.Prelude.{◌≡◌, ◌+◌, ℕ, Bool, false, List, [], ◌∷◌, length, drop, Option, None}
 use Rattle.loaded_modules.specs.Images.{infos, last_offset}
 use Rattle.module_table.specs.declared.events.Event.{Event}
-use Rattle.module_table.specs.History.{IsLegal}
+use Rattle.module_table.specs.Past.{IsLegal}
 use Rattle.module_table.specs.Past.{Past, past}
 use Rattle.shared_modules.specs.Passes.{PassView}
 use Rattle.shared_modules.specs.Views.{Knows}

@@ -1,11 +1,14 @@
 -- Bytes written inside a part of a list are written in that part.
-use Rattle.std.proofs.Common.{◌≡◌, ℕ, ◌+◌, ◌≤◌, List, ◌++◌, length, take, drop, sym, ap, ◌∙◌, arith, append_assoc, length-append}
+use Rattle.std.proofs.Common.{◌≡◌, ℕ, ◌+◌, ◌≤◌, List, ◌++◌, length, take, drop, sym, ap, ◌∙◌, arith, append_assoc}
+use Rattle.std.proofs.Common.{length-append}
 use Rattle.std.proofs.Math.Seq.{take-append-add, drop-append-add}
-use Rattle.std.proofs.lemmas.List.{take-append-drop, take-append-le, drop-append-le, drop_at, take_at, length-take-le, length-drop}
+use Rattle.std.proofs.lemmas.List.{take-append-drop, take-append-le, drop-append-le, drop_at, take_at, length-take-le}
+use Rattle.std.proofs.lemmas.List.{length-drop}
 use Rattle.elf_records.specs.Fields.{part_at, splice}
 
 -- behind a front
-splice-behind : (front new rest : List ℕ) (k : ℕ) → splice (length front + k) new (front ++ rest) ≡ front ++ splice k new rest
+splice-behind : (front new rest : List ℕ) (k : ℕ)
+    → splice (length front + k) new (front ++ rest) ≡ front ++ splice k new rest
 unfolding splice
 splice-behind front new rest k =
     let before : take (length front + k) (front ++ rest) ≡ front ++ take k rest = take-append-add front rest k in
@@ -21,10 +24,12 @@ unfolding splice
 splice-before front new rest k room =
     let starts : k ≤ length front = omega arith in
     let before : take k (front ++ rest) ≡ take k front = take-append-le k front rest starts in
-    let after : drop (k + length new) (front ++ rest) ≡ drop (k + length new) front ++ rest = drop-append-le (k + length new) front rest room in
+    let after : drop (k + length new) (front ++ rest) ≡ drop (k + length new) front ++ rest =
+    drop-append-le (k + length new) front rest room in
     rw (before, after) (simp append_assoc)
 
-length-splice_part : (k : ℕ) (new part : List ℕ) → k + length new ≤ length part → length (splice k new part) ≡ length part
+length-splice_part : (k : ℕ) (new part : List ℕ) → k + length new ≤ length part
+    → length (splice k new part) ≡ length part
 unfolding splice
 length-splice_part k new part room =
     let starts : k ≤ length part = omega arith in
@@ -48,7 +53,8 @@ part_at-splice_inside n k start new bytes room inside =
     let holds : n ≤ length (drop start bytes) = omega (arith, length-drop start bytes) in
     let part-size : length part ≡ n = length-take-le n (drop start bytes) holds in
     let fits : k + length new ≤ length part = omega arith in
-    let whole : bytes ≡ front ++ (part ++ rest) = sym (take-append-drop start bytes) ∙ ap (λ r. front ++ r) (sym (take-append-drop n (drop start bytes))) in
+    let whole : bytes ≡ front ++ (part ++ rest) = sym (take-append-drop start bytes)
+    ∙ ap (λ r. front ++ r) (sym (take-append-drop n (drop start bytes))) in
     let written : splice (start + k) new bytes ≡ front ++ (splice k new part ++ rest) =
     ap (splice (start + k) new) whole ∙ ap (λ i. splice (i + k) new (front ++ (part ++ rest))) (sym front-size)
     ∙ splice-behind front new (part ++ rest) k ∙ ap (λ r. front ++ r) (splice-before part new rest k fits) in

@@ -1,5 +1,6 @@
 -- The laws of the two tables, row by row.
-use Rattle.std.proofs.Common.{◌≡◌, ◌+◌, ◌≤◌, ℕ, Bool, true, false, List, ◌++◌, length, take, drop, subst, refl, ap, sym, ◌∙◌, arith}
+use Rattle.std.proofs.Common.{◌≡◌, ◌+◌, ◌≤◌, ℕ, Bool, true, false, List, ◌++◌, length, take, drop, subst, refl, ap, sym}
+use Rattle.std.proofs.Common.{◌∙◌, arith}
 use Rattle.std.specs.Prelude.{◌≢◌, ◌%◌, ◌==◌, Some, if◌then◌else◌}
 use Rattle.elf_records.specs.Laws.{length-splice, take-splice, drop-splice, part_at-splice}
 use Rattle.elf_records.specs.Fields.{splice, part_at}
@@ -14,7 +15,8 @@ use Rattle.sequence_forms.specs.Forms.{row}
 use Rattle.relax_sites.specs.declared.choices.Choice.{Choice}
 use Rattle.relax_sites.specs.declared.choices.Choice.TheVariants.{Keep, GdLe, GdIe, LdLe, IeLe, DescLe, DescIe}
 use Rattle.relax_sites.specs.declared.rows.NewField.{NewField}
-use Rattle.relax_sites.specs.Choices.{choice_of, program_choice, IsChoiceOf}
+use Rattle.relax_sites.specs.Choices.{choice_of, program_choice}
+use Rattle.relax_sites.specs.ChoiceLaws.{IsChoiceOf}
 use Rattle.relax_sites.specs.Rows.{form_length, new_bytes, new_field, field_of_zeros}
 use Rattle.relax_sites.specs.Rewriting.{rewritten}
 use Rattle.relax_sites.proofs.Parts.{part_at-splice_inside}
@@ -151,6 +153,7 @@ field_stands bytes four site choice field is field-is four-size =
     let kept = stays bytes site choice is in
     let end = (field_end site.form choice site.reg field field-is).end in
     let room : field.at + length four ≤ site.len = omega (arith, end, four-size, is.whole) in
-    let inside : site.start + site.len ≤ length (rewritten site choice bytes) = omega (arith, is.inside, kept.length-is) in
+    let inside : site.start + site.len ≤ length (rewritten site choice bytes) =
+    omega (arith, is.inside, kept.length-is) in
     part_at-splice_inside site.len field.at site.start four (rewritten site choice bytes) room inside
     ∙ ap (splice field.at four) kept.row-is

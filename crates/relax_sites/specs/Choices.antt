@@ -37,20 +37,3 @@ choice_of form binding Exe true = program_choice form binding
 choice_of form binding Pie true = program_choice form binding
 choice_of form binding Start true = Keep
 choice_of form binding Late true = Keep
-
--- the choices of each form
-abbrev pub IsChoiceOf : Form → Choice → Type 0
-IsChoiceOf Gd GdLe = Unit {0}
-IsChoiceOf Gd GdIe = Unit {0}
-IsChoiceOf GdInd GdLe = Unit {0}
-IsChoiceOf GdInd GdIe = Unit {0}
-IsChoiceOf Ld LdLe = Unit {0}
-IsChoiceOf LdInd LdLe = Unit {0}
-IsChoiceOf IeMov IeLe = Unit {0}
-IsChoiceOf IeAdd IeLe = Unit {0}
-IsChoiceOf DescLea DescLe = Unit {0}
-IsChoiceOf DescLea DescIe = Unit {0}
-IsChoiceOf DescCall DescLe = Unit {0}
-IsChoiceOf DescCall DescIe = Unit {0}
-IsChoiceOf form Keep = Unit {0}
-IsChoiceOf form choice = ⊥

@@ -8,7 +8,8 @@ use Rattle.sequence_forms.specs.declared.places.Site.{Site}
 use Rattle.relax_sites.specs.declared.choices.Choice.{Choice}
 use Rattle.relax_sites.specs.declared.choices.Choice.TheVariants.{Keep}
 use Rattle.relax_sites.specs.declared.rows.NewField.{NewField}
-use Rattle.relax_sites.specs.Choices.{choice_of, IsChoiceOf}
+use Rattle.relax_sites.specs.Choices.{choice_of}
+use Rattle.relax_sites.specs.ChoiceLaws.{IsChoiceOf}
 use Rattle.relax_sites.specs.Rows.{field_of_zeros, form_length, new_bytes, new_field}
 use Rattle.relax_sites.specs.Rewriting.{rewritten}
 

@@ -1,4 +1,5 @@
 pub mod Choices
+pub mod ChoiceLaws
 pub mod Rows
 pub mod Rewriting
 pub mod Laws

@@ -1,7 +1,8 @@
 //! The table of choices.
 
 ghost use Rattle.std.specs.Prelude.{◌≡◌};
-ghost use Rattle.relax_sites.specs.Choices.{choice_of, program_choice, IsChoiceOf};
+ghost use Rattle.relax_sites.specs.Choices.{choice_of, program_choice};
+ghost use Rattle.relax_sites.specs.ChoiceLaws.{IsChoiceOf};
 
 use crate::choices::Choice;
 use link_faults::{Binding, ImageKind};

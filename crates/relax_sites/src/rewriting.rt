@@ -2,7 +2,7 @@
 
 ghost use Rattle.std.specs.Prelude.{◌≡◌, ◌+◌, ◌≤◌, length};
 ghost use Rattle.elf_records.specs.Fields.{splice};
-ghost use Rattle.relax_sites.specs.Choices.{IsChoiceOf};
+ghost use Rattle.relax_sites.specs.ChoiceLaws.{IsChoiceOf};
 ghost use Rattle.relax_sites.specs.Rows.{form_length};
 ghost use Rattle.relax_sites.specs.Rewriting.{rewritten};
 

@@ -22,7 +22,8 @@ use Rattle.relocated_parts.specs.Left.{left_byte}
 use Rattle.relocated_parts.proofs.Found.{find_only}
 use Rattle.relocated_parts.proofs.Loaded.{part_left}
 use Rattle.relocated_parts.proofs.Parts.{lies_at, one_part}
-use Rattle.tls_relocs.specs.Elements.{slice_get-append, slice_get-append_behind, slice_get-drop, slice_get-replicate, slice_get-take}
+use Rattle.tls_relocs.specs.Elements.{slice_get-append, slice_get-append_behind, slice_get-drop, slice_get-replicate}
+use Rattle.tls_relocs.specs.Elements.{slice_get-take}
 
 holds_within : (t : TlsPart) (p : Part) → holds t p ≡ true
     → (p.address ≤ t.address) × (t.address + t.initial ≤ p.address + length p.bytes)
@@ -46,10 +47,12 @@ filled_long size initial within =
     length-replicate (size - length initial) 0 in
     omega (arith, zeros, within))
 
-filled_front : (size k : ℕ) (initial : List ℕ) → k < length initial → slice_get (filled size initial) k ≡ slice_get initial k
+filled_front : (size k : ℕ) (initial : List ℕ) → k < length initial
+    → slice_get (filled size initial) k ≡ slice_get initial k
 filled_front size k initial below = slice_get-append initial (replicate (size - length initial) 0) k below
 
-filled_rest : (size k : ℕ) (initial : List ℕ) → length initial ≤ k → k < size → slice_get (filled size initial) k ≡ Some 0
+filled_rest : (size k : ℕ) (initial : List ℕ) → length initial ≤ k → k < size
+    → slice_get (filled size initial) k ≡ Some 0
 filled_rest size k initial behind below =
     slice_get-append_behind initial (replicate (size - length initial) 0) k behind
     ∙ slice_get-replicate (size - length initial) (k - length initial) 0 (omega (arith, behind, below))
@@ -167,7 +170,8 @@ module _ (m : JobImages) (c : Contents) (x : Instance) (t : TlsPart) (made : IsM
       record {
         long = filled_long t.size initial (omega (arith, initial_long, right.initial_in));
         initial = λ j k own q at below low own_is.
-            filled_front t.size k initial (omega (arith, initial_long, below)) ∙ initial_byte j k own q at below low own_is;
+            filled_front t.size k initial (omega (arith, initial_long, below))
+            ∙ initial_byte j k own q at below low own_is;
         rest = λ k behind below. filled_rest t.size k initial (omega (arith, initial_long, behind)) below;
       }
 

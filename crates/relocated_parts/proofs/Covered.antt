@@ -1,5 +1,6 @@
 -- The relocation that covers a byte is the one that is found, and where none covers it none is.
-use Rattle.std.proofs.Common.{◌≡◌, ◌∙◌, ◌+◌, ◌-◌, ◌<◌, ◌≤◌, ◌&&◌, ℕ, zero, suc, Bool, true, false, List, [], ◌∷◌, Option}
+use Rattle.std.proofs.Common.{◌≡◌, ◌∙◌, ◌+◌, ◌-◌, ◌<◌, ◌≤◌, ◌&&◌, ℕ, zero, suc, Bool, true, false, List, [], ◌∷◌}
+use Rattle.std.proofs.Common.{Option}
 use Rattle.std.proofs.Common.{Some, None, length, inl, inr, refl, sym, ap, arith, if◌then◌else◌}
 use Rattle.std.specs.Prelude.{slice_get, slice_index_or}
 use Rattle.std.specs.List.{Contains, find}
@@ -13,7 +14,7 @@ use Rattle.image_writer.specs.Linkable.{AreRising, width}
 use Rattle.image_writer.specs.Tables.{finished}
 use Rattle.loaded_modules.specs.declared.instance.Instance.{Instance}
 use Rattle.loaded_modules.specs.Images.{JobImages}
-use Rattle.loaded_modules.specs.Loader.{loaded_part}
+use Rattle.loaded_modules.specs.LoaderLaws.{loaded_part}
 use Rattle.relocated_parts.specs.Laws.{Covers, IsLeft, IsMade, LoadedBytesAreCovered}
 use Rattle.relocated_parts.specs.Left.{byte_by, is_written_at, left_byte, written_byte}
 use Rattle.relocated_parts.proofs.Found.{find_only}
@@ -56,10 +57,12 @@ found_one rs rising r address has covers =
     let again = covers_is s address passes in
     elim (cases_lt j has.0) [
       | inl less ↦
-          let apart = lies_behind rs rising j has.0 s r less there at in absurd (omega (arith, apart, again.1, covers.0))
+          let apart = lies_behind rs rising j has.0 s r less there at in
+          absurd (omega (arith, apart, again.1, covers.0))
       | inr most ↦ elim (cases_lt has.0 j) [
         | inl less ↦
-            let apart = lies_behind rs rising has.0 j r s less at there in absurd (omega (arith, apart, again.0, covers.1))
+            let apart = lies_behind rs rising has.0 j r s less at there in
+            absurd (omega (arith, apart, again.0, covers.1))
         | inr least ↦ omega (arith, most, least)
       ]
     ])

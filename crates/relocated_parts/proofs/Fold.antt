@@ -194,7 +194,8 @@ module _ (m : JobImages) (image : Spelled) (x : Instance) (part : Part) where
       of_test true e here rest =
           let now = written_byte m image x r (part.address + k - r.place) in
           rest now (stepped_in m image x part r bytes long k own is here e)
-          ∙ ap (λ found. Some (byte_by m image x (part.address + k) now found)) (none_behind (part.address + k) r rs rising e)
+          ∙ ap (λ found. Some (byte_by m image x (part.address + k) now found))
+          (none_behind (part.address + k) r rs rising e)
       of_test false e here rest = rest own (stepped_out m image x part r bytes long k own is here e)
 
 -- the law

@@ -6,7 +6,8 @@ use Rattle.image_writer.specs.Contents.{Contents}
 use Rattle.image_writer.specs.Tables.{finished}
 use Rattle.loaded_modules.specs.declared.instance.Instance.{Instance}
 use Rattle.loaded_modules.specs.Images.{JobImages}
-use Rattle.loaded_modules.specs.Loader.{bytes_or_none, loaded_in, loaded_part, part_bytes}
+use Rattle.loaded_modules.specs.Loader.{part_bytes}
+use Rattle.loaded_modules.specs.LoaderLaws.{bytes_or_none, loaded_in, loaded_part}
 use Rattle.relocated_parts.specs.Laws.{IsLeft, IsMade, LoadedPartsAreLeft}
 use Rattle.relocated_parts.proofs.Fold.{parts_left}
 use Rattle.relocated_parts.proofs.Parts.{all_whole}

@@ -27,7 +27,8 @@ module _ (c : Contents) (linkable : IsLinkable c) where
     | inl first ↦ absurd (omega (arith, first, next))
     | inr rises ↦
         let same : j - 1 ≡ i = omega (arith, next) in
-        subst (λ n. outlined.end_of (part (outline_of (finished c)) n) ≤ (part (outline_of (finished c)) j).address) same rises
+        subst (λ n. outlined.end_of (part (outline_of (finished c)) n) ≤
+        (part (outline_of (finished c)) j).address) same rises
   ]
 
   follows : (d i j : ℕ) → i + suc d ≡ j → j < length (outline_of (finished c)).parts

@@ -85,7 +85,8 @@ module _ (m : JobImages) (image : Spelled) (x : Instance) (r : ImageRelocation) 
   pub written_digits : (k : LoaderKind) (addend : ℤ) (i : ℕ) → i < width k
       → slice_get (written_bytes image.kind x (target_of m image x r) k addend) i
       ≡ Some (digit_of_two
-      (first_word image.kind x (target_of m image x r).id (target_of m image x r).offset (target_of m image x r).distance k
+      (first_word image.kind x (target_of m image x r).id (target_of m image x r).offset
+      (target_of m image x r).distance k
       addend)
       (second_word (target_of m image x r).id (target_of m image x r).offset) i)
   written_digits JumpSlot addend i below = one 0x1000 _ i below

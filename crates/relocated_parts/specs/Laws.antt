@@ -9,7 +9,8 @@ use Rattle.image_writer.specs.Linkable.{AreRising, IsLinkable, width}
 use Rattle.image_writer.specs.Tables.{finished}
 use Rattle.loaded_modules.specs.declared.instance.Instance.{Instance}
 use Rattle.loaded_modules.specs.Images.{JobImages, image_at}
-use Rattle.loaded_modules.specs.Loader.{fresh_block, loaded_part, part_bytes}
+use Rattle.loaded_modules.specs.Loader.{fresh_block, part_bytes}
+use Rattle.loaded_modules.specs.LoaderLaws.{loaded_part}
 use Rattle.relocated_parts.specs.Left.{left_byte, written_byte}
 
 -- ** parts

@@ -1,5 +1,6 @@
 -- What is read in a kept site, form by form.
-use Rattle.std.proofs.Common.{◌≡◌, ℕ, ◌+◌, ◌*◌, ◌<◌, ◌≤◌, List, [], ◌∷◌, ◌++◌, length, drop, Option, Some, None, refl, sym, ap, subst, ◌∙◌, arith, rules}
+use Rattle.std.proofs.Common.{◌≡◌, ℕ, ◌+◌, ◌*◌, ◌<◌, ◌≤◌, List, [], ◌∷◌, ◌++◌, length, drop, Option, Some, None, refl}
+use Rattle.std.proofs.Common.{sym, ap, subst, ◌∙◌, arith, rules}
 use Rattle.std.specs.Prelude.{IsTrue, ◌/◌, ◌%◌, ◌⊎◌, ◌==◌, if◌then◌else◌, slice_index}
 use Rattle.std.proofs.Common.{inl, inr, add-zero, zero-add}
 use Rattle.std.proofs.lemmas.List.{drop-drop, length-drop, get_or-drop}
@@ -17,7 +18,8 @@ use Rattle.sequence_laws.specs.Instructions.{kept_instructions, displaced, load,
 use Rattle.sequence_laws.specs.Laws.{AreRead, HasCells, number_in, second_in, length_of}
 use Rattle.sequence_laws.proofs.Shapes.{by_none, by_four, by_six, by_eight}
 use Rattle.sequence_laws.proofs.Spelled.{Fit, open_in, spelled, open_length, spelled_again}
-use Rattle.sequence_laws.proofs.Ones.{one, two, number, lea_rdi_8, lea_rdi_7, call_8, call_5, call_through_8, call_through_6, lea_descriptor, call_descriptor}
+use Rattle.sequence_laws.proofs.Ones.{one, two, number, lea_rdi_8, lea_rdi_7, call_8, call_5, call_through_8}
+use Rattle.sequence_laws.proofs.Ones.{call_through_6, lea_descriptor, call_descriptor}
 use Rattle.sequence_laws.proofs.Ones.{loaded_low, loaded_high, added_low, added_high}
 
 -- a site that begins these bytes
@@ -78,7 +80,8 @@ by_rex P low high x y rex modrm =
     let none : y / 8 + 0 ≡ y / 8 = omega arith in
     elim (is_rex x rex) [
       | inl e ↦ subst (λ (z : ℕ). P z y (y / 8 + (if z == 0x4c then 8 else 0))) (sym e)
-          (subst (λ (r : ℕ). P 0x48 y r) (sym none) (subst (λ (z : ℕ). P 0x48 z (y / 8)) (sym m.is) (low (y / 8) m.low)))
+          (subst (λ (r : ℕ). P 0x48 y r) (sym none)
+          (subst (λ (z : ℕ). P 0x48 z (y / 8)) (sym m.is) (low (y / 8) m.low)))
       | inr e ↦ subst (λ (z : ℕ). P z y (y / 8 + (if z == 0x4c then 8 else 0))) (sym e)
           (subst (λ (z : ℕ). P 0x4c z (y / 8 + 8)) (sym m.is) (high (y / 8) m.low))
     ]
@@ -87,14 +90,16 @@ ie_mov : (rest : List ℕ) (x y a b c d : ℕ) → IsTrue (fits Rex x) → IsTru
     → Opens IeMov rest (x ∷ y ∷ a ∷ b ∷ c ∷ d ∷ [])
 unfolding row register part_at
 ie_mov rest x y a b c d rex modrm = by_rex
-    (λ x y r. AreRead (displaced 7 3 (load (numbered r) of_next) (number a b c d) ∷ []) rest (x ∷ 0x8b ∷ y ∷ a ∷ b ∷ c ∷ d ∷ rest))
+    (λ x y r. AreRead (displaced 7 3 (load (numbered r) of_next) (number a b c d) ∷ []) rest
+    (x ∷ 0x8b ∷ y ∷ a ∷ b ∷ c ∷ d ∷ rest))
     (λ r low. one _ rest _ (loaded_low a b c d r low)) (λ r low. one _ rest _ (loaded_high a b c d r low)) x y rex modrm
 
 ie_add : (rest : List ℕ) (x y a b c d : ℕ) → IsTrue (fits Rex x) → IsTrue (fits ModRm y)
     → Opens IeAdd rest (x ∷ y ∷ a ∷ b ∷ c ∷ d ∷ [])
 unfolding row register part_at
 ie_add rest x y a b c d rex modrm = by_rex
-    (λ x y r. AreRead (displaced 7 3 (add (numbered r) of_next) (number a b c d) ∷ []) rest (x ∷ 0x03 ∷ y ∷ a ∷ b ∷ c ∷ d ∷ rest))
+    (λ x y r. AreRead (displaced 7 3 (add (numbered r) of_next) (number a b c d) ∷ []) rest
+    (x ∷ 0x03 ∷ y ∷ a ∷ b ∷ c ∷ d ∷ rest))
     (λ r low. one _ rest _ (added_low a b c d r low)) (λ r low. one _ rest _ (added_high a b c d r low)) x y rex modrm
 
 -- ** any form
@@ -156,7 +161,8 @@ site_read DescCall bytes room fit =
 
 -- ** at a place of some code
 
-register_there : (form : Form) (code : List ℕ) (start : ℕ) → register form (drop start code) 0 ≡ register form code start
+register_there : (form : Form) (code : List ℕ) (start : ℕ)
+    → register form (drop start code) 0 ≡ register form code start
 unfolding register
 register_there IeMov code start = rw (get_or-drop start code 0 0, get_or-drop start code 2 0, add-zero) refl
 register_there IeAdd code start = rw (get_or-drop start code 0 0, get_or-drop start code 2 0, add-zero) refl
@@ -191,9 +197,11 @@ pub kept_read : (form : Form) (code : List ℕ) (start : ℕ) → HasCells code 
 kept_read form code start is =
     let bytes = drop start code in
     let room : length ((row form).cells) ≤ length bytes = omega (arith, is.inside, length-drop start code) in
-    let fit : Fit (row form).cells bytes = λ k cell e. subst (λ (b : ℕ). IsTrue (fits cell b)) (sym (get_or-drop start code k 0)) (is.fit k cell e) in
+    let fit : Fit (row form).cells bytes =
+    λ k cell e. subst (λ (b : ℕ). IsTrue (fits cell b)) (sym (get_or-drop start code k 0)) (is.fit k cell e) in
     moved form _ _ _ _ _ _ _ _ bytes (register_there form code start) (number_there code start (row form).first_at)
-    (second_there code start (row form).second) (drop-drop (form_length form) start code) (site_read form bytes room fit)
+    (second_there code start (row form).second) (drop-drop (form_length form) start code)
+    (site_read form bytes room fit)
 
 pub kept_whole : (form : Form) (reg first second : ℕ)
     → length_of (kept_instructions form reg first second) ≡ form_length form

@@ -1,24 +1,28 @@
 -- Each instruction of the sequences, read from its own bytes alone, and then with any bytes behind it.
-use Rattle.std.proofs.Common.{◌≡◌, ℕ, ◌+◌, ◌*◌, ◌<◌, ◌≤◌, List, [], ◌∷◌, ◌++◌, length, take, Option, Some, None, refl, sym, subst, arith}
+use Rattle.std.proofs.Common.{◌≡◌, ℕ, ◌+◌, ◌*◌, ◌<◌, ◌≤◌, List, [], ◌∷◌, ◌++◌, length, take, Option, Some, None, refl}
+use Rattle.std.proofs.Common.{sym, subst, arith}
 use Rattle.std.proofs.lemmas.List.{take_all, drop_at}
 use Rattle.amd64_words.specs.declared.register.Register.TheVariants.{Rax, Rdi}
 use Rattle.amd64_subset.specs.declared.instr.Width.TheVariants.{Quad}
 use Rattle.amd64_subset.specs.declared.instr.Target.TheVariants.{Relative}
 use Rattle.amd64_subset.specs.declared.instr.Operation.TheVariants.{LoadAddress, Call, Nop}
 use Rattle.amd64_subset.specs.declared.instr.Decoded.{Decoded}
-use Rattle.amd64_subset.specs.Decoding.{end_branch_at, escaped_at, row_at, operated_at, body_at, instruction_at, decoded}
+use Rattle.amd64_subset.specs.Decoding.{end_branch_at, escaped_at, row_at, operated_at, body_at, instruction_at}
+use Rattle.amd64_subset.specs.Decoding.{decoded}
 use Rattle.amd64_subset.specs.Meaning.{numbered_body, operation_of, operand_body}
 use Rattle.amd64_subset.specs.Number.{signed_of}
 use Rattle.amd64_subset.specs.Prefix.{rex_at, prefixes_at}
 use Rattle.amd64_subset.specs.Reading.{numbers_at}
 use Rattle.amd64_subset.specs.Register.{register_of, number_of}
-use Rattle.amd64_subset.specs.Row.{condition_of, fixed_row_of, row_of, escaped_row_of, arithmetic_of, shift_of, group_action, takes}
+use Rattle.amd64_subset.specs.Row.{condition_of, fixed_row_of, row_of, escaped_row_of, arithmetic_of, shift_of}
+use Rattle.amd64_subset.specs.Row.{group_action, takes}
 use Rattle.amd64_subset.specs.Selectors.{allowed, displacement_size, memory_in, sib_at, selectors_at}
 use Rattle.amd64_subset.specs.Spelling.{field_of}
 use Rattle.amd64_subset.proofs.FieldLaws.{front_lem}
 use Rattle.elf_records.specs.Fields.{splice}
 use Rattle.relax_sites.specs.Rows.{mov_bytes, add_bytes}
-use Rattle.sequence_laws.specs.Instructions.{of_thread, of_next, of_register, plain, displaced, immediate, load, add, set, call_through, added}
+use Rattle.sequence_laws.specs.Instructions.{of_thread, of_next, of_register, plain, displaced, immediate, load, add}
+use Rattle.sequence_laws.specs.Instructions.{set, call_through, added}
 use Rattle.sequence_laws.specs.Laws.{AreRead}
 use Rattle.sequence_laws.proofs.Shapes.{by_register, by_low_register}
 
@@ -50,7 +54,8 @@ unfolding
 reads bytes = decoded bytes
 
 -- mov %fs:0, %rax
-pub thread_pointer_9 : IsOne (0x64 ∷ 0x48 ∷ 0x8b ∷ 0x04 ∷ 0x25 ∷ 0 ∷ 0 ∷ 0 ∷ 0 ∷ []) (displaced 9 5 (load Rax of_thread) 0)
+pub thread_pointer_9 : IsOne (0x64 ∷ 0x48 ∷ 0x8b ∷ 0x04 ∷ 0x25 ∷ 0 ∷ 0 ∷ 0 ∷ 0 ∷ [])
+    (displaced 9 5 (load Rax of_thread) 0)
 unfolding reads
 thread_pointer_9 = record { read = refl; len-is = refl }
 
@@ -69,12 +74,15 @@ abbrev pub number : ℕ → ℕ → ℕ → ℕ → ℕ
 number a b c d = field_of (a ∷ b ∷ c ∷ d ∷ [])
 
 -- lea x(%rax), %rax
-pub lea_rax : (a b c d : ℕ) → IsOne (0x48 ∷ 0x8d ∷ 0x80 ∷ a ∷ b ∷ c ∷ d ∷ []) (displaced 7 3 (LoadAddress Quad Rax (of_register Rax)) (number a b c d))
+pub lea_rax : (a b c d : ℕ)
+    → IsOne (0x48 ∷ 0x8d ∷ 0x80 ∷ a ∷ b ∷ c ∷ d ∷ [])
+    (displaced 7 3 (LoadAddress Quad Rax (of_register Rax)) (number a b c d))
 unfolding reads
 lea_rax a b c d = record { read = refl; len-is = refl }
 
 -- add x(%rip), %rax
-pub add_rax : (a b c d : ℕ) → IsOne (0x48 ∷ 0x03 ∷ 0x05 ∷ a ∷ b ∷ c ∷ d ∷ []) (displaced 7 3 (add Rax of_next) (number a b c d))
+pub add_rax : (a b c d : ℕ)
+    → IsOne (0x48 ∷ 0x03 ∷ 0x05 ∷ a ∷ b ∷ c ∷ d ∷ []) (displaced 7 3 (add Rax of_next) (number a b c d))
 unfolding reads
 add_rax a b c d = record { read = refl; len-is = refl }
 
@@ -84,7 +92,8 @@ unfolding reads
 set_rax a b c d = record { read = refl; len-is = refl }
 
 -- mov x(%rip), %rax
-pub load_rax : (a b c d : ℕ) → IsOne (0x48 ∷ 0x8b ∷ 0x05 ∷ a ∷ b ∷ c ∷ d ∷ []) (displaced 7 3 (load Rax of_next) (number a b c d))
+pub load_rax : (a b c d : ℕ)
+    → IsOne (0x48 ∷ 0x8b ∷ 0x05 ∷ a ∷ b ∷ c ∷ d ∷ []) (displaced 7 3 (load Rax of_next) (number a b c d))
 unfolding reads
 load_rax a b c d = record { read = refl; len-is = refl }
 
@@ -95,7 +104,8 @@ nop = record { read = refl; len-is = refl }
 
 -- mov $x, %r
 abbrev Set : ℕ → ℕ → ℕ → ℕ → ℕ → Type 0
-Set a b c d reg = IsOne (splice 3 (a ∷ b ∷ c ∷ d ∷ []) (mov_bytes reg)) (immediate 7 3 (set (register_of reg)) (number a b c d))
+Set a b c d reg = IsOne (splice 3 (a ∷ b ∷ c ∷ d ∷ []) (mov_bytes reg))
+    (immediate 7 3 (set (register_of reg)) (number a b c d))
 
 pub set_register : (a b c d reg : ℕ) → reg ≤ 15 → Set a b c d reg
 unfolding reads splice
@@ -130,16 +140,20 @@ added_register a b c d reg low = by_register (Added a b c d)
 -- ** those that a compiler wrote
 
 -- lea x(%rip), %rdi
-pub lea_rdi_8 : (a b c d : ℕ) → IsOne (0x66 ∷ 0x48 ∷ 0x8d ∷ 0x3d ∷ a ∷ b ∷ c ∷ d ∷ []) (displaced 8 4 (LoadAddress Quad Rdi of_next) (number a b c d))
+pub lea_rdi_8 : (a b c d : ℕ)
+    → IsOne (0x66 ∷ 0x48 ∷ 0x8d ∷ 0x3d ∷ a ∷ b ∷ c ∷ d ∷ [])
+    (displaced 8 4 (LoadAddress Quad Rdi of_next) (number a b c d))
 unfolding reads
 lea_rdi_8 a b c d = record { read = refl; len-is = refl }
 
-pub lea_rdi_7 : (a b c d : ℕ) → IsOne (0x48 ∷ 0x8d ∷ 0x3d ∷ a ∷ b ∷ c ∷ d ∷ []) (displaced 7 3 (LoadAddress Quad Rdi of_next) (number a b c d))
+pub lea_rdi_7 : (a b c d : ℕ)
+    → IsOne (0x48 ∷ 0x8d ∷ 0x3d ∷ a ∷ b ∷ c ∷ d ∷ []) (displaced 7 3 (LoadAddress Quad Rdi of_next) (number a b c d))
 unfolding reads
 lea_rdi_7 a b c d = record { read = refl; len-is = refl }
 
 -- call x
-pub call_8 : (a b c d : ℕ) → IsOne (0x66 ∷ 0x66 ∷ 0x48 ∷ 0xe8 ∷ a ∷ b ∷ c ∷ d ∷ []) (plain 8 (Call (Relative (number a b c d))))
+pub call_8 : (a b c d : ℕ)
+    → IsOne (0x66 ∷ 0x66 ∷ 0x48 ∷ 0xe8 ∷ a ∷ b ∷ c ∷ d ∷ []) (plain 8 (Call (Relative (number a b c d))))
 unfolding reads
 call_8 a b c d = record { read = refl; len-is = refl }
 
@@ -148,16 +162,19 @@ unfolding reads
 call_5 a b c d = record { read = refl; len-is = refl }
 
 -- call *x(%rip)
-pub call_through_8 : (a b c d : ℕ) → IsOne (0x66 ∷ 0x48 ∷ 0xff ∷ 0x15 ∷ a ∷ b ∷ c ∷ d ∷ []) (displaced 8 4 (call_through of_next) (number a b c d))
+pub call_through_8 : (a b c d : ℕ)
+    → IsOne (0x66 ∷ 0x48 ∷ 0xff ∷ 0x15 ∷ a ∷ b ∷ c ∷ d ∷ []) (displaced 8 4 (call_through of_next) (number a b c d))
 unfolding reads
 call_through_8 a b c d = record { read = refl; len-is = refl }
 
-pub call_through_6 : (a b c d : ℕ) → IsOne (0xff ∷ 0x15 ∷ a ∷ b ∷ c ∷ d ∷ []) (displaced 6 2 (call_through of_next) (number a b c d))
+pub call_through_6 : (a b c d : ℕ)
+    → IsOne (0xff ∷ 0x15 ∷ a ∷ b ∷ c ∷ d ∷ []) (displaced 6 2 (call_through of_next) (number a b c d))
 unfolding reads
 call_through_6 a b c d = record { read = refl; len-is = refl }
 
 -- lea x(%rip), %rax
-pub lea_descriptor : (a b c d : ℕ) → IsOne (0x48 ∷ 0x8d ∷ 0x05 ∷ a ∷ b ∷ c ∷ d ∷ []) (displaced 7 3 (LoadAddress Quad Rax of_next) (number a b c d))
+pub lea_descriptor : (a b c d : ℕ)
+    → IsOne (0x48 ∷ 0x8d ∷ 0x05 ∷ a ∷ b ∷ c ∷ d ∷ []) (displaced 7 3 (LoadAddress Quad Rax of_next) (number a b c d))
 unfolding reads
 lea_descriptor a b c d = record { read = refl; len-is = refl }
 
@@ -168,7 +185,9 @@ call_descriptor = record { read = refl; len-is = refl }
 
 -- mov x(%rip), %r and add x(%rip), %r of the first eight registers
 abbrev LoadedLow : ℕ → ℕ → ℕ → ℕ → ℕ → Type 0
-LoadedLow a b c d reg = IsOne (0x48 ∷ 0x8b ∷ (5 + 8 * reg) ∷ a ∷ b ∷ c ∷ d ∷ []) (displaced 7 3 (load (register_of reg) of_next) (number a b c d))
+LoadedLow a b c d reg =
+    IsOne (0x48 ∷ 0x8b ∷ (5 + 8 * reg) ∷ a ∷ b ∷ c ∷ d ∷ [])
+    (displaced 7 3 (load (register_of reg) of_next) (number a b c d))
 
 pub loaded_low : (a b c d reg : ℕ) → reg < 8 → LoadedLow a b c d reg
 unfolding reads
@@ -180,7 +199,8 @@ loaded_low a b c d reg low = by_low_register (LoadedLow a b c d)
     reg low
 
 abbrev AddedLow : ℕ → ℕ → ℕ → ℕ → ℕ → Type 0
-AddedLow a b c d reg = IsOne (0x48 ∷ 0x03 ∷ (5 + 8 * reg) ∷ a ∷ b ∷ c ∷ d ∷ []) (displaced 7 3 (add (register_of reg) of_next) (number a b c d))
+AddedLow a b c d reg = IsOne (0x48 ∷ 0x03 ∷ (5 + 8 * reg) ∷ a ∷ b ∷ c ∷ d ∷ [])
+    (displaced 7 3 (add (register_of reg) of_next) (number a b c d))
 
 pub added_low : (a b c d reg : ℕ) → reg < 8 → AddedLow a b c d reg
 unfolding reads
@@ -193,7 +213,9 @@ added_low a b c d reg low = by_low_register (AddedLow a b c d)
 
 -- and of the others
 abbrev LoadedHigh : ℕ → ℕ → ℕ → ℕ → ℕ → Type 0
-LoadedHigh a b c d reg = IsOne (0x4c ∷ 0x8b ∷ (5 + 8 * reg) ∷ a ∷ b ∷ c ∷ d ∷ []) (displaced 7 3 (load (register_of (reg + 8)) of_next) (number a b c d))
+LoadedHigh a b c d reg =
+    IsOne (0x4c ∷ 0x8b ∷ (5 + 8 * reg) ∷ a ∷ b ∷ c ∷ d ∷ [])
+    (displaced 7 3 (load (register_of (reg + 8)) of_next) (number a b c d))
 
 pub loaded_high : (a b c d reg : ℕ) → reg < 8 → LoadedHigh a b c d reg
 unfolding reads
@@ -205,7 +227,9 @@ loaded_high a b c d reg low = by_low_register (LoadedHigh a b c d)
     reg low
 
 abbrev AddedHigh : ℕ → ℕ → ℕ → ℕ → ℕ → Type 0
-AddedHigh a b c d reg = IsOne (0x4c ∷ 0x03 ∷ (5 + 8 * reg) ∷ a ∷ b ∷ c ∷ d ∷ []) (displaced 7 3 (add (register_of (reg + 8)) of_next) (number a b c d))
+AddedHigh a b c d reg =
+    IsOne (0x4c ∷ 0x03 ∷ (5 + 8 * reg) ∷ a ∷ b ∷ c ∷ d ∷ [])
+    (displaced 7 3 (add (register_of (reg + 8)) of_next) (number a b c d))
 
 pub added_high : (a b c d reg : ℕ) → reg < 8 → AddedHigh a b c d reg
 unfolding reads

@@ -1,5 +1,6 @@
 -- What is read in a rewritten site, row by row.
-use Rattle.std.proofs.Common.{◌≡◌, ℕ, ◌+◌, ◌≤◌, Bool, true, false, List, [], ◌∷◌, ◌++◌, length, take, drop, refl, sym, ap, subst, ◌∙◌, arith}
+use Rattle.std.proofs.Common.{◌≡◌, ℕ, ◌+◌, ◌≤◌, Bool, true, false, List, [], ◌∷◌, ◌++◌, length, take, drop, refl, sym}
+use Rattle.std.proofs.Common.{ap, subst, ◌∙◌, arith}
 use Rattle.std.specs.Prelude.{◌≢◌, ◌%◌, ◌==◌, if◌then◌else◌}
 use Rattle.std.proofs.lemmas.List.{take-append-drop, drop-drop}
 use Rattle.elf_records.specs.Fields.{part_at, splice}
@@ -10,12 +11,13 @@ use Rattle.sequence_forms.specs.declared.forms.Form.TheVariants.{Gd, Ld, IeMov, 
 use Rattle.sequence_forms.specs.Forms.{row}
 use Rattle.relax_sites.specs.declared.choices.Choice.{Choice}
 use Rattle.relax_sites.specs.declared.choices.Choice.TheVariants.{Keep, GdLe, GdIe, LdLe, IeLe, DescLe, DescIe}
-use Rattle.relax_sites.specs.Choices.{IsChoiceOf}
+use Rattle.relax_sites.specs.ChoiceLaws.{IsChoiceOf}
 use Rattle.relax_sites.specs.Rows.{form_length, new_bytes, new_field, mov_bytes, add_bytes}
 use Rattle.sequence_laws.specs.Instructions.{new_instructions, added}
 use Rattle.sequence_laws.specs.Laws.{AreRead, filled, length_of}
 use Rattle.sequence_laws.proofs.Shapes.{by_four}
-use Rattle.sequence_laws.proofs.Ones.{one, two, thread_pointer_9, thread_pointer_12, thread_pointer_13, lea_rax, add_rax, set_rax, load_rax, nop, set_register, added_register}
+use Rattle.sequence_laws.proofs.Ones.{one, two, thread_pointer_9, thread_pointer_12, thread_pointer_13, lea_rax}
+use Rattle.sequence_laws.proofs.Ones.{add_rax, set_rax, load_rax, nop, set_register, added_register}
 
 -- the row with these four in its field, and then the rest
 abbrev Reads : Form → Choice → ℕ → List ℕ → List ℕ → Type 0
@@ -70,7 +72,8 @@ row_read form choice reg four rest own changes low size = absurd own
 pub split_there : (n start : ℕ) (code : List ℕ) → part_at n start code ++ drop (start + n) code ≡ drop start code
 unfolding part_at
 split_there n start code =
-    ap (λ behind. take n (drop start code) ++ behind) (sym (drop-drop n start code)) ∙ take-append-drop n (drop start code)
+    ap (λ behind. take n (drop start code) ++ behind) (sym (drop-drop n start code))
+    ∙ take-append-drop n (drop start code)
 
 pub rewritten_read : (form : Form) (choice : Choice) (reg : ℕ) (four code : List ℕ) (start : ℕ) → IsChoiceOf form choice
     → choice ≢ Keep → reg ≤ 15 → length four ≡ 4

@@ -14,7 +14,8 @@ by_four P all (a ∷ b ∷ c ∷ d ∷ []) e = all a b c d
 by_four P all (a ∷ b ∷ c ∷ d ∷ x ∷ xs) e = absurd (omega arith)
 
 -- two more in front
-pub by_six : (P : List ℕ → Type 0) → ((x y a b c d : ℕ) → P (x ∷ y ∷ a ∷ b ∷ c ∷ d ∷ [])) → (xs : List ℕ) → length xs ≡ 6
+pub by_six : (P : List ℕ → Type 0) → ((x y a b c d : ℕ) → P (x ∷ y ∷ a ∷ b ∷ c ∷ d ∷ [])) → (xs : List ℕ)
+    → length xs ≡ 6
     → P xs
 by_six P all [] e = absurd (omega arith)
 by_six P all (x ∷ []) e = absurd (omega arith)
@@ -47,7 +48,9 @@ by_register P p0 p1 p2 p3 p4 p5 p6 p7 p8 p9 p10 p11 p12 p13 p14 p15 (suc (suc (s
 by_register P p0 p1 p2 p3 p4 p5 p6 p7 p8 p9 p10 p11 p12 p13 p14 p15 (suc (suc (suc (suc zero)))) e = p4
 by_register P p0 p1 p2 p3 p4 p5 p6 p7 p8 p9 p10 p11 p12 p13 p14 p15 (suc (suc (suc (suc (suc zero))))) e = p5
 by_register P p0 p1 p2 p3 p4 p5 p6 p7 p8 p9 p10 p11 p12 p13 p14 p15 (suc (suc (suc (suc (suc (suc zero)))))) e = p6
-by_register P p0 p1 p2 p3 p4 p5 p6 p7 p8 p9 p10 p11 p12 p13 p14 p15 (suc (suc (suc (suc (suc (suc (suc zero))))))) e = p7
-by_register P p0 p1 p2 p3 p4 p5 p6 p7 p8 p9 p10 p11 p12 p13 p14 p15 (suc (suc (suc (suc (suc (suc (suc (suc n)))))))) e =
+by_register P p0 p1 p2 p3 p4 p5 p6 p7 p8 p9 p10 p11 p12 p13 p14 p15 (suc (suc (suc (suc (suc (suc (suc zero))))))) e =
+    p7
+by_register P p0 p1 p2 p3 p4 p5 p6 p7 p8 p9 p10 p11 p12 p13 p14 p15
+    (suc (suc (suc (suc (suc (suc (suc (suc n)))))))) e =
     by_low_register (λ n. P (suc (suc (suc (suc (suc (suc (suc (suc n)))))))))
     p8 p9 p10 p11 p12 p13 p14 p15 n (omega arith)

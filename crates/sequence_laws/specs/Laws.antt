@@ -12,7 +12,7 @@ use Rattle.sequence_forms.specs.Forms.{fits, register, row}
 use Rattle.relax_sites.specs.declared.choices.Choice.{Choice}
 use Rattle.relax_sites.specs.declared.choices.Choice.TheVariants.{Keep}
 use Rattle.relax_sites.specs.declared.rows.NewField.{NewField}
-use Rattle.relax_sites.specs.Choices.{IsChoiceOf}
+use Rattle.relax_sites.specs.ChoiceLaws.{IsChoiceOf}
 use Rattle.relax_sites.specs.Rows.{form_length, new_bytes, new_field}
 use Rattle.sequence_laws.specs.Instructions.{kept_instructions, new_instructions}
 

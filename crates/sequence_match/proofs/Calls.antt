@@ -1,5 +1,6 @@
 -- The second relocation of a sequence, and the earliest at a place, found by place.
-use Rattle.std.proofs.Common.{◌≡◌, ◌+◌, ◌<◌, ◌≤◌, ◌↔◌, ◌==◌, ◌∙◌, ℕ, List, Bool, Some, IsTrue, refl, subst, sym, ap, inl, inr, arith}
+use Rattle.std.proofs.Common.{◌≡◌, ◌+◌, ◌<◌, ◌≤◌, ◌↔◌, ◌==◌, ◌∙◌, ℕ, List, Bool, Some, IsTrue, refl, subst, sym, ap}
+use Rattle.std.proofs.Common.{inl, inr, arith}
 use Rattle.std.proofs.lemmas.Bool.Decides.{nat_tests}
 use Rattle.elf_records.specs.declared.relocation.RelocationKind.{RelocationKind}
 use Rattle.elf_records.specs.declared.relocation.RelocationKind.TheVariants.{TlsDescCall}
@@ -30,17 +31,21 @@ module _ (xs : List Relocation) (apart : AreApart xs) (second : Second) (getter 
   call_found e x r by entry is = (
     λ t. (e, (x, entry, is.0 t)),
     λ h.
-        let eq = only_field xs (start + second.at) e h.0 h.1.0 apart by h.1.1 (covers_call second getter start h.1.0 h.1.2) in
+        let eq = only_field xs (start + second.at) e h.0 h.1.0 apart by h.1.1
+        (covers_call second getter start h.1.0 h.1.2) in
         let P : ℕ → Type 0 = λ n. IsEntry xs n h.1.0 in
         let C : Relocation → Type 0 = λ y. Calls second getter start y in
         is.1 (subst C (same_entry xs e h.1.0 x (subst P eq h.1.1) entry) h.1.2),
   )
 
-  pub call_missing : ((e : ℕ) → ReachesAt OfField xs (start + second.at) e → ⊥) → ((f : ℕ) × IsSecond (Some second) getter xs start f) → ⊥
-  call_missing none h = bare_of xs (start + second.at) none h.0 h.1.0 h.1.1 (covers_call second getter start h.1.0 h.1.2)
+  pub call_missing : ((e : ℕ) → ReachesAt OfField xs (start + second.at) e → ⊥)
+      → ((f : ℕ) × IsSecond (Some second) getter xs start f) → ⊥
+  call_missing none h = bare_of xs (start + second.at) none h.0 h.1.0 h.1.1
+      (covers_call second getter start h.1.0 h.1.2)
 
 -- a relocation with a field is the first at its place
-pub field_earliest : (xs : List Relocation) (e : ℕ) (x : Relocation) → AreApart xs → IsEntry xs e x → IsOfSequence x.kind
+pub field_earliest : (xs : List Relocation) (e : ℕ) (x : Relocation) → AreApart xs → IsEntry xs e x
+    → IsOfSequence x.kind
     → (x.kind ≡ TlsDescCall → ⊥) → IsEarliest xs e x
 field_earliest xs e x apart entry sequence other f y less at kind offset =
     let wide = sequence_width x.kind sequence other in
@@ -61,11 +66,13 @@ module _ (xs : List Relocation) (e : ℕ) (x : Relocation) (entry : IsEntry xs e
   reaches_itself : ReachesAt OfCall xs x.offset e
   reaches_itself = (x, entry, reaches_place x.kind x.offset x.offset call refl)
 
-  pub call_earliest : (first : ℕ) → ReachesAt OfCall xs x.offset first × ((f : ℕ) → f < first → ReachesAt OfCall xs x.offset f → ⊥)
+  pub call_earliest : (first : ℕ)
+      → ReachesAt OfCall xs x.offset first × ((f : ℕ) → f < first → ReachesAt OfCall xs x.offset f → ⊥)
       → IsTrue (first == e) ↔ IsEarliest xs e x
   call_earliest first by = (
     λ t f y less at kind offset.
-        by.1 f (omega (arith, eq_of first e t, less)) (y, at, reaches_place y.kind y.offset x.offset (kind ∙ call) offset),
+        by.1 f (omega (arith, eq_of first e t, less))
+        (y, at, reaches_place y.kind y.offset x.offset (kind ∙ call) offset),
     λ earliest. of_eq first e
         (elim (below_or_not first e) [
           | inl less ↦

@@ -1,6 +1,7 @@
 -- No two sequences overlap: where one would start inside another, or another where it starts, some byte is literal in
 -- both and another one, or the second starts in a field of the first.
-use Rattle.std.proofs.Common.{◌≡◌, ◌==◌, ◌||◌, ◌&&◌, ◌%◌, ◌⊎◌, ℕ, Bool, true, false, not, List, [], ◌∷◌, refl, inl, inr, arith, nat_lt}
+use Rattle.std.proofs.Common.{◌≡◌, ◌==◌, ◌||◌, ◌&&◌, ◌%◌, ◌⊎◌, ℕ, Bool, true, false, not, List, [], ◌∷◌, refl, inl, inr}
+use Rattle.std.proofs.Common.{arith, nat_lt}
 use Rattle.std.proofs.lemmas.Bool.Decides.{nat_tests}
 use Rattle.sequence_forms.specs.declared.forms.Form.{Form}
 use Rattle.sequence_forms.specs.declared.forms.Form.TheVariants.{Gd, Ld, IeMov, IeAdd, GdInd, LdInd, DescLea, DescCall}

@@ -18,7 +18,8 @@ pub below_or_not : (e f : ℕ) → (e < f) ⊎ ((e ≡ f) ⊎ (f < e))
 below_or_not e f = grind arith
 
 -- one field covers a byte
-pub only_field : (xs : List Relocation) (k e f : ℕ) (x : Relocation) → AreApart xs → ReachesAt OfField xs k e → IsEntry xs f x → Covers x k → f ≡ e
+pub only_field : (xs : List Relocation) (k e f : ℕ) (x : Relocation) → AreApart xs → ReachesAt OfField xs k e
+    → IsEntry xs f x → Covers x k → f ≡ e
 only_field xs k e f x apart by entry covers =
     elim (below_or_not f e) [
       | inl less ↦ absurd (apart f e k x by.0 entry by.1 less covers by.2)

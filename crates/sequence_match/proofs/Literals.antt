@@ -1,5 +1,7 @@
 -- Which bytes of a row are spelled: those before its first field, and those behind it up to its second one.
-use Rattle.std.proofs.Common.{◌≡◌, ◌+◌, ◌-◌, ◌<◌, ◌≤◌, ◌⊎◌, ◌&&◌, ◌||◌, ◌↔◌, ◌∙◌, ℕ, zero, suc, Bool, true, false, not, List, [], ◌∷◌, Some, IsTrue, length, nat_lt, get_or, refl, sym, ap, subst, inl, inr, arith}
+use Rattle.std.proofs.Common.{◌≡◌, ◌+◌, ◌-◌, ◌<◌, ◌≤◌, ◌⊎◌, ◌&&◌, ◌||◌, ◌↔◌, ◌∙◌, ℕ, zero, suc, Bool, true, false, not}
+use Rattle.std.proofs.Common.{List, [], ◌∷◌, Some, IsTrue, length, nat_lt, get_or, refl, sym, ap, subst, inl, inr}
+use Rattle.std.proofs.Common.{arith}
 use Rattle.std.specs.List.{slice_get}
 use Rattle.std.proofs.lemmas.Bool.Decides.{nat_tests}
 use Rattle.std.proofs.lemmas.Option.{slice_get-get_or}
@@ -31,7 +33,8 @@ abbrev agree : List Cell → ℕ → ℕ → ℕ → ℕ → Bool
 agree [] i first at end = true
 agree (c ∷ cs) i first at end = same_bool (not (is_field c)) (lies first at end i) && agree cs (i + 1) first at end
 
-rows_agree : (form : Form) → agree (row form).cells 0 (row form).first_at (behind_at (row form)) (behind_end (row form)) ≡ true
+rows_agree : (form : Form)
+    → agree (row form).cells 0 (row form).first_at (behind_at (row form)) (behind_end (row form)) ≡ true
 unfolding row
 rows_agree Gd = refl
 rows_agree form = refl
@@ -45,7 +48,8 @@ same_of true b h = sym h
 same_of false true h = absurd (cc)
 same_of false false h = refl
 
-agree_at : (cs : List Cell) (i first at end k : ℕ) (cell : Cell) → agree cs i first at end ≡ true → slice_get cs k ≡ Some cell
+agree_at : (cs : List Cell) (i first at end k : ℕ) (cell : Cell) → agree cs i first at end ≡ true
+    → slice_get cs k ≡ Some cell
     → not (is_field cell) ≡ lies first at end (i + k)
 agree_at [] i first at end k cell h is = absurd (cc)
 agree_at (c ∷ cs) i first at end zero cell h is =
@@ -61,11 +65,14 @@ row_agrees : (form : Form) (k : ℕ) (cell : Cell) → slice_get (row form).cell
     → not (is_field cell) ≡ lies (row form).first_at (behind_at (row form)) (behind_end (row form)) k
 row_agrees form k cell is =
     let none : 0 + k ≡ k = omega arith in
-    agree_at (row form).cells 0 (row form).first_at (behind_at (row form)) (behind_end (row form)) k cell (rows_agree form) is
+    agree_at (row form).cells 0 (row form).first_at (behind_at (row form)) (behind_end (row form)) k cell
+    (rows_agree form) is
     ∙ ap (lies (row form).first_at (behind_at (row form)) (behind_end (row form))) none
 
 -- a row spells few bytes before its first field, and few behind it
-pub ranges_short : (form : Form) → ((row form).first_at ≤ 5) × (behind_end (row form) ≤ behind_at (row form) + 5) × ((row form).first_at ≤ length (row form).cells) × (behind_end (row form) ≤ length (row form).cells)
+pub ranges_short : (form : Form)
+    → ((row form).first_at ≤ 5) × (behind_end (row form) ≤ behind_at (row form) + 5)
+    × ((row form).first_at ≤ length (row form).cells) × (behind_end (row form) ≤ length (row form).cells)
 unfolding row
 ranges_short Gd = (omega arith, omega arith, omega arith, omega arith)
 ranges_short form = (omega arith, omega arith, omega arith, omega arith)
@@ -107,7 +114,8 @@ touches o w k from to wide low high short a b = elim (most_or_above o from) [
 ]
 
 -- where the last byte and the first are bare, all are
-pub ends_bare : (xs : List Relocation) (from to : ℕ) → to ≤ from + 5 → IsBare xs (to - 1) → IsBare xs from → AreBare xs from to
+pub ends_bare : (xs : List Relocation) (from to : ℕ) → to ≤ from + 5 → IsBare xs (to - 1) → IsBare xs from
+    → AreBare xs from to
 ends_bare xs from to short last first k low high f x entry covers =
     elim (none_or_wide x.kind) [
       | inl none ↦ omega (arith, none, covers.0, covers.1)
@@ -148,7 +156,8 @@ module _ (code : List ℕ) (xs : List Relocation) (form : Form) (start : ℕ) wh
             h.0 k cell at,
             λ literal.
                 let same = row_agrees form k cell at in
-                elim (lies_where (row form).first_at (behind_at (row form)) (behind_end (row form)) k (sym same ∙ literal_of cell literal)) [
+                elim (lies_where (row form).first_at (behind_at (row form)) (behind_end (row form)) k
+                (sym same ∙ literal_of cell literal)) [
                   | inl before ↦ h.1 (start + k) (omega arith) (omega (arith, before))
                   | inr behind ↦ h.2 (start + k) (omega (arith, behind.0)) (omega (arith, behind.1))
                 ],
@@ -162,11 +171,13 @@ module _ (code : List ℕ) (xs : List Relocation) (form : Form) (start : ℕ) wh
               let there : start + (k - start) ≡ k = omega (arith, low) in
               bare_at (start + (k - start)) k there
               (lies_bare spelled (k - start) (omega (arith, low, high, short.2))
-              (before_lies (row form).first_at (behind_at (row form)) (behind_end (row form)) (k - start) (omega (arith, low, high)))),
+              (before_lies (row form).first_at (behind_at (row form)) (behind_end (row form)) (k - start)
+              (omega (arith, low, high)))),
           λ k low high.
               let there : start + (k - start) ≡ k = omega (arith, low) in
               bare_at (start + (k - start)) k there
               (lies_bare spelled (k - start) (omega (arith, low, high, short.3))
-              (behind_lies (row form).first_at (behind_at (row form)) (behind_end (row form)) (k - start) (omega (arith, low)) (omega (arith, low, high)))),
+              (behind_lies (row form).first_at (behind_at (row form)) (behind_end (row form)) (k - start)
+              (omega (arith, low)) (omega (arith, low, high)))),
         ),
   )

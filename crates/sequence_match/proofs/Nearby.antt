@@ -16,12 +16,14 @@ use Rattle.sequence_match.proofs.Found.{below_or_at}
 
 -- the first n do
 abbrev pub RiseUpTo : List Relocation → ℕ → Type 0
-RiseUpTo xs n = (i j : ℕ) (d : Relocation) → i < j → j < n → j < length xs → (get_or xs i d).offset < (get_or xs j d).offset
+RiseUpTo xs n = (i j : ℕ) (d : Relocation) → i < j → j < n → j < length xs
+    → (get_or xs i d).offset < (get_or xs j d).offset
 
 before_or_at : (i n : ℕ) → i < n → (i + 1 ≡ n) ⊎ (i + 1 < n)
 before_or_at i n h = grind arith
 
-pub up_more : (xs : List Relocation) (n : ℕ) (x y : Relocation) → RiseUpTo xs n → 1 ≤ n → IsEntry xs (n - 1) x → IsEntry xs n y → x.offset < y.offset
+pub up_more : (xs : List Relocation) (n : ℕ) (x y : Relocation) → RiseUpTo xs n → 1 ≤ n → IsEntry xs (n - 1) x
+    → IsEntry xs n y → x.offset < y.offset
     → RiseUpTo xs (n + 1)
 up_more xs n x y rise some before entry next i j e less below inside =
     elim (below_or_at j n below) [
@@ -85,7 +87,8 @@ here_or_below e f = grind arith
 -- what does not hold of those that were looked at, from the last one down
 module _ (xs : List Relocation) (P : Relocation → Type 0) (end : ℕ) where
   -- of those that stand above a place
-  pub none_seen : (place : ℕ) → AllWithin (λ x. place < x.offset) xs end (length xs) → ((x : Relocation) → place < x.offset → P x → ⊥)
+  pub none_seen : (place : ℕ) → AllWithin (λ x. place < x.offset) xs end (length xs)
+      → ((x : Relocation) → place < x.offset → P x → ⊥)
       → (f : ℕ) (y : Relocation) → end ≤ f + 0 → IsEntry xs f y → P y → ⊥
   none_seen place above never f y from at p =
       let inside = slice_get_within xs f y at in
@@ -108,7 +111,8 @@ module _ (xs : List Relocation) (P : Relocation → Type 0) (end : ℕ) where
   -- and of none below one under which it holds of none
   pub none_left : (step : ℕ) (x : Relocation) → step < end → IsEntry xs (end - 1 - step) x
       → ((f : ℕ) (y : Relocation) → end ≤ f + step → IsEntry xs f y → P y → ⊥) → (P x → ⊥)
-      → ((f : ℕ) (y : Relocation) → f < end - 1 - step → IsEntry xs f y → P y → ⊥) → (f : ℕ) (y : Relocation) → IsEntry xs f y → P y → ⊥
+      → ((f : ℕ) (y : Relocation) → f < end - 1 - step → IsEntry xs f y → P y → ⊥) → (f : ℕ) (y : Relocation)
+      → IsEntry xs f y → P y → ⊥
   none_left step x less entry seen here lower f y at p =
       elim (here_or_below (end - 1 - step) f) [
         | inl above ↦ seen f y (omega (arith, above, less)) at p
@@ -125,16 +129,19 @@ pub above_not_any : (from to : ℕ) (x : Relocation) → to - 1 < x.offset → C
 above_not_any from to x above h = omega (arith, above, h.3.0, h.2)
 
 -- no field below one that stands below a place reaches it
-pub none_lower : (xs : List Relocation) (place n k : ℕ) (x : Relocation) → Rise xs → AreApart xs → IsEntry xs n x → IsLastField x place → place ≤ k
+pub none_lower : (xs : List Relocation) (place n k : ℕ) (x : Relocation) → Rise xs → AreApart xs → IsEntry xs n x
+    → IsLastField x place → place ≤ k
     → (f : ℕ) (y : Relocation) → f < n → IsEntry xs f y → Covers y k → ⊥
 none_lower xs place n k x rise apart entry last above f y less at covers =
     let lower = later_above xs rise f n y x less at entry in
     elim last.1 [
-      | inl field ↦ apart f n x.offset y x at entry less (omega (arith, lower), omega (arith, last.0, above, covers.1)) (omega arith, omega (arith, field))
+      | inl field ↦ apart f n x.offset y x at entry less (omega (arith, lower), omega (arith, last.0, above, covers.1))
+          (omega arith, omega (arith, field))
       | inr far ↦ omega (arith, lower, far, above, covers.1, width_most y.kind)
     ]
 
 -- of two whose fields cover a place, none is before the other
 pub first_over : (xs : List Relocation) (place e : ℕ) (x : Relocation) → AreApart xs → IsEntry xs e x → Covers x place
     → ReachesAt OfField xs place e × ((f : ℕ) → f < e → ReachesAt OfField xs place f → ⊥)
-first_over xs place e x apart entry covers = ((x, entry, covers), λ f less h. apart f e place h.0 x h.1 entry less h.2 covers)
+first_over xs place e x apart entry covers =
+    ((x, entry, covers), λ f less h. apart f e place h.0 x h.1 entry less h.2 covers)

@@ -1,5 +1,6 @@
 -- Two sequences that start at one place are of one form.
-use Rattle.std.proofs.Common.{◌≡◌, ◌+◌, ◌==◌, ◌||◌, ◌⊎◌, ℕ, suc, Bool, true, false, not, List, [], ◌∷◌, Some, slice_index, refl, subst, inl, inr, arith}
+use Rattle.std.proofs.Common.{◌≡◌, ◌+◌, ◌==◌, ◌||◌, ◌⊎◌, ℕ, suc, Bool, true, false, not, List, [], ◌∷◌, Some}
+use Rattle.std.proofs.Common.{slice_index, refl, subst, inl, inr, arith}
 use Rattle.std.specs.List.{slice_get}
 use Rattle.elf_object.specs.declared.relocation.Relocation.{Relocation}
 use Rattle.sequence_forms.specs.declared.forms.Form.{Form}
@@ -41,11 +42,14 @@ cells_clash (a ∷ cs) [] code at h f g = absurd (cc)
 cells_clash (a ∷ cs) (b ∷ ds) code at h f g =
     elim (either (disjoint a b) (clash cs ds) h) [
       | inl here ↦ disjoint_cells a b (slice_index code (at + 0)) here (f 0 a refl) (g 0 b refl)
-      | inr later ↦ cells_clash cs ds code (at + 1) later (λ k c e. moved k c (f (suc k) c e)) (λ k c e. moved k c (g (suc k) c e))
+      | inr later ↦ cells_clash cs ds code (at + 1) later (λ k c e. moved k c (f (suc k) c e))
+          (λ k c e. moved k c (g (suc k) c e))
     ]
   where
-    moved : (k : ℕ) (c : Cell) → fits c (slice_index code (at + suc k)) ≡ true → fits c (slice_index code ((at + 1) + k)) ≡ true
-    moved k c h = let same : at + suc k ≡ (at + 1) + k = omega arith in let P : ℕ → Type 0 = λ n. fits c (slice_index code n) ≡ true in subst P same h
+    moved : (k : ℕ) (c : Cell) → fits c (slice_index code (at + suc k)) ≡ true
+        → fits c (slice_index code ((at + 1) + k)) ≡ true
+    moved k c h = let same : at + suc k ≡ (at + 1) + k = omega arith in let P : ℕ
+        → Type 0 = λ n. fits c (slice_index code n) ≡ true in subst P same h
 
 -- so two forms that are spelled at one place are one
 pub one_form : (f g : Form) (code : List ℕ) (xs : List Relocation) (at : ℕ) → IsSpelled code xs (row f).cells at
@@ -53,5 +57,6 @@ pub one_form : (f g : Form) (code : List ℕ) (xs : List Relocation) (at : ℕ) 
 one_form f g code xs at a b =
     elim (same_or_clash f g) [
       | inl same ↦ same
-      | inr wrong ↦ absurd (cells_clash (row f).cells (row g).cells code at wrong (λ k c e. (a.stands k c e).0) (λ k c e. (b.stands k c e).0))
+      | inr wrong ↦ absurd (cells_clash (row f).cells (row g).cells code at wrong (λ k c e. (a.stands k c e).0)
+          (λ k c e. (b.stands k c e).0))
     ]

@@ -1,8 +1,10 @@
 -- Which forms a type of relocation opens, and that it opens one sequence at most.
-use Rattle.std.proofs.Common.{◌≡◌, ◌≢◌, ◌+◌, ◌⊎◌, ◌∙◌, ℕ, List, Option, Some, None, length, refl, subst, sym, ap, inl, inr, arith}
+use Rattle.std.proofs.Common.{◌≡◌, ◌≢◌, ◌+◌, ◌⊎◌, ◌∙◌, ℕ, List, Option, Some, None, length, refl, subst, sym, ap, inl}
+use Rattle.std.proofs.Common.{inr, arith}
 use Rattle.std.specs.Prelude.{MatchOption}
 use Rattle.elf_records.specs.declared.relocation.RelocationKind.{RelocationKind}
-use Rattle.elf_records.specs.declared.relocation.RelocationKind.TheVariants.{TlsGd, TlsLd, GotTpOff, GotPc32TlsDesc, TlsDescCall}
+use Rattle.elf_records.specs.declared.relocation.RelocationKind.TheVariants.{TlsGd, TlsLd, GotTpOff, GotPc32TlsDesc}
+use Rattle.elf_records.specs.declared.relocation.RelocationKind.TheVariants.{TlsDescCall}
 use Rattle.elf_object.specs.declared.relocation.Relocation.{Relocation}
 use Rattle.sequence_forms.specs.declared.forms.Form.{Form}
 use Rattle.sequence_forms.specs.declared.forms.Form.TheVariants.{Gd, Ld, IeMov, IeAdd, GdInd, LdInd, DescLea, DescCall}
@@ -33,7 +35,8 @@ is_among LdInd = inr refl
 is_among DescLea = refl
 is_among DescCall = refl
 
-pub among_none : (form : Form) (kind : RelocationKind) → IsAmong form kind → kind ≢ TlsGd → kind ≢ TlsLd → kind ≢ GotTpOff
+pub among_none : (form : Form) (kind : RelocationKind) → IsAmong form kind → kind ≢ TlsGd → kind ≢ TlsLd
+    → kind ≢ GotTpOff
     → kind ≢ GotPc32TlsDesc → kind ≢ TlsDescCall → ⊥
 among_none form TlsGd m a b c d e = a refl
 among_none form TlsLd m a b c d e = b refl
@@ -43,14 +46,16 @@ among_none form TlsDescCall m a b c d e = e refl
 among_none form _ m a b c d e = m
 
 -- the first relocation of a sequence is as its form says
-pub opened : (code : List ℕ) (xs : List Relocation) (getter : ℕ → Type 0) (e : ℕ) (x : Relocation) (site : Site) → IsEntry xs e x
+pub opened : (code : List ℕ) (xs : List Relocation) (getter : ℕ → Type 0) (e : ℕ) (x : Relocation) (site : Site)
+    → IsEntry xs e x
     → IsSiteOf code xs getter e site → Opens (row site.form) site.start x × (site.symbol ≡ x.symbol)
 opened code xs getter e x site entry is =
     let P : Relocation → Type 0 = λ y. Opens (row site.form) site.start y × (site.symbol ≡ y.symbol) in
     subst P (same_entry xs e is.first.0 x is.first.1 entry) (is.first.2, is.first.3)
 
 -- a sequence that relocation number e opens is of a form of its type
-pub among_of : (code : List ℕ) (xs : List Relocation) (getter : ℕ → Type 0) (e : ℕ) (x : Relocation) (site : Site) → IsEntry xs e x
+pub among_of : (code : List ℕ) (xs : List Relocation) (getter : ℕ → Type 0) (e : ℕ) (x : Relocation) (site : Site)
+    → IsEntry xs e x
     → IsSiteOf code xs getter e site → IsAmong site.form x.kind
 among_of code xs getter e x site entry is =
     let P : RelocationKind → Type 0 = λ kind. IsAmong site.form kind in
@@ -79,13 +84,16 @@ module _ (code : Code) (e : ℕ) (x : Relocation) (entry : IsEntry code.relocati
       ]
   none_of_two f g (Some form) P among h = h
 
-  pub none_of_one : (f : Form) (r : Option Form) (P : Form → Type 0) → ((site : Site) → IsAmong site.form x.kind → site.form ≡ f)
+  pub none_of_one : (f : Form) (r : Option Form) (P : Form → Type 0)
+      → ((site : Site) → IsAmong site.form x.kind → site.form ≡ f)
       → MatchOption r (HasNoSiteOf code f e) P → MatchOption r (IsNoFirst code e) P
-  none_of_one f None P among h = λ site is. h site (among site (among_of code.bytes.now code.relocations.now _ e x site entry is)) is
+  none_of_one f None P among h =
+      λ site is. h site (among site (among_of code.bytes.now code.relocations.now _ e x site entry is)) is
   none_of_one f (Some form) P among h = h
 
   -- a sequence that starts so far before the relocation is opened by it
-  pub site_is_at : (form : Form) (start : ℕ) → x.kind ≡ (row form).first → x.offset ≡ start + (row form).first_at → IsAt code form e x start
+  pub site_is_at : (form : Form) (start : ℕ) → x.kind ≡ (row form).first → x.offset ≡ start + (row form).first_at
+      → IsAt code form e x start
       → IsSiteIn code e (site_from code form x start)
   site_is_at form start kind offset at = record {
     spelled = at.spelled;
@@ -108,14 +116,16 @@ first_at_is Gd = refl
 first_at_is form = refl
 
 -- a sequence starts so far before its first relocation as the type says
-pub start_of : (code : List ℕ) (xs : List Relocation) (getter : ℕ → Type 0) (e : ℕ) (x : Relocation) (site : Site) → IsEntry xs e x
+pub start_of : (code : List ℕ) (xs : List Relocation) (getter : ℕ → Type 0) (e : ℕ) (x : Relocation) (site : Site)
+    → IsEntry xs e x
     → IsSiteOf code xs getter e site → x.offset ≡ site.start + place_of x.kind
 start_of code xs getter e x site entry is =
     let opens = (opened code xs getter e x site entry is).0 in
     opens.offset_is ∙ ap (λ n. site.start + n) (first_at_is site.form ∙ ap place_of (sym opens.kind_is))
 
 -- two sequences with one first relocation start at one place
-pub same_start : (code : List ℕ) (xs : List Relocation) (getter : ℕ → Type 0) (e : ℕ) (p q : Site) → IsSiteOf code xs getter e p
+pub same_start : (code : List ℕ) (xs : List Relocation) (getter : ℕ → Type 0) (e : ℕ) (p q : Site)
+    → IsSiteOf code xs getter e p
     → IsSiteOf code xs getter e q → p.start ≡ q.start
 same_start code xs getter e p q a b =
     let x = a.first.0 in

@@ -1,5 +1,6 @@
 -- A list in order whose elements differ rises.
-use Rattle.std.proofs.Common.{◌≡◌, ◌≢◌, ◌<◌, ◌≤◌, ◌⊎◌, ◌∙◌, ℕ, List, length, get_or, refl, sym, ap, subst, inl, inr, arith}
+use Rattle.std.proofs.Common.{◌≡◌, ◌≢◌, ◌<◌, ◌≤◌, ◌⊎◌, ◌∙◌, ℕ, List, length, get_or, refl, sym, ap, subst, inl, inr}
+use Rattle.std.proofs.Common.{arith}
 use Rattle.std.specs.List.{AllPairs, swap}
 use Rattle.std.specs.List.Sorted.{IsPermutation, IsNonDecreasingBy}
 use Rattle.std.proofs.lemmas.List.Edits.{swapped_from_swap, length-swap}
@@ -13,7 +14,8 @@ below_or_above m n h = grind arith
 
 module _ {X : Type 0} (R : X → X → Type 0) (turned : (x y : X) → R x y → R y x) where
   -- of two elements, wherever they stand
-  either_way : (l : List X) (d : X) → AllPairs R l → (m n : ℕ) → m < length l → n < length l → (m ≡ n → ⊥) → R (get_or l m d) (get_or l n d)
+  either_way : (l : List X) (d : X) → AllPairs R l → (m n : ℕ) → m < length l → n < length l → (m ≡ n → ⊥)
+      → R (get_or l m d) (get_or l n d)
   either_way l d all m n a b apart = elim (below_or_above m n apart) [
     | inl less ↦ all m n d less b
     | inr more ↦ turned _ _ (all n m d more a)
@@ -55,15 +57,18 @@ module _ {X : Type 0} (R : X → X → Type 0) (turned : (x y : X) → R x y →
       let q = stood l i j d a b n short in
       let P : X → Type 0 = λ x. R x (get_or (swap l i j) n d) in
       let Q : X → Type 0 = λ y. R (get_or l p.0 d) y in
-      subst P (sym p.2) (subst Q (sym q.2) (either_way l d all p.0 q.0 p.1 q.1 (other_places i j m n p.0 q.0 less p.3 q.3)))
+      subst P (sym p.2) (subst Q (sym q.2)
+      (either_way l d all p.0 q.0 p.1 q.1 (other_places i j m n p.0 q.0 less p.3 q.3)))
 
   -- so does any other order
   pub pairs_of_permutation : (xs ys : List X) → IsPermutation xs ys → AllPairs R xs → AllPairs R ys
   pairs_of_permutation xs ys moved all = IsPermutation-keeps xs (AllPairs R) all pairs_of_swap ys moved
 
 -- in order and apart, they rise
-pub rises : {X : Type 0} (key : X → ℕ) (xs : List X) → IsNonDecreasingBy key xs → AllPairs (λ x y. key x ≢ key y) xs → AllPairs (λ x y. key x < key y) xs
-rises key xs order apart i j d less inside = less_of (key (get_or xs i d)) (key (get_or xs j d)) (order i j d (omega arith) inside) (apart i j d less inside)
+pub rises : {X : Type 0} (key : X → ℕ) (xs : List X) → IsNonDecreasingBy key xs → AllPairs (λ x y. key x ≢ key y) xs
+    → AllPairs (λ x y. key x < key y) xs
+rises key xs order apart i j d less inside =
+    less_of (key (get_or xs i d)) (key (get_or xs j d)) (order i j d (omega arith) inside) (apart i j d less inside)
   where
     less_of : (m n : ℕ) → m ≤ n → m ≢ n → m < n
     less_of m n h apart = grind arith

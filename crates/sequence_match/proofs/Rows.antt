@@ -2,7 +2,9 @@
 use Rattle.std.proofs.Common.{◌≡◌, ◌+◌, ◌<◌, ◌≤◌, ℕ, length, Option, Some, None, IfSome, refl, arith}
 use Rattle.elf_object.specs.Relocations.{field_width}
 use Rattle.elf_records.specs.declared.relocation.RelocationKind.{RelocationKind}
-use Rattle.elf_records.specs.declared.relocation.RelocationKind.TheVariants.{Pc32, Plt32, GotPcRel, TlsGd, TlsLd, GotTpOff, GotPc32TlsDesc, TlsDescCall, GotPcRelX, RexGotPcRelX}
+use Rattle.elf_records.specs.declared.relocation.RelocationKind.TheVariants.{Pc32, Plt32, GotPcRel, TlsGd, TlsLd}
+use Rattle.elf_records.specs.declared.relocation.RelocationKind.TheVariants.{GotTpOff, GotPc32TlsDesc, TlsDescCall}
+use Rattle.elf_records.specs.declared.relocation.RelocationKind.TheVariants.{GotPcRelX, RexGotPcRelX}
 use Rattle.sequence_forms.specs.declared.forms.Form.{Form}
 use Rattle.sequence_forms.specs.declared.forms.Form.TheVariants.{Gd, Ld, IeMov, IeAdd, GdInd, LdInd, DescLea, DescCall}
 use Rattle.sequence_forms.specs.declared.forms.Call.{Call}
@@ -38,7 +40,8 @@ first_of_sequence Gd = refl
 first_of_sequence form = refl
 
 -- where there is a second one, the first has a field
-pub first_has_field : (form : Form) (second : Second) → (row form).second ≡ Some second → field_width (row form).first ≡ 4
+pub first_has_field : (form : Form) (second : Second) → (row form).second ≡ Some second
+    → field_width (row form).first ≡ 4
 unfolding row
 first_has_field Gd second h = refl
 first_has_field Ld second h = refl

@@ -1,6 +1,7 @@
 -- The sections of an object, their code and their relocations.
 use Rattle.std.proofs.Common.{◌≡◌, ◌+◌, ◌*◌, ◌<◌, ◌≤◌, ◌==◌, ◌&&◌, ◌∙◌, ℕ, zero, suc, Bool, true, false, List}
-use Rattle.std.proofs.Common.{[], Option, Some, None, IsSome, is_some, nat_lt, if◌then◌else◌, refl, sym, ap, subst, arith}
+use Rattle.std.proofs.Common.{[], Option, Some, None, IsSome, is_some, nat_lt, if◌then◌else◌, refl, sym, ap, subst}
+use Rattle.std.proofs.Common.{arith}
 use Rattle.std.specs.Prelude.{unwrap_or}
 use Rattle.std.specs.List.{slice_get}
 use Rattle.std.proofs.lemmas.Option.{same_Some}
@@ -15,7 +16,8 @@ use Rattle.elf_object.specs.Classes.{kept_class, IsKeptSection}
 use Rattle.elf_object.specs.Faults.{Stands, IsObject}
 use Rattle.elf_object.specs.Laws.{table_of_kept}
 use Rattle.elf_object.specs.LawsOfParts.{class_of_section}
-use Rattle.elf_object.specs.Lent.{section_class, section_bytes, relocation_target, kept_relocation_table, relocations, relocations_in, relocations_from, relocation_at}
+use Rattle.elf_object.specs.Lent.{section_class, section_bytes, relocation_target, kept_relocation_table, relocations}
+use Rattle.elf_object.specs.Lent.{relocations_in, relocations_from, relocation_at}
 use Rattle.elf_object.specs.Parts.{header, section, rela, entry_count, IsRela}
 use Rattle.elf_object.specs.Relocations.{relocation_kind, field_width, width_of, Covers as CoversAt}
 use Rattle.sequence_match.specs.Code.{AreApart}
@@ -36,15 +38,18 @@ unfolding code_of
 code_past b s past = ap (λ class. bytes_of_code class (section_bytes b s)) (class_past b s past)
 
 -- the relocations that a section's table holds are that section's
-pub target_of_table : (b : List ℕ) (s : ℕ) → 0 < kept_relocation_table b s → relocation_target b (kept_relocation_table b s) ≡ s
+pub target_of_table : (b : List ℕ) (s : ℕ) → 0 < kept_relocation_table b s
+    → relocation_target b (kept_relocation_table b s) ≡ s
 unfolding relocation_target
 target_of_table b s some =
     let table = table_of_kept b s some in
     let r = kept_relocation_table b s in
     let P : ℕ → Type 0 = λ t. IsKeptSection b t in
     let kept : IsKeptSection b (section b r).info = subst P (sym table.2) table.0 in
-    all_true r (header b).e_shnum (section b r).kind (section b r).info s (is_some (section_class b (section b r).info)) table.1.0 table.1.1 table.2
-    (some_is (section_class b (section b r).info) (kept_class (section b (section b r).info)) (class_of_section b (section b r).info kept.0) kept.1)
+    all_true r (header b).e_shnum (section b r).kind (section b r).info s
+    (is_some (section_class b (section b r).info)) table.1.0 table.1.1 table.2
+    (some_is (section_class b (section b r).info) (kept_class (section b (section b r).info))
+    (class_of_section b (section b r).info kept.0) kept.1)
   where
     all_true : (r n k t s : ℕ) (kept : Bool) → (0 < r) × (r < n) → k ≡ 4 → t ≡ s → kept ≡ true
         → (if ((nat_lt 0 r && nat_lt r n) && (k == 4)) && kept then t else 0) ≡ s
@@ -66,11 +71,13 @@ covered b r e k inside =
     (inside.0, subst (λ w. k < (rela b r e).offset + w) width inside.1)
 
 -- entry number e of those that begin with number n
-entry_from : (b : List ℕ) (r e n count : ℕ) (x : Relocation) → slice_get (relocations_from b (section b r).offset n count) e ≡ Some x
+entry_from : (b : List ℕ) (r e n count : ℕ) (x : Relocation)
+    → slice_get (relocations_from b (section b r).offset n count) e ≡ Some x
     → (e < count) × (entry_at b r (n + e) ≡ x)
 unfolding relocations_from entry_at
 entry_from b r e n zero x h = absurd (cc)
-entry_from b r zero n (suc count) x h = (omega arith, ap (λ k. relocation_at ((section b r).offset + 24 * k) b) (plus_zero n) ∙ same_Some _ x h)
+entry_from b r zero n (suc count) x h =
+    (omega arith, ap (λ k. relocation_at ((section b r).offset + 24 * k) b) (plus_zero n) ∙ same_Some _ x h)
   where
     plus_zero : (n : ℕ) → n + 0 ≡ n
     plus_zero n = omega arith

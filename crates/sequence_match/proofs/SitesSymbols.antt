@@ -31,7 +31,8 @@ site_has_symbol : (b : List ℕ) (site : Site) → IsObject b → IsSite b site 
 site_has_symbol b site object is =
     let first = is.1.first in
     let x = first.0 in
-    let law : IsLawful b site.section x = of_each (IsLawful b site.section) (relocations b site.section) is.0 x (lawful b object site.section) first.1 in
+    let law : IsLawful b site.section x =
+    of_each (IsLawful b site.section) (relocations b site.section) is.0 x (lawful b object site.section) first.1 in
     let below = (law.symbol (λ nothing. is_some_type site.form (sym first.2.kind_is ∙ nothing))).1 in
     subst (λ n. n < symbol_count b) (sym first.3) below
 

@@ -1,5 +1,6 @@
 -- Lists of spans: how they are made, put in order and searched.
-use Rattle.std.proofs.Common.{◌≡◌, ◌+◌, ◌-◌, ◌<◌, ◌≤◌, ◌⊎◌, ◌∙◌, ◌++◌, ◌∷◌, ℕ, List, [], length, get_or, IsTrue, nat_lt, refl, sym, ap, subst, inl, inr, arith}
+use Rattle.std.proofs.Common.{◌≡◌, ◌+◌, ◌-◌, ◌<◌, ◌≤◌, ◌⊎◌, ◌∙◌, ◌++◌, ◌∷◌, ℕ, List, [], length, get_or, IsTrue, nat_lt}
+use Rattle.std.proofs.Common.{refl, sym, ap, subst, inl, inr, arith}
 use Rattle.std.specs.Prelude.{Some}
 use Rattle.std.specs.List.{AllWithin, Contains}
 use Rattle.std.proofs.lemmas.Bool.Decides.{nat_tests}
@@ -8,14 +9,16 @@ use Rattle.std.proofs.lemmas.List.Elements.{All-push, Contains-append_left, Cont
 use Rattle.elf_object.specs.declared.relocation.Relocation.{Relocation}
 use Rattle.sequence_match.specs.declared.index.Reach.{Reach}
 use Rattle.sequence_match.specs.declared.index.Span.{Span}
-use Rattle.sequence_match.specs.Code.{AreSpans, IsFirstFrom, IsLastBelow, IsRising, IsSpanOf, IsSplit, order_of, reach_width, span_of}
+use Rattle.sequence_match.specs.Code.{AreSpans, IsFirstFrom, IsLastBelow, IsRising, IsSpanOf, IsSplit, order_of}
+use Rattle.sequence_match.specs.Code.{reach_width, span_of}
 use Rattle.sequence_match.specs.Sites.{IsEntry}
 use Rattle.sequence_match.proofs.Entries.{same_entry}
 use Rattle.sequence_match.proofs.Found.{below_or_at}
 
 -- ** how they are made
 
-module _ (reach : Reach) (xs : List Relocation) (n : ℕ) (spans : List Span) (are : AreSpans reach xs n spans) (x : Relocation) (entry : IsEntry xs n x) where
+module _ (reach : Reach) (xs : List Relocation) (n : ℕ) (spans : List Span) (are : AreSpans reach xs n spans)
+    (x : Relocation) (entry : IsEntry xs n x) where
   wider : (k : ℕ) (d : Span) → k < length spans → IsSpanOf reach xs (n + 1) (get_or spans k d)
   wider k d inside = let h = are.only k d inside in (omega (arith, h.0), h.1, h.2)
 
@@ -37,12 +40,14 @@ module _ (reach : Reach) (xs : List Relocation) (n : ℕ) (spans : List Span) (a
   spans_more some = record {
     only = All-push (IsSpanOf reach xs (n + 1)) spans (span_of reach n x) wider (omega arith, some, (x, entry, refl));
     every = λ e y below at reached. elim (below_or_at e n below) [
-      | inl less ↦ Contains-append_left spans (span_of reach n x ∷ []) (span_of reach e y) (are.every e y less at reached)
+      | inl less ↦ Contains-append_left spans (span_of reach n x ∷ []) (span_of reach e y)
+          (are.every e y less at reached)
       | inr same ↦
           let P : ℕ → Type 0 = λ m. IsEntry xs m y in
           let eq = same_entry xs n y x (subst P same at) entry in
           let C : Span → Type 0 = λ s. Contains (spans ++ span_of reach n x ∷ []) s in
-          let whole : span_of reach n x ≡ span_of reach e y = ap (λ z. span_of reach n z) (sym eq) ∙ ap (λ m. span_of reach m y) (sym same) in
+          let whole : span_of reach n x ≡ span_of reach e y = ap (λ z. span_of reach n z) (sym eq)
+          ∙ ap (λ m. span_of reach m y) (sym same) in
           subst C whole (Contains-push spans (span_of reach n x))
     ];
   }
@@ -81,13 +86,15 @@ pub of_lt : (m n : ℕ) → m < n → IsTrue (nat_lt m n)
 of_lt m n h = grind (arith, nat_tests)
 
 module _ (spans : List Span) (rising : IsRising spans) (limit n : ℕ) where
-  pub below_last : (d : Span) → n ≤ length spans → 0 < n → (get_or spans (n - 1) d).offset < limit → AllWithin (λ span. span.offset < limit) spans 0 n
+  pub below_last : (d : Span) → n ≤ length spans → 0 < n → (get_or spans (n - 1) d).offset < limit
+      → AllWithin (λ span. span.offset < limit) spans 0 n
   below_last d few some last k e from inside =
       let order = rising.by_offset k (n - 1) e (omega arith) (omega arith) in
       let same = ap (λ s. s.offset) (get_or_default spans (n - 1) d e (omega arith)) in
       omega (arith, order, same, last)
 
-  pub above_first : (d : Span) → n < length spans → limit ≤ (get_or spans n d).offset → AllWithin (λ span. limit ≤ span.offset) spans n (length spans)
+  pub above_first : (d : Span) → n < length spans → limit ≤ (get_or spans n d).offset
+      → AllWithin (λ span. limit ≤ span.offset) spans n (length spans)
   above_first d some first k e from inside =
       let order = rising.by_offset n k e from inside in
       let same = ap (λ s. s.offset) (get_or_default spans n d e some) in

@@ -16,21 +16,25 @@ use Rattle.sequence_match.specs.Finding.{AreFindings, AreFindingsIn, AreGetters,
 use Rattle.sequence_match.proofs.Found.{stands_with}
 use Rattle.sequence_match.proofs.Tables.{sites_sorted}
 
-first_by : (P Q : ℕ → Type 0) → ((e : ℕ) → P e → Q e) → ((e : ℕ) → Q e → P e) → (o : Option ℕ) → IsFirstAt P o → IsFirstAt Q o
+first_by : (P Q : ℕ → Type 0) → ((e : ℕ) → P e → Q e) → ((e : ℕ) → Q e → P e) → (o : Option ℕ) → IsFirstAt P o
+    → IsFirstAt Q o
 first_by P Q to from None h = λ e q. h e (from e q)
 first_by P Q to from (Some e) h = (to e h.0, λ f less q. h.1 f less (from f q))
 
 -- code that is a section's
 module _ (code : Code) (b : List ℕ) (s : ℕ) (at : code.section ≡ s) (bytes_are : code.bytes.now ≡ code_of b s)
     (xs_are : code.relocations.now ≡ relocations b s) (are : AreGetters b code.getters.now) where
-  first_of : (kind : FaultKind) (o : Option ℕ) → IsFirstAt (StandsAt kind code.bytes.now code.relocations.now (Names code.getters.now)) o
+  first_of : (kind : FaultKind) (o : Option ℕ)
+      → IsFirstAt (StandsAt kind code.bytes.now code.relocations.now (Names code.getters.now)) o
       → IsFirstAt (StandsOf kind b s) o
   first_of kind o h =
       let B : List ℕ → Type 0 = λ c. IsFirstAt (StandsAt kind c code.relocations.now (Names code.getters.now)) o in
       let X : List Relocation → Type 0 = λ c. IsFirstAt (StandsAt kind (code_of b s) c (Names code.getters.now)) o in
       first_by (StandsAt kind (code_of b s) (relocations b s) (Names code.getters.now)) (StandsOf kind b s)
-      (λ e p. stands_with (Names code.getters.now) (IsGetter b) kind (code_of b s) (relocations b s) e (λ n. (are n).0) (λ n. (are n).1) p)
-      (λ e p. stands_with (IsGetter b) (Names code.getters.now) kind (code_of b s) (relocations b s) e (λ n. (are n).1) (λ n. (are n).0) p)
+      (λ e p. stands_with (Names code.getters.now) (IsGetter b) kind (code_of b s) (relocations b s) e (λ n. (are n).0)
+      (λ n. (are n).1) p)
+      (λ e p. stands_with (IsGetter b) (Names code.getters.now) kind (code_of b s) (relocations b s) e (λ n. (are n).1)
+      (λ n. (are n).0) p)
       o (subst X xs_are (subst B bytes_are h))
 
   pub findings_are : (found : Findings) → AreFindingsIn code found → AreFindings b s found
@@ -51,14 +55,16 @@ below_first kind b s e h =
     omega (arith, h.1, ap (kept_relocation_table b) zero, no_table b)
 
 -- where a fault stands, the section is one of those
-stands_below : (kind : FaultKind) (b : List ℕ) (n r e : ℕ) → (header b).e_shnum ≤ n → (h : Stands kind b r e) → StandsBelow kind b n h.1.0 e
+stands_below : (kind : FaultKind) (b : List ℕ) (n r e : ℕ) → (header b).e_shnum ≤ n → (h : Stands kind b r e)
+    → StandsBelow kind b n h.1.0 e
 stands_below kind b n r e all h =
     let some : 0 < kept_relocation_table b h.1.0 = omega (arith, h.0, h.1.1) in
     let table = table_of_kept b h.1.0 some in
     (omega (arith, all, table.0.0.1), some, h.1.2)
 
 -- what is found in all sections
-pub below_all : (kind : FaultKind) (b : List ℕ) (n : ℕ) (o : Option Spot) → (header b).e_shnum ≤ n → IsFirstBelow kind b n o → IsFirstOf kind b o
+pub below_all : (kind : FaultKind) (b : List ℕ) (n : ℕ) (o : Option Spot) → (header b).e_shnum ≤ n
+    → IsFirstBelow kind b n o → IsFirstOf kind b o
 below_all kind b n None all h = λ r e stands. h stands.1.0 e (stands_below kind b n r e all stands)
 below_all kind b n (Some spot) all h = (
   h.0,
@@ -73,7 +79,8 @@ only_two Sequence b s e h = inl refl
 only_two StrayCall b s e h = inr refl
 only_two _ b s e h = absurd h
 
-pub loose_fault : (b : List ℕ) (spot : Spot) → IsFirstOf Sequence b (Some spot) → IsFirst Stands b spot.table spot.entry Sequence
+pub loose_fault : (b : List ℕ) (spot : Spot) → IsFirstOf Sequence b (Some spot)
+    → IsFirst Stands b spot.table spot.entry Sequence
 loose_fault b spot h = record {
   here = h.0;
   nowhere_earlier = h.1;
@@ -83,7 +90,8 @@ loose_fault b spot h = record {
   ];
 }
 
-pub stray_fault : (b : List ℕ) (spot : Spot) → Nowhere Sequence b → IsFirstOf StrayCall b (Some spot) → IsFirst Stands b spot.table spot.entry StrayCall
+pub stray_fault : (b : List ℕ) (spot : Spot) → Nowhere Sequence b → IsFirstOf StrayCall b (Some spot)
+    → IsFirst Stands b spot.table spot.entry StrayCall
 stray_fault b spot none h = record {
   here = h.0;
   nowhere_earlier = h.1;
@@ -97,5 +105,6 @@ pub nowhere_of : (kind : FaultKind) (b : List ℕ) (o : Option Spot) → o ≡ N
 nowhere_of kind b None same h = h
 nowhere_of kind b (Some spot) same h = absurd (cc)
 
-pub first_at : (kind : FaultKind) (b : List ℕ) (o : Option Spot) (spot : Spot) → o ≡ Some spot → IsFirstOf kind b o → IsFirstOf kind b (Some spot)
+pub first_at : (kind : FaultKind) (b : List ℕ) (o : Option Spot) (spot : Spot) → o ≡ Some spot → IsFirstOf kind b o
+    → IsFirstOf kind b (Some spot)
 first_at kind b o spot same h = let P : Option Spot → Type 0 = λ x. IsFirstOf kind b x in subst P same h

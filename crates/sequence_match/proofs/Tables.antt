@@ -30,16 +30,26 @@ module _ (code : Code) (b : List ℕ) (s : ℕ) (at : code.section ≡ s) (bytes
       let B : List ℕ → Type 0 = λ c. IsSiteOf c code.relocations.now (IsGetter b) h.1.0 site in
       let X : List Relocation → Type 0 = λ c. IsSiteOf (code_of b s) c (IsGetter b) h.1.0 site in
       let S : ℕ → Type 0 = λ t. IsSiteOf (code_of b t) (relocations b t) (IsGetter b) h.1.0 site in
-      let is = site_with (Names code.getters.now) (IsGetter b) code.bytes.now code.relocations.now h.1.0 site (λ n. (are n).0) h.1.1 in
-      ((h.1.0, subst S (sym section) (subst X xs_are (subst B bytes_are is))), omega (arith, section), omega (arith, section))
+      let is = site_with (Names code.getters.now) (IsGetter b) code.bytes.now code.relocations.now h.1.0 site
+      (λ n. (are n).0) h.1.1 in (
+        (h.1.0, subst S (sym section) (subst X xs_are (subst B bytes_are is))),
+        omega (arith, section),
+        omega (arith, section),
+      )
 
   from_site : (site : Site) → IsSite b site → site.section ≡ s → IsOf code site
   from_site site h section =
       let B : List ℕ → Type 0 = λ c. IsSiteOf c code.relocations.now (IsGetter b) h.0 site in
       let X : List Relocation → Type 0 = λ c. IsSiteOf (code_of b s) c (IsGetter b) h.0 site in
       let S : ℕ → Type 0 = λ t. IsSiteOf (code_of b t) (relocations b t) (IsGetter b) h.0 site in
-      let is = subst B (sym bytes_are) (subst X (sym xs_are) (subst S section h.1)) in
-      (section ∙ sym at, (h.0, site_with (IsGetter b) (Names code.getters.now) code.bytes.now code.relocations.now h.0 site (λ n. (are n).1) is))
+      let is = subst B (sym bytes_are) (subst X (sym xs_are) (subst S section h.1)) in (
+        section ∙ sym at,
+        (
+          h.0,
+          site_with (IsGetter b) (Names code.getters.now) code.bytes.now code.relocations.now h.0 site
+              (λ n. (are n).1) is,
+        ),
+      )
 
   at_most : (m n : ℕ) → n ≤ m → m < n + 1 → m ≡ n
   at_most m n low high = omega arith
@@ -47,7 +57,8 @@ module _ (code : Code) (b : List ℕ) (s : ℕ) (at : code.section ≡ s) (bytes
   turned : (p q : Site) → p.start ≢ q.start → q.start ≢ p.start
   turned p q apart same = apart (sym same)
 
-  pub sites_sorted : (found sorted : List Site) → AreSitesIn code found → IsPermutation found sorted → IsNonDecreasingBy (λ site. site.start) sorted
+  pub sites_sorted : (found sorted : List Site) → AreSitesIn code found → IsPermutation found sorted
+      → IsNonDecreasingBy (λ site. site.start) sorted
       → AreSitesFrom b s (s + 1) sorted
   sites_sorted found sorted sites moved order =
       let all = All-permutation (IsOf code) found sorted moved sites.only in
@@ -55,7 +66,8 @@ module _ (code : Code) (b : List ℕ) (s : ℕ) (at : code.section ≡ s) (bytes
       let up = rises (λ (site : Site). site.start) sorted order apart in
       record {
         only = λ k d inside. to_site (get_or sorted k d) (all k d inside);
-        every = λ site is low high. Contains-permutation found sorted site moved (sites.every site (from_site site is (at_most site.section s low high)));
+        every = λ site is low high. Contains-permutation found sorted site moved
+            (sites.every site (from_site site is (at_most site.section s low high)));
         rising = λ i j d less inside. inr ((all i d (omega arith)).0 ∙ sym (all j d inside).0, up i j d less inside);
       }
 
@@ -67,17 +79,20 @@ all_pairs_append R xs ys left right cross i j d less inside =
     elim (cases_lt j (length xs)) [
       | inl low ↦
           let Q : Site → Type 0 = λ y. R (get_or xs i d) y in
-          subst P (sym (get_or_append_left xs ys d i (omega arith))) (subst Q (sym (get_or_append_left xs ys d j low)) (left i j d less low))
+          subst P (sym (get_or_append_left xs ys d i (omega arith)))
+          (subst Q (sym (get_or_append_left xs ys d j low)) (left i j d less low))
       | inr high ↦
           let here = get_or-append_right xs ys (length xs) j d refl high in
           elim (cases_lt i (length xs)) [
             | inl low ↦
                 let Q : Site → Type 0 = λ y. R (get_or xs i d) y in
-                subst P (sym (get_or_append_left xs ys d i low)) (subst Q (sym here) (cross i (j - length xs) d low (omega (arith, total))))
+                subst P (sym (get_or_append_left xs ys d i low))
+                (subst Q (sym here) (cross i (j - length xs) d low (omega (arith, total))))
             | inr far ↦
                 let there = get_or-append_right xs ys (length xs) i d refl far in
                 let Q : Site → Type 0 = λ y. R (get_or ys (i - length xs) d) y in
-                subst P (sym there) (subst Q (sym here) (right (i - length xs) (j - length xs) d (omega arith) (omega (arith, total))))
+                subst P (sym there) (subst Q (sym here)
+                (right (i - length xs) (j - length xs) d (omega arith) (omega (arith, total))))
           ]
     ]
 
@@ -85,7 +100,8 @@ below_or_at : (m n : ℕ) → m < n + 1 → (m < n) ⊎ (n ≤ m)
 below_or_at m n h = grind arith
 
 -- one section's sites more
-pub sites_append : (b : List ℕ) (n : ℕ) (xs ys : List Site) → 1 ≤ n → AreSitesFrom b 1 n xs → AreSitesFrom b n (n + 1) ys → AreSitesFrom b 1 (n + 1) (xs ++ ys)
+pub sites_append : (b : List ℕ) (n : ℕ) (xs ys : List Site) → 1 ≤ n → AreSitesFrom b 1 n xs
+    → AreSitesFrom b n (n + 1) ys → AreSitesFrom b 1 (n + 1) (xs ++ ys)
 sites_append b n xs ys above left right = record {
   only = All-append (λ site. IsSite b site × (1 ≤ site.section) × (site.section < n + 1)) xs ys
       (λ k d inside. let h = left.only k d inside in (h.0, h.1, omega (arith, h.2)))

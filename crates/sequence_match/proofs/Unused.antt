@@ -5,7 +5,8 @@ use Rattle.std.proofs.lemmas.List.Folds.{list_any_at}
 use Rattle.std.proofs.lemmas.Option.{slice_get_within, get_or_from_slice_get}
 use Rattle.object_rules.specs.declared.fault.FaultKind.TheVariants.{Sequence, StrayCall}
 use Rattle.elf_records.specs.declared.relocation.RelocationKind.{RelocationKind}
-use Rattle.elf_records.specs.declared.relocation.RelocationKind.TheVariants.{TlsGd, TlsLd, GotTpOff, GotPc32TlsDesc, TlsDescCall}
+use Rattle.elf_records.specs.declared.relocation.RelocationKind.TheVariants.{TlsGd, TlsLd, GotTpOff, GotPc32TlsDesc}
+use Rattle.elf_records.specs.declared.relocation.RelocationKind.TheVariants.{TlsDescCall}
 use Rattle.elf_object.specs.declared.relocation.Relocation.{Relocation}
 use Rattle.elf_object.specs.Faults.{IsFirstAt}
 use Rattle.elf_object.specs.Lent.{relocations}
@@ -40,7 +41,8 @@ module _ (getters : List Bool) (xs : List Relocation) (none : list_any (is_use g
   unused e x entry used =
       let P : Relocation → Type 0 = λ y. is_use getters y ≡ true in
       both_ways (list_any (is_use getters) xs)
-      (list_any_at (is_use getters) xs e x (slice_get_within xs e x entry) (subst P (sym (get_or_from_slice_get xs e x x entry)) used)) none
+      (list_any_at (is_use getters) xs e x (slice_get_within xs e x entry)
+      (subst P (sym (get_or_from_slice_get xs e x x entry)) used)) none
 
   no_sequence : (e : ℕ) (x : Relocation) → IsEntry xs e x → IsOfSequence x.kind → ⊥
   no_sequence e x entry of = unused e x entry (left_or _ _ (sequence_is x.kind of))
@@ -48,7 +50,8 @@ module _ (getters : List Bool) (xs : List Relocation) (none : list_any (is_use g
   no_getter : (e : ℕ) (x : Relocation) → IsEntry xs e x → Names getters x.symbol → ⊥
   no_getter e x entry names = unused e x entry (right_or (is_of_sequence x.kind) _ names)
 
-module _ (b : List ℕ) (s : ℕ) (getters : List Bool) (are : AreGetters b getters) (none : list_any (is_use getters) (relocations b s) ≡ false) where
+module _ (b : List ℕ) (s : ℕ) (getters : List Bool) (are : AreGetters b getters)
+    (none : list_any (is_use getters) (relocations b s) ≡ false) where
   pub none_loose : IsFirstAt (StandsOf Sequence b s) None
   none_loose e h = no_sequence getters (relocations b s) none e h.0 h.1 h.2
 

@@ -5,7 +5,7 @@ use Rattle.std.specs.List.{All, AllPairs, Contains}
 use Rattle.std.specs.List.Sorted.{IsNonDecreasingBy, IsPermutation}
 use Rattle.object_rules.specs.declared.fault.FaultKind.{FaultKind}
 use Rattle.object_rules.specs.declared.fault.FaultKind.TheVariants.{Sequence, StrayCall}
-pub use Rattle.elf_records.specs.RelocationRows.{is_of_sequence}
+pub use Rattle.elf_records.specs.RowLaws.{is_of_sequence}
 use Rattle.elf_object.specs.declared.relocation.Relocation.{Relocation}
 use Rattle.elf_object.specs.Faults.{Earlier, IsFirstAt}
 use Rattle.elf_object.specs.Lent.{kept_relocation_table}

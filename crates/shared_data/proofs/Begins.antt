@@ -1,5 +1,6 @@
 -- A line's first look leaves data as they were, and an open fills those of what it loads.
-use Rattle.std.proofs.Common.{◌≡◌, ◌∙◌, ◌⊎◌, ◌+◌, ◌++◌, ◌==◌, ℕ, Bool, true, false, List, [], Option, Some, None, refl, sym, ap, subst, inl, inr}
+use Rattle.std.proofs.Common.{◌≡◌, ◌∙◌, ◌⊎◌, ◌+◌, ◌++◌, ◌==◌, ℕ, Bool, true, false, List, [], Option, Some, None, refl}
+use Rattle.std.proofs.Common.{sym, ap, subst, inl, inr}
 use Rattle.std.specs.Prelude.{if◌then◌else◌, nat_le, length, slice_range}
 use Rattle.std.proofs.lemmas.Bool.{eq-eqb}
 use Rattle.guest_arithmetic.specs.Values.{Operations}
@@ -14,7 +15,9 @@ use Rattle.module_table.specs.Past.{close_refusal, module_of, open_refusal}
 use Rattle.transcript_text.specs.declared.outcomes.LineRefusal.TheVariants.{Length as TooLong}
 use Rattle.thread_blocks.specs.Held.{Held, block_bytes, loaded, looked, owned_by, reached}
 use Rattle.thread_blocks.specs.Instances.{Loads, instance_at, instances, left_by}
-use Rattle.thread_blocks.specs.Lines.{Line, begin_line, begun_at, begun_by, begun_close, begun_in, begun_open, begun_peek, event_at, event_by, refused, shown_from, shown_in, unless_refused, with_load}
+use Rattle.thread_blocks.specs.Lines.{Line, begin_line, begun_at, begun_by, begun_close, begun_in, begun_open}
+use Rattle.thread_blocks.specs.Lines.{begun_peek, event_at, event_by, refused, shown_from, shown_in, unless_refused}
+use Rattle.thread_blocks.specs.Lines.{with_load}
 use Rattle.thread_blocks.specs.Turns.{Begun, Says, Calls, Ending, with_event, with_last}
 use Rattle.shared_data.specs.Changes.{Change}
 use Rattle.shared_data.specs.Told.{filled_by, filled_unless}

@@ -62,7 +62,8 @@ count_line = record { image = 1; action = Call (0x66 ∷ []) 0 0 0 }
 abbrev counter_told : List (Change ℕ)
 counter_told = told_at counter_loads (λ thread. thread_turns counter_loads thread 4)
     (λ thread. machine_changes counter_loads thread) (λ thread. thread_accesses counter_loads thread)
-    (job_start plain_operations counter_loads ((count_line ∷ count_line ∷ []) ∷ (count_line ∷ []) ∷ [])) (1 ∷ 2 ∷ 1 ∷ [])
+    (job_start plain_operations counter_loads ((count_line ∷ count_line ∷ []) ∷ (count_line ∷ []) ∷ []))
+    (1 ∷ 2 ∷ 1 ∷ [])
 
 counted : counter_told
     ≡ Filled 1 (5 ∷ 0 ∷ 0 ∷ 0 ∷ [])

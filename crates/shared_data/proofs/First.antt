@@ -7,7 +7,8 @@ use Rattle.std.proofs.lemmas.Bool.{eq-eqb}
 use Rattle.guest_machine.specs.Ranges.{Range}
 use Rattle.loaded_modules.specs.declared.instance.Instance.{Instance}
 use Rattle.module_table.specs.declared.events.Event.{Event}
-use Rattle.thread_blocks.specs.Held.{Held, Owned, block_after, data_after, data_with, fresh_data, looked, looked_at, owned_by}
+use Rattle.thread_blocks.specs.Held.{Held, Owned, block_after, data_after, data_with, fresh_data, looked, looked_at}
+use Rattle.thread_blocks.specs.Held.{owned_by}
 use Rattle.thread_blocks.specs.Instances.{Loads, instances}
 use Rattle.shared_data.specs.Changes.{Change, Filled, last_left}
 use Rattle.shared_data.specs.Told.{filled, filled_with}

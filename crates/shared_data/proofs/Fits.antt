@@ -1,5 +1,6 @@
 -- What a thread holds after a look: each range lies where a live instance has it, and the data of each are all there.
-use Rattle.std.proofs.Common.{◌≡◌, ◌∙◌, ◌⊎◌, ◌-◌, ◌==◌, ◌++◌, ℕ, Bool, true, false, List, [], ◌∷◌, length, Option, Some, None, if◌then◌else◌, refl, sym, ap, subst, inl, inr}
+use Rattle.std.proofs.Common.{◌≡◌, ◌∙◌, ◌⊎◌, ◌-◌, ◌==◌, ◌++◌, ℕ, Bool, true, false, List, [], ◌∷◌, length, Option, Some}
+use Rattle.std.proofs.Common.{None, if◌then◌else◌, refl, sym, ap, subst, inl, inr}
 use Rattle.std.specs.Prelude.{not, slice_set}
 use Rattle.std.specs.List.{filter, find, flat_map}
 use Rattle.std.specs.Option.{option_or}
@@ -8,7 +9,8 @@ use Rattle.std.proofs.lemmas.List.{length-set}
 use Rattle.guest_operands.specs.declared.space.Access.TheVariants.{Write}
 use Rattle.guest_machine.specs.Ranges.{Range, grants, with_byte}
 use Rattle.loaded_modules.specs.declared.instance.Instance.{Instance}
-use Rattle.thread_blocks.specs.Held.{Block, Data, Kind, Owned, Owner, block_after, block_with, data_after, data_bytes, data_with, fresh_data, held_of, is_block, is_data_of, owned}
+use Rattle.thread_blocks.specs.Held.{Block, Data, Kind, Owned, Owner, block_after, block_with, data_after, data_bytes}
+use Rattle.thread_blocks.specs.Held.{data_with, fresh_data, held_of, is_block, is_data_of, owned}
 use Rattle.thread_blocks.specs.Instances.{Loads, block_start}
 use Rattle.shared_data.proofs.Left.{Each, each_append}
 
@@ -110,9 +112,11 @@ module _ {B : Type 0} (n : ℕ) where
           let same : z ≡ x = (let s : Some z ≡ Some x = rw is at e in let first = s in cc) in
           let more = flat_map (data_after l loads xs) live in
           ap (λ (y : Instance). find (λ (o : Owned B). is_data_of n o.owner) (data_after l loads xs y ++ more)) same
-          ∙ (ap (λ (bs : Option (List B)). find (λ (o : Owned B). is_data_of n o.owner) (data_with x (l.shared x) bs ++ more))
+          ∙ (ap (λ (bs : Option (List B)). find (λ (o : Owned B). is_data_of n o.owner)
+          (data_with x (l.shared x) bs ++ more))
           are
-          ∙ (ap (λ (r : Option (Range B)). find (λ (o : Owned B). is_data_of n o.owner) (data_with x r (Some bytes) ++ more))
+          ∙ (ap (λ (r : Option (Range B)). find (λ (o : Owned B). is_data_of n o.owner)
+          (data_with x r (Some bytes) ++ more))
           shared
           ∙ first_is x range bytes more t))
       | inr f ↦

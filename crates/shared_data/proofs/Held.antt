@@ -1,5 +1,6 @@
 -- What a thread holds after a look, a reach or a load, of data that hold what was left there last.
-use Rattle.std.proofs.Common.{◌≡◌, ◌∙◌, ◌⊎◌, ◌==◌, ℕ, Bool, true, false, List, [], ◌∷◌, ◌++◌, Option, Some, None, refl, sym, ap, subst, inl, inr}
+use Rattle.std.proofs.Common.{◌≡◌, ◌∙◌, ◌⊎◌, ◌==◌, ℕ, Bool, true, false, List, [], ◌∷◌, ◌++◌, Option, Some, None, refl}
+use Rattle.std.proofs.Common.{sym, ap, subst, inl, inr}
 use Rattle.std.specs.Prelude.{is_some, slice_get}
 use Rattle.std.specs.List.{flat_map}
 use Rattle.std.specs.Option.{option_or}
@@ -7,12 +8,15 @@ use Rattle.std.proofs.lemmas.Bool.{cases_eq, eq-eqb, ne_eqb}
 use Rattle.guest_machine.specs.Ranges.{Range}
 use Rattle.loaded_modules.specs.declared.instance.Instance.{Instance}
 use Rattle.module_table.specs.declared.events.Event.{Event}
-use Rattle.thread_blocks.specs.Held.{Data, Held, Owned, block_after, data_after, data_bytes, data_with, fresh_data, held_of, is_block, loaded, loaded_at, looked, looked_at, owned, owned_by, owners_of, ranges_in, reached, reached_at, with_owned}
+use Rattle.thread_blocks.specs.Held.{Data, Held, Owned, block_after, data_after, data_bytes, data_with, fresh_data}
+use Rattle.thread_blocks.specs.Held.{held_of, is_block, loaded, loaded_at, looked, looked_at, owned, owned_by}
+use Rattle.thread_blocks.specs.Held.{owners_of, ranges_in, reached, reached_at, with_owned}
 use Rattle.thread_blocks.specs.Instances.{Loads, instances}
 use Rattle.shared_data.specs.Changes.{Change, Filled, last_left}
 use Rattle.shared_data.specs.Told.{filled, filled_with}
 use Rattle.shared_data.proofs.Last.{append_none, filled_other, filled_there, last_reached, last_spared}
-use Rattle.shared_data.proofs.Fits.{Fits, HasAll, HasIts, HaveOwnNumbers, IsBlock, IsLive, all_blocks, held_fits, keeps_its}
+use Rattle.shared_data.proofs.Fits.{Fits, HasAll, HasIts, HaveOwnNumbers, IsBlock, IsLive, all_blocks, held_fits}
+use Rattle.shared_data.proofs.Fits.{keeps_its}
 use Rattle.shared_data.proofs.Left.{Apart, AreLeft, Each, IsLeft, Other, each_any, each_append, found_left}
 
 -- what has the number of x is x

@@ -1,18 +1,20 @@
 -- The laws, of any threads, and of the machine's.
-use Rattle.std.proofs.Common.{◌≡◌, ◌∙◌, ◌+◌, ◌<◌, ◌≤◌, ◌++◌, ℕ, zero, suc, List, [], ◌∷◌, length, Option, Some, None, if◌then◌else◌, refl, ap, subst, arith}
+use Rattle.std.proofs.Common.{◌≡◌, ◌∙◌, ◌+◌, ◌<◌, ◌≤◌, ◌++◌, ℕ, zero, suc, List, [], ◌∷◌, length, Option, Some, None}
+use Rattle.std.proofs.Common.{if◌then◌else◌, refl, ap, subst, arith}
 use Rattle.std.specs.Prelude.{ok_or, option_map}
 use Rattle.address_map.specs.Map.{stack_start}
 use Rattle.guest_arithmetic.specs.Plain.{plain_operations}
 use Rattle.guest_operands.specs.declared.space.Access.TheVariants.{Read}
 use Rattle.guest_machine.specs.Access.{Accesses, Refused}
 use Rattle.guest_machine.specs.Ranges.{grants}
-use Rattle.guest_machine.specs.Run.{run, state_after}
+use Rattle.guest_machine.specs.Run.{run}
+use Rattle.guest_machine.specs.RunLaws.{state_after}
 use Rattle.guest_machine.specs.State.{start_of}
 use Rattle.guest_machine.specs.Use.{left as left_of}
 use Rattle.job_meaning.specs.declared.values.Byte.{Byte}
 use Rattle.job_text.specs.declared.thread_lines.ThreadLine.{ThreadLine}
 use Rattle.module_table.specs.declared.events.Event.{Event}
-use Rattle.module_table.specs.History.{IsLegal}
+use Rattle.module_table.specs.Past.{IsLegal}
 use Rattle.thread_blocks.specs.Held.{Held, Owned, Owner, data_bytes, owned, owned_by}
 use Rattle.thread_blocks.specs.Instances.{Loads, fixed_at, instances, numbered_instance}
 use Rattle.thread_blocks.specs.JobWorlds.{Shared, job_start, job_world, ready_from}
@@ -25,7 +27,9 @@ use Rattle.whole_meaning.specs.Jobs.{meant_world}
 use Rattle.whole_meaning.specs.Meanings.{Meaning}
 use Rattle.whole_meaning.specs.Threads.{meant_accesses, meant_turns, ops}
 use Rattle.shared_data.specs.Changes.{Change, data_found, last_left}
-use Rattle.shared_data.specs.Laws.{DataLast, DataThere, JobsAreOrders, MachineDataAreThere, MachineDataLast, MachineReadsLast, MeaningsAreOrders, MeantDataAreThere, MeantDataLast, MeantReadsLast, NotesFollowMeaning, ReadsLast, at_order, event, told_at}
+use Rattle.shared_data.specs.Laws.{DataLast, DataThere, JobsAreOrders, MachineDataAreThere, MachineDataLast}
+use Rattle.shared_data.specs.Laws.{MachineReadsLast, MeaningsAreOrders, MeantDataAreThere, MeantDataLast}
+use Rattle.shared_data.specs.Laws.{MeantReadsLast, NotesFollowMeaning, ReadsLast, at_order, event, told_at}
 use Rattle.shared_data.specs.Places.{LiesLow}
 use Rattle.shared_data.specs.Steps.{machine_changes, meant_changes}
 use Rattle.shared_data.specs.Told.{first_filled, run_told, turn_filled}
@@ -47,7 +51,8 @@ module _ {W F B : Type 0} (l : Loads B) (x : ℕ → Turns (Held W F B) Line Eve
     (first : WorldHolds l (first_filled l) start) where
   pub data_last : DataLast l x changes acc start
   data_last order instance offset bytes byte found e =
-      found_left (told_at l x changes acc start order) (at_order l x changes acc start order).shared instance bytes found
+      found_left (told_at l x changes acc start order)
+      (at_order l x changes acc start order).shared instance bytes found
       (world_order l x changes tell order (first_filled l) start first).left offset byte e
 
   -- what a thread's memory gives at a place of data
@@ -85,7 +90,8 @@ module _ {W F B : Type 0} (l : Loads B) (x : ℕ → Turns (Held W F B) Line Eve
       ++ (turn_filled l x (event l x changes acc start) changes w i t ++ run_told (x i).steps
       (changes i) steps from.1) in
       let world = world_order l x changes tell order (first_filled l) start first in
-      let holds = world_within l x changes tell (told_at l x changes acc start order) w i t from steps world mine begun in
+      let holds = world_within l x changes tell
+      (told_at l x changes acc start order) w i t from steps world mine begun in
       let seen = own_events l x changes tell w i t in
       let legal = legal_within l x changes tell (told_at l x changes acc start order) w i t world in
       let some = positive w.threads i t mine in
@@ -110,11 +116,13 @@ module _ {W F B : Type 0} (l : Loads B) (x : ℕ → Turns (Held W F B) Line Eve
 -- ** the machine
 
 module _ (l : Loads ℕ) (legal : IsLegal l.infos l.last_offset []) where
-  ready_blocks : (thread : ℕ) (lines : List (List ThreadLine)) → Each HoldsBlocks (ready_from plain_operations l thread lines)
+  ready_blocks : (thread : ℕ) (lines : List (List ThreadLine))
+      → Each HoldsBlocks (ready_from plain_operations l thread lines)
   ready_blocks thread [] = tt
   ready_blocks thread (own ∷ more) = (
     look_blocks l thread [] (record {
-      after = left_of (start_of plain_operations 0 0 (plain_operations.word 0) (plain_operations.word 0) (plain_operations.word 0)) (record { seen = []; stack = []; own = [] });
+      after = left_of (start_of plain_operations 0 0 (plain_operations.word 0) (plain_operations.word 0)
+          (plain_operations.word 0)) (record { seen = []; stack = []; own = [] });
       owners = [];
       asked = None;
     }) refl,
@@ -143,19 +151,22 @@ machine_reads l i log space os place at left e =
 pub machine_data_last : MachineDataLast
 machine_data_last l fuel lines legal =
     data_last l (λ thread. thread_turns l thread fuel) (λ thread. machine_changes l thread)
-    (λ thread. thread_accesses l thread) (job_start plain_operations l lines) (λ i. machine_tells l i fuel) (first_holds l legal lines)
+    (λ thread. thread_accesses l thread) (job_start plain_operations l lines) (λ i. machine_tells l i fuel)
+    (first_holds l legal lines)
 
 pub machine_reads_last : MachineReadsLast
 machine_reads_last l fuel lines legal =
     reads_last l (λ thread. thread_turns l thread fuel) (λ thread. machine_changes l thread)
-    (λ thread. thread_accesses l thread) (job_start plain_operations l lines) (λ i. machine_tells l i fuel) (first_holds l legal lines)
+    (λ thread. thread_accesses l thread) (job_start plain_operations l lines) (λ i. machine_tells l i fuel)
+    (first_holds l legal lines)
     (machine_reads l)
 
 pub machine_there : MachineDataAreThere
 machine_there = (
   (λ l fuel lines legal low.
       data_there l (λ thread. thread_turns l thread fuel) (λ thread. machine_changes l thread)
-      (λ thread. thread_accesses l thread) (job_start plain_operations l lines) (λ i. machine_tells l i fuel) (first_holds l legal lines)
+      (λ thread. thread_accesses l thread) (job_start plain_operations l lines) (λ i. machine_tells l i fuel)
+      (first_holds l legal lines)
       low (machine_reads l)),
   data_held,
 )
@@ -167,18 +178,21 @@ jobs_are_orders l fuel lines order = refl
 -- ** the meaning
 
 module _ (m : Meaning) (legal : IsLegal m.loads.infos m.loads.last_offset []) where
-  meant_ready_blocks : (thread : ℕ) (lines : List (List ThreadLine)) → Each HoldsBlocks (ready_from ops m.loads thread lines)
+  meant_ready_blocks : (thread : ℕ) (lines : List (List ThreadLine))
+      → Each HoldsBlocks (ready_from ops m.loads thread lines)
   meant_ready_blocks thread [] = tt
   meant_ready_blocks thread (own ∷ more) = (
     look_blocks m.loads thread [] (record {
-      after = left_of (start_of ops 0 0 (ops.word 0) (ops.word 0) (ops.word 0)) (record { seen = []; stack = []; own = [] });
+      after = left_of (start_of ops 0 0 (ops.word 0) (ops.word 0) (ops.word 0))
+          (record { seen = []; stack = []; own = [] });
       owners = [];
       asked = None;
     }) refl,
     meant_ready_blocks (suc thread) more,
   )
 
-  meant_first : (lines : List (List ThreadLine)) → WorldHolds m.loads (first_filled m.loads) (job_start ops m.loads lines)
+  meant_first : (lines : List (List ThreadLine))
+      → WorldHolds m.loads (first_filled m.loads) (job_start ops m.loads lines)
   meant_first lines = record {
     legal = legal;
     left = data_first m.loads (instances m.loads []) (numbers_own m.loads [] legal);
@@ -199,19 +213,22 @@ meant_reads m i log space os place at left e =
 pub meant_data_last : MeantDataLast
 meant_data_last m fuel lines legal =
     data_last m.loads (λ thread. meant_turns m thread fuel) (λ thread. meant_changes m thread)
-    (λ thread. meant_accesses m thread) (job_start ops m.loads lines) (λ i. meant_tells m i fuel) (meant_first m legal lines)
+    (λ thread. meant_accesses m thread) (job_start ops m.loads lines) (λ i. meant_tells m i fuel)
+    (meant_first m legal lines)
 
 pub meant_reads_last : MeantReadsLast
 meant_reads_last m fuel lines legal =
     reads_last m.loads (λ thread. meant_turns m thread fuel) (λ thread. meant_changes m thread)
-    (λ thread. meant_accesses m thread) (job_start ops m.loads lines) (λ i. meant_tells m i fuel) (meant_first m legal lines)
+    (λ thread. meant_accesses m thread) (job_start ops m.loads lines) (λ i. meant_tells m i fuel)
+    (meant_first m legal lines)
     (meant_reads m)
 
 pub meant_there : MeantDataAreThere
 meant_there = (
   (λ m fuel lines legal low.
       data_there m.loads (λ thread. meant_turns m thread fuel) (λ thread. meant_changes m thread)
-      (λ thread. meant_accesses m thread) (job_start ops m.loads lines) (λ i. meant_tells m i fuel) (meant_first m legal lines)
+      (λ thread. meant_accesses m thread) (job_start ops m.loads lines) (λ i. meant_tells m i fuel)
+      (meant_first m legal lines)
       low (meant_reads m)),
   data_held,
 )

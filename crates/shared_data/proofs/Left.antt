@@ -1,12 +1,14 @@
 -- Data that hold what was left there last, and what a store makes of them.
-use Rattle.std.proofs.Common.{◌≡◌, ◌∙◌, ◌-◌, ◌==◌, ℕ, Bool, true, false, not, List, [], ◌∷◌, ◌++◌, Some, None, if◌then◌else◌, refl, sym, ap, subst, inl, inr}
+use Rattle.std.proofs.Common.{◌≡◌, ◌∙◌, ◌-◌, ◌==◌, ℕ, Bool, true, false, not, List, [], ◌∷◌, ◌++◌, Some, None}
+use Rattle.std.proofs.Common.{if◌then◌else◌, refl, sym, ap, subst, inl, inr}
 use Rattle.std.specs.Prelude.{slice_get, slice_set}
 use Rattle.std.proofs.lemmas.Bool.{cases_eq, cases_Bool, and_parts, eqb-true}
 use Rattle.guest_operands.specs.declared.space.Access.TheVariants.{Write}
 use Rattle.guest_machine.specs.Ranges.{Range, grants, with_byte}
 use Rattle.thread_blocks.specs.Held.{Block, Data, Kind, Owned, Owner, data_bytes, is_block, is_data_of, owned}
 use Rattle.shared_data.specs.Changes.{Change, Written, last_left, written_in, written_to}
-use Rattle.shared_data.proofs.Last.{append_none, last_reached, last_spared, set_elsewhere, set_there, written_elsewhere, written_other, written_there}
+use Rattle.shared_data.proofs.Last.{append_none, last_reached, last_spared, set_elsewhere, set_there, written_elsewhere}
+use Rattle.shared_data.proofs.Last.{written_other, written_there}
 
 -- each of a list
 abbrev pub Each : {X : Type 0} → (X → Type 0) → List X → Type 0
@@ -128,7 +130,8 @@ module _ {B : Type 0} where
 
   -- ** what is found
 
-  found_first : (log : List (Change B)) (n : ℕ) (x : Owned B) (t : is_data_of n x.owner ≡ true) (k : ℕ) (b : B) → IsLeft log x
+  found_first : (log : List (Change B)) (n : ℕ) (x : Owned B) (t : is_data_of n x.owner ≡ true) (k : ℕ) (b : B)
+      → IsLeft log x
       → slice_get x.range.bytes k ≡ Some b → last_left n k log ≡ Some b
   found_first log n x t k b left e =
       let both = and_parts (not (is_block x.owner.kind)) (x.owner.instance == n) t in

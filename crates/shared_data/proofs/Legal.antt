@@ -1,5 +1,6 @@
 -- The events of a job are legal, whatever its threads hold. Who is live behind one was so before, or is loaded by it.
-use Rattle.std.proofs.Common.{◌≡◌, ◌∙◌, ◌⊎◌, ◌+◌, ◌-◌, ℕ, true, false, List, [], ◌∷◌, Option, Some, None, refl, sym, ap, subst, inl, inr, append-nil}
+use Rattle.std.proofs.Common.{◌≡◌, ◌∙◌, ◌⊎◌, ◌+◌, ◌-◌, ℕ, true, false, List, [], ◌∷◌, Option, Some, None, refl, sym, ap}
+use Rattle.std.proofs.Common.{subst, inl, inr, append-nil}
 use Rattle.std.specs.Prelude.{option_and_then}
 use Rattle.std.proofs.lemmas.Bool.{cases_Bool, cases_eq, lt-ltb}
 use Rattle.std.proofs.lemmas.List.{get_or-set_other}
@@ -12,9 +13,10 @@ use Rattle.loaded_modules.specs.declared.instance.Instance.{Instance}
 use Rattle.module_table.specs.declared.events.Event.{Event}
 use Rattle.module_table.specs.declared.modules.ImageInfo.{ImageInfo}
 use Rattle.module_table.specs.declared.modules.Module.{Module}
-use Rattle.module_table.specs.History.{IsLegal}
+use Rattle.module_table.specs.Past.{IsLegal}
 use Rattle.module_table.specs.Modules.{is_loaded, no_module}
-use Rattle.module_table.specs.Past.{Past, accepts, after_one, close_refusal, loaded, module_of, new_instance, open_refusal, opened, past, released, retained, start, with_uses}
+use Rattle.module_table.specs.Past.{Past, accepts, after_one, close_refusal, loaded, module_of, new_instance}
+use Rattle.module_table.specs.Past.{open_refusal, opened, past, released, retained, start, with_uses}
 use Rattle.module_table.specs.Tables.{IsPast}
 use Rattle.module_table.specs.Walks.{legal_push, past-append}
 use Rattle.module_table.proofs.Along.{past_legal}
@@ -44,7 +46,8 @@ close_accepted p e found opens same =
 
 module _ {B : Type 0} (l : Loads B) (thread : ℕ) where
   accepted_by : (number image : ℕ) (action : Action) (seen : List Event) (found : Event)
-      → event_by l thread (record { number = number; told = record { image = image; action = action } }) seen ≡ Some found
+      → event_by l thread (record { number = number; told = record { image = image; action = action } }) seen
+      ≡ Some found
       → accepts (left_by l seen) found ≡ true
   accepted_by number image (Call symbol a b c) seen found same = cc
   accepted_by number image Open seen found same =
@@ -143,7 +146,8 @@ module _ {B : Type 0} (l : Loads B) (seen : List Event) (legal : IsLegal l.infos
                 (
                   f,
                   ap (λ (q : Past). loaded_instance l.infos e.image (module_of q e.image)) (whole ∙ is_load)
-                      ∙ subst (λ (i : ℕ). loaded_instance l.infos i (module_of (loaded now e.image) i) ≡ Some y) same here,
+                      ∙ subst (λ (i : ℕ). loaded_instance l.infos i (module_of (loaded now e.image) i)
+                      ≡ Some y) same here,
                 ),
               )
           | inr ne ↦

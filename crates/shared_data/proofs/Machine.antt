@@ -1,5 +1,6 @@
 -- A thread of the machine: its steps and its looks do with data what is told of them.
-use Rattle.std.proofs.Common.{◌≡◌, ◌++◌, ℕ, Bool, true, false, List, [], Option, Some, None, Result, Ok, Err, if◌then◌else◌, refl, sym, ap, subst}
+use Rattle.std.proofs.Common.{◌≡◌, ◌++◌, ℕ, Bool, true, false, List, [], Option, Some, None, Result, Ok, Err}
+use Rattle.std.proofs.Common.{if◌then◌else◌, refl, sym, ap, subst}
 use Rattle.std.specs.Prelude.{is_none}
 use Rattle.address_map.specs.Map.{stack_start}
 use Rattle.guest_arithmetic.specs.Plain.{plain_operations}
@@ -18,8 +19,11 @@ use Rattle.transcript_text.specs.declared.outcomes.Outcome.TheVariants.{Fault}
 use Rattle.thread_blocks.specs.declared.asked.Asked.{Asked}
 use Rattle.thread_blocks.specs.Held.{Owned, Owner, looked, owned_by, reached}
 use Rattle.thread_blocks.specs.Instances.{Loads, instance_with_id, instances, is_startup_id, numbered_instance}
-use Rattle.thread_blocks.specs.RunTime.{Runs, answer_word, answered, asked_at, asked_next, found_at_once, goes_answered, resume_line, resumed_by, resumed_in, shows, thread_accesses, thread_next, thread_steps, thread_turns, resumed}
-use Rattle.thread_blocks.specs.Spaces.{Space, after_of, next_image, no_field, put_byte, space_accesses}
+use Rattle.thread_blocks.specs.RunTime.{Runs, answer_word, answered, asked_at, asked_next, found_at_once, goes_answered}
+use Rattle.thread_blocks.specs.RunTime.{resume_line, resumed_by, resumed_in, shows, thread_accesses, thread_next}
+use Rattle.thread_blocks.specs.RunTime.{thread_steps, thread_turns, resumed}
+use Rattle.thread_blocks.specs.Spaces.{Space, next_image, no_field, put_byte, space_accesses}
+use Rattle.thread_blocks.specs.SpaceLaws.{after_of}
 use Rattle.thread_blocks.specs.Turns.{Answered, Begun, Says}
 use Rattle.thread_blocks.proofs.Image.{machine_image}
 use Rattle.shared_data.specs.Changes.{Change, Noted, noted_by, noting, unchanged}
@@ -30,7 +34,8 @@ use Rattle.shared_data.proofs.Fits.{HasAll, put_fits}
 use Rattle.shared_data.proofs.Held.{Holds, Numbered, Stands, look_holds, reach_holds}
 use Rattle.shared_data.proofs.Last.{append_none}
 use Rattle.shared_data.proofs.Left.{AreLeft}
-use Rattle.shared_data.proofs.Noting.{Keeps, NotedHolds, Proved, ResultKeeps, StoresKeep, noted_holds, noting_image, plain, proved_accesses, proved_image, then_keeps}
+use Rattle.shared_data.proofs.Noting.{Keeps, NotedHolds, Proved, ResultKeeps, StoresKeep, noted_holds, noting_image}
+use Rattle.shared_data.proofs.Noting.{plain, proved_accesses, proved_image, then_keeps}
 use Rattle.shared_data.proofs.Turns.{NextHolds, TellAll}
 
 -- ** the machine

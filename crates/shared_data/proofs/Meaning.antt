@@ -1,5 +1,6 @@
 -- A thread of the meaning: its steps and its looks do with data what is told of them.
-use Rattle.std.proofs.Common.{◌≡◌, ◌++◌, ℕ, zero, suc, Bool, true, false, List, Option, Some, None, Result, Ok, Err, refl, sym, ap, subst}
+use Rattle.std.proofs.Common.{◌≡◌, ◌++◌, ℕ, zero, suc, Bool, true, false, List, Option, Some, None, Result, Ok, Err}
+use Rattle.std.proofs.Common.{refl, sym, ap, subst}
 use Rattle.std.specs.Prelude.{option_map, unwrap_or}
 use Rattle.address_map.specs.Map.{stack_start}
 use Rattle.amd64_subset.specs.declared.instr.Decoded.{Decoded}
@@ -23,7 +24,8 @@ use Rattle.sequence_forms.specs.declared.forms.Form.{Form}
 use Rattle.sequence_forms.specs.declared.forms.Form.TheVariants.{Gd, Ld, IeMov, IeAdd, GdInd, LdInd, DescLea, DescCall}
 use Rattle.thread_blocks.specs.Held.{Owned, Owner, looked, owned_by, reached}
 use Rattle.thread_blocks.specs.Instances.{instances, numbered_instance}
-use Rattle.thread_blocks.specs.Spaces.{IsImage, mapped, put_byte, space_accesses}
+use Rattle.thread_blocks.specs.Spaces.{put_byte, space_accesses}
+use Rattle.thread_blocks.specs.SpaceLaws.{IsImage, mapped}
 use Rattle.thread_blocks.proofs.Image.{act_image}
 use Rattle.whole_meaning.specs.declared.marks.Mark.{Mark}
 use Rattle.whole_meaning.specs.declared.sequences.Sequence.{Sequence}
@@ -31,8 +33,12 @@ use Rattle.whole_meaning.specs.Fields.{address_at, lent, lent_frame, marked_fram
 use Rattle.whole_meaning.specs.Meanings.{Meaning}
 use Rattle.whole_meaning.specs.Reading.{done, marked_step, plain_step}
 use Rattle.whole_meaning.specs.Running.{meaning}
-use Rattle.whole_meaning.specs.Sequences.{Stack, added, after_call, called_with, descriptor_called, descriptor_calls, does, looks_first, own_base, sequence_result, stack_use, variable_address, variable_distance, with_sum, without_flags}
-use Rattle.whole_meaning.specs.Threads.{Meant, Memory, begin_meant, held_next, meant_accesses, meant_mark, meant_shut, meant_show, meant_stack, meant_steps, meant_turns, ops, resume_meant, resumed_at, resumed_by, resumed_for, sequence_at, sequence_does, sequence_next}
+use Rattle.whole_meaning.specs.Sequences.{Stack, added, after_call, called_with, descriptor_called, descriptor_calls}
+use Rattle.whole_meaning.specs.Sequences.{does, looks_first, own_base, sequence_result, stack_use, variable_address}
+use Rattle.whole_meaning.specs.Sequences.{variable_distance, with_sum, without_flags}
+use Rattle.whole_meaning.specs.Threads.{Meant, Memory, begin_meant, held_next, meant_accesses, meant_mark, meant_shut}
+use Rattle.whole_meaning.specs.Threads.{meant_show, meant_stack, meant_steps, meant_turns, ops, resume_meant}
+use Rattle.whole_meaning.specs.Threads.{resumed_at, resumed_by, resumed_for, sequence_at, sequence_does, sequence_next}
 use Rattle.shared_data.specs.Changes.{Change, Noted, noted_by, noting, unchanged}
 use Rattle.shared_data.specs.Steps.{changes_at, meant_changes}
 use Rattle.shared_data.proofs.Begins.{BegunHolds, begin_holds}
@@ -127,9 +133,19 @@ module _ (m : Meaning) (thread : ℕ) where
 
       lent_proved : (number : Option ℕ) → IsImage (lent ops lender number) (lent ops (noter os) number) bare
       lent_proved None =
-          record { byte = λ p place. refl; writes = λ p place. refl; put = λ p place byte. refl; code = λ p place. refl }
+          record {
+            byte = λ p place. refl;
+            writes = λ p place. refl;
+            put = λ p place byte. refl;
+            code = λ p place. refl;
+          }
       lent_proved (Some number) =
-          record { byte = λ p place. refl; writes = λ p place. refl; put = λ p place byte. refl; code = λ p place. refl }
+          record {
+            byte = λ p place. refl;
+            writes = λ p place. refl;
+            put = λ p place byte. refl;
+            code = λ p place. refl;
+          }
 
       abbrev ResultNoted : Result NotedAt Stop → Type 0
       ResultNoted (Ok at) = Keeps Here (log ++ at.memory.changes) os at.memory.space
@@ -146,7 +162,8 @@ module _ (m : Meaning) (thread : ℕ) where
       done_noted mark None (Some it) state p =
           let number = address_at mark state.place it.disp in
           let frame = lent_frame number (marked_frame mark state.place it) in
-          subst ResultNoted (sym (act_image ops (lent ops lender number) (lent ops (noter os) number) bare (lent_proved number)
+          subst ResultNoted (sym (act_image ops (lent ops lender number) (lent ops (noter os) number) bare
+          (lent_proved number)
           frame it.instr.operation state p))
           (mapped_noted (act ops (lent ops lender number) frame it.instr.operation state p))
 
@@ -181,7 +198,8 @@ module _ (m : Meaning) (thread : ℕ) where
     -- an instruction
     marked_keeps : (log : List (Change Byte)) (os : List Owner) (mark : ℕ → Mark) (shut : ℕ → Bool) (at : At)
         → Keeps Here log os at.memory
-        → ResultKeeps Here (log ++ noted_by (next_of (plain_step ops (noter os) mark at.state (unchanged at.memory)))) os
+        → ResultKeeps Here (log
+        ++ noted_by (next_of (plain_step ops (noter os) mark at.state (unchanged at.memory)))) os
         (marked_step ops acc mark shut at.state at.memory)
     unfolding marked_step
     marked_keeps log os mark shut at keeps =

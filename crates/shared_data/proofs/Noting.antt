@@ -1,5 +1,6 @@
 -- A memory that notes its stores keeps data as they were left.
-use Rattle.std.proofs.Common.{◌≡◌, ◌++◌, ℕ, Bool, true, false, List, [], Result, Ok, Err, if◌then◌else◌, refl, sym, subst}
+use Rattle.std.proofs.Common.{◌≡◌, ◌++◌, ℕ, Bool, true, false, List, [], Result, Ok, Err, if◌then◌else◌, refl, sym}
+use Rattle.std.proofs.Common.{subst}
 use Rattle.guest_operands.specs.declared.space.Access.TheVariants.{Write}
 use Rattle.guest_operands.specs.declared.stop.Stop.{Stop}
 use Rattle.guest_machine.specs.Access.{Accesses}
@@ -7,7 +8,8 @@ use Rattle.guest_machine.specs.Ranges.{Range, grants, with_byte}
 use Rattle.guest_machine.specs.Run.{Next, Goes, Ends, Looks}
 use Rattle.guest_machine.specs.Use.{◌>>=◌, After}
 use Rattle.thread_blocks.specs.Held.{Owned, Owner, owned}
-use Rattle.thread_blocks.specs.Spaces.{IsImage, Space, after_of, next_image, put_byte, stack_range}
+use Rattle.thread_blocks.specs.Spaces.{Space, next_image, put_byte, stack_range}
+use Rattle.thread_blocks.specs.SpaceLaws.{IsImage, after_of}
 use Rattle.shared_data.specs.Changes.{Change, Noted, changed_by, noting, written_in}
 use Rattle.shared_data.proofs.Last.{append_append, append_none}
 use Rattle.shared_data.proofs.Left.{Apart, AreLeft, written_left}
@@ -72,50 +74,52 @@ module _ {E B : Type 0} (stack : ℕ) (os : List Owner) (acc : Accesses (Space E
   }
 
   module _ (Stands : List E → List (Owned B) → Type 0) (stores : StoresKeep Stands) (log : List (Change B))
-      (puts : (space : Space E B) (place : ℕ) (byte : B) → acc.put space place byte ≡ put_byte stack space place byte) where
-    -- a noting memory with a proof that it keeps what it notes
-    abbrev pub Proved : Type 0
-    Proved = (noted : Noted E B) × Keeps Stands (log ++ noted.changes) os noted.space
+      (puts : (space : Space E B) (place : ℕ) (byte : B) → acc.put space place byte ≡ put_byte stack space place byte)
+    where
+      -- a noting memory with a proof that it keeps what it notes
+      abbrev pub Proved : Type 0
+      Proved = (noted : Noted E B) × Keeps Stands (log ++ noted.changes) os noted.space
 
-    abbrev pub plain : Proved → Noted E B
-    plain p = p.0
+      abbrev pub plain : Proved → Noted E B
+      plain p = p.0
 
-    pub put_proved : (p : Proved) (place : ℕ) (byte : B)
-        → Keeps Stands (log ++ (p.0.changes ++ changed_by stack os p.0.space place byte)) os
-        (acc.put p.0.space place byte)
-    put_proved p place byte =
-        subst (λ (space : Space E B). Keeps Stands (log ++ (p.0.changes ++ changed_by stack os p.0.space place byte)) os space)
-        (sym (puts p.0.space place byte)) (put_keeps Stands stores stack os log p.0 place byte p.1)
+      pub put_proved : (p : Proved) (place : ℕ) (byte : B)
+          → Keeps Stands (log ++ (p.0.changes ++ changed_by stack os p.0.space place byte)) os
+          (acc.put p.0.space place byte)
+      put_proved p place byte =
+          subst (λ (space : Space E B). Keeps Stands
+          (log ++ (p.0.changes ++ changed_by stack os p.0.space place byte)) os space)
+          (sym (puts p.0.space place byte)) (put_keeps Stands stores stack os log p.0 place byte p.1)
 
-    abbrev pub proved_accesses : Accesses Proved B
-    proved_accesses = record {
-      byte = λ p place. acc.byte p.0.space place;
-      writes = λ p place. acc.writes p.0.space place;
-      put = λ p place byte. (
-        record {
-          space = acc.put p.0.space place byte;
-          changes = p.0.changes ++ changed_by stack os p.0.space place byte;
-        },
-        put_proved p place byte,
-      );
-      code = λ p place. acc.code p.0.space place;
-    }
+      abbrev pub proved_accesses : Accesses Proved B
+      proved_accesses = record {
+        byte = λ p place. acc.byte p.0.space place;
+        writes = λ p place. acc.writes p.0.space place;
+        put = λ p place byte. (
+          record {
+            space = acc.put p.0.space place byte;
+            changes = p.0.changes ++ changed_by stack os p.0.space place byte;
+          },
+          put_proved p place byte,
+        );
+        code = λ p place. acc.code p.0.space place;
+      }
 
-    pub proved_image : IsImage proved_accesses (noting stack os acc) plain
-    proved_image = record {
-      byte = λ p place. refl;
-      writes = λ p place. refl;
-      put = λ p place byte. refl;
-      code = λ p place. refl;
-    }
+      pub proved_image : IsImage proved_accesses (noting stack os acc) plain
+      proved_image = record {
+        byte = λ p place. refl;
+        writes = λ p place. refl;
+        put = λ p place byte. refl;
+        code = λ p place. refl;
+      }
 
-    -- what a step leaves
-    abbrev pub NotedHolds : {W F : Type 0} → Next (After W F (Noted E B)) → Type 0
-    NotedHolds (Goes at) = Keeps Stands (log ++ at.memory.changes) os at.memory.space
-    NotedHolds (Ends stop) = Unit {0}
-    NotedHolds (Looks at) = Keeps Stands (log ++ at.memory.changes) os at.memory.space
+      -- what a step leaves
+      abbrev pub NotedHolds : {W F : Type 0} → Next (After W F (Noted E B)) → Type 0
+      NotedHolds (Goes at) = Keeps Stands (log ++ at.memory.changes) os at.memory.space
+      NotedHolds (Ends stop) = Unit {0}
+      NotedHolds (Looks at) = Keeps Stands (log ++ at.memory.changes) os at.memory.space
 
-    pub noted_holds : {W F : Type 0} (next : Next (After W F Proved)) → NotedHolds (next_image (after_of plain) next)
-    noted_holds (Goes at) = at.memory.1
-    noted_holds (Ends stop) = tt
-    noted_holds (Looks at) = at.memory.1
+      pub noted_holds : {W F : Type 0} (next : Next (After W F Proved)) → NotedHolds (next_image (after_of plain) next)
+      noted_holds (Goes at) = at.memory.1
+      noted_holds (Ends stop) = tt
+      noted_holds (Looks at) = at.memory.1

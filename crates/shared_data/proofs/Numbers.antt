@@ -1,12 +1,13 @@
 -- No two live instances of a legal history have one number.
-use Rattle.std.proofs.Common.{◌≡◌, ◌∙◌, ◌+◌, ℕ, suc, true, List, [], ◌∷◌, ◌++◌, get_or, Option, Some, None, refl, sym, ap, inl, inr, arith}
+use Rattle.std.proofs.Common.{◌≡◌, ◌∙◌, ◌+◌, ℕ, suc, true, List, [], ◌∷◌, ◌++◌, get_or, Option, Some, None, refl, sym}
+use Rattle.std.proofs.Common.{ap, inl, inr, arith}
 use Rattle.std.specs.Prelude.{option_to_list}
 use Rattle.std.proofs.lemmas.Bool.{cases_eq}
 use Rattle.loaded_modules.specs.declared.instance.Instance.{Instance}
 use Rattle.module_table.specs.declared.modules.ImageInfo.{ImageInfo}
 use Rattle.module_table.specs.declared.modules.Module.{Module}
 use Rattle.module_table.specs.declared.events.Event.{Event}
-use Rattle.module_table.specs.History.{IsLegal}
+use Rattle.module_table.specs.Past.{IsLegal}
 use Rattle.module_table.specs.Modules.{is_loaded, no_module}
 use Rattle.module_table.specs.Past.{past}
 use Rattle.module_table.proofs.LawsOfNumbers.{own_numbers}
@@ -83,7 +84,8 @@ module _ (infos : List ImageInfo) where
         apart x e ys each.1,
       )
 
-      first : (o : Option Instance) → loaded_instance infos image m ≡ o → HaveOwnNumbers (instances_from infos (suc image) ms)
+      first : (o : Option Instance) → loaded_instance infos image m ≡ o
+          → HaveOwnNumbers (instances_from infos (suc image) ms)
           → HaveOwnNumbers (option_to_list o ++ instances_from infos (suc image) ms)
       first None e rest = rest
       first (Some x) e rest = (apart x e (instances_from infos (suc image) ms) (all_stand (suc image) ms), rest)

@@ -1,18 +1,23 @@
 -- All turns of a job leave the shared data as their changes say.
-use Rattle.std.proofs.Common.{◌≡◌, ◌∙◌, ◌++◌, ℕ, zero, suc, Bool, true, false, not, List, [], ◌∷◌, Option, Some, None, if◌then◌else◌, refl, sym, ap, subst}
+use Rattle.std.proofs.Common.{◌≡◌, ◌∙◌, ◌++◌, ℕ, zero, suc, Bool, true, false, not, List, [], ◌∷◌, Option, Some, None}
+use Rattle.std.proofs.Common.{if◌then◌else◌, refl, sym, ap, subst}
 use Rattle.std.specs.Prelude.{option_map}
 use Rattle.std.specs.List.{filter}
-use Rattle.guest_machine.specs.Run.{run, state_after}
+use Rattle.guest_machine.specs.Run.{run}
+use Rattle.guest_machine.specs.RunLaws.{state_after}
 use Rattle.loaded_modules.specs.declared.instance.Instance.{Instance}
 use Rattle.module_table.specs.declared.events.Event.{Event}
-use Rattle.module_table.specs.History.{IsLegal}
+use Rattle.module_table.specs.Past.{IsLegal}
 use Rattle.thread_blocks.specs.Held.{Held, Owned, is_block, owned_by}
 use Rattle.thread_blocks.specs.Instances.{Loads, instances}
-use Rattle.thread_blocks.specs.JobWorlds.{Shared, blocks_in, changed, data_in, held_in, shared_order, shared_turn, with_data, without_data}
+use Rattle.thread_blocks.specs.JobWorlds.{Shared, blocks_in, changed, data_in, held_in, shared_order, shared_turn}
+use Rattle.thread_blocks.specs.JobWorlds.{with_data, without_data}
 use Rattle.thread_blocks.specs.Lines.{Line, event_by}
-use Rattle.thread_blocks.specs.Turns.{Phase, Idle, Mid, Said, Thread, Turns, at_number, event_of, turn, with_event, with_number}
+use Rattle.thread_blocks.specs.Turns.{Phase, Idle, Mid, Said, Thread, Turns, at_number, event_of, turn, with_event}
+use Rattle.thread_blocks.specs.Turns.{with_number}
 use Rattle.shared_data.specs.Changes.{Change}
-use Rattle.shared_data.specs.Told.{begins, filled_by, order_told, run_told, steps_of, steps_told, turn_filled, turn_told}
+use Rattle.shared_data.specs.Told.{begins, filled_by, order_told, run_told, steps_of, steps_told, turn_filled}
+use Rattle.shared_data.specs.Told.{turn_told}
 use Rattle.shared_data.proofs.Fits.{HasAll, IsBlock, among_data, past_blocks}
 use Rattle.shared_data.proofs.Held.{Holds, blocks_left, with_owned_by}
 use Rattle.shared_data.proofs.Last.{append_append, append_none}
@@ -136,11 +141,14 @@ module _ {W F B : Type 0} (l : Loads B) (x : ℕ → Turns (Held W F B) Line Eve
         legal = legal_turn l i t w.events holds.legal;
         left = each_filter (IsLeft (log ++ (turn_filled l x event changes w i t ++ told)))
             (λ (o : Owned B). not (is_block o.owner.kind)) (owned_by (held_in after.phase))
-            (subst (λ (e : Option Event). AreLeft (log ++ (filled_by l w.events e ++ told)) (owned_by (held_in after.phase)))
+            (subst (λ (e : Option Event). AreLeft (log ++ (filled_by l w.events e ++ told))
+            (owned_by (held_in after.phase)))
             same left.0);
         all =
-            given_all l (instances l (with_event w.events (event_of (event i) t w.events))) (owned_by (held_in after.phase))
-            (subst (λ (e : Option Event). HasAll l (instances l (with_event w.events e)) (owned_by (held_in after.phase)))
+            given_all l (instances l (with_event w.events (event_of (event i) t w.events)))
+            (owned_by (held_in after.phase))
+            (subst (λ (e : Option Event). HasAll l (instances l (with_event w.events e))
+            (owned_by (held_in after.phase)))
             same left.1);
         blocks = each_put HoldsBlocks w.threads i (without_data after) (put_blocks after) holds.blocks;
       }
@@ -177,7 +185,8 @@ module _ {W F B : Type 0} (l : Loads B) (x : ℕ → Turns (Held W F B) Line Eve
       (same_event i w.shared w.events t.todo t.phase t.said t.seen) begun in
       subst (λ (cs : List (Change B)). Holds l i (own_events w i t) cs (state_after (run (x i).steps n from.1)))
       (append_append log (turn_filled l x event changes w i t) (run_told (x i).steps (changes i) n from.1))
-      (run_holds l i (x i) (changes i) (tell i) (own_events w i t) n (log ++ turn_filled l x event changes w i t) from.1 here)
+      (run_holds l i (x i) (changes i) (tell i) (own_events w i t) n
+      (log ++ turn_filled l x event changes w i t) from.1 here)
 
   -- and its events are legal
   pub legal_within : (log : List (Change B)) (w : Shared W F B Line) (i : ℕ) (t : Thread (Held W F B) Line Event)

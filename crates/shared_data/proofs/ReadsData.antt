@@ -1,5 +1,6 @@
 -- What is read at a place of data is what was left there last.
-use Rattle.std.proofs.Common.{◌≡◌, ◌∙◌, ◌-◌, ◌<◌, ◌++◌, ℕ, zero, suc, true, List, [], ◌∷◌, length, Option, Some, None, if◌then◌else◌, refl, sym, ap, subst, inl, inr, arith}
+use Rattle.std.proofs.Common.{◌≡◌, ◌∙◌, ◌-◌, ◌<◌, ◌++◌, ℕ, zero, suc, true, List, [], ◌∷◌, length, Option, Some, None}
+use Rattle.std.proofs.Common.{if◌then◌else◌, refl, sym, ap, subst, inl, inr, arith}
 use Rattle.std.specs.Prelude.{nat_le, nat_lt, ok_or, slice_get}
 use Rattle.std.proofs.lemmas.Bool.{and_parts, cases_Bool, ltb-true}
 use Rattle.guest_arithmetic.specs.Values.{Operations}
@@ -43,7 +44,8 @@ module _ {B : Type 0} (log : List (Change B)) (place : ℕ) (at : ℕ × ℕ) wh
 module _ {W F B : Type 0} (ops : Operations W F B) (stack : ℕ) {E : Type 0} (fixed : List E → List (Range B)) where
   pub beside_stack : (log : List (Change B)) (space : Space E B) (os : List Owner) (place : ℕ) (at : ℕ × ℕ)
       → AreLeft log (owned os space.own)
-      → (if grants Read (stack_range stack space.stack) place then None else data_found (owned os space.own) place) ≡ Some at
+      → (if grants Read (stack_range stack space.stack) place then None else data_found (owned os space.own) place)
+      ≡ Some at
       → (space_accesses ops stack fixed).byte space place ≡ ok_or (last_left at.0 at.1 log) Refused
   unfolding space_accesses
   beside_stack log space os place at left e = elim (cases_Bool (grants Read (stack_range stack space.stack) place)) [

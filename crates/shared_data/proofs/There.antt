@@ -1,16 +1,19 @@
 -- The places of data: what is held of a live instance is found there, and nothing else that is held lies there.
-use Rattle.std.proofs.Common.{◌≡◌, ◌∙◌, ◌+◌, ◌-◌, ◌<◌, ◌≤◌, ◌^◌, ◌&&◌, ◌==◌, ℕ, Bool, true, false, List, [], ◌∷◌, length, Option, Some, None, IfSome, refl, sym, ap, subst, inl, inr, arith, append-nil}
+use Rattle.std.proofs.Common.{◌≡◌, ◌∙◌, ◌+◌, ◌-◌, ◌<◌, ◌≤◌, ◌^◌, ◌&&◌, ◌==◌, ℕ, Bool, true, false, List, [], ◌∷◌}
+use Rattle.std.proofs.Common.{length, Option, Some, None, IfSome, refl, sym, ap, subst, inl, inr, arith, append-nil}
 use Rattle.std.specs.Prelude.{is_some, nat_le, nat_lt, option_map}
 use Rattle.std.specs.List.{find, flat_map}
 use Rattle.std.specs.Option.{option_or}
-use Rattle.std.proofs.lemmas.Bool.{and_parts, both_ways, cases_Bool, eq-eqb, eqb-true, false_from_ne_true, le-leb, leb-true, lt-ltb}
+use Rattle.std.proofs.lemmas.Bool.{and_parts, both_ways, cases_Bool, eq-eqb, eqb-true, false_from_ne_true, le-leb}
+use Rattle.std.proofs.lemmas.Bool.{leb-true, lt-ltb}
 use Rattle.address_map.specs.Map.{block_place, stack_start}
 use Rattle.guest_machine.specs.Ranges.{Range, holds}
 use Rattle.known_instances.proofs.Placed.{placed_in}
 use Rattle.loaded_modules.specs.declared.instance.Instance.{Instance}
 use Rattle.module_table.specs.declared.events.Event.{Event}
-use Rattle.module_table.specs.History.{IsLegal}
-use Rattle.thread_blocks.specs.Held.{Block, Data, Held, Kind, Owned, data_after, data_bytes, fresh_data, is_data_of, loaded_at, looked_at, owned_by}
+use Rattle.module_table.specs.Past.{IsLegal}
+use Rattle.thread_blocks.specs.Held.{Block, Data, Held, Kind, Owned, data_after, data_bytes, fresh_data, is_data_of}
+use Rattle.thread_blocks.specs.Held.{loaded_at, looked_at, owned_by}
 use Rattle.thread_blocks.specs.Instances.{Loads, block_start, instances, numbered_instance}
 use Rattle.thread_blocks.specs.Spaces.{stack_range}
 use Rattle.shared_data.specs.Changes.{Written, changed_by, data_at, data_found, written_in}

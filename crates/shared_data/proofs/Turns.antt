@@ -1,14 +1,16 @@
 -- Turns leave data as their changes say.
 use Rattle.std.proofs.Common.{◌≡◌, ◌++◌, ◌-◌, ℕ, zero, suc, List, [], ◌∷◌, length, Option, Some, None, sym, subst}
 use Rattle.guest_operands.specs.declared.stop.Stop.{Stop}
-use Rattle.guest_machine.specs.Run.{Next, Goes, Ends, Looks, Outcome, Ended, Waits, go_on, over_or, run, state_after}
+use Rattle.guest_machine.specs.Run.{Next, Goes, Ends, Looks, Outcome, Ended, Waits, go_on, over_or, run}
+use Rattle.guest_machine.specs.RunLaws.{state_after}
 use Rattle.module_table.specs.declared.events.Event.{Event}
-use Rattle.module_table.specs.History.{IsLegal}
+use Rattle.module_table.specs.Past.{IsLegal}
 use Rattle.thread_blocks.specs.Held.{Held, owned_by}
 use Rattle.thread_blocks.specs.Instances.{Loads, instances}
 use Rattle.thread_blocks.specs.JobWorlds.{held_in}
 use Rattle.thread_blocks.specs.Lines.{Line, event_by}
-use Rattle.thread_blocks.specs.Turns.{Begun, Says, Calls, Phase, Idle, Mid, Said, Thread, Turns, after_look, after_run, event_of, turn_at, with_event, with_last}
+use Rattle.thread_blocks.specs.Turns.{Begun, Says, Calls, Phase, Idle, Mid, Said, Thread, Turns, after_look, after_run}
+use Rattle.thread_blocks.specs.Turns.{event_of, turn_at, with_event, with_last}
 use Rattle.shared_data.specs.Changes.{Change}
 use Rattle.shared_data.specs.Told.{called, filled_by, run_told, step_told, steps_of, steps_told, unless_over}
 use Rattle.shared_data.proofs.Begins.{AreOwn, BegunHolds, Follows, none_filled}

@@ -1,13 +1,15 @@
 -- Each byte of shared data is the one that the last write before it, in the order of turns, left there, or else the
 -- one that the loader put there: for the machine's threads, and for what they mean.
-use Rattle.std.specs.Prelude.{◌≡◌, ℕ, ◌+◌, ◌*◌, ◌<◌, ◌++◌, Bool, true, List, [], ◌∷◌, length, slice_get, ok_or, Option, Some, Ok}
+use Rattle.std.specs.Prelude.{◌≡◌, ℕ, ◌+◌, ◌*◌, ◌<◌, ◌++◌, Bool, true, List, [], ◌∷◌, length, slice_get, ok_or, Option}
+use Rattle.std.specs.Prelude.{Some, Ok}
 use Rattle.std.specs.List.{find, flat_map}
 use Rattle.address_map.specs.Map.{stack_start}
 use Rattle.guest_arithmetic.specs.Plain.{plain_operations}
 use Rattle.guest_operands.specs.declared.state.State.{State}
 use Rattle.guest_machine.specs.Access.{Accesses, Refused}
 use Rattle.guest_machine.specs.Ranges.{Range}
-use Rattle.guest_machine.specs.Run.{machine, run, state_after}
+use Rattle.guest_machine.specs.Run.{machine, run}
+use Rattle.guest_machine.specs.RunLaws.{state_after}
 use Rattle.guest_machine.specs.Use.{After}
 use Rattle.job_meaning.specs.declared.values.Byte.{Byte}
 use Rattle.job_meaning.specs.declared.values.Flag.{Flag}
@@ -15,13 +17,15 @@ use Rattle.job_meaning.specs.declared.values.Word.{Word}
 use Rattle.job_text.specs.declared.thread_lines.ThreadLine.{ThreadLine}
 use Rattle.loaded_modules.specs.declared.instance.Instance.{Instance}
 use Rattle.module_table.specs.declared.events.Event.{Event}
-use Rattle.module_table.specs.History.{IsLegal}
-use Rattle.thread_blocks.specs.Held.{Data, Held, Owned, Owner, data_after, data_bytes, is_data_of, loaded, looked, owned_by, with_owned}
+use Rattle.module_table.specs.Past.{IsLegal}
+use Rattle.thread_blocks.specs.Held.{Data, Held, Owned, Owner, data_after, data_bytes, is_data_of, loaded, looked}
+use Rattle.thread_blocks.specs.Held.{owned_by, with_owned}
 use Rattle.thread_blocks.specs.Instances.{Loads, instances, numbered_instance}
 use Rattle.thread_blocks.specs.JobWorlds.{Shared, job_start, job_world, shared_order}
 use Rattle.thread_blocks.specs.Lines.{Line, event_by}
 use Rattle.thread_blocks.specs.RunTime.{thread_accesses, thread_turns}
-use Rattle.thread_blocks.specs.Spaces.{Space, after_of, mapped, next_image, no_field}
+use Rattle.thread_blocks.specs.Spaces.{Space, next_image, no_field}
+use Rattle.thread_blocks.specs.SpaceLaws.{after_of, mapped}
 use Rattle.thread_blocks.specs.Turns.{Thread, Turns, at_number, whole_order}
 use Rattle.whole_meaning.specs.declared.marks.Mark.{Mark}
 use Rattle.whole_meaning.specs.Jobs.{meant_world}

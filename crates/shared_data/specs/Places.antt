@@ -5,7 +5,7 @@ use Rattle.guest_operands.specs.declared.space.Access.{Access}
 use Rattle.guest_machine.specs.Ranges.{Range, byte_in, holds}
 use Rattle.loaded_modules.specs.declared.instance.Instance.{Instance}
 use Rattle.module_table.specs.declared.events.Event.{Event}
-use Rattle.module_table.specs.History.{IsLegal}
+use Rattle.module_table.specs.Past.{IsLegal}
 use Rattle.thread_blocks.specs.Instances.{Loads, fixed_at, numbered_instance}
 
 -- the data of an instance can be read and written, and each of their addresses has the instance's number in it

@@ -1,5 +1,6 @@
 -- All changes of data in a job, in the order of its turns.
-use Rattle.std.specs.Prelude.{ℕ, zero, suc, ◌-◌, Bool, true, false, List, [], ◌∷◌, ◌++◌, Option, Some, None, if◌then◌else◌}
+use Rattle.std.specs.Prelude.{ℕ, zero, suc, ◌-◌, Bool, true, false, List, [], ◌∷◌, ◌++◌, Option, Some, None}
+use Rattle.std.specs.Prelude.{if◌then◌else◌}
 use Rattle.std.specs.List.{flat_map}
 use Rattle.guest_operands.specs.declared.stop.Stop.{Stop}
 use Rattle.guest_machine.specs.Ranges.{Range}
@@ -11,7 +12,8 @@ use Rattle.module_table.specs.Past.{module_of}
 use Rattle.thread_blocks.specs.Held.{Held}
 use Rattle.thread_blocks.specs.Instances.{Loads, instance_at, instances, left_by}
 use Rattle.thread_blocks.specs.JobWorlds.{Shared, shared_turn, with_data}
-use Rattle.thread_blocks.specs.Turns.{Begun, Says, Calls, Phase, Idle, Mid, Thread, Turns, at_number, event_of, with_last}
+use Rattle.thread_blocks.specs.Turns.{Begun, Says, Calls, Phase, Idle, Mid, Thread, Turns, at_number, event_of}
+use Rattle.thread_blocks.specs.Turns.{with_last}
 use Rattle.shared_data.specs.Changes.{Change, Filled}
 
 -- ** loads

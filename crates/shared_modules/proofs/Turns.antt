@@ -15,7 +15,8 @@ pub record Leaving (h : History) (me : Sat) : Type 0 where
 pub home_ending : (h : History) (me after : Sat) → Ending h me → after ≡ (me.0, (0, Some h) ∷ []) → Leaving h after
 home_ending h me after e is = record {
   there = ap (λ (m : Sat). m.1) is;
-  ending = subst (λ (v : View). Ending h (v, (0, None) ∷ [])) (ap (λ (m : Sat). m.0) (sym is)) record { ticket = e.ticket; turn = e.turn; empty = refl; images = e.images; speaks = e.speaks };
+  ending = subst (λ (v : View). Ending h (v, (0, None) ∷ [])) (ap (λ (m : Sat). m.0) (sym is)) record
+      { ticket = e.ticket; turn = e.turn; empty = refl; images = e.images; speaks = e.speaks };
 }
 
 -- the slot in hand has the registry, and its event may be published
@@ -23,7 +24,8 @@ pub record Ready (h : History) (event : Event) (me : Sat) : Type 0 where
   pub there : me.1 ≡ (0, Some h) ∷ []
   pub adding : Adding h event (me.0, (0, None) ∷ [])
 
-pub home_adding : (h : History) (event : Event) (me after : Sat) → Adding h event me → after ≡ (me.0, (0, Some h) ∷ []) → Ready h event after
+pub home_adding : (h : History) (event : Event) (me after : Sat) → Adding h event me → after ≡ (me.0, (0, Some h) ∷ [])
+    → Ready h event after
 home_adding h event me after a is = record {
   there = ap (λ (m : Sat). m.1) is;
   adding = subst (λ (v : View). Adding h event (v, (0, None) ∷ [])) (ap (λ (m : Sat). m.0) (sym is)) record {
@@ -39,7 +41,8 @@ home_adding h event me after a is = record {
   };
 }
 
-pub published_leaving : (h : History) (event : Event) (me after : Sat) → Ready h event me → after ≡ (published h.events me.0, me.1) → Leaving h after
+pub published_leaving : (h : History) (event : Event) (me after : Sat) → Ready h event me
+    → after ≡ (published h.events me.0, me.1) → Leaving h after
 published_leaving h event me after r is = record {
   there = ap (λ (m : Sat). m.1) is ∙ r.there;
   ending = subst (λ (v : View). Ending h (v, (0, None) ∷ [])) (ap (λ (m : Sat). m.0) (sym is)) record {

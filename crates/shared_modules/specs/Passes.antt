@@ -9,7 +9,8 @@ use Rattle.module_table.specs.declared.events.OpenRefusal.{OpenRefusal}
 use Rattle.module_table.specs.declared.events.OpenRefusal.TheVariants.{OutOfMemory as NoRoomToOpen}
 use Rattle.module_table.specs.declared.events.CloseRefusal.{CloseRefusal}
 use Rattle.module_table.specs.declared.events.CloseRefusal.TheVariants.{OutOfMemory as NoRoomToClose}
-use Rattle.module_table.specs.History.{History, IsLegal, open_answer, close_answer}
+use Rattle.module_table.specs.History.{History, open_answer, close_answer}
+use Rattle.module_table.specs.Past.{IsLegal}
 use Rattle.shared_modules.specs.declared.board.Images.{Images}
 use Rattle.shared_modules.specs.declared.board.Turn.TheVariants.{Away}
 use Rattle.shared_modules.specs.declared.board.View.{View}

@@ -4,7 +4,8 @@ use Rattle.std.specs.Prelude.{MatchBool}
 use Rattle.atomic_table.specs.Table.{Me}
 use Rattle.atomic_table.specs.Seated.{TableId}
 use Rattle.module_table.specs.declared.events.Event.{Event}
-use Rattle.module_table.specs.History.{History, IsLegal}
+use Rattle.module_table.specs.History.{History}
+use Rattle.module_table.specs.Past.{IsLegal}
 use Rattle.shared_modules.specs.declared.board.Turn.TheVariants.{Away, Waits, Holds}
 use Rattle.shared_modules.specs.declared.board.View.{View}
 use Rattle.shared_modules.specs.Views.{times, Knows, StartsWith, images_of, drew, holding, loaded, caught, published}

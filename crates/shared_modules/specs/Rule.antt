@@ -6,7 +6,8 @@ use mathlib.Core.Option as maybe
 use lib.ListN.{get_elem?}
 use Rattle.atomic_table.specs.Table.{State}
 use Rattle.module_table.specs.declared.events.Event.{Event}
-use Rattle.module_table.specs.History.{History, IsLegal}
+use Rattle.module_table.specs.History.{History}
+use Rattle.module_table.specs.Past.{IsLegal}
 use Rattle.shared_modules.specs.declared.board.Images.{Images}
 use Rattle.shared_modules.specs.declared.board.Turn.{Turn}
 use Rattle.shared_modules.specs.declared.board.Turn.TheVariants.{Away, Waits, Holds}

@@ -1,6 +1,7 @@
 //! The shared history, and the passes by which threads use it.
 ghost use Rattle.std.specs.Prelude.{◌≡◌, ◌≤◌, ◌<◌, ◌↔◌, length, false, IfOk, IfErr, OnOk, OnErr, IsTrue};
-ghost use Rattle.module_table.specs.History.{IsLegal, open_event, close_event};
+ghost use Rattle.module_table.specs.History.{open_event, close_event};
+ghost use Rattle.module_table.specs.Past.{IsLegal};
 ghost use Rattle.shared_modules.specs.Views.{times, images_of};
 ghost use Rattle.shared_modules.specs.Passes.{first_pass, left_pass, right_pass, joined, Agree, IsLoaded, IsTried};
 ghost use Rattle.shared_modules.specs.Passes.{IsSamePass, IsCaught, IsTold, IsOpened, IsOpenRefused, IsClosed};

@@ -1,5 +1,6 @@
 -- All forms together: a sequence of the meaning is one to four steps of the machine.
-use Rattle.std.proofs.Common.{◌≡◌, ◌∙◌, ◌⊎◌, ◌+◌, ◌^◌, ◌<◌, ◌≤◌, ◌&&◌, ℕ, Bool, true, false, List, Option, Some, Result, refl, sym, ap, subst, arith, inl, inr}
+use Rattle.std.proofs.Common.{◌≡◌, ◌∙◌, ◌⊎◌, ◌+◌, ◌^◌, ◌<◌, ◌≤◌, ◌&&◌, ℕ, Bool, true, false, List, Option, Some, Result}
+use Rattle.std.proofs.Common.{refl, sym, ap, subst, arith, inl, inr}
 use Rattle.std.proofs.lemmas.Bool.{le-ltb}
 use Rattle.guest_operands.specs.declared.stop.Stop.{Stop}
 use Rattle.site_steps.proofs.Answers.{AsksFromStart, kept_from_start}
@@ -92,10 +93,12 @@ module _ {g : Setting} {m : Meaning} {q : Loads ℕ} {history : List Event} {thr
     early_goes : (form : Form) → s.target ≤ startup_count q.infos → goal (next_of (meant_by form)) → answer_goal form
     early_goes form early k =
         never_first (asks form) (came_late m thread s.target) (meant_by form)
-        (le-ltb (startup_count m.loads.infos) s.target (subst (λ infos. s.target ≤ startup_count infos) tied.infos early)) k
+        (le-ltb (startup_count m.loads.infos) s.target
+        (subst (λ infos. s.target ≤ startup_count infos) tied.infos early)) k
 
     ends_at : (form : Form) → s.form ≡ form → s.next ≡ here + length_of form
-    ends_at form f = b.stands.ends ∙ (ap (λ (form : Form). here + form_length form) f ∙ ap (λ (n : ℕ). here + n) (lengths form))
+    ends_at form f = b.stands.ends
+        ∙ (ap (λ (form : Form). here + form_length form) f ∙ ap (λ (n : ℕ). here + n) (lengths form))
 
     -- what stands there, by the form
     code_of : (reg first second : ℕ) (form : Form) → s.form ≡ form
@@ -131,9 +134,11 @@ module _ {g : Setting} {m : Meaning} {q : Loads ℕ} {history : List Event} {thr
         → answer_goal form
     pair_answers form f is len n few small e pair ends from k steps moves =
         let found : HasPair q b.x s (plus (plus here len) n) =
-        pair_at len n few small (subst (λ (l : ℕ). HasPair q b.x s (plus (here + l) n)) (sym e) (pair_of form f n pair)) in
+        pair_at len n few small
+        (subst (λ (l : ℕ). HasPair q b.x s (plus (here + l) n)) (sym e) (pair_of form f n pair)) in
         subst answer_goal f
-        (pair_goes tied low high call b begins ends (subst IsPair (sym f) is) from (plus (plus here len) n) k steps moves
+        (pair_goes tied low high call b begins ends (subst IsPair (sym f) is) from
+        (plus (plus here len) n) k steps moves
         found)
 
     of_kept : (form : Form) → s.form ≡ form → AsksFromStart g s b.y s.form → KeptAs g q b.x here s form
@@ -156,13 +161,15 @@ module _ {g : Setting} {m : Meaning} {q : Loads ℕ} {history : List Event} {thr
         let code = code_of 0 first second GdInd f k.code in
         let ends = ends_at GdInd f in
         let small = small_place b.it code.0 in
-        pair_answers GdInd f tt 8 first (omega arith) small refl k.pair (omega (arith, ends, small)) from 2 (omega arith)
+        pair_answers GdInd f tt 8 first (omega arith) small refl k.pair (omega (arith, ends, small)) from 2
+        (omega arith)
         (by_word tied low high call b 8 4 first (omega arith) code.0 8 4 second (omega arith) code.1.0 ends k.word)
     of_kept LdInd f from (own, (first, (second, k))) =
         let code = code_of 0 first second LdInd f k.code in
         let ends = ends_at LdInd f in
         let small = small_place b.it code.0 in
-        pair_answers LdInd f tt 7 first (omega arith) small refl k.pair (omega (arith, ends, small)) from 2 (omega arith)
+        pair_answers LdInd f tt 7 first (omega arith) small refl k.pair (omega (arith, ends, small)) from 2
+        (omega arith)
         (by_word tied low high call b 7 3 first (omega arith) code.0 6 2 second (omega arith) code.1.0 ends k.word)
     of_kept IeMov f from (reg, (first, (word, k))) =
         ie_mov tied low high call b (register_named reg) first word (code_of reg first 0 IeMov f k.code).0
@@ -175,11 +182,13 @@ module _ {g : Setting} {m : Meaning} {q : Loads ℕ} {history : List Event} {thr
     of_kept DescCall f from k =
         let ends = ends_at DescCall f in
         let small = small_place b.it k.code.0 in
-        descriptor_goes tied low high call b f begins (omega (arith, ends, small)) k.code.0 ends b.stands.own k.low k.descriptor
+        descriptor_goes tied low high call b f begins
+        (omega (arith, ends, small)) k.code.0 ends b.stands.own k.low k.descriptor
 
     -- ** rewritten
 
-    of_written : (form : Form) (choice : Choice) → s.form ≡ form → (reg number : ℕ) → IsWritten g q b.x here s choice reg number
+    of_written : (form : Form) (choice : Choice) → s.form ≡ form → (reg number : ℕ)
+        → IsWritten g q b.x here s choice reg number
         → WrittenAs g q b.x here s form choice reg number → answer_goal form
     of_written Gd Keep f reg number is written = absurd written
     of_written Gd GdLe f reg number is written =
@@ -282,14 +291,16 @@ module _ {g : Setting} {m : Meaning} {q : Loads ℕ} {history : List Event} {thr
   unfolding sequence_result
   sequence_advances h h' call s e =
       subst (λ (o : Option Instance). AnswersTo g m q history thread h h' s
-      (sequence_result (meant_stack m thread) s thread (option_map_or (block_start thread) o 0) h.after.state h.after.memory))
+      (sequence_result (meant_stack m thread) s thread
+      (option_map_or (block_start thread) o 0) h.after.state h.after.memory))
       (sym b.meant_target) (of_either b.stands.stands)
     where
       b : Begins g m q h h' s
       b = begins_at tied call e
 
       of_either : KeptAs g q b.x h'.after.state.place s s.form
-          ⊎ ((choice : Choice) × ((reg : ℕ) × ((number : ℕ) × (IsWritten g q b.x h'.after.state.place s choice reg number
+          ⊎ ((choice : Choice) × ((reg : ℕ)
+          × ((number : ℕ) × (IsWritten g q b.x h'.after.state.place s choice reg number
           × WrittenAs g q b.x h'.after.state.place s s.form choice reg number)))) → answer_goal call b e s.form
       of_either (inl kept) =
           of_kept call b e s.form refl

@@ -1,5 +1,6 @@
 -- What a sequence that calls the run time is answered, and where the machine goes on then.
-use Rattle.std.proofs.Common.{◌≡◌, ◌∙◌, ◌+◌, ◌-◌, ◌%◌, ◌^◌, ◌<◌, ◌&&◌, ◌==◌, ℕ, Bool, true, false, List, Some, Ok, refl, ap, subst, arith}
+use Rattle.std.proofs.Common.{◌≡◌, ◌∙◌, ◌+◌, ◌-◌, ◌%◌, ◌^◌, ◌<◌, ◌&&◌, ◌==◌, ℕ, Bool, true, false, List, Some, Ok, refl}
+use Rattle.std.proofs.Common.{ap, subst, arith}
 use Rattle.address_map.specs.Map.{pointer_of}
 use Rattle.guest_arithmetic.specs.Plain.{plain_operations}
 use Rattle.guest_operands.specs.declared.state.State.{State}
@@ -23,7 +24,8 @@ use Rattle.thread_blocks.specs.RunTime.{Runs, answer_word, thread_accesses}
 use Rattle.thread_blocks.specs.Spaces.{Space}
 use Rattle.whole_meaning.specs.declared.sequences.Sequence.{Sequence}
 use Rattle.whole_meaning.specs.Meanings.{Meaning}
-use Rattle.whole_meaning.specs.Sequences.{asks, descriptor_use, does, own_base, room_below, stack_use, variable_address, variable_distance}
+use Rattle.whole_meaning.specs.Sequences.{asks, descriptor_use, does, own_base, room_below, stack_use, variable_address}
+use Rattle.whole_meaning.specs.Sequences.{variable_distance}
 use Rattle.whole_meaning.specs.Threads.{Meant, meant_stack}
 use Rattle.tied_meaning.specs.Numbers.{Setting, SameWord, alike}
 use Rattle.tied_meaning.specs.Sites.{AsksForOwnBlock, KeptAs}
@@ -115,7 +117,8 @@ module _ {g : Setting} {m : Meaning} {q : Loads ℕ} {history : List Event} {thr
       }) memory)
   unfolding return_of plain_operations
   popped memory same w =
-      let loads : load_of plain_operations (thread_accesses q thread) memory h'.after.state.registers.rsp 8 ≡ Ok s.next =
+      let loads : load_of plain_operations (thread_accesses q thread) memory h'.after.state.registers.rsp 8
+      ≡ Ok s.next =
       ap (λ (place : ℕ). load_of plain_operations (thread_accesses q thread) memory place 8) called.below
       ∙ called.back memory same in
       rw (loads, up_again stack h'.after.state.registers.rsp stack_small called.below) refl
@@ -133,7 +136,8 @@ module _ (m : Meaning) (thread : ℕ) (s : Sequence) (start : ℕ) where
       → st.thread_pointer ≡ pointer_of thread → stack_use (meant_stack m thread) st memory ≡ Ok stack
       → (form : Form) → (form ≡ DescCall → descriptor_use s st.registers.rax ≡ Ok tt) → asks form ≡ true
       → does (meant_stack m thread) s thread start form st memory
-      ≡ Ok (left (with_rax (called_state form st s.next) (answer_for form)) ((meant_stack m thread).forget memory stack))
+      ≡ Ok (left (with_rax (called_state form st s.next) (answer_for form))
+      ((meant_stack m thread).forget memory stack))
   does_answer stack st memory pointer room Gd d e = rw room refl
   does_answer stack st memory pointer room Ld d e = rw room refl
   does_answer stack st memory pointer room GdInd d e = rw room refl

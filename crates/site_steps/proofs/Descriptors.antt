@@ -1,5 +1,6 @@
 -- The kept call of a descriptor: what it means is what the machine does, at once or up to a look.
-use Rattle.std.proofs.Common.{◌≡◌, ◌∙◌, ◌+◌, ◌%◌, ◌^◌, ◌<◌, ◌≤◌, ◌&&◌, ℕ, true, List, Some, Result, Ok, Err, refl, sym, ap, subst, arith, inr}
+use Rattle.std.proofs.Common.{◌≡◌, ◌∙◌, ◌+◌, ◌%◌, ◌^◌, ◌<◌, ◌≤◌, ◌&&◌, ℕ, true, List, Some, Result, Ok, Err, refl, sym}
+use Rattle.std.proofs.Common.{ap, subst, arith, inr}
 use Rattle.guest_arithmetic.specs.declared.cause.Cause.{Cause}
 use Rattle.guest_operands.specs.declared.stop.Stop.TheVariants.{Unclean}
 use Rattle.amd64_words.specs.declared.register.Register.TheVariants.{Rax}
@@ -55,7 +56,8 @@ module _ {g : Setting} {m : Meaning} {q : Loads ℕ} {history : List Event} {thr
 
   pub descriptor_goes : s.form ≡ DescCall → sequence_at m thread h.after.memory.seen h.after.state.place ≡ Some s
       → s.next < 2 ^ 64
-      → HasInstruction q b.x here (plain 2 (call_through (of_register Rax))) → s.next ≡ here + 2 → s.instance ≡ b.x.number
+      → HasInstruction q b.x here (plain 2 (call_through (of_register Rax))) → s.next ≡ here + 2
+      → s.instance ≡ b.x.number
       → g.descriptor b.x.number s.symbol < 2 ^ 64
       → (g.makes_descriptor b.x.number s.symbol ≡ true → HasDescriptor q b.x s (g.descriptor b.x.number s.symbol))
       → answer_goal DescCall
@@ -77,7 +79,8 @@ module _ {g : Setting} {m : Meaning} {q : Loads ℕ} {history : List Event} {thr
           let is = descriptor_is g s h.after.state.registers.rax h'.after.state.registers.rax d call.state.registers.rax in
           let made = there (ap (λ (n : ℕ). g.makes_descriptor n s.symbol) (sym own) ∙ is.1) in
           let rax : h'.after.state.registers.rax ≡ g.descriptor b.x.number s.symbol =
-          is.0 ∙ (ap (λ (n : ℕ). g.descriptor n s.symbol % 2 ^ 64) own ∙ small_again (g.descriptor b.x.number s.symbol) few) in
+          is.0 ∙ (ap (λ (n : ℕ). g.descriptor n s.symbol % 2 ^ 64) own
+          ∙ small_again (g.descriptor b.x.number s.symbol) few) in
           let found : HasDescriptor q b.x s h'.after.state.registers.rax =
           subst (λ (n : ℕ). HasDescriptor q b.x s n) (sym rax) made in
           subst answer_goal f

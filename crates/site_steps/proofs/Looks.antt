@@ -1,5 +1,6 @@
 -- Once the run time is asked the machine does what the sequence means: it is answered at once, or after a look.
-use Rattle.std.proofs.Common.{if◌then◌else◌, ◌≡◌, ◌∙◌, ◌⊎◌, ◌-◌, ◌%◌, ◌^◌, ◌<◌, ◌≤◌, ◌&&◌, ◌==◌, ℕ, Bool, true, false, List, Option, Some, None, Result, Ok, Err, refl, sym, ap, subst, arith, inl, inr}
+use Rattle.std.proofs.Common.{if◌then◌else◌, ◌≡◌, ◌∙◌, ◌⊎◌, ◌-◌, ◌%◌, ◌^◌, ◌<◌, ◌≤◌, ◌&&◌, ◌==◌, ℕ, Bool, true, false}
+use Rattle.std.proofs.Common.{List, Option, Some, None, Result, Ok, Err, refl, sym, ap, subst, arith, inl, inr}
 use Rattle.std.specs.Prelude.{nat_le}
 use Rattle.std.proofs.lemmas.Bool.{ne_eqb, le-leb, le-ltb, lt-ltb}
 use Rattle.address_map.specs.Map.{stack_start}
@@ -16,7 +17,7 @@ use Rattle.thread_blocks.specs.declared.asked.Asked.{Asked}
 use Rattle.thread_blocks.specs.Instances.{Loads, block_start, instance_with_id, is_startup_id, numbered_instance}
 use Rattle.thread_blocks.specs.RunTime.{Runs, answer_word, answered, asked_at, asked_next, thread_steps}
 use Rattle.thread_blocks.specs.Spaces.{Space}
-use Rattle.thread_blocks.specs.TurnsAlike.{IsFront}
+use Rattle.thread_blocks.specs.Turns.{IsFront}
 use Rattle.whole_meaning.specs.declared.sequences.Sequence.{Sequence}
 use Rattle.whole_meaning.specs.Meanings.{Meaning}
 use Rattle.whole_meaning.specs.Sequences.{asks, does, looks_first}
@@ -25,7 +26,8 @@ use Rattle.tied_meaning.specs.Numbers.{Setting}
 use Rattle.tied_meaning.specs.Sites.{IsIdFor}
 use Rattle.tied_meaning.specs.Ties.{AreTied}
 use Rattle.tied_meaning.specs.Threads.{HasCalled, InCall, Waiting, called_state, is_descriptor_call}
-use Rattle.site_steps.proofs.Answers.{AsksFromStart, answer_for, answered_state, does_answer, pointer_stays, popped, with_rax, word_alike}
+use Rattle.site_steps.proofs.Answers.{AsksFromStart, answer_for, answered_state, does_answer, pointer_stays, popped}
+use Rattle.site_steps.proofs.Answers.{with_rax, word_alike}
 use Rattle.site_steps.proofs.Called.{AdvancesTo, goes_to}
 use Rattle.site_steps.proofs.Calls.{HasUse, hidden_fits, run_at, run_memory, run_state, sp}
 use Rattle.site_steps.proofs.Owners.{Begins}
@@ -104,7 +106,8 @@ module _ {g : Setting} {m : Meaning} {q : Loads ℕ} {history : List Event} {thr
 
   after_in_call : InCall g m q history thread (record h { after = meant_after }) (record h' { after = run_after })
   after_in_call =
-      still_in_call call _ _ (hidden_below (sp h' - stack_start thread) h.after.memory.stack) (run_memory thread h' s).stack
+      still_in_call call _ _ (hidden_below (sp h' - stack_start thread) h.after.memory.stack)
+      (run_memory thread h' s).stack
       (answered_state g (called_state s.form h.after.state s.next) _ (answer_for m thread s start s.form)
       (answer_word q thread asked b.y) (called h'.asked).state
       (word_alike g m q thread s b.y asked offset s.form kind yes from))
@@ -129,7 +132,8 @@ module _ {g : Setting} {m : Meaning} {q : Loads ℕ} {history : List Event} {thr
       ap (instance_with_id q h'.after.memory.seen) (sym id)
       ∙ tied.ids h'.after.memory.seen b.y front (ap (numbered_instance q h'.after.memory.seen) number ∙ b.target) in
       let startup : is_startup_id q asked.id ≡ true =
-      startup_id asked.id (startup_count q.infos) (omega (arith, early.0, early.1.1)) (omega (arith, early.1.0, early.1.1))
+      startup_id asked.id (startup_count q.infos) (omega (arith, early.0, early.1.1))
+      (omega (arith, early.1.0, early.1.1))
       in
       let late : came_late m thread s.target ≡ false =
       le-ltb (startup_count m.loads.infos) s.target
@@ -140,10 +144,12 @@ module _ {g : Setting} {m : Meaning} {q : Loads ℕ} {history : List Event} {thr
       (sym (of_tests (asks s.form) (came_late m thread s.target) h.after _ yes late))
       (subst (λ (r : Result (After Word Flag Memory) Stop). AdvancesTo g m q history thread h h' (next_of r))
       (sym meant_does)
-      (goes_to call _ meant_after k few (moves_then k h' moves (record { over = run_over; step = steps })) after_in_call))
+      (goes_to call _ meant_after k few
+      (moves_then k h' moves (record { over = run_over; step = steps })) after_in_call))
     where
       startup_id : (id count : ℕ) → 0 < id → id ≤ count → (if id == 0 then false else nat_le id count) ≡ true
-      startup_id id count some below = rw (ne_eqb id 0 (λ e. absurd (omega (arith, e, some))), le-leb id count below) refl
+      startup_id id count some below =
+          rw (ne_eqb id 0 (λ e. absurd (omega (arith, e, some))), le-leb id count below) refl
 
       of_tests : (a l : Bool) (at : After Word Flag Memory) (r : Result (After Word Flag Memory) Stop) → a ≡ true
           → l ≡ false → looks_first (a && l) at r ≡ next_of r

@@ -1,5 +1,6 @@
 -- Whose code it is that stands before a sequence, on both sides.
-use Rattle.std.proofs.Common.{◌≡◌, ◌∙◌, ◌⊎◌, ◌<◌, ◌≤◌, ◌==◌, ℕ, List, Option, Some, None, refl, sym, ap, subst, inl, inr}
+use Rattle.std.proofs.Common.{◌≡◌, ◌∙◌, ◌⊎◌, ◌<◌, ◌≤◌, ◌==◌, ℕ, List, Option, Some, None, refl, sym, ap, subst, inl}
+use Rattle.std.proofs.Common.{inr}
 use Rattle.std.specs.Prelude.{option_and_then}
 use Rattle.std.specs.List.{find}
 use Rattle.address_map.specs.Map.{owner_at}
@@ -8,7 +9,7 @@ use Rattle.module_table.specs.declared.events.Event.{Event}
 use Rattle.module_table.specs.Past.{startup_count}
 use Rattle.thread_blocks.specs.Instances.{Loads, numbered_instance}
 use Rattle.thread_blocks.specs.RunTime.{Runs}
-use Rattle.thread_blocks.specs.TurnsAlike.{IsFront}
+use Rattle.thread_blocks.specs.Turns.{IsFront}
 use Rattle.whole_meaning.specs.declared.sequences.Sequence.{Sequence}
 use Rattle.whole_meaning.specs.Meanings.{Meaning}
 use Rattle.whole_meaning.specs.Threads.{Meant, code_owner, sequence_at}

@@ -1,5 +1,6 @@
 -- A look in the middle of a line comes to the same on both sides.
-use Rattle.std.proofs.Common.{if◌then◌else◌, ◌≡◌, ◌∙◌, ◌⊎◌, ◌-◌, ◌<◌, ◌≤◌, ℕ, true, List, All, length, Option, Some, None, Ok, refl, sym, ap, subst, inl, inr, arith}
+use Rattle.std.proofs.Common.{if◌then◌else◌, ◌≡◌, ◌∙◌, ◌⊎◌, ◌-◌, ◌<◌, ◌≤◌, ℕ, true, List, All, length, Option, Some}
+use Rattle.std.proofs.Common.{None, Ok, refl, sym, ap, subst, inl, inr, arith}
 use Rattle.std.specs.Prelude.{nat_lt, is_none, option_and_then}
 use Rattle.std.proofs.lemmas.Bool.{and_parts, ltb-true}
 use Rattle.address_map.specs.Map.{owner_at, stack_start}
@@ -9,17 +10,21 @@ use Rattle.loaded_modules.specs.declared.instance.Instance.{Instance}
 use Rattle.module_table.specs.declared.events.Event.{Event}
 use Rattle.module_table.specs.Past.{startup_count}
 use Rattle.relax_sites.specs.declared.choices.Choice.{Choice}
-use Rattle.thread_blocks.specs.Held.{Owned, Owner, looked, looked_at, owned, owned_by, owners_of, ranges_in, reached, reached_at}
+use Rattle.thread_blocks.specs.Held.{Owned, Owner, looked, looked_at, owned, owned_by, owners_of, ranges_in, reached}
+use Rattle.thread_blocks.specs.Held.{reached_at}
 use Rattle.thread_blocks.specs.Instances.{Loads, block_start, instance_with_id, numbered_instance}
-use Rattle.thread_blocks.specs.RunTime.{Runs, answer_word, answered as answered_by, resume_line, resumed_by as run_resumed_by, resumed_in as run_resumed_in, resumed}
+use Rattle.thread_blocks.specs.RunTime.{Runs, answer_word, answered as answered_by, resume_line}
+use Rattle.thread_blocks.specs.RunTime.{resumed_by as run_resumed_by, resumed_in as run_resumed_in, resumed}
 use Rattle.thread_blocks.specs.Turns.{Answered, Calls, Says}
-use Rattle.thread_blocks.specs.TurnsAlike.{IsFront, SameBegun}
+use Rattle.thread_blocks.specs.TurnsAlike.{SameBegun}
+use Rattle.thread_blocks.specs.Turns.{IsFront}
 use Rattle.transcript_text.specs.declared.outcomes.LineFault.TheVariants.{Unloaded}
 use Rattle.transcript_text.specs.declared.outcomes.Outcome.TheVariants.{Fault}
 use Rattle.whole_meaning.specs.declared.sequences.Sequence.{Sequence}
 use Rattle.whole_meaning.specs.Meanings.{Meaning}
 use Rattle.whole_meaning.specs.Sequences.{asks, sequence_result}
-use Rattle.whole_meaning.specs.Threads.{Meant, came_late, code_owner, hidden_below, meant_stack, resume_meant, resumed_at, resumed_by, resumed_for, sequence_at, sequence_does}
+use Rattle.whole_meaning.specs.Threads.{Meant, came_late, code_owner, hidden_below, meant_stack, resume_meant}
+use Rattle.whole_meaning.specs.Threads.{resumed_at, resumed_by, resumed_for, sequence_at, sequence_does}
 use Rattle.held_alike.proofs.Lent.{as_many, both_again, held_alike, owners_alike, ranges_alike}
 use Rattle.held_alike.proofs.Looks.{looked_alike, reached_alike}
 use Rattle.tied_meaning.specs.Numbers.{Setting, SameWord}
@@ -27,7 +32,8 @@ use Rattle.tied_meaning.specs.Sites.{IsIdFor, IsWritten, KeptAs, WrittenAs}
 use Rattle.tied_meaning.specs.Ties.{AreTied}
 use Rattle.tied_meaning.specs.Threads.{AtRest, InCall, IsPlaced, Waiting, called_state}
 use Rattle.tied_memory.proofs.Live.{tied_at}
-use Rattle.site_steps.proofs.Answers.{AsksFromStart, answer_for, answered_state, does_answer, kept_from_start, pointer_stays, popped, with_rax, word_alike}
+use Rattle.site_steps.proofs.Answers.{AsksFromStart, answer_for, answered_state, does_answer, kept_from_start}
+use Rattle.site_steps.proofs.Answers.{pointer_stays, popped, with_rax, word_alike}
 use Rattle.site_steps.specs.Laws.{ResumesAreAlike}
 use Rattle.site_steps.proofs.Owners.{HasOwner, numbered_same, owner_is}
 use Rattle.site_steps.proofs.Steps.{lengths_alike}
@@ -49,7 +55,8 @@ module _ {g : Setting} {m : Meaning} {q : Loads ℕ} {history : List Event} {thr
       let now = looked_alike g m q thread history tied seen front (owned_by h) (owned_by h')
       (held_alike g m q history thread h h' wait.owners wait.own, wait.placed) in
       record {
-        owners = owners_alike g (looked_at m.loads thread seen (owned_by h)) (looked_at q thread seen (owned_by h')) now.0;
+        owners = owners_alike g (looked_at m.loads thread seen (owned_by h))
+            (looked_at q thread seen (owned_by h')) now.0;
         own = ranges_alike g (looked_at m.loads thread seen (owned_by h)) (looked_at q thread seen (owned_by h')) now.0;
         placed =
             subst (λ (zs : List (Owned ℕ)). All (IsPlaced g q thread) zs)
@@ -115,7 +122,8 @@ module _ {g : Setting} {m : Meaning} {q : Loads ℕ} {history : List Event} {thr
         rw e (does_answer m thread s (block_start thread x) wait.stack h.after.state meant_there.after.memory
         wait.called.pointer wait.called.room s.form wait.called.descriptor a)
 
-    runs_result : answered_by q thread wait.asked x runs_there ≡ Ok (runs_after (answer_word q thread wait.asked x)).after
+    runs_result : answered_by q thread wait.asked x runs_there
+        ≡ Ok (runs_after (answer_word q thread wait.asked x)).after
     runs_result =
         popped wait.called runs_there.after.memory refl (answer_word q thread wait.asked x)
 

@@ -1,6 +1,7 @@
 -- Sequences of one instruction that calls nothing, kept and rewritten: initial exec, descriptors, and what stands for
 -- a descriptor's call.
-use Rattle.std.proofs.Common.{if◌then◌else◌, ◌≡◌, ◌∙◌, ◌+◌, ◌%◌, ◌^◌, ◌<◌, ◌≤◌, ◌&&◌, ◌==◌, ℕ, Bool, true, false, List, None, Result, Ok, Err, refl, sym, ap, subst, arith, inl}
+use Rattle.std.proofs.Common.{if◌then◌else◌, ◌≡◌, ◌∙◌, ◌+◌, ◌%◌, ◌^◌, ◌<◌, ◌≤◌, ◌&&◌, ◌==◌, ℕ, Bool, true, false, List}
+use Rattle.std.proofs.Common.{None, Result, Ok, Err, refl, sym, ap, subst, arith, inl}
 use Rattle.std.proofs.lemmas.Bool.{and_parts, eqb-true}
 use Rattle.address_map.specs.Map.{pointer_of}
 use Rattle.amd64_words.specs.declared.register.Register.{Register}
@@ -27,18 +28,21 @@ use Rattle.job_meaning.specs.declared.values.Word.{Word}
 use Rattle.job_meaning.specs.declared.values.Word.TheVariants.{Number, Undefined, Marked}
 use Rattle.job_meaning.specs.declared.values.Token.TheVariants.{Base, Descriptor}
 use Rattle.module_table.specs.declared.events.Event.{Event}
-use Rattle.sequence_laws.specs.Instructions.{add, add_number, added as added_code, displaced, immediate, load, of_next, of_register, plain, set}
+use Rattle.sequence_laws.specs.Instructions.{add, add_number, added as added_code, displaced, immediate, load, of_next}
+use Rattle.sequence_laws.specs.Instructions.{of_register, plain, set}
 use Rattle.thread_blocks.specs.Instances.{Loads, block_start}
 use Rattle.thread_blocks.specs.RunTime.{Runs, thread_accesses}
 use Rattle.whole_meaning.specs.declared.sequences.Sequence.{Sequence}
 use Rattle.whole_meaning.specs.Meanings.{Meaning}
-use Rattle.whole_meaning.specs.Sequences.{added, described, descriptor_called, descriptor_use, loaded, stack_use, without_flags, variable_distance, with_sum}
+use Rattle.whole_meaning.specs.Sequences.{added, described, descriptor_called, descriptor_use, loaded, stack_use}
+use Rattle.whole_meaning.specs.Sequences.{without_flags, variable_distance, with_sum}
 use Rattle.whole_meaning.specs.Threads.{Meant, Memory, meant_stack}
 use Rattle.tied_meaning.specs.Numbers.{Setting, SameWord, alike}
 use Rattle.tied_meaning.specs.Sites.{HasInstruction, HasWord, IsDistance}
 use Rattle.tied_meaning.specs.Ties.{AreTied}
 use Rattle.tied_meaning.specs.Threads.{InCall}
-use Rattle.site_steps.proofs.Acts.{adds_next, adds_number, does_here, leas_next, leas_register, loads_next, passes, sets}
+use Rattle.site_steps.proofs.Acts.{adds_next, adds_number, does_here, leas_next, leas_register, loads_next, passes}
+use Rattle.site_steps.proofs.Acts.{sets}
 use Rattle.site_steps.proofs.Owners.{Begins}
 use Rattle.site_steps.proofs.Called.{AdvancesTo, described_same, goes_to, hidden_call, stack_room}
 use Rattle.site_steps.proofs.Steps.{in_place, one_move, small_place, stepped, still_in_call, sum_small}
@@ -99,12 +103,14 @@ module _ {g : Setting} {m : Meaning} {q : Loads ℕ} {history : List Event} {thr
   distance_is n distance =
       distance thread b.y high b.known_target ∙ ap (variable_distance s (block_start thread b.y)) (sym call.pointer)
 
-  next_is : (d : Decoded) → HasInstruction q b.x here d → (len : ℕ) → len ≤ 15 → s.next ≡ here + len → s.next ≡ plus here len
+  next_is : (d : Decoded) → HasInstruction q b.x here d → (len : ℕ) → len ≤ 15 → s.next ≡ here + len
+      → s.next ≡ plus here len
   next_is d has len short ends = ends ∙ sum_small len short here (small_place b.it has)
 
   -- ** initial exec
 
-  distance_word : (n : ℕ) → IsDistance g s n → SameWord g (Number (variable_distance s begin h.after.state.thread_pointer)) n
+  distance_word : (n : ℕ) → IsDistance g s n
+      → SameWord g (Number (variable_distance s begin h.after.state.thread_pointer)) n
   distance_word n distance = (distance_is n distance, omega arith)
 
   -- a register holds the distance
@@ -176,7 +182,8 @@ module _ {g : Setting} {m : Meaning} {q : Loads ℕ} {history : List Event} {thr
           (plus (register_of h'.after.state.registers r) n)
           (sum_word number (register_of h'.after.state.registers r) same.0) in
           let sum_at = subst (λ (r' : Register). SameState (alike g)
-          (with_word h.after.state s.register (Number (plus number (variable_distance s begin h.after.state.thread_pointer))))
+          (with_word h.after.state s.register
+          (Number (plus number (variable_distance s begin h.after.state.thread_pointer))))
           (with_word h'.after.state r' (plus (register_of h'.after.state.registers r) n))) (sym register) sum in
           one_goes d _ _ has does (record {
             registers = sum_at.registers;
@@ -210,7 +217,8 @@ module _ {g : Setting} {m : Meaning} {q : Loads ℕ} {history : List Event} {thr
           let adds = adds_number (thread_accesses q thread) h'.after.memory h'.after.state 7 3 n (register_named reg) in
           add_goes _ (register_named reg) n adds.0 has register distance (next_is _ has 7 (omega arith) ends) adds.1
       of_test false has =
-          add_goes _ (register_named reg) n h'.after.state.flags has register distance (next_is _ has 7 (omega arith) ends)
+          add_goes _ (register_named reg) n h'.after.state.flags has register distance
+          (next_is _ has 7 (omega arith) ends)
           (leas_register (thread_accesses q thread) h'.after.memory h'.after.state 7 3 n (register_named reg))
 
   -- ** descriptors
@@ -241,7 +249,8 @@ module _ {g : Setting} {m : Meaning} {q : Loads ℕ} {history : List Event} {thr
       (leas_next (thread_accesses q thread) h'.after.memory h'.after.state 7 3 first Rax)
 
   pub desc_le : (n : ℕ) → HasInstruction q b.x here (immediate 7 3 (set Rax) n) → s.next ≡ here + 7
-      → s.instance ≡ b.x.number → g.makes_descriptor b.x.number s.symbol ≡ true → n ≡ g.descriptor b.x.number s.symbol % 2 ^ 64
+      → s.instance ≡ b.x.number → g.makes_descriptor b.x.number s.symbol ≡ true
+      → n ≡ g.descriptor b.x.number s.symbol % 2 ^ 64
       → Goal (next_of (described (meant_stack m thread) s thread begin h.after.state h.after.memory))
   desc_le n has ends own made number =
       lea_goes _ (n % 2 ^ 64) has own made (omega (arith, number)) (next_is _ has 7 (omega arith) ends)

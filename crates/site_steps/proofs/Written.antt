@@ -1,5 +1,6 @@
 -- General and local dynamic sequences that were rewritten: the machine does in one or two steps what they mean.
-use Rattle.std.proofs.Common.{◌≡◌, ◌∙◌, ◌+◌, ◌-◌, ◌^◌, ◌<◌, ◌≤◌, ℕ, suc, Bool, true, List, Some, Result, Ok, Err, refl, sym, ap, subst, arith, inl}
+use Rattle.std.proofs.Common.{◌≡◌, ◌∙◌, ◌+◌, ◌-◌, ◌^◌, ◌<◌, ◌≤◌, ℕ, suc, Bool, true, List, Some, Result, Ok, Err, refl}
+use Rattle.std.proofs.Common.{sym, ap, subst, arith, inl}
 use Rattle.std.proofs.lemmas.Bool.{eq-eqb}
 use Rattle.address_map.specs.Map.{pointer_of}
 use Rattle.amd64_words.specs.declared.register.Register.TheVariants.{Rax}
@@ -24,7 +25,8 @@ use Rattle.thread_blocks.specs.Instances.{Loads, block_start}
 use Rattle.thread_blocks.specs.RunTime.{Runs, thread_accesses, thread_steps}
 use Rattle.whole_meaning.specs.declared.sequences.Sequence.{Sequence}
 use Rattle.whole_meaning.specs.Meanings.{Meaning}
-use Rattle.whole_meaning.specs.Sequences.{after_call, called_with, own_base, stack_use, variable_address, variable_distance}
+use Rattle.whole_meaning.specs.Sequences.{after_call, called_with, own_base, stack_use, variable_address}
+use Rattle.whole_meaning.specs.Sequences.{variable_distance}
 use Rattle.whole_meaning.specs.Threads.{Meant, Memory, meant_stack}
 use Rattle.tied_meaning.specs.Numbers.{Setting, SameWord}
 use Rattle.tied_meaning.specs.Sites.{HasInstruction, HasWord, IsDistance}
@@ -56,7 +58,10 @@ module _ {g : Setting} {m : Meaning} {q : Loads ℕ} {history : List Event} {thr
   -- mov %fs:0, %rax
   pub pointer_steps : (len at : ℕ) → HasInstruction q b.x here (displaced len at (load Rax of_thread) 0)
       → StepsTo q thread h'
-      (record h' { after = left (at_place (with_word h'.after.state Rax (pointer_of thread)) (plus here len)) h'.after.memory })
+      (record h' {
+        after = left
+            (at_place (with_word h'.after.state Rax (pointer_of thread)) (plus here len)) h'.after.memory;
+      })
   pointer_steps len at has =
       let sound = in_place call in
       stepped tied low h' sound b.it b.live has
@@ -67,7 +72,10 @@ module _ {g : Setting} {m : Meaning} {q : Loads ℕ} {history : List Event} {thr
 
   pointer_step : (len at : ℕ) → HasInstruction q b.x here (displaced len at (load Rax of_thread) 0)
       → Moves (thread_steps q thread) 1 h'
-      (record h' { after = left (at_place (with_word h'.after.state Rax (pointer_of thread)) (plus here len)) h'.after.memory })
+      (record h' {
+        after = left
+            (at_place (with_word h'.after.state Rax (pointer_of thread)) (plus here len)) h'.after.memory;
+      })
   pointer_step len at has = one_move (pointer_steps len at has)
 
   -- the next instruction's place
@@ -95,7 +103,8 @@ module _ {g : Setting} {m : Meaning} {q : Loads ℕ} {history : List Event} {thr
       })
       → SameWord g word w → s.next ≡ p
       → Goal (next_of (called_with (meant_stack m thread) s thread start word h.after.state h.after.memory))
-  call_goes word w flags p k few moves same ends = of_use (stack_use (meant_stack m thread) h.after.state h.after.memory) refl
+  call_goes word w flags p k few moves same ends =
+      of_use (stack_use (meant_stack m thread) h.after.state h.after.memory) refl
     where
       of_use : (r : Result ℕ Cause) → stack_use (meant_stack m thread) h.after.state h.after.memory ≡ r
           → Goal (next_of ((clean h.after.state.place r) >>= (λ (below : ℕ).
@@ -132,7 +141,8 @@ module _ {g : Setting} {m : Meaning} {q : Loads ℕ} {history : List Event} {thr
             h'.after.memory;
       }
 
-  pub address_word : (n : ℕ) → IsDistance g s n → SameWord g (Number (variable_address s start)) (plus (pointer_of thread) n)
+  pub address_word : (n : ℕ) → IsDistance g s n
+      → SameWord g (Number (variable_address s start)) (plus (pointer_of thread) n)
   address_word n distance = (
     sums (pointer_of thread) start s.offset n (omega (arith, high)) (distance thread b.y high b.known_target),
     omega arith,

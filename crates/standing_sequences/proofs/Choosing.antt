@@ -9,7 +9,8 @@ use Rattle.link_needs.specs.Linking.{Linking, binding, choice, chosen}
 use Rattle.link_needs.specs.Needs.{is_kept}
 use Rattle.relax_sites.specs.declared.choices.Choice.{Choice}
 use Rattle.relax_sites.specs.declared.choices.Choice.TheVariants.{Keep, GdLe, GdIe, LdLe, IeLe, DescLe, DescIe}
-use Rattle.relax_sites.specs.Choices.{IsChoiceOf, choice_of, program_choice}
+use Rattle.relax_sites.specs.Choices.{choice_of, program_choice}
+use Rattle.relax_sites.specs.ChoiceLaws.{IsChoiceOf}
 use Rattle.sequence_forms.specs.declared.forms.Form.{Form}
 use Rattle.sequence_forms.specs.declared.forms.Form.TheVariants.{Gd, Ld, IeMov, IeAdd, GdInd, LdInd, DescLea, DescCall}
 use Rattle.sequence_forms.specs.declared.places.Site.{Site}

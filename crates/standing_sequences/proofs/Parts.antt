@@ -26,7 +26,8 @@ use Rattle.object_faults.specs.declared.class.SectionClass.TheVariants.{Executab
 use Rattle.placed_sections.specs.Files.{offset_of}
 use Rattle.tls_layout.proofs.LawsOfPlaces.{classes_follow}
 use Rattle.tls_layout.specs.declared.extent.Extent.{Extent}
-use Rattle.tls_layout.specs.Laws.{ClassesFollow, extent_for}
+use Rattle.tls_layout.specs.Laws.{ClassesFollow}
+use Rattle.tls_layout.specs.Places.{extent_for}
 use Rattle.tls_layout.specs.Places.{executable, read_only, tls_image, writable}
 use Rattle.tls_relocs.specs.Elements.{slice_get-drop, slice_get-take}
 use Rattle.standing_sequences.specs.Bytes.{byte_at, holds}

@@ -1,9 +1,11 @@
 -- What an instruction leaves, on both sides: registers and flags.
-use Rattle.std.proofs.Common.{◌≡◌, inl, inr, ℕ, zero, suc, ◌%◌, Bool, true, false, Result, Ok, Err, refl, sym, ap, ◌∙◌, arith}
+use Rattle.std.proofs.Common.{◌≡◌, inl, inr, ℕ, zero, suc, ◌%◌, Bool, true, false, Result, Ok, Err, refl, sym, ap, ◌∙◌}
+use Rattle.std.proofs.Common.{arith}
 use Rattle.std.specs.Prelude.{if◌then◌else◌, nat_lt}
 use Rattle.std.proofs.lemmas.Bool.{lt-ltb, ne_eqb}
 use Rattle.amd64_words.specs.declared.register.Register.{Register}
-use Rattle.amd64_words.specs.declared.register.Register.TheVariants.{Rax, Rcx, Rdx, Rbx, Rsp, Rbp, Rsi, Rdi, R8, R9, R10, R11, R12, R13, R14, R15}
+use Rattle.amd64_words.specs.declared.register.Register.TheVariants.{Rax, Rcx, Rdx, Rbx, Rsp, Rbp, Rsi, Rdi, R8, R9}
+use Rattle.amd64_words.specs.declared.register.Register.TheVariants.{R10, R11, R12, R13, R14, R15}
 use Rattle.amd64_subset.specs.declared.instr.Arithmetic.{Arithmetic}
 use Rattle.amd64_subset.specs.declared.instr.Arithmetic.TheVariants.{Add, Or, And, Sub, Xor, Compare}
 use Rattle.amd64_subset.specs.declared.instr.Operation.TheVariants.{Multiply, Shift as ShiftBy}
@@ -14,7 +16,8 @@ use Rattle.guest_arithmetic.specs.declared.effect.Change.{Change}
 use Rattle.guest_arithmetic.specs.declared.effect.Change.TheVariants.{Set, Unsettled, Kept}
 use Rattle.guest_arithmetic.specs.declared.effect.Changes.{Changes}
 use Rattle.guest_arithmetic.specs.declared.flags.Flags.{Flags}
-use Rattle.guest_arithmetic.specs.Arithmetic.{bits_of, compute_effect, difference_effect, logic_effect, product_effect, shift_effect, sum_effect}
+use Rattle.guest_arithmetic.specs.Arithmetic.{bits_of, compute_effect, difference_effect, logic_effect, product_effect}
+use Rattle.guest_arithmetic.specs.Arithmetic.{shift_effect, sum_effect}
 use Rattle.guest_arithmetic.specs.Flags.{changed, with_changes}
 use Rattle.guest_arithmetic.specs.Plain.{plain_operations}
 use Rattle.guest_operands.specs.declared.frame.Frame.{Frame}

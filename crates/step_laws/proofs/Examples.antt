@@ -2,7 +2,8 @@
 use Rattle.std.proofs.Common.{◌≡◌, ℕ, false, [], ◌∷◌, Some, None, inl, refl}
 use Rattle.std.proofs.lemmas.List.Elements.{All-cons, All-nil}
 use Rattle.amd64_words.specs.declared.register.Register.{Register}
-use Rattle.amd64_words.specs.declared.register.Register.TheVariants.{Rax, Rcx, Rdx, Rbx, Rsp, Rbp, Rsi, Rdi, R8, R9, R10, R11, R12, R13, R14, R15}
+use Rattle.amd64_words.specs.declared.register.Register.TheVariants.{Rax, Rcx, Rdx, Rbx, Rsp, Rbp, Rsi, Rdi, R8, R9}
+use Rattle.amd64_words.specs.declared.register.Register.TheVariants.{R10, R11, R12, R13, R14, R15}
 use Rattle.guest_arithmetic.specs.Plain.{plain_operations}
 use Rattle.guest_operands.specs.Access.{fetch_of}
 use Rattle.guest_operands.specs.State.{register_of, start_of}
@@ -14,7 +15,8 @@ use Rattle.amd64_subset.specs.declared.instr.Width.TheVariants.{Long}
 use Rattle.amd64_subset.specs.declared.operand.Operand.TheVariants.{Register as InRegister}
 use Rattle.amd64_subset.specs.declared.operand.Operands.TheVariants.{IntoRegister}
 use Rattle.amd64_subset.specs.Beginning.{begins_of}
-use Rattle.amd64_subset.specs.Decoding.{end_branch_at, escaped_at, row_at, operated_at, body_at, instruction_at, decoded}
+use Rattle.amd64_subset.specs.Decoding.{end_branch_at, escaped_at, row_at, operated_at, body_at, instruction_at}
+use Rattle.amd64_subset.specs.Decoding.{decoded}
 use Rattle.amd64_subset.specs.Meaning.{numbered_body, operation_of, operand_body}
 use Rattle.amd64_subset.specs.Number.{signed_of}
 use Rattle.amd64_subset.specs.Prefix.{rex_at, prefixes_at}

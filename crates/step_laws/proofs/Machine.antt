@@ -1,5 +1,6 @@
 -- An instruction that reads numbers alone does what the machine's does.
-use Rattle.std.proofs.Common.{◌≡◌, ℕ, ◌+◌, ◌*◌, ◌-◌, ◌%◌, ◌^◌, Bool, true, false, List, [], ◌∷◌, Option, Some, None, Result, Ok, Err, refl, sym, ap, subst, ◌∙◌, arith}
+use Rattle.std.proofs.Common.{◌≡◌, ℕ, ◌+◌, ◌*◌, ◌-◌, ◌%◌, ◌^◌, Bool, true, false, List, [], ◌∷◌, Option, Some, None}
+use Rattle.std.proofs.Common.{Result, Ok, Err, refl, sym, ap, subst, ◌∙◌, arith}
 use Rattle.std.specs.Prelude.{if◌then◌else◌}
 use Rattle.std.specs.List.{All}
 use Rattle.std.proofs.lemmas.List.Elements.{All-head, All-tail}
@@ -8,10 +9,14 @@ use Rattle.amd64_words.specs.declared.register.Register.TheVariants.{Rsp, Rbp}
 use Rattle.amd64_subset.specs.declared.instr.Arithmetic.{Arithmetic}
 use Rattle.amd64_subset.specs.declared.instr.Arithmetic.TheVariants.{Add, Or, And, Sub, Xor, Compare}
 use Rattle.amd64_subset.specs.declared.instr.Condition.{Condition}
-use Rattle.amd64_subset.specs.declared.instr.Condition.TheVariants.{Overflow, NotOverflow, Below, NotBelow, Equal, NotEqual, BelowOrEqual, Above, Sign, NotSign, Less, NotLess, LessOrEqual, Greater}
+use Rattle.amd64_subset.specs.declared.instr.Condition.TheVariants.{Overflow, NotOverflow, Below, NotBelow, Equal}
+use Rattle.amd64_subset.specs.declared.instr.Condition.TheVariants.{NotEqual, BelowOrEqual, Above, Sign, NotSign, Less}
+use Rattle.amd64_subset.specs.declared.instr.Condition.TheVariants.{NotLess, LessOrEqual, Greater}
 use Rattle.amd64_subset.specs.declared.instr.Decoded.{Decoded}
 use Rattle.amd64_subset.specs.declared.instr.Operation.{Operation}
-use Rattle.amd64_subset.specs.declared.instr.Operation.TheVariants.{Move, StoreByte, ExtendByte, ExtendLong, LoadAddress, Compute, Test, Multiply, Shift as ShiftBy, Push, Pop, Leave, Call, Jump}
+use Rattle.amd64_subset.specs.declared.instr.Operation.TheVariants.{Move, StoreByte, ExtendByte, ExtendLong}
+use Rattle.amd64_subset.specs.declared.instr.Operation.TheVariants.{LoadAddress, Compute, Test, Multiply}
+use Rattle.amd64_subset.specs.declared.instr.Operation.TheVariants.{Shift as ShiftBy, Push, Pop, Leave, Call, Jump}
 use Rattle.amd64_subset.specs.declared.instr.Operation.TheVariants.{JumpIf, Return, Nop, Undefined as Nothing}
 use Rattle.amd64_subset.specs.declared.instr.Shift.{Shift}
 use Rattle.amd64_subset.specs.declared.instr.Target.{Target}
@@ -42,11 +47,14 @@ use Rattle.guest_operands.specs.declared.state.State.{State}
 use Rattle.guest_operands.specs.declared.stop.Stop.{Stop}
 use Rattle.guest_operands.specs.declared.stop.Stop.TheVariants.{Address, Code}
 use Rattle.guest_operands.specs.Access.{Accesses, Refusal, Refused, Shut, load_of}
-use Rattle.guest_operands.specs.Operand.{address_of, base_of, carried, carried_as, factor_of, index_of, number_at, put, size_of, taken, taken_at, weighed}
+use Rattle.guest_operands.specs.Operand.{address_of, base_of, carried, carried_as, factor_of, index_of, number_at, put}
+use Rattle.guest_operands.specs.Operand.{size_of, taken, taken_at, weighed}
 use Rattle.guest_operands.specs.State.{at_place, register_of, with_register, with_stack, with_word}
 use Rattle.guest_operands.specs.Use.{◌>>=◌, After, clean, left, plus, there}
-use Rattle.guest_machine.specs.Step.{act, call_of, compute_in, compute_number, compute_of, compute_plain, concluded, extend_byte, extend_long, finished, immediate_of, is_cleared, jump_if, jump_of}
-use Rattle.guest_machine.specs.Step.{leave_of, load_address, move_in, move_number, move_of, multiply_of, nop_of, pop_of, push_of, pushed, return_of, settled, shift_of, store_byte, stored, test_of}
+use Rattle.guest_machine.specs.Step.{act, call_of, compute_in, compute_number, compute_of, compute_plain, concluded}
+use Rattle.guest_machine.specs.Step.{extend_byte, extend_long, finished, immediate_of, is_cleared, jump_if, jump_of}
+use Rattle.guest_machine.specs.Step.{leave_of, load_address, move_in, move_number, move_of, multiply_of, nop_of, pop_of}
+use Rattle.guest_machine.specs.Step.{push_of, pushed, return_of, settled, shift_of, store_byte, stored, test_of}
 use Rattle.guest_machine.specs.Touch.{places_from}
 use Rattle.job_meaning.specs.declared.values.Byte.{Byte}
 use Rattle.job_meaning.specs.declared.values.Flag.{Flag}
@@ -54,10 +62,14 @@ use Rattle.job_meaning.specs.declared.values.Word.{Word}
 use Rattle.job_meaning.specs.declared.values.Word.TheVariants.{Number}
 use Rattle.job_meaning.specs.Marked.{marked_operations}
 use Rattle.step_laws.specs.Plain.{HasNumbers, IsAfter, IsByte, IsNumber, IsTruth, numbered}
-use Rattle.step_laws.specs.Reads.{address_in, base_at, bytes_in, bytes_read, clears, flags_read, in_condition, in_address, in_base, in_index, in_operand, index_at, left_undefined, registers_read}
+use Rattle.step_laws.specs.Reads.{address_in, base_at, bytes_in, bytes_read, clears, flags_read, in_condition}
+use Rattle.step_laws.specs.Reads.{in_address, in_base, in_index, in_operand, index_at, left_undefined, registers_read}
 use Rattle.step_laws.proofs.NeededSteps.{OpenTo}
-use Rattle.step_laws.proofs.After.{Same, SoFar, at-first, at-last, computed-settled, far-stack, far-word, none_undefined, product-settled, same-if, same-then, same-there, settled-last, shift-settled, unsettled_by}
-use Rattle.step_laws.proofs.Numbers.{SameAccess, all-left, all-right, condition-is, kept-is, kept_byte-is, load-same, marked, number-is, number_at-is, store-same, used-is}
+use Rattle.step_laws.proofs.After.{Same, SoFar, at-first, at-last, computed-settled, far-stack, far-word}
+use Rattle.step_laws.proofs.After.{none_undefined, product-settled, same-if, same-then, same-there, settled-last}
+use Rattle.step_laws.proofs.After.{shift-settled, unsettled_by}
+use Rattle.step_laws.proofs.Numbers.{SameAccess, all-left, all-right, condition-is, kept-is, kept_byte-is, load-same}
+use Rattle.step_laws.proofs.Numbers.{marked, number-is, number_at-is, store-same, used-is}
 use Rattle.amd64_subset.specs.Number.{signed_long_of}
 use Rattle.amd64_words.specs.RegisterLaws.{told_by_number}
 

@@ -14,7 +14,8 @@ use Rattle.whole_meaning.specs.declared.sequences.Sequence.{Sequence}
 use Rattle.whole_meaning.specs.Meanings.{Meaning}
 use Rattle.whole_meaning.specs.Reading.{marked_step, reaches_linker}
 use Rattle.whole_meaning.specs.Running.{meaning}
-use Rattle.whole_meaning.specs.Threads.{Meant, Memory, held_next, meant_accesses, meant_mark, meant_shut, meant_steps, ops, sequence_at}
+use Rattle.whole_meaning.specs.Threads.{Meant, Memory, held_next, meant_accesses, meant_mark, meant_shut, meant_steps}
+use Rattle.whole_meaning.specs.Threads.{ops, sequence_at}
 use Rattle.step_laws.specs.Laws.{StepsAreAsTold, TouchedBytesAreNeeded}
 use Rattle.step_laws.specs.Steps.{HasNoCause, StartsNoSequence, data_touched, step_over, without}
 use Rattle.step_laws.proofs.Needed.{Stays}

@@ -1,12 +1,15 @@
 -- An instruction that has no cause is refused as soon as one byte that it touches can be neither read nor written.
-use Rattle.std.proofs.Common.{◌≡◌, ◌⊎◌, inl, inr, ℕ, ◌-◌, ◌^◌, Bool, true, false, Option, Some, None, Result, Ok, Err, refl, ap, subst}
+use Rattle.std.proofs.Common.{◌≡◌, ◌⊎◌, inl, inr, ℕ, ◌-◌, ◌^◌, Bool, true, false, Option, Some, None, Result, Ok, Err}
+use Rattle.std.proofs.Common.{refl, ap, subst}
 use Rattle.std.specs.Prelude.{if◌then◌else◌}
 use Rattle.std.specs.List.{Contains}
 use Rattle.amd64_words.specs.declared.register.Register.{Register}
 use Rattle.amd64_subset.specs.declared.instr.Arithmetic.{Arithmetic}
 use Rattle.amd64_subset.specs.declared.instr.Arithmetic.TheVariants.{Add, Or, And, Sub, Xor, Compare}
 use Rattle.amd64_subset.specs.declared.instr.Operation.{Operation}
-use Rattle.amd64_subset.specs.declared.instr.Operation.TheVariants.{Move, StoreByte, ExtendByte, ExtendLong, LoadAddress, Compute, Test, Multiply, Shift, Push, Pop, Leave, Call, Jump, JumpIf, Return}
+use Rattle.amd64_subset.specs.declared.instr.Operation.TheVariants.{Move, StoreByte, ExtendByte, ExtendLong}
+use Rattle.amd64_subset.specs.declared.instr.Operation.TheVariants.{LoadAddress, Compute, Test, Multiply, Shift, Push}
+use Rattle.amd64_subset.specs.declared.instr.Operation.TheVariants.{Pop, Leave, Call, Jump, JumpIf, Return}
 use Rattle.amd64_subset.specs.declared.instr.Operation.TheVariants.{Nop, Undefined}
 use Rattle.amd64_subset.specs.declared.instr.Target.TheVariants.{Relative, Indirect}
 use Rattle.amd64_subset.specs.declared.instr.Width.{Width}
@@ -28,16 +31,20 @@ use Rattle.guest_operands.specs.declared.space.Size.TheVariants.{Byte, Quad}
 use Rattle.guest_operands.specs.declared.state.State.{State}
 use Rattle.guest_operands.specs.declared.stop.Stop.{Stop}
 use Rattle.guest_operands.specs.declared.stop.Stop.TheVariants.{Address}
-use Rattle.guest_operands.specs.Access.{Accesses, Refusal, Refused, Shut, bytes_from, bytes_in, load_of, put_all, reached, store_of}
+use Rattle.guest_operands.specs.Access.{Accesses, Refusal, Refused, Shut, bytes_from, bytes_in, load_of, put_all}
+use Rattle.guest_operands.specs.Access.{reached, store_of}
 use Rattle.guest_operands.specs.Operand.{address_of, carried, number_at, size_for, size_of, taken, taken_at, weighed}
 use Rattle.guest_operands.specs.State.{at_place, register_of}
 use Rattle.guest_operands.specs.Use.{◌>>=◌, After, clean, left, plus, refused_with, there}
 use Rattle.guest_machine.specs.Clean.{IsClean}
-use Rattle.guest_machine.specs.Step.{act, call_of, compute_in, compute_number, compute_of, compute_plain, extend_byte, extend_long, immediate_of, is_cleared, jump_of, leave_of, move_in}
-use Rattle.guest_machine.specs.Step.{move_number, move_of, multiply_of, pop_of, push_of, pushed, return_of, shift_of, store_byte, stored, test_of}
+use Rattle.guest_machine.specs.Step.{act, call_of, compute_in, compute_number, compute_of, compute_plain, extend_byte}
+use Rattle.guest_machine.specs.Step.{extend_long, immediate_of, is_cleared, jump_of, leave_of, move_in}
+use Rattle.guest_machine.specs.Step.{move_number, move_of, multiply_of, pop_of, push_of, pushed, return_of, shift_of}
+use Rattle.guest_machine.specs.Step.{store_byte, stored, test_of}
 use Rattle.guest_machine.specs.declared.touch.Direction.TheVariants.{Load, Store}
 use Rattle.guest_machine.specs.Touch.{computed_touches, operand_touch, push_touch, touch_at, touched, touches_of}
-use Rattle.step_laws.proofs.Places.{AllowsLess, IsAmong, IsIn, IsLess, bytes-less, bytes-refused, reached-less, touched-in, writes-refused}
+use Rattle.step_laws.proofs.Places.{AllowsLess, IsAmong, IsIn, IsLess, bytes-less, bytes-refused, reached-less}
+use Rattle.step_laws.proofs.Places.{touched-in, writes-refused}
 
 -- a result that is no unclean stop
 abbrev pub Stays : {A : Type 0} → Result A Stop → Type 0

@@ -1,5 +1,6 @@
 -- A step of the meaning that reads numbers alone is the machine's.
-use Rattle.std.proofs.Common.{◌≡◌, ◌⊎◌, inl, inr, ℕ, zero, suc, ◌<◌, ◌≤◌, Bool, true, false, List, length, take, Option, Some, None, Result, Ok, Err, refl, sym, ap, subst, ◌∙◌, arith}
+use Rattle.std.proofs.Common.{◌≡◌, ◌⊎◌, inl, inr, ℕ, zero, suc, ◌<◌, ◌≤◌, Bool, true, false, List, length, take, Option}
+use Rattle.std.proofs.Common.{Some, None, Result, Ok, Err, refl, sym, ap, subst, ◌∙◌, arith}
 use Rattle.std.specs.Prelude.{IfSome}
 use Rattle.std.specs.List.{list_any}
 use Rattle.std.proofs.lemmas.Bool.{cases_lt}
@@ -28,10 +29,12 @@ use Rattle.whole_meaning.specs.declared.marks.Mark.{Mark}
 use Rattle.whole_meaning.specs.declared.marks.Mark.TheVariants.{Usual}
 use Rattle.whole_meaning.specs.Fields.{address_at, marked_frame, number_in, starts_offset}
 use Rattle.whole_meaning.specs.Meanings.{Meaning}
-use Rattle.whole_meaning.specs.Reading.{acted, done, hindered, hindrance, marked_step, own_touches, plain_step, reaches_linker}
+use Rattle.whole_meaning.specs.Reading.{acted, done, hindered, hindrance, marked_step, own_touches, plain_step}
+use Rattle.whole_meaning.specs.Reading.{reaches_linker}
 use Rattle.whole_meaning.specs.Threads.{Meant, Memory, held_next, meant_accesses, meant_mark, meant_shut, ops}
 use Rattle.step_laws.specs.Laws.{PlainStepsAreTheMachines}
-use Rattle.step_laws.specs.Plain.{DoesRead, HasNumbers, IsAfter, IsReadWhole, IsTheMachines, bytes_touched, numbered, undefined_by}
+use Rattle.step_laws.specs.Plain.{DoesRead, HasNumbers, IsAfter, IsReadWhole, IsTheMachines, bytes_touched, numbered}
+use Rattle.step_laws.specs.Plain.{undefined_by}
 use Rattle.step_laws.specs.Steps.{fetched}
 use Rattle.step_laws.proofs.After.{Same}
 use Rattle.step_laws.proofs.Hindrances.{place-behind, stays-none, unhindered, unread-free, usual-free}

@@ -1,5 +1,6 @@
 -- The bytes that the meaning's instruction touches are those that it reads and writes.
-use Rattle.std.proofs.Common.{◌≡◌, ℕ, zero, suc, ◌-◌, ◌^◌, Bool, true, false, ◌||◌, List, [], ◌∷◌, ◌++◌, Option, None, Result, Ok, Err, refl, sym, ap, subst, ◌∙◌}
+use Rattle.std.proofs.Common.{◌≡◌, ℕ, zero, suc, ◌-◌, ◌^◌, Bool, true, false, ◌||◌, List, [], ◌∷◌, ◌++◌, Option, None}
+use Rattle.std.proofs.Common.{Result, Ok, Err, refl, sym, ap, subst, ◌∙◌}
 use Rattle.std.specs.Prelude.{if◌then◌else◌, is_err}
 use Rattle.std.specs.List.{list_any}
 use Rattle.std.proofs.lemmas.Bool.{or_parts}
@@ -10,7 +11,9 @@ use Rattle.amd64_subset.specs.declared.instr.Arithmetic.{Arithmetic}
 use Rattle.amd64_subset.specs.declared.instr.Arithmetic.TheVariants.{Add, Or, And, Sub, Xor, Compare}
 use Rattle.amd64_subset.specs.declared.instr.Decoded.{Decoded}
 use Rattle.amd64_subset.specs.declared.instr.Operation.{Operation}
-use Rattle.amd64_subset.specs.declared.instr.Operation.TheVariants.{Move, StoreByte, ExtendByte, ExtendLong, LoadAddress, Compute, Test, Multiply, Shift, Push, Pop, Leave, Call, Jump, JumpIf, Return}
+use Rattle.amd64_subset.specs.declared.instr.Operation.TheVariants.{Move, StoreByte, ExtendByte, ExtendLong}
+use Rattle.amd64_subset.specs.declared.instr.Operation.TheVariants.{LoadAddress, Compute, Test, Multiply, Shift, Push}
+use Rattle.amd64_subset.specs.declared.instr.Operation.TheVariants.{Pop, Leave, Call, Jump, JumpIf, Return}
 use Rattle.amd64_subset.specs.declared.instr.Operation.TheVariants.{Nop, Undefined}
 use Rattle.amd64_subset.specs.declared.instr.Target.TheVariants.{Relative, Indirect}
 use Rattle.amd64_subset.specs.declared.instr.Width.{Width}
@@ -25,19 +28,22 @@ use Rattle.guest_operands.specs.declared.frame.Frame.{Frame}
 use Rattle.guest_operands.specs.declared.space.Size.{Size}
 use Rattle.guest_operands.specs.declared.space.Size.TheVariants.{Byte as ByteSize, Long as LongSize, Quad as QuadSize}
 use Rattle.guest_operands.specs.declared.state.State.{State}
-use Rattle.guest_operands.specs.Access.{bytes_in as bytes_of, Accesses, Refusal, Refused, Shut, both_reached, bytes_at, next_place}
+use Rattle.guest_operands.specs.Access.{bytes_in as bytes_of, Accesses, Refusal, Refused, Shut, both_reached, bytes_at}
+use Rattle.guest_operands.specs.Access.{next_place}
 use Rattle.guest_operands.specs.Operand.{address_of, size_for, size_of}
 use Rattle.guest_operands.specs.State.{register_of}
 use Rattle.guest_operands.specs.Use.{plus}
 use Rattle.guest_machine.specs.declared.touch.Touch.{Touch}
 use Rattle.guest_machine.specs.declared.touch.Touches.{Touches}
 use Rattle.guest_machine.specs.declared.touch.Direction.TheVariants.{Load, Store}
-use Rattle.guest_machine.specs.Touch.{changed_touches, computed_touches, operand_touch, paired, places_from, push_touch, refuses, touch_at, touched, touched_then, touches_of}
+use Rattle.guest_machine.specs.Touch.{changed_touches, computed_touches, operand_touch, paired, places_from, push_touch}
+use Rattle.guest_machine.specs.Touch.{refuses, touch_at, touched, touched_then, touches_of}
 use Rattle.job_meaning.specs.declared.values.Byte.{Byte}
 use Rattle.job_meaning.specs.declared.values.Flag.{Flag}
 use Rattle.job_meaning.specs.declared.values.Word.{Word}
 use Rattle.step_laws.specs.Plain.{HasNumbers, any_refused}
-use Rattle.step_laws.specs.Reads.{address_in, bytes_in, bytes_read, bytes_written, clears, computed, in_address, in_operand, in_result, registers_read}
+use Rattle.step_laws.specs.Reads.{address_in, bytes_in, bytes_read, bytes_written, clears, computed, in_address}
+use Rattle.step_laws.specs.Reads.{in_operand, in_result, registers_read}
 use Rattle.step_laws.proofs.Machine.{AreNumbers, address-is, bare, cleared-is, rbp-is, rest, rsp-is, unless-cleared}
 use Rattle.step_laws.proofs.Needed.{not-cleared}
 use Rattle.step_laws.proofs.NeededSteps.{OpenTo}

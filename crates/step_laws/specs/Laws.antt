@@ -36,5 +36,6 @@ abbrev pub StepsAreAsTold : Type 0
 StepsAreAsTold = (m : Meaning) (thread : ℕ) (h : Meant)
     → (step_over m thread (meant_accesses m thread) h ≡ (meant_steps m thread).step h)
     × ((shut : ℕ → Bool)
-    → reaches_linker ops (meant_accesses m thread) (meant_mark m thread h.after.memory) shut h.after.state h.after.memory
+    → reaches_linker ops (meant_accesses m thread)
+    (meant_mark m thread h.after.memory) shut h.after.state h.after.memory
     ≡ (shut h.after.state.place || list_any shut (data_touched m thread h)))

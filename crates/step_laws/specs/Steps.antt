@@ -9,7 +9,8 @@ use Rattle.job_meaning.specs.declared.values.Byte.{Byte}
 use Rattle.whole_meaning.specs.Meanings.{Meaning}
 use Rattle.whole_meaning.specs.Reading.{own_touches}
 use Rattle.whole_meaning.specs.Running.{meaning}
-use Rattle.whole_meaning.specs.Threads.{Meant, Memory, held_next, meant_accesses, meant_mark, meant_sequence, meant_shut, ops, sequence_at}
+use Rattle.whole_meaning.specs.Threads.{Meant, Memory, held_next, meant_accesses, meant_mark, meant_sequence}
+use Rattle.whole_meaning.specs.Threads.{meant_shut, ops, sequence_at}
 
 -- the step is not unclean
 abbrev pub HasNoCause : {S : Type 0} → Next S → Type 0

@@ -1,14 +1,18 @@
 -- Threads that hold blocks alone, whatever their steps are: each takes its own turns, at fronts of the history.
-use Rattle.std.proofs.Common.{◌≡◌, ◌⊎◌, ◌∙◌, ◌-◌, ◌++◌, ℕ, zero, suc, List, [], ◌∷◌, length, Option, Some, None, refl, sym, ap, subst, inl, inr, append-nil}
+use Rattle.std.proofs.Common.{◌≡◌, ◌⊎◌, ◌∙◌, ◌-◌, ◌++◌, ℕ, zero, suc, List, [], ◌∷◌, length, Option, Some, None, refl}
+use Rattle.std.proofs.Common.{sym, ap, subst, inl, inr, append-nil}
 use Rattle.std.specs.Prelude.{slice_get, slice_set}
 use Rattle.guest_operands.specs.declared.stop.Stop.{Stop}
 use Rattle.guest_machine.specs.Run.{Next, Goes, Ends, Looks, Outcome, Ended, Waits, Stepping, over_or, go_on, run}
 use Rattle.guest_machine.specs.Use.{left}
 use Rattle.module_table.specs.declared.events.Event.{Event}
 use Rattle.thread_blocks.specs.Held.{Held, Owner, owned_by, ranges_in, with_owned}
-use Rattle.thread_blocks.specs.JobWorlds.{Shared, blocks_in, changed, data_in, held_in, shared_order, shared_turn, with_data, without_data}
-use Rattle.thread_blocks.specs.Turns.{Said, Begun, Says, Calls, Turns, Phase, Idle, Mid, Thread, IsFinished, after_look, after_run, turn, turn_at, turns, with_last}
-use Rattle.thread_blocks.specs.TurnsAlike.{AllFronts, IsFront, Rises}
+use Rattle.thread_blocks.specs.JobWorlds.{Shared, blocks_in, changed, data_in, held_in, shared_order, shared_turn}
+use Rattle.thread_blocks.specs.JobWorlds.{with_data, without_data}
+use Rattle.thread_blocks.specs.Turns.{Said, Begun, Says, Calls, Turns, Phase, Idle, Mid, Thread, IsFinished, after_look}
+use Rattle.thread_blocks.specs.Turns.{after_run, turn, turn_at, turns, with_last}
+use Rattle.thread_blocks.specs.TurnsAlike.{Rises}
+use Rattle.thread_blocks.specs.Turns.{AllFronts, IsFront}
 use Rattle.thread_blocks.proofs.Orders.{front-trans, get-set, get-set_same, order-front, taken, turn-front, turned}
 use Rattle.thread_blocks.proofs.Blocks.{HoldsBlocks, blocks_again, no_data, owners_again, ranges_again}
 use Rattle.thread_blocks.proofs.BlocksBegun.{BegunHolds}

@@ -6,7 +6,9 @@ use Rattle.guest_machine.specs.Ranges.{Range, grants, with_byte}
 use Rattle.guest_operands.specs.declared.space.Access.TheVariants.{Write}
 use Rattle.loaded_modules.specs.declared.instance.Instance.{Instance}
 use Rattle.module_table.specs.declared.events.Event.{Event}
-use Rattle.thread_blocks.specs.Held.{Held, Owned, Owner, block_after, block_with, data_after, data_with, held_of, is_block, loaded, loaded_at, looked, looked_at, owned, owned_by, owners_of, ranges_in, reached, reached_at}
+use Rattle.thread_blocks.specs.Held.{Held, Owned, Owner, block_after, block_with, data_after, data_with, held_of}
+use Rattle.thread_blocks.specs.Held.{is_block, loaded, loaded_at, looked, looked_at, owned, owned_by, owners_of}
+use Rattle.thread_blocks.specs.Held.{ranges_in, reached, reached_at}
 use Rattle.thread_blocks.specs.Instances.{Loads, instances}
 use Rattle.thread_blocks.specs.JobWorlds.{blocks_in, data_in}
 
@@ -36,7 +38,8 @@ module _ {B : Type 0} where
   blocks_again [] [] are = refl
   blocks_again [] (r ∷ rs) are = absurd are
   blocks_again (o ∷ os) [] are = absurd are
-  blocks_again (o ∷ os) (r ∷ rs) are = rw are.0 (ap (λ more. record { owner = o; range = r } ∷ more) (blocks_again os rs are.1))
+  blocks_again (o ∷ os) (r ∷ rs) are =
+      rw are.0 (ap (λ more. record { owner = o; range = r } ∷ more) (blocks_again os rs are.1))
 
   pub no_data : (os : List Owner) (rs : List (Range B)) → AreBlocks os rs → data_in (owned os rs) ≡ []
   no_data [] [] are = refl

@@ -12,7 +12,8 @@ use Rattle.module_table.specs.Modules.{is_loaded}
 use Rattle.module_table.specs.Past.{close_refusal, module_of, open_refusal}
 use Rattle.thread_blocks.specs.Held.{Held, block_bytes, looked, owned_by, reached}
 use Rattle.thread_blocks.specs.Instances.{Loads, instance_at, left_by}
-use Rattle.thread_blocks.specs.Lines.{Line, begin_line, begun_at, begun_by, begun_close, begun_in, begun_open, begun_peek, event_at, refused, shown_from, shown_in, with_load}
+use Rattle.thread_blocks.specs.Lines.{Line, begin_line, begun_at, begun_by, begun_close, begun_in, begun_open}
+use Rattle.thread_blocks.specs.Lines.{begun_peek, event_at, refused, shown_from, shown_in, with_load}
 use Rattle.thread_blocks.specs.Turns.{Begun, Says, Calls, Ending, with_last}
 use Rattle.transcript_text.specs.declared.outcomes.LineRefusal.TheVariants.{Length as TooLong}
 use Rattle.thread_blocks.proofs.Blocks.{HoldsBlocks, load_holds, look_holds, reach_holds}

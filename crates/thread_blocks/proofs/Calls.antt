@@ -12,15 +12,18 @@ use Rattle.guest_machine.specs.Use.{After}
 use Rattle.guest_arithmetic.specs.Values.{Operations}
 use Rattle.thread_blocks.specs.MachineTurns.{call_start}
 
-looks_stay : {W F M : Type 0} (b : Bool) (a t : After W F M) (r : Result (After W F M) Stop) → (if b then Looks a else next_of r) ≡ Looks t → t ≡ a
+looks_stay : {W F M : Type 0} (b : Bool) (a t : After W F M) (r : Result (After W F M) Stop)
+    → (if b then Looks a else next_of r) ≡ Looks t → t ≡ a
 looks_stay true a t r e = cc
 looks_stay false a t (Ok after) e = cc
 looks_stay false a t (Err stop) e = cc
 
 -- at a look nothing has changed
-pub machine_stays : {W F B M : Type 0} (ops : Operations W F B) (acc : Accesses M B) (is_field : M → ℕ → Bool) (s t : After W F M) → (machine ops acc is_field).step s ≡ Looks t → t ≡ s
+pub machine_stays : {W F B M : Type 0} (ops : Operations W F B) (acc : Accesses M B) (is_field : M → ℕ → Bool)
+    (s t : After W F M) → (machine ops acc is_field).step s ≡ Looks t → t ≡ s
 unfolding machine
-machine_stays ops acc is_field s t e = looks_stay (is_look s.state.place) s t (step_of ops acc (is_field s.memory) s.state s.memory) e
+machine_stays ops acc is_field s t e =
+    looks_stay (is_look s.state.place) s t (step_of ops acc (is_field s.memory) s.state s.memory) e
 
 plain_word : (number : ℕ) → number < 2 ^ 64 → plain_operations.word number ≡ number
 unfolding plain_operations

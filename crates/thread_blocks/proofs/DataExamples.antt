@@ -19,7 +19,12 @@ use Rattle.thread_blocks.proofs.JobRuns.{said, told}
 abbrev shared_counter_app : Spelled
 shared_counter_app = record {
   kind = ExeFile;
-  parts = record { class = Executable; address = 0x400000; bytes = 0x8b ∷ 0x05 ∷ 0xfa ∷ 0x0f ∷ 0x00 ∷ 0x00 ∷ 0x83 ∷ 0xc0 ∷ 0x01 ∷ 0x89 ∷ 0x05 ∷ 0xf1 ∷ 0x0f ∷ 0x00 ∷ 0x00 ∷ 0xc3 ∷ [] }
+  parts = record {
+    class = Executable;
+    address = 0x400000;
+    bytes = 0x8b ∷ 0x05 ∷ 0xfa ∷ 0x0f ∷ 0x00 ∷ 0x00 ∷ 0x83 ∷ 0xc0 ∷ 0x01 ∷ 0x89 ∷ 0x05 ∷ 0xf1 ∷ 0x0f ∷ 0x00 ∷ 0x00
+        ∷ 0xc3 ∷ [];
+  }
       ∷ record { class = Writable; address = 0x401000; bytes = 0x05 ∷ 0x00 ∷ 0x00 ∷ 0x00 ∷ [] }
       ∷ record { class = ReadOnly; address = 0x402000; bytes = [] }
       ∷ [];
@@ -39,10 +44,13 @@ shared_counter_app = record {
 }
 
 shared_counter : told (said (Exe ∷ []) (shared_counter_app ∷ []) 4
-    ((record { image = 1; action = Call (0x66 ∷ []) 0 0 0 } ∷ record { image = 1; action = Call (0x66 ∷ []) 0 0 0 } ∷ []) ∷ (record { image = 1; action = Call (0x66 ∷ []) 0 0 0 } ∷ []) ∷ [])
+    ((record { image = 1; action = Call (0x66 ∷ []) 0 0 0 } ∷ record { image = 1; action = Call (0x66 ∷ []) 0 0 0 }
+    ∷ []) ∷ (record { image = 1; action = Call (0x66 ∷ []) 0 0 0 } ∷ []) ∷ [])
     (1 ∷ 2 ∷ 1 ∷ []))
     ≡ (
-      ((record { points = 0 ∷ []; ending = Stopped (Returned 0x6) }) ∷ (record { points = 0 ∷ []; ending = Stopped (Returned 0x8) }) ∷ []) ∷ ((record { points = 0 ∷ []; ending = Stopped (Returned 0x7) }) ∷ []) ∷ [],
+      ((record { points = 0 ∷ []; ending = Stopped (Returned 0x6) })
+          ∷ (record { points = 0 ∷ []; ending = Stopped (Returned 0x8) }) ∷ [])
+          ∷ ((record { points = 0 ∷ []; ending = Stopped (Returned 0x7) }) ∷ []) ∷ [],
       [],
     )
 unfolding said
@@ -53,7 +61,12 @@ shared_counter = refl
 abbrev fresh_counter_plug : Spelled
 fresh_counter_plug = record {
   kind = ModuleFile;
-  parts = record { class = Executable; address = 0x0; bytes = 0x8b ∷ 0x05 ∷ 0xfa ∷ 0x0f ∷ 0x00 ∷ 0x00 ∷ 0x83 ∷ 0xc0 ∷ 0x01 ∷ 0x89 ∷ 0x05 ∷ 0xf1 ∷ 0x0f ∷ 0x00 ∷ 0x00 ∷ 0xc3 ∷ [] }
+  parts = record {
+    class = Executable;
+    address = 0x0;
+    bytes = 0x8b ∷ 0x05 ∷ 0xfa ∷ 0x0f ∷ 0x00 ∷ 0x00 ∷ 0x83 ∷ 0xc0 ∷ 0x01 ∷ 0x89 ∷ 0x05 ∷ 0xf1 ∷ 0x0f ∷ 0x00 ∷ 0x00
+        ∷ 0xc3 ∷ [];
+  }
       ∷ record { class = Writable; address = 0x1000; bytes = 0x05 ∷ 0x00 ∷ 0x00 ∷ 0x00 ∷ [] }
       ∷ record { class = ReadOnly; address = 0x2000; bytes = [] }
       ∷ [];
@@ -73,11 +86,19 @@ fresh_counter_plug = record {
 }
 
 fresh_counter : told (said (Exe ∷ Late ∷ []) (variable_app ∷ fresh_counter_plug ∷ []) 4
-    ((record { image = 2; action = Open } ∷ record { image = 2; action = Call (0x66 ∷ []) 0 0 0 } ∷ record { image = 2; action = Close } ∷ record { image = 2; action = Open } ∷ record { image = 2; action = Call (0x66 ∷ []) 0 0 0 } ∷ []) ∷ [])
+    ((record { image = 2; action = Open } ∷ record { image = 2; action = Call (0x66 ∷ []) 0 0 0 }
+    ∷ record { image = 2; action = Close } ∷ record { image = 2; action = Open }
+    ∷ record { image = 2; action = Call (0x66 ∷ []) 0 0 0 } ∷ []) ∷ [])
     ([]))
     ≡ (
-      ((record { points = 0 ∷ []; ending = Answered (Opened 2) }) ∷ (record { points = 1 ∷ []; ending = Stopped (Returned 0x6) }) ∷ (record { points = 1 ∷ []; ending = Answered Closed }) ∷ (record { points = 2 ∷ []; ending = Answered (Opened 3) }) ∷ (record { points = 3 ∷ []; ending = Stopped (Returned 0x6) }) ∷ []) ∷ [],
-      (record { thread = 1; line = 1; opens = true; image = 2 }) ∷ (record { thread = 1; line = 3; opens = false; image = 2 }) ∷ (record { thread = 1; line = 4; opens = true; image = 2 }) ∷ [],
+      ((record { points = 0 ∷ []; ending = Answered (Opened 2) })
+          ∷ (record { points = 1 ∷ []; ending = Stopped (Returned 0x6) })
+          ∷ (record { points = 1 ∷ []; ending = Answered Closed })
+          ∷ (record { points = 2 ∷ []; ending = Answered (Opened 3) })
+          ∷ (record { points = 3 ∷ []; ending = Stopped (Returned 0x6) }) ∷ []) ∷ [],
+      (record { thread = 1; line = 1; opens = true; image = 2 })
+          ∷ (record { thread = 1; line = 3; opens = false; image = 2 })
+          ∷ (record { thread = 1; line = 4; opens = true; image = 2 }) ∷ [],
     )
 unfolding said
 fresh_counter = refl

@@ -14,7 +14,8 @@ use Rattle.guest_arithmetic.specs.Plain.{plain_operations}
 -- which thread stands where at first
 pub thread_at : (l : Loads ℕ) (first : ℕ) (lines : List (List ThreadLine)) (i number : ℕ) (own : List ThreadLine)
     → number ≡ first + i → slice_get lines i ≡ Some own
-    → slice_get (ready_from plain_operations l first lines) i ≡ Some (ready (thread_ready plain_operations l number) (numbered_lines 1 own))
+    → slice_get (ready_from plain_operations l first lines) i
+    ≡ Some (ready (thread_ready plain_operations l number) (numbered_lines 1 own))
 thread_at l first [] i number own e at = cc
 thread_at l first (lines ∷ more) zero number own e at =
     let same : number ≡ first = omega arith in
@@ -31,7 +32,8 @@ module _ (l : Loads ℕ) (fuel : ℕ) where
   within i = omega arith
 
   first_left : (lines : List (List ThreadLine)) (i : ℕ) (own : List ThreadLine) → slice_get lines i ≡ Some own
-      → HasLeft (λ thread. thread_turns l thread fuel) (λ thread. event_by l thread) (4 * fuel) within (job_start plain_operations l lines) i
+      → HasLeft (λ thread. thread_turns l thread fuel) (λ thread. event_by l thread) (4 * fuel) within
+      (job_start plain_operations l lines) i
       (enough (4 * fuel) (length own))
   first_left lines i own at = (
     ready (thread_ready plain_operations l (suc i)) (numbered_lines 1 own),
@@ -43,5 +45,6 @@ pub threads_ended : ThreadsEnd
 unfolding job_world
 threads_ended l fuel lines order zero own at = cc
 threads_ended l fuel lines order (suc i) own at =
-    order_ends (λ thread. thread_turns l thread fuel) (λ thread. event_by l thread) (4 * fuel) (within l fuel) lines order
+    order_ends (λ thread. thread_turns l thread fuel) (λ thread. event_by l thread) (4 * fuel)
+    (within l fuel) lines order
     (job_start plain_operations l lines) i own at (first_left l fuel lines i own at)

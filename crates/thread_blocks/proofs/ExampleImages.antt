@@ -11,7 +11,11 @@ use Rattle.image_rules.specs.declared.places.FileKind.TheVariants.{Exe as ExeFil
 abbrev pub variable_app : Spelled
 variable_app = record {
   kind = ExeFile;
-  parts = record { class = Executable; address = 0x400000; bytes = 0x64 ∷ 0x8b ∷ 0x04 ∷ 0x25 ∷ 0xfc ∷ 0xff ∷ 0xff ∷ 0xff ∷ 0xc3 ∷ [] }
+  parts = record {
+    class = Executable;
+    address = 0x400000;
+    bytes = 0x64 ∷ 0x8b ∷ 0x04 ∷ 0x25 ∷ 0xfc ∷ 0xff ∷ 0xff ∷ 0xff ∷ 0xc3 ∷ [];
+  }
       ∷ record { class = ReadOnly; address = 0x401000; bytes = 0x2a ∷ 0x00 ∷ 0x00 ∷ 0x00 ∷ [] }
       ∷ record { class = ReadOnly; address = 0x402000; bytes = [] }
       ∷ [];

@@ -23,7 +23,12 @@ begun true n = Calls (suc n)
 begun false n = Calls 0
 
 abbrev lines : Turns ℕ Bool ℕ
-lines = record { steps = counter; fuel = 2; begin = λ line seen s. begun line (length seen); resume = λ seen s. Calls (suc (length seen)) }
+lines = record {
+  steps = counter;
+  fuel = 2;
+  begin = λ line seen s. begun line (length seen);
+  resume = λ seen s. Calls (suc (length seen));
+}
 
 -- a thread that looks at no event and then at two
 looks_twice : (turns lines (ready 0 (false ∷ [])) ([] ∷ (0 ∷ 1 ∷ []) ∷ [])).said
@@ -32,5 +37,6 @@ looks_twice = refl
 
 -- one with two lines of one look each, and a turn more, which changes nothing
 looks_once : (turns lines (ready 0 (true ∷ true ∷ [])) ([] ∷ (0 ∷ []) ∷ (0 ∷ []) ∷ [])).said
-    ≡ record { points = 0 ∷ []; ending = Stopped (Returned 0) } ∷ record { points = 1 ∷ []; ending = Stopped (Returned 1) } ∷ []
+    ≡ record { points = 0 ∷ []; ending = Stopped (Returned 0) }
+    ∷ record { points = 1 ∷ []; ending = Stopped (Returned 1) } ∷ []
 looks_once = refl

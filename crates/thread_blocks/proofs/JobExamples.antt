@@ -22,9 +22,19 @@ use Rattle.thread_blocks.proofs.JobRuns.{said, told}
 abbrev opened_again_plug : Spelled
 opened_again_plug = record {
   kind = ModuleFile;
-  parts = record { class = Executable; address = 0x0; bytes = 0x57 ∷ 0x66 ∷ 0x48 ∷ 0x8d ∷ 0x3d ∷ 0xf7 ∷ 0x1f ∷ 0x00 ∷ 0x00 ∷ 0x66 ∷ 0x66 ∷ 0x48 ∷ 0xe8 ∷ 0xef ∷ 0x2f ∷ 0x00 ∷ 0x00 ∷ 0x59 ∷ 0x89 ∷ 0x08 ∷ 0xc3 ∷ [] }
+  parts = record {
+    class = Executable;
+    address = 0x0;
+    bytes = 0x57 ∷ 0x66 ∷ 0x48 ∷ 0x8d ∷ 0x3d ∷ 0xf7 ∷ 0x1f ∷ 0x00 ∷ 0x00 ∷ 0x66 ∷ 0x66 ∷ 0x48 ∷ 0xe8 ∷ 0xef ∷ 0x2f
+        ∷ 0x00 ∷ 0x00 ∷ 0x59 ∷ 0x89 ∷ 0x08 ∷ 0xc3 ∷ [];
+  }
       ∷ record { class = ReadOnly; address = 0x1000; bytes = 0x05 ∷ 0x00 ∷ 0x00 ∷ 0x00 ∷ [] }
-      ∷ record { class = Writable; address = 0x2000; bytes = 0x00 ∷ 0x00 ∷ 0x00 ∷ 0x00 ∷ 0x00 ∷ 0x00 ∷ 0x00 ∷ 0x00 ∷ 0x00 ∷ 0x00 ∷ 0x00 ∷ 0x00 ∷ 0x00 ∷ 0x00 ∷ 0x00 ∷ 0x00 ∷ 0x00 ∷ 0x00 ∷ 0x00 ∷ 0x00 ∷ 0x00 ∷ 0x00 ∷ 0x00 ∷ 0x00 ∷ [] }
+      ∷ record {
+        class = Writable;
+        address = 0x2000;
+        bytes = 0x00 ∷ 0x00 ∷ 0x00 ∷ 0x00 ∷ 0x00 ∷ 0x00 ∷ 0x00 ∷ 0x00 ∷ 0x00 ∷ 0x00 ∷ 0x00 ∷ 0x00 ∷ 0x00 ∷ 0x00 ∷ 0x00
+            ∷ 0x00 ∷ 0x00 ∷ 0x00 ∷ 0x00 ∷ 0x00 ∷ 0x00 ∷ 0x00 ∷ 0x00 ∷ 0x00 ∷ [];
+      }
       ∷ record { class = Executable; address = 0x3000; bytes = 0xff ∷ 0x25 ∷ 0x0a ∷ 0xf0 ∷ 0xff ∷ 0xff ∷ [] }
       ∷ record { class = ReadOnly; address = 0x4000; bytes = [] }
       ∷ [];
@@ -48,11 +58,21 @@ opened_again_plug = record {
 }
 
 opened_again : told (said (Exe ∷ Late ∷ []) (variable_app ∷ opened_again_plug ∷ []) 4
-    ((record { image = 2; action = Open } ∷ record { image = 2; action = Call (0x66 ∷ []) 7 0 0 } ∷ record { image = 2; action = Peek (0x76 ∷ []) 4 } ∷ record { image = 2; action = Close } ∷ record { image = 2; action = Open } ∷ record { image = 2; action = Peek (0x76 ∷ []) 4 } ∷ []) ∷ [])
+    ((record { image = 2; action = Open } ∷ record { image = 2; action = Call (0x66 ∷ []) 7 0 0 }
+    ∷ record { image = 2; action = Peek (0x76 ∷ []) 4 } ∷ record { image = 2; action = Close }
+    ∷ record { image = 2; action = Open } ∷ record { image = 2; action = Peek (0x76 ∷ []) 4 } ∷ []) ∷ [])
     ([]))
     ≡ (
-      ((record { points = 0 ∷ []; ending = Answered (Opened 2) }) ∷ (record { points = 1 ∷ 1 ∷ []; ending = Stopped (Returned 0x10002000000) }) ∷ (record { points = 1 ∷ []; ending = Answered (Bytes (0x07 ∷ 0x00 ∷ 0x00 ∷ 0x00 ∷ [])) }) ∷ (record { points = 1 ∷ []; ending = Answered Closed }) ∷ (record { points = 2 ∷ []; ending = Answered (Opened 3) }) ∷ (record { points = 3 ∷ []; ending = Answered (Bytes (0x05 ∷ 0x00 ∷ 0x00 ∷ 0x00 ∷ [])) }) ∷ []) ∷ [],
-      (record { thread = 1; line = 1; opens = true; image = 2 }) ∷ (record { thread = 1; line = 4; opens = false; image = 2 }) ∷ (record { thread = 1; line = 5; opens = true; image = 2 }) ∷ [],
+      ((record { points = 0 ∷ []; ending = Answered (Opened 2) })
+          ∷ (record { points = 1 ∷ 1 ∷ []; ending = Stopped (Returned 0x10002000000) })
+          ∷ (record { points = 1 ∷ []; ending = Answered (Bytes (0x07 ∷ 0x00 ∷ 0x00 ∷ 0x00 ∷ [])) })
+          ∷ (record { points = 1 ∷ []; ending = Answered Closed })
+          ∷ (record { points = 2 ∷ []; ending = Answered (Opened 3) })
+          ∷ (record { points = 3 ∷ []; ending = Answered (Bytes (0x05 ∷ 0x00 ∷ 0x00 ∷ 0x00 ∷ [])) })
+          ∷ []) ∷ [],
+      (record { thread = 1; line = 1; opens = true; image = 2 })
+          ∷ (record { thread = 1; line = 4; opens = false; image = 2 })
+          ∷ (record { thread = 1; line = 5; opens = true; image = 2 }) ∷ [],
     )
 unfolding said
 opened_again = refl
@@ -62,9 +82,20 @@ opened_again = refl
 abbrev unloaded_plug : Spelled
 unloaded_plug = record {
   kind = ModuleFile;
-  parts = record { class = Executable; address = 0x0; bytes = 0x66 ∷ 0x48 ∷ 0x8d ∷ 0x3d ∷ 0xf8 ∷ 0x1f ∷ 0x00 ∷ 0x00 ∷ 0x66 ∷ 0x66 ∷ 0x48 ∷ 0xe8 ∷ 0xf0 ∷ 0x2f ∷ 0x00 ∷ 0x00 ∷ 0x66 ∷ 0x48 ∷ 0x8d ∷ 0x3d ∷ 0xe8 ∷ 0x1f ∷ 0x00 ∷ 0x00 ∷ 0x66 ∷ 0x66 ∷ 0x48 ∷ 0xe8 ∷ 0xe0 ∷ 0x2f ∷ 0x00 ∷ 0x00 ∷ 0xc3 ∷ [] }
+  parts = record {
+    class = Executable;
+    address = 0x0;
+    bytes = 0x66 ∷ 0x48 ∷ 0x8d ∷ 0x3d ∷ 0xf8 ∷ 0x1f ∷ 0x00 ∷ 0x00 ∷ 0x66 ∷ 0x66 ∷ 0x48 ∷ 0xe8 ∷ 0xf0 ∷ 0x2f ∷ 0x00
+        ∷ 0x00 ∷ 0x66 ∷ 0x48 ∷ 0x8d ∷ 0x3d ∷ 0xe8 ∷ 0x1f ∷ 0x00 ∷ 0x00 ∷ 0x66 ∷ 0x66 ∷ 0x48 ∷ 0xe8 ∷ 0xe0 ∷ 0x2f
+        ∷ 0x00 ∷ 0x00 ∷ 0xc3 ∷ [];
+  }
       ∷ record { class = ReadOnly; address = 0x1000; bytes = 0x05 ∷ 0x00 ∷ 0x00 ∷ 0x00 ∷ [] }
-      ∷ record { class = Writable; address = 0x2000; bytes = 0x00 ∷ 0x00 ∷ 0x00 ∷ 0x00 ∷ 0x00 ∷ 0x00 ∷ 0x00 ∷ 0x00 ∷ 0x00 ∷ 0x00 ∷ 0x00 ∷ 0x00 ∷ 0x00 ∷ 0x00 ∷ 0x00 ∷ 0x00 ∷ 0x00 ∷ 0x00 ∷ 0x00 ∷ 0x00 ∷ 0x00 ∷ 0x00 ∷ 0x00 ∷ 0x00 ∷ [] }
+      ∷ record {
+        class = Writable;
+        address = 0x2000;
+        bytes = 0x00 ∷ 0x00 ∷ 0x00 ∷ 0x00 ∷ 0x00 ∷ 0x00 ∷ 0x00 ∷ 0x00 ∷ 0x00 ∷ 0x00 ∷ 0x00 ∷ 0x00 ∷ 0x00 ∷ 0x00 ∷ 0x00
+            ∷ 0x00 ∷ 0x00 ∷ 0x00 ∷ 0x00 ∷ 0x00 ∷ 0x00 ∷ 0x00 ∷ 0x00 ∷ 0x00 ∷ [];
+      }
       ∷ record { class = Executable; address = 0x3000; bytes = 0xff ∷ 0x25 ∷ 0x0a ∷ 0xf0 ∷ 0xff ∷ 0xff ∷ [] }
       ∷ record { class = ReadOnly; address = 0x4000; bytes = [] }
       ∷ [];
@@ -88,11 +119,15 @@ unloaded_plug = record {
 }
 
 unloaded : told (said (Exe ∷ Late ∷ []) (variable_app ∷ unloaded_plug ∷ []) 4
-    ((record { image = 2; action = Open } ∷ record { image = 2; action = Call (0x66 ∷ []) 0 0 0 } ∷ []) ∷ (record { image = 2; action = Close } ∷ []) ∷ [])
+    ((record { image = 2; action = Open } ∷ record { image = 2; action = Call (0x66 ∷ []) 0 0 0 } ∷ [])
+    ∷ (record { image = 2; action = Close } ∷ []) ∷ [])
     (1 ∷ 1 ∷ 1 ∷ 2 ∷ 1 ∷ []))
     ≡ (
-      ((record { points = 0 ∷ []; ending = Answered (Opened 2) }) ∷ (record { points = 1 ∷ 1 ∷ 2 ∷ []; ending = Answered (Fault Unloaded) }) ∷ []) ∷ ((record { points = 1 ∷ []; ending = Answered Closed }) ∷ []) ∷ [],
-      (record { thread = 1; line = 1; opens = true; image = 2 }) ∷ (record { thread = 2; line = 1; opens = false; image = 2 }) ∷ [],
+      ((record { points = 0 ∷ []; ending = Answered (Opened 2) })
+          ∷ (record { points = 1 ∷ 1 ∷ 2 ∷ []; ending = Answered (Fault Unloaded) }) ∷ [])
+          ∷ ((record { points = 1 ∷ []; ending = Answered Closed }) ∷ []) ∷ [],
+      (record { thread = 1; line = 1; opens = true; image = 2 })
+          ∷ (record { thread = 2; line = 1; opens = false; image = 2 }) ∷ [],
     )
 unfolding said
 unloaded = refl

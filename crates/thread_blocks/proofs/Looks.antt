@@ -1,5 +1,6 @@
 -- After a look a thread holds nothing of an instance that is gone.
-use Rattle.std.proofs.Common.{◌≡◌, ◌==◌, ℕ, List, [], ◌∷◌, ◌++◌, Option, Some, None, Bool, true, false, if◌then◌else◌, refl, sym, subst, ap, arith}
+use Rattle.std.proofs.Common.{◌≡◌, ◌==◌, ℕ, List, [], ◌∷◌, ◌++◌, Option, Some, None, Bool, true, false, if◌then◌else◌}
+use Rattle.std.proofs.Common.{refl, sym, subst, ap, arith}
 use Rattle.std.specs.Prelude.{is_some}
 use Rattle.std.specs.List.{All, find, flat_map}
 use Rattle.std.proofs.lemmas.Bool.Decides.{nat_tests}
@@ -44,7 +45,9 @@ module _ (l : Loads ℕ) (thread : ℕ) (seen : List Event) where
   data_live x None bytes live = All-nil IsLive
   data_live x (Some range) None live = All-nil IsLive
   data_live x (Some range) (Some bytes) live =
-      All-cons IsLive (record { owner = record { kind = Data; instance = x.number }; range = record range { bytes = bytes } }) [] live (All-nil IsLive)
+      All-cons IsLive (record
+      { owner = record { kind = Data; instance = x.number }; range = record range { bytes = bytes } }) [] live
+      (All-nil IsLive)
 
   -- what is made of each live instance
   all_live : (made : Instance → List (Owned ℕ))
@@ -55,15 +58,18 @@ module _ (l : Loads ℕ) (thread : ℕ) (seen : List Event) where
       All-append IsLive (made x) (flat_map made rest)
       (each x
       (let P : List Instance → Type 0 = λ ys. is_some (find (λ (y : Instance). y.number == x.number) ys) ≡ true in
-      subst P (sym all) (found_behind (λ (y : Instance). y.number == x.number) front x rest (number_same x.number x.number refl))))
-      (all_live made each (front ++ x ∷ []) rest (subst (λ ys. instances l seen ≡ ys) (sym (append_one front x rest)) all))
+      subst P (sym all) (found_behind (λ (y : Instance). y.number == x.number) front x rest
+      (number_same x.number x.number refl))))
+      (all_live made each (front ++ x ∷ []) rest
+      (subst (λ ys. instances l seen ≡ ys) (sym (append_one front x rest)) all))
 
   -- all that is held after a look is of live instances
   pub look_live : (xs : List (Owned ℕ)) → All IsLive (looked_at l thread seen xs)
   unfolding looked_at
   look_live xs = All-append IsLive (flat_map (block_after l thread (λ x. is_some x.offset) xs) (instances l seen))
       (flat_map (data_after l (λ x. false) xs) (instances l seen))
-      (all_live (block_after l thread (λ x. is_some x.offset) xs) (λ x live. block_live x _ live) [] (instances l seen) refl)
+      (all_live (block_after l thread (λ x. is_some x.offset) xs) (λ x live. block_live x _ live) []
+      (instances l seen) refl)
       (all_live (data_after l (λ x. false) xs) (λ x live. data_live x (l.shared x) _ live) [] (instances l seen) refl)
 
 pub looks_leave_live : HoldsLive

@@ -1,20 +1,25 @@
 -- Orders of threads that share data: the history only grows, and a whole order brings each thread to its end.
-use Rattle.std.proofs.Common.{◌≡◌, ◌⊎◌, ◌∙◌, ℕ, zero, suc, ◌+◌, ◌-◌, ◌<◌, ◌≤◌, List, [], ◌∷◌, ◌++◌, length, replicate, Option, Some, None, refl, sym, ap, subst, inl, inr, arith, append_assoc, append-nil}
+use Rattle.std.proofs.Common.{◌≡◌, ◌⊎◌, ◌∙◌, ℕ, zero, suc, ◌+◌, ◌-◌, ◌<◌, ◌≤◌, List, [], ◌∷◌, ◌++◌, length, replicate}
+use Rattle.std.proofs.Common.{Option, Some, None, refl, sym, ap, subst, inl, inr, arith, append_assoc, append-nil}
 use Rattle.std.specs.Prelude.{slice_get, slice_set}
 use native.Mathlib.Nat.{mul-suc, mul-zero}
 use Rattle.guest_operands.specs.declared.stop.Stop.{Stop}
 use Rattle.guest_machine.specs.Run.{Next, Goes, Ends, Looks, Outcome, Ended, Waits, Stepping, over_or, go_on, run}
 use Rattle.module_table.specs.declared.events.Event.{Event}
 use Rattle.thread_blocks.specs.Held.{Held, owned_by, with_owned}
-use Rattle.thread_blocks.specs.JobWorlds.{Shared, blocks_in, changed, shared_order, shared_turn, with_data, without_data}
-use Rattle.thread_blocks.specs.Turns.{Said, Begun, Says, Calls, Turns, Phase, Idle, Mid, Thread, after_run, after_look, at_number, turn_at, turn, with_event, event_of, IsFinished, enough, turns_left, finishing, whole_order}
-use Rattle.thread_blocks.specs.TurnsAlike.{IsFront}
+use Rattle.thread_blocks.specs.JobWorlds.{Shared, blocks_in, changed, shared_order, shared_turn, with_data}
+use Rattle.thread_blocks.specs.JobWorlds.{without_data}
+use Rattle.thread_blocks.specs.Turns.{Said, Begun, Says, Calls, Turns, Phase, Idle, Mid, Thread, after_run, after_look}
+use Rattle.thread_blocks.specs.Turns.{at_number, turn_at, turn, with_event, event_of, IsFinished, enough, turns_left}
+use Rattle.thread_blocks.specs.Turns.{finishing, whole_order}
+use Rattle.thread_blocks.specs.Turns.{IsFront}
 use Rattle.thread_blocks.proofs.Turns.{turn-finished}
 
 -- ** a list with another element in a place
 
 module _ {X : Type 0} where
-  pub get-set_same : (xs : List (X)) (i : ℕ) (t u : X) → slice_get xs i ≡ Some t → slice_get (slice_set xs i u) i ≡ Some u
+  pub get-set_same : (xs : List (X)) (i : ℕ) (t u : X) → slice_get xs i ≡ Some t
+      → slice_get (slice_set xs i u) i ≡ Some u
   get-set_same [] i t u e = cc
   get-set_same (first ∷ xs) zero t u e = refl
   get-set_same (first ∷ xs) (suc i) t u e = get-set_same xs i t u e
@@ -25,7 +30,9 @@ module _ {X : Type 0} where
   get-set (first ∷ xs) (suc i) zero u = inr refl
   get-set (first ∷ xs) zero (suc j) u = inr refl
   get-set (first ∷ xs) (suc i) (suc j) u =
-      (elim (get-set xs i j u) as (λ (k : (j ≡ i) ⊎ (slice_get (slice_set xs j u) i ≡ slice_get xs i)). (suc j ≡ suc i) ⊎ (slice_get (slice_set xs j u) i ≡ slice_get xs i)) [
+      (elim (get-set xs i j u) as
+      (λ (k : (j ≡ i) ⊎ (slice_get (slice_set xs j u) i ≡ slice_get xs i)). (suc j ≡ suc i)
+      ⊎ (slice_get (slice_set xs j u) i ≡ slice_get xs i)) [
         | inl e ↦ inl (ap suc e)
         | inr e ↦ inr e
       ])
@@ -41,18 +48,21 @@ module _ {S : Type 0} (x : Stepping S) where
   more-within n m le (Ended stop left s) h = tt
   more-within n m le (Waits left s) h = (h.0, omega (arith, h.1))
 
-  over-within : (k n : ℕ) (s : S) (over : Option Stop) (rest : Outcome S) → LeftWithin n rest → LeftWithin n (over_or k s over rest)
+  over-within : (k n : ℕ) (s : S) (over : Option Stop) (rest : Outcome S) → LeftWithin n rest
+      → LeftWithin n (over_or k s over rest)
   over-within k n s None rest h = h
   over-within k n s (Some stop) rest h = tt
 
-  go_on-within : (n : ℕ) (s : S) (next : Next S) → ((t : S) → LeftWithin n (run x n t)) → LeftWithin (suc n) (go_on (suc n) s (run x n) next)
+  go_on-within : (n : ℕ) (s : S) (next : Next S) → ((t : S) → LeftWithin n (run x n t))
+      → LeftWithin (suc n) (go_on (suc n) s (run x n) next)
   go_on-within n s (Goes t) rest = more-within n (suc n) (omega arith) (run x n t) (rest t)
   go_on-within n s (Ends stop) rest = tt
   go_on-within n s (Looks t) rest = (omega arith, omega arith)
 
   run-within : (n : ℕ) (s : S) → LeftWithin n (run x n s)
   run-within zero s = over-within zero zero s (x.over s) (Ended (x.spent s) zero s) tt
-  run-within (suc n) s = over-within (suc n) (suc n) s (x.over s) (go_on (suc n) s (run x n) (x.step s)) (go_on-within n s (x.step s) (λ t. run-within n t))
+  run-within (suc n) s = over-within (suc n) (suc n) s (x.over s) (go_on (suc n) s (run x n) (x.step s))
+      (go_on-within n s (x.step s) (λ t. run-within n t))
 
 -- ** a turn that does something leaves fewer
 
@@ -60,23 +70,32 @@ module _ {S L E : Type 0} (x : Turns S L E) (fuel : ℕ) (within : x.fuel ≤ fu
   abbrev pub left_of : Thread S L E → ℕ
   left_of t = turns_left fuel t.todo t.phase
 
-  run-less : (n k : ℕ) → 1 ≤ k → ((left : ℕ) → 1 ≤ left → left ≤ n → left + 1 < k) → (todo : List L) (said : List Said) (seen : List E) (points : List ℕ) (out : Outcome S) → LeftWithin n out
+  run-less : (n k : ℕ) → 1 ≤ k → ((left : ℕ) → 1 ≤ left → left ≤ n → left + 1 < k)
+      → (todo : List L) (said : List Said) (seen : List E) (points : List ℕ) (out : Outcome S) → LeftWithin n out
       → left_of (after_run todo said seen points out) < enough fuel (length todo) + k
   run-less n k some less todo said seen points (Ended stop left s) h = omega arith
   run-less n k some less todo said seen points (Waits left s) h = let fewer = less left h.0 h.1 in omega arith
 
-  look-less : (n k : ℕ) → 1 ≤ k → ((left : ℕ) → 1 ≤ left → left ≤ n → left + 1 < k) → (todo : List L) (said : List Said) (seen : List E) (points : List ℕ) (b : Begun S)
+  look-less : (n k : ℕ) → 1 ≤ k → ((left : ℕ) → 1 ≤ left → left ≤ n → left + 1 < k)
+      → (todo : List L) (said : List Said) (seen : List E) (points : List ℕ) (b : Begun S)
       → left_of (after_look x n todo said seen points b) < enough fuel (length todo) + k
   look-less n k some less todo said seen points (Says ending s) = omega arith
-  look-less n k some less todo said seen points (Calls s) = run-less n k some less todo said seen points (run x.steps n s) (run-within x.steps n s)
+  look-less n k some less todo said seen points (Calls s) =
+      run-less n k some less todo said seen points (run x.steps n s) (run-within x.steps n s)
 
-  turn_at-less : (todo : List L) (phase : Phase S) (said : List Said) (old seen : List E) → IsFinished todo phase ⊎ (left_of (turn_at x todo phase said old seen) < turns_left fuel todo phase)
+  turn_at-less : (todo : List L) (phase : Phase S) (said : List Said) (old seen : List E)
+      → IsFinished todo phase ⊎ (left_of (turn_at x todo phase said old seen) < turns_left fuel todo phase)
   turn_at-less [] (Idle s) said old seen = inl tt
   turn_at-less (line ∷ todo) (Idle s) said old seen =
-      inr (rw (mul-suc (fuel + 2) (length todo)) (look-less x.fuel (fuel + 2) (omega arith) (λ left some most. omega arith) todo said seen _ (x.begin line seen s)))
-  turn_at-less [] (Mid left points s) said old seen = inr (look-less (left - 1) (left + 1) (omega arith) (λ now some most. omega arith) [] said seen _ (x.resume seen s))
+      inr (rw (mul-suc (fuel + 2) (length todo))
+      (look-less x.fuel (fuel + 2) (omega arith) (λ left some most. omega arith) todo said seen _
+      (x.begin line seen s)))
+  turn_at-less [] (Mid left points s) said old seen =
+      inr (look-less (left - 1) (left + 1) (omega arith) (λ now some most. omega arith) [] said seen _
+      (x.resume seen s))
   turn_at-less (line ∷ todo) (Mid left points s) said old seen =
-      inr (look-less (left - 1) (left + 1) (omega arith) (λ now some most. omega arith) (line ∷ todo) said seen _ (x.resume seen s))
+      inr (look-less (left - 1) (left + 1) (omega arith) (λ now some most. omega arith) (line ∷ todo) said seen _
+      (x.resume seen s))
 
   none-left : (todo : List L) (phase : Phase S) → IsFinished todo phase → turns_left fuel todo phase ≡ 0
   none-left [] (Idle s) h = mul-zero (fuel + 2)
@@ -91,16 +110,21 @@ module _ {S L E : Type 0} (x : Turns S L E) (fuel : ℕ) (within : x.fuel ≤ fu
   is-finished (line ∷ todo) (Mid left points s) h = absurd (omega arith)
 
   turn-fewer : (t : Thread S L E) (seen : List E) (k : ℕ) → left_of t ≤ suc k → left_of (turn x t seen) ≤ k
-  turn-fewer t seen k h = (elim (turn_at-less t.todo t.phase t.said t.seen seen) as (λ (o : IsFinished t.todo t.phase ⊎ (left_of (turn x t seen) < left_of t)). left_of (turn x t seen) ≤ k) [
-    | inl done ↦ subst (λ (u : Thread S L E). left_of u ≤ k) (sym (turn-finished x t seen done)) (let none = none-left t.todo t.phase done in omega arith)
-    | inr less ↦ omega arith
-  ])
+  turn-fewer t seen k h =
+      (elim (turn_at-less t.todo t.phase t.said t.seen seen) as
+      (λ (o : IsFinished t.todo t.phase ⊎ (left_of (turn x t seen) < left_of t)). left_of (turn x t seen) ≤ k) [
+        | inl done ↦ subst (λ (u : Thread S L E). left_of u ≤ k) (sym (turn-finished x t seen done))
+            (let none = none-left t.todo t.phase done in omega arith)
+        | inr less ↦ omega arith
+      ])
 
   turn-no-more : (t : Thread S L E) (seen : List E) (k : ℕ) → left_of t ≤ k → left_of (turn x t seen) ≤ k
-  turn-no-more t seen k h = (elim (turn_at-less t.todo t.phase t.said t.seen seen) as (λ (o : IsFinished t.todo t.phase ⊎ (left_of (turn x t seen) < left_of t)). left_of (turn x t seen) ≤ k) [
-    | inl done ↦ subst (λ (u : Thread S L E). left_of u ≤ k) (sym (turn-finished x t seen done)) h
-    | inr less ↦ omega arith
-  ])
+  turn-no-more t seen k h =
+      (elim (turn_at-less t.todo t.phase t.said t.seen seen) as
+      (λ (o : IsFinished t.todo t.phase ⊎ (left_of (turn x t seen) < left_of t)). left_of (turn x t seen) ≤ k) [
+        | inl done ↦ subst (λ (u : Thread S L E). left_of u ≤ k) (sym (turn-finished x t seen done)) h
+        | inr less ↦ omega arith
+      ])
 
 -- ** threads that share data
 
@@ -180,7 +204,8 @@ module _ {W F B L : Type 0} (x : ℕ → Turns (Held W F B) L Event) (event : �
               let same : h.0 ≡ u = cc in (
                 v,
                 (
-                  subst (λ (n : ℕ). slice_get (slice_set w.threads j v) n ≡ Some v) here (get-set_same w.threads j u v at),
+                  subst (λ (n : ℕ). slice_get (slice_set w.threads j v) n ≡ Some v) here
+                      (get-set_same w.threads j u v at),
                   turned-no-more w (suc j) u k (subst (λ (t : Ours). to_do t ≤ k) same h.1.1),
                 ),
               )
@@ -220,7 +245,8 @@ module _ {W F B L : Type 0} (x : ℕ → Turns (Held W F B) L Event) (event : �
           | Some u ↦ λ at. set-fewer w i k u at h
         ]) refl
 
-    order-left : (order : List ℕ) (w : Shared W F B L) (i k : ℕ) → HasLeft w i k → HasLeft (shared_order x event order w) i k
+    order-left : (order : List ℕ) (w : Shared W F B L) (i k : ℕ) → HasLeft w i k
+        → HasLeft (shared_order x event order w) i k
     order-left [] w i k h = h
     order-left (j ∷ order) w i k h = order-left order (taken w j) i k (taken-left w i j k h)
 
@@ -242,7 +268,8 @@ module _ {W F B L : Type 0} (x : ℕ → Turns (Held W F B) L Event) (event : �
         let same : own ≡ mine = cc in
         let here : first + 0 ≡ first = omega arith in
         let turns = replicate (enough fuel (length own)) (suc first) in
-        let start : HasLeft w first (enough fuel (length own)) = subst (λ (k : ℕ). HasLeft w k (enough fuel (length own))) here
+        let start : HasLeft w first (enough fuel (length own)) =
+        subst (λ (k : ℕ). HasLeft w k (enough fuel (length own))) here
         (subst (λ (l : List A). HasLeft w (first + 0) (enough fuel (length l))) (sym same) h) in
         rw (here, order-append turns (finishing fuel (suc (suc first)) lines) w)
         (order-left (finishing fuel (suc (suc first)) lines) (shared_order x event turns w) first 0

@@ -11,7 +11,8 @@ use Rattle.thread_blocks.specs.declared.asked.Asked.{Asked}
 use Rattle.thread_blocks.specs.Held.{Owner, looked, reached}
 use Rattle.thread_blocks.specs.Instances.{Loads, instance_with_id, numbered_instance}
 use Rattle.thread_blocks.specs.JobStatements.{HasNoData}
-use Rattle.thread_blocks.specs.RunTime.{Runs, thread_turns, answered, resume_line, resumed_by, resumed_in, shows, thread_accesses, thread_steps, resumed}
+use Rattle.thread_blocks.specs.RunTime.{Runs, thread_turns, answered, resume_line, resumed_by, resumed_in, shows}
+use Rattle.thread_blocks.specs.RunTime.{thread_accesses, thread_steps, resumed}
 use Rattle.thread_blocks.specs.Spaces.{Space, space_accesses, stack_range}
 use Rattle.thread_blocks.specs.Turns.{Answered, Begun, Calls, Says}
 use Rattle.transcript_text.specs.declared.outcomes.LineFault.TheVariants.{Unloaded}
@@ -28,12 +29,14 @@ module _ (l : Loads ℕ) (none : HasNoData l) (thread : ℕ) where
   abbrev Keeps : List Owner → Space Event ℕ → Type 0
   Keeps os m = AreBlocks os m.own
 
-  either_put : (g : Bool) (os : List Owner) (m : Space Event ℕ) (stack : List ℕ) (own : List (Range ℕ)) → AreBlocks os m.own
+  either_put : (g : Bool) (os : List Owner) (m : Space Event ℕ) (stack : List ℕ) (own : List (Range ℕ))
+      → AreBlocks os m.own
       → AreBlocks os own → AreBlocks os (if g then record m { stack = stack } else record m { own = own }).own
   either_put true os m stack own h k = h
   either_put false os m stack own h k = k
 
-  put_keeps : (os : List Owner) (m : Space Event ℕ) (place byte : ℕ) → Keeps os m → Keeps os ((thread_accesses l thread).put m place byte)
+  put_keeps : (os : List Owner) (m : Space Event ℕ) (place byte : ℕ) → Keeps os m
+      → Keeps os ((thread_accesses l thread).put m place byte)
   unfolding thread_accesses space_accesses
   put_keeps os m place byte are =
       either_put (grants Write (stack_range _ m.stack) place) os m _ (with_byte m.own place byte) are
@@ -54,7 +57,8 @@ module _ (l : Loads ℕ) (none : HasNoData l) (thread : ℕ) where
   begun_are (Says ending h) holds = holds
   begun_are (Calls h) holds = holds
 
-  resumed_in_holds : (asked : Asked) (h : Runs) (x : Option Instance) → HoldsBlocks h → BegunHolds (resumed_in l thread asked h x)
+  resumed_in_holds : (asked : Asked) (h : Runs) (x : Option Instance) → HoldsBlocks h
+      → BegunHolds (resumed_in l thread asked h x)
   resumed_in_holds asked h None holds = holds
   resumed_in_holds asked h (Some x) holds =
       let now = reach_holds l none thread x h in

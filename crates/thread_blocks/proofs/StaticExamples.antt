@@ -21,8 +21,17 @@ use Rattle.thread_blocks.proofs.JobRuns.{said, told}
 abbrev of_startup_app : Spelled
 of_startup_app = record {
   kind = ExeFile;
-  parts = record { class = Executable; address = 0x400000; bytes = 0x64 ∷ 0x48 ∷ 0x8b ∷ 0x04 ∷ 0x25 ∷ 0x00 ∷ 0x00 ∷ 0x00 ∷ 0x00 ∷ 0x48 ∷ 0x03 ∷ 0x05 ∷ 0xf0 ∷ 0x0f ∷ 0x00 ∷ 0x00 ∷ 0xc3 ∷ [] }
-      ∷ record { class = Writable; address = 0x401000; bytes = 0x00 ∷ 0x00 ∷ 0x00 ∷ 0x00 ∷ 0x00 ∷ 0x00 ∷ 0x00 ∷ 0x00 ∷ [] }
+  parts = record {
+    class = Executable;
+    address = 0x400000;
+    bytes = 0x64 ∷ 0x48 ∷ 0x8b ∷ 0x04 ∷ 0x25 ∷ 0x00 ∷ 0x00 ∷ 0x00 ∷ 0x00 ∷ 0x48 ∷ 0x03 ∷ 0x05 ∷ 0xf0 ∷ 0x0f ∷ 0x00
+        ∷ 0x00 ∷ 0xc3 ∷ [];
+  }
+      ∷ record {
+        class = Writable;
+        address = 0x401000;
+        bytes = 0x00 ∷ 0x00 ∷ 0x00 ∷ 0x00 ∷ 0x00 ∷ 0x00 ∷ 0x00 ∷ 0x00 ∷ [];
+      }
       ∷ record { class = ReadOnly; address = 0x402000; bytes = [] }
       ∷ [];
   array_size = 0;
@@ -44,7 +53,12 @@ of_startup_app = record {
 abbrev of_startup_lib : Spelled
 of_startup_lib = record {
   kind = ModuleFile;
-  parts = record { class = ReadOnly; address = 0x0; bytes = 0x00 ∷ 0x00 ∷ 0x00 ∷ 0x00 ∷ 0x00 ∷ 0x00 ∷ 0x00 ∷ 0x00 ∷ 0x2a ∷ 0x00 ∷ 0x00 ∷ 0x00 ∷ 0x00 ∷ 0x00 ∷ 0x00 ∷ 0x00 ∷ 0x00 ∷ 0x00 ∷ 0x00 ∷ 0x00 ∷ [] }
+  parts = record {
+    class = ReadOnly;
+    address = 0x0;
+    bytes = 0x00 ∷ 0x00 ∷ 0x00 ∷ 0x00 ∷ 0x00 ∷ 0x00 ∷ 0x00 ∷ 0x00 ∷ 0x2a ∷ 0x00 ∷ 0x00 ∷ 0x00 ∷ 0x00 ∷ 0x00 ∷ 0x00
+        ∷ 0x00 ∷ 0x00 ∷ 0x00 ∷ 0x00 ∷ 0x00 ∷ [];
+  }
       ∷ record { class = ReadOnly; address = 0x1000; bytes = [] }
       ∷ [];
   array_size = 0;
@@ -75,8 +89,18 @@ of_startup = refl
 abbrev of_pie_app : Spelled
 of_pie_app = record {
   kind = PieFile;
-  parts = record { class = Executable; address = 0x0; bytes = 0x64 ∷ 0x48 ∷ 0x8b ∷ 0x04 ∷ 0x25 ∷ 0x00 ∷ 0x00 ∷ 0x00 ∷ 0x00 ∷ 0x48 ∷ 0x8d ∷ 0x80 ∷ 0xf0 ∷ 0xff ∷ 0xff ∷ 0xff ∷ 0xc3 ∷ [] }
-      ∷ record { class = ReadOnly; address = 0x1000; bytes = 0x00 ∷ 0x00 ∷ 0x00 ∷ 0x00 ∷ 0x00 ∷ 0x00 ∷ 0x00 ∷ 0x00 ∷ 0x2a ∷ 0x00 ∷ 0x00 ∷ 0x00 ∷ 0x00 ∷ 0x00 ∷ 0x00 ∷ 0x00 ∷ 0x00 ∷ 0x00 ∷ 0x00 ∷ 0x00 ∷ [] }
+  parts = record {
+    class = Executable;
+    address = 0x0;
+    bytes = 0x64 ∷ 0x48 ∷ 0x8b ∷ 0x04 ∷ 0x25 ∷ 0x00 ∷ 0x00 ∷ 0x00 ∷ 0x00 ∷ 0x48 ∷ 0x8d ∷ 0x80 ∷ 0xf0 ∷ 0xff ∷ 0xff
+        ∷ 0xff ∷ 0xc3 ∷ [];
+  }
+      ∷ record {
+        class = ReadOnly;
+        address = 0x1000;
+        bytes = 0x00 ∷ 0x00 ∷ 0x00 ∷ 0x00 ∷ 0x00 ∷ 0x00 ∷ 0x00 ∷ 0x00 ∷ 0x2a ∷ 0x00 ∷ 0x00 ∷ 0x00 ∷ 0x00 ∷ 0x00 ∷ 0x00
+            ∷ 0x00 ∷ 0x00 ∷ 0x00 ∷ 0x00 ∷ 0x00 ∷ [];
+      }
       ∷ record { class = ReadOnly; address = 0x2000; bytes = [] }
       ∷ [];
   array_size = 0;
@@ -109,9 +133,17 @@ of_pie = refl
 abbrev of_surplus_plug : Spelled
 of_surplus_plug = record {
   kind = ModuleFile;
-  parts = record { class = Executable; address = 0x0; bytes = 0x48 ∷ 0x8b ∷ 0x05 ∷ 0xf9 ∷ 0x1f ∷ 0x00 ∷ 0x00 ∷ 0xc3 ∷ [] }
+  parts = record {
+    class = Executable;
+    address = 0x0;
+    bytes = 0x48 ∷ 0x8b ∷ 0x05 ∷ 0xf9 ∷ 0x1f ∷ 0x00 ∷ 0x00 ∷ 0xc3 ∷ [];
+  }
       ∷ record { class = ReadOnly; address = 0x1000; bytes = 0x05 ∷ 0x00 ∷ 0x00 ∷ 0x00 ∷ [] }
-      ∷ record { class = Writable; address = 0x2000; bytes = 0x00 ∷ 0x00 ∷ 0x00 ∷ 0x00 ∷ 0x00 ∷ 0x00 ∷ 0x00 ∷ 0x00 ∷ [] }
+      ∷ record {
+        class = Writable;
+        address = 0x2000;
+        bytes = 0x00 ∷ 0x00 ∷ 0x00 ∷ 0x00 ∷ 0x00 ∷ 0x00 ∷ 0x00 ∷ 0x00 ∷ [];
+      }
       ∷ record { class = ReadOnly; address = 0x3000; bytes = [] }
       ∷ [];
   array_size = 0;
@@ -131,11 +163,23 @@ of_surplus_plug = record {
 }
 
 of_surplus : told (said (Exe ∷ Late ∷ []) (variable_app ∷ of_surplus_plug ∷ []) 4
-    ((record { image = 2; action = Open } ∷ record { image = 2; action = Call (0x66 ∷ []) 0 0 0 } ∷ record { image = 2; action = Peek (0x76 ∷ []) 8 } ∷ record { image = 2; action = Close } ∷ record { image = 2; action = Open } ∷ record { image = 2; action = Call (0x66 ∷ []) 0 0 0 } ∷ []) ∷ [])
+    ((record { image = 2; action = Open } ∷ record { image = 2; action = Call (0x66 ∷ []) 0 0 0 }
+    ∷ record { image = 2; action = Peek (0x76 ∷ []) 8 } ∷ record { image = 2; action = Close }
+    ∷ record { image = 2; action = Open } ∷ record { image = 2; action = Call (0x66 ∷ []) 0 0 0 } ∷ []) ∷ [])
     ([]))
     ≡ (
-      ((record { points = 0 ∷ []; ending = Answered (Opened 2) }) ∷ (record { points = 1 ∷ []; ending = Stopped (Returned 0xfffffffffffffff4) }) ∷ (record { points = 1 ∷ []; ending = Answered (Bytes (0x05 ∷ 0x00 ∷ 0x00 ∷ 0x00 ∷ 0x00 ∷ 0x00 ∷ 0x00 ∷ 0x00 ∷ [])) }) ∷ (record { points = 1 ∷ []; ending = Answered Closed }) ∷ (record { points = 2 ∷ []; ending = Answered (Opened 3) }) ∷ (record { points = 3 ∷ []; ending = Stopped (Returned 0xffffffffffffffec) }) ∷ []) ∷ [],
-      (record { thread = 1; line = 1; opens = true; image = 2 }) ∷ (record { thread = 1; line = 4; opens = false; image = 2 }) ∷ (record { thread = 1; line = 5; opens = true; image = 2 }) ∷ [],
+      ((record { points = 0 ∷ []; ending = Answered (Opened 2) })
+          ∷ (record { points = 1 ∷ []; ending = Stopped (Returned 0xfffffffffffffff4) })
+          ∷ (record {
+            points = 1 ∷ [];
+            ending = Answered (Bytes (0x05 ∷ 0x00 ∷ 0x00 ∷ 0x00 ∷ 0x00 ∷ 0x00 ∷ 0x00 ∷ 0x00 ∷ []));
+          })
+          ∷ (record { points = 1 ∷ []; ending = Answered Closed })
+          ∷ (record { points = 2 ∷ []; ending = Answered (Opened 3) })
+          ∷ (record { points = 3 ∷ []; ending = Stopped (Returned 0xffffffffffffffec) }) ∷ []) ∷ [],
+      (record { thread = 1; line = 1; opens = true; image = 2 })
+          ∷ (record { thread = 1; line = 4; opens = false; image = 2 })
+          ∷ (record { thread = 1; line = 5; opens = true; image = 2 }) ∷ [],
     )
 unfolding said
 of_surplus = refl
@@ -145,9 +189,23 @@ of_surplus = refl
 abbrev by_descriptor_plug : Spelled
 by_descriptor_plug = record {
   kind = ModuleFile;
-  parts = record { class = Executable; address = 0x0; bytes = 0x48 ∷ 0x8d ∷ 0x05 ∷ 0xf9 ∷ 0x1f ∷ 0x00 ∷ 0x00 ∷ 0xff ∷ 0x10 ∷ 0xc3 ∷ [] }
-      ∷ record { class = ReadOnly; address = 0x1000; bytes = 0x00 ∷ 0x00 ∷ 0x00 ∷ 0x00 ∷ 0x00 ∷ 0x00 ∷ 0x00 ∷ 0x00 ∷ 0x2a ∷ 0x00 ∷ 0x00 ∷ 0x00 ∷ 0x00 ∷ 0x00 ∷ 0x00 ∷ 0x00 ∷ 0x00 ∷ 0x00 ∷ 0x00 ∷ 0x00 ∷ [] }
-      ∷ record { class = Writable; address = 0x2000; bytes = 0x00 ∷ 0x00 ∷ 0x00 ∷ 0x00 ∷ 0x00 ∷ 0x00 ∷ 0x00 ∷ 0x00 ∷ 0x00 ∷ 0x00 ∷ 0x00 ∷ 0x00 ∷ 0x00 ∷ 0x00 ∷ 0x00 ∷ 0x00 ∷ [] }
+  parts = record {
+    class = Executable;
+    address = 0x0;
+    bytes = 0x48 ∷ 0x8d ∷ 0x05 ∷ 0xf9 ∷ 0x1f ∷ 0x00 ∷ 0x00 ∷ 0xff ∷ 0x10 ∷ 0xc3 ∷ [];
+  }
+      ∷ record {
+        class = ReadOnly;
+        address = 0x1000;
+        bytes = 0x00 ∷ 0x00 ∷ 0x00 ∷ 0x00 ∷ 0x00 ∷ 0x00 ∷ 0x00 ∷ 0x00 ∷ 0x2a ∷ 0x00 ∷ 0x00 ∷ 0x00 ∷ 0x00 ∷ 0x00 ∷ 0x00
+            ∷ 0x00 ∷ 0x00 ∷ 0x00 ∷ 0x00 ∷ 0x00 ∷ [];
+      }
+      ∷ record {
+        class = Writable;
+        address = 0x2000;
+        bytes = 0x00 ∷ 0x00 ∷ 0x00 ∷ 0x00 ∷ 0x00 ∷ 0x00 ∷ 0x00 ∷ 0x00 ∷ 0x00 ∷ 0x00 ∷ 0x00 ∷ 0x00 ∷ 0x00 ∷ 0x00 ∷ 0x00
+            ∷ 0x00 ∷ [];
+      }
       ∷ record { class = ReadOnly; address = 0x3000; bytes = [] }
       ∷ [];
   array_size = 0;
@@ -170,7 +228,8 @@ by_descriptor : told (said (Exe ∷ Late ∷ []) (variable_app ∷ by_descriptor
     ((record { image = 2; action = Open } ∷ record { image = 2; action = Call (0x66 ∷ []) 0 0 0 } ∷ []) ∷ [])
     ([]))
     ≡ (
-      ((record { points = 0 ∷ []; ending = Answered (Opened 2) }) ∷ (record { points = 1 ∷ 1 ∷ []; ending = Stopped (Returned 0xffffffc002000008) }) ∷ []) ∷ [],
+      ((record { points = 0 ∷ []; ending = Answered (Opened 2) })
+          ∷ (record { points = 1 ∷ 1 ∷ []; ending = Stopped (Returned 0xffffffc002000008) }) ∷ []) ∷ [],
       (record { thread = 1; line = 1; opens = true; image = 2 }) ∷ [],
     )
 unfolding said
@@ -198,10 +257,12 @@ not_readable_app = record {
 }
 
 not_readable : told (said (Exe ∷ []) (not_readable_app ∷ []) 4
-    ((record { image = 1; action = Call (0x66 ∷ []) 4194304 0 0 } ∷ record { image = 1; action = Call (0x66 ∷ []) 1374389534720 0 0 } ∷ []) ∷ [])
+    ((record { image = 1; action = Call (0x66 ∷ []) 4194304 0 0 }
+    ∷ record { image = 1; action = Call (0x66 ∷ []) 1374389534720 0 0 } ∷ []) ∷ [])
     ([]))
     ≡ (
-      ((record { points = 0 ∷ []; ending = Stopped (Address 0x400000) }) ∷ (record { points = 0 ∷ []; ending = Stopped (Returned 0x0) }) ∷ []) ∷ [],
+      ((record { points = 0 ∷ []; ending = Stopped (Address 0x400000) })
+          ∷ (record { points = 0 ∷ []; ending = Stopped (Returned 0x0) }) ∷ []) ∷ [],
       [],
     )
 unfolding said

@@ -1,5 +1,6 @@
 -- What a write keeps of a thread's memory, its steps keep.
-use Rattle.std.proofs.Common.{ℕ, zero, suc, Bool, true, false, List, Option, Some, None, Result, Ok, Err, refl, sym, subst}
+use Rattle.std.proofs.Common.{ℕ, zero, suc, Bool, true, false, List, Option, Some, None, Result, Ok, Err, refl, sym}
+use Rattle.std.proofs.Common.{subst}
 use Rattle.std.specs.Prelude.{if◌then◌else◌}
 use Rattle.guest_arithmetic.specs.Plain.{plain_operations}
 use Rattle.guest_machine.specs.Access.{Accesses}
@@ -13,8 +14,10 @@ use Rattle.module_table.specs.declared.events.Event.{Event}
 use Rattle.thread_blocks.specs.declared.asked.Asked.{Asked}
 use Rattle.thread_blocks.specs.Held.{Owner}
 use Rattle.thread_blocks.specs.Instances.{Loads, instance_with_id, is_startup_id}
-use Rattle.thread_blocks.specs.RunTime.{Runs, answer_word, answered, asked_at, asked_next, found_at_once, goes_answered, thread_accesses, thread_next, thread_steps, resumed}
-use Rattle.thread_blocks.specs.Spaces.{Space, IsImage, after_of, mapped, next_image, no_field}
+use Rattle.thread_blocks.specs.RunTime.{Runs, answer_word, answered, asked_at, asked_next, found_at_once, goes_answered}
+use Rattle.thread_blocks.specs.RunTime.{thread_accesses, thread_next, thread_steps, resumed}
+use Rattle.thread_blocks.specs.Spaces.{Space, next_image, no_field}
+use Rattle.thread_blocks.specs.SpaceLaws.{IsImage, after_of, mapped}
 use Rattle.thread_blocks.specs.Turns.{Begun, Says, Calls}
 use Rattle.thread_blocks.proofs.Image.{machine_image, return_of-image}
 
@@ -67,7 +70,8 @@ module _ (l : Loads ℕ) (thread : ℕ) (Keeps : List Owner → Space Event ℕ 
         → NextFine ((machine plain_operations (thread_accesses l thread) no_field).step at)
     machine_fine at are =
         let fine : After ℕ Bool Fine = left at.state (at.memory, are) in
-        let image = machine_image plain_operations fine_accesses (thread_accesses l thread) plain fine_image no_field no_field
+        let image = machine_image plain_operations fine_accesses
+        (thread_accesses l thread) plain fine_image no_field no_field
         (λ m. refl) in
         subst NextFine (sym (image.step fine)) (next_fine ((machine plain_operations fine_accesses no_field).step fine))
 
@@ -101,7 +105,8 @@ module _ (l : Loads ℕ) (thread : ℕ) (Keeps : List Owner → Space Event ℕ 
   goes_holds h (Ok at) fine = fine
   goes_holds h (Err stop) fine = tt
 
-  found_holds : (asked : Asked) (h : Runs) (x : Option Instance) → Holds h → NextHolds (found_at_once l thread asked h x)
+  found_holds : (asked : Asked) (h : Runs) (x : Option Instance) → Holds h
+      → NextHolds (found_at_once l thread asked h x)
   found_holds asked h None holds = tt
   found_holds asked h (Some x) holds = goes_holds h (answered l thread asked x h) (answer_holds asked x h holds)
 

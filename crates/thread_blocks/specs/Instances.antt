@@ -1,5 +1,6 @@
 -- The instances that are live after some events, and what is loaded of each.
-use Rattle.std.specs.Prelude.{◌==◌, ℕ, Bool, true, false, suc, List, [], ◌∷◌, ◌++◌, take, Option, Some, None, nat_le, if◌then◌else◌}
+use Rattle.std.specs.Prelude.{◌==◌, ℕ, Bool, true, false, suc, List, [], ◌∷◌, ◌++◌, take, Option, Some, None, nat_le}
+use Rattle.std.specs.Prelude.{if◌then◌else◌}
 use Rattle.std.specs.Prelude.{option_to_list}
 use Rattle.std.specs.List.{find, flat_map}
 use Rattle.address_map.specs.Map.{block_place}
@@ -8,7 +9,7 @@ use Rattle.loaded_modules.specs.declared.instance.Instance.{Instance}
 use Rattle.module_table.specs.declared.events.Event.{Event}
 use Rattle.module_table.specs.declared.modules.ImageInfo.{ImageInfo}
 use Rattle.module_table.specs.declared.modules.Module.{Module}
-use Rattle.module_table.specs.Laws.{startup_end}
+use Rattle.module_table.specs.Modules.{startup_end}
 use Rattle.module_table.specs.Modules.{is_loaded}
 use Rattle.module_table.specs.Past.{Past, module_of, past, startup_count}
 

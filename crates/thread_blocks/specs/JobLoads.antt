@@ -1,6 +1,7 @@
 -- What is loaded of a job's images: each part of a live instance at its address, as the loader leaves it, with the
 -- rights of its class (gABI, "Program Loading").
-use Rattle.std.specs.Prelude.{◌+◌, ◌==◌, ◌&&◌, ℕ, false, not, suc, List, [], ◌∷◌, option_and_then, option_map, if◌then◌else◌}
+use Rattle.std.specs.Prelude.{◌+◌, ◌==◌, ◌&&◌, ℕ, false, not, suc, List, [], ◌∷◌, option_and_then, option_map}
+use Rattle.std.specs.Prelude.{if◌then◌else◌}
 use Rattle.std.specs.List.{filter, find}
 use Rattle.guest_machine.specs.Ranges.{Range}
 use Rattle.image_file.specs.Spelled.{Part, Spelled, is_writable}

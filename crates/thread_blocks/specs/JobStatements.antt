@@ -12,7 +12,8 @@ use Rattle.thread_blocks.specs.JobWorlds.{job_world, numbered_lines, thread_read
 use Rattle.thread_blocks.specs.Lines.{Line}
 use Rattle.thread_blocks.specs.RunTime.{Runs, thread_turns}
 use Rattle.thread_blocks.specs.Turns.{IsFinished, Thread, at_number, ready, turns}
-use Rattle.thread_blocks.specs.TurnsAlike.{AllFronts, IsFront, Rises}
+use Rattle.thread_blocks.specs.TurnsAlike.{Rises}
+use Rattle.thread_blocks.specs.Turns.{AllFronts, IsFront}
 use Rattle.guest_arithmetic.specs.Plain.{plain_operations}
 
 -- each open and close of a job was accepted after those before it, whatever is loaded, in any order of turns

@@ -13,7 +13,8 @@ use Rattle.thread_blocks.specs.Instances.{Loads, instances}
 use Rattle.thread_blocks.specs.Lines.{Line, event_by}
 use Rattle.thread_blocks.specs.MachineTurns.{shown}
 use Rattle.thread_blocks.specs.RunTime.{thread_turns}
-use Rattle.thread_blocks.specs.Turns.{Phase, Idle, Mid, Thread, Turns, at_number, with_number, event_of, ready, turn, whole_order, with_event}
+use Rattle.thread_blocks.specs.Turns.{Phase, Idle, Mid, Thread, Turns, at_number, with_number, event_of, ready, turn}
+use Rattle.thread_blocks.specs.Turns.{whole_order, with_event}
 use Rattle.guest_arithmetic.specs.Values.{Operations}
 
 -- B: a byte

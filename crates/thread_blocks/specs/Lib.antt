@@ -1,6 +1,7 @@
 pub mod Turns
 pub mod TurnsAlike
 pub mod Spaces
+pub mod SpaceLaws
 pub mod MachineTurns
 pub mod Held
 pub mod Instances

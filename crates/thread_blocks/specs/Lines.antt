@@ -1,5 +1,6 @@
 -- Lines of all kinds: calls of functions, opens and closes of images, and looks at the bytes of a variable.
-use Rattle.std.specs.Prelude.{◌+◌, ℕ, Bool, true, false, List, length, Option, Some, None, nat_le, slice_range, if◌then◌else◌}
+use Rattle.std.specs.Prelude.{◌+◌, ℕ, Bool, true, false, List, length, Option, Some, None, nat_le, slice_range}
+use Rattle.std.specs.Prelude.{if◌then◌else◌}
 use Rattle.guest_arithmetic.specs.Values.{Operations}
 use Rattle.guest_machine.specs.Use.{left}
 use Rattle.job_text.specs.declared.thread_lines.Action.{Action}
@@ -14,7 +15,10 @@ use Rattle.module_table.specs.declared.events.OpenRefusal.TheVariants.{Unknown, 
 use Rattle.module_table.specs.Modules.{is_loaded}
 use Rattle.module_table.specs.Past.{open_refusal, close_refusal, module_of}
 use Rattle.transcript_text.specs.declared.outcomes.LineRefusal.{LineRefusal}
-use Rattle.transcript_text.specs.declared.outcomes.LineRefusal.TheVariants.{Unknown as UnknownImage, Full as TooMany, StaticFull as NoSurplus, Permanent as Stays, NotOpen as IsClosed, Symbol as NoSymbol, Length as TooLong}
+use Rattle.transcript_text.specs.declared.outcomes.LineRefusal.TheVariants.{Unknown as UnknownImage, Full as TooMany}
+use Rattle.transcript_text.specs.declared.outcomes.LineRefusal.TheVariants.{StaticFull as NoSurplus, Permanent as Stays}
+use Rattle.transcript_text.specs.declared.outcomes.LineRefusal.TheVariants.{NotOpen as IsClosed, Symbol as NoSymbol}
+use Rattle.transcript_text.specs.declared.outcomes.LineRefusal.TheVariants.{Length as TooLong}
 use Rattle.transcript_text.specs.declared.outcomes.Outcome.TheVariants.{Opened, Closed, Refused}
 use Rattle.thread_blocks.specs.Instances.{Loads, instance_at, left_by}
 use Rattle.thread_blocks.specs.Held.{Held, block_bytes, owned_by, loaded, looked, reached}

@@ -8,7 +8,8 @@ use Rattle.guest_machine.specs.Ranges.{Range}
 use Rattle.guest_machine.specs.State.{start_of}
 use Rattle.guest_arithmetic.specs.Values.{Operations}
 use Rattle.transcript_text.specs.declared.outcomes.Line.{Line}
-use Rattle.transcript_text.specs.declared.outcomes.LineFault.TheVariants.{Address as AddressFault, Code as CodeFault, Steps as StepsFault}
+use Rattle.transcript_text.specs.declared.outcomes.LineFault.TheVariants.{Address as AddressFault, Code as CodeFault}
+use Rattle.transcript_text.specs.declared.outcomes.LineFault.TheVariants.{Steps as StepsFault}
 use Rattle.transcript_text.specs.declared.outcomes.Outcome.{Outcome as Answer}
 use Rattle.transcript_text.specs.declared.outcomes.Outcome.TheVariants.{Returned as ReturnedAnswer, Fault}
 use Rattle.thread_blocks.specs.Turns.{Ending, Answered, Stopped, Said}

@@ -1,6 +1,7 @@
 -- The run time that code calls: `__tls_get_addr`, and the function of TLS descriptors (Drepper, "ELF
 -- Handling For Thread-Local Storage", section 3.4.6; psABI, "TLS Descriptors").
-use Rattle.std.specs.Prelude.{◌+◌, ◌-◌, ◌*◌, ◌/◌, ◌%◌, ◌^◌, ◌==◌, ◌&&◌, ℕ, Bool, true, false, List, ◌∷◌, length, Option, Some, None, Result, Ok, Err, nat_le, is_none, if◌then◌else◌}
+use Rattle.std.specs.Prelude.{◌+◌, ◌-◌, ◌*◌, ◌/◌, ◌%◌, ◌^◌, ◌==◌, ◌&&◌, ℕ, Bool, true, false, List, ◌∷◌, length, Option}
+use Rattle.std.specs.Prelude.{Some, None, Result, Ok, Err, nat_le, is_none, if◌then◌else◌}
 use Rattle.std.specs.List.{find, list_any}
 use Rattle.address_map.specs.Map.{descriptor_place, pointer_of, stack_start}
 use Rattle.guest_arithmetic.specs.Plain.{plain_operations}
@@ -18,7 +19,8 @@ use Rattle.transcript_text.specs.declared.outcomes.LineFault.TheVariants.{Unload
 use Rattle.transcript_text.specs.declared.outcomes.Outcome.TheVariants.{Bytes, Fault}
 use Rattle.thread_blocks.specs.declared.asked.Asked.{Asked}
 use Rattle.thread_blocks.specs.Held.{Held, looked, reached}
-use Rattle.thread_blocks.specs.Instances.{Loads, fixed_at, instances, instance_with_id, is_startup_id, numbered_instance, block_start}
+use Rattle.thread_blocks.specs.Instances.{Loads, fixed_at, instances, instance_with_id, is_startup_id}
+use Rattle.thread_blocks.specs.Instances.{numbered_instance, block_start}
 use Rattle.thread_blocks.specs.Lines.{Line, begin_line}
 use Rattle.thread_blocks.specs.MachineTurns.{pointer_word}
 use Rattle.thread_blocks.specs.Spaces.{Space, space_accesses, no_field}

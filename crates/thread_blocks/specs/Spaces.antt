@@ -1,12 +1,10 @@
 -- A thread's memory: its stack, its own blocks, and the bytes that can be read or run and that no thread writes.
-use Rattle.std.specs.Prelude.{◌≡◌, ℕ, ◌-◌, Bool, true, false, List, [], ◌∷◌, ◌++◌, slice_set, Option, Some, None, Result, Ok, Err, ok_or, option_and_then, if◌then◌else◌}
+use Rattle.std.specs.Prelude.{◌≡◌, ℕ, ◌-◌, Bool, true, false, List, [], ◌∷◌, ◌++◌, slice_set, ok_or, option_and_then}
+use Rattle.std.specs.Prelude.{if◌then◌else◌}
 use Rattle.guest_operands.specs.declared.space.Access.TheVariants.{Read, Write, Run}
-use Rattle.guest_operands.specs.declared.stop.Stop.{Stop}
 use Rattle.guest_machine.specs.Access.{Refused, Accesses, reached}
-use Rattle.guest_machine.specs.Follow.{All2}
 use Rattle.guest_machine.specs.Ranges.{Range, AddressSpace, grants, byte_in, with_byte}
 use Rattle.guest_machine.specs.Run.{Next, Goes, Ends, Looks, Outcome, Ended, Waits, Stepping}
-use Rattle.guest_machine.specs.Use.{After, left}
 use Rattle.guest_arithmetic.specs.Values.{Operations}
 
 -- E: an event, B: a byte
@@ -51,25 +49,7 @@ space_accesses ops start fixed = record {
 abbrev pub no_field : {M : Type 0} → M → ℕ → Bool
 no_field memory place = false
 
-abbrev pub NoneWritable : {B : Type 0} → List (Range B) → Type 0
-NoneWritable [] = Unit {0}
-NoneWritable (range ∷ ranges) = (range.writable ≡ false) × NoneWritable ranges
-
 -- ---- one memory as the image of another
-
--- each access to the one gives what the access to its image gives
-pub record IsImage {M M' B : Type 0} (acc : Accesses M B) (acc' : Accesses M' B) (image : M → M') : Type 0 where
-  pub byte : (m : M) (place : ℕ) → acc'.byte (image m) place ≡ acc.byte m place
-  pub writes : (m : M) (place : ℕ) → acc'.writes (image m) place ≡ acc.writes m place
-  pub put : (m : M) (place : ℕ) (byte : B) → acc'.put (image m) place byte ≡ image (acc.put m place byte)
-  pub code : (m : M) (place : ℕ) → acc'.code (image m) place ≡ acc.code m place
-
-abbrev pub after_of : {W F M M' : Type 0} → (M → M') → After W F M → After W F M'
-after_of image after = left after.state (image after.memory)
-
-abbrev pub mapped : {W F M M' : Type 0} → (M → M') → Result (After W F M) Stop → Result (After W F M') Stop
-mapped image (Ok after) = Ok (after_of image after)
-mapped image (Err stop) = Err stop
 
 module _ {S S' : Type 0} (image : S → S') where
   abbrev pub next_image : Next S → Next S'
@@ -86,29 +66,3 @@ module _ {S S' : Type 0} (image : S → S') where
     pub over : (s : S) → y.over (image s) ≡ x.over s
     pub step : (s : S) → y.step (image s) ≡ next_image (x.step s)
     pub spent : (s : S) → y.spent (image s) ≡ x.spent s
-
--- ---- two memories, part by part
-
--- R: the relation between bytes
-pub record SameRange {B B' : Type 0} (R : B → B' → Type 0) (range : Range B) (range' : Range B') : Type 0 where
-  pub start : range'.start ≡ range.start
-  pub readable : range'.readable ≡ range.readable
-  pub writable : range'.writable ≡ range.writable
-  pub runnable : range'.runnable ≡ range.runnable
-  pub bytes : All2 R range.bytes range'.bytes
-
--- what is found at an address on the two sides
-abbrev pub FoundAlike : {B B' : Type 0} → (B → B' → Type 0) → Option B → Option B' → Type 0
-FoundAlike R None None = Unit {0}
-FoundAlike R None (Some b') = ⊥
-FoundAlike R (Some b) None = ⊥
-FoundAlike R (Some b) (Some b') = R b b'
-
-abbrev pub NoneRunnable : {B : Type 0} → List (Range B) → Type 0
-NoneRunnable [] = Unit {0}
-NoneRunnable (range ∷ ranges) = (range.runnable ≡ false) × NoneRunnable ranges
-
-pub record SameSpace {E B B' : Type 0} (R : B → B' → Type 0) (space : Space E B) (space' : Space E B') : Type 0 where
-  pub seen : space'.seen ≡ space.seen
-  pub stack : All2 R space.stack space'.stack
-  pub own : All2 (SameRange R) space.own space'.own

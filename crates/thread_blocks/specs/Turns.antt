@@ -1,9 +1,11 @@
 -- What threads do, turn by turn: a turn is a look at the events so far and the private steps up to the next look.
-use Rattle.std.specs.Prelude.{ℕ, zero, suc, ◌+◌, ◌-◌, ◌*◌, List, [], ◌∷◌, ◌++◌, length, replicate, slice_set, Option, Some, None, option_and_then}
+use Rattle.std.specs.Prelude.{ℕ, zero, suc, ◌+◌, ◌-◌, ◌*◌, List, [], ◌∷◌, ◌++◌, length, replicate, slice_set, Option}
+use Rattle.std.specs.Prelude.{Some, None, option_and_then}
 pub use Rattle.job_text.specs.Numbering.{at_number}
 use Rattle.guest_operands.specs.declared.stop.Stop.{Stop}
 use Rattle.guest_machine.specs.Run.{Stepping, Outcome, Ended, Waits, run}
 use Rattle.transcript_text.specs.declared.outcomes.Outcome.{Outcome as Answer}
+use Rattle.std.specs.Prelude.{◌≡◌}
 
 -- how a line ended: with an answer, or as the machine stopped
 pub data Ending : Type 0 where
@@ -132,3 +134,10 @@ whole_order fuel lines order = order ++ finishing fuel 1 lines
 -- a thread before its first turn
 abbrev pub ready : {S L E : Type 0} → S → List L → Thread S L E
 ready s lines = record { todo = lines; phase = Idle s; said = []; seen = [] }
+
+abbrev pub IsFront : {E : Type 0} → List E → List E → Type 0
+IsFront {E} front whole = (rest : List E) × (whole ≡ front ++ rest)
+
+abbrev pub AllFronts : {E : Type 0} → List (List E) → List E → Type 0
+AllFronts [] whole = Unit {0}
+AllFronts (front ∷ fronts) whole = IsFront front whole × AllFronts fronts whole

@@ -1,5 +1,5 @@
 -- When threads of one kind did what threads of another did; an unclean line of the first allows anything.
-use Rattle.std.specs.Prelude.{◌≡◌, ◌⊎◌, ◌+◌, ◌*◌, ◌≤◌, List, [], ◌∷◌, ◌++◌}
+use Rattle.std.specs.Prelude.{◌≡◌, ◌⊎◌, ◌+◌, ◌*◌, ◌≤◌, List, [], ◌∷◌}
 use Rattle.guest_machine.specs.Simulate.{IsUnclean}
 use Rattle.thread_blocks.specs.Turns.{Ending, Answered, Stopped, Said, Begun, Says, Calls, Phase, Idle, Mid, Thread}
 
@@ -42,10 +42,3 @@ module _ {S S' E : Type 0} (Wait Rest : List E → S → S' → Type 0) where
 abbrev pub Rises : {E : Type 0} → (List E → List E → Type 0) → List E → List (List E) → Type 0
 Rises Fine old [] = Unit {0}
 Rises Fine old (new ∷ more) = Fine old new × Rises Fine new more
-
-abbrev pub IsFront : {E : Type 0} → List E → List E → Type 0
-IsFront {E} front whole = (rest : List E) × (whole ≡ front ++ rest)
-
-abbrev pub AllFronts : {E : Type 0} → List (List E) → List E → Type 0
-AllFronts [] whole = Unit {0}
-AllFronts (front ∷ fronts) whole = IsFront front whole × AllFronts fronts whole

@@ -1,5 +1,6 @@
 -- What is found of an instance among what a thread keeps: its block, and its data.
-use Rattle.std.proofs.Common.{◌≡◌, ◌∙◌, ◌==◌, ◌||◌, ◌++◌, ℕ, Bool, true, false, List, [], ◌∷◌, Option, Some, None, refl, sym, ap, inl, inr}
+use Rattle.std.proofs.Common.{◌≡◌, ◌∙◌, ◌==◌, ◌||◌, ◌++◌, ℕ, Bool, true, false, List, [], ◌∷◌, Option, Some, None, refl}
+use Rattle.std.proofs.Common.{sym, ap, inl, inr}
 use Rattle.std.specs.Prelude.{if◌then◌else◌, All}
 use Rattle.std.specs.List.{flat_map, list_any}
 use Rattle.std.specs.Option.{option_or}
@@ -24,7 +25,8 @@ use Rattle.thread_vector.proofs.Stepping.{held_none}
 -- ** blocks
 
 module _ (thread : ℕ) (h : ℕ → Option (List ℕ)) (n : ℕ) (ys : List (Owned ℕ)) (none : block_bytes n ys ≡ None) where
-  block_step : (x : Instance) (o : Option (List ℕ)) (rest : List (Owned ℕ)) (b any : Bool) → h x.number ≡ o → (x.number == n) ≡ b
+  block_step : (x : Instance) (o : Option (List ℕ)) (rest : List (Owned ℕ)) (b any : Bool) → h x.number ≡ o
+      → (x.number == n) ≡ b
       → block_bytes n (rest ++ ys) ≡ (if any then h n else None)
       → block_bytes n ((block_with thread x o ++ rest) ++ ys) ≡ (if b || any then h n else None)
   block_step x None rest false any at is found = found
@@ -43,13 +45,15 @@ module _ (thread : ℕ) (h : ℕ → Option (List ℕ)) (n : ℕ) (ys : List (Ow
       (list_any (λ (x : Instance). x.number == n) xs) refl refl (block_found xs)
 
 -- the block of an instance that a thread keeps is the one that it holds
-pub bytes_held : (v : Vector) (ys : List (Owned ℕ)) (n : ℕ) → blocks_in ys ≡ [] → block_bytes n (blocks_of v ++ ys) ≡ held v n
+pub bytes_held : (v : Vector) (ys : List (Owned ℕ)) (n : ℕ) → blocks_in ys ≡ []
+    → block_bytes n (blocks_of v ++ ys) ≡ held v n
 unfolding blocks_of
 bytes_held v ys n none =
     block_found v.thread (held v) n ys (no_block_bytes n ys none) (live_in v.images v.past)
     ∙ by_any (list_any (λ (x : Instance). x.number == n) (live_in v.images v.past)) refl
   where
-    by_any : (b : Bool) → list_any (λ (x : Instance). x.number == n) (live_in v.images v.past) ≡ b → (if b then held v n else None) ≡ held v n
+    by_any : (b : Bool) → list_any (λ (x : Instance). x.number == n) (live_in v.images v.past) ≡ b
+        → (if b then held v n else None) ≡ held v n
     by_any true e = refl
     by_any false e = sym (held_none v n (none_live v.images v.past n e))
 
@@ -59,7 +63,8 @@ bytes_kept v d n = bytes_held v (shared_of v.images v.past d) n (shared_no_block
 -- ** data
 
 module _ (shared : Instance → Option (Range ℕ)) (g : Instance → Option (List ℕ)) where
-  data_other : (n : ℕ) (y : Instance) (o : Option (Range ℕ)) (r : Option (List ℕ)) → (y.number == n) ≡ false → data_bytes n (data_with y o r) ≡ None
+  data_other : (n : ℕ) (y : Instance) (o : Option (Range ℕ)) (r : Option (List ℕ)) → (y.number == n) ≡ false
+      → data_bytes n (data_with y o r) ≡ None
   data_other n y None r apart = refl
   data_other n y (Some range) None apart = refl
   data_other n y (Some range) (Some bytes) apart = rw apart refl
@@ -73,7 +78,8 @@ module _ (shared : Instance → Option (Range ℕ)) (g : Instance → Option (Li
     -- of an instance that shares its number with no other
     data_found : (xs : List Instance) → All (λ y. y.number ≡ x.number → y ≡ x) xs
         → data_bytes x.number (flat_map (λ y. data_with y (shared y) (g y)) xs)
-        ≡ (if list_any (λ (y : Instance). y.number == x.number) xs then data_bytes x.number (data_with x (shared x) (g x)) else None)
+        ≡ (if list_any (λ (y : Instance). y.number == x.number) xs
+        then data_bytes x.number (data_with x (shared x) (g x)) else None)
     data_found [] own = refl
     data_found (y ∷ xs) own =
         let rest = data_found xs (All-tail (λ y. y.number ≡ x.number → y ≡ x) y xs own) in
@@ -83,19 +89,26 @@ module _ (shared : Instance → Option (Range ℕ)) (g : Instance → Option (Li
           | inl same ↦
               rw (All-head (λ y. y.number ≡ x.number → y ≡ x) y xs own same, eq-eqb x.number x.number refl)
               (once_more (data_bytes x.number (data_with x (shared x) (g x))) any)
-          | inr apart ↦ rw (ne_eqb y.number x.number apart, data_other x.number y (shared y) (g y) (ne_eqb y.number x.number apart)) refl
+          | inr apart ↦ rw (
+            ne_eqb y.number x.number apart,
+            data_other x.number y (shared y) (g y) (ne_eqb y.number x.number apart),
+          ) refl
         ])
 
-    found_again : (o : Option (Range ℕ)) (r : Option (List ℕ)) → data_with x o (data_bytes x.number (data_with x o r)) ≡ data_with x o r
+    found_again : (o : Option (Range ℕ)) (r : Option (List ℕ))
+        → data_with x o (data_bytes x.number (data_with x o r)) ≡ data_with x o r
     found_again None r = refl
     found_again (Some range) None = refl
     found_again (Some range) (Some bytes) = rw (eq-eqb x.number x.number refl) refl
 
     data_alone : (m : JobImages) (p : Past) → HaveOwnNumbers p → IsLive m p x
-        → data_bytes x.number (flat_map (λ y. data_with y (shared y) (g y)) (live_in m p)) ≡ data_bytes x.number (data_with x (shared x) (g x))
+        → data_bytes x.number (flat_map (λ y. data_with y (shared y) (g y)) (live_in m p))
+        ≡ data_bytes x.number (data_with x (shared x) (g x))
     data_alone m p own live =
         rw (
-          data_found (live_in m p) (All-weaker (IsLive m p) (λ y. y.number ≡ x.number → y ≡ x) (λ y here same. same_number m p x y own live here same) (live_in m p) (all_live m p)),
+          data_found (live_in m p)
+              (All-weaker (IsLive m p) (λ y. y.number ≡ x.number → y ≡ x)
+              (λ y here same. same_number m p x y own live here same) (live_in m p) (all_live m p)),
           live_any m p x live,
         ) refl
 
@@ -106,7 +119,8 @@ module _ (shared : Instance → Option (Range ℕ)) (g : Instance → Option (Li
     data_kept m p own live = rw (data_alone m p own live) (found_again (shared x) (g x))
 
 -- the data of a live instance that a thread keeps
-pub data_held : (v : Vector) (d : List Piece) (x : Instance) (range : Range ℕ) → HaveOwnNumbers v.past → IsLive v.images v.past x
+pub data_held : (v : Vector) (d : List Piece) (x : Instance) (range : Range ℕ) → HaveOwnNumbers v.past
+    → IsLive v.images v.past x
     → (job_loads v.images).shared x ≡ Some range → data_bytes x.number (owned_of v d) ≡ data_of d x.number x.image
 unfolding shared_of
 data_held v d x range own live has =

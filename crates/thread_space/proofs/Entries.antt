@@ -1,5 +1,6 @@
 -- Functions begin at low addresses, and images are moved by little.
-use Rattle.std.proofs.Common.{◌≡◌, ◌∙◌, ◌+◌, ◌-◌, ◌^◌, ◌<◌, ◌≤◌, ◌==◌, ◌&&◌, ℕ, zero, suc, Bool, true, false, List, [], ◌∷◌, ◌++◌, length, Some, None, refl, sym, ap, subst, inl, inr, arith}
+use Rattle.std.proofs.Common.{◌≡◌, ◌∙◌, ◌+◌, ◌-◌, ◌^◌, ◌<◌, ◌≤◌, ◌==◌, ◌&&◌, ℕ, zero, suc, Bool, true, false, List, []}
+use Rattle.std.proofs.Common.{◌∷◌, ◌++◌, length, Some, None, refl, sym, ap, subst, inl, inr, arith}
 use Rattle.std.specs.Prelude.{if◌then◌else◌, not, slice_range, drop, take}
 use Rattle.std.specs.List.{list_any, slice_get}
 use Rattle.std.proofs.lemmas.Bool.{cases_Bool, ltb-true}
@@ -27,7 +28,8 @@ fits b i right = omega (arith, right.3.1, right.2.0)
 load_ends : (b : List ℕ) → IsImage b → (i : ℕ) → i < loads b → (segment b i).vaddr + (segment b i).filesz ≤ 2 ^ 32
 unfolding Breaks
 load_ends b image i within =
-    let low = at_most ((segment b i).vaddr + (segment b i).filesz) (base b + 2 ^ 26) (λ no. image SegmentRule i (inl (within, λ right. no (fits b i right)))) in
+    let low = at_most ((segment b i).vaddr + (segment b i).filesz) (base b + 2 ^ 26)
+    (λ no. image SegmentRule i (inl (within, λ right. no (fits b i right)))) in
     omega (arith, low, base_low ((header b).e_type == ET_EXEC))
 
 short : (xs : List ℕ) (from size : ℕ) → length (slice_range xs from (from + size)) ≤ size
@@ -35,11 +37,14 @@ short xs from size = omega (arith, length-take (from + size - from) (drop from x
 
 part_ends : (b : List ℕ) → IsImage b → (i : ℕ) → i < loads b → (part b i).address + length (part b i).bytes ≤ 2 ^ 32
 unfolding part
-part_ends b image i within = omega (arith, load_ends b image i within, short b (segment b i).offset (segment b i).filesz)
+part_ends b image i within =
+    omega (arith, load_ends b image i within, short b (segment b i).offset (segment b i).filesz)
 
-found_ends : (b : List ℕ) → IsImage b → (i : ℕ) (p : Part) → slice_get (spelled b).parts i ≡ Some p → p.address + length p.bytes ≤ 2 ^ 32
+found_ends : (b : List ℕ) → IsImage b → (i : ℕ) (p : Part) → slice_get (spelled b).parts i ≡ Some p
+    → p.address + length p.bytes ≤ 2 ^ 32
 found_ends b image i p is =
-    let within : i < loads b = let lt = slice_get_within (spelled b).parts i p is in let long = length-tabled (part b) (loads b) in omega (arith, lt, long) in
+    let within : i < loads b = let lt = slice_get_within (spelled b).parts i p is in
+    let long = length-tabled (part b) (loads b) in omega (arith, lt, long) in
     let same = inside (part b i) p (sym (tabled_at (part b) (loads b) i within) ∙ is) in
     subst (λ (q : Part). q.address + length q.bytes ≤ 2 ^ 32) same (part_ends b image i within)
 
@@ -59,7 +64,8 @@ passing : {X : Type 0} (p : X → Bool) (xs : List X) → list_any p xs ≡ true
 passing p [] some = absurd (cc some)
 passing p (x ∷ xs) some = elim (cases_Bool (p x)) [
   | inl fits ↦ record { at = 0; x = x; is = refl; passes = fits }
-  | inr fails ↦ let more = passing p xs (rw fails at some) in record { at = suc more.at; x = more.x; is = more.is; passes = more.passes }
+  | inr fails ↦ let more = passing p xs (rw fails at some) in
+      record { at = suc more.at; x = more.x; is = more.is; passes = more.passes }
 ]
 
 runs_within : (place : ℕ) (p : Part) → runs_at place p ≡ true → place < p.address + length p.bytes
@@ -72,16 +78,20 @@ run_low b image place some =
     let here = passing (runs_at place) (spelled b).parts some in
     omega (arith, runs_within place here.x here.passes, found_ends b image here.at here.x here.is)
 
-place_low : (b : List ℕ) → IsImage b → (symbol : ImageSymbol) (place : ℕ) → function_place (spelled b).parts symbol ≡ Some place → place < 2 ^ 32
+place_low : (b : List ℕ) → IsImage b → (symbol : ImageSymbol) (place : ℕ)
+    → function_place (spelled b).parts symbol ≡ Some place → place < 2 ^ 32
 place_low b image symbol place is =
-    let found = cond_some ((symbol.is_defined && not (is_tls symbol.kind)) && list_any (runs_at symbol.value) (spelled b).parts) symbol.value place is in
+    let found = cond_some ((symbol.is_defined && not (is_tls symbol.kind))
+    && list_any (runs_at symbol.value) (spelled b).parts) symbol.value place is in
     subst (λ n. n < 2 ^ 32) found.1
     (run_low b image symbol.value (and_parts (symbol.is_defined && not (is_tls symbol.kind)) _ found.0).1)
 
-entry_of : (b : List ℕ) → IsImage b → (name : List ℕ) (place : ℕ) → entry_in (spelled b) name ≡ Some place → place < 2 ^ 32
+entry_of : (b : List ℕ) → IsImage b → (name : List ℕ) (place : ℕ) → entry_in (spelled b) name ≡ Some place
+    → place < 2 ^ 32
 unfolding entry_in
 entry_of b image name place is =
-    option_and_then_some (function_place (spelled b).parts) _ place is (λ symbol found says. place_low b image symbol place says)
+    option_and_then_some (function_place (spelled b).parts) _ place is
+    (λ symbol found says. place_low b image symbol place says)
 
 -- where a function begins, before its image is moved
 pub entry_low : (image : Spelled) → (b : List ℕ) × (IsImage b × (image ≡ spelled b)) → (name : List ℕ) (place : ℕ)
@@ -93,8 +103,10 @@ entry_low image (b, (is, spells)) name place says =
 
 -- ** images one by one
 
-pub one_more : {X : Type 0} (xs : List X) (i : ℕ) (x : X) → slice_get xs i ≡ Some x → take (i + 1) xs ≡ take i xs ++ x ∷ []
-one_more xs i x is = take_more xs i x (slice_get_within xs i x is) ∙ ap (λ y. take i xs ++ y ∷ []) (get_or_from_slice_get xs i x x is)
+pub one_more : {X : Type 0} (xs : List X) (i : ℕ) (x : X) → slice_get xs i ≡ Some x
+    → take (i + 1) xs ≡ take i xs ++ x ∷ []
+one_more xs i x is = take_more xs i x (slice_get_within xs i x is)
+    ∙ ap (λ y. take i xs ++ y ∷ []) (get_or_from_slice_get xs i x x is)
 
 pub image_after : (m : JobImages) (i : ℕ) → slice_get m.images i ≡ image_at m (i + 1)
 unfolding image_at

@@ -1,5 +1,7 @@
 -- Code that is fetched at once is what its bytes are one by one.
-use Rattle.std.proofs.Common.{◌≡◌, ◌∙◌, ◌+◌, ◌-◌, ◌^◌, ◌<◌, ◌≤◌, ◌++◌, ℕ, zero, suc, Bool, true, false, List, [], ◌∷◌, length, drop, take, get_or, Option, Some, None, refl, sym, ap, subst, arith, inl, inr, cond, add-one, ◌==◌}
+use Rattle.std.proofs.Common.{◌≡◌, ◌∙◌, ◌+◌, ◌-◌, ◌^◌, ◌<◌, ◌≤◌, ◌++◌, ℕ, zero, suc, Bool, true, false, List, [], ◌∷◌}
+use Rattle.std.proofs.Common.{length, drop, take, get_or, Option, Some, None, refl, sym, ap, subst, arith, inl, inr}
+use Rattle.std.proofs.Common.{cond, add-one, ◌==◌}
 use Rattle.std.specs.Prelude.{◌&&◌, is_some, nat_le, option_and_then, slice_get, slice_range}
 use Rattle.std.specs.List.{find, flat_map}
 use Rattle.std.specs.Option.{option_or, option_map_or}
@@ -9,12 +11,14 @@ use Rattle.std.proofs.lemmas.Option.{none-some, same_Some, slice_get-get_or, sli
 use Rattle.guest_arithmetic.specs.Plain.{plain_operations}
 use Rattle.guest_operands.specs.Access.{code_at, fetch_of, next_place}
 use Rattle.guest_operands.specs.declared.space.Access.TheVariants.{Run}
-use Rattle.guest_operands.specs.Ranges.{AddressSpace, byte_in, range_accesses}
+use Rattle.guest_operands.specs.Ranges.{AddressSpace, byte_in}
+use Rattle.guest_operands.specs.RangeLaws.{range_accesses}
 use Rattle.image_file.specs.declared.part.PartClass.TheVariants.{Executable}
 use Rattle.image_file.specs.Spelled.{Part, Spelled}
 use Rattle.loaded_modules.specs.declared.instance.Instance.{Instance}
 use Rattle.loaded_modules.specs.Images.{JobImages, image_at}
-use Rattle.loaded_modules.specs.Loader.{bias, bias_of, loaded_part, part_bytes}
+use Rattle.loaded_modules.specs.Loader.{bias, part_bytes}
+use Rattle.loaded_modules.specs.LoaderLaws.{bias_of, loaded_part}
 use Rattle.thread_blocks.specs.JobLoads.{job_loads, parts_from}
 use Rattle.thread_space.specs.Fetching.{Copies, code_number, first_code, meets, part_meets}
 use Rattle.thread_space.specs.Kept.{Kept, live_in, memory_of}
@@ -34,7 +38,8 @@ misses start place k bytes low none = elim (cases_Bool (nat_le start (place + k)
   | inl t ↦
       let from : start ≤ place + k = leb-true start (place + k) t in
       let below : start < place + 15 = omega (arith, from, low) in
-      let past : start + length bytes ≤ place = ltb-false place (start + length bytes) (sym (rw (lt-ltb start (place + 15) below) refl) ∙ none) in
+      let past : start + length bytes ≤ place =
+      ltb-false place (start + length bytes) (sym (rw (lt-ltb start (place + 15) below) refl) ∙ none) in
       rw t (slice_get_past bytes (place + k - start) (omega (arith, past)))
   | inr f ↦ rw f refl
 ]
@@ -47,13 +52,18 @@ module _ (m : JobImages) (image : Spelled) (x : Instance) (place k : ℕ) (low :
   passed : (i : ℕ) (part : Part) (rest : List Part) → part_meets m image x place (Some part) ≡ false
       → rest_of i (part ∷ rest) ≡ rest_of (suc i) rest
   passed i part rest none =
-      by_class Run part.class (option_map_or (λ (own : ℕ). own == i) image.got false) (part.address + bias image.kind x.number) (place + k) (part_bytes m image x part) (parts_from m image x (suc i) rest)
+      by_class Run part.class (option_map_or (λ (own : ℕ). own == i) image.got false)
+      (part.address + bias image.kind x.number) (place + k) (part_bytes m image x part)
+      (parts_from m image x (suc i) rest)
       ∙ ap (λ o. option_or o (rest_of (suc i) rest)) (by_code (is_code part.class) refl)
     where
       by_code : (b : Bool) → is_code part.class ≡ b
-          → cond (is_code part.class) (option_and_then (slice_get (part_bytes m image x part)) (behind (part.address + bias image.kind x.number) (place + k))) None ≡ None
+          → cond (is_code part.class)
+          (option_and_then (slice_get (part_bytes m image x part))
+          (behind (part.address + bias image.kind x.number) (place + k))) None ≡ None
       by_code true e =
-          rw e (misses (part.address + bias image.kind x.number) place k (part_bytes m image x part) low (sym (rw e refl) ∙ none))
+          rw e (misses (part.address + bias image.kind x.number) place k (part_bytes m image x part) low
+          (sym (rw e refl) ∙ none))
       by_code false e = rw e refl
 
   no_code : (rest : List Part) (i : ℕ) → first_code m image x place i rest ≡ None → rest_of i rest ≡ None
@@ -77,17 +87,20 @@ module _ (m : JobImages) (image : Spelled) (x : Instance) (place k : ℕ) (low :
         (let offset : place + k - start ≡ at + k = omega (arith, told.1, from) in
         rw (le-leb start (place + k) (omega (arith, from)), offset) refl)
         in
-        by_class Run found_part.class (option_map_or (λ (own : ℕ). own == i) image.got false) start (place + k) bytes (parts_from m image x (suc i) rest)
+        by_class Run found_part.class (option_map_or (λ (own : ℕ). own == i) image.got false) start (place + k) bytes
+        (parts_from m image x (suc i) rest)
         ∙ rw (code, later) (sym (is_byte bytes (at + k) (rest_of (suc i) rest) (omega (arith, room, low))))
 
     code_from : (rest : List Part) (i : ℕ) → ((j : ℕ) → slice_get image.parts (i + j) ≡ slice_get rest j)
-        → first_code m image x place i rest ≡ Some n → rest_of i rest ≡ slice_get (part_bytes m image x found_part) (at + k)
+        → first_code m image x place i rest ≡ Some n
+        → rest_of i rest ≡ slice_get (part_bytes m image x found_part) (at + k)
     code_from [] i rests found = absurd (none-some n found)
     code_from (part ∷ rest) i rests found = elim (cases_Bool (part_meets m image x place (Some part))) [
       | inl t ↦
           let number : i ≡ n = same_Some i n (sym (rw t refl) ∙ found) in
           let first : slice_get image.parts i ≡ Some part = (let e : i + 0 ≡ i = omega arith in rw e at (rests 0)) in
-          let same : part ≡ found_part = same_Some part found_part (sym first ∙ ap (slice_get image.parts) number ∙ is) in
+          let same : part ≡ found_part =
+          same_Some part found_part (sym first ∙ ap (slice_get image.parts) number ∙ is) in
           let code : is_code part.class ≡ true = first_true (is_code part.class) _ t in
           subst (λ (p : Part). rest_of i (p ∷ rest) ≡ slice_get (part_bytes m image x found_part) (at + k)) (sym same)
           (here i rest (ap (λ (p : Part). is_code p.class) (sym same) ∙ code))
@@ -114,14 +127,16 @@ module _ (m : JobImages) (place k : ℕ) (low : k < 15) where
           ap (λ ranges. byte_in Run ranges (place + k)) (sym (of_image m x image e))
           ∙ no_code m image x place k low image.parts 0 (rw e at none)
 
-  module _ (image : Spelled) (x : Instance) (n byte : ℕ) (here : byte_in Run ((job_loads m).fixed x) (place + k) ≡ Some byte) where
+  module _ (image : Spelled) (x : Instance) (n byte : ℕ)
+      (here : byte_in Run ((job_loads m).fixed x) (place + k) ≡ Some byte) where
     pub in_live : (xs : List Instance) → find (λ y. is_some (code_number m place y)) xs ≡ Some x
         → byte_in Run (flat_map (job_loads m).fixed xs) (place + k) ≡ Some byte
     in_live [] found = absurd (none-some x found)
     in_live (y ∷ xs) found = by_code (code_number m place y) refl (in_live xs)
       where
         by_code : (o : Option ℕ) → code_number m place y ≡ o
-            → (find (λ y. is_some (code_number m place y)) xs ≡ Some x → byte_in Run (flat_map (job_loads m).fixed xs) (place + k) ≡ Some byte)
+            → (find (λ y. is_some (code_number m place y)) xs ≡ Some x
+            → byte_in Run (flat_map (job_loads m).fixed xs) (place + k) ≡ Some byte)
             → byte_in Run ((job_loads m).fixed y ++ flat_map (job_loads m).fixed xs) (place + k) ≡ Some byte
         by_code None e there =
             byte_in-append Run (place + k) ((job_loads m).fixed y) (flat_map (job_loads m).fixed xs)
@@ -137,12 +152,14 @@ module _ (m : JobImages) (place k : ℕ) (low : k < 15) where
 
 module _ (memory : AddressSpace ℕ) (bytes : List ℕ) where
   code_is : (n place at : ℕ) → ((k : ℕ) → k < n → byte_in Run memory.ranges (place + k) ≡ slice_get bytes (at + k))
-      → at + n ≤ length bytes → place + n < 2 ^ 64 → code_at (range_accesses plain_operations) memory place n ≡ take n (drop at bytes)
+      → at + n ≤ length bytes → place + n < 2 ^ 64
+      → code_at (range_accesses plain_operations) memory place n ≡ take n (drop at bytes)
   unfolding range_accesses plain_operations
   code_is zero place at each room low = refl
   code_is (suc n) place at each room low =
       let first : byte_in Run memory.ranges place ≡ Some (get_or bytes at 0) =
-      (let e : place + 0 ≡ place = omega arith in let f : at + 0 ≡ at = omega arith in rw (e, f) at (each 0 (omega arith)))
+      (let e : place + 0 ≡ place = omega arith in let f : at + 0 ≡ at = omega arith in
+      rw (e, f) at (each 0 (omega arith)))
       ∙ slice_get-get_or bytes at 0 (omega (arith, room))
       in
       let within : at < length bytes = omega (arith, room) in
@@ -150,7 +167,8 @@ module _ (memory : AddressSpace ℕ) (bytes : List ℕ) where
       rw (first, next, drop-cons bytes at 0)
       (ap (λ rest. get_or bytes at 0 ∷ rest)
       (code_is n (place + 1) (at + 1)
-      (λ k less. (let e : place + 1 + k ≡ place + suc k = omega arith in let f : at + 1 + k ≡ at + suc k = omega arith in rw (e, f) (each (suc k) (omega (arith, less)))))
+      (λ k less. (let e : place + 1 + k ≡ place + suc k = omega arith in
+      let f : at + 1 + k ≡ at + suc k = omega arith in rw (e, f) (each (suc k) (omega (arith, less)))))
       (omega (arith, room)) (omega (arith, low))
       ∙ ap (λ i. take n (drop i bytes)) (add-one at)))
 
@@ -167,7 +185,8 @@ fetched k place n x image into low found there first copies =
     let begins : behind (copies.part.address + bias image.kind x.number) place ≡ Some copies.at =
     rw (bias_here m image x n there) at copies.begins
     in
-    let each : (j : ℕ) → j < 15 → byte_in Run (memory_of k).ranges (place + j) ≡ slice_get bytes (copies.at + j) = λ j less.
+    let each : (j : ℕ) → j < 15
+    → byte_in Run (memory_of k).ranges (place + j) ≡ slice_get bytes (copies.at + j) = λ j less.
     (let one : byte_in Run ((job_loads m).fixed x) (place + j) ≡ slice_get bytes (copies.at + j) =
     ap (λ ranges. byte_in Run ranges (place + j)) (sym (of_image m x image there))
     ∙ code_from m image x place j less n copies.at copies.part copies.is begins copies.room image.parts 0
@@ -181,27 +200,37 @@ fetched k place n x image into low found there first copies =
     ∙ sym some)
     in
     copies.copied
-    ∙ (let e : copies.at + 15 - copies.at ≡ 15 = omega arith in rw e (sym (code_is (memory_of k) bytes 15 place copies.at each copies.room low)))
+    ∙ (let e : copies.at + 15 - copies.at ≡ 15 = omega arith in
+    rw e (sym (code_is (memory_of k) bytes 15 place copies.at each copies.room low)))
 
 -- ** what the code asks
 
 module _ (m : JobImages) (image : Spelled) (x : Instance) (there : image_at m x.image ≡ Some image) where
   pub meets_read : (i place : ℕ) (part : Part) → slice_get image.parts i ≡ Some part → is_code part.class ≡ true
-      → meets (part.address + bias_of m x) (length (loaded_part m x i)) place ≡ part_meets m image x place (slice_get image.parts i)
+      → meets (part.address + bias_of m x) (length (loaded_part m x i)) place
+      ≡ part_meets m image x place (slice_get image.parts i)
   meets_read i place part is code = rw (bias_here m image x i there, part_here m image x i there part is, is, code) refl
 
   first_next : (place i : ℕ) → i < length image.parts
       → first_code m image x place i (drop i image.parts)
-      ≡ cond (part_meets m image x place (slice_get image.parts i)) (Some i) (first_code m image x place (i + 1) (drop (i + 1) image.parts))
+      ≡ cond (part_meets m image x place (slice_get image.parts i)) (Some i)
+      (first_code m image x place (i + 1) (drop (i + 1) image.parts))
   first_next place i within =
-      rw (add-one, slice_get-get_or image.parts i (record { class = Executable; address = 0; bytes = [] }) within, drop-cons image.parts i (record { class = Executable; address = 0; bytes = [] })) refl
+      rw (
+        add-one,
+        slice_get-get_or image.parts i (record { class = Executable; address = 0; bytes = [] }) within,
+        drop-cons image.parts i (record { class = Executable; address = 0; bytes = [] }),
+      ) refl
 
-  pub first_hit : (place i : ℕ) (whole : Option ℕ) → whole ≡ first_code m image x place i (drop i image.parts) → i < length image.parts
+  pub first_hit : (place i : ℕ) (whole : Option ℕ) → whole ≡ first_code m image x place i (drop i image.parts)
+      → i < length image.parts
       → part_meets m image x place (slice_get image.parts i) ≡ true → Some i ≡ whole
   first_hit place i whole from within here = sym (from ∙ first_next place i within ∙ rw here refl)
 
-  pub first_miss : (place i : ℕ) (whole : Option ℕ) → whole ≡ first_code m image x place i (drop i image.parts) → i < length image.parts
-      → part_meets m image x place (slice_get image.parts i) ≡ false → whole ≡ first_code m image x place (i + 1) (drop (i + 1) image.parts)
+  pub first_miss : (place i : ℕ) (whole : Option ℕ) → whole ≡ first_code m image x place i (drop i image.parts)
+      → i < length image.parts
+      → part_meets m image x place (slice_get image.parts i) ≡ false
+      → whole ≡ first_code m image x place (i + 1) (drop (i + 1) image.parts)
   first_miss place i whole from within here = from ∙ first_next place i within ∙ rw here refl
 
   pub number_of_image : (place : ℕ) → first_code m image x place 0 image.parts ≡ code_number m place x
@@ -222,6 +251,7 @@ module _ (m : JobImages) (image : Spelled) (x : Instance) (there : image_at m x.
         copied = copied ∙ ap (λ (bs : List ℕ). slice_range bs at (at + 15)) same;
       }
 
-pub number_of_none : (m : JobImages) (x : Instance) (place : ℕ) → image_at m x.image ≡ None → None ≡ code_number m place x
+pub number_of_none : (m : JobImages) (x : Instance) (place : ℕ) → image_at m x.image ≡ None
+    → None ≡ code_number m place x
 unfolding code_number
 number_of_none m x place none = sym (rw none refl)

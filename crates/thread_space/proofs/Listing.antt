@@ -1,5 +1,6 @@
 -- The live instances, image by image.
-use Rattle.std.proofs.Common.{◌≡◌, ◌∙◌, ◌+◌, ◌≤◌, ◌++◌, ℕ, List, [], ◌∷◌, length, drop, Some, None, refl, sym, ap, inl, inr, arith, add-one}
+use Rattle.std.proofs.Common.{◌≡◌, ◌∙◌, ◌+◌, ◌≤◌, ◌++◌, ℕ, List, [], ◌∷◌, length, drop, Some, None, refl, sym, ap, inl}
+use Rattle.std.proofs.Common.{inr, arith, add-one}
 use Rattle.std.specs.Prelude.{option_to_list}
 use Rattle.std.proofs.Math.Seq.{drop-cons}
 use Rattle.std.proofs.lemmas.Bool.{cases_lt}
@@ -27,24 +28,33 @@ module _ (m : JobImages) (p : Past) where
   unfolding static_offset
   same_instance i = refl
 
-  from_next : (i : ℕ) → from_image i ≡ option_to_list (loaded_instance (infos m) i (module_of p i)) ++ from_image (i + 1)
+  from_next : (i : ℕ) → from_image i ≡ option_to_list (loaded_instance (infos m) i (module_of p i))
+      ++ from_image (i + 1)
   from_next i = elim (cases_lt i (length p.modules)) [
     | inl within ↦ rw (drop-cons p.modules i no_module, add-one) refl
-    | inr past ↦ rw (drop_all i p.modules past, drop_all (i + 1) p.modules (omega (arith, past)), get_or_past p.modules i no_module past) refl
+    | inr past ↦ rw (
+      drop_all i p.modules past,
+      drop_all (i + 1) p.modules (omega (arith, past)),
+      get_or_past p.modules i no_module past,
+    ) refl
   ]
 
-  pub listed_one : (i : ℕ) (items : List Instance) (x : Instance) → live_in m p ≡ items ++ from_image i → instance_at m p i ≡ Some x
+  pub listed_one : (i : ℕ) (items : List Instance) (x : Instance) → live_in m p ≡ items ++ from_image i
+      → instance_at m p i ≡ Some x
       → live_in m p ≡ (items ++ x ∷ []) ++ from_image (i + 1)
   listed_one i items x so_far is =
-      so_far ∙ ap (λ rest. items ++ rest) (from_next i ∙ ap (λ o. option_to_list o ++ from_image (i + 1)) (same_instance i ∙ is))
+      so_far ∙ ap (λ rest. items ++ rest)
+      (from_next i ∙ ap (λ o. option_to_list o ++ from_image (i + 1)) (same_instance i ∙ is))
       ∙ sym (append_assoc items (x ∷ []) (from_image (i + 1)))
 
   pub listed_none : (i : ℕ) (items : List Instance) → live_in m p ≡ items ++ from_image i → instance_at m p i ≡ None
       → live_in m p ≡ items ++ from_image (i + 1)
   listed_none i items so_far is =
-      so_far ∙ ap (λ rest. items ++ rest) (from_next i ∙ ap (λ o. option_to_list o ++ from_image (i + 1)) (same_instance i ∙ is))
+      so_far ∙ ap (λ rest. items ++ rest)
+      (from_next i ∙ ap (λ o. option_to_list o ++ from_image (i + 1)) (same_instance i ∙ is))
 
-  pub listed_all : (i : ℕ) (items : List Instance) → IsLeftBy m p → live_in m p ≡ items ++ from_image i → 65 ≤ i → items ≡ live_in m p
+  pub listed_all : (i : ℕ) (items : List Instance) → IsLeftBy m p → live_in m p ≡ items ++ from_image i → 65 ≤ i
+      → items ≡ live_in m p
   listed_all i items left so_far past =
       let long : length p.modules ≤ i = omega (arith, (facts m p left).long, left.legal.images.few) in
       sym (so_far ∙ rw (drop_all i p.modules long) (append-nil items))

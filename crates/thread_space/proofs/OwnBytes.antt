@@ -1,5 +1,6 @@
 -- The bytes of one instance: its block, and its data.
-use Rattle.std.proofs.Common.{◌≡◌, ◌∙◌, ◌-◌, ◌<◌, ℕ, true, List, [], ◌∷◌, length, Option, Some, None, refl, sym, ap, subst}
+use Rattle.std.proofs.Common.{◌≡◌, ◌∙◌, ◌-◌, ◌<◌, ℕ, true, List, [], ◌∷◌, length, Option, Some, None, refl, sym, ap}
+use Rattle.std.proofs.Common.{subst}
 use Rattle.std.specs.Prelude.{is_some, nat_le, option_and_then, option_map, slice_get}
 use Rattle.std.proofs.lemmas.Bool.{false≢true}
 use Rattle.std.proofs.lemmas.Option.{cond_some, none-some, same_Some, slice_get_within}
@@ -20,11 +21,13 @@ use Rattle.thread_vector.specs.Vectors.{Vector, held}
 
 own_read : (start place : ℕ) (bytes : List ℕ)
     → byte_in Read (written_range bytes start ∷ []) place ≡ option_and_then (slice_get bytes) (behind start place)
-own_read start place bytes = looked start place bytes None ∙ or_none (option_and_then (slice_get bytes) (behind start place))
+own_read start place bytes = looked start place bytes None
+    ∙ or_none (option_and_then (slice_get bytes) (behind start place))
 
 own_write : (start place : ℕ) (bytes : List ℕ)
     → byte_in Write (written_range bytes start ∷ []) place ≡ option_and_then (slice_get bytes) (behind start place)
-own_write start place bytes = looked start place bytes None ∙ or_none (option_and_then (slice_get bytes) (behind start place))
+own_write start place bytes = looked start place bytes None
+    ∙ or_none (option_and_then (slice_get bytes) (behind start place))
 
 -- ** a block
 
@@ -34,11 +37,13 @@ block_byte_of v x place None = None
 block_byte_of v x place (Some bytes) = option_and_then (slice_get bytes) (behind (block_start v.thread x) place)
 
 module _ (v : Vector) (x : Instance) (place : ℕ) where
-  block_read-of : (bytes : Option (List ℕ)) → byte_in Read (ranges_in (block_with v.thread x bytes)) place ≡ block_byte_of v x place bytes
+  block_read-of : (bytes : Option (List ℕ))
+      → byte_in Read (ranges_in (block_with v.thread x bytes)) place ≡ block_byte_of v x place bytes
   block_read-of None = refl
   block_read-of (Some bytes) = own_read (block_start v.thread x) place bytes
 
-  block_write-of : (bytes : Option (List ℕ)) → byte_in Write (ranges_in (block_with v.thread x bytes)) place ≡ block_byte_of v x place bytes
+  block_write-of : (bytes : Option (List ℕ))
+      → byte_in Write (ranges_in (block_with v.thread x bytes)) place ≡ block_byte_of v x place bytes
   block_write-of None = refl
   block_write-of (Some bytes) = own_write (block_start v.thread x) place bytes
 
@@ -93,7 +98,9 @@ module _ (v : Vector) (x : Instance) (place : ℕ) where
       by_bytes : (bytes : Option (List ℕ)) → held v x.number ≡ bytes → ⊥
       by_bytes None e = false≢true (sym (ap is_some (block_write ∙ ap (block_byte_of v x place) e)) ∙ takes_it)
       by_bytes (Some bytes) e =
-          false≢true (sym (ap is_some (block_write ∙ ap (block_byte_of v x place) e ∙ ap (option_and_then (slice_get bytes)) before)) ∙ takes_it)
+          false≢true (sym (ap is_some
+          (block_write ∙ ap (block_byte_of v x place) e ∙ ap (option_and_then (slice_get bytes)) before))
+          ∙ takes_it)
 
 -- how far behind its start a place lies
 pub behind_is : (start place at : ℕ) → behind start place ≡ Some at → at ≡ place - start

@@ -1,5 +1,6 @@
 -- Ranges with their owners: blocks and data apart.
-use Rattle.std.proofs.Common.{◌≡◌, ◌∙◌, ◌++◌, ℕ, Bool, List, [], ◌∷◌, Option, Some, None, refl, ap, inl, inr, append-nil}
+use Rattle.std.proofs.Common.{◌≡◌, ◌∙◌, ◌++◌, ℕ, Bool, List, [], ◌∷◌, Option, Some, None, refl, ap, inl, inr}
+use Rattle.std.proofs.Common.{append-nil}
 use Rattle.std.specs.Prelude.{not, option_map}
 use Rattle.std.specs.List.{filter, flat_map}
 use Rattle.std.specs.Option.{option_or}
@@ -11,7 +12,8 @@ use Rattle.loaded_modules.specs.declared.instance.Instance.{Instance}
 use Rattle.loaded_modules.specs.Images.{JobImages}
 use Rattle.module_data.specs.Pieces.{Piece}
 use Rattle.module_table.specs.Past.{Past}
-use Rattle.thread_blocks.specs.Held.{Owned, block_bytes, block_with, data_bytes, data_with, is_block, is_block_of, is_data_of, owned, owners_of, ranges_in}
+use Rattle.thread_blocks.specs.Held.{Owned, block_bytes, block_with, data_bytes, data_with, is_block, is_block_of}
+use Rattle.thread_blocks.specs.Held.{is_data_of, owned, owners_of, ranges_in}
 use Rattle.thread_blocks.specs.JobWorlds.{blocks_in, data_in as data_among}
 use Rattle.thread_space.specs.Kept.{blocks_of, live_in, owned_of, shared_of}
 use Rattle.thread_vector.specs.Vectors.{Vector, held}
@@ -34,7 +36,8 @@ module _ {X Y : Type 0} (p : Y → Bool) (made : X → List Y) where
 
 -- ** blocks and data
 
-block_is_block : (thread : ℕ) (x : Instance) (bytes : Option (List ℕ)) → blocks_in (block_with thread x bytes) ≡ block_with thread x bytes
+block_is_block : (thread : ℕ) (x : Instance) (bytes : Option (List ℕ))
+    → blocks_in (block_with thread x bytes) ≡ block_with thread x bytes
 block_is_block thread x None = refl
 block_is_block thread x (Some bytes) = refl
 
@@ -42,12 +45,14 @@ block_no_data : (thread : ℕ) (x : Instance) (bytes : Option (List ℕ)) → da
 block_no_data thread x None = refl
 block_no_data thread x (Some bytes) = refl
 
-data_is_data : (x : Instance) (range : Option (Range ℕ)) (bytes : Option (List ℕ)) → data_among (data_with x range bytes) ≡ data_with x range bytes
+data_is_data : (x : Instance) (range : Option (Range ℕ)) (bytes : Option (List ℕ))
+    → data_among (data_with x range bytes) ≡ data_with x range bytes
 data_is_data x None bytes = refl
 data_is_data x (Some range) None = refl
 data_is_data x (Some range) (Some bytes) = refl
 
-data_no_block : (x : Instance) (range : Option (Range ℕ)) (bytes : Option (List ℕ)) → blocks_in (data_with x range bytes) ≡ []
+data_no_block : (x : Instance) (range : Option (Range ℕ)) (bytes : Option (List ℕ))
+    → blocks_in (data_with x range bytes) ≡ []
 data_no_block x None bytes = refl
 data_no_block x (Some range) None = refl
 data_no_block x (Some range) (Some bytes) = refl
@@ -67,7 +72,8 @@ module _ (v : Vector) where
 
 -- data of instances, whatever they are
 module _ (shared : Instance → Option (Range ℕ)) (g : Instance → Option (List ℕ)) (xs : List Instance) where
-  pub some_data : data_among (flat_map (λ y. data_with y (shared y) (g y)) xs) ≡ flat_map (λ y. data_with y (shared y) (g y)) xs
+  pub some_data : data_among (flat_map (λ y. data_with y (shared y) (g y)) xs)
+      ≡ flat_map (λ y. data_with y (shared y) (g y)) xs
   some_data =
       all_pass (λ y. not (is_block y.owner.kind)) (λ (y : Instance). data_with y (shared y) (g y))
       (λ y. data_is_data y (shared y) (g y)) xs
@@ -118,11 +124,14 @@ no_data_bytes n (y ∷ ys) none = elim (cases_Bool (is_block y.owner.kind)) [
 
 -- ** one list behind another
 
-map_or : (o r : Option (Owned ℕ)) → option_map (λ y. y.range.bytes) (option_or o r) ≡ option_or (option_map (λ y. y.range.bytes) o) (option_map (λ y. y.range.bytes) r)
+map_or : (o r : Option (Owned ℕ))
+    → option_map (λ y. y.range.bytes) (option_or o r)
+    ≡ option_or (option_map (λ y. y.range.bytes) o) (option_map (λ y. y.range.bytes) r)
 map_or None r = refl
 map_or (Some y) r = refl
 
-pub data-append : (n : ℕ) (xs ys : List (Owned ℕ)) → data_bytes n (xs ++ ys) ≡ option_or (data_bytes n xs) (data_bytes n ys)
+pub data-append : (n : ℕ) (xs ys : List (Owned ℕ))
+    → data_bytes n (xs ++ ys) ≡ option_or (data_bytes n xs) (data_bytes n ys)
 data-append n xs ys = ap (option_map (λ y. y.range.bytes)) (find-append (λ y. is_data_of n y.owner) xs ys) ∙ map_or _ _
 
 -- behind blocks

@@ -4,7 +4,8 @@ use Rattle.std.specs.Prelude.{option_and_then}
 use Rattle.loaded_modules.specs.declared.instance.Instance.{Instance}
 use Rattle.loaded_modules.specs.Images.{JobImages}
 use Rattle.module_data.specs.Parts.{fresh_data}
-use Rattle.module_data.specs.Pieces.{Piece, bytes_of_instance, data_of, first_data, first_instance, fresh_piece, loaded, starts_at}
+use Rattle.module_data.specs.Pieces.{Piece, bytes_of_instance, data_of, first_data, first_instance, fresh_piece, loaded}
+use Rattle.module_data.specs.Pieces.{starts_at}
 use Rattle.module_data.proofs.Written.{first_at, get_same, own}
 
 -- ** loads

@@ -1,5 +1,6 @@
 -- A byte that is read or run: the stack first, then blocks, data, the word at the thread pointer, and what is fixed.
-use Rattle.std.proofs.Common.{◌≡◌, ◌∙◌, ◌++◌, ◌||◌, ◌-◌, ℕ, true, false, List, [], ◌∷◌, Option, Some, None, refl, sym, ap, inl, inr}
+use Rattle.std.proofs.Common.{◌≡◌, ◌∙◌, ◌++◌, ◌||◌, ◌-◌, ℕ, true, false, List, [], ◌∷◌, Option, Some, None, refl, sym}
+use Rattle.std.proofs.Common.{ap, inl, inr}
 use Rattle.std.specs.Prelude.{is_some, not, option_and_then}
 use Rattle.std.specs.List.{find, flat_map}
 use Rattle.std.specs.Option.{option_or}
@@ -25,10 +26,12 @@ use Rattle.loaded_modules.proofs.Left.{or_none}
 use Rattle.thread_space.proofs.Sought.{byte_in-each, found_passes, has_byte, none_each, same_each}
 
 -- the ranges of each, one after another
-pub ranges_each : {X : Type 0} (made : X → List (Owned ℕ)) (xs : List X) → ranges_in (flat_map made xs) ≡ flat_map (λ x. ranges_in (made x)) xs
+pub ranges_each : {X : Type 0} (made : X → List (Owned ℕ)) (xs : List X)
+    → ranges_in (flat_map made xs) ≡ flat_map (λ x. ranges_in (made x)) xs
 ranges_each made [] = refl
 ranges_each made (x ∷ xs) =
-    map-append (λ (o : Owned ℕ). o.range) (made x) (flat_map made xs) ∙ ap (λ rest. ranges_in (made x) ++ rest) (ranges_each made xs)
+    map-append (λ (o : Owned ℕ). o.range) (made x) (flat_map made xs)
+    ∙ ap (λ rest. ranges_in (made x) ++ rest) (ranges_each made xs)
 
 module _ (k : Kept) where
   abbrev live : List Instance
@@ -55,18 +58,22 @@ module _ (k : Kept) where
   memory_is =
       ap (λ own. stack_of ∷ (own ++ pointer_of ∷ fixed_among))
       (map-append (λ (o : Owned ℕ). o.range) (blocks_of k.vector) (shared_of k.vector.images k.vector.past k.pieces)
-      ∙ ap (λ xs. xs ++ ranges_in (shared_of k.vector.images k.vector.past k.pieces)) (ranges_each _ (live_in k.vector.images k.vector.past))
+      ∙ ap (λ xs. xs ++ ranges_in (shared_of k.vector.images k.vector.past k.pieces))
+      (ranges_each _ (live_in k.vector.images k.vector.past))
       ∙ ap (λ xs. blocks_in ++ xs) (ranges_each _ (live_in k.vector.images k.vector.past)))
 
   module _ (place : ℕ) where
     -- behind the stack
     pub behind_stack : (access : Access)
         → byte_in access ((blocks_in ++ data_among) ++ pointer_of ∷ fixed_among) place
-        ≡ option_or (byte_in access blocks_in place) (option_or (byte_in access data_among place) (byte_in access (pointer_of ∷ fixed_among) place))
+        ≡ option_or (byte_in access blocks_in place)
+        (option_or (byte_in access data_among place) (byte_in access (pointer_of ∷ fixed_among) place))
     behind_stack access =
         byte_in-append access place (blocks_in ++ data_among) (pointer_of ∷ fixed_among)
-        ∙ ap (λ o. option_or o (byte_in access (pointer_of ∷ fixed_among) place)) (byte_in-append access place blocks_in data_among)
-        ∙ or_assoc (byte_in access blocks_in place) (byte_in access data_among place) (byte_in access (pointer_of ∷ fixed_among) place)
+        ∙ ap (λ o. option_or o (byte_in access (pointer_of ∷ fixed_among) place))
+        (byte_in-append access place blocks_in data_among)
+        ∙ or_assoc (byte_in access blocks_in place) (byte_in access data_among place)
+        (byte_in access (pointer_of ∷ fixed_among) place)
       where
         or_assoc : (a b c : Option ℕ) → option_or (option_or a b) c ≡ option_or a (option_or b c)
         or_assoc None b c = refl
@@ -90,7 +97,8 @@ module _ (k : Kept) where
         none_each Write place (job_loads k.vector.images).fixed fixed_no_write (live_in k.vector.images k.vector.past)
 
     pub no_block_run : byte_in Run blocks_in place ≡ None
-    no_block_run = none_each Run place (block_ranges k.vector) (λ x. block_run k.vector x place) (live_in k.vector.images k.vector.past)
+    no_block_run = none_each Run place (block_ranges k.vector) (λ x. block_run k.vector x place)
+        (live_in k.vector.images k.vector.past)
 
     pub no_data_run : byte_in Run data_among place ≡ None
     no_data_run =
@@ -110,22 +118,30 @@ module _ (k : Kept) where
     block_found = find (λ x. takes (block_ranges k.vector x) place) (live_in k.vector.images k.vector.past)
 
     abbrev pub data_found : Option Instance
-    data_found = find (λ x. takes (data_ranges k.vector.images k.pieces x) place) (live_in k.vector.images k.vector.past)
+    data_found = find (λ x. takes (data_ranges k.vector.images k.pieces x) place)
+        (live_in k.vector.images k.vector.past)
 
-    blocks_written : byte_in Write blocks_in place ≡ option_and_then (λ x. byte_in Write (block_ranges k.vector x) place) block_found
+    blocks_written : byte_in Write blocks_in place
+        ≡ option_and_then (λ x. byte_in Write (block_ranges k.vector x) place) block_found
     blocks_written = byte_in-each Write place (block_ranges k.vector) (live_in k.vector.images k.vector.past)
 
-    data_written : byte_in Write data_among place ≡ option_and_then (λ x. byte_in Write (data_ranges k.vector.images k.pieces x) place) data_found
-    data_written = byte_in-each Write place (data_ranges k.vector.images k.pieces) (live_in k.vector.images k.vector.past)
+    data_written : byte_in Write data_among place
+        ≡ option_and_then (λ x. byte_in Write (data_ranges k.vector.images k.pieces x) place) data_found
+    data_written = byte_in-each Write place (data_ranges k.vector.images k.pieces)
+        (live_in k.vector.images k.vector.past)
 
-    blocks_read : byte_in Read blocks_in place ≡ option_and_then (λ x. byte_in Write (block_ranges k.vector x) place) block_found
+    blocks_read : byte_in Read blocks_in place
+        ≡ option_and_then (λ x. byte_in Write (block_ranges k.vector x) place) block_found
     blocks_read =
-        same_each Read Write place (block_ranges k.vector) (λ x. block_same k.vector x place) (live_in k.vector.images k.vector.past)
+        same_each Read Write place (block_ranges k.vector) (λ x. block_same k.vector x place)
+        (live_in k.vector.images k.vector.past)
         ∙ blocks_written
 
-    data_read : byte_in Read data_among place ≡ option_and_then (λ x. byte_in Write (data_ranges k.vector.images k.pieces x) place) data_found
+    data_read : byte_in Read data_among place
+        ≡ option_and_then (λ x. byte_in Write (data_ranges k.vector.images k.pieces x) place) data_found
     data_read =
-        same_each Read Write place (data_ranges k.vector.images k.pieces) (λ x. data_same k.vector.images k.pieces x place)
+        same_each Read Write place (data_ranges k.vector.images k.pieces)
+        (λ x. data_same k.vector.images k.pieces x place)
         (live_in k.vector.images k.vector.past)
         ∙ data_written
 
@@ -151,20 +167,24 @@ module _ (k : Kept) where
       | inr f ↦
           ap (λ ranges. takes ranges place) memory_is
           ∙ rw f (ap is_some (behind_stack Write) ∙ some_or _ _
-          ∙ ap (λ b. b || is_some (option_or (byte_in Write data_among place) (byte_in Write (pointer_of ∷ fixed_among) place)))
+          ∙ ap (λ b. b || is_some
+          (option_or (byte_in Write data_among place) (byte_in Write (pointer_of ∷ fixed_among) place)))
           (ap is_some blocks_written ∙ found_some (block_ranges k.vector) block_found refl)
           ∙ ap (λ b. is_some block_found || b)
-          (ap (λ o. is_some (option_or (byte_in Write data_among place) o)) fixed_not_written ∙ ap is_some (or_none (byte_in Write data_among place))
+          (ap (λ o. is_some (option_or (byte_in Write data_among place) o)) fixed_not_written
+          ∙ ap is_some (or_none (byte_in Write data_among place))
           ∙ ap is_some data_written ∙ found_some (data_ranges k.vector.images k.pieces) data_found refl))
     ]
 
     -- ** which part takes a byte
 
     pub blocks_take : (o : Option Instance) → block_found ≡ o → takes blocks_in place ≡ is_some o
-    blocks_take o found = ap is_some blocks_written ∙ found_some (block_ranges k.vector) block_found refl ∙ ap is_some found
+    blocks_take o found = ap is_some blocks_written ∙ found_some (block_ranges k.vector) block_found refl
+        ∙ ap is_some found
 
     pub data_take : (o : Option Instance) → data_found ≡ o → takes data_among place ≡ is_some o
-    data_take o found = ap is_some data_written ∙ found_some (data_ranges k.vector.images k.pieces) data_found refl ∙ ap is_some found
+    data_take o found = ap is_some data_written ∙ found_some (data_ranges k.vector.images k.pieces) data_found refl
+        ∙ ap is_some found
 
     -- ** a byte that is read
 
@@ -176,31 +196,36 @@ module _ (k : Kept) where
     whole = byte_in Read (memory_of k).ranges place
 
     past_stack : grants Read stack_of place ≡ false
-        → whole ≡ option_or (byte_in Read blocks_in place) (option_or (byte_in Read data_among place) (byte_in Read (pointer_of ∷ fixed_among) place))
+        → whole ≡ option_or (byte_in Read blocks_in place)
+        (option_or (byte_in Read data_among place) (byte_in Read (pointer_of ∷ fixed_among) place))
     past_stack not = ap (λ ranges. byte_in Read ranges place) memory_is ∙ rw not (behind_stack Read)
 
-    pub read_stack : grants Read stack_of place ≡ true → byte_in Read (memory_of k).ranges place ≡ byte_in Read (stack_of ∷ []) place
+    pub read_stack : grants Read stack_of place ≡ true
+        → byte_in Read (memory_of k).ranges place ≡ byte_in Read (stack_of ∷ []) place
     read_stack here = ap (λ ranges. byte_in Read ranges place) memory_is ∙ rw here refl
 
     pub read_block : (x : Instance) → grants Read stack_of place ≡ false → block_found ≡ Some x
         → byte_in Read (memory_of k).ranges place ≡ byte_in Read (block_ranges k.vector x) place
     read_block x not found =
         let here : byte_in Read blocks_in place ≡ byte_in Read (block_ranges k.vector x) place =
-        blocks_read ∙ ap (option_and_then (λ x. byte_in Write (block_ranges k.vector x) place)) found ∙ sym (block_same k.vector x place)
+        blocks_read ∙ ap (option_and_then (λ x. byte_in Write (block_ranges k.vector x) place)) found
+        ∙ sym (block_same k.vector x place)
         in
         let some : is_some (byte_in Read (block_ranges k.vector x) place) ≡ true =
         ap is_some (block_same k.vector x place)
         ∙ found_passes (λ x. takes (block_ranges k.vector x) place) (live_in k.vector.images k.vector.past) x found
         in
         past_stack not
-        ∙ ap (λ o. option_or o (option_or (byte_in Read data_among place) (byte_in Read (pointer_of ∷ fixed_among) place))) here
+        ∙ ap (λ o. option_or o (option_or (byte_in Read data_among place)
+        (byte_in Read (pointer_of ∷ fixed_among) place))) here
         ∙ or_some _ _ some
 
     past_blocks : grants Read stack_of place ≡ false → block_found ≡ None
         → whole ≡ option_or (byte_in Read data_among place) (byte_in Read (pointer_of ∷ fixed_among) place)
     past_blocks not none =
         past_stack not
-        ∙ ap (λ o. option_or o (option_or (byte_in Read data_among place) (byte_in Read (pointer_of ∷ fixed_among) place)))
+        ∙ ap (λ o. option_or o (option_or (byte_in Read data_among place)
+        (byte_in Read (pointer_of ∷ fixed_among) place)))
         (blocks_read ∙ ap (option_and_then (λ x. byte_in Write (block_ranges k.vector x) place)) none)
 
     pub read_data : (x : Instance) → grants Read stack_of place ≡ false → block_found ≡ None → data_found ≡ Some x
@@ -212,9 +237,11 @@ module _ (k : Kept) where
         in
         let some : is_some (byte_in Read (data_ranges k.vector.images k.pieces x) place) ≡ true =
         ap is_some (data_same k.vector.images k.pieces x place)
-        ∙ found_passes (λ x. takes (data_ranges k.vector.images k.pieces x) place) (live_in k.vector.images k.vector.past) x found
+        ∙ found_passes (λ x. takes (data_ranges k.vector.images k.pieces x) place)
+        (live_in k.vector.images k.vector.past) x found
         in
-        past_blocks not none ∙ ap (λ o. option_or o (byte_in Read (pointer_of ∷ fixed_among) place)) here ∙ or_some _ _ some
+        past_blocks not none ∙ ap (λ o. option_or o (byte_in Read (pointer_of ∷ fixed_among) place)) here
+        ∙ or_some _ _ some
 
     pub read_fixed : grants Read stack_of place ≡ false → block_found ≡ None → data_found ≡ None
         → byte_in Read (memory_of k).ranges place ≡ byte_in Read (pointer_of ∷ fixed_among) place

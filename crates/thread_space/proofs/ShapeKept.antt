@@ -1,5 +1,6 @@
 -- No byte that is written changes whose the written ranges are.
-use Rattle.std.proofs.Common.{◌≡◌, ◌∙◌, ◌-◌, ◌++◌, ℕ, List, [], ◌∷◌, length, Option, Some, None, refl, sym, ap, inl, inr}
+use Rattle.std.proofs.Common.{◌≡◌, ◌∙◌, ◌-◌, ◌++◌, ℕ, List, [], ◌∷◌, length, Option, Some, None, refl, sym, ap, inl}
+use Rattle.std.proofs.Common.{inr}
 use Rattle.std.specs.Prelude.{is_some, option_map, slice_set}
 use Rattle.std.specs.List.{flat_map}
 use Rattle.std.proofs.lemmas.Bool.{cases_eq}
@@ -31,7 +32,8 @@ data_owners x (Some range) None (Some b) same = cc
 data_owners x (Some range) (Some a) None same = cc
 data_owners x (Some range) (Some a) (Some b) same = refl
 
-owners_each : {X : Type 0} (one two : X → List (Owned ℕ)) → ((x : X) → owners_of (one x) ≡ owners_of (two x)) → (xs : List X)
+owners_each : {X : Type 0} (one two : X → List (Owned ℕ)) → ((x : X) → owners_of (one x) ≡ owners_of (two x))
+    → (xs : List X)
     → owners_of (flat_map one xs) ≡ owners_of (flat_map two xs)
 owners_each one two same [] = refl
 owners_each one two same (x ∷ xs) =
@@ -56,19 +58,23 @@ module _ (k k' : Kept) (alike : Alike k k') where
   blocks_owners : owners_of (blocks_of k'.vector) ≡ owners_of (blocks_of k.vector)
   unfolding blocks_of
   blocks_owners =
-      ap (λ xs. owners_of (flat_map (λ (x : Instance). block_with k'.vector.thread x (held k'.vector x.number)) xs)) live_same
-      ∙ owners_each (λ (x : Instance). block_with k'.vector.thread x (held k'.vector x.number)) (λ (x : Instance). block_with k.vector.thread x (held k.vector x.number))
+      ap (λ xs. owners_of (flat_map
+      (λ (x : Instance). block_with k'.vector.thread x (held k'.vector x.number)) xs)) live_same
+      ∙ owners_each (λ (x : Instance). block_with k'.vector.thread x (held k'.vector x.number))
+      (λ (x : Instance). block_with k.vector.thread x (held k.vector x.number))
       (λ x. ap (λ thread. owners_of (block_with thread x (held k'.vector x.number))) alike.thread
       ∙ block_owners k.vector.thread x (held k'.vector x.number) (held k.vector x.number) (alike.blocks x.number))
       (live_in k.vector.images k.vector.past)
 
-  shared_owners : owners_of (shared_of k'.vector.images k'.vector.past k'.pieces) ≡ owners_of (shared_of k.vector.images k.vector.past k.pieces)
+  shared_owners : owners_of (shared_of k'.vector.images k'.vector.past k'.pieces)
+      ≡ owners_of (shared_of k.vector.images k.vector.past k.pieces)
   unfolding shared_of
   shared_owners =
       ap (λ xs. owners_of (flat_map (data_in k'.vector.images k'.pieces) xs)) live_same
       ∙ owners_each (data_in k'.vector.images k'.pieces) (data_in k.vector.images k.pieces)
       (λ x. ap (λ m. owners_of (data_in m k'.pieces x)) alike.images
-      ∙ data_owners x ((job_loads k.vector.images).shared x) (data_of k'.pieces x.number x.image) (data_of k.pieces x.number x.image) (alike.pieces x.number x.image))
+      ∙ data_owners x ((job_loads k.vector.images).shared x) (data_of k'.pieces x.number x.image)
+      (data_of k.pieces x.number x.image) (alike.pieces x.number x.image))
       (live_in k.vector.images k.vector.past)
 
   owners : owners_of (owned_of k'.vector k'.pieces) ≡ owners_of (owned_of k.vector k.pieces)
@@ -76,7 +82,8 @@ module _ (k k' : Kept) (alike : Alike k k') where
       map-append (λ (o : Owned ℕ). o.owner) (blocks_of k'.vector) (shared_of k'.vector.images k'.vector.past k'.pieces)
       ∙ ap (λ os. os ++ owners_of (shared_of k'.vector.images k'.vector.past k'.pieces)) blocks_owners
       ∙ ap (λ os. owners_of (blocks_of k.vector) ++ os) shared_owners
-      ∙ sym (map-append (λ (o : Owned ℕ). o.owner) (blocks_of k.vector) (shared_of k.vector.images k.vector.past k.pieces))
+      ∙ sym (map-append (λ (o : Owned ℕ). o.owner) (blocks_of k.vector)
+      (shared_of k.vector.images k.vector.past k.pieces))
 
   shape_same : shape_of k' ≡ shape_of k
   unfolding shape_of
@@ -95,7 +102,8 @@ data_alike d image at byte n other = elim (cases_eq other image) [
   | inr ne ↦ ap is_some (data_other d image n other at byte ne)
 ]
 
-data_count : (d : List Piece) (image at byte : ℕ) → length (written image d (record { at = at; byte = byte })) ≡ length d
+data_count : (d : List Piece) (image at byte : ℕ)
+    → length (written image d (record { at = at; byte = byte })) ≡ length d
 unfolding written
 data_count d image at byte = length-set d image _
 
@@ -127,6 +135,7 @@ data_shape k k' x place byte start writes pieces = shape_same k k' (record {
   images = ap (λ (v : Vector). v.images) writes.vector;
   past = ap (λ (v : Vector). v.past) writes.vector;
   blocks = λ i. ap (λ v. is_some (held v i)) writes.vector;
-  pieces = λ n image. ap (λ d. is_some (data_of d n image)) pieces ∙ data_alike k.pieces x.image (place - start) byte n image;
+  pieces = λ n image. ap (λ d. is_some (data_of d n image)) pieces
+      ∙ data_alike k.pieces x.image (place - start) byte n image;
   count = ap (λ (d : List Piece). length d) pieces ∙ data_count k.pieces x.image (place - start) byte;
 })

@@ -1,5 +1,6 @@
 -- The data that a thread finds of an instance are those that the code keeps: the first part that programs write.
-use Rattle.std.proofs.Common.{◌≡◌, ◌∙◌, ◌+◌, ◌&&◌, ℕ, suc, Bool, true, false, not, List, [], ◌∷◌, length, Option, Some, None, refl, sym, ap, subst, inl, inr, add-one, arith, cond, ◌==◌}
+use Rattle.std.proofs.Common.{◌≡◌, ◌∙◌, ◌+◌, ◌&&◌, ℕ, suc, Bool, true, false, not, List, [], ◌∷◌, length, Option, Some}
+use Rattle.std.proofs.Common.{None, refl, sym, ap, subst, inl, inr, add-one, arith, cond, ◌==◌}
 use Rattle.std.specs.Prelude.{option_and_then, option_map, slice_get}
 use Rattle.std.specs.List.{find, range_with_len}
 use Rattle.std.proofs.lemmas.Bool.{cases_Bool, true≢false}
@@ -11,7 +12,8 @@ use Rattle.image_file.specs.Spelled.{Part, Spelled, is_writable}
 use Rattle.loaded_modules.specs.declared.instance.Instance.{Instance}
 use Rattle.loaded_modules.specs.Images.{JobImages, image_at}
 use Rattle.loaded_modules.specs.Laws.{start_of}
-use Rattle.loaded_modules.specs.Loader.{bias, loaded_part, part_bytes}
+use Rattle.loaded_modules.specs.Loader.{bias, part_bytes}
+use Rattle.loaded_modules.specs.LoaderLaws.{loaded_part}
 use Rattle.module_data.specs.Parts.{bytes_at, data_part, data_start, fresh_data, is_data_part, is_number, start_in}
 use Rattle.thread_blocks.specs.JobLoads.{instance_part, job_loads, parts_from}
 use Rattle.std.specs.Option.{option_map_or}
@@ -50,9 +52,11 @@ module _ (m : JobImages) (x : Instance) (image : Spelled) where
       (find (λ (range : Range ℕ). range.writable) (parts_from m image x (suc i) rest))
       (find (is_data_part image) (range_with_len (i + 1) (length rest))) (tests_same i part here)
       (ap (option_map (instance_part m image x i)) here)
-      (rw add-one (found_from rest (suc i) (λ k. (let e : i + suc k ≡ suc i + k = omega arith in rw e at (rests (suc k))))))
+      (rw add-one (found_from rest (suc i)
+      (λ k. (let e : i + suc k ≡ suc i + k = omega arith in rw e at (rests (suc k))))))
 
-  found_part : find (λ (range : Range ℕ). range.writable) (parts_from m image x 0 image.parts) ≡ option_and_then at (data_part image)
+  found_part : find (λ (range : Range ℕ). range.writable) (parts_from m image x 0 image.parts)
+      ≡ option_and_then at (data_part image)
   unfolding data_part
   found_part = found_from image.parts 0 (λ k. (let e : 0 + k ≡ k = omega arith in rw e refl))
 
@@ -71,7 +75,8 @@ passes p (x ∷ xs) i found = elim (cases_Bool (p x)) [
 ]
 
 -- a part of a class that is written is read, and not run
-as_written : (m : JobImages) (image : Spelled) (x : Instance) (i : ℕ) (part : Part) (class : PartClass) → part.class ≡ class
+as_written : (m : JobImages) (image : Spelled) (x : Instance) (i : ℕ) (part : Part) (class : PartClass)
+    → part.class ≡ class
     → (is_writable class && not (option_map_or (λ (own : ℕ). own == i) image.got false)) ≡ true
     → instance_part m image x i part ≡ written_range (part_bytes m image x part) (start_of image.kind x.number part)
 as_written m image x i part Executable is t = absurd (true≢false (sym t))
@@ -103,7 +108,8 @@ module _ (m : JobImages) (x : Instance) where
       (passes (is_data_part image) (range_with_len 0 (length image.parts)) i here)
 
   in_image : (image : Option Spelled) → image_at m x.image ≡ image
-      → find (λ (range : Range ℕ). range.writable) (option_map_or (λ (own : Spelled). parts_from m own x 0 own.parts) image [])
+      → find (λ (range : Range ℕ). range.writable)
+      (option_map_or (λ (own : Spelled). parts_from m own x 0 own.parts) image [])
       ≡ option_map (λ start. written_range (bytes_at m x (option_and_then data_part image)) start) (start_in x image)
   in_image None is = refl
   in_image (Some image) is = found_part m x image ∙ at_number image (data_part image) is refl
@@ -117,7 +123,8 @@ module _ (m : JobImages) (x : Instance) where
       → (job_loads m).shared x ≡ option_map (λ start. written_range (fresh_data m x) start) start
   by_start start is = shared_is ∙ ap (option_map (λ start. written_range (fresh_data m x) start)) is
 
-  pub shared_at : (start : ℕ) → data_start m x ≡ Some start → (job_loads m).shared x ≡ Some (written_range (fresh_data m x) start)
+  pub shared_at : (start : ℕ) → data_start m x ≡ Some start
+      → (job_loads m).shared x ≡ Some (written_range (fresh_data m x) start)
   shared_at start is = by_start (Some start) is
 
   pub shared_none : data_start m x ≡ None → (job_loads m).shared x ≡ None
@@ -132,7 +139,8 @@ module _ (m : JobImages) (x : Instance) where
           → (data_start m x ≡ Some range.start) × (range ≡ written_range (fresh_data m x) range.start)
       by_option None none = absurd (none-some range (sym (shared_none none) ∙ is))
       by_option (Some start) at =
-          let same : written_range (fresh_data m x) start ≡ range = same_Some (written_range (fresh_data m x) start) range (sym (shared_at start at) ∙ is) in
+          let same : written_range (fresh_data m x) start ≡ range =
+          same_Some (written_range (fresh_data m x) start) range (sym (shared_at start at) ∙ is) in
           let begins : start ≡ range.start = ap (λ (r : Range ℕ). r.start) same in
           (at ∙ ap Some begins, sym same ∙ ap (written_range (fresh_data m x)) begins)
 
@@ -141,4 +149,5 @@ module _ (m : JobImages) (x : Instance) where
     where
       by_option : (start : Option ℕ) → data_start m x ≡ start → data_start m x ≡ None
       by_option None none = none
-      by_option (Some start) at = absurd (none-some (written_range (fresh_data m x) start) (sym is ∙ shared_at start at))
+      by_option (Some start) at =
+          absurd (none-some (written_range (fresh_data m x) start) (sym is ∙ shared_at start at))

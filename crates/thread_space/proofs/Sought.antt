@@ -1,5 +1,6 @@
 -- The first range that allows an access, in ranges of which each instance has some.
-use Rattle.std.proofs.Common.{◌≡◌, ◌≢◌, ◌∙◌, ◌-◌, ◌<◌, ◌++◌, ℕ, zero, suc, Bool, true, false, List, [], ◌∷◌, length, Option, Some, None, refl, sym, ap, subst, arith, inl, inr, cond}
+use Rattle.std.proofs.Common.{◌≡◌, ◌≢◌, ◌∙◌, ◌-◌, ◌<◌, ◌++◌, ℕ, zero, suc, Bool, true, false, List, [], ◌∷◌, length}
+use Rattle.std.proofs.Common.{Option, Some, None, refl, sym, ap, subst, arith, inl, inr, cond}
 use Rattle.std.specs.Prelude.{◌&&◌, All, is_some, nat_le, nat_lt, option_and_then, slice_get}
 use Rattle.std.specs.List.{find, flat_map}
 use Rattle.std.specs.Option.{option_or}
@@ -51,7 +52,8 @@ module _ {B : Type 0} (access : Access) (place : ℕ) where
         ∙ by_first (byte_in access (made x) place) x (find (λ x. is_some (byte_in access (made x) place)) xs)
         (byte_in access (flat_map made xs) place) refl (byte_in-each xs)
 
-    pub none_each : ((x : X) → byte_in access (made x) place ≡ None) → (xs : List X) → byte_in access (flat_map made xs) place ≡ None
+    pub none_each : ((x : X) → byte_in access (made x) place ≡ None) → (xs : List X)
+        → byte_in access (flat_map made xs) place ≡ None
     none_each none [] = refl
     none_each none (x ∷ xs) = byte_in-append access place (made x) (flat_map made xs) ∙ rw (none x) (none_each none xs)
 
@@ -74,14 +76,16 @@ module _ (place byte : ℕ) where
     | inr f ↦ rw f (ap (λ rest. r ∷ rest) (with_byte-none xs (sym (rw f refl) ∙ none)))
   ]
 
-  pub with_byte-here : (xs ys : List (Range ℕ)) → takes xs place ≡ true → with_byte (xs ++ ys) place byte ≡ with_byte xs place byte ++ ys
+  pub with_byte-here : (xs ys : List (Range ℕ)) → takes xs place ≡ true
+      → with_byte (xs ++ ys) place byte ≡ with_byte xs place byte ++ ys
   with_byte-here [] ys here = absurd (false≢true here)
   with_byte-here (r ∷ xs) ys here = elim (cases_Bool (grants Write r place)) [
     | inl t ↦ rw t refl
     | inr f ↦ rw f (ap (λ rest. r ∷ rest) (with_byte-here xs ys (sym (rw f refl) ∙ here)))
   ]
 
-  pub with_byte-behind : (xs ys : List (Range ℕ)) → takes xs place ≡ false → with_byte (xs ++ ys) place byte ≡ xs ++ with_byte ys place byte
+  pub with_byte-behind : (xs ys : List (Range ℕ)) → takes xs place ≡ false
+      → with_byte (xs ++ ys) place byte ≡ xs ++ with_byte ys place byte
   with_byte-behind [] ys none = refl
   with_byte-behind (r ∷ xs) ys none = elim (cases_Bool (grants Write r place)) [
     | inl t ↦ absurd (false≢true (sym none ∙ rw t (has_byte r.bytes (place - r.start) (lies_within Write r place t))))
@@ -94,7 +98,8 @@ Rising number [] = Unit {0}
 Rising number (x ∷ xs) = All (λ y. number x < number y) xs × Rising number xs
 
 -- what is found has what each has
-pub found_has : {X : Type 0} (P : X → Type 0) (test : X → Bool) (xs : List X) (x : X) → All P xs → find test xs ≡ Some x → P x
+pub found_has : {X : Type 0} (P : X → Type 0) (test : X → Bool) (xs : List X) (x : X) → All P xs → find test xs ≡ Some x
+    → P x
 found_has P test [] x all found = absurd (none-some x found)
 found_has P test (y ∷ xs) x all found = elim (cases_Bool (test y)) [
   | inl t ↦ subst P (same_Some y x (sym (rw t refl) ∙ found)) (All-head P y xs all)
@@ -125,12 +130,17 @@ module _ {X : Type 0} (place byte : ℕ) (number : X → ℕ) (P : X → Type 0)
   with_byte-each (y ∷ xs) all rising found = elim (cases_Bool (takes (made y) place)) [
     | inl t ↦
         let same : y ≡ x = same_Some y x (sym (rw t refl) ∙ found) in
-        let above : All (λ z. number x < number z) xs = subst (λ (w : X). All (λ z. number w < number z) xs) same rising.0 in
-        let first : made' y ≡ with_byte (made y) place byte = subst (λ (w : X). made' w ≡ with_byte (made w) place byte) (sym same) here in
-        rw (first, others_same xs (All-tail P y xs all) above) (sym (with_byte-here place byte (made y) (flat_map made xs) t))
+        let above : All (λ z. number x < number z) xs =
+        subst (λ (w : X). All (λ z. number w < number z) xs) same rising.0 in
+        let first : made' y ≡ with_byte (made y) place byte =
+        subst (λ (w : X). made' w ≡ with_byte (made w) place byte) (sym same) here in
+        rw (first, others_same xs (All-tail P y xs all) above)
+        (sym (with_byte-here place byte (made y) (flat_map made xs) t))
     | inr f ↦
         let there : find (λ y. takes (made y) place) xs ≡ Some x = sym (rw f refl) ∙ found in
-        let below : number y < number x = found_has (λ z. number y < number z) (λ y. takes (made y) place) xs x rising.0 there in
+        let below : number y < number x =
+        found_has (λ z. number y < number z) (λ y. takes (made y) place) xs x rising.0 there in
         let rest = with_byte-each xs (All-tail P y xs all) rising.1 there in
-        rw (others y (All-head P y xs all) (λ e. omega (arith, e)), rest) (sym (with_byte-behind place byte (made y) (flat_map made xs) f))
+        rw (others y (All-head P y xs all) (λ e. omega (arith, e)), rest)
+        (sym (with_byte-behind place byte (made y) (flat_map made xs) f))
   ]

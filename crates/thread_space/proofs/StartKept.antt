@@ -1,5 +1,6 @@
 -- What a thread holds before its first line, and the data as the program begins.
-use Rattle.std.proofs.Common.{◌≡◌, ◌∙◌, ◌-◌, ◌≤◌, ◌++◌, ℕ, zero, suc, true, false, List, [], ◌∷◌, length, Option, Some, None, refl, sym, ap, subst, append-nil, arith}
+use Rattle.std.proofs.Common.{◌≡◌, ◌∙◌, ◌-◌, ◌≤◌, ◌++◌, ℕ, zero, suc, true, false, List, [], ◌∷◌, length, Option, Some}
+use Rattle.std.proofs.Common.{None, refl, sym, ap, subst, append-nil, arith}
 use Rattle.std.specs.Prelude.{is_some, not}
 use Rattle.std.specs.List.{flat_map}
 use Rattle.std.proofs.lemmas.Option.{slice_get-get_or}
@@ -38,7 +39,8 @@ record Starts (m : JobImages) (x : Instance) : Type 0 where
   pub high : x.image ≤ startup_count (infos m)
   pub is : x ≡ first_instance m x.image
 
-starts_with : (m : JobImages) (x : Instance) → AreInfos (infos m) → IsLive m (start (infos m) (last_offset m)) x → Starts m x
+starts_with : (m : JobImages) (x : Instance) → AreInfos (infos m) → IsLive m (start (infos m) (last_offset m)) x
+    → Starts m x
 unfolding start
 starts_with m x are live =
     let loaded = (live_is m (start (infos m) (last_offset m)) x live).0 in
@@ -50,7 +52,8 @@ starts_with m x are live =
       is = sym (live_is m (start (infos m) (last_offset m)) x live).1 ∙ rw (early, number.0, number.1) refl;
     }
 
-starts_early : (m : JobImages) (number : ℕ) → AreInfos (infos m) → 1 ≤ number → number ≤ startup_count (infos m) → starts_at m number ≡ true
+starts_early : (m : JobImages) (number : ℕ) → AreInfos (infos m) → 1 ≤ number → number ≤ startup_count (infos m)
+    → starts_at m number ≡ true
 starts_early m zero are low high = absurd (omega (arith, low))
 starts_early m (suc k) are low high =
     let early = early_info (infos m) k no_module.info are (omega (arith, high)) in
@@ -63,19 +66,28 @@ pub first_shared : (m : JobImages) → AreInfos (infos m)
 unfolding shared_of
 first_shared m are =
     rw (seen_live m (start (infos m) (last_offset m)) [] (begins m))
-    (each_same (IsLive m (start (infos m) (last_offset m))) (data_after (job_loads m) (λ x. true) []) (data_in m (first_data m))
+    (each_same (IsLive m (start (infos m) (last_offset m))) (data_after (job_loads m) (λ x. true) [])
+    (data_in m (first_data m))
     (live_in m (start (infos m) (last_offset m))) (all_live m (start (infos m) (last_offset m))) (λ x live.
     let with = starts_with m x are live in
-    let few : x.image ≤ length m.images = omega (arith, with.high, (early_info (infos m) (x.image - 1) no_module.info are (omega (arith, with.low, with.high))).0, few_images m) in
+    let few : x.image ≤ length m.images =
+    omega (
+      arith,
+      with.high,
+      (early_info (infos m) (x.image - 1) no_module.info are (omega (arith, with.low, with.high))).0,
+      few_images m,
+    ) in
     let number : x.number ≡ x.image = ap (λ (y : Instance). y.number) with.is in
     let kept : data_of (first_data m) x.number x.image ≡ Some (fresh_data m x) =
-    ap (λ n. data_of (first_data m) n x.image) number ∙ first_own m x.image with.low few (starts_early m x.image are with.low with.high)
+    ap (λ n. data_of (first_data m) n x.image) number
+    ∙ first_own m x.image with.low few (starts_early m x.image are with.low with.high)
     ∙ ap (λ y. Some (fresh_data m y)) (sym with.is) in
     data_loaded m x None ∙ ap (data_with x ((job_loads m).shared x)) (sym kept)))
 
 -- ** a thread before its first line
 
-no_data : (shared : Instance → Option (Range ℕ)) (xs : List Instance) → flat_map (λ y. data_with y (shared y) None) xs ≡ []
+no_data : (shared : Instance → Option (Range ℕ)) (xs : List Instance)
+    → flat_map (λ y. data_with y (shared y) None) xs ≡ []
 no_data shared [] = refl
 no_data shared (x ∷ xs) = by_range (shared x) (flat_map (λ y. data_with y (shared y) None) xs) (no_data shared xs)
   where
@@ -83,14 +95,17 @@ no_data shared (x ∷ xs) = by_range (shared x) (flat_map (λ y. data_with y (sh
     by_range None ys none = none
     by_range (Some range) ys none = none
 
-module _ (v : Vector) (left : IsLeftBy v.images v.past) (history : v.past ≡ start (infos v.images) (last_offset v.images))
+module _ (v : Vector) (left : IsLeftBy v.images v.past)
+    (history : v.past ≡ start (infos v.images) (last_offset v.images))
     (blocks : (i : ℕ) → held v i ≡ fresh v.images v.past i) where
-  first_block : (x : Instance) → IsLive v.images v.past x → fresh_if (is_some x.offset) (fresh_block v.images x) ≡ held v x.number
+  first_block : (x : Instance) → IsLive v.images v.past x
+      → fresh_if (is_some x.offset) (fresh_block v.images x) ≡ held v x.number
   first_block x live =
       let with = starts_with v.images x left.legal.images (subst (λ p. IsLive v.images p x) history live) in
       let offset : x.offset ≡ Some (static_offset v.images x.image) = ap (λ (y : Instance). y.offset) with.is in
       ap (λ o. fresh_if (is_some o) (fresh_block v.images x)) offset
-      ∙ sym (blocks x.number ∙ fresh_at v.images v.past x.number x.image (live_image v.images v.past x (facts v.images v.past left).own live)
+      ∙ sym (blocks x.number ∙ fresh_at v.images v.past x.number x.image
+      (live_image v.images v.past x (facts v.images v.past left).own live)
       ∙ ap (λ y. Some (fresh_block v.images y)) (live_is v.images v.past x live).1)
 
   -- the blocks of the images that start with the program, and no data
@@ -105,4 +120,5 @@ module _ (v : Vector) (left : IsLeftBy v.images v.past) (history : v.past ≡ st
 
   pub start_has : HasStartups v
   start_has number low high =
-      ap is_some (blocks number ∙ fresh_at v.images v.past number number (startup_image v.images v.past number left low high))
+      ap is_some (blocks number
+      ∙ fresh_at v.images v.past number number (startup_image v.images v.past number left low high))

@@ -22,12 +22,15 @@ pub record IsWritten (k : Kept) (place byte : ℕ) (k' : Kept) : Type 0 where
   pub memory : memory_of k' ≡ record (memory_of k) { ranges = with_byte (memory_of k).ranges place byte }
   pub shape : shape_of k' ≡ shape_of k
 
-module _ (k k' : Kept) (place byte : ℕ) (x : Instance) (left : IsLeftBy k.vector.images k.vector.past) (not : grants Write (stack_of k) place ≡ false) where
+module _ (k k' : Kept) (place byte : ℕ) (x : Instance) (left : IsLeftBy k.vector.images k.vector.past)
+    (not : grants Write (stack_of k) place ≡ false) where
   pub block_takes : block_found k place ≡ Some x → takes (block_ranges k.vector x) place ≡ true
-  block_takes found = found_passes (λ y. takes (block_ranges k.vector y) place) (live_in k.vector.images k.vector.past) x found
+  block_takes found = found_passes (λ y. takes (block_ranges k.vector y) place)
+      (live_in k.vector.images k.vector.past) x found
 
   pub data_takes : data_found k place ≡ Some x → takes (data_ranges k.vector.images k.pieces x) place ≡ true
-  data_takes found = found_passes (λ y. takes (data_ranges k.vector.images k.pieces y) place) (live_in k.vector.images k.vector.past) x found
+  data_takes found = found_passes (λ y. takes (data_ranges k.vector.images k.pieces y) place)
+      (live_in k.vector.images k.vector.past) x found
 
   pub block_is_written : block_found k place ≡ Some x → WritesBlock k x place byte k' → IsWritten k place byte k'
   block_is_written found writes = by_bytes (held k.vector x.number) refl
@@ -39,12 +42,14 @@ module _ (k k' : Kept) (place byte : ℕ) (x : Instance) (left : IsLeftBy k.vect
         shape = block_shape k k' x place byte bytes e writes;
       }
 
-  pub data_is_written : block_found k place ≡ None → data_found k place ≡ Some x → WritesData k x place byte k' → IsWritten k place byte k'
+  pub data_is_written : block_found k place ≡ None → data_found k place ≡ Some x → WritesData k x place byte k'
+      → IsWritten k place byte k'
   data_is_written none found writes = by_start (data_start k.vector.images x) refl
     where
       by_start : (o : Option ℕ) → data_start k.vector.images x ≡ o → IsWritten k place byte k'
       by_start None e =
-          absurd (data_begin k.vector.images k.pieces x place (data_takes found) (ap (option_and_then (λ start. behind start place)) e))
+          absurd (data_begin k.vector.images k.pieces x place (data_takes found)
+          (ap (option_and_then (λ start. behind start place)) e))
       by_start (Some start) e = record {
         memory = write_data k place byte left not k' x start none found e writes;
         shape = data_shape k k' x place byte start writes (writes.pieces start e);

@@ -1,9 +1,11 @@
 -- Fetches of 15 bytes of code at once: from the first code part that holds one of the 15 addresses, if it holds all.
-use Rattle.std.specs.Prelude.{◌≡◌, ◌+◌, ◌≤◌, ◌&&◌, ℕ, Bool, false, suc, List, [], ◌∷◌, length, nat_lt, Option, Some, None, slice_get, slice_range, if◌then◌else◌}
+use Rattle.std.specs.Prelude.{◌≡◌, ◌+◌, ◌≤◌, ◌&&◌, ℕ, Bool, false, suc, List, [], ◌∷◌, length, nat_lt, Option, Some}
+use Rattle.std.specs.Prelude.{None, slice_get, slice_range, if◌then◌else◌}
 use Rattle.image_file.specs.Spelled.{Part, Spelled}
 use Rattle.loaded_modules.specs.declared.instance.Instance.{Instance}
 use Rattle.loaded_modules.specs.Images.{JobImages, image_at}
-use Rattle.loaded_modules.specs.Loader.{bias, bias_of, part_bytes}
+use Rattle.loaded_modules.specs.Loader.{bias, part_bytes}
+use Rattle.loaded_modules.specs.LoaderLaws.{bias_of}
 use Rattle.thread_space.specs.Places.{behind}
 use Rattle.image_names.specs.Functions.{is_code}
 

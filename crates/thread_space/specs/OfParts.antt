@@ -1,5 +1,6 @@
 -- One part of an instance: its rights, and its bytes.
-use Rattle.std.specs.Prelude.{◌+◌, ◌^◌, ◌&&◌, ℕ, Bool, false, not, List, Option, Some, None, if◌then◌else◌, option_and_then, nat_lt, slice_get, ◌==◌}
+use Rattle.std.specs.Prelude.{◌+◌, ◌^◌, ◌&&◌, ℕ, Bool, false, not, List, Option, Some, None, if◌then◌else◌}
+use Rattle.std.specs.Prelude.{option_and_then, nat_lt, slice_get, ◌==◌}
 use Rattle.std.specs.List.{filter}
 use Rattle.guest_operands.specs.declared.space.Access.{Access}
 use Rattle.guest_operands.specs.declared.space.Access.TheVariants.{Read, Run, Write}

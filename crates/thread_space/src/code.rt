@@ -4,9 +4,9 @@ ghost use Rattle.std.specs.Prelude.{◌≡◌, ◌+◌, ◌≤◌, true, Some, i
 ghost use Rattle.std.specs.List.{find};
 ghost use Rattle.guest_arithmetic.specs.Plain.{plain_operations};
 ghost use Rattle.guest_operands.specs.Access.{fetch_of};
-ghost use Rattle.guest_operands.specs.Ranges.{range_accesses};
+ghost use Rattle.guest_operands.specs.RangeLaws.{range_accesses};
 ghost use Rattle.loaded_modules.specs.Images.{image_at};
-ghost use Rattle.loaded_modules.specs.Loader.{loaded_part};
+ghost use Rattle.loaded_modules.specs.LoaderLaws.{loaded_part};
 ghost use Rattle.thread_space.specs.Fetching.{Copies, code_number, first_code, meets, part_meets};
 ghost use Rattle.thread_space.specs.Kept.{live_in, memory_of};
 

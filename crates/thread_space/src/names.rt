@@ -77,7 +77,7 @@ impl<'m> JobNames<'m> {
     }
 
     /// The address of the function with a name in an instance, if it has one that can be called.
-    #[tactic(auto, unfolding(loaded_modules::specs::Loader::bias_of, thread_blocks::specs::JobLoads::job_loads))]
+    #[tactic(auto, unfolding(loaded_modules::specs::LoaderLaws::bias_of, thread_blocks::specs::JobLoads::job_loads))]
     pub fn function(&self, instance: &Instance, name: &[u8]) -> Option<u64>
         ensures { result ≡ (job_loads self.now).function instance.now name.now }
     {

@@ -4,7 +4,7 @@ ghost use Rattle.std.specs.Prelude.{◌≡◌, ◌+◌, ◌^◌, ◌<◌, ◌≤
 ghost use Rattle.std.specs.List.{list_any};
 ghost use Rattle.guest_operands.specs.Ranges.{byte_in};
 ghost use Rattle.loaded_modules.specs.Images.{image_at};
-ghost use Rattle.loaded_modules.specs.Loader.{bias_of, loaded_part};
+ghost use Rattle.loaded_modules.specs.LoaderLaws.{bias_of, loaded_part};
 ghost use Rattle.thread_blocks.specs.Instances.{fixed_of};
 ghost use Rattle.thread_blocks.specs.JobLoads.{job_loads, parts_from, written_from};
 ghost use Rattle.thread_blocks.specs.RunTime.{has_words};

@@ -3,7 +3,8 @@
 ghost use Rattle.std.specs.Prelude.{◌≡◌, ◌≤◌, ◌<◌, ◌+◌, ◌^◌, true, [], IfOk, OnOk, OnErr, length};
 ghost use Rattle.loaded_modules.specs.Images.{infos};
 ghost use Rattle.module_data.specs.Pieces.{loaded};
-ghost use Rattle.module_table.specs.Past.{is_legal, live, module_of};
+ghost use Rattle.module_table.specs.Past.{is_legal, module_of};
+ghost use Rattle.module_table.specs.PastLaws.{live};
 ghost use Rattle.thread_blocks.specs.Instances.{loaded_instance};
 ghost use Rattle.thread_space.specs.Kept.{live_in};
 ghost use Rattle.thread_space.specs.Steps.{HasData, HasFreshStack, IsNew, Looks, Reaches};

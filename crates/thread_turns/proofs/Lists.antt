@@ -1,5 +1,6 @@
 -- Lists side by side, and an element of a list that is replaced.
-use Rattle.std.proofs.Common.{◌≡◌, ◌+◌, ◌++◌, ℕ, zero, suc, List, [], ◌∷◌, length, map, take, drop, Some, None, refl, sym, ap, subst, ◌∙◌, append-nil, append_assoc, replicate, arith}
+use Rattle.std.proofs.Common.{◌≡◌, ◌+◌, ◌++◌, ℕ, zero, suc, List, [], ◌∷◌, length, map, take, drop, Some, None, refl}
+use Rattle.std.proofs.Common.{sym, ap, subst, ◌∙◌, append-nil, append_assoc, replicate, arith}
 use Rattle.std.specs.Prelude.{slice_get, slice_set}
 use Rattle.thread_blocks.specs.Turns.{enough, finishing}
 
@@ -72,7 +73,8 @@ module _ {X Y : Type 0} where
       rw (each zero x y refl refl, same_images f g xs ys (omega (arith, long)) (λ k. each (suc k))) refl
 
 -- one thread more that is brought to its end
-pub finishing_more : {X : Type 0} (fuel thread : ℕ) (all : List (List X)) (k : ℕ) (own : List X) → slice_get all k ≡ Some own
+pub finishing_more : {X : Type 0} (fuel thread : ℕ) (all : List (List X)) (k : ℕ) (own : List X)
+    → slice_get all k ≡ Some own
     → finishing fuel thread (take (suc k) all)
     ≡ finishing fuel thread (take k all) ++ replicate (enough fuel (length own)) (thread + k)
 finishing_more fuel thread [] k own at = absurd cc

@@ -1,12 +1,14 @@
 -- Turns in one order and then in another, and turns of a thread that is over.
-use Rattle.std.proofs.Common.{◌≡◌, ◌++◌, ◌+◌, ◌-◌, ◌<◌, ◌≤◌, ℕ, zero, suc, Bool, true, false, List, [], ◌∷◌, add-one, arith, get_or, length, take, replicate, Option, Some, None, refl, sym, ap, subst, ◌∙◌}
+use Rattle.std.proofs.Common.{◌≡◌, ◌++◌, ◌+◌, ◌-◌, ◌<◌, ◌≤◌, ℕ, zero, suc, Bool, true, false, List, [], ◌∷◌, add-one}
+use Rattle.std.proofs.Common.{arith, get_or, length, take, replicate, Option, Some, None, refl, sym, ap, subst, ◌∙◌}
 use Rattle.std.proofs.lemmas.List.{replicate-append-replicate, take_more}
 use Rattle.std.specs.Prelude.{nat_lt, slice_get, slice_set}
 use Rattle.std.proofs.lemmas.Option.{slice_get-get_or, slice_get_within}
 use native.Mathlib.Nat.{mul-suc}
 use Rattle.job_text.specs.Threads.{of_thread}
 use Rattle.thread_blocks.specs.Turns.{at_number, enough, finishing}
-use Rattle.thread_turns.specs.Orders.{HasTurned, Progress, StayFit, TakesOne, TakesOwn, TakesTurns, is_over, is_thread_over}
+use Rattle.thread_turns.specs.Orders.{HasTurned, Progress, StayFit, TakesOne, TakesOwn, TakesTurns, is_over}
+use Rattle.thread_turns.specs.Orders.{is_thread_over}
 use Rattle.thread_turns.proofs.Lists.{finishing_more, set-length}
 
 -- ---- threads of definitions that the code stands for
@@ -18,35 +20,36 @@ module _ {S R W : Type 0} (is_done : R → Bool) (turned : S → R → S → R �
     (over : (w : W) (x : Progress S R) (thread : ℕ) → Stands w x → is_thread_over is_done x.runs thread ≡ true
     → Stands (turns (thread ∷ []) w) x)
     (one : (w : W) (x : Progress S R) (k : ℕ) (r : R) (s : S) (r' : R) → Stands w x → slice_get x.runs k ≡ Some r
-    → turned x.shared r s r' → Stands (turns (suc k ∷ []) w) (record { shared = s; runs = slice_set x.runs k r' })) where
-  turned_stands : (w : W) (x y : Progress S R) (thread : ℕ) (r : R) → at_number x.runs thread ≡ Some r → Stands w x
-      → HasTurned is_done turned thread r x y → Stands (turns (thread ∷ []) w) y
-  turned_stands w x y zero r at stands has = absurd cc
-  turned_stands w x y (suc k) r at stands has =
-      subst (λ runs. Stands (turns (suc k ∷ []) w) (record { shared = y.shared; runs = runs })) (sym has.runs_are)
-      (one w x k r y.shared has.after stands at has.turns)
+    → turned x.shared r s r' → Stands (turns (suc k ∷ []) w) (record { shared = s; runs = slice_set x.runs k r' }))
+  where
+    turned_stands : (w : W) (x y : Progress S R) (thread : ℕ) (r : R) → at_number x.runs thread ≡ Some r → Stands w x
+        → HasTurned is_done turned thread r x y → Stands (turns (thread ∷ []) w) y
+    turned_stands w x y zero r at stands has = absurd cc
+    turned_stands w x y (suc k) r at stands has =
+        subst (λ runs. Stands (turns (suc k ∷ []) w) (record { shared = y.shared; runs = runs })) (sym has.runs_are)
+        (one w x k r y.shared has.after stands at has.turns)
 
-  own_stands : (w : W) (x y : Progress S R) (thread : ℕ) (r : R) (done : Bool) → is_done r ≡ done
-      → at_number x.runs thread ≡ Some r → Stands w x → TakesOwn is_done turned thread r done x y
-      → Stands (turns (thread ∷ []) w) y
-  own_stands w x y thread r true done at stands same =
-      subst (Stands (turns (thread ∷ []) w)) (sym same) (over w x thread stands (ap (is_over is_done) at ∙ done))
-  own_stands w x y thread r false done at stands has = turned_stands w x y thread r at stands has
+    own_stands : (w : W) (x y : Progress S R) (thread : ℕ) (r : R) (done : Bool) → is_done r ≡ done
+        → at_number x.runs thread ≡ Some r → Stands w x → TakesOwn is_done turned thread r done x y
+        → Stands (turns (thread ∷ []) w) y
+    own_stands w x y thread r true done at stands same =
+        subst (Stands (turns (thread ∷ []) w)) (sym same) (over w x thread stands (ap (is_over is_done) at ∙ done))
+    own_stands w x y thread r false done at stands has = turned_stands w x y thread r at stands has
 
-  one_stands : (w : W) (x y : Progress S R) (thread : ℕ) (r : Option R) → at_number x.runs thread ≡ r → Stands w x
-      → TakesOne is_done turned thread r x y → Stands (turns (thread ∷ []) w) y
-  one_stands w x y thread None at stands same =
-      subst (Stands (turns (thread ∷ []) w)) (sym same) (over w x thread stands (ap (is_over is_done) at))
-  one_stands w x y thread (Some r) at stands takes = own_stands w x y thread r (is_done r) refl at stands takes
+    one_stands : (w : W) (x y : Progress S R) (thread : ℕ) (r : Option R) → at_number x.runs thread ≡ r → Stands w x
+        → TakesOne is_done turned thread r x y → Stands (turns (thread ∷ []) w) y
+    one_stands w x y thread None at stands same =
+        subst (Stands (turns (thread ∷ []) w)) (sym same) (over w x thread stands (ap (is_over is_done) at))
+    one_stands w x y thread (Some r) at stands takes = own_stands w x y thread r (is_done r) refl at stands takes
 
-  -- after the same turns it stands for them again
-  pub order_stands : (order : List ℕ) (w : W) (x y : Progress S R) → Stands w x → TakesTurns is_done turned x order y
-      → Stands (turns order w) y
-  order_stands [] w x y stands same = rw (none w) (subst (Stands w) (sym same) stands)
-  order_stands (thread ∷ order) w x y stands takes =
-      rw (more thread order w)
-      (order_stands order (turns (thread ∷ []) w) takes.0 y
-      (one_stands w x takes.0 thread (at_number x.runs thread) refl stands takes.1) takes.2)
+    -- after the same turns it stands for them again
+    pub order_stands : (order : List ℕ) (w : W) (x y : Progress S R) → Stands w x → TakesTurns is_done turned x order y
+        → Stands (turns order w) y
+    order_stands [] w x y stands same = rw (none w) (subst (Stands w) (sym same) stands)
+    order_stands (thread ∷ order) w x y stands takes =
+        rw (more thread order w)
+        (order_stands order (turns (thread ∷ []) w) takes.0 y
+        (one_stands w x takes.0 thread (at_number x.runs thread) refl stands takes.1) takes.2)
 
 module _ {S R : Type 0} (is_done : R → Bool) (turned : S → R → S → R → Type 0) where
   -- ---- orders
@@ -74,7 +77,8 @@ module _ {S R : Type 0} (is_done : R → Bool) (turned : S → R → S → R →
   pub same_runs : (x y : Progress S R) (order : List ℕ) → TakesTurns is_done turned x order y
       → length y.runs ≡ length x.runs
   same_runs x y order takes = order_stands is_done turned (λ order n. n) (λ n p. length p.runs ≡ n) (λ n. refl)
-      (λ thread order n. refl) (λ n p thread long over. long) (λ n p k r s r' long at has. set-length p.runs k r' ∙ long)
+      (λ thread order n. refl) (λ n p thread long over. long)
+      (λ n p k r s r' long at has. set-length p.runs k r' ∙ long)
       order (length x.runs) x y refl takes
 
   pub still_fit : (can_turn : S → R → Type 0) (fit : S → List R → Type 0) → StayFit can_turn turned fit
@@ -144,7 +148,8 @@ module _ {S R : Type 0} (is_done : R → Bool) (turned : S → R → S → R →
       → TakesTurns is_done turned y (replicate (fuel + 2) thread) z
       → TakesTurns is_done turned x (replicate (enough fuel (lines + 1)) thread) z
   takes_line x y z fuel lines thread first next =
-      takes_more x y z (enough fuel lines) (fuel + 2) (enough fuel (lines + 1)) thread (enough_more fuel lines) first next
+      takes_more x y z (enough fuel lines) (fuel + 2) (enough fuel (lines + 1)) thread
+      (enough_more fuel lines) first next
 
   -- one thread more is brought to its end
   own_at : {X : Type 0} (all : List (List X)) (thread : ℕ) → 1 ≤ thread → thread ≤ length all
@@ -163,4 +168,5 @@ module _ {S R : Type 0} (is_done : R → Bool) (turned : S → R → S → R →
       let number : 1 + (thread - 1) ≡ thread = omega (arith, low) in
       let order = finishing_more fuel 1 all (thread - 1) own (own_at all thread low high ∙ ap Some (sym own_is)) in
       rw (index, order, number)
-      (takes_both x y z (finishing fuel 1 (take (thread - 1) all)) (replicate (enough fuel (length own)) thread) first next)
+      (takes_both x y z (finishing fuel 1 (take (thread - 1) all))
+      (replicate (enough fuel (length own)) thread) first next)

@@ -1,5 +1,6 @@
 -- A vector before any event.
-use Rattle.std.proofs.Common.{◌≡◌, ℕ, zero, suc, ◌+◌, ◌-◌, ◌<◌, ◌≤◌, ◌^◌, true, false, List, [], ◌∷◌, length, get_or, Option, Some, None, sym, refl, ap, ◌∙◌, subst, arith, inl, inr}
+use Rattle.std.proofs.Common.{◌≡◌, ℕ, zero, suc, ◌+◌, ◌-◌, ◌<◌, ◌≤◌, ◌^◌, true, false, List, [], ◌∷◌, length, get_or}
+use Rattle.std.proofs.Common.{Option, Some, None, sym, refl, ap, ◌∙◌, subst, arith, inl, inr}
 use Rattle.std.specs.Prelude.{not, slice_get}
 use Rattle.std.proofs.lemmas.List.Sums.{count_by-le-length}
 use Rattle.loaded_modules.specs.declared.instance.Instance.{Instance}
@@ -10,7 +11,8 @@ use Rattle.module_table.specs.declared.TheConstants.{SURPLUS}
 use Rattle.module_table.specs.declared.modules.ImageInfo.{ImageInfo}
 use Rattle.module_table.specs.declared.modules.Module.{Module}
 use Rattle.module_table.specs.Modules.{AreInfos, no_module, is_loaded}
-use Rattle.module_table.specs.Past.{image_of, first_module, first_modules, start, past, is_legal, startup_count}
+use Rattle.module_table.specs.Past.{first_module, first_modules, start, past, is_legal, startup_count}
+use Rattle.module_table.specs.PastLaws.{image_of}
 use Rattle.module_table.proofs.Starting.{own_number}
 use Rattle.loaded_modules.specs.Images.{JobImages, infos, last_offset, size_at}
 use Rattle.loaded_modules.specs.Loader.{fresh_block}
@@ -27,7 +29,8 @@ early_is (Some x) info e = elim (cases_Bool x.late) [
   | inr f ↦ sym (rw f refl) ∙ e
 ]
 
-pub startup_size : (images : JobImages) (image : ℕ) (info : ImageInfo) → 1 ≤ image → startup_info (infos images) image ≡ Some info → info.size ≡ size_at images image
+pub startup_size : (images : JobImages) (image : ℕ) (info : ImageInfo) → 1 ≤ image
+    → startup_info (infos images) image ≡ Some info → info.size ≡ size_at images image
 startup_size images image info low e =
     let n : suc (image - 1) ≡ image = omega arith in
     listed_size images (image - 1) info (early_is (slice_get (infos images) (image - 1)) info e) ∙ ap (size_at images) n
@@ -48,7 +51,8 @@ abbrev first_of : Option ImageInfo → ℕ → Module
 first_of None n = no_module
 first_of (Some info) n = first_module info n
 
-first_is : (xs : List ImageInfo) (image j : ℕ) → get_or (first_modules xs image) j no_module ≡ first_of (slice_get xs j) (image + j)
+first_is : (xs : List ImageInfo) (image j : ℕ)
+    → get_or (first_modules xs image) j no_module ≡ first_of (slice_get xs j) (image + j)
 first_is [] image j = refl
 first_is (x ∷ xs) image zero = ap (first_module x) (omega arith)
 first_is (x ∷ xs) image (suc j) = first_is xs (image + 1) j ∙ ap (first_of (slice_get xs j)) (omega arith)
@@ -65,7 +69,8 @@ loaded_of (Some info) n t = elim (cases_Bool info.late) [
   | inr early ↦ record { early = rw early refl; on_time = rw early refl ∙ early; offset = rw early refl }
 ]
 
-early_loaded : (o : Option ImageInfo) (n : ℕ) (info : ImageInfo) → if_early o ≡ Some info → is_loaded (first_of o n) ≡ true
+early_loaded : (o : Option ImageInfo) (n : ℕ) (info : ImageInfo) → if_early o ≡ Some info
+    → is_loaded (first_of o n) ≡ true
 early_loaded None n info e = absurd (none-some info e)
 early_loaded (Some x) n info e = elim (cases_Bool x.late) [
   | inl late ↦ absurd (none-some info (sym (rw late refl) ∙ e))
@@ -73,11 +78,13 @@ early_loaded (Some x) n info e = elim (cases_Bool x.late) [
 ]
 
 -- of the image of a number from 1
-module_first : (xs : List ImageInfo) (image : ℕ) → 1 ≤ image → get_or (no_module ∷ first_modules xs 1) image no_module ≡ first_of (slice_get xs (image - 1)) image
+module_first : (xs : List ImageInfo) (image : ℕ) → 1 ≤ image
+    → get_or (no_module ∷ first_modules xs 1) image no_module ≡ first_of (slice_get xs (image - 1)) image
 module_first xs image low =
     let n : suc (image - 1) ≡ image = omega arith in
     let m : 1 + (image - 1) ≡ image = omega arith in
-    ap (λ (k : ℕ). get_or (no_module ∷ first_modules xs 1) k no_module) (sym n) ∙ first_is xs 1 (image - 1) ∙ ap (first_of (slice_get xs (image - 1))) m
+    ap (λ (k : ℕ). get_or (no_module ∷ first_modules xs 1) k no_module) (sym n) ∙ first_is xs 1 (image - 1)
+    ∙ ap (first_of (slice_get xs (image - 1))) m
 
 record StartsWith (images : JobImages) (image : ℕ) (m : Module) : Type 0 where
   pub low : 1 ≤ image
@@ -86,7 +93,8 @@ record StartsWith (images : JobImages) (image : ℕ) (m : Module) : Type 0 where
   pub id : m.id ≡ image
   pub is : Loaded (slice_get (infos images) (image - 1)) m
 
-starts_with : (images : JobImages) (image : ℕ) → AreInfos (infos images) → is_loaded (get_or (no_module ∷ first_modules (infos images) 1) image no_module) ≡ true
+starts_with : (images : JobImages) (image : ℕ) → AreInfos (infos images)
+    → is_loaded (get_or (no_module ∷ first_modules (infos images) 1) image no_module) ≡ true
     → StartsWith images image (get_or (no_module ∷ first_modules (infos images) 1) image no_module)
 starts_with images image are t =
     let own = own_number (infos images) image are t in
@@ -96,40 +104,70 @@ starts_with images image are t =
       high = own.3;
       instance = own.0;
       id = own.1;
-      is = subst (Loaded (slice_get (infos images) (image - 1))) (sym e) (loaded_of (slice_get (infos images) (image - 1)) image (subst (λ (m : Module). is_loaded m ≡ true) e t));
+      is = subst (Loaded (slice_get (infos images) (image - 1))) (sym e)
+          (loaded_of (slice_get (infos images) (image - 1)) image (subst (λ (m : Module). is_loaded m ≡ true) e t));
     }
 
 -- ---- the vector
 
 abbrev pub first_vector : ℕ → JobImages → List Piece → Vector
-first_vector thread images slots = record { thread = thread; images = images; past = start (infos images) (last_offset images); slots = slots }
+first_vector thread images slots =
+    record { thread = thread; images = images; past = start (infos images) (last_offset images); slots = slots }
 
-started_early : (images : JobImages) (image : ℕ) (info : ImageInfo) → 1 ≤ image → startup_info (infos images) image ≡ Some info → is_loaded (get_or (no_module ∷ first_modules (infos images) 1) image no_module) ≡ true
-started_early images image info low e = subst (λ (m : Module). is_loaded m ≡ true) (sym (module_first (infos images) image low)) (early_loaded (slice_get (infos images) (image - 1)) image info e)
+started_early : (images : JobImages) (image : ℕ) (info : ImageInfo) → 1 ≤ image
+    → startup_info (infos images) image ≡ Some info
+    → is_loaded (get_or (no_module ∷ first_modules (infos images) 1) image no_module) ≡ true
+started_early images image info low e =
+    subst (λ (m : Module). is_loaded m ≡ true) (sym (module_first (infos images) image low))
+    (early_loaded (slice_get (infos images) (image - 1)) image info e)
 
-first_made : (images : JobImages) (slots : List Piece) → AreInfos (infos images) → AreFirst images slots → (k number : ℕ) → (slot_of slots k).instance ≡ Some number → number ≤ startup_count (infos images)
+first_made : (images : JobImages) (slots : List Piece) → AreInfos (infos images) → AreFirst images slots
+    → (k number : ℕ) → (slot_of slots k).instance ≡ Some number → number ≤ startup_count (infos images)
 first_made images slots infos_are are k number at = elim (cases_eq k 0) [
-  | inl zero_is ↦ absurd (none-some number (sym are.none ∙ ap (λ (j : ℕ). (slot_of slots j).instance) (sym zero_is) ∙ at))
+  | inl zero_is ↦ absurd (none-some number
+      (sym are.none ∙ ap (λ (j : ℕ). (slot_of slots j).instance) (sym zero_is) ∙ at))
   | inr more ↦ elim (cases_lt k 65) [
-    | inr past_end ↦ absurd (none-some number (sym (ap (λ (x : Piece). x.instance) (get_or_past slots k no_piece (omega (arith, are.long)))) ∙ at))
+    | inr past_end ↦ absurd
+        (none-some number (sym (ap (λ (x : Piece). x.instance) (get_or_past slots k no_piece (omega (arith, are.long))))
+        ∙ at))
     | inl l ↦ by_info (startup_info (infos images) k) refl (are.each k (omega arith) l)
   ]
 ]
   where
-    by_info : (o : Option ImageInfo) → startup_info (infos images) k ≡ o → IsFirstOf images k (slot_of slots k) o → number ≤ startup_count (infos images)
+    by_info : (o : Option ImageInfo) → startup_info (infos images) k ≡ o → IsFirstOf images k (slot_of slots k) o
+        → number ≤ startup_count (infos images)
     by_info None e is = absurd (none-some number (sym (ap (λ (x : Piece). x.instance) is) ∙ at))
     by_info (Some info) e is =
         let same : k ≡ number = same_Some k number (sym (ap (λ (x : Piece). x.instance) is.0) ∙ at) in
-        let with = starts_with images k infos_are (started_early images k info (elim (cases_lt 0 k) [ inl l ↦ omega arith | inr z ↦ absurd (let zero_is : k ≡ 0 = omega arith in none-some number (sym are.none ∙ ap (λ (j : ℕ). (slot_of slots j).instance) (sym zero_is) ∙ at)) ]) e) in
+        let with = starts_with images k infos_are
+        (started_early images k info
+        (elim (cases_lt 0 k) [
+          | inl l ↦ omega arith
+          | inr z ↦ absurd
+              (let zero_is : k ≡ 0 = omega arith in
+              none-some number (sym are.none ∙ ap (λ (j : ℕ). (slot_of slots j).instance) (sym zero_is)
+              ∙ at))
+        ]) e) in
         omega (arith, with.high)
 
-first_slot_of : (images : JobImages) (slots : List Piece) (image : ℕ) → AreInfos (infos images) → AreFirst images slots → is_loaded (get_or (no_module ∷ first_modules (infos images) 1) image no_module) ≡ true
-    → IsFirstOf images image (slot_of slots image) (Some (get_or (no_module ∷ first_modules (infos images) 1) image no_module).info)
+first_slot_of : (images : JobImages) (slots : List Piece) (image : ℕ) → AreInfos (infos images) → AreFirst images slots
+    → is_loaded (get_or (no_module ∷ first_modules (infos images) 1) image no_module) ≡ true
+    → IsFirstOf images image (slot_of slots image)
+    (Some (get_or (no_module ∷ first_modules (infos images) 1) image no_module).info)
 first_slot_of images slots image infos_are are loaded =
     let with = starts_with images image infos_are loaded in
-    subst (IsFirstOf images image (slot_of slots image)) with.is.early (are.each image with.low (omega (arith, with.high, count_by-le-length (λ (i : ImageInfo). not i.late) (infos images), infos_are.few)))
+    subst (IsFirstOf images image (slot_of slots image)) with.is.early
+    (are.each image with.low
+    (omega (
+      arith,
+      with.high,
+      count_by-le-length (λ (i : ImageInfo). not i.late) (infos images),
+      infos_are.few,
+    )))
 
-pub vector_first : (thread : ℕ) (images : JobImages) (slots : List Piece) → 1 ≤ thread → thread ≤ 64 → AreInfos (infos images) → last_offset images < 2 ^ 27 → AreFirst images slots → IsVector (first_vector thread images slots)
+pub vector_first : (thread : ℕ) (images : JobImages) (slots : List Piece) → 1 ≤ thread → thread ≤ 64
+    → AreInfos (infos images) → last_offset images < 2 ^ 27 → AreFirst images slots
+    → IsVector (first_vector thread images slots)
 unfolding start past is_legal
 vector_first thread images slots low high infos_are small are = record {
   low = low;
@@ -143,18 +181,22 @@ vector_first thread images slots low high infos_are small are = record {
       rw with.id (first_slot_of images slots image infos_are are loaded).1;
 }
 
-pub held_first : (thread : ℕ) (images : JobImages) (slots : List Piece) → AreInfos (infos images) → AreFirst images slots → (i : ℕ) → held (first_vector thread images slots) i ≡ fresh images (start (infos images) (last_offset images)) i
+pub held_first : (thread : ℕ) (images : JobImages) (slots : List Piece) → AreInfos (infos images)
+    → AreFirst images slots → (i : ℕ)
+    → held (first_vector thread images slots) i ≡ fresh images (start (infos images) (last_offset images)) i
 unfolding start
 held_first thread images slots infos_are are i = by_image (image_of (start (infos images) (last_offset images)) i) refl
   where
     v : Vector
     v = first_vector thread images slots
 
-    by_image : (o : Option ℕ) → image_of (start (infos images) (last_offset images)) i ≡ o → held v i ≡ fresh images (start (infos images) (last_offset images)) i
+    by_image : (o : Option ℕ) → image_of (start (infos images) (last_offset images)) i ≡ o
+        → held v i ≡ fresh images (start (infos images) (last_offset images)) i
     by_image None e = held_none v i e ∙ sym (fresh_none images (start (infos images) (last_offset images)) i e)
     by_image (Some a) e =
         let has = image_has (start (infos images) (last_offset images)) i a e in
         let with = starts_with images a infos_are has.1 in
         let slot = (first_slot_of images slots a infos_are are has.1).0 in
-        held_at v i a e ∙ rw (with.is.offset, with.id, with.instance, slot, eq-eqb a a refl) (ap (λ (x : Instance). Some (fresh_block images x)) (rw with.is.on_time refl))
+        held_at v i a e ∙ rw (with.is.offset, with.id, with.instance, slot, eq-eqb a a refl)
+        (ap (λ (x : Instance). Some (fresh_block images x)) (rw with.is.on_time refl))
         ∙ sym (fresh_at images (start (infos images) (last_offset images)) i a e)

@@ -4,7 +4,8 @@
 use Rattle.std.specs.Prelude.{ℕ, if◌then◌else◌, Option, Some, None}
 use Rattle.address_map.specs.Map.{block_place}
 use Rattle.module_table.specs.declared.modules.Module.{Module}
-use Rattle.module_table.specs.Past.{Past, module_of, image_of}
+use Rattle.module_table.specs.Past.{Past, module_of}
+use Rattle.module_table.specs.PastLaws.{image_of}
 use Rattle.loaded_modules.specs.Images.{JobImages, static_offset}
 
 -- the distance from the blocks of a loaded image up to the thread pointer, if it is fixed

@@ -4,7 +4,7 @@ use Rattle.module_table.specs.declared.TheConstants.{SURPLUS}
 use Rattle.module_table.specs.declared.events.Event.{Event}
 use Rattle.module_table.specs.Modules.{is_loaded}
 use Rattle.module_table.specs.Past.{Past, past, module_of}
-use Rattle.module_table.specs.History.{IsLegal}
+use Rattle.module_table.specs.Past.{IsLegal}
 use Rattle.loaded_modules.specs.Images.{JobImages, infos, last_offset}
 use Rattle.thread_vector.specs.Vectors.{Vector, slot_of, is_number}
 

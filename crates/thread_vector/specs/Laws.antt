@@ -1,7 +1,8 @@
 -- The laws of the addresses of blocks, without slots.
 use Rattle.std.specs.Prelude.{◌≡◌, ◌≢◌, ◌+◌, ◌*◌, ◌<◌, ◌≤◌, ◌^◌, ℕ, true, Option, Some, None}
 use Rattle.address_map.specs.Map.{pointer_of, stack_end, stack_size}
-use Rattle.module_table.specs.Past.{Past, image_of, live, module_of}
+use Rattle.module_table.specs.Past.{Past, module_of}
+use Rattle.module_table.specs.PastLaws.{image_of, live}
 use Rattle.loaded_modules.specs.Images.{JobImages}
 use Rattle.thread_vector.specs.Addresses.{start_of}
 

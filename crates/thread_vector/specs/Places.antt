@@ -1,7 +1,8 @@
 -- The place of a block among the slots, and the slots after a write to it.
 use Rattle.std.specs.Prelude.{◌≡◌, ◌≢◌, ◌+◌, ◌-◌, ℕ, List, slice_range, slice_set, Option, Some, None}
 use Rattle.module_table.specs.declared.modules.Module.{Module}
-use Rattle.module_table.specs.Past.{Past, module_of, image_of}
+use Rattle.module_table.specs.Past.{Past, module_of}
+use Rattle.module_table.specs.PastLaws.{image_of}
 use Rattle.thread_vector.specs.declared.dtv.Place.{Place}
 use Rattle.thread_vector.specs.Vectors.{Piece, Vector, held, rewritten, slot_of}
 

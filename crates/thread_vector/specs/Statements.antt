@@ -1,6 +1,7 @@
 -- A vector before and after a call, as clauses state it.
 use Rattle.std.specs.Prelude.{◌≡◌, ◌+◌, ◌%◌, ◌^◌, ℕ, false, length, Option, Some, None}
-use Rattle.module_table.specs.Past.{Past, module_of, live, instance_of}
+use Rattle.module_table.specs.Past.{Past, module_of}
+use Rattle.module_table.specs.PastLaws.{live, instance_of}
 use Rattle.loaded_modules.specs.Loader.{fresh_block}
 use Rattle.thread_vector.specs.declared.dtv.AddressRefusal.{AddressRefusal}
 use Rattle.thread_vector.specs.declared.dtv.AddressRefusal.TheVariants.{Unloaded, OutOfMemory}

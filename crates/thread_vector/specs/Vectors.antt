@@ -1,11 +1,13 @@
 -- A thread's blocks of each module's thread-local storage (Drepper, "ELF Handling For Thread-Local Storage", section
 -- 3: the dynamic thread vector), after events and accesses.
 use Rattle.std.specs.Prelude.{◌+◌, ◌-◌, ◌==◌, ℕ, Bool, false, if◌then◌else◌, List, [], slice_index_or}
-use Rattle.std.specs.Prelude.{◌++◌, length, take, drop, slice_set, slice_range, Option, Some, None, is_some, option_map, option_and_then}
+use Rattle.std.specs.Prelude.{◌++◌, length, take, drop, slice_set, slice_range, Option, Some, None, is_some, option_map}
+use Rattle.std.specs.Prelude.{option_and_then}
 use Rattle.std.specs.Option.{option_or}
 use Rattle.module_table.specs.declared.modules.Module.{Module}
 use Rattle.module_table.specs.Modules.{is_loaded}
-use Rattle.module_table.specs.Past.{Past, module_of, image_of, live, offset}
+use Rattle.module_table.specs.Past.{Past, module_of}
+use Rattle.module_table.specs.PastLaws.{image_of, live, offset}
 use Rattle.loaded_modules.specs.declared.instance.Instance.{Instance}
 use Rattle.loaded_modules.specs.Images.{JobImages}
 use Rattle.loaded_modules.specs.Loader.{fresh_block}

@@ -2,7 +2,8 @@
 
 ghost use Rattle.std.specs.Prelude.{List, ◌≡◌, ◌+◌, ◌-◌, ◌*◌, ◌<◌, ◌≤◌, ◌^◌, ℕ, Some, None, Ok, Err, IfOk, IfErr, OnOk, OnErr, true, false, length, is_some, option_map};
 ghost use Rattle.module_table.specs.Modules.{is_loaded};
-ghost use Rattle.module_table.specs.Past.{start, after, after_one, accepts, is_legal, live, current, instance_of, module_of, image_of};
+ghost use Rattle.module_table.specs.Past.{start, after, after_one, accepts, is_legal, module_of};
+ghost use Rattle.module_table.specs.PastLaws.{live, current, instance_of, image_of};
 ghost use Rattle.loaded_modules.specs.Images.{infos, last_offset};
 ghost use Rattle.thread_vector.specs.Addresses.{distance_of, start_of};
 ghost use Rattle.thread_vector.specs.Holding.{IsLeftBy, IsVector};

@@ -193,7 +193,8 @@ module _ (ls : List Linking) (l : Linking) (x : Instance) (is : IsInstanceOf ls 
       let where_is : here ≡ place l at.spot.object at.spot.section at.field.offset + bias_of l.kind x.number =
       omega (arith, stands.from, stands.within_is, at.at.low, kind.byte_is, inside.0) in
       let four_is = four_loaded l is.given is.links is.stray at.spot.object at.spot.section at.spot.within stands.there
-      at.field found.among inside at.outside ls x is stands.class_is here four held.0 (wide at.field.kind kind.kind_is) long
+      at.field found.among inside at.outside ls x is stands.class_is here four held.0
+      (wide at.field.kind kind.kind_is) long
       left where_is bytes in
       let read : field_of four ≡ modulo (2 ^ 64) ((pos (got_start l + word.at) +ℤ negsuc m.0)
       -ℤ pos (place l at.spot.object at.spot.section at.field.offset)) =
@@ -202,8 +203,10 @@ module _ (ls : List Linking) (l : Linking) (x : Instance) (is : IsInstanceOf ls 
       ap (λ h. plus (plus h size) (field_of four)) where_is
       ∙ ap (λ s. plus (plus (place l at.spot.object at.spot.section at.field.offset + bias_of l.kind x.number) s)
       (field_of four)) (sym m.2)
-      ∙ ap (plus (plus (place l at.spot.object at.spot.section at.field.offset + bias_of l.kind x.number) (suc m.0))) read
-      ∙ reaches (got_start l + word.at) (place l at.spot.object at.spot.section at.field.offset) (bias_of l.kind x.number) m.0
+      ∙ ap (plus (plus (place l at.spot.object at.spot.section at.field.offset + bias_of l.kind x.number)
+      (suc m.0))) read
+      ∙ reaches (got_start l + word.at) (place l at.spot.object at.spot.section at.field.offset)
+      (bias_of l.kind x.number) m.0
       ∙ whole (got_start l + word.at + bias_of l.kind x.number) (low v word.at word.starts) in
       let number_is : number ≡ (address l v + bias_of l.kind x.number) % 2 ^ 64 =
       kind.number_is ∙ ap (λ b. symbol_number l (bias_of l.kind x.number) at.field.kind b % 2 ^ 64) e
@@ -259,13 +262,16 @@ addresses_tied ls history l x here number size addend four known is mark bytes m
   where
     words : AddressesAreLoaded ls l x
     words v at starts k below =
-        let here : got_start l + at + bias_of l.kind x.number + k ≡ got_start l + at + 8 * 0 + bias_of l.kind x.number + k =
+        let here : got_start l + at + bias_of l.kind x.number + k
+        ≡ got_start l + at + 8 * 0 + bias_of l.kind x.number + k =
         omega arith in
         ap (byte_in Read ((job_loads (images_of ls)).fixed x)) here
-        ∙ words_loaded ls l x history (AddressWord v (address l v)) at 0 (address l v + bias_of l.kind x.number) known is starts
+        ∙ words_loaded ls l x history (AddressWord v (address l v)) at 0
+        (address l v + bias_of l.kind x.number) known is starts
         refl k below
 
     low : (v : SymbolRef) (at : ℕ) → start_of (entries l) (AddressWord v (address l v)) ≡ Some at
         → got_start l + at + bias_of l.kind x.number < 2 ^ 64
     low v at starts =
-        entry_low ls history l x (AddressWord v (address l v)) at (address l v + bias_of l.kind x.number) known is starts refl
+        entry_low ls history l x (AddressWord v (address l v)) at
+        (address l v + bias_of l.kind x.number) known is starts refl

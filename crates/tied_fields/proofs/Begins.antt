@@ -114,7 +114,8 @@ fields_begin ls l x place is = record {
   offset = λ number byte mark.
       let here = sym (mark_is ls l x place is.image) ∙ mark in
       let f = at_field l (bias_of l.kind x.number) place (Offset number byte) here (λ e. cc) (λ e. cc) in
-      let kind = is_offset l (bias_of l.kind x.number) f.spot.within f.field (binding l f.spot.object f.field) f.field.kind
+      let kind = is_offset l (bias_of l.kind x.number) f.spot.within f.field
+      (binding l f.spot.object f.field) f.field.kind
       number byte f.is in
       let first = marked l (bias_of l.kind x.number) (place - (f.spot.within - f.field.offset)) _
       (begins l is.given is.links is.stray (bias_of l.kind x.number) place (Offset number byte) f) in
@@ -124,13 +125,15 @@ fields_begin ls l x place is = record {
         mark_is ls l x (place - byte) is.image
             ∙ ap (mark_of l (bias_of l.kind x.number)) far
             ∙ first
-            ∙ offset_first l (bias_of l.kind x.number) f.spot.within f.field (binding l f.spot.object f.field) f.field.kind
+            ∙ offset_first l (bias_of l.kind x.number) f.spot.within f.field
+            (binding l f.spot.object f.field) f.field.kind
             number byte f.is,
       );
   address = λ number byte addend mark.
       let here = sym (mark_is ls l x place is.image) ∙ mark in
       let f = at_field l (bias_of l.kind x.number) place (Address number addend byte) here (λ e. cc) (λ e. cc) in
-      let kind = is_address l (bias_of l.kind x.number) f.spot.within f.field (binding l f.spot.object f.field) f.field.kind
+      let kind = is_address l (bias_of l.kind x.number) f.spot.within f.field
+      (binding l f.spot.object f.field) f.field.kind
       number byte addend f.is in
       let first = marked l (bias_of l.kind x.number) (place - (f.spot.within - f.field.offset)) _
       (begins l is.given is.links is.stray (bias_of l.kind x.number) place (Address number addend byte) f) in

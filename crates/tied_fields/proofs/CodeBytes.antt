@@ -91,7 +91,8 @@ module _ (l : Linking) (given : IsGiven l) (links : Links l) (stray : HasNoStray
     no_value : find (λ (r : Relocation). has_value r.kind && covers k r) (relocations (object l o) t) ≡ None
     no_value =
         none_found (λ (r : Relocation). has_value r.kind && covers k r) (relocations (object l o) t) (λ r has passes.
-        none_passes (covers k) (relocations (object l o) t) r none has (second_part (has_value r.kind) (covers k r) passes))
+        none_passes (covers k) (relocations (object l o) t) r none has
+        (second_part (has_value r.kind) (covers k r) passes))
 
     no_field : find (is_in_field l o k) (relocations (object l o) t) ≡ None
     no_field =
@@ -104,7 +105,8 @@ module _ (l : Linking) (given : IsGiven l) (links : Links l) (stray : HasNoStray
         none_found (is_in_rewritten l o t k) (sites_at l o) (λ site own passes.
         none_passes (is_in_site t k) (sites_at l o) site outside own
         (first_part (is_in_site t k site) (not (is_kept (choice l o site)))
-        (assoc (site.section == t) (nat_le site.start k && nat_lt k (site.start + site.len)) (not (is_kept (choice l o site)))
+        (assoc (site.section == t) (nat_le site.start k && nat_lt k (site.start + site.len))
+        (not (is_kept (choice l o site)))
         passes)))
       where
         assoc : (a b c : Bool) → (a && b && c) ≡ true → ((a && b) && c) ≡ true
@@ -134,16 +136,19 @@ module _ (l : Linking) (given : IsGiven l) (links : Links l) (stray : HasNoStray
             → find (λ (y : Relocation). has_value y.kind && covers k y) (relocations (object l o) t) ≡ f
             → find (λ (y : Relocation). has_value y.kind && covers k y) (relocations (object l o) t) ≡ Some r
         of_found None e =
-            absurd (none_passes (λ (y : Relocation). has_value y.kind && covers k y) (relocations (object l o) t) r e has
+            absurd (none_passes (λ (y : Relocation). has_value y.kind && covers k y)
+            (relocations (object l o) t) r e has
             (both (has_value r.kind) (covers k r) value (covered_so k r inside)))
         of_found (Some y) e =
             let f = found_is (λ (y : Relocation). has_value y.kind && covers k y) (relocations (object l o) t) y e in
-            e ∙ ap Some (shared (relocations (object l o) t) r y k (fields_apart (object l o) (is_object l o given there) t)
+            e ∙ ap Some (shared (relocations (object l o) t) r y k
+            (fields_apart (object l o) (is_object l o given there) t)
             has f.among inside (covers_so k y (second_part (has_value y.kind) (covers k y) f.passes)))
 
     value_byte : has_value r.kind ≡ true → loaded_byte l (bias_of l.kind number) o t k ≡ meant
     value_byte value =
-        loaded_is l given links stray o t k there r has (stays l given links stray o t k there r has inside outside) inside.0
+        loaded_is l given links stray o t k there r has
+        (stays l given links stray o t k there r has inside outside) inside.0
         inside.1 (bias_of l.kind number)
         ∙ ap (λ f. slice_index_or (field_bytes (unwrap_or f Empty)) (k - r.offset) 0)
         (value_is l number o t r value (bound l given links stray o t k there r has inside outside))
@@ -243,7 +248,8 @@ module _ (ls : List Linking) (l : Linking) (x : Instance) (is : IsInstanceOf ls 
   in_class here =
       let address = here.0 in
       let grant : grants Run (class_range l (bias_of l.kind x.number) Executable) place ≡ true =
-      ap (λ p. grants Run (class_range l (bias_of l.kind x.number) Executable) p) here.1 ∙ held ls l x is Executable here.0 here.2 in
+      ap (λ p. grants Run (class_range l (bias_of l.kind x.number) Executable) p) here.1
+      ∙ held ls l x is Executable here.0 here.2 in
       let meaning : byte_in Run (still_ranges l (bias_of l.kind x.number)) place
       ≡ Some (Value (byte_of l (bias_of l.kind x.number) (spot_in l Executable here.0))) =
       granted (class_range l (bias_of l.kind x.number) Executable) (others l (bias_of l.kind x.number)) place grant
@@ -270,7 +276,8 @@ module _ (ls : List Linking) (l : Linking) (x : Instance) (is : IsInstanceOf ls 
       let lies = lies_of l is.given (table_fits l is.given is.links.sound.limits) spot.object spot.section Executable
       stands.there stands.class_is (λ e. cc) in
       let begins : begin_of (layout l) spot.object spot.section ≡ lies.0 = ap (λ a. unwrap_or a 0) lies.1.address_is in
-      let within = (sections_stand l (bias_of l.kind x.number) Executable spot.object spot.section lies.0 spot.within is.given
+      let within = (sections_stand l
+      (bias_of l.kind x.number) Executable spot.object spot.section lies.0 spot.within is.given
       is.links tt (record { there = stands.there; class_is = stands.class_is; address_is = lies.1.address_is })
       (omega (arith, stands.from, stands.to, stands.within_is))).0 in
       (lies.0 + spot.within, omega (arith, begins, stands.from, stands.within_is, at.low), within)
@@ -281,7 +288,8 @@ module _ (ls : List Linking) (l : Linking) (x : Instance) (is : IsInstanceOf ls 
     not_there : IsInMoved l (bias_of l.kind x.number) Executable place → ⊥
     not_there here =
         let yes : holds (class_range l (bias_of l.kind x.number) Executable) place ≡ true =
-        ap (holds (class_range l (bias_of l.kind x.number) Executable)) here.1 ∙ held ls l x is Executable here.0 here.2 in
+        ap (holds (class_range l (bias_of l.kind x.number) Executable)) here.1
+        ∙ held ls l x is Executable here.0 here.2 in
         cc
 
     pub unmeant : byte_in Run (still_ranges l (bias_of l.kind x.number)) place ≡ None
@@ -324,7 +332,8 @@ module _ (ls : List Linking) (l : Linking) (x : Instance) (is : IsInstanceOf ls 
 
   -- ** in the room
 
-  behind : in_room l (bias_of l.kind x.number) place ≡ true → holds (class_range l (bias_of l.kind x.number) Executable) place ≡ false
+  behind : in_room l (bias_of l.kind x.number) place ≡ true
+      → holds (class_range l (bias_of l.kind x.number) Executable) place ≡ false
   unfolding in_room
   behind room = of_test (holds (class_range l (bias_of l.kind x.number) Executable) place) refl
     where

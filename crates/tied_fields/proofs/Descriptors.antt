@@ -216,7 +216,8 @@ module _ (ls : List Linking) (known : ℕ → Option Instance) (x : Instance) (l
             (definition_within i.image.objects (symbol_name (object l o) site.symbol)) in
             let n = names_is (Some (Startup k)) (not (is_rewriting l)) e
             (of_variable l site.form (Some (Startup k)) (taken_startup site.form k form)) in
-            let shared : variable_by ls x.image x.number l o site (Some (Startup k)) ≡ Some (defined_in i.image k k i.found) =
+            let shared : variable_by ls x.image x.number l o site (Some (Startup k))
+            ≡ Some (defined_in i.image k k i.found) =
             ap (option_and_then (shared_by (symbol_name (object l o) site.symbol) k)) i.at
             ∙ ap (option_map (defined_in i.image k k)) i.defined in
             inr (inl (record {
@@ -259,7 +260,8 @@ module _ (ls : List Linking) (known : ℕ → Option Instance) (x : Instance) (l
 
   module _ (o p : ℕ) (s z : Site)
       (equal : (variable_at ls known x l o s).symbol ≡ (variable_at ls known x l p z).symbol) where
-    symbols : (v w : Variable) → variable_at ls known x l o s ≡ v → variable_at ls known x l p z ≡ w → v.symbol ≡ w.symbol
+    symbols : (v w : Variable) → variable_at ls known x l o s ≡ v → variable_at ls known x l p z ≡ w
+        → v.symbol ≡ w.symbol
     symbols v w a b =
         ap (λ (y : Variable). y.symbol) (sym a) ∙ equal ∙ ap (λ (y : Variable). y.symbol) b
 

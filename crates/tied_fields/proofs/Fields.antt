@@ -84,7 +84,8 @@ byte_had t k site h = tests site.section t site.start k (site.start + site.len) 
 -- ** one field
 
 module _ (l : Linking) (given : IsGiven l) (links : Links l) (stray : HasNoStray l) (o t k : ℕ)
-    (there : o < length l.objects) (r : Relocation) (has : Contains (relocations (object l o) t) r) (inside : Covers r k)
+    (there : o < length l.objects) (r : Relocation) (has : Contains (relocations (object l o) t) r)
+    (inside : Covers r k)
     (outside : find (is_in_site t k) (sites_at l o) ≡ None) where
   entry : IsEntry (relocations (object l o) t) has.0 r
   entry = slice_get-get_or (relocations (object l o) t) has.0 r has.1 ∙ ap Some has.2
@@ -114,7 +115,8 @@ module _ (l : Linking) (given : IsGiven l) (links : Links l) (stray : HasNoStray
 
   alone : CallsNone (object l o) t has.0
   alone e site is second =
-      let within = second_within (code_of (object l o) t) (relocations (object l o) t) (IsGetter (object l o)) e has.0 k r
+      let within = second_within (code_of (object l o) t) (relocations (object l o) t)
+      (IsGetter (object l o)) e has.0 k r
       site is second entry inside in
       no_sequence e site is within.0 within.1
 
@@ -146,7 +148,8 @@ module _ (l : Linking) (given : IsGiven l) (links : Links l) (stray : HasNoStray
             entry,
             of,
             λ site is.
-                let within = first_within (code_of (object l o) t) (relocations (object l o) t) (IsGetter (object l o)) has.0 k
+                let within = first_within (code_of (object l o) t) (relocations (object l o) t)
+                (IsGetter (object l o)) has.0 k
                 r site is entry inside in
                 no_sequence has.0 site is within.0 within.1,
           ),
@@ -165,7 +168,8 @@ module _ (l : Linking) (given : IsGiven l) (links : Links l) (stray : HasNoStray
       of_found None e = absurd (none_passes (covers j) (relocations (object l o) t) r e has (covered_so j r here))
       of_found (Some y) e =
           let f = found_is (covers j) (relocations (object l o) t) y e in
-          e ∙ ap Some (shared (relocations (object l o) t) r y j (fields_apart (object l o) (is_object l o given there) t)
+          e ∙ ap Some (shared (relocations (object l o) t) r y j
+          (fields_apart (object l o) (is_object l o given there) t)
           has f.among here (covers_so j y f.passes))
 
   -- it is not replaced by that of a sequence
@@ -197,7 +201,8 @@ module _ (l : Linking) (given : IsGiven l) (links : Links l) (stray : HasNoStray
           let code = code_of (object l o) t in
           let xs = relocations (object l o) t in
           let getter = IsGetter (object l o) in
-          elim (own_relocation code xs getter (fields_apart (object l o) (is_object l o given there) t) e has.0 j r site is
+          elim (own_relocation code xs getter
+          (fields_apart (object l o) (is_object l o given there) t) e has.0 j r site is
           entry here at.from at.to) [
             | inl first ↦
                 let S : ℕ → Type 0 = λ n. IsSiteOf (code_of (object l o) t) (relocations (object l o) t)
@@ -250,15 +255,18 @@ module _ (l : Linking) (given : IsGiven l) (links : Links l) (stray : HasNoStray
         let at = lies.address in
         let n = r.offset + j in
         let stands = sections_stand l (bias_of l.kind x.number) Executable o t at n given links tt
-        (record { there = there; class_is = code_here; address_is = lies.lies.address_is }) (omega (arith, below, lies.fits)) in
+        (record { there = there; class_is = code_here; address_is = lies.lies.address_is })
+        (omega (arith, below, lies.fits)) in
         let index : n - r.offset ≡ j = omega arith in
         let where_is : place l o t r.offset + j + bias_of l.kind x.number ≡ at + n + bias_of l.kind x.number =
         omega (arith, lies.place_is) in
         ap (byte_in Run ((job_loads (images_of ls)).fixed x)) where_is
         ∙ code_loaded ls l x (at + n) is stands.0
         ∙ ap Some (stands.1
-        ∙ loaded_is l given links stray o t n there r has stays (omega arith) (omega (arith, below)) (bias_of l.kind x.number)
-        ∙ ap (λ i. slice_index_or (field_bytes (unwrap_or (loaded_field l (bias_of l.kind x.number) o t r) Empty)) i 0) index)
+        ∙ loaded_is l given links stray o t n there r has stays (omega arith) (omega (arith, below))
+        (bias_of l.kind x.number)
+        ∙ ap (λ i. slice_index_or
+        (field_bytes (unwrap_or (loaded_field l (bias_of l.kind x.number) o t r) Empty)) i 0) index)
 
     -- all four of a field of four
     pub four_loaded : (at : ℕ) (four : List ℕ) (f : Field) → field_width r.kind ≡ 4 → length (field_bytes f) ≡ 4

@@ -14,7 +14,7 @@ use Rattle.link_core.specs.Laws.{HasNoStray}
 use Rattle.link_needs.specs.Given.{IsGiven}
 use Rattle.link_needs.specs.Linking.{Linking}
 use Rattle.loaded_bytes.specs.Laws.{IsInstanceOf, images_of}
-use Rattle.elf_records.specs.Fields.{AreBytes}
+use Rattle.elf_records.specs.FieldLaws.{AreBytes}
 use Rattle.loaded_modules.specs.declared.instance.Instance.{Instance}
 use Rattle.loaded_names.proofs.Infos.{infos_loaded}
 use Rattle.loaded_names.proofs.Meant.{infos_meant, variables_meant}
@@ -36,40 +36,42 @@ found_at [] i below = absurd (omega (arith, below))
 found_at (x ∷ xs) zero below = (x, refl)
 found_at (x ∷ xs) (suc i) below = found_at xs i (omega (arith, below))
 
-module _ (ls : List Linking) (history : List Event) (ready : IsReady ls history) (stand : SequencesStand ls history) where
-  -- an instance that a number was given to
-  module _ (x : Instance) (e : known_in (job_loads (images_of ls)) history x.number ≡ Some x) where
-    known : IsKnown ls history x
-    known = record { program = ready.program; legal = ready.legal; known = e }
+module _ (ls : List Linking) (history : List Event) (ready : IsReady ls history) (stand : SequencesStand ls history)
+  where
+    -- an instance that a number was given to
+    module _ (x : Instance) (e : known_in (job_loads (images_of ls)) history x.number ≡ Some x) where
+      known : IsKnown ls history x
+      known = record { program = ready.program; legal = ready.legal; known = e }
 
-    link : (l : Linking) × (at_number ls x.image ≡ Some l)
-    link =
-        let live = known_live (job_loads (images_of ls)) history x.number x e in
-        let placed = placed_in (job_loads (images_of ls)) history ready.legal live.seen x.number x live.front live.live in
-        let many : length (job_loads (images_of ls)).infos ≡ length ls =
-        ap (λ (infos : List ImageInfo). length infos) (infos_loaded ls).0 ∙ length-map ls info_of in
-        let found = found_at ls placed.index (let within = placed.within in omega (arith, within, many)) in
-        (found.0, ap (at_number ls) placed.image ∙ found.1)
+      link : (l : Linking) × (at_number ls x.image ≡ Some l)
+      link =
+          let live = known_live (job_loads (images_of ls)) history x.number x e in
+          let placed = placed_in (job_loads
+          (images_of ls)) history ready.legal live.seen x.number x live.front live.live in
+          let many : length (job_loads (images_of ls)).infos ≡ length ls =
+          ap (λ (infos : List ImageInfo). length infos) (infos_loaded ls).0 ∙ length-map ls info_of in
+          let found = found_at ls placed.index (let within = placed.within in omega (arith, within, many)) in
+          (found.0, ap (at_number ls) placed.image ∙ found.1)
 
-    is : IsInstanceOf ls link.0 x
-    is = record {
-      image = link.1;
-      given = each_at IsGiven ls x.image link.0 ready.together.given link.1;
-      links = each_at Links ls x.image link.0 ready.together.links link.1;
-      stray = each_at HasNoStray ls x.image link.0 ready.stray link.1;
-    }
+      is : IsInstanceOf ls link.0 x
+      is = record {
+        image = link.1;
+        given = each_at IsGiven ls x.image link.0 ready.together.given link.1;
+        links = each_at Links ls x.image link.0 ready.together.links link.1;
+        stray = each_at HasNoStray ls x.image link.0 ready.stray link.1;
+      }
 
-    tied : IsTied (setting_of ls history) (meaning_of ls) (job_loads (images_of ls)) x
-    tied =
-        instances_tied ls history link.0 x
-        (each_at (λ (l : Linking). All AreBytes l.objects) ls x.image link.0 ready.bytes link.1) known is
-        (stand link.0 x known is)
+      tied : IsTied (setting_of ls history) (meaning_of ls) (job_loads (images_of ls)) x
+      tied =
+          instances_tied ls history link.0 x
+          (each_at (λ (l : Linking). All AreBytes l.objects) ls x.image link.0 ready.bytes link.1) known is
+          (stand link.0 x known is)
 
-  tied_number : (number : ℕ) (x : Instance) → known_in (job_loads (images_of ls)) history number ≡ Some x
-      → IsTied (setting_of ls history) (meaning_of ls) (job_loads (images_of ls)) x × (x.number ≡ number)
-  tied_number number x e =
-      let own = (known_given (job_loads (images_of ls)) history ready.legal number x e).number in
-      (tied x (ap (known_in (job_loads (images_of ls)) history) own ∙ e), own)
+    tied_number : (number : ℕ) (x : Instance) → known_in (job_loads (images_of ls)) history number ≡ Some x
+        → IsTied (setting_of ls history) (meaning_of ls) (job_loads (images_of ls)) x × (x.number ≡ number)
+    tied_number number x e =
+        let own = (known_given (job_loads (images_of ls)) history ready.legal number x e).number in
+        (tied x (ap (known_in (job_loads (images_of ls)) history) own ∙ e), own)
 
 -- the law
 pub jobs_tied : JobsAreTied

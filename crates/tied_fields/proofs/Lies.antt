@@ -112,7 +112,8 @@ module _ (ls : List Linking) (history : List Event) (l : Linking) (x : Instance)
       let bias = bias_of l.kind x.number in
       let constants = class_range l (bias_of l.kind x.number) ReadOnly in
       let initial = class_range l (bias_of l.kind x.number) (Tls true) in
-      elim (first_or access (class_range l (bias_of l.kind x.number) Executable) (constants ∷ initial ∷ []) place byte e) [
+      elim (first_or access (class_range l (bias_of l.kind x.number) Executable)
+      (constants ∷ initial ∷ []) place byte e) [
         | inl code ↦ of_class Executable place (in_range ls l x is Executable place code)
         | inr past ↦ elim (first_or access constants (initial ∷ []) place byte past) [
           | inl constant ↦ of_class ReadOnly place (in_range ls l x is ReadOnly place constant)
@@ -175,7 +176,8 @@ module _ (l : Linking) (fits : FitsTable l) where
   stub_early = of_test (has_stub l)
     where
       of_test : (t : Bool)
-          → All IsEarly (if t then record { class = part_class.Executable; address = stub_start l; size = 6 } ∷ [] else [])
+          → All IsEarly (if t then record { class = part_class.Executable; address = stub_start l; size = 6 } ∷ []
+          else [])
       of_test true =
           All-cons IsEarly (record { class = part_class.Executable; address = stub_start l; size = 6 }) []
           (λ e. omega (arith, stub_low)) (All-nil IsEarly)

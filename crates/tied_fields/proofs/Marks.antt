@@ -77,7 +77,8 @@ module _ (l : Linking) (bias place : ℕ) where
           → site_mark l bias found (relocated_mark l bias spot.object spot.within
           (find (covers spot.within) (relocations (object l spot.object) spot.section))) ≡ mark → AtField mark
       of_site spot at None none e =
-          of_relocation spot at none (find (covers spot.within) (relocations (object l spot.object) spot.section)) refl e
+          of_relocation spot at none
+          (find (covers spot.within) (relocations (object l spot.object) spot.section)) refl e
       of_site spot at (Some site) some e = absurd (away (sym e))
 
       of_spot : (found : Option Spot) → moved_spot l Executable bias place ≡ found → spot_mark l bias found ≡ mark
@@ -100,7 +101,8 @@ pub record IsOffset (l : Linking) (bias k : ℕ) (r : Relocation) (bound : Optio
   pub byte_is : byte ≡ k - r.offset
 
 pub is_offset : (l : Linking) (bias k : ℕ) (r : Relocation) (bound : Option Binding) (kind : RelocationKind)
-    (number byte : ℕ) → field_mark l bias k r bound kind ≡ Offset number byte → IsOffset l bias k r bound kind number byte
+    (number byte : ℕ) → field_mark l bias k r bound kind ≡ Offset number byte
+    → IsOffset l bias k r bound kind number byte
 is_offset l bias k r bound DtpOff32 number byte e = record { kind_is = refl; number_is = cc; byte_is = cc }
 is_offset l bias k r bound kind number byte e = absurd (cc)
 

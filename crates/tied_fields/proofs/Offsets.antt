@@ -113,7 +113,8 @@ field_by : (l : Linking) (o t : ℕ) (r : Relocation) (v : SymbolRef) → r.kind
     → field l o t r ≡ signed_field ((pos (offset l v) +ℤ r.addend) -ℤ pos (below l))
 unfolding field
 field_by l o t r v kind e =
-    ap (λ k. stored_field k (own_number l k (binding l o r)) r.addend (place l o t r.offset) (other_number l o r k)) kind
+    ap (λ k. stored_field k (own_number l k (binding l o r)) r.addend (place l o t r.offset)
+    (other_number l o r k)) kind
     ∙ ap (λ b. signed_field ((pos (own_number l DtpOff32 b) +ℤ r.addend) -ℤ pos (below l))) e
 
 module _ (ls : List Linking) (history : List Event) (l : Linking) (x : Instance) (known : IsKnown ls history x)
@@ -184,7 +185,8 @@ module _ (ls : List Linking) (history : List Event) (l : Linking) (x : Instance)
         stands = standing l Executable (place' - bias_of l.kind x.number) at.spot at.at.stands
 
         found : IsFound (covers at.spot.within) (relocations (object l at.spot.object) at.spot.section) at.field
-        found = found_is (covers at.spot.within) (relocations (object l at.spot.object) at.spot.section) at.field at.found
+        found = found_is (covers at.spot.within)
+            (relocations (object l at.spot.object) at.spot.section) at.field at.found
 
         inside : Covers at.field at.spot.within
         inside = covers_so at.spot.within at.field found.passes

@@ -89,7 +89,8 @@ module _ (ls : List Linking) (history : List Event) (l : Linking) (x : Instance)
         own = subst (λ (n : ℕ). Contains (sites_at l n) m.site) object_is is_maker.among;
         form = makes_lea m.site.form tests.0;
         symbol_is =
-            same (variable_at ls (known_in (job_loads (images_of ls)) history) x l m.object m.site).symbol symbol tests.1;
+            same (variable_at ls (known_in
+            (job_loads (images_of ls)) history) x l m.object m.site).symbol symbol tests.1;
       }
     where
       same : (a b : ℕ) → (a == b) ≡ true → a ≡ b
@@ -170,11 +171,14 @@ module _ (ls : List Linking) (history : List Event) (l : Linking) (x : Instance)
         of_maker (Some m) h some =
             let is_maker = the_maker symbol m h in
             let form : is_of_descriptor m.site.form ≡ true = ap is_of_descriptor is_maker.form in
-            let alike = all_alike ls (known_in (job_loads (images_of ls)) history) x l is.given few is.image images imports
+            let alike = all_alike ls
+            (known_in (job_loads (images_of ls)) history) x l is.given few is.image images imports
             m.object o m.site site is_maker.symbol_is
-            (seen ls (known_in (job_loads (images_of ls)) history) x l is.given few is.image images imports m.object m.site
+            (seen ls (known_in (job_loads
+            (images_of ls)) history) x l is.given few is.image images imports m.object m.site
             is_maker.there is_maker.own form)
-            (seen ls (known_in (job_loads (images_of ls)) history) x l is.given few is.image images imports o site at.there
+            (seen ls (known_in (job_loads
+            (images_of ls)) history) x l is.given few is.image images imports o site at.there
             at.own at.form) in
             record {
               m = m;
@@ -188,7 +192,8 @@ module _ (ls : List Linking) (history : List Event) (l : Linking) (x : Instance)
             }
 
     kept_number : (t : Target) (at : ℕ) → is_kept (choice l o site) ≡ true
-        → target_by l o site.symbol (binding l o (first_of site)) ≡ Some t → start_of (entries l) (Descriptor t) ≡ Some at
+        → target_by l o site.symbol (binding l o (first_of site)) ≡ Some t
+        → start_of (entries l) (Descriptor t) ≡ Some at
         → number_for ls (known_in (job_loads (images_of ls)) history) x l o site
         ≡ got_start l + at + bias_of l.kind x.number
     kept_number t at stays names starts = rw (stays, names, starts) refl

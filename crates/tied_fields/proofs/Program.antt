@@ -39,7 +39,10 @@ unfolding info_of
 some_start [] first = absurd first
 some_start (l ∷ ls) first =
     let here : startup_count (map info_of (l ∷ ls)) ≡ 1 + startup_count (map info_of ls) =
-    rw (sum_by-cons (λ (i : ImageInfo). cond (not i.late) 1 0) (info_of l) (map info_of ls), early l.kind first.0) refl in
+    rw (
+      sum_by-cons (λ (i : ImageInfo). cond (not i.late) 1 0) (info_of l) (map info_of ls),
+      early l.kind first.0,
+    ) refl in
     omega (arith, here)
 
 -- image 1 is the program

@@ -21,16 +21,16 @@ use Rattle.loaded_bytes.specs.Laws.{IsData, IsDataOf, IsIn, IsInstanceOf, images
 use Rattle.loaded_bytes.specs.Meant.{valued}
 use Rattle.loaded_bytes.specs.Bytes.{byte_at}
 use Rattle.loaded_bytes.specs.Places.{IsInMoved}
-use Rattle.elf_records.specs.Fields.{AreBytes}
+use Rattle.elf_records.specs.FieldLaws.{AreBytes}
 use Rattle.loaded_modules.specs.declared.instance.Instance.{Instance}
 use Rattle.object_faults.specs.declared.class.SectionClass.{SectionClass}
 use Rattle.object_faults.specs.declared.class.SectionClass.TheVariants.{ReadOnly, Tls, Writable}
 use Rattle.thread_blocks.specs.JobLoads.{job_loads, loaded_parts}
-use Rattle.thread_blocks.specs.Spaces.{FoundAlike, NoneWritable}
+use Rattle.thread_blocks.specs.SpaceLaws.{FoundAlike, NoneWritable}
 use Rattle.thread_blocks.specs.Turns.{at_number}
 use Rattle.tied_meaning.specs.Numbers.{SameByte, Setting}
 use Rattle.tied_meaning.specs.Ties.{SameShared}
-use Rattle.tls_layout.specs.Laws.{extent_for}
+use Rattle.tls_layout.specs.Places.{extent_for}
 use Rattle.tls_layout.specs.Places.{initial_tls}
 use Rattle.whole_meaning.specs.Loads.{loads_of, meaning_of}
 use Rattle.link_needs.specs.Linking.{has_writable_data}
@@ -96,7 +96,8 @@ module _ (g : Setting) (ls : List Linking) (l : Linking) (x : Instance) (is : Is
       let meant : byte_in Read ((meaning_of ls).loads.fixed x) place
       ≡ option_map Value (byte_in Read ((job_loads (images_of ls)).fixed x) place) =
       ap (λ ranges. byte_in Read ranges place) (fixed_meant ls l x is.image) ∙ sym (reads_meant ls l x place is out) in
-      rw meant (found_same g (byte_in Read ((job_loads (images_of ls)).fixed x) place) (λ b e. read_small place b out e))
+      rw meant (found_same g (byte_in Read ((job_loads (images_of ls)).fixed x) place)
+      (λ b e. read_small place b out e))
 
   -- ** blocks
 
@@ -107,7 +108,8 @@ module _ (g : Setting) (ls : List Linking) (l : Linking) (x : Instance) (is : Is
       elim (cases_lt k (initial_tls (layout l).sections).end) [
         | inl low ↦
             let address : ℕ = (extent_for (Tls true) (layout l)).start + k in
-            let same : byte_at l (bias_of l.kind x.number) (Tls true) ((extent_for (Tls true) (layout l)).start + k) ≡ b =
+            let same : byte_at l (bias_of l.kind x.number) (Tls true) ((extent_for (Tls true) (layout l)).start + k)
+            ≡ b =
             same_Some _ b (sym (own.initial k low) ∙ e) in
             subst (λ (n : ℕ). n < 256) same
             (bytes_small l (bias_of l.kind x.number) (Tls true) ((extent_for (Tls true) (layout l)).start + k) bytes)
@@ -125,14 +127,17 @@ module _ (g : Setting) (ls : List Linking) (l : Linking) (x : Instance) (is : Is
 
   -- ** data
 
-  data_small : (range : Range ℕ) → IsDataOf l (bias_of l.kind x.number) range → (k b : ℕ) → slice_get range.bytes k ≡ Some b
+  data_small : (range : Range ℕ) → IsDataOf l (bias_of l.kind x.number) range → (k b : ℕ)
+      → slice_get range.bytes k ≡ Some b
       → b < 256
   data_small range d k b e =
       let within = slice_get_within range.bytes k b e in
-      let same : byte_at l (bias_of l.kind x.number) (Writable true) ((extent_for (Writable true) (layout l)).start + k) ≡ b =
+      let same : byte_at l (bias_of l.kind x.number) (Writable true) ((extent_for (Writable true) (layout l)).start + k)
+      ≡ b =
       same_Some _ b (sym (d.each k within) ∙ e) in
       subst (λ (n : ℕ). n < 256) same
-      (bytes_small l (bias_of l.kind x.number) (Writable true) ((extent_for (Writable true) (layout l)).start + k) bytes)
+      (bytes_small l (bias_of l.kind x.number) (Writable true)
+      ((extent_for (Writable true) (layout l)).start + k) bytes)
 
   of_data : (has : Bool) (found : Option (Range ℕ)) → IsData l (bias_of l.kind x.number) has found
       → SameShared g (option_map valued found) found

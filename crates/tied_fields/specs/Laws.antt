@@ -23,7 +23,7 @@ use Rattle.link_needs.specs.Linking.{Linking, binding, choice, sites_at}
 use Rattle.link_needs.specs.Needs.{entries, got_start, is_kept, target_by}
 use Rattle.linked_modules.specs.Together.{AreTogether}
 use Rattle.loaded_bytes.specs.Laws.{IsInstanceOf, images_of}
-use Rattle.elf_records.specs.Fields.{AreBytes}
+use Rattle.elf_records.specs.FieldLaws.{AreBytes}
 use Rattle.loaded_modules.specs.declared.instance.Instance.{Instance}
 use Rattle.module_table.specs.declared.events.Event.{Event}
 use Rattle.sequence_forms.specs.declared.forms.Form.{Form}

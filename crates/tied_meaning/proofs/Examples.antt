@@ -66,4 +66,7 @@ moved instance start thread e f = rw (e, f) (omega arith)
 
 rewritten_field : SameField (setting true) (Some 0x400012) None 4 0xfffffffffffffffc
 unfolding setting owner_at
-rewritten_field = (refl, λ block made own. moved block.instance block.start block.thread own (start_is true block made own))
+rewritten_field = (
+  refl,
+  λ block made own. moved block.instance block.start block.thread own (start_is true block made own),
+)

@@ -1,5 +1,6 @@
 -- Plain numbers follow marked values, in any setting: each operation on related values gives related values.
-use Rattle.std.proofs.Common.{◌≡◌, ℕ, zero, suc, ◌+◌, ◌%◌, ◌^◌, ◌<◌, Bool, true, false, ◌&&◌, ◌==◌, List, [], ◌∷◌, length, Option, Some, None, Ok, Err, refl, sym, ap, arith}
+use Rattle.std.proofs.Common.{◌≡◌, ℕ, zero, suc, ◌+◌, ◌%◌, ◌^◌, ◌<◌, Bool, true, false, ◌&&◌, ◌==◌, List, [], ◌∷◌}
+use Rattle.std.proofs.Common.{length, Option, Some, None, Ok, Err, refl, sym, ap, arith}
 use Rattle.std.specs.Prelude.{if◌then◌else◌}
 use Rattle.std.proofs.lemmas.Bool.{eqb-true, and_parts}
 use Rattle.address_map.specs.Map.{owner_at}
@@ -17,9 +18,11 @@ use Rattle.job_meaning.specs.declared.values.Flag.{Flag}
 use Rattle.job_meaning.specs.declared.values.Flag.TheVariants.{Truth, Unsettled}
 use Rattle.job_meaning.specs.declared.values.Byte.{Byte}
 use Rattle.job_meaning.specs.declared.values.Byte.TheVariants.{Value, Hidden, Part}
-use Rattle.job_meaning.specs.Marked.{used_number, used_truth, part_of, is_same_block, is_same, with_value, values_of, are_parts, whole, joined_as, moved_in, marked_operations}
+use Rattle.job_meaning.specs.Marked.{used_number, used_truth, part_of, is_same_block, is_same, with_value, values_of}
+use Rattle.job_meaning.specs.Marked.{are_parts, whole, joined_as, moved_in, marked_operations}
 use Rattle.tied_meaning.specs.Laws.{NumbersFollowMarkedValues}
-use Rattle.tied_meaning.specs.Numbers.{Setting, IsMade, SameByte, SameField, SameFlag, SameWord, alike, base_number, number_for}
+use Rattle.tied_meaning.specs.Numbers.{Setting, IsMade, SameByte, SameField, SameFlag, SameWord, alike, base_number}
+use Rattle.tied_meaning.specs.Numbers.{number_for}
 
 -- ** numbers
 
@@ -171,7 +174,8 @@ module _ (g : Setting) where
 
   -- ** fields: a field moves a base of the code's own instance, and nothing else
 
-  moved-uses : (at : ℕ) (field' : Option ℕ) (n n' : ℕ) → SameField g (Some at) field' n n' → (w : Word) (w' : ℕ) → Same w w'
+  moved-uses : (at : ℕ) (field' : Option ℕ) (n n' : ℕ) → SameField g (Some at) field' n n' → (w : Word) (w' : ℕ)
+      → Same w w'
       → Uses (λ (p : ℕ) (q : ℕ). p ≡ q) (moved_in owner_at w n at) (moved_by plain_operations field' n' w')
   unfolding plain_operations
   moved-uses at field' n n' f (Number m) w' h = tt

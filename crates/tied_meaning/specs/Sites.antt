@@ -1,6 +1,7 @@
 -- The code of an image in place of a sequence of the meaning, in the machine's terms: instructions, and words that can
 -- be read. Nothing here depends on how a linker chose or laid them.
-use Rattle.std.specs.Prelude.{◌≡◌, ◌≤◌, ◌<◌, ◌+◌, ◌*◌, ◌%◌, ◌^◌, ◌&&◌, ◌==◌, ◌⊎◌, ℕ, true, false, List, [], ◌∷◌, Some, slice_get}
+use Rattle.std.specs.Prelude.{◌≡◌, ◌≤◌, ◌<◌, ◌+◌, ◌*◌, ◌%◌, ◌^◌, ◌&&◌, ◌==◌, ◌⊎◌, ℕ, true, false, List, [], ◌∷◌, Some}
+use Rattle.std.specs.Prelude.{slice_get}
 use Rattle.std.specs.List.{list_any}
 use Rattle.address_map.specs.Map.{descriptor_place, getter_place, pointer_of}
 use Rattle.amd64_subset.specs.declared.instr.Decoded.{Decoded}

@@ -21,8 +21,9 @@ use Rattle.thread_blocks.specs.declared.asked.Asked.{Asked}
 use Rattle.thread_blocks.specs.Held.{Kind, Block, Data, Owned, Owner, is_block, owned, owned_by}
 use Rattle.thread_blocks.specs.Instances.{Loads, block_range}
 use Rattle.thread_blocks.specs.RunTime.{Runs, thread_accesses}
-use Rattle.thread_blocks.specs.Spaces.{SameRange, SameSpace, Space}
-use Rattle.thread_blocks.specs.TurnsAlike.{IsFront}
+use Rattle.thread_blocks.specs.Spaces.{Space}
+use Rattle.thread_blocks.specs.SpaceLaws.{SameRange, SameSpace}
+use Rattle.thread_blocks.specs.Turns.{IsFront}
 use Rattle.whole_meaning.specs.declared.sequences.Sequence.{Sequence}
 use Rattle.whole_meaning.specs.Meanings.{Meaning}
 use Rattle.whole_meaning.specs.Sequences.{after_call, asks, descriptor_use, stack_use, without_flags}

@@ -1,5 +1,6 @@
 -- What is loaded of an instance, on the two sides: of its objects in the meaning, and of its linked image.
-use Rattle.std.specs.Prelude.{◌≡◌, ◌≤◌, ◌<◌, ◌+◌, ◌-◌, ◌%◌, ◌^◌, ℕ, ℤ, true, false, List, All, IfSome, Option, Some, None, length, slice_get, option_and_then}
+use Rattle.std.specs.Prelude.{◌≡◌, ◌≤◌, ◌<◌, ◌+◌, ◌-◌, ◌%◌, ◌^◌, ℕ, ℤ, true, false, List, All, IfSome, Option, Some}
+use Rattle.std.specs.Prelude.{None, length, slice_get, option_and_then}
 use Rattle.address_map.specs.Map.{owner_at}
 use Rattle.amd64_subset.specs.Spelling.{field_of}
 use Rattle.guest_operands.specs.declared.space.Access.{Access}
@@ -15,8 +16,8 @@ use Rattle.loaded_modules.specs.declared.instance.Instance.{Instance}
 use Rattle.module_table.specs.declared.events.Event.{Event}
 use Rattle.module_table.specs.Past.{startup_count}
 use Rattle.thread_blocks.specs.Instances.{Loads, instances, instance_with_id, is_startup_id, numbered_instance}
-use Rattle.thread_blocks.specs.Spaces.{FoundAlike, NoneWritable, SameRange}
-use Rattle.thread_blocks.specs.TurnsAlike.{IsFront}
+use Rattle.thread_blocks.specs.SpaceLaws.{FoundAlike, NoneWritable, SameRange}
+use Rattle.thread_blocks.specs.Turns.{IsFront}
 use Rattle.whole_meaning.specs.declared.marks.Mark.TheVariants.{Usual, Offset, Address}
 use Rattle.whole_meaning.specs.declared.sequences.Sequence.{Sequence}
 use Rattle.whole_meaning.specs.Fields.{is_minus}

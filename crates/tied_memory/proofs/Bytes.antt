@@ -1,5 +1,6 @@
 -- Any memory: bytes that can be read one by one are read together.
-use Rattle.std.proofs.Common.{◌≡◌, ◌∙◌, ◌+◌, ◌%◌, ◌^◌, ◌<◌, ◌≤◌, ◌++◌, ℕ, zero, suc, List, [], ◌∷◌, length, take, Some, Ok, refl, ap, arith}
+use Rattle.std.proofs.Common.{◌≡◌, ◌∙◌, ◌+◌, ◌%◌, ◌^◌, ◌<◌, ◌≤◌, ◌++◌, ℕ, zero, suc, List, [], ◌∷◌, length, take, Some}
+use Rattle.std.proofs.Common.{Ok, refl, ap, arith}
 use Rattle.std.specs.Prelude.{slice_get, ok_or}
 use Rattle.guest_arithmetic.specs.Values.{digit, number_from}
 use Rattle.guest_machine.specs.Access.{Accesses, Refused, bytes_at, code_at, next_place}

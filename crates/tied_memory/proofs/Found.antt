@@ -1,5 +1,6 @@
 -- What is fixed of a live instance is found at its place, whatever the thread writes.
-use Rattle.std.proofs.Common.{if◌then◌else◌, ◌≡◌, ◌∙◌, ◌^◌, ◌<◌, ◌≤◌, ◌++◌, ◌==◌, ℕ, zero, suc, Bool, true, false, List, [], ◌∷◌, All, IfSome, length, Option, Some, None, refl, sym, ap, subst, arith}
+use Rattle.std.proofs.Common.{if◌then◌else◌, ◌≡◌, ◌∙◌, ◌^◌, ◌<◌, ◌≤◌, ◌++◌, ◌==◌, ℕ, zero, suc, Bool, true, false, List}
+use Rattle.std.proofs.Common.{[], ◌∷◌, All, IfSome, length, Option, Some, None, refl, sym, ap, subst, arith}
 use Rattle.std.specs.List.{find, flat_map}
 use Rattle.std.specs.Option.{option_or}
 use Rattle.std.proofs.lemmas.Bool.{eq-eqb}
@@ -123,7 +124,8 @@ module _ {g : Setting} {m : Meaning} {q : Loads ℕ} {history : List Event} {thr
       passed access (stack_range (stack_start thread) space.stack)
       (space.own ++ (pointer_word plain_operations thread ∷ fixed_at q space.seen)) place
       (below_range (stack_range (stack_start thread) space.stack) place (omega (arith, at.1.1, low)))
-      ∙ own_passed owners space.own (pointer_word plain_operations thread ∷ fixed_at q space.seen) sound.paired sound.placed
+      ∙ own_passed owners space.own
+      (pointer_word plain_operations thread ∷ fixed_at q space.seen) sound.paired sound.placed
       ∙ passed access (pointer_word plain_operations thread) (fixed_at q space.seen) place
       (below_range (pointer_word plain_operations thread) place (omega (arith, at.1.1, low)))
       ∙ live_found (instances q space.seen) (tied.each space.seen sound.front) live

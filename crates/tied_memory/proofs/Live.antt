@@ -1,11 +1,12 @@
 -- Live instances: each is tied, and two with places in common are one.
-use Rattle.std.proofs.Common.{if◌then◌else◌, ◌≡◌, ◌==◌, ℕ, zero, suc, Bool, true, false, List, [], ◌∷◌, All, Some, refl, ap, subst, arith}
+use Rattle.std.proofs.Common.{if◌then◌else◌, ◌≡◌, ◌==◌, ℕ, zero, suc, Bool, true, false, List, [], ◌∷◌, All, Some, refl}
+use Rattle.std.proofs.Common.{ap, subst, arith}
 use Rattle.std.specs.List.{find}
 use Rattle.std.proofs.lemmas.Bool.{eqb-true}
 use Rattle.loaded_modules.specs.declared.instance.Instance.{Instance}
 use Rattle.module_table.specs.declared.events.Event.{Event}
 use Rattle.thread_blocks.specs.Instances.{Loads, instances, numbered_instance}
-use Rattle.thread_blocks.specs.TurnsAlike.{IsFront}
+use Rattle.thread_blocks.specs.Turns.{IsFront}
 use Rattle.whole_meaning.specs.Meanings.{Meaning}
 use Rattle.tied_meaning.specs.Numbers.{Setting}
 use Rattle.tied_meaning.specs.Ties.{AreTied, IsTied}
@@ -32,5 +33,6 @@ pub tied_at : {g : Setting} {m : Meaning} {q : Loads ℕ} {history : List Event}
     → (seen : List Event) → IsFront seen history → (n : ℕ) (x : Instance) → numbered_instance q seen n ≡ Some x
     → IsTied g m q x × (x.number ≡ n)
 tied_at {g} {m} {q} tied seen front n x e =
-    let h = found_holds (λ (y : Instance). y.number == n) (IsTied g m q) (instances q seen) x (tied.each seen front) e in
+    let h = found_holds (λ (y : Instance). y.number == n) (IsTied g m q) (instances q seen) x
+    (tied.each seen front) e in
     (h.0, eqb-true x.number n h.1)

@@ -29,12 +29,12 @@ use Rattle.module_table.proofs.Along.{past_legal}
 use Rattle.module_table.proofs.Steps.{numbered_at}
 use Rattle.module_table.specs.declared.events.Event.{Event}
 use Rattle.module_table.specs.declared.modules.ImageInfo.{ImageInfo}
-use Rattle.module_table.specs.Laws.{startup_end}
+use Rattle.module_table.specs.Modules.{startup_end}
 use Rattle.module_table.specs.Past.{startup_count}
 use Rattle.thread_blocks.specs.Instances.{left_by, numbered_instance}
 use Rattle.thread_blocks.specs.JobLoads.{job_loads}
 use Rattle.thread_blocks.specs.Turns.{at_number}
-use Rattle.thread_blocks.specs.TurnsAlike.{IsFront}
+use Rattle.thread_blocks.specs.Turns.{IsFront}
 use Rattle.whole_meaning.specs.Loads.{info_of}
 use Rattle.tied_sites.specs.Instances.{IsCounted}
 

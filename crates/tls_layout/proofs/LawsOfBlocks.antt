@@ -8,7 +8,8 @@ use Rattle.tls_layout.proofs.Rounds.{round_up-above, round_up-multiple, power_bo
 
 -- a module's block lies past those before it
 next_past : (sizes : List TlsSize) (m : ℕ) → tls_offset sizes m + (tls_of sizes m).size ≤ tls_offset sizes (m + 1)
-next_past sizes m = rw (tls_offset-next sizes m) (round_up-above (tls_offset sizes m + (tls_of sizes m).size) (tls_of sizes m).alignment)
+next_past sizes m = rw (tls_offset-next sizes m)
+    (round_up-above (tls_offset sizes m + (tls_of sizes m).size) (tls_of sizes m).alignment)
 
 offsets_rise : (sizes : List TlsSize) (m k : ℕ) → tls_offset sizes m ≤ tls_offset sizes (m + k)
 offsets_rise sizes m zero = let e : m + 0 ≡ m = omega arith in rw e (omega arith)
@@ -19,7 +20,8 @@ offsets_rise sizes m (suc k) =
     rw e (omega arith)
 
 past : (sizes : List TlsSize) (m n : ℕ) → m < n → tls_offset sizes (m + 1) ≤ tls_offset sizes n
-past sizes m n h = let e : m + 1 + (n - (m + 1)) ≡ n = omega arith in rw (← e) (offsets_rise sizes (m + 1) (n - (m + 1)))
+past sizes m n h = let e : m + 1 + (n - (m + 1)) ≡ n = omega arith in
+    rw (← e) (offsets_rise sizes (m + 1) (n - (m + 1)))
 
 -- what one block holds, no later one does
 apart : (sizes : List TlsSize) (m n d : ℕ) → m < n → Holds sizes m d → Holds sizes n d → m ≡ n
@@ -37,11 +39,13 @@ blocks_apart sizes m n d first second = elim (cases_lt m n) [
   ]
 ]
 
-pub below_thread_pointer : (sizes : List TlsSize) (m : ℕ) → All IsTlsSize sizes → m < length sizes → IsBelowThreadPointer sizes m
+pub below_thread_pointer : (sizes : List TlsSize) (m : ℕ) → All IsTlsSize sizes → m < length sizes
+    → IsBelowThreadPointer sizes m
 below_thread_pointer sizes m ordinary l =
     let once = next_past sizes m in
     record {
       below = omega arith;
       aligned = rw (tls_offset-next sizes m)
-          (round_up-multiple (tls_offset sizes m + (tls_of sizes m).size) (tls_of sizes m).alignment (power_bounds (tls_of sizes m).alignment (ordinary m no_tls l).1).0);
+          (round_up-multiple (tls_offset sizes m + (tls_of sizes m).size) (tls_of sizes m).alignment
+          (power_bounds (tls_of sizes m).alignment (ordinary m no_tls l).1).0);
     }

@@ -1,5 +1,6 @@
 -- What a layout holds of objects' sections.
-use Rattle.std.proofs.Common.{◌≡◌, ℕ, ◌+◌, ◌<◌, ◌≤◌, true, false, List, [], length, slice_index, slice_index_or, take, map, Option, Some, None, refl, sym, subst, arith, inl, inr}
+use Rattle.std.proofs.Common.{◌≡◌, ℕ, ◌+◌, ◌<◌, ◌≤◌, true, false, List, [], length, slice_index, slice_index_or, take}
+use Rattle.std.proofs.Common.{map, Option, Some, None, refl, sym, subst, arith, inl, inr}
 use Rattle.std.specs.Prelude.{sum, nat_lt, ◌&&◌}
 use Rattle.std.specs.List.{flat_map}
 use Rattle.std.proofs.lemmas.Bool.{cases_lt}
@@ -13,7 +14,8 @@ use Rattle.elf_object.specs.Lent.{section_class, section_size, section_alignment
 use Rattle.elf_object.specs.Object.{section_count}
 use Rattle.link_faults.specs.declared.image_kind.ImageKind.{ImageKind}
 use Rattle.tls_layout.specs.declared.sections.Section.{Section}
-use Rattle.tls_layout.specs.Sections.{dropped, seen_as, section_of, sections_of, all_sections, section_counts, position, section_at}
+use Rattle.tls_layout.specs.Sections.{dropped, seen_as, section_of, sections_of, all_sections, section_counts, position}
+use Rattle.tls_layout.specs.Sections.{section_at}
 use Rattle.tls_layout.specs.Places.{section_named}
 use Rattle.tls_layout.specs.Laws.{IsSectionOf, FindsSections}
 use Rattle.tls_layout.proofs.Listed.{length-all_sections, length-sections_of}
@@ -23,7 +25,8 @@ seen : (b : List ℕ) (s : ℕ) (section : Section) → section ≡ section_of b
 unfolding section_of
 seen b s section e = subst (IsSectionOf b s) (sym e) (of_class (section_class b s) refl)
   where
-    of_class : (class : Option SectionClass) → section_class b s ≡ class → IsSectionOf b s (seen_as class (section_size b s) (section_alignment b s))
+    of_class : (class : Option SectionClass) → section_class b s ≡ class
+        → IsSectionOf b s (seen_as class (section_size b s) (section_alignment b s))
     of_class None is = record {
       class_is = sym is;
       size_is = rw is (λ h. absurd (cc));
@@ -49,16 +52,19 @@ dropped_past b s past = rw (none_past b s past) refl
 
 -- the section at its place among all
 at_place : (objects : List (List ℕ)) (o s : ℕ) → o < length objects → s < section_count (slice_index_or objects o [])
-    → section_at (all_sections objects) (sum (take o (section_counts objects)) + s) ≡ section_of (slice_index_or objects o []) s
+    → section_at (all_sections objects) (sum (take o (section_counts objects)) + s)
+    ≡ section_of (slice_index_or objects o []) s
 unfolding all_sections section_counts sections_of
 at_place objects o s l h =
     let b = slice_index_or objects o [] in
-    let before : length (flat_map sections_of (take o objects)) ≡ sum (map section_count (take o objects)) = length-all_sections (take o objects) in
+    let before : length (flat_map sections_of (take o objects)) ≡ sum (map section_count (take o objects)) =
+    length-all_sections (take o objects) in
     let inside : s < length (sections_of b) = rw (length-sections_of b) h in
     rw (take-map section_count o objects, ← before, get_or-flat_map sections_of objects o s [] dropped l inside)
     (get_or-map-range_with_len (section_of b) 0 (section_count b) s s dropped h (omega arith))
 
-count_is : (objects : List (List ℕ)) (o : ℕ) → o < length objects → slice_index (section_counts objects) o ≡ section_count (slice_index_or objects o [])
+count_is : (objects : List (List ℕ)) (o : ℕ) → o < length objects
+    → slice_index (section_counts objects) o ≡ section_count (slice_index_or objects o [])
 unfolding section_counts
 count_is objects o l = get_or-map section_count objects o [] 0 l
 

@@ -1,6 +1,8 @@
 -- Rounding up, powers of two, and the offsets of startup modules.
-use Rattle.std.proofs.Common.{◌≡◌, ℕ, ◌+◌, ◌-◌, ◌*◌, ◌/◌, ◌%◌, ◌^◌, ◌<◌, ◌≤◌, List, [], ◌∷◌, ◌++◌, length, slice_index, All, below_more, get_or, refl, sym, ap, ◌∙◌, arith, add-one, inl, inr}
-use Rattle.std.proofs.Math.Nat.{pow-le-pow_right, div-add-mod, mod_self, mod-eq_of_lt, mod-lt, mul-le-mul_left, mul-add-mod_self_left}
+use Rattle.std.proofs.Common.{◌≡◌, ℕ, ◌+◌, ◌-◌, ◌*◌, ◌/◌, ◌%◌, ◌^◌, ◌<◌, ◌≤◌, List, [], ◌∷◌, ◌++◌, length, slice_index}
+use Rattle.std.proofs.Common.{All, below_more, get_or, refl, sym, ap, ◌∙◌, arith, add-one, inl, inr}
+use Rattle.std.proofs.Math.Nat.{pow-le-pow_right, div-add-mod, mod_self, mod-eq_of_lt, mod-lt, mul-le-mul_left}
+use Rattle.std.proofs.Math.Nat.{mul-add-mod_self_left}
 use Rattle.std.proofs.lemmas.Bool.{cases_lt}
 use Rattle.std.proofs.lemmas.Nat.{pow_pos, pow-add}
 use Rattle.std.proofs.lemmas.List.{get_or_default, get_or_append_left, get_or_push}
@@ -60,7 +62,8 @@ pub power_divides : (a : ℕ) → IsAlignment a → (m : ℕ) × (4096 ≡ a * m
 power_divides a power =
     let le = power.1 in
     let whole : power.0 + (12 - power.0) ≡ 12 = omega arith in
-    let e : 2 ^ 12 ≡ 2 ^ power.0 * 2 ^ (12 - power.0) = ap (λ n. 2 ^ n) (sym whole) ∙ pow-add 2 power.0 (12 - power.0) in
+    let e : 2 ^ 12 ≡ 2 ^ power.0 * 2 ^ (12 - power.0) = ap (λ n. 2 ^ n) (sym whole)
+    ∙ pow-add 2 power.0 (12 - power.0) in
     (2 ^ (12 - power.0), rw power.2 e)
 
 -- a power of two is positive, and those of alignments are small
@@ -72,7 +75,8 @@ power_bounds n h =
     (omega arith, omega arith)
 
 -- the next module's offset
-pub tls_offset-next : (sizes : List TlsSize) (m : ℕ) → tls_offset sizes (m + 1) ≡ round_up (tls_offset sizes m + (tls_of sizes m).size) (tls_of sizes m).alignment
+pub tls_offset-next : (sizes : List TlsSize) (m : ℕ)
+    → tls_offset sizes (m + 1) ≡ round_up (tls_offset sizes m + (tls_of sizes m).size) (tls_of sizes m).alignment
 unfolding tls_offset
 tls_offset-next sizes m = rw add-one refl
 
@@ -80,7 +84,8 @@ pub tls_offset-more : (sizes : List TlsSize) (m last r : ℕ) (d : TlsSize) → 
     → r ≡ round_up (last + (get_or sizes m d).size) (get_or sizes m d).alignment → r ≡ tls_offset sizes (m + 1)
 tls_offset-more sizes m last r d l e p = rw (tls_offset-next sizes m, get_or_default sizes m no_tls d l, ← e) p
 
-pub tls_offset_small : (sizes : List TlsSize) (m last r : ℕ) (d : TlsSize) → m < length sizes → All IsTlsSize sizes → last ≤ m * 2 ^ 21
+pub tls_offset_small : (sizes : List TlsSize) (m last r : ℕ) (d : TlsSize) → m < length sizes → All IsTlsSize sizes
+    → last ≤ m * 2 ^ 21
     → r < (last + (get_or sizes m d).size) + (get_or sizes m d).alignment → r ≤ (m + 1) * 2 ^ 21
 tls_offset_small sizes m last r d l ordinary h near =
     let is = ordinary m d l in
@@ -88,7 +93,8 @@ tls_offset_small sizes m last r d l ordinary h near =
     omega (arith, is.0, bounds.1)
 
 -- one more number at the end of a list
-pub numbers_more : (xs : List ℕ) (x i : ℕ) (f : ℕ → ℕ) → length xs ≡ i → ((m : ℕ) → m < i → slice_index xs m ≡ f m) → x ≡ f i
+pub numbers_more : (xs : List ℕ) (x i : ℕ) (f : ℕ → ℕ) → length xs ≡ i → ((m : ℕ) → m < i → slice_index xs m ≡ f m)
+    → x ≡ f i
     → (m : ℕ) → m < i + 1 → slice_index (xs ++ x ∷ []) m ≡ f m
 numbers_more xs x i f e below here =
     below_more _ _ (λ m h. get_or_append_left xs (x ∷ []) 0 m (omega arith) ∙ below m h) (get_or_push xs x 0 i e ∙ here)

@@ -2,11 +2,10 @@
 use Rattle.std.specs.Prelude.{◌≡◌, ◌≢◌, ◌+◌, ◌<◌, ◌≤◌, ◌⊎◌, ℕ, Bool, false, List, [], length, slice_index_or, Some}
 use Rattle.std.specs.Prelude.{IsSome}
 use Rattle.object_faults.specs.declared.class.SectionClass.{SectionClass}
-use Rattle.object_faults.specs.declared.class.SectionClass.TheVariants.{Executable, ReadOnly, Tls, Writable}
+use Rattle.object_faults.specs.declared.class.SectionClass.TheVariants.{Tls}
 use Rattle.elf_object.specs.Lent.{section_class, section_size, section_alignment}
 use Rattle.link_faults.specs.declared.image_kind.ImageKind.{ImageKind}
 use Rattle.link_faults.specs.ImageKinds.{base_of}
-use Rattle.tls_layout.specs.declared.extent.Extent.{Extent}
 use Rattle.tls_layout.specs.declared.sections.Section.{Section}
 use Rattle.tls_layout.specs.declared.statics.TlsSize.{TlsSize}
 use Rattle.tls_layout.specs.Rounding.{IsMultiple}
@@ -14,6 +13,7 @@ use Rattle.tls_layout.specs.Sections.{Layout, layout_of}
 use Rattle.tls_layout.specs.Places.{section_named, class_of, address_of, tls_offset_of, executable, read_only}
 use Rattle.tls_layout.specs.Places.{tls_image, writable, room, initial_tls, tls_size, tls_alignment}
 use Rattle.tls_layout.specs.Statics.{tls_of, tls_offset}
+use Rattle.tls_layout.specs.Places.{extent_for}
 
 -- ---- what a layout knows of objects
 
@@ -30,12 +30,6 @@ FindsSections kind objects =
     → IsSectionOf (slice_index_or objects o []) s (section_named (layout_of kind objects) o s)
 
 -- ---- addresses
-
-abbrev pub extent_for : SectionClass → Layout → Extent
-extent_for Executable p = executable p.kind p.sections
-extent_for ReadOnly p = read_only p.kind p.sections
-extent_for (Tls initial) p = tls_image p.kind p.sections
-extent_for (Writable initial) p = writable p.kind p.sections
 
 -- a section lies at a multiple of its alignment, in its class, at or above the base and below the room
 pub record LiesAt (p : Layout) (class : SectionClass) (section : Section) (address : ℕ) : Type 0 where

@@ -141,3 +141,9 @@ pub record IsLawful (p : Layout) : Type 0 where
   pub ordinary : All IsOrdinary p.sections
   pub small_tls : tls_size p.sections ≤ 2 ^ 20
   pub small_span : span p.kind p.sections ≤ 2 ^ 24
+
+abbrev pub extent_for : SectionClass → Layout → Extent
+extent_for Executable p = executable p.kind p.sections
+extent_for ReadOnly p = read_only p.kind p.sections
+extent_for (Tls initial) p = tls_image p.kind p.sections
+extent_for (Writable initial) p = writable p.kind p.sections

@@ -3,7 +3,7 @@
 ghost use Rattle.std.specs.Prelude.{◌≡◌, ◌+◌, ◌<◌, ◌≤◌, ◌^◌, IfOk, IfErr, Some, None, slice_index_or};
 ghost use Rattle.elf_records.specs.Alignments.{IsAlignment};
 ghost use Rattle.link_faults.specs.ImageKinds.{base_of};
-ghost use Rattle.tls_layout.specs.Laws.{extent_for};
+ghost use Rattle.tls_layout.specs.Places.{extent_for};
 ghost use Rattle.tls_layout.specs.Sections.{layout_of};
 ghost use Rattle.tls_layout.specs.Places.{class_of, address_of, tls_offset_of, executable as executable_of};
 ghost use Rattle.tls_layout.specs.Places.{read_only as read_only_of, tls_image as tls_image_of};

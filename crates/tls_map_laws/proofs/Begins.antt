@@ -1,5 +1,6 @@
 -- A line's first look.
-use Rattle.std.proofs.Common.{◌≡◌, ◌∙◌, ◌+◌, ◌++◌, ℕ, Bool, true, false, List, [], ◌∷◌, length, Option, Some, None, refl, ap}
+use Rattle.std.proofs.Common.{◌≡◌, ◌∙◌, ◌+◌, ◌++◌, ℕ, Bool, true, false, List, [], ◌∷◌, length, Option, Some, None}
+use Rattle.std.proofs.Common.{refl, ap}
 use Rattle.std.specs.Prelude.{if◌then◌else◌, nat_le, slice_range}
 use Rattle.guest_arithmetic.specs.Values.{Operations}
 use Rattle.job_text.specs.declared.thread_lines.Action.{Action}
@@ -13,9 +14,11 @@ use Rattle.module_table.specs.Past.{close_refusal, module_of, open_refusal}
 use Rattle.transcript_text.specs.declared.outcomes.LineRefusal.TheVariants.{Length as TooLong}
 use Rattle.thread_blocks.specs.Held.{Held, block_bytes, loaded, looked, owned_by, reached}
 use Rattle.thread_blocks.specs.Instances.{Loads, instance_at, instances, left_by}
-use Rattle.thread_blocks.specs.Lines.{Line, begin_line, begun_at, begun_by, begun_close, begun_in, begun_open, begun_peek, event_at, event_by, refused, shown_from, shown_in, unless_refused, with_load}
+use Rattle.thread_blocks.specs.Lines.{Line, begin_line, begun_at, begun_by, begun_close, begun_in, begun_open}
+use Rattle.thread_blocks.specs.Lines.{begun_peek, event_at, event_by, refused, shown_from, shown_in, unless_refused}
+use Rattle.thread_blocks.specs.Lines.{with_load}
 use Rattle.thread_blocks.specs.Turns.{Begun, Says, Calls, Ending, with_event, with_last}
-use Rattle.thread_blocks.specs.TurnsAlike.{IsFront}
+use Rattle.thread_blocks.specs.Turns.{IsFront}
 use Rattle.tls_map_laws.specs.Map.{Act}
 use Rattle.tls_map_laws.specs.Told.{begin_acts, with_asked, with_look, with_own}
 use Rattle.tls_map_laws.proofs.Places.{Member}
@@ -40,7 +43,8 @@ module _ {W F B : Type 0} (l : Loads B) (thread : ℕ) (history : List Event) (k
   BegunFits acts (Calls h) = FitsBy acts h
 
   pub looked_fits : (acts : List (Act B)) (seen : List Event) (h : Held W F B) → FitsBy acts h
-      → IsFront h.after.memory.seen seen → IsFront seen history → FitsBy (with_look l seen acts) (looked l thread seen h)
+      → IsFront h.after.memory.seen seen → IsFront seen history
+      → FitsBy (with_look l seen acts) (looked l thread seen h)
   looked_fits acts seen h fits f g =
       look_fits l thread history known acts h.after.memory.seen seen h.owners h.after.memory.own fits f g
 
@@ -49,8 +53,10 @@ module _ {W F B : Type 0} (l : Loads B) (thread : ℕ) (history : List Event) (k
   reached_fits acts x h fits m =
       reach_fits l thread history known acts h.after.memory.seen h.owners h.after.memory.own x fits m
 
-  loaded_fits : (acts : List (Act B)) (x : Instance) (h : Held W F B) → FitsBy acts h → FitsBy acts (loaded l thread x h)
-  loaded_fits acts x h fits = load_fits l thread history known acts h.after.memory.seen h.owners h.after.memory.own x fits
+  loaded_fits : (acts : List (Act B)) (x : Instance) (h : Held W F B) → FitsBy acts h
+      → FitsBy acts (loaded l thread x h)
+  loaded_fits acts x h fits =
+      load_fits l thread history known acts h.after.memory.seen h.owners h.after.memory.own x fits
 
 -- at: the live instance of an image is one of the live instances
 module _ {W F B : Type 0} (ops : Operations W F B) (l : Loads B) (show : List B → Ending) (thread : ℕ)
@@ -123,13 +129,15 @@ module _ {W F B : Type 0} (ops : Operations W F B) (l : Loads B) (show : List B 
       → Begin acts (shown_in ops l show thread h size offset bytes)
   shown_in_fits acts h size offset None fits = fits
   shown_in_fits acts h size offset (Some bytes) fits =
-      either_says acts (nat_le (offset + size) (length bytes)) (Says (show (slice_range bytes offset (offset + size))) h)
+      either_says acts (nat_le (offset + size) (length bytes))
+      (Says (show (slice_range bytes offset (offset + size))) h)
       (refused ops l show thread TooLong h) fits fits
 
   shown_fits : (acts : List (Act B)) (h : Held W F B) (size : ℕ) (x : Instance) (offset : Option ℕ) → Fit acts h
       → Begin acts (shown_from ops l show thread h size x offset)
   shown_fits acts h size x None fits = fits
-  shown_fits acts h size x (Some offset) fits = shown_in_fits acts h size offset (block_bytes x.number (owned_by h)) fits
+  shown_fits acts h size x (Some offset) fits =
+      shown_in_fits acts h size offset (block_bytes x.number (owned_by h)) fits
 
   peek_fits : (acts : List (Act B)) (line : Line) (symbol : List ℕ) (size : ℕ) (h : Held W F B) (x : Option Instance)
       → Fit acts h → ((y : Instance) → x ≡ Some y → Member y (instances l h.after.memory.seen))
@@ -143,7 +151,8 @@ module _ {W F B : Type 0} (ops : Operations W F B) (l : Loads B) (show : List B 
       → let line : Line = record { number = number; told = record { image = image; action = action } } in
       FitsBy l thread history known (with_look l seen acts) (looked l thread seen h)
       → IsFront (with_event seen (event_by l thread line seen)) history
-      → Begin (begin_acts l thread line seen acts) (begun_by ops l show thread line seen (looked l thread seen h) action)
+      → Begin (begin_acts l thread line seen acts)
+      (begun_by ops l show thread line seen (looked l thread seen h) action)
   by_fits acts number image (Call symbol a b c) seen h fits front =
       in_fits (with_look l seen acts) symbol a b c (looked l thread seen h) (instance_at l seen image) fits
   by_fits acts number image Open seen h fits front =

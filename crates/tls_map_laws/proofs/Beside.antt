@@ -6,12 +6,12 @@ use Rattle.guest_arithmetic.specs.Values.{Operations}
 use Rattle.guest_machine.specs.Ranges.{Range, allows, byte_in, grants, holds}
 use Rattle.guest_operands.specs.declared.space.Access.{Access}
 use Rattle.loaded_modules.specs.declared.instance.Instance.{Instance}
-use Rattle.module_table.specs.History.{IsLegal}
-use Rattle.module_table.specs.Laws.{startup_end}
+use Rattle.module_table.specs.Past.{IsLegal}
+use Rattle.module_table.specs.Modules.{startup_end}
 use Rattle.module_table.specs.declared.events.Event.{Event}
 use Rattle.thread_blocks.specs.Instances.{Loads, block_start, fixed_at, instances}
 use Rattle.thread_blocks.specs.MachineTurns.{pointer_word}
-use Rattle.thread_blocks.specs.TurnsAlike.{IsFront}
+use Rattle.thread_blocks.specs.Turns.{IsFront}
 use Rattle.shared_data.specs.Places.{LiesLow}
 use Rattle.tls_map_laws.proofs.Live.{BlocksAreLong, is_live, place_low, start_high}
 use Rattle.tls_map_laws.proofs.Never.{front_legal}
@@ -30,12 +30,14 @@ module _ {B : Type 0} (how : Access) (place : ℕ) where
       out (leb-true r.start place both.0) (ltb-true (place - r.start) (length r.bytes) both.1))
 
 module _ {W F B : Type 0} (ops : Operations W F B) (l : Loads B) (history : List Event)
-    (legal : IsLegal l.infos l.last_offset history) (last : l.last_offset ≡ startup_end l.infos 0) (long : BlocksAreLong l)
+    (legal : IsLegal l.infos l.last_offset history) (last : l.last_offset ≡ startup_end l.infos 0)
+    (long : BlocksAreLong l)
     (thread : ℕ) (some : 1 ≤ thread) where
   pub blocks_high : (seen : List Event) → IsFront seen history → (x : Instance) → Member x (instances l seen)
       → 2 ^ 40 ≤ block_start thread x
   blocks_high seen front x member =
-      let high = start_high l history legal last long thread seen x (is_live l history legal last long seen front x member) in
+      let high = start_high l history legal last long thread seen x
+      (is_live l history legal last long seen front x member) in
       omega (arith, high, some)
 
   -- the law: a block is not where code, constants or the pointer word are

@@ -1,5 +1,6 @@
 -- The blocks that the map gives a thread, in the order of live instances, and what a store does with them.
-use Rattle.std.proofs.Common.{◌≡◌, ◌∙◌, ◌-◌, ◌++◌, ◌&&◌, ◌<◌, ◌^◌, ℕ, Bool, true, false, List, [], ◌∷◌, length, refl, sym, ap, subst, inl, inr}
+use Rattle.std.proofs.Common.{◌≡◌, ◌∙◌, ◌-◌, ◌++◌, ◌&&◌, ◌<◌, ◌^◌, ℕ, Bool, true, false, List, [], ◌∷◌, length, refl}
+use Rattle.std.proofs.Common.{sym, ap, subst, inl, inr}
 use Rattle.std.specs.Prelude.{slice_set, if◌then◌else◌, nat_le, nat_lt}
 use Rattle.std.proofs.lemmas.Bool.{cases_Bool, eq-eqb, ne_eqb}
 use Rattle.guest_operands.specs.declared.space.Access.TheVariants.{Write}
@@ -99,12 +100,14 @@ module _ {B : Type 0} (l : Loads B) (thread : ℕ) where
   entry_written y n k byte acts ne = let no = ne_eqb n y.number ne in rw no refl
 
   entry_stored : (y : Instance) (ys : List Instance) (place : ℕ) (byte : B) (acts : List (Act B))
-      → Each (λ (z : Instance). z.number ≡ y.number → ⊥) ys → entry (stored_in l thread ys place byte acts) y ≡ entry acts y
+      → Each (λ (z : Instance). z.number ≡ y.number → ⊥) ys
+      → entry (stored_in l thread ys place byte acts) y ≡ entry acts y
   entry_stored y [] place byte acts other = refl
-  entry_stored y (z ∷ ys) place byte acts other = elim (cases_Bool (has_storage z.number acts && is_in l thread z place)) [
-    | inl t ↦ rw t (entry_written y z.number (place - block_start thread z) byte acts other.0)
-    | inr f ↦ rw f (entry_stored y ys place byte acts other.1)
-  ]
+  entry_stored y (z ∷ ys) place byte acts other =
+      elim (cases_Bool (has_storage z.number acts && is_in l thread z place)) [
+        | inl t ↦ rw t (entry_written y z.number (place - block_start thread z) byte acts other.0)
+        | inr f ↦ rw f (entry_stored y ys place byte acts other.1)
+      ]
 
   blocks_written : (ys : List Instance) (n k : ℕ) (byte : B) (acts : List (Act B))
       → Each (λ (z : Instance). z.number ≡ n → ⊥) ys → blocks (Wrote n k byte ∷ acts) ys ≡ blocks acts ys
@@ -120,13 +123,15 @@ module _ {B : Type 0} (l : Loads B) (thread : ℕ) where
   rest_of (y ∷ ys) acts rest place byte =
       if has_storage y.number acts && is_in l thread y place then rest else rest_of ys acts rest place byte
 
-  pub rest_data : (ys : List Instance) (acts : List (Act B)) (rest : List (Owned B)) (place : ℕ) (byte : B) → AreData rest
+  pub rest_data : (ys : List Instance) (acts : List (Act B)) (rest : List (Owned B)) (place : ℕ) (byte : B)
+      → AreData rest
       → AreData (rest_of ys acts rest place byte)
   rest_data [] acts rest place byte are = put_data rest place byte are
-  rest_data (y ∷ ys) acts rest place byte are = elim (cases_Bool (has_storage y.number acts && is_in l thread y place)) [
-    | inl t ↦ rw t are
-    | inr f ↦ rw f (rest_data ys acts rest place byte are)
-  ]
+  rest_data (y ∷ ys) acts rest place byte are =
+      elim (cases_Bool (has_storage y.number acts && is_in l thread y place)) [
+        | inl t ↦ rw t are
+        | inr f ↦ rw f (rest_data ys acts rest place byte are)
+      ]
 
   grants_is : (y : Instance) (acts : List (Act B)) (place : ℕ)
       → grants Write (block_range thread y (bytes_after y.number (l.block y) acts)) place ≡ is_in l thread y place
@@ -135,7 +140,8 @@ module _ {B : Type 0} (l : Loads B) (thread : ℕ) where
       (bytes_long y.number (l.block y) acts)
 
   -- the law: a store does with the blocks what its act does with the map
-  pub stored_put : (ys : List Instance) (acts : List (Act B)) (rest : List (Owned B)) (place : ℕ) (byte : B) → Distinct ys
+  pub stored_put : (ys : List Instance) (acts : List (Act B)) (rest : List (Owned B)) (place : ℕ) (byte : B)
+      → Distinct ys
       → put_owned (blocks acts ys ++ rest) place byte
       ≡ blocks (stored_in l thread ys place byte acts) ys ++ rest_of ys acts rest place byte
   stored_put [] acts rest place byte own = refl
@@ -152,7 +158,8 @@ module _ {B : Type 0} (l : Loads B) (thread : ℕ) where
             let kept : rest_of (y ∷ ys) acts rest place byte ≡ rest_of ys acts rest place byte = rw f refl in
             ap (λ (e : List (Owned B)). put_owned ((e ++ blocks acts ys) ++ rest) place byte) none
             ∙ (more
-            ∙ (ap (λ (e : List (Owned B)). (e ++ blocks after ys) ++ rest_of ys acts rest place byte) (sym (here ∙ none))
+            ∙ (ap (λ (e : List (Owned B)). (e ++ blocks after ys) ++ rest_of ys acts rest place byte)
+            (sym (here ∙ none))
             ∙ (ap (λ (a : List (Act B)). blocks a (y ∷ ys) ++ rest_of ys acts rest place byte) (sym stored)
             ∙ ap (λ (r : List (Owned B)). blocks after_all (y ∷ ys) ++ r) (sym kept))))
         | inl t ↦ elim (cases_Bool (is_in l thread y place)) [

@@ -1,5 +1,7 @@
 -- Fresh blocks of any images, and initial images of linked ones.
-use Rattle.std.proofs.Common.{◌≡◌, ◌+◌, ◌-◌, ◌≤◌, ◌==◌, ℕ, zero, suc, Bool, true, false, List, [], ◌∷◌, length, map, replicate, take, drop, Option, Some, None, refl, subst, arith, length-append, if◌then◌else◌}
+use Rattle.std.proofs.Common.{◌≡◌, ◌+◌, ◌-◌, ◌≤◌, ◌==◌, ℕ, zero, suc, Bool, true, false, List, [], ◌∷◌, length, map}
+use Rattle.std.proofs.Common.{replicate, take, drop, Option, Some, None, refl, subst, arith, length-append}
+use Rattle.std.proofs.Common.{if◌then◌else◌}
 use Rattle.std.specs.Prelude.{All, IfSome}
 use Rattle.std.specs.List.{find}
 use Rattle.std.proofs.lemmas.List.{length-replicate}
@@ -89,7 +91,8 @@ all_fit : (ls : List Linking) → All Links ls
     → All (λ (image : Spelled). IfSome image.tls (λ (tls : TlsPart). tls.initial ≤ tls.size)) (map image_of ls)
 all_fit [] links = All-nil (λ (image : Spelled). IfSome image.tls (λ (tls : TlsPart). tls.initial ≤ tls.size))
 all_fit (l ∷ ls) links =
-    All-cons (λ (image : Spelled). IfSome image.tls (λ (tls : TlsPart). tls.initial ≤ tls.size)) (image_of l) (map image_of ls)
+    All-cons (λ (image : Spelled). IfSome image.tls (λ (tls : TlsPart). tls.initial ≤ tls.size)) (image_of l)
+    (map image_of ls)
     (linked_fits l (All-head Links l ls links)) (all_fit ls (All-tail Links l ls links))
 
 -- the law

@@ -1,5 +1,6 @@
 -- What a thread holds is the map's at all times, where it is known of its instances what the map needs.
-use Rattle.std.proofs.Common.{◌≡◌, ◌∙◌, ◌+◌, ◌++◌, ◌==◌, ◌≤◌, ℕ, zero, suc, true, List, [], ◌∷◌, Option, Some, None, refl, sym, ap, subst, arith, append-nil}
+use Rattle.std.proofs.Common.{◌≡◌, ◌∙◌, ◌+◌, ◌++◌, ◌==◌, ◌≤◌, ℕ, zero, suc, true, List, [], ◌∷◌, Option, Some, None}
+use Rattle.std.proofs.Common.{refl, sym, ap, subst, arith, append-nil}
 use Rattle.std.specs.Prelude.{slice_get}
 use Rattle.address_map.specs.Map.{stack_start}
 use Rattle.guest_arithmetic.specs.Values.{Operations}
@@ -11,18 +12,19 @@ use Rattle.lawful_points.specs.Orders.{looks_of}
 use Rattle.lawful_points.specs.Points.{Follows}
 use Rattle.loaded_modules.specs.declared.instance.Instance.{Instance}
 use Rattle.module_table.specs.declared.events.Event.{Event}
-use Rattle.module_table.specs.History.{IsLegal}
+use Rattle.module_table.specs.Past.{IsLegal}
 use Rattle.std.specs.List.{flat_map}
 use Rattle.shared_data.proofs.Legal.{legal_turn}
 use Rattle.thread_blocks.specs.Held.{Held, data_after}
 use Rattle.thread_blocks.specs.Instances.{Loads, fixed_at, instances}
-use Rattle.thread_blocks.specs.JobWorlds.{Shared, held_in, job_start, numbered_lines, ready_from, shared_order, shared_turn, thread_ready, with_data}
+use Rattle.thread_blocks.specs.JobWorlds.{Shared, held_in, job_start, numbered_lines, ready_from, shared_order}
+use Rattle.thread_blocks.specs.JobWorlds.{shared_turn, thread_ready, with_data}
 use Rattle.thread_blocks.specs.Lines.{Line, event_by}
 use Rattle.thread_blocks.specs.MachineTurns.{pointer_word}
 use Rattle.thread_blocks.specs.RunTime.{Runs, thread_turns}
 use Rattle.thread_blocks.specs.Spaces.{Space, space_accesses}
 use Rattle.thread_blocks.specs.Turns.{Ending, Thread, Turns, at_number, event_of, ready, turn, with_event}
-use Rattle.thread_blocks.specs.TurnsAlike.{IsFront}
+use Rattle.thread_blocks.specs.Turns.{IsFront}
 use Rattle.whole_meaning.specs.Meanings.{Meaning}
 use Rattle.whole_meaning.specs.Threads.{Meant, meant_turns, ops as marked_ops}
 use Rattle.tls_map_laws.specs.Always.{OrdersHaveMap, PeeksShow}
@@ -74,10 +76,14 @@ module _ {S : Type 0} (x : Turns S Line Event) (event : Line → List Event → 
   fewer_fronts [] more t fronts = tt
   fewer_fronts (seen ∷ points) more t fronts = (fronts.0, fewer_fronts points more (turn x t seen) fronts.1)
 
-  pub fewer_rise : (points more : List (List Event)) (t : Thread S Line Event) → AtRising x event history t (points ++ more)
+  pub fewer_rise : (points more : List (List Event)) (t : Thread S Line Event)
+      → AtRising x event history t (points ++ more)
       → AtRising x event history t points
   fewer_rise points more t rising =
-      record { follows = fewer_follow points more t [] rising.follows; fronts = fewer_fronts points more t rising.fronts }
+      record {
+        follows = fewer_follow points more t [] rising.follows;
+        fronts = fewer_fronts points more t rising.fronts;
+      }
 
 pub last_then : {X : Type 0} (xs : List X) (y : X) (ys : List X) → (xs ++ y ∷ []) ++ ys ≡ xs ++ y ∷ ys
 last_then [] y ys = refl
@@ -116,7 +122,8 @@ module _ {W F B : Type 0} (l : Loads B) (x : ℕ → Turns (Held W F B) Line Eve
       → IsLegal l.infos l.last_offset (shared_order x event order w).events
   legal_order [] w legal = legal
   legal_order (i ∷ order) w legal =
-      legal_order order (shared_turn x event w i (at_number w.threads i)) (legal_turned w i (at_number w.threads i) legal)
+      legal_order order (shared_turn x event w i (at_number w.threads i))
+      (legal_turned w i (at_number w.threads i) legal)
 
   some_thread : {X : Type 0} (xs : List X) (thread : ℕ) (t : X) → at_number xs thread ≡ Some t → 1 ≤ thread
   some_thread xs zero t at = cc
@@ -144,7 +151,8 @@ module _ {W F B : Type 0} (l : Loads B) (x : ℕ → Turns (Held W F B) Line Eve
             thread t at (itself later) from n begun);
         peeks =
             let to = front_of now (event_of (event thread) t now) later (itself later) in
-            let stands = thread_stands l x step_acts asks keeps later (known later legal') _ w (all later legal' to) thread t
+            let stands = thread_stands l x step_acts asks keeps later (known later legal') _ w
+            (all later legal' to) thread t
             at (itself later) in
             shows later legal' thread some _ (with_data w.shared t) now stands.0 stands.1 to;
       }
@@ -157,7 +165,8 @@ module _ {B : Type 0} (l : Loads B) (thread : ℕ) (history : List Event) (known
       (lows l thread history known [] (history, refl)) tt
 
 machine_ready : (l : Loads ℕ) (first : ℕ) (lines : List (List ThreadLine)) (i : ℕ) (t : Thread Runs Line Event)
-    → slice_get (ready_from plain_operations l first lines) i ≡ Some t → thread_ready plain_operations l (first + i) ≡ held_in t.phase
+    → slice_get (ready_from plain_operations l first lines) i ≡ Some t
+    → thread_ready plain_operations l (first + i) ≡ held_in t.phase
 machine_ready l first [] i t e = cc
 machine_ready l first (own ∷ lines) zero t e =
     let same : ready (thread_ready plain_operations l first) (numbered_lines 1 own) ≡ t = (let s = e in cc) in
@@ -168,12 +177,14 @@ machine_ready l first (own ∷ lines) (suc i) t e =
     ap (λ (n : ℕ). thread_ready plain_operations l n) number ∙ machine_ready l (suc first) lines i t e
 
 meaning_ready : (m : Meaning) (first : ℕ) (lines : List (List ThreadLine)) (i : ℕ) (t : Thread Meant Line Event)
-    → slice_get (ready_from marked_ops m.loads first lines) i ≡ Some t → thread_ready marked_ops m.loads (first + i) ≡ held_in t.phase
+    → slice_get (ready_from marked_ops m.loads first lines) i ≡ Some t
+    → thread_ready marked_ops m.loads (first + i) ≡ held_in t.phase
 meaning_ready m first [] i t e = cc
 meaning_ready m first (own ∷ lines) zero t e =
     let same : ready (thread_ready marked_ops m.loads first) (numbered_lines 1 own) ≡ t = (let s = e in cc) in
     let number : first + 0 ≡ first = omega arith in
-    ap (λ (n : ℕ). thread_ready marked_ops m.loads n) number ∙ ap (λ (u : Thread Meant Line Event). held_in u.phase) same
+    ap (λ (n : ℕ). thread_ready marked_ops m.loads n) number
+    ∙ ap (λ (u : Thread Meant Line Event). held_in u.phase) same
 meaning_ready m first (own ∷ lines) (suc i) t e =
     let number : first + suc i ≡ suc first + i = omega arith in
     ap (λ (n : ℕ). thread_ready marked_ops m.loads n) number ∙ meaning_ready m (suc first) lines i t e

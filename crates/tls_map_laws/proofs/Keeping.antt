@@ -1,14 +1,16 @@
 -- What a thread holds is what the map says: stores, looks and reaches keep it so, at rising fronts of a history.
-use Rattle.std.proofs.Common.{◌≡◌, ◌∙◌, ◌⊎◌, ◌++◌, ◌==◌, ◌&&◌, ℕ, Bool, true, false, List, [], ◌∷◌, refl, sym, ap, subst, inl, inr}
+use Rattle.std.proofs.Common.{◌≡◌, ◌∙◌, ◌⊎◌, ◌++◌, ◌==◌, ◌&&◌, ℕ, Bool, true, false, List, [], ◌∷◌, refl, sym, ap}
+use Rattle.std.proofs.Common.{subst, inl, inr}
 use Rattle.std.specs.Prelude.{◌||◌, IfSome, is_some}
 use Rattle.std.specs.List.{filter, flat_map}
 use Rattle.std.proofs.lemmas.Bool.{cases_Bool, eq-eqb, eqb-true, ne_eqb, and_parts}
 use Rattle.guest_machine.specs.Ranges.{Range, with_byte}
 use Rattle.loaded_modules.specs.declared.instance.Instance.{Instance}
 use Rattle.module_table.specs.declared.events.Event.{Event}
-use Rattle.thread_blocks.specs.Held.{Owned, Owner, held_of, loaded_at, looked_at, owned, owners_of, ranges_in, reached_at}
+use Rattle.thread_blocks.specs.Held.{Owned, Owner, held_of, loaded_at, looked_at, owned, owners_of, ranges_in}
+use Rattle.thread_blocks.specs.Held.{reached_at}
 use Rattle.thread_blocks.specs.Instances.{Loads, instances}
-use Rattle.thread_blocks.specs.TurnsAlike.{IsFront}
+use Rattle.thread_blocks.specs.Turns.{IsFront}
 use Rattle.tls_map_laws.specs.Map.{Act, Asked, has_storage, is_among}
 use Rattle.tls_map_laws.specs.Acts.{is_in, look_of, numbers, stored_in}
 use Rattle.tls_map_laws.proofs.Bytes.{bytes_after}
@@ -51,7 +53,8 @@ among_of n (y ∷ ys) e = elim (cases_Bool (y.number == n)) [
 ]
 
 -- of instances with numbers of their own
-at_once_is : (x : Instance) (ys : List Instance) → Member x ys → ((y : Instance) → Member y ys → y.number ≡ x.number → y ≡ x)
+at_once_is : (x : Instance) (ys : List Instance) → Member x ys
+    → ((y : Instance) → Member y ys → y.number ≡ x.number → y ≡ x)
     → is_among x.number (numbers (filter (λ (y : Instance). is_some y.offset) ys)) ≡ is_some x.offset
 at_once_is x ys m one = elim (cases_Bool (is_some x.offset)) [
   | inl t ↦ yes_in ys m t ∙ sym t
@@ -72,7 +75,8 @@ at_once_is x ys m one = elim (cases_Bool (is_some x.offset)) [
           | inr n ↦ rw n rest
         ]
 
-    none_in : (ys : List Instance) → ((y : Instance) → Member y ys → y.number ≡ x.number → y ≡ x) → is_some x.offset ≡ false
+    none_in : (ys : List Instance) → ((y : Instance) → Member y ys → y.number ≡ x.number → y ≡ x)
+        → is_some x.offset ≡ false
         → is_among x.number (numbers (filter (λ (y : Instance). is_some y.offset) ys)) ≡ false
     none_in [] one f = refl
     none_in (y ∷ ys) one f =
@@ -126,7 +130,8 @@ module _ {B : Type 0} (l : Loads B) (thread : ℕ) (history : List Event) (known
         | inr f ↦ rw f (stored_bytes y ys place byte acts none)
       ]
 
-  pub stored_fits : (acts : List (Act B)) (seen : List Event) (os : List Owner) (rs : List (Range B)) (place : ℕ) (byte : B)
+  pub stored_fits : (acts : List (Act B)) (seen : List Event) (os : List Owner) (rs : List (Range B)) (place : ℕ)
+      (byte : B)
       → Fits acts seen os rs
       → Fits (stored_in l thread (instances l seen) place byte acts) seen os (with_byte rs place byte)
   stored_fits acts seen os rs place byte fits =
@@ -150,14 +155,16 @@ module _ {B : Type 0} (l : Loads B) (thread : ℕ) (history : List Event) (known
   -- ** looks
 
   -- what was held, as owners and ranges
-  pub held_is : (acts : List (Act B)) (seen : List Event) (os : List Owner) (rs : List (Range B)) (fits : Fits acts seen os rs)
+  pub held_is : (acts : List (Act B)) (seen : List Event) (os : List Owner) (rs : List (Range B))
+      (fits : Fits acts seen os rs)
       → owned os rs ≡ blocks l thread acts (instances l seen) ++ fits.rest
   held_is acts seen os rs fits =
       ap (λ os. owned os rs) fits.owners
       ∙ (ap (λ rs. owned (owners_of (blocks l thread acts (instances l seen) ++ fits.rest)) rs) fits.ranges
       ∙ owned_again (blocks l thread acts (instances l seen) ++ fits.rest))
 
-  pub lows : (seen : List Event) → IsFront seen history → Each (λ (y : Instance). IfSome (l.shared y) IsLow) (instances l seen)
+  pub lows : (seen : List Event) → IsFront seen history
+      → Each (λ (y : Instance). IfSome (l.shared y) IsLow) (instances l seen)
   lows seen g = each_of (λ y. IfSome (l.shared y) IsLow) (instances l seen) (λ y m. known.low seen g y m)
 
   one_of : (acts : List (Act B)) (old seen : List Event) (os : List Owner) (rs : List (Range B)) → Fits acts old os rs
@@ -169,7 +176,8 @@ module _ {B : Type 0} (l : Loads B) (thread : ℕ) (history : List Event) (known
       subst (λ (z : Instance). Member z (instances l old)) same held.member
 
   -- the law: a look
-  pub look_fits : (acts : List (Act B)) (old seen : List Event) (os : List Owner) (rs : List (Range B)) → Fits acts old os rs
+  pub look_fits : (acts : List (Act B)) (old seen : List Event) (os : List Owner) (rs : List (Range B))
+      → Fits acts old os rs
       → IsFront old seen → IsFront seen history
       → let xs = looked_at l thread seen (owned os rs) in
       Fits (look_of (instances l seen) ∷ acts) seen (owners_of xs) (ranges_in xs)
@@ -253,7 +261,8 @@ module _ {B : Type 0} (l : Loads B) (thread : ℕ) (history : List Event) (known
       let good = again_good acts after seen os rs (λ y. y.number == x.number) fits (λ y. refl) (λ y. refl) in
       let made = ap (λ xs. held_of l thread (λ y. y.number == x.number) (λ y. false) now xs)
       (held_is acts seen os rs fits)
-      ∙ held_blocks l thread (λ y. y.number == x.number) (λ y. false) now now acts after fits.rest fits.data_behind good in
+      ∙ held_blocks l thread (λ y. y.number == x.number)
+      (λ y. false) now now acts after fits.rest fits.data_behind good in
       record {
         rest = flat_map _ now;
         data_behind = made_data l thread (λ y. false) acts now fits.rest now fits.data_behind (lows seen fits.front);
@@ -275,10 +284,12 @@ module _ {B : Type 0} (l : Loads B) (thread : ℕ) (history : List Event) (known
   unfolding loaded_at
   load_fits acts seen os rs x fits =
       let now = instances l seen in
-      let good = again_good acts acts seen os rs (λ y. false) fits (λ y. or_false (has_storage y.number acts)) (λ y. refl) in
+      let good = again_good acts acts seen os rs (λ y. false) fits (λ y. or_false (has_storage y.number acts))
+      (λ y. refl) in
       let made = ap (λ xs. held_of l thread (λ y. false) (λ y. y.number == x.number) now xs)
       (held_is acts seen os rs fits)
-      ∙ held_blocks l thread (λ y. false) (λ y. y.number == x.number) now now acts acts fits.rest fits.data_behind good in
+      ∙ held_blocks l thread (λ y. false)
+      (λ y. y.number == x.number) now now acts acts fits.rest fits.data_behind good in
       record {
         rest = flat_map _ now;
         data_behind = made_data l thread (λ y. y.number == x.number) acts now fits.rest now fits.data_behind

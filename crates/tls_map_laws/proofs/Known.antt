@@ -1,5 +1,6 @@
 -- What is known of the instances in a history: all that the laws of the map need.
-use Rattle.std.proofs.Common.{◌≡◌, ◌∙◌, ◌⊎◌, ◌+◌, ◌++◌, ◌<◌, ◌≤◌, ◌^◌, ℕ, true, false, List, [], ◌∷◌, length, None, Some, refl, ap}
+use Rattle.std.proofs.Common.{◌≡◌, ◌∙◌, ◌⊎◌, ◌+◌, ◌++◌, ◌<◌, ◌≤◌, ◌^◌, ℕ, true, false, List, [], ◌∷◌, length, None}
+use Rattle.std.proofs.Common.{Some, refl, ap}
 use Rattle.std.specs.Prelude.{IfSome, slice_get, unwrap_or}
 use Rattle.address_map.specs.Map.{stack_start}
 use Rattle.guest_machine.specs.Ranges.{Range, byte_in}
@@ -7,7 +8,7 @@ use Rattle.guest_operands.specs.declared.space.Access.{Access}
 use Rattle.loaded_modules.specs.declared.instance.Instance.{Instance}
 use Rattle.module_table.specs.declared.events.Event.{Event}
 use Rattle.thread_blocks.specs.Instances.{Loads, block_start, instance_at, instances}
-use Rattle.thread_blocks.specs.TurnsAlike.{IsFront}
+use Rattle.thread_blocks.specs.Turns.{IsFront}
 use Rattle.tls_map_laws.specs.Acts.{is_in}
 use Rattle.tls_map_laws.proofs.Entries.{Distinct}
 use Rattle.tls_map_laws.proofs.Places.{Member}

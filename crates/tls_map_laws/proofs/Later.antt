@@ -1,5 +1,6 @@
 -- What the static surplus gives to a later instance lies past all that it gave before, whoever was closed meanwhile.
-use Rattle.std.proofs.Common.{◌≡◌, ◌∙◌, ◌⊎◌, ◌+◌, ◌-◌, ◌<◌, ◌≤◌, ◌^◌, ◌++◌, ℕ, zero, suc, true, List, [], ◌∷◌, get_or, Some, None, refl, sym, ap, subst, inl, inr, arith}
+use Rattle.std.proofs.Common.{◌≡◌, ◌∙◌, ◌⊎◌, ◌+◌, ◌-◌, ◌<◌, ◌≤◌, ◌^◌, ◌++◌, ℕ, zero, suc, true, List, [], ◌∷◌, get_or}
+use Rattle.std.proofs.Common.{Some, None, refl, sym, ap, subst, inl, inr, arith}
 use Rattle.std.specs.Prelude.{unwrap_or}
 use Rattle.std.proofs.lemmas.Bool.{and_parts, cases_Bool, cases_eq, lt-ltb}
 use Rattle.std.proofs.lemmas.List.{get_or-set_other, get_or-set_same}
@@ -9,10 +10,11 @@ use Rattle.module_table.proofs.Along.{IsKept, kept_along}
 use Rattle.module_table.proofs.LawsOfBlocks.{instances_apart, rounds_up}
 use Rattle.module_table.proofs.Starting.{past_start}
 use Rattle.module_table.proofs.Steps.{late_within, loaded_within, past_loaded, past_released, past_retained}
-use Rattle.module_table.specs.History.{IsLegal}
+use Rattle.module_table.specs.Past.{IsLegal}
 use Rattle.module_table.specs.Laws.{AreApart, Block, block_of}
 use Rattle.module_table.specs.Modules.{AreInfos, is_loaded, no_module}
-use Rattle.module_table.specs.Past.{Past, after, first_module, first_modules, is_legal, loaded, module_of, new_instance, next_offset, past, released, retained, start, with_uses}
+use Rattle.module_table.specs.Past.{Past, after, first_module, first_modules, is_legal, loaded, module_of, new_instance}
+use Rattle.module_table.specs.Past.{next_offset, past, released, retained, start, with_uses}
 use Rattle.module_table.specs.Tables.{CanLoad, IsPast}
 use Rattle.module_table.specs.Walks.{is_legal-append, past-append}
 use Rattle.module_table.specs.declared.events.Event.{Event}
@@ -37,7 +39,8 @@ apart_same n given x new old same (inl e) = inl (same.instance ∙ e)
 apart_same n given x new old same (inr apart) =
     inr (subst (λ (i : ImageInfo). AreApart given (record { offset = x; size = i.size })) (sym same.info) apart)
 
-given_with_uses : (n : ℕ) (given : Block) (p : Past) (image uses : ℕ) → IsPast (with_uses p image uses) → IsGiven n given p
+given_with_uses : (n : ℕ) (given : Block) (p : Past) (image uses : ℕ) → IsPast (with_uses p image uses)
+    → IsGiven n given p
     → is_loaded (module_of p image) ≡ true → IsGiven n given (with_uses p image uses)
 given_with_uses n given p image uses is g held = record {
   is = is;
@@ -72,7 +75,8 @@ taken_reaches : (p : Past) (m : Module) (x : ℕ) → (new_instance p m).offset 
 taken_reaches p m x e = rw e (omega arith)
 
 -- a new block lies past all that was taken
-new_apart : (given : Block) (p : Past) (m : Module) (x : ℕ) → given.offset ≤ p.taken → (new_instance p m).offset ≡ Some x
+new_apart : (given : Block) (p : Past) (m : Module) (x : ℕ) → given.offset ≤ p.taken
+    → (new_instance p m).offset ≡ Some x
     → AreApart given (block_of (new_instance p m) x)
 new_apart given p m x low e distance first second =
     let at = offset_is p m x e in
@@ -135,7 +139,8 @@ nowhere [] image k = refl
 nowhere (info ∷ infos) image zero = first_nowhere info image
 nowhere (info ∷ infos) image (suc k) = nowhere infos (image + 1) k
 
-start_nowhere : (infos : List ImageInfo) (k : ℕ) → (get_or (no_module ∷ first_modules infos 1) k no_module).offset ≡ None
+start_nowhere : (infos : List ImageInfo) (k : ℕ)
+    → (get_or (no_module ∷ first_modules infos 1) k no_module).offset ≡ None
 start_nowhere infos zero = refl
 start_nowhere infos (suc k) = nowhere infos 1 k
 
@@ -143,7 +148,8 @@ start_nowhere infos (suc k) = nowhere infos 1 k
 abbrev nothing : Block
 nothing = record { offset = 0; size = 0 }
 
-given_start : (infos : List ImageInfo) (last : ℕ) → AreInfos infos → last < 2 ^ 27 → IsGiven 0 nothing (start infos last)
+given_start : (infos : List ImageInfo) (last : ℕ) → AreInfos infos → last < 2 ^ 27
+    → IsGiven 0 nothing (start infos last)
 unfolding start
 given_start infos last are low = record {
   is = past_start infos last are low;

@@ -1,7 +1,8 @@
 -- A thread by itself: from its first look on it has what the map says, at all rising points.
 use Rattle.std.proofs.Common.{◌≡◌, ℕ, List, [], ◌∷◌, Option, Some, None, refl}
 use Rattle.guest_arithmetic.specs.Plain.{plain_operations}
-use Rattle.guest_machine.specs.Run.{run, state_after}
+use Rattle.guest_machine.specs.Run.{run}
+use Rattle.guest_machine.specs.RunLaws.{state_after}
 use Rattle.guest_machine.specs.State.{start_of}
 use Rattle.guest_machine.specs.Use.{left}
 use Rattle.loaded_modules.specs.declared.instance.Instance.{Instance}
@@ -12,7 +13,7 @@ use Rattle.thread_blocks.specs.Instances.{Loads, instances}
 use Rattle.thread_blocks.specs.JobWorlds.{held_in, thread_ready}
 use Rattle.thread_blocks.specs.Lines.{Line, event_by}
 use Rattle.thread_blocks.specs.Turns.{Turns, ready, turns, with_last}
-use Rattle.thread_blocks.specs.TurnsAlike.{IsFront}
+use Rattle.thread_blocks.specs.Turns.{IsFront}
 use Rattle.whole_meaning.specs.Meanings.{Meaning}
 use Rattle.whole_meaning.specs.Threads.{ops}
 use Rattle.tls_map_laws.specs.Map.{Act}
@@ -46,7 +47,8 @@ pub machine_first : (l : Loads ℕ) (thread : ℕ) (history : List Event) (known
 machine_first l thread history known =
     looked_fits l thread history known [] []
     (record {
-      after = left (start_of plain_operations 0 0 (plain_operations.word 0) (plain_operations.word 0) (plain_operations.word 0)) (record { seen = []; stack = []; own = [] });
+      after = left (start_of plain_operations 0 0 (plain_operations.word 0) (plain_operations.word 0)
+          (plain_operations.word 0)) (record { seen = []; stack = []; own = [] });
       owners = [];
       asked = None;
     })
@@ -57,7 +59,8 @@ pub meant_first : (m : Meaning) (thread : ℕ) (history : List Event) (known : K
 meant_first m thread history known =
     looked_fits m.loads thread history known [] []
     (record {
-      after = left (start_of ops 0 0 (ops.word 0) (ops.word 0) (ops.word 0)) (record { seen = []; stack = []; own = [] });
+      after = left (start_of ops 0 0 (ops.word 0) (ops.word 0) (ops.word 0))
+          (record { seen = []; stack = []; own = [] });
       owners = [];
       asked = None;
     })
@@ -85,7 +88,8 @@ module _ {W F B : Type 0} (l : Loads B) (thread : ℕ) (x : Turns (Held W F B) L
       → Stands l thread x step_acts asks keeps history known
       (turns_acts l thread x step_acts asks (ready h lines) points (first_acts l)) (turns x (ready h lines) points) seen
   alone_stands points seen rising =
-      rising_stands l thread x step_acts asks keeps history known points seen (ready h lines) (first_acts l) [] first none
+      rising_stands l thread x step_acts asks keeps history known points seen (ready h lines) (first_acts l)
+      [] first none
       rising.follows rising.fronts
 
   -- and after any steps of one
@@ -101,5 +105,6 @@ module _ {W F B : Type 0} (l : Loads B) (thread : ℕ) (x : Turns (Held W F B) L
       let t = turns x (ready h lines) points in
       let did = turns_acts l thread x step_acts asks (ready h lines) points (first_acts l) in
       let stands = alone_stands points seen rising in
-      within_fits l thread history known x step_acts asks (keeps history known) did t seen from n stands.fits stands.front
+      within_fits l thread history known x step_acts asks
+      (keeps history known) did t seen from n stands.fits stands.front
       stands.mine begun

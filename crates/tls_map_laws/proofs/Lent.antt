@@ -33,7 +33,8 @@ module _ {B : Type 0} (l : Loads B) (thread : ℕ) where
   all_blocks acts (y ∷ ys) rest are =
       let more = all_blocks acts ys rest are in
       elim (cases_Bool (has_storage y.number acts)) [
-        | inl t ↦ rw t (ap (λ (xs : List (Owned B)). block_of l thread y (bytes_after y.number (l.block y) acts) ∷ xs) more)
+        | inl t ↦ rw t (ap (λ (xs : List (Owned B)). block_of l thread y (bytes_after y.number (l.block y) acts)
+            ∷ xs) more)
         | inr f ↦ rw f more
       ]
 
@@ -61,7 +62,8 @@ module _ {W F B : Type 0} (l : Loads B) (thread : ℕ) (history : List Event) (k
   taken_fits acts h fits =
       let live = instances l h.after.memory.seen in
       let held = held_is l thread history known acts h.after.memory.seen h.owners h.after.memory.own fits in
-      let all = ap (λ (os : List (Owned B)). blocks_in os) held ∙ all_blocks l thread acts live fits.rest fits.data_behind in
+      let all = ap (λ (os : List (Owned B)). blocks_in os) held
+      ∙ all_blocks l thread acts live fits.rest fits.data_behind in
       record {
         rest = [];
         data_behind = tt;

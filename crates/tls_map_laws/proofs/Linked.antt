@@ -1,10 +1,13 @@
 -- What is known of the instances of images that are linked together, in the machine and in the meaning.
-use Rattle.std.proofs.Common.{◌≡◌, ◌∙◌, ◌+◌, ◌-◌, ◌<◌, ◌≤◌, ◌^◌, ◌++◌, ℕ, zero, suc, Bool, true, false, List, [], ◌∷◌, length, map, get_or, replicate, Option, Some, None, refl, sym, ap, subst, inl, inr, arith, length-append}
+use Rattle.std.proofs.Common.{◌≡◌, ◌∙◌, ◌+◌, ◌-◌, ◌<◌, ◌≤◌, ◌^◌, ◌++◌, ℕ, zero, suc, Bool, true, false, List, [], ◌∷◌}
+use Rattle.std.proofs.Common.{length, map, get_or, replicate, Option, Some, None, refl, sym, ap, subst, inl, inr, arith}
+use Rattle.std.proofs.Common.{length-append}
 use Rattle.std.specs.Prelude.{IfSome, option_map, slice_get, unwrap_or}
 use Rattle.std.specs.List.{All}
 use Rattle.std.proofs.lemmas.Bool.{cases_lt, le-leb, lt-ltb, ltb-true}
 use Rattle.std.proofs.lemmas.List.{length-map, length-replicate}
-use Rattle.std.proofs.lemmas.Option.{get_or_from_slice_get, slice_get-get_or, slice_get-map, slice_get_past, slice_get_within}
+use Rattle.std.proofs.lemmas.Option.{get_or_from_slice_get, slice_get-get_or, slice_get-map, slice_get_past}
+use Rattle.std.proofs.lemmas.Option.{slice_get_within}
 use Rattle.guest_arithmetic.specs.Plain.{plain_operations}
 use Rattle.guest_machine.specs.Ranges.{Range, holds}
 use Rattle.job_meaning.specs.declared.values.Byte.{Byte}
@@ -28,8 +31,8 @@ use Rattle.loaded_modules.specs.declared.instance.Instance.{Instance}
 use Rattle.loaded_modules.specs.Images.{last_offset}
 use Rattle.loaded_names.proofs.Infos.{infos_loaded}
 use Rattle.loaded_names.proofs.Meant.{infos_meant}
-use Rattle.module_table.specs.History.{IsLegal}
-use Rattle.module_table.specs.Laws.{startup_end}
+use Rattle.module_table.specs.Past.{IsLegal}
+use Rattle.module_table.specs.Modules.{startup_end}
 use Rattle.module_table.specs.Modules.{no_module}
 use Rattle.module_table.specs.declared.events.Event.{Event}
 use Rattle.module_table.specs.declared.modules.ImageInfo.{ImageInfo}
@@ -38,9 +41,9 @@ use Rattle.thread_blocks.specs.Instances.{Loads, fixed_at, instances}
 use Rattle.thread_blocks.specs.JobLoads.{job_loads}
 use Rattle.thread_blocks.specs.MachineTurns.{pointer_word}
 use Rattle.thread_blocks.specs.Turns.{at_number}
-use Rattle.thread_blocks.specs.TurnsAlike.{IsFront}
+use Rattle.thread_blocks.specs.Turns.{IsFront}
 use Rattle.shared_data.specs.Places.{LiesLow}
-use Rattle.tls_layout.specs.Laws.{extent_for}
+use Rattle.tls_layout.specs.Places.{extent_for}
 use Rattle.tls_layout.specs.Places.{tls_size}
 use Rattle.tls_relocs.specs.Elements.{slice_get-append, slice_get-append_behind, slice_get-replicate}
 use Rattle.whole_meaning.specs.Bytes.{block_bytes, class_bytes}
@@ -73,7 +76,8 @@ kind_low Pie number low = omega (arith, low)
 kind_low Start number low = omega (arith, low)
 kind_low Late number low = omega (arith, low)
 
-own_low : (l : Linking) (number place : ℕ) → number < 2 ^ 12 → IsOwn l (bias_of l.kind number) place → place + 1 < 2 ^ 39
+own_low : (l : Linking) (number place : ℕ) → number < 2 ^ 12 → IsOwn l (bias_of l.kind number) place
+    → place + 1 < 2 ^ 39
 own_low l number place low own =
     let most = kind_low l.kind number low in
     let below = own.1 in
@@ -147,7 +151,8 @@ module _ (ls : List Linking) (together : AreTogether ls) (stray : All HasNoStray
         let last = own_low l x.number place number (own place (rw (from, to) refl)) in
         (omega (arith, last, some), omega (arith, last, some))
 
-    data_low_of : (has : Bool) (o : Option (Range ℕ)) → has_writable_data l ≡ has → IsData l (bias_of l.kind x.number) has o
+    data_low_of : (has : Bool) (o : Option (Range ℕ)) → has_writable_data l ≡ has
+        → IsData l (bias_of l.kind x.number) has o
         → IfSome o (IsApart l (bias_of l.kind x.number) (q.fixed x)) → IfSome o IsLow
     data_low_of true None e are apart = tt
     data_low_of false None e are apart = tt
@@ -155,7 +160,8 @@ module _ (ls : List Linking) (together : AreTogether ls) (stray : All HasNoStray
     data_low_of true (Some range) e are apart =
         let start = are.start_is in
         let long = are.long in
-        let less = ltb-true (extent_for (Writable true) (layout l)).start (extent_for (Writable true) (layout l)).end e in
+        let less = ltb-true (extent_for (Writable true) (layout l)).start
+        (extent_for (Writable true) (layout l)).end e in
         range_low range (omega (arith, start, long, less)) apart.own
 
     data_low : IfSome (q.shared x) IsLow
@@ -171,7 +177,8 @@ module _ (ls : List Linking) (together : AreTogether ls) (stray : All HasNoStray
     meant_low : IfSome (m.shared x) IsLow
     unfolding loads_of
     meant_low =
-        let low = subst (λ (o : Option (Range Byte)). IfSome o IsLow) (data_meant ls l x is) (valued_low (q.shared x) data_low) in
+        let low = subst (λ (o : Option (Range Byte)). IfSome o IsLow) (data_meant ls l x is)
+        (valued_low (q.shared x) data_low) in
         rw is.image low
 
   -- ** fresh blocks

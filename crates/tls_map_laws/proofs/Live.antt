@@ -1,6 +1,7 @@
 -- Where the blocks of live instances lie: each below its thread's stack, and no two of one history share a byte, one of
 -- them closed long before the other was loaded or not.
-use Rattle.std.proofs.Common.{◌≡◌, ◌∙◌, ◌⊎◌, ◌+◌, ◌-◌, ◌*◌, ◌<◌, ◌≤◌, ◌^◌, ◌++◌, ℕ, suc, true, false, List, [], ◌∷◌, length, get_or, Option, Some, None, refl, sym, ap, subst, inl, inr, arith}
+use Rattle.std.proofs.Common.{◌≡◌, ◌∙◌, ◌⊎◌, ◌+◌, ◌-◌, ◌*◌, ◌<◌, ◌≤◌, ◌^◌, ◌++◌, ℕ, suc, true, false, List, [], ◌∷◌}
+use Rattle.std.proofs.Common.{length, get_or, Option, Some, None, refl, sym, ap, subst, inl, inr, arith}
 use Rattle.std.specs.Prelude.{IfSome, nat_le, nat_lt, take}
 use Rattle.std.proofs.lemmas.Bool.{and_parts, cases_Bool, cases_eq, leb-false, leb-true, ltb-true}
 use Rattle.address_map.specs.Map.{pointer_of, stack_start}
@@ -10,13 +11,14 @@ use Rattle.known_instances.proofs.Placed.{IsPlacedIn, is_image, placed_in}
 use Rattle.known_instances.proofs.StartupNumbers.{image_number}
 use Rattle.loaded_modules.specs.declared.instance.Instance.{Instance}
 use Rattle.module_table.proofs.LawsOfBlocks.{instances_apart}
-use Rattle.module_table.specs.History.{IsLegal}
-use Rattle.module_table.specs.Laws.{Covers, startup_end}
+use Rattle.module_table.specs.Past.{IsLegal}
+use Rattle.module_table.specs.Laws.{Covers}
+use Rattle.module_table.specs.Modules.{startup_end}
 use Rattle.module_table.specs.Modules.{no_module}
 use Rattle.module_table.specs.declared.events.Event.{Event}
 use Rattle.module_table.specs.declared.modules.ImageInfo.{ImageInfo}
 use Rattle.thread_blocks.specs.Instances.{Loads, block_start, instances, left_by, numbered_instance}
-use Rattle.thread_blocks.specs.TurnsAlike.{IsFront}
+use Rattle.thread_blocks.specs.Turns.{IsFront}
 use Rattle.tls_map_laws.specs.Acts.{is_in}
 use Rattle.tls_map_laws.proofs.Known.{IsLow, Known}
 use Rattle.tls_map_laws.proofs.Later.{IsGiven, later_apart}
@@ -57,7 +59,8 @@ module _ {B : Type 0} (l : Loads B) (history : List Event) (legal : IsLegal l.in
     pub small : length (l.block x) ≤ 2 ^ 20
     pub offset : (o : ℕ) → x.offset ≡ Some o → (o < 2 ^ 28) × (length (l.block x) ≤ o)
 
-  pub is_live : (seen : List Event) → IsFront seen history → (x : Instance) → Member x (instances l seen) → IsLive seen x
+  pub is_live : (seen : List Event) → IsFront seen history → (x : Instance) → Member x (instances l seen)
+      → IsLive seen x
   is_live seen front x member =
       let at = loaded_of l seen x member in
       let here = front_legal l history legal seen front in
@@ -108,11 +111,13 @@ module _ {B : Type 0} (l : Loads B) (history : List Event) (legal : IsLegal l.in
   start_some : (thread : ℕ) (x : Instance) (o : ℕ) → x.offset ≡ Some o → block_start thread x ≡ pointer_of thread - o
   start_some thread x o e = rw e refl
 
-  start_none : (thread : ℕ) (x : Instance) → x.offset ≡ None → block_start thread x ≡ thread * 2 ^ 40 + x.number * 2 ^ 24
+  start_none : (thread : ℕ) (x : Instance) → x.offset ≡ None
+      → block_start thread x ≡ thread * 2 ^ 40 + x.number * 2 ^ 24
   start_none thread x e = rw e refl
 
   -- it lies among the thread's addresses, below the thread pointer
-  pub start_high : (thread : ℕ) (seen : List Event) (x : Instance) → IsLive seen x → thread * 2 ^ 40 ≤ block_start thread x
+  pub start_high : (thread : ℕ) (seen : List Event) (x : Instance) → IsLive seen x
+      → thread * 2 ^ 40 ≤ block_start thread x
   start_high thread seen x live = by_offset x.offset refl
     where
       by_offset : (offset : Option ℕ) → x.offset ≡ offset → thread * 2 ^ 40 ≤ block_start thread x
@@ -140,7 +145,8 @@ module _ {B : Type 0} (l : Loads B) (history : List Event) (legal : IsLegal l.in
           omega (arith, here, to, far.0, far.1)
 
   -- the law: below the stack
-  pub below_stack : (thread : ℕ) (seen : List Event) → IsFront seen history → (x : Instance) → Member x (instances l seen)
+  pub below_stack : (thread : ℕ) (seen : List Event) → IsFront seen history → (x : Instance)
+      → Member x (instances l seen)
       → (place : ℕ) → is_in l thread x place ≡ true → place < stack_start thread
   below_stack thread seen front x member place e =
       let low = place_low thread seen x place (is_live seen front x member) (has thread x place e) in
@@ -195,12 +201,14 @@ module _ {B : Type 0} (l : Loads B) (history : List Event) (legal : IsLegal l.in
       image_number (bare l) history legal seen x.number x live.front live.numbered (omega (arith, image, some))
 
   -- no address is in the blocks of two startup images, the first before the other
-  early_apart : (thread : ℕ) (a b : List Event) (x z : Instance) (o p place : ℕ) (first : IsLive a x) (second : IsLive b z)
+  early_apart : (thread : ℕ) (a b : List Event) (x z : Instance) (o p place : ℕ) (first : IsLive a x)
+      (second : IsLive b z)
       → first.at.image < second.at.image → startup_end (take first.at.image l.infos) 0 ≡ o
       → startup_end (take second.at.image l.infos) 0 ≡ p → (module_at l b second.at.image).info.late ≡ false
       → x.offset ≡ Some o → z.offset ≡ Some p → Has thread x place → Has thread z place → ⊥
   early_apart thread a b x z o p place first second less ex ez early ox oz here there =
-      let past = end_past l.infos second.placed.index 0 no_module.info second.placed.within (first_early b z second early) in
+      let past = end_past l.infos second.placed.index 0 no_module.info second.placed.within
+      (first_early b z second early) in
       let image = image_is b z second in
       let up : startup_end (take (suc second.placed.index) l.infos) 0 ≡ p =
       subst (λ (i : ℕ). startup_end (take i l.infos) 0 ≡ p) image ez in
@@ -212,11 +220,13 @@ module _ {B : Type 0} (l : Loads B) (history : List Event) (legal : IsLegal l.in
       omega (arith, past, up, rises, size, ex, near.0, far.1)
 
   -- nor in one of the surplus and one of a startup image
-  surplus_apart : (thread : ℕ) (a b : List Event) (x z : Instance) (o p place : ℕ) (first : IsLive a x) (second : IsLive b z)
+  surplus_apart : (thread : ℕ) (a b : List Event) (x z : Instance) (o p place : ℕ) (first : IsLive a x)
+      (second : IsLive b z)
       → (module_at l a first.at.image).info.late ≡ true → (module_at l b second.at.image).info.late ≡ false
       → x.offset ≡ Some o → z.offset ≡ Some p → Has thread x place → Has thread z place → ⊥
   surplus_apart thread a b x z o p place first second late early ox oz here there =
-      let above = (instances_apart l.infos l.last_offset a (front_legal l history legal a first.front)).above first.at.image o
+      let above = (instances_apart l.infos l.last_offset a
+      (front_legal l history legal a first.front)).above first.at.image o
       (offset_late a x first o late ox) in
       let low = end_most l.infos second.at.image 0 in
       let is = offset_early b z second p early oz in
@@ -272,7 +282,8 @@ module _ {B : Type 0} (l : Loads B) (history : List Event) (legal : IsLegal l.in
           | inr ne ↦ elim (cases_Bool (nat_le first.at.image second.at.image)) [
             | inl le ↦
                 let less : first.at.image ≤ second.at.image = leb-true first.at.image second.at.image le in
-                absurd (early_apart thread a b x z o p place first second (omega (arith, less, ne)) from other eb ox oz here
+                absurd (early_apart thread a b x z o p place first second
+                (omega (arith, less, ne)) from other eb ox oz here
                 there)
             | inr gt ↦
                 absurd (early_apart thread b a z x p o place second first (leb-false first.at.image second.at.image gt)
@@ -329,7 +340,8 @@ module _ {B : Type 0} (l : Loads B) (history : List Event) (legal : IsLegal l.in
   ]
 
   -- the law: all that is known of instances
-  pub known_all : (thread : ℕ) → ((seen : List Event) → IsFront seen history → (x : Instance) → Member x (instances l seen)
+  pub known_all : (thread : ℕ)
+      → ((seen : List Event) → IsFront seen history → (x : Instance) → Member x (instances l seen)
       → IfSome (l.shared x) IsLow)
       → Known l thread history
   known_all thread low = record {

@@ -1,12 +1,14 @@
 -- What a look, a reach and a load do with the blocks.
-use Rattle.std.proofs.Common.{◌≡◌, ◌∙◌, ◌⊎◌, ◌++◌, ◌<◌, ◌^◌, ◌==◌, ℕ, Bool, true, false, List, [], ◌∷◌, Option, Some, None, refl, sym, ap, inl, inr}
+use Rattle.std.proofs.Common.{◌≡◌, ◌∙◌, ◌⊎◌, ◌++◌, ◌<◌, ◌^◌, ◌==◌, ℕ, Bool, true, false, List, [], ◌∷◌, Option, Some}
+use Rattle.std.proofs.Common.{None, refl, sym, ap, inl, inr}
 use Rattle.std.specs.Prelude.{◌||◌, IfSome, length, not}
 use Rattle.std.specs.List.{flat_map}
 use Rattle.std.specs.Option.{option_or}
 use Rattle.std.proofs.lemmas.Bool.{and_parts, cases_Bool, cases_eq, eq-eqb, ne_eqb}
 use Rattle.guest_machine.specs.Ranges.{Range}
 use Rattle.loaded_modules.specs.declared.instance.Instance.{Instance}
-use Rattle.thread_blocks.specs.Held.{Owned, block_after, block_bytes, block_with, data_after, data_bytes, data_with, fresh_data, fresh_if, held_of, is_block, is_block_of, is_data_of}
+use Rattle.thread_blocks.specs.Held.{Owned, block_after, block_bytes, block_with, data_after, data_bytes, data_with}
+use Rattle.thread_blocks.specs.Held.{fresh_data, fresh_if, held_of, is_block, is_block_of, is_data_of}
 use Rattle.thread_blocks.specs.Instances.{Loads}
 use Rattle.tls_map_laws.specs.Map.{Act, has_storage}
 use Rattle.tls_map_laws.proofs.Bytes.{bytes_after}
@@ -191,14 +193,15 @@ module _ {B : Type 0} (l : Loads B) (thread : ℕ) where
   -- ** all that is held
 
   -- what is known of an instance that is live now
-  pub record IsGood (ys : List Instance) (acts acts' : List (Act B)) (wanted : Instance → Bool) (y : Instance) : Type 0 where
-    -- it is the one of its number among those of which blocks may be held
-    pub one : Each (λ (z : Instance). z.number ≡ y.number → z ≡ y) ys
-    pub member : has_storage y.number acts ≡ true → Member y ys
-    -- a thread that has no storage of it has not written there
-    pub untouched : has_storage y.number acts ≡ false → bytes_after y.number (l.block y) acts ≡ l.block y
-    pub has : has_storage y.number acts' ≡ (has_storage y.number acts || wanted y)
-    pub bytes : bytes_after y.number (l.block y) acts' ≡ bytes_after y.number (l.block y) acts
+  pub record IsGood (ys : List Instance) (acts acts' : List (Act B)) (wanted : Instance → Bool) (y : Instance) : Type 0
+    where
+      -- it is the one of its number among those of which blocks may be held
+      pub one : Each (λ (z : Instance). z.number ≡ y.number → z ≡ y) ys
+      pub member : has_storage y.number acts ≡ true → Member y ys
+      -- a thread that has no storage of it has not written there
+      pub untouched : has_storage y.number acts ≡ false → bytes_after y.number (l.block y) acts ≡ l.block y
+      pub has : has_storage y.number acts' ≡ (has_storage y.number acts || wanted y)
+      pub bytes : bytes_after y.number (l.block y) acts' ≡ bytes_after y.number (l.block y) acts
 
   -- the law: looks, reaches and loads do with the blocks what their acts do with the map
   pub held_blocks : (wanted loads : Instance → Bool) (live ys : List Instance) (acts acts' : List (Act B))
@@ -214,7 +217,8 @@ module _ {B : Type 0} (l : Loads B) (thread : ℕ) where
           ≡ entry l thread acts' y) live
       each_made [] good = tt
       each_made (y ∷ live) good = (
-        made_entry y acts acts' (wanted y) (block_bytes y.number (blocks l thread acts ys ++ rest)) good.0.has good.0.bytes
+        made_entry y acts acts' (wanted y)
+            (block_bytes y.number (blocks l thread acts ys ++ rest)) good.0.has good.0.bytes
             (λ t. found_yes y ys acts rest good.0.one (good.0.member t) t) (λ f. found_no y ys acts rest are f)
             good.0.untouched,
         each_made live good.1,

@@ -1,5 +1,6 @@
 -- The machine's threads have what the map says, after any turns at rising points of a history.
-use Rattle.std.proofs.Common.{◌≡◌, ◌==◌, ℕ, Bool, true, false, List, Option, Some, None, Result, Ok, Err, if◌then◌else◌, refl, sym, subst}
+use Rattle.std.proofs.Common.{◌≡◌, ◌==◌, ℕ, Bool, true, false, List, Option, Some, None, Result, Ok, Err, if◌then◌else◌}
+use Rattle.std.proofs.Common.{refl, sym, subst}
 use Rattle.std.specs.Prelude.{is_none}
 use Rattle.guest_arithmetic.specs.Plain.{plain_operations}
 use Rattle.guest_operands.specs.declared.state.State.{State}
@@ -17,10 +18,13 @@ use Rattle.transcript_text.specs.declared.outcomes.Outcome.TheVariants.{Fault}
 use Rattle.thread_blocks.specs.declared.asked.Asked.{Asked}
 use Rattle.thread_blocks.specs.Held.{Owner, looked, reached}
 use Rattle.thread_blocks.specs.Instances.{Loads, instance_with_id, instances, is_startup_id, numbered_instance}
-use Rattle.thread_blocks.specs.RunTime.{Runs, answer_word, answered, asked_at, asked_next, found_at_once, goes_answered, resume_line, resumed_by, resumed_in, shows, thread_accesses, thread_next, thread_steps, thread_turns, resumed}
-use Rattle.thread_blocks.specs.Spaces.{Space, after_of, next_image}
+use Rattle.thread_blocks.specs.RunTime.{Runs, answer_word, answered, asked_at, asked_next, found_at_once, goes_answered}
+use Rattle.thread_blocks.specs.RunTime.{resume_line, resumed_by, resumed_in, shows, thread_accesses, thread_next}
+use Rattle.thread_blocks.specs.RunTime.{thread_steps, thread_turns, resumed}
+use Rattle.thread_blocks.specs.Spaces.{Space, next_image}
+use Rattle.thread_blocks.specs.SpaceLaws.{after_of}
 use Rattle.thread_blocks.specs.Turns.{Answered, Begun, Says}
-use Rattle.thread_blocks.specs.TurnsAlike.{IsFront}
+use Rattle.thread_blocks.specs.Turns.{IsFront}
 use Rattle.tls_map_laws.specs.Map.{Act}
 use Rattle.tls_map_laws.specs.Acts.{Noted}
 use Rattle.tls_map_laws.specs.Machine.{asks_in, machine_acts, machine_asks, noted_acts, noted_start, noted_step}
@@ -69,7 +73,8 @@ module _ (l : Loads ℕ) (thread : ℕ) (history : List Event) (known : Known l 
       clean state.place (plain_operations.number_of word) >>= λ place. Ok (left (to stack place) memory) in
       then_fits acts os (clean state.place (plain_operations.number_of state.registers.rsp))
       (λ stack. there state.place (load_of plain_operations (thread_accesses l thread) memory stack 8) >>= jumps stack)
-      (λ stack. then_fits acts os (there state.place (load_of plain_operations (thread_accesses l thread) memory stack 8))
+      (λ stack. then_fits acts os
+      (there state.place (load_of plain_operations (thread_accesses l thread) memory stack 8))
       (jumps stack)
       (λ word. then_fits acts os (clean state.place (plain_operations.number_of word))
       (λ place. Ok (left (to stack place) memory)) (λ place. fits)))
@@ -89,7 +94,8 @@ module _ (l : Loads ℕ) (thread : ℕ) (history : List Event) (known : Known l 
   at_once_fits : (acts : List (Act ℕ)) (asked : Asked) (h : Runs) (x : Option Instance) → Fit acts h
       → Next_fits acts (found_at_once l thread asked h x)
   at_once_fits acts asked h None fits = tt
-  at_once_fits acts asked h (Some x) fits = goes_fits acts h (answered l thread asked x h) (answer_fits acts asked x h fits)
+  at_once_fits acts asked h (Some x) fits =
+      goes_fits acts h (answered l thread asked x h) (answer_fits acts asked x h fits)
 
   either_next : (acts : List (Act ℕ)) (b : Bool) (x y : Next Runs) → Next_fits acts x → Next_fits acts y
       → Next_fits acts (if b then x else y)
@@ -114,7 +120,8 @@ module _ (l : Loads ℕ) (thread : ℕ) (history : List Event) (known : Known l 
   next_fits acts h (Ends stop) fits after same = tt
   next_fits acts h (Looks at) fits after same =
       let asked = asked_at l thread (after_of (λ n. n.space) at) in
-      subst (λ (a : After ℕ Bool (Noted l thread)). Next_fits a.memory.acts (asked_next l thread h asked)) (same at refl)
+      subst (λ (a : After ℕ Bool (Noted l thread)). Next_fits a.memory.acts (asked_next l thread h asked))
+      (same at refl)
       (asked_fits acts h asked fits)
 
   next_goes : (at : After ℕ Bool (Noted l thread)) (result : Result (After ℕ Bool (Noted l thread)) Stop)
@@ -162,7 +169,8 @@ module _ (l : Loads ℕ) (thread : ℕ) (history : List Event) (known : Known l 
       (answer_fits (with_asked l (Some x) acts) asked x g now)
 
   by_fits : (acts : List (Act ℕ)) (seen : List Event) (h : Runs) (asked : Option Asked) → Fit acts h
-      → h.after.memory.seen ≡ seen → Begin (with_asked l (asks_in l thread seen asked) acts) (resumed_by l thread seen h asked)
+      → h.after.memory.seen ≡ seen
+      → Begin (with_asked l (asks_in l thread seen asked) acts) (resumed_by l thread seen h asked)
   by_fits acts seen h None fits same = fits
   by_fits acts seen h (Some asked) fits same =
       either (is_none (numbered_instance l seen asked.asking))

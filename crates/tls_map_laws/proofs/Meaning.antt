@@ -1,5 +1,6 @@
 -- The meaning's threads have what the map says, after any turns at rising points of a history.
-use Rattle.std.proofs.Common.{◌≡◌, ℕ, Bool, true, false, List, Option, Some, None, Result, Ok, Err, refl, sym, subst, ◌==◌}
+use Rattle.std.proofs.Common.{◌≡◌, ℕ, Bool, true, false, List, Option, Some, None, Result, Ok, Err, refl, sym, subst}
+use Rattle.std.proofs.Common.{◌==◌}
 use Rattle.std.specs.Prelude.{option_map, unwrap_or}
 use Rattle.address_map.specs.Map.{stack_start}
 use Rattle.amd64_subset.specs.declared.instr.Decoded.{Decoded}
@@ -22,7 +23,8 @@ use Rattle.module_table.specs.declared.events.Event.{Event}
 use Rattle.sequence_forms.specs.declared.forms.Form.{Form}
 use Rattle.sequence_forms.specs.declared.forms.Form.TheVariants.{Gd, Ld, IeMov, IeAdd, GdInd, LdInd, DescLea, DescCall}
 use Rattle.thread_blocks.specs.Held.{Owner, looked, reached}
-use Rattle.thread_blocks.specs.Spaces.{IsImage, mapped, put_byte, space_accesses}
+use Rattle.thread_blocks.specs.Spaces.{put_byte, space_accesses}
+use Rattle.thread_blocks.specs.SpaceLaws.{IsImage, mapped}
 use Rattle.thread_blocks.proofs.Image.{act_image}
 use Rattle.whole_meaning.specs.declared.marks.Mark.{Mark}
 use Rattle.whole_meaning.specs.declared.sequences.Sequence.{Sequence}
@@ -30,11 +32,15 @@ use Rattle.whole_meaning.specs.Fields.{address_at, lent, lent_frame, marked_fram
 use Rattle.whole_meaning.specs.Meanings.{Meaning}
 use Rattle.whole_meaning.specs.Reading.{done, marked_step, plain_step}
 use Rattle.whole_meaning.specs.Running.{meaning}
-use Rattle.whole_meaning.specs.Sequences.{Stack, added, after_call, called_with, descriptor_called, descriptor_calls, does, looks_first, own_base, sequence_result, stack_use, variable_address, variable_distance, with_sum, without_flags}
-use Rattle.whole_meaning.specs.Threads.{Meant, Memory, begin_meant, held_next, meant_accesses, meant_mark, meant_shut, meant_show, meant_stack, meant_steps, meant_turns, ops, resume_meant, resumed_at, resumed_by, resumed_for, sequence_at, sequence_does, sequence_next}
+use Rattle.whole_meaning.specs.Sequences.{Stack, added, after_call, called_with, descriptor_called, descriptor_calls}
+use Rattle.whole_meaning.specs.Sequences.{does, looks_first, own_base, sequence_result, stack_use, variable_address}
+use Rattle.whole_meaning.specs.Sequences.{variable_distance, with_sum, without_flags}
+use Rattle.whole_meaning.specs.Threads.{Meant, Memory, begin_meant, held_next, meant_accesses, meant_mark, meant_shut}
+use Rattle.whole_meaning.specs.Threads.{meant_show, meant_stack, meant_steps, meant_turns, ops, resume_meant}
+use Rattle.whole_meaning.specs.Threads.{resumed_at, resumed_by, resumed_for, sequence_at, sequence_does, sequence_next}
 use Rattle.thread_blocks.specs.Instances.{instances, numbered_instance}
 use Rattle.thread_blocks.specs.Turns.{Begun}
-use Rattle.thread_blocks.specs.TurnsAlike.{IsFront}
+use Rattle.thread_blocks.specs.Turns.{IsFront}
 use Rattle.tls_map_laws.specs.Map.{Act}
 use Rattle.tls_map_laws.specs.Acts.{Noted, noting}
 use Rattle.tls_map_laws.specs.Meaning.{acts_at, asks_for, asks_from, meant_acts, meant_asks, noted_plain, result_acts}
@@ -154,7 +160,8 @@ module _ (m : Meaning) (thread : ℕ) (history : List Event) (known : Known m.lo
       let noted = noted_plain m thread acts h in
       beside_fits (result_acts m thread acts noted) h.owners _ h.after.state.place
       (plain_step ops acc mark h.after.state h.after.memory)
-      (subst (ResultFits (result_acts m thread acts noted) h.owners) (sym (plain_space m thread mark h.after.state start))
+      (subst (ResultFits (result_acts m thread acts noted) h.owners)
+      (sym (plain_space m thread mark h.after.state start))
       (noted_fits acts h.owners noted (plain_noted h.owners mark h.after.state (start, fits))))
 
   -- ** a sequence
@@ -234,7 +241,8 @@ module _ (m : Meaning) (thread : ℕ) (history : List Event) (known : Known m.lo
   either_fits acts h None fits =
       next_fits (acts_at m thread None acts h) h.owners _ (marked_fits acts h (meant_shut m thread h.after.memory) fits)
   either_fits acts h (Some s) fits =
-      looks_fits acts h.owners _ h.after (sequence_does m thread s h.after) fits (does_fits acts h.owners s h.after fits)
+      looks_fits acts h.owners _ h.after (sequence_does m thread s h.after) fits
+      (does_fits acts h.owners s h.after fits)
 
   held_fits : (acts : List (Act Byte)) (h : Meant) (next : Next At) → NextIn acts h.owners next
       → NextFits m.loads thread history known acts (held_next m thread h next)
@@ -281,7 +289,8 @@ module _ (m : Meaning) (thread : ℕ) (history : List Event) (known : Known m.lo
 
   resume_fits : (acts : List (Act Byte)) (seen : List Event) (h : Meant) → Fit acts h → IsFront h.after.memory.seen seen
       → IsFront seen history
-      → Begin (with_asked m.loads (meant_asks m thread seen h) (with_look m.loads seen acts)) (resume_meant m thread seen h)
+      → Begin (with_asked m.loads (meant_asks m thread seen h) (with_look m.loads seen acts))
+      (resume_meant m thread seen h)
   unfolding resume_meant
   resume_fits acts seen h fits f g =
       for_fits (with_look m.loads seen acts) (looked m.loads thread seen h) _

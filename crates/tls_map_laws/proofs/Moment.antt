@@ -1,9 +1,11 @@
 -- What a thread reads at a place of a block that it holds is the map's byte.
-use Rattle.std.proofs.Common.{◌≡◌, ◌∙◌, ◌⊎◌, ◌+◌, ◌-◌, ◌++◌, ◌<◌, ◌≤◌, ◌^◌, ◌&&◌, ℕ, Bool, true, false, List, [], ◌∷◌, length, Option, Some, None, refl, sym, ap, subst, inl, inr, arith, ◌==◌}
+use Rattle.std.proofs.Common.{◌≡◌, ◌∙◌, ◌⊎◌, ◌+◌, ◌-◌, ◌++◌, ◌<◌, ◌≤◌, ◌^◌, ◌&&◌, ℕ, Bool, true, false, List, [], ◌∷◌}
+use Rattle.std.proofs.Common.{length, Option, Some, None, refl, sym, ap, subst, inl, inr, arith, ◌==◌}
 use Rattle.std.specs.Prelude.{nat_le, nat_lt, slice_get, unwrap_or, ok_or}
 use Rattle.std.specs.List.{find}
 use Rattle.std.specs.Option.{option_or}
-use Rattle.std.proofs.lemmas.Bool.{and_parts, cases_Bool, eq-eqb, eqb-true, false_from_ne_true, leb-true, le-leb, lt-ltb, ltb-true}
+use Rattle.std.proofs.lemmas.Bool.{and_parts, cases_Bool, eq-eqb, eqb-true, false_from_ne_true, leb-true, le-leb}
+use Rattle.std.proofs.lemmas.Bool.{lt-ltb, ltb-true}
 use Rattle.address_map.specs.Map.{stack_start}
 use Rattle.guest_arithmetic.specs.Values.{Operations}
 use Rattle.guest_operands.specs.declared.space.Access.{Access}
@@ -15,7 +17,7 @@ use Rattle.module_table.specs.declared.events.Event.{Event}
 use Rattle.thread_blocks.specs.Held.{Held, Owned, ranges_in}
 use Rattle.thread_blocks.specs.Instances.{Loads, block_range, block_start, instances}
 use Rattle.thread_blocks.specs.Spaces.{Space, space_accesses, stack_range}
-use Rattle.thread_blocks.specs.TurnsAlike.{IsFront}
+use Rattle.thread_blocks.specs.Turns.{IsFront}
 use Rattle.tls_map_laws.specs.Map.{Act, byte_of, has_storage, last_written}
 use Rattle.tls_map_laws.specs.Acts.{is_in}
 use Rattle.tls_map_laws.specs.Moments.{BeginsAnew, IsMap}
@@ -86,7 +88,8 @@ module _ {W F B : Type 0} (ops : Operations W F B) (l : Loads B) (thread : ℕ) 
   last_or (Some b) s z = refl
 
   -- data lie lower
-  data_passed : (how : Access) (rest : List (Owned B)) (more : List (Range B)) (place : ℕ) → AreData rest → 2 ^ 40 ≤ place
+  data_passed : (how : Access) (rest : List (Owned B)) (more : List (Range B)) (place : ℕ) → AreData rest
+      → 2 ^ 40 ≤ place
       → byte_in how (ranges_in rest ++ more) place ≡ byte_in how more place
   data_passed how [] more place are high = refl
   data_passed how (x ∷ xs) more place are high =
@@ -168,7 +171,8 @@ module _ {W F B : Type 0} (ops : Operations W F B) (l : Loads B) (thread : ℕ) 
           no_writes = λ none k less. write_past h.after.memory (block_start thread x + k) _ (low k less)
               (nowhere Write (λ y bytes. refl) none k less);
           live = λ has. found_one live x (member has)
-              (λ z m e. known.again.one h.after.memory.seen h.after.memory.seen fits.front fits.front x z (member has) m e);
+              (λ z m e. known.again.one h.after.memory.seen h.after.memory.seen fits.front fits.front x z
+              (member has) m e);
         }
 
   -- the law of an instance that is not held yet

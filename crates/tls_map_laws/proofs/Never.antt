@@ -1,5 +1,6 @@
 -- In a legal history each instance has a number of its own, which never comes again.
-use Rattle.std.proofs.Common.{◌≡◌, ◌∙◌, ◌+◌, ◌++◌, ◌≤◌, ℕ, zero, suc, Bool, true, false, List, [], ◌∷◌, cond, get_or, length, Option, Some, None, refl, sym, ap, subst, inl, inr, arith, ltb, ◌<◌}
+use Rattle.std.proofs.Common.{◌≡◌, ◌∙◌, ◌+◌, ◌++◌, ◌≤◌, ℕ, zero, suc, Bool, true, false, List, [], ◌∷◌, cond, get_or}
+use Rattle.std.proofs.Common.{length, Option, Some, None, refl, sym, ap, subst, inl, inr, arith, ltb, ◌<◌}
 use Rattle.std.specs.Prelude.{is_some, option_to_list, position}
 use Rattle.std.specs.List.{position_or_len}
 use Rattle.std.proofs.lemmas.Bool.{and_from, and_parts, cases_Bool, cases_eq, eq-eqb, eqb-true, ltb-true}
@@ -12,14 +13,16 @@ use Rattle.loaded_modules.specs.declared.instance.Instance.{Instance}
 use Rattle.module_table.proofs.LawsOfEnds.{ends_for_good}
 use Rattle.module_table.proofs.LawsOfNumbers.{own_numbers}
 use Rattle.module_table.proofs.Lookups.{position_one}
-use Rattle.module_table.specs.History.{IsLegal}
+use Rattle.module_table.specs.Past.{IsLegal}
 use Rattle.module_table.specs.Modules.{is_loaded, no_module}
-use Rattle.module_table.specs.Past.{has_instance, image_of, live, module_of}
+use Rattle.module_table.specs.Past.{module_of}
+use Rattle.module_table.specs.PastLaws.{has_instance, image_of, live}
 use Rattle.module_table.specs.declared.events.Event.{Event}
 use Rattle.module_table.specs.declared.modules.ImageInfo.{ImageInfo}
 use Rattle.module_table.specs.declared.modules.Module.{Module}
-use Rattle.thread_blocks.specs.Instances.{Loads, instance_at, instances, instances_from, instances_in, left_by, loaded_instance}
-use Rattle.thread_blocks.specs.TurnsAlike.{IsFront}
+use Rattle.thread_blocks.specs.Instances.{Loads, instance_at, instances, instances_from, instances_in, left_by}
+use Rattle.thread_blocks.specs.Instances.{loaded_instance}
+use Rattle.thread_blocks.specs.Turns.{IsFront}
 use Rattle.tls_map_laws.proofs.Entries.{Distinct}
 use Rattle.tls_map_laws.proofs.Keeping.{each_of}
 use Rattle.tls_map_laws.proofs.Known.{NeverAgain, front_then}
@@ -31,7 +34,8 @@ pub record IsAt (infos : List ImageInfo) (image : ℕ) (ms : List Module) (x : I
   pub at : ℕ
   pub is : loaded_instance infos (image + at) (get_or ms at no_module) ≡ Some x
 
-later_at : (infos : List ImageInfo) (image : ℕ) (m : Module) (ms : List Module) (x : Instance) → IsAt infos (suc image) ms x
+later_at : (infos : List ImageInfo) (image : ℕ) (m : Module) (ms : List Module) (x : Instance)
+    → IsAt infos (suc image) ms x
     → IsAt infos image (m ∷ ms) x
 later_at infos image m ms x r = record {
   at = suc r.at;
@@ -48,7 +52,8 @@ first_at infos image m ms x (Some y) e rest (inl same) = record {
 }
 first_at infos image m ms x (Some y) e rest (inr member) = later_at infos image m ms x (rest member)
 
-member_at : (infos : List ImageInfo) (image : ℕ) (ms : List Module) (x : Instance) → Member x (instances_from infos image ms)
+member_at : (infos : List ImageInfo) (image : ℕ) (ms : List Module) (x : Instance)
+    → Member x (instances_from infos image ms)
     → IsAt infos image ms x
 member_at infos image [] x member = absurd member
 member_at infos image (m ∷ ms) x member =
@@ -63,7 +68,8 @@ at_member : (infos : List ImageInfo) (image : ℕ) (ms : List Module) (a : ℕ) 
 at_member infos image [] a x e = cc
 at_member infos image (m ∷ ms) zero x e =
     let here : loaded_instance infos image m ≡ Some x = ap (λ (i : ℕ). loaded_instance infos i m) (omega arith) ∙ e in
-    subst (λ (o : Option Instance). Member x (option_to_list o ++ instances_from infos (suc image) ms)) (sym here) (inl refl)
+    subst (λ (o : Option Instance). Member x (option_to_list o ++ instances_from infos (suc image) ms)) (sym here)
+    (inl refl)
 at_member infos image (m ∷ ms) (suc a) x e =
     behind (loaded_instance infos image m) x (instances_from infos (suc image) ms)
     (at_member infos (suc image) ms a x
@@ -144,7 +150,8 @@ module _ {B : Type 0} (l : Loads B) where
       record { image = at.at; is = is; loaded = one.loaded; same = one.is }
 
   -- and that of a loaded image is live
-  pub live_of : (seen : List Event) (image : ℕ) (x : Instance) → loaded_instance l.infos image (module_at seen image) ≡ Some x
+  pub live_of : (seen : List Event) (image : ℕ) (x : Instance)
+      → loaded_instance l.infos image (module_at seen image) ≡ Some x
       → Member x (instances l seen)
   unfolding instances_in
   live_of seen image x e =
@@ -197,7 +204,8 @@ module _ {B : Type 0} (l : Loads B) (history : List Event) (legal : IsLegal l.in
       let apart = own_numbers l.infos l.last_offset seen (front_legal seen front) in
       let number : (module_at l seen at.image).instance ≡ x.number = ap (λ (z : Instance). z.number) at.same in
       let has : has_instance x.number (module_at l seen at.image) ≡ true =
-      and_from (is_loaded (module_at l seen at.image)) _ at.loaded (eq-eqb (module_at l seen at.image).instance x.number number) in
+      and_from (is_loaded (module_at l seen at.image)) _ at.loaded
+      (eq-eqb (module_at l seen at.image).instance x.number number) in
       let found = position_one (has_instance x.number) (left_by l seen).modules at.image no_module refl
       (λ k t. elim (cases_eq k at.image) [
         | inl same ↦ same

@@ -11,7 +11,8 @@ use Rattle.job_meaning.specs.declared.values.Byte.{Byte}
 use Rattle.job_meaning.specs.declared.values.Flag.{Flag}
 use Rattle.job_meaning.specs.declared.values.Word.{Word}
 use Rattle.module_table.specs.declared.events.Event.{Event}
-use Rattle.thread_blocks.specs.Spaces.{IsImage, mapped, Space, after_of, next_image, no_field}
+use Rattle.thread_blocks.specs.Spaces.{Space, next_image, no_field}
+use Rattle.thread_blocks.specs.SpaceLaws.{IsImage, mapped, after_of}
 use Rattle.thread_blocks.proofs.Image.{act_image, machine_image}
 use Rattle.whole_meaning.specs.declared.marks.Mark.{Mark}
 use Rattle.whole_meaning.specs.Fields.{address_at, lent, lent_frame, marked_frame}

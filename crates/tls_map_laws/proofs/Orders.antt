@@ -1,17 +1,20 @@
 -- In any order of turns each thread of a job has what the map says, whatever the others do.
-use Rattle.std.proofs.Common.{◌≡◌, ◌∙◌, ◌++◌, ◌==◌, ℕ, zero, suc, true, false, List, [], ◌∷◌, Option, Some, None, refl, sym, ap, subst, inl, inr, append-nil}
+use Rattle.std.proofs.Common.{◌≡◌, ◌∙◌, ◌++◌, ◌==◌, ℕ, zero, suc, true, false, List, [], ◌∷◌, Option, Some, None, refl}
+use Rattle.std.proofs.Common.{sym, ap, subst, inl, inr, append-nil}
 use Rattle.std.specs.Prelude.{slice_get, slice_set}
 use Rattle.std.proofs.lemmas.Bool.{cases_Bool, eq-eqb, eqb-true}
-use Rattle.guest_machine.specs.Run.{run, state_after}
+use Rattle.guest_machine.specs.Run.{run}
+use Rattle.guest_machine.specs.RunLaws.{state_after}
 use Rattle.loaded_modules.specs.declared.instance.Instance.{Instance}
 use Rattle.module_table.specs.declared.events.Event.{Event}
 use Rattle.shared_data.specs.Told.{steps_of}
 use Rattle.thread_blocks.specs.Held.{Held, Owned, owned_by, with_owned}
 use Rattle.thread_blocks.specs.Instances.{Loads, instances}
-use Rattle.thread_blocks.specs.JobWorlds.{Shared, blocks_in, changed, data_in, held_in, shared_order, shared_turn, with_data, without_data}
+use Rattle.thread_blocks.specs.JobWorlds.{Shared, blocks_in, changed, data_in, held_in, shared_order, shared_turn}
+use Rattle.thread_blocks.specs.JobWorlds.{with_data, without_data}
 use Rattle.thread_blocks.specs.Lines.{Line, event_by}
 use Rattle.thread_blocks.specs.Turns.{Phase, Idle, Mid, Said, Thread, Turns, at_number, event_of, turn, with_event}
-use Rattle.thread_blocks.specs.TurnsAlike.{IsFront}
+use Rattle.thread_blocks.specs.Turns.{IsFront}
 use Rattle.thread_blocks.proofs.Orders.{get-set, get-set_same, order-front}
 use Rattle.tls_map_laws.specs.Map.{Act, has_storage}
 use Rattle.tls_map_laws.specs.Told.{look_acts, order_acts, run_acts, shared_acts, turn_acts}
@@ -23,7 +26,8 @@ use Rattle.tls_map_laws.proofs.Lent.{lent_fits, taken_fits}
 use Rattle.tls_map_laws.proofs.Turns.{KeepsMap, seen_front, turn_fits, within_fits}
 
 module _ {W F B : Type 0} where
-  held_changed : (f : Held W F B → Held W F B) (phase : Phase (Held W F B)) → held_in (changed f phase) ≡ f (held_in phase)
+  held_changed : (f : Held W F B → Held W F B) (phase : Phase (Held W F B))
+      → held_in (changed f phase) ≡ f (held_in phase)
   held_changed f (Idle h) = refl
   held_changed f (Mid steps points h) = refl
 
@@ -72,7 +76,8 @@ module _ {W F B : Type 0} (l : Loads B) (x : ℕ → Turns (Held W F B) Line Eve
 
   -- ** a thread that takes its turn has the data
 
-  lent : (thread : ℕ) (acts : List (Act B)) (xs : List (Owned B)) (t : Ours) → AreData xs → Fit thread acts (held_in t.phase)
+  lent : (thread : ℕ) (acts : List (Act B)) (xs : List (Owned B)) (t : Ours) → AreData xs
+      → Fit thread acts (held_in t.phase)
       → Fit thread acts (held_in (with_data xs t).phase)
   lent thread acts xs t are fits =
       subst (Fit thread acts) (sym (held_changed (λ (h : Held W F B). with_owned h (owned_by h ++ xs)) t.phase))
@@ -158,7 +163,8 @@ module _ {W F B : Type 0} (l : Loads B) (x : ℕ → Turns (Held W F B) Line Eve
               let fit : Fit (suc i) did (held_in u.phase) = subst (λ (v : Ours). Fit (suc i) did (held_in v.phase)) one
               (taken (suc i) did after now) in
               rw same (
-                subst (λ (n : ℕ). Fit (suc n) (turn_acts l (suc n) (x (suc n)) (step_acts (suc n)) (asks (suc n)) t' w.events
+                subst (λ (n : ℕ). Fit (suc n)
+                    (turn_acts l (suc n) (x (suc n)) (step_acts (suc n)) (asks (suc n)) t' w.events
                     (acts (suc n))) (held_in u.phase)) is fit,
                 subst (λ (v : Ours). IsFront (held_in v.phase).after.memory.seen (with_event w.events e)) one
                     (subst (λ (s : List Event). IsFront s (with_event w.events e)) (sym (seen_without after)) saw),

@@ -1,5 +1,6 @@
 -- A peek shows the map's bytes.
-use Rattle.std.proofs.Common.{◌≡◌, ◌∙◌, ◌+◌, ◌-◌, ◌<◌, ◌≤◌, ℕ, zero, suc, Bool, true, false, List, [], ◌∷◌, length, map, take, drop, Option, Some, None, refl, sym, ap, subst, arith}
+use Rattle.std.proofs.Common.{◌≡◌, ◌∙◌, ◌+◌, ◌-◌, ◌<◌, ◌≤◌, ℕ, zero, suc, Bool, true, false, List, [], ◌∷◌, length, map}
+use Rattle.std.proofs.Common.{take, drop, Option, Some, None, refl, sym, ap, subst, arith}
 use Rattle.std.specs.Prelude.{◌||◌, slice_get, slice_range, unwrap_or}
 use Rattle.std.specs.List.{range_with_len}
 use Rattle.std.specs.Option.{option_or}
@@ -14,7 +15,7 @@ use Rattle.thread_blocks.specs.Instances.{Loads, instance_at, instances}
 use Rattle.thread_blocks.specs.Lines.{Line, begin_line, begun_peek, shown_from, shown_in}
 use Rattle.thread_blocks.specs.Turns.{Begun, Ending, Says, Thread, Turns, after_look, turn}
 use Rattle.thread_blocks.specs.JobWorlds.{held_in}
-use Rattle.thread_blocks.specs.TurnsAlike.{IsFront}
+use Rattle.thread_blocks.specs.Turns.{IsFront}
 use Rattle.tls_map_laws.specs.Always.{PeeksShow}
 use Rattle.tls_map_laws.specs.Map.{Act, byte_of, bytes_of, has_storage, last_written}
 use Rattle.tls_map_laws.specs.Told.{begin_acts, with_asked, with_look}
@@ -91,7 +92,8 @@ module _ {W F B : Type 0} (ops : Operations W F B) (l : Loads B) (show : List B 
       (around.fresh h.after.memory.seen fits.front y member k (omega (arith, long, less)))
       ∙ last_or last (slice_get (initial y) k))
     where
-      last_or : (o s : Option B) → option_or o (Some (unwrap_or s zero_byte)) ≡ Some (unwrap_or (option_or o s) zero_byte)
+      last_or : (o s : Option B)
+          → option_or o (Some (unwrap_or s zero_byte)) ≡ Some (unwrap_or (option_or o s) zero_byte)
       last_or None s = refl
       last_or (Some b) s = refl
 
@@ -104,7 +106,8 @@ module _ {W F B : Type 0} (ops : Operations W F B) (l : Loads B) (show : List B 
       let bytes = bytes_after y.number (l.block y) acts in
       let long = bytes_long y.number (l.block y) acts in
       let inside = le-leb (offset + size) (length bytes) (omega (arith, low, long)) in
-      let part = part_is bytes offset size (λ k. byte_of (initial y) zero_byte y.number k acts) (omega (arith, low, long))
+      let part = part_is bytes offset size (λ k. byte_of (initial y) zero_byte y.number k acts)
+      (omega (arith, low, long))
       (λ k less. byte_is acts h fits y member k less) in
       ap (λ (o : Option (List B)). shown_in ops l show thread h size offset o) (block_is acts h fits y member has)
       ∙ rw inside (ap (λ (shown : List B). Says (show shown) h) part)
@@ -152,8 +155,10 @@ module _ {W F B : Type 0} (ops : Operations W F B) (l : Loads B) (thread : ℕ) 
       → IsFront seen history → PeeksShow l thread x initial zero_byte show acts t seen
   peeks_show acts t seen fits front to number image symbol size todo h said old y offset e at is low =
       let line : Line = record { number = number; told = record { image = image; action = Peek symbol size } } in
-      let fits' = subst (λ (u : Thread (Held W F B) Line Event). FitsBy l thread history known acts (held_in u.phase)) e fits in
-      let front' = subst (λ (u : Thread (Held W F B) Line Event). IsFront (held_in u.phase).after.memory.seen seen) e front in
+      let fits' = subst (λ (u : Thread (Held W F B) Line Event). FitsBy l thread history known acts
+      (held_in u.phase)) e fits in
+      let front' = subst (λ (u : Thread (Held W F B) Line Event). IsFront
+      (held_in u.phase).after.memory.seen seen) e front in
       ap (λ (u : Thread (Held W F B) Line Event). (turn x u seen).said) e
       ∙ ap (λ (begun : Begun (Held W F B)). (after_look x x.fuel todo said seen (length seen ∷ []) begun).said)
       (begins line seen h

@@ -14,7 +14,7 @@ use Rattle.linked_jobs.proofs.Tied.{links_tied}
 use Rattle.linked_jobs.specs.Ready.{AreJob, AreReady}
 use Rattle.loaded_bytes.specs.Laws.{images_of}
 use Rattle.module_table.specs.declared.events.Event.{Event}
-use Rattle.module_table.specs.History.{IsLegal}
+use Rattle.module_table.specs.Past.{IsLegal}
 use Rattle.module_table.specs.declared.modules.ImageInfo.{ImageInfo}
 use Rattle.module_table.specs.Past.{is_legal, start}
 use Rattle.shared_data.specs.Places.{LiesLow}
@@ -25,13 +25,14 @@ use Rattle.thread_blocks.specs.Lines.{Line, event_by}
 use Rattle.thread_blocks.specs.MachineTurns.{pointer_word}
 use Rattle.thread_blocks.specs.RunTime.{Runs, thread_accesses, thread_turns}
 use Rattle.thread_blocks.specs.Turns.{Thread, event_of, ready, turns, with_last}
-use Rattle.thread_blocks.specs.TurnsAlike.{IsFront}
+use Rattle.thread_blocks.specs.Turns.{IsFront}
 use Rattle.whole_meaning.specs.Loads.{meaning_of}
 use Rattle.whole_meaning.specs.Meanings.{Meaning}
 use Rattle.whole_meaning.specs.Threads.{Meant, begin_meant, meant_accesses, meant_show, meant_turns, ops}
 use Rattle.tls_map_laws.specs.Always.{HasMap, PeeksShow}
 use Rattle.tls_map_laws.specs.Initial.{initial_image, initial_meant}
-use Rattle.tls_map_laws.specs.Laws.{JobsHaveMap, MachineHasMap, MeaningsHaveMap, MeantJobsHaveMap, RacersHaveMap, ThreadsHaveMap, machine_show}
+use Rattle.tls_map_laws.specs.Laws.{JobsHaveMap, MachineHasMap, MeaningsHaveMap, MeantJobsHaveMap, RacersHaveMap}
+use Rattle.tls_map_laws.specs.Laws.{ThreadsHaveMap, machine_show}
 use Rattle.tls_map_laws.specs.Machine.{machine_acts, machine_asks}
 use Rattle.tls_map_laws.specs.Map.{Act}
 use Rattle.tls_map_laws.specs.Meaning.{meant_acts, meant_asks}
@@ -100,7 +101,8 @@ module _ (ls : List Linking) (history : List Event) (ready_links : AreReady ls)
   meant_peeks : (fuel thread : ℕ) → 1 ≤ thread → (acts : List (Act Byte)) (t : Thread Meant Line Event)
       (seen : List Event) → FitsBy m.loads thread history (known_meant thread) acts (held_in t.phase)
       → IsFront (held_in t.phase).after.memory.seen seen → IsFront seen history
-      → PeeksShow m.loads thread (meant_turns m thread fuel) (initial_meant ls) (Value 0) (meant_show m thread) acts t seen
+      → PeeksShow m.loads thread (meant_turns m thread fuel) (initial_meant ls) (Value 0)
+      (meant_show m thread) acts t seen
   unfolding meant_turns begin_meant meaning_of
   meant_peeks fuel thread some acts t seen fits front to =
       peeks_show ops m.loads thread (meant_turns m thread fuel) (meant_show m thread) (λ line s h. refl)
@@ -118,10 +120,12 @@ module _ (ls : List Linking) (history : List Event) (ready_links : AreReady ls)
             (thread_ready plain_operations l thread) (numbered_lines 1 own) first ([], refl) points rising);
         within = λ points seen rising from n begun. machine_map thread some _ _
             (alone_within l thread x (machine_acts l thread) (machine_asks l thread) keeps history (known thread)
-            (thread_ready plain_operations l thread) (numbered_lines 1 own) first ([], refl) points seen from n rising begun);
+            (thread_ready plain_operations l thread) (numbered_lines 1 own) first
+            ([], refl) points seen from n rising begun);
         peeks = λ points seen rising.
             let t = turns x (first_of l thread own) points in
-            let stands = alone_stands l thread x (machine_acts l thread) (machine_asks l thread) keeps history (known thread)
+            let stands = alone_stands l thread x (machine_acts l thread) (machine_asks l thread) keeps history
+            (known thread)
             (thread_ready plain_operations l thread) (numbered_lines 1 own) first ([], refl) points seen rising in
             machine_peeks fuel thread some _ t seen stands.fits stands.front
             (front_of seen (event_of (event_by l thread) t seen) history stands.mine);
@@ -140,18 +144,21 @@ module _ (ls : List Linking) (history : List Event) (ready_links : AreReady ls)
             (alone_fits m.loads thread x (meant_acts m thread) (meant_asks m thread) keeps history (known_meant thread)
             (thread_ready ops m.loads thread) (numbered_lines 1 own) first ([], refl) points rising);
         within = λ points seen rising from n begun. meant_map thread some _ _
-            (alone_within m.loads thread x (meant_acts m thread) (meant_asks m thread) keeps history (known_meant thread)
+            (alone_within m.loads thread x (meant_acts m thread) (meant_asks m thread) keeps history
+            (known_meant thread)
             (thread_ready ops m.loads thread) (numbered_lines 1 own) first ([], refl) points seen from n rising begun);
         peeks = λ points seen rising.
             let t = turns x (ready (thread_ready ops m.loads thread) (numbered_lines 1 own)) points in
             let stands = alone_stands m.loads thread x (meant_acts m thread) (meant_asks m thread) keeps history
-            (known_meant thread) (thread_ready ops m.loads thread) (numbered_lines 1 own) first ([], refl) points seen rising in
+            (known_meant thread) (thread_ready ops m.loads thread) (numbered_lines 1 own) first
+            ([], refl) points seen rising in
             meant_peeks fuel thread some _ t seen stands.fits stands.front
             (front_of seen (event_of (event_by m.loads thread) t seen) history stands.mine);
       }
 
 pub threads_have_map : ThreadsHaveMap
-threads_have_map ls history ready_links legal fuel thread own some = threads ls history ready_links legal fuel thread own some
+threads_have_map ls history ready_links legal fuel thread own some =
+    threads ls history ready_links legal fuel thread own some
 
 pub meanings_have_map : MeaningsHaveMap
 meanings_have_map ls history ready_links legal fuel thread own some =

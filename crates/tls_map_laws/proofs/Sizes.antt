@@ -1,12 +1,13 @@
 -- How far below the thread pointer the blocks of startup images begin.
-use Rattle.std.proofs.Common.{◌≡◌, ◌+◌, ◌<◌, ◌≤◌, ℕ, zero, suc, true, false, List, [], ◌∷◌, cond, length, get_or, take, refl, arith, inl, inr}
+use Rattle.std.proofs.Common.{◌≡◌, ◌+◌, ◌<◌, ◌≤◌, ℕ, zero, suc, true, false, List, [], ◌∷◌, cond, length, get_or, take}
+use Rattle.std.proofs.Common.{refl, arith, inl, inr}
 use Rattle.std.specs.Prelude.{AllPairs, not}
 use Rattle.std.specs.Int.{next_multiple_of}
 use Rattle.std.proofs.lemmas.Bool.{both_ways, cases_Bool}
 use Rattle.std.proofs.lemmas.List.Sums.{sum_by-cons}
 use Rattle.module_table.proofs.LawsOfBlocks.{rounds_up}
 use Rattle.module_table.specs.declared.modules.ImageInfo.{ImageInfo}
-use Rattle.module_table.specs.Laws.{startup_end}
+use Rattle.module_table.specs.Modules.{startup_end}
 use Rattle.module_table.specs.Past.{startup_count}
 
 end_grows : (infos : List ImageInfo) (k taken : ℕ) → taken ≤ startup_end (take k infos) taken
@@ -30,7 +31,8 @@ end_rises (x ∷ xs) (suc j) (suc k) taken less = elim (cases_Bool x.late) [
 ]
 
 -- a startup image's block lies past where those of the images before it begin
-pub end_past : (infos : List ImageInfo) (k taken : ℕ) (d : ImageInfo) → k < length infos → (get_or infos k d).late ≡ false
+pub end_past : (infos : List ImageInfo) (k taken : ℕ) (d : ImageInfo) → k < length infos
+    → (get_or infos k d).late ≡ false
     → startup_end (take k infos) taken + (get_or infos k d).size ≤ startup_end (take (suc k) infos) taken
 end_past [] k taken d within early = absurd (omega (arith, within))
 end_past (x ∷ xs) zero taken d within early =

@@ -14,7 +14,8 @@ use Rattle.module_table.specs.declared.events.Event.{Event}
 use Rattle.thread_blocks.specs.Held.{Owner}
 use Rattle.thread_blocks.specs.Instances.{Loads, instances}
 use Rattle.thread_blocks.specs.RunTime.{thread_accesses}
-use Rattle.thread_blocks.specs.Spaces.{IsImage, Space, after_of, next_image, no_field, put_byte, space_accesses, stack_range}
+use Rattle.thread_blocks.specs.Spaces.{Space, next_image, no_field, put_byte, space_accesses, stack_range}
+use Rattle.thread_blocks.specs.SpaceLaws.{IsImage, after_of}
 use Rattle.thread_blocks.proofs.Image.{machine_image}
 use Rattle.tls_map_laws.specs.Map.{Act, has_storage}
 use Rattle.tls_map_laws.specs.Acts.{Noted, is_in, noting, stored_in}
@@ -48,7 +49,8 @@ module _ {B : Type 0} (l : Loads B) (thread : ℕ) (history : List Event) (known
   either_put false acts acts' os space bytes own none fits put = put
 
   -- the law: a store, to the stack or to a block
-  pub put_fits : (acts : List (Act B)) (os : List Owner) (space : Space Event B) (place : ℕ) (byte : B) → FitsIn acts os space
+  pub put_fits : (acts : List (Act B)) (os : List Owner) (space : Space Event B) (place : ℕ) (byte : B)
+      → FitsIn acts os space
       → FitsIn (stored_in l thread (instances l space.seen) place byte acts) os
       (put_byte (stack_start thread) space place byte)
   put_fits acts os space place byte fits =
@@ -81,7 +83,8 @@ module _ {B : Type 0} (l : Loads B) (thread : ℕ) (history : List Event) (known
       writes = λ p place. acc.writes p.0.space place;
       put = λ p place byte. (
         (noting l thread acc).put p.0 place byte,
-        subst (λ (space : Space Event B). FitsIn (stored_in l thread (instances l p.0.space.seen) place byte p.0.acts) os
+        subst (λ (space : Space Event B). FitsIn
+            (stored_in l thread (instances l p.0.space.seen) place byte p.0.acts) os
             space)
             (sym (puts p.0.space place byte)) (put_fits p.0.acts os p.0.space place byte p.1),
       );
@@ -112,7 +115,8 @@ module _ (l : Loads ℕ) (thread : ℕ) (history : List Event) (known : Known l 
   abbrev pub acc : Accesses (Space Event ℕ) ℕ
   acc = thread_accesses l thread
 
-  pub puts : (space : Space Event ℕ) (place byte : ℕ) → acc.put space place byte ≡ put_byte (stack_start thread) space place byte
+  pub puts : (space : Space Event ℕ) (place byte : ℕ)
+      → acc.put space place byte ≡ put_byte (stack_start thread) space place byte
   unfolding thread_accesses space_accesses
   puts space place byte = refl
 

@@ -1,7 +1,8 @@
 -- Turns: what a thread holds after them is what the map says, if its looks, reaches and steps keep it so.
 use Rattle.std.proofs.Common.{◌≡◌, ◌-◌, ℕ, zero, suc, List, [], ◌∷◌, length, Option, Some, None, sym, subst, append-nil}
 use Rattle.guest_operands.specs.declared.stop.Stop.{Stop}
-use Rattle.guest_machine.specs.Run.{Next, Goes, Ends, Looks, Outcome, Ended, Waits, go_on, over_or, run, state_after}
+use Rattle.guest_machine.specs.Run.{Next, Goes, Ends, Looks, Outcome, Ended, Waits, go_on, over_or, run}
+use Rattle.guest_machine.specs.RunLaws.{state_after}
 use Rattle.lawful_points.specs.Laws.{AtFronts}
 use Rattle.lawful_points.specs.Orders.{looks_of}
 use Rattle.lawful_points.specs.Points.{Follows}
@@ -12,10 +13,12 @@ use Rattle.thread_blocks.specs.Held.{Held}
 use Rattle.thread_blocks.specs.Instances.{Loads}
 use Rattle.thread_blocks.specs.JobWorlds.{held_in}
 use Rattle.thread_blocks.specs.Lines.{Line, event_by}
-use Rattle.thread_blocks.specs.Turns.{Begun, Says, Calls, Phase, Idle, Mid, Said, Thread, Turns, after_look, after_run, event_of, turn, turn_at, turns, with_event, with_last}
-use Rattle.thread_blocks.specs.TurnsAlike.{IsFront}
+use Rattle.thread_blocks.specs.Turns.{Begun, Says, Calls, Phase, Idle, Mid, Said, Thread, Turns, after_look, after_run}
+use Rattle.thread_blocks.specs.Turns.{event_of, turn, turn_at, turns, with_event, with_last}
+use Rattle.thread_blocks.specs.Turns.{IsFront}
 use Rattle.tls_map_laws.specs.Map.{Act}
-use Rattle.tls_map_laws.specs.Told.{after_next, begin_acts, look_acts, resume_acts, run_acts, steps_acts, turn_acts, turns_acts, unless_over}
+use Rattle.tls_map_laws.specs.Told.{after_next, begin_acts, look_acts, resume_acts, run_acts, steps_acts, turn_acts}
+use Rattle.tls_map_laws.specs.Told.{turns_acts, unless_over}
 use Rattle.tls_map_laws.proofs.Known.{Known, front_then, known_front}
 use Rattle.tls_map_laws.proofs.Keeping.{fits_front}
 use Rattle.tls_map_laws.proofs.Begins.{BegunFits, FitsBy, front_of}
@@ -49,7 +52,8 @@ module _ {W F B : Type 0} (l : Loads B) (thread : ℕ) (history : List Event) (k
 
       -- ** steps
 
-      over_fits : (acts after : List (Act B)) (n : ℕ) (h : Held W F B) (over : Option Stop) (rest : Outcome (Held W F B))
+      over_fits : (acts after : List (Act B)) (n : ℕ) (h : Held W F B) (over : Option Stop)
+          (rest : Outcome (Held W F B))
           → Fit acts h → Fit after (state_after rest)
           → Fit (unless_over over acts after) (state_after (over_or n h over rest))
       over_fits acts after n h None rest fits more = more
@@ -206,12 +210,14 @@ module _ {W F B : Type 0} (l : Loads B) (thread : ℕ) (x : Turns (Held W F B) L
     rising_fits [] t acts old fits front follows fronts = fits
     rising_fits (seen ∷ more) t acts old fits front follows fronts =
         let to = front_then (held_in t.phase).after.memory.seen old seen front follows.0 in
-        rising_fits more (turn x t seen) (turn_acts l thread x step_acts asks t seen acts) (with_event seen (own t seen))
+        rising_fits more (turn x t seen) (turn_acts l thread x step_acts asks t seen acts)
+        (with_event seen (own t seen))
         (turn_fits l thread history known x step_acts asks (keeps history known) acts t seen fits to fronts.0.1)
         (seen_front history known acts t seen fits to fronts.0.1) follows.1 fronts.1
 
     -- and in the turn that follows
-    pub rising_stands : (points : List (List Event)) (last : List Event) (t : Ours) (acts : List (Act B)) (old : List Event)
+    pub rising_stands : (points : List (List Event)) (last : List Event) (t : Ours) (acts : List (Act B))
+        (old : List Event)
         → Fits_at acts t
         → IsFront (held_in t.phase).after.memory.seen old
         → Follows old (looks_of x (event_by l thread) t (with_last points last))

@@ -19,7 +19,8 @@ turn_says : {S : Type 0} (x : Turns S Line Event) (todo : List Line) (left : ℕ
 turn_says {S} x [] left points s after said old seen e =
     ap (λ (begun : Begun S). (after_look x (left - 1) [] said seen (with_last points (length seen)) begun).said) e
 turn_says {S} x (line ∷ todo) left points s after said old seen e =
-    ap (λ (begun : Begun S). (after_look x (left - 1) (line ∷ todo) said seen (with_last points (length seen)) begun).said) e
+    ap (λ (begun : Begun S).
+    (after_look x (left - 1) (line ∷ todo) said seen (with_last points (length seen)) begun).said) e
 
 pub askers_end : ClosedAskersEnd
 unfolding thread_turns resume_line

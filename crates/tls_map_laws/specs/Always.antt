@@ -1,7 +1,8 @@
 -- A thread has what the map says at all times: between its turns, and after any steps of one. And so it prints.
 use Rattle.std.specs.Prelude.{◌≡◌, ◌+◌, ◌≤◌, ℕ, List, [], ◌∷◌, length, Option, Some}
 use Rattle.guest_machine.specs.Access.{Accesses}
-use Rattle.guest_machine.specs.Run.{run, state_after}
+use Rattle.guest_machine.specs.Run.{run}
+use Rattle.guest_machine.specs.RunLaws.{state_after}
 use Rattle.job_text.specs.declared.thread_lines.Action.TheVariants.{Peek}
 use Rattle.loaded_modules.specs.declared.instance.Instance.{Instance}
 use Rattle.module_table.specs.declared.events.Event.{Event}

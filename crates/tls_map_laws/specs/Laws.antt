@@ -7,7 +7,7 @@ use Rattle.link_needs.specs.Linking.{Linking}
 use Rattle.linked_jobs.specs.Ready.{AreJob, AreReady}
 use Rattle.loaded_bytes.specs.Laws.{images_of}
 use Rattle.module_table.specs.declared.events.Event.{Event}
-use Rattle.module_table.specs.History.{IsLegal}
+use Rattle.module_table.specs.Past.{IsLegal}
 use Rattle.thread_blocks.specs.Held.{Held}
 use Rattle.thread_blocks.specs.Instances.{Loads}
 use Rattle.thread_blocks.specs.JobLoads.{job_loads}

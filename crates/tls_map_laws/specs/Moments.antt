@@ -6,7 +6,7 @@ use Rattle.module_table.specs.declared.events.Event.{Event}
 use Rattle.thread_blocks.specs.Held.{Held}
 use Rattle.thread_blocks.specs.Instances.{Loads, block_start, numbered_instance}
 use Rattle.thread_blocks.specs.Spaces.{Space}
-use Rattle.thread_blocks.specs.TurnsAlike.{IsFront}
+use Rattle.thread_blocks.specs.Turns.{IsFront}
 use Rattle.tls_map_laws.specs.Map.{Act, byte_of, has_storage}
 
 -- an instance that is live at some time of a history

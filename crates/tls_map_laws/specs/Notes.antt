@@ -8,7 +8,8 @@ use Rattle.job_meaning.specs.declared.values.Flag.{Flag}
 use Rattle.job_meaning.specs.declared.values.Word.{Word}
 use Rattle.thread_blocks.specs.Instances.{Loads}
 use Rattle.thread_blocks.specs.RunTime.{thread_accesses}
-use Rattle.thread_blocks.specs.Spaces.{after_of, mapped, next_image, no_field}
+use Rattle.thread_blocks.specs.Spaces.{next_image, no_field}
+use Rattle.thread_blocks.specs.SpaceLaws.{after_of, mapped}
 use Rattle.whole_meaning.specs.declared.marks.Mark.{Mark}
 use Rattle.whole_meaning.specs.Meanings.{Meaning}
 use Rattle.whole_meaning.specs.Reading.{plain_step}

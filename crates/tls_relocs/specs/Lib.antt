@@ -1,5 +1,6 @@
 pub mod Elements
 pub mod Fields
+pub mod FieldLaws
 pub mod Laid
 pub mod LaidLaws
 pub mod Patches

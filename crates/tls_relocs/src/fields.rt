@@ -1,7 +1,7 @@
 //! A relocated field: the bytes that a relocation stores.
 
 ghost use Rattle.std.specs.Prelude.{◌≡◌, ◌+◌, ◌≤◌, [], ◌∷◌, length};
-ghost use Rattle.tls_relocs.specs.Fields.{width_of, word_of, field_patch};
+ghost use Rattle.tls_relocs.specs.FieldLaws.{width_of, word_of, field_patch};
 ghost use Rattle.tls_relocs.specs.Patches.{patched};
 
 use byteorder::{ByteOrder, LittleEndian};

@@ -4,7 +4,7 @@ ghost use Rattle.std.specs.Prelude.{◌≡◌, Some, IfOk};
 ghost use Rattle.std.specs.Result.{result_ok};
 ghost use Rattle.elf_object.specs.Relocations.{field_width};
 ghost use Rattle.elf_records.specs.RelocationRows.{form_width};
-ghost use Rattle.tls_relocs.specs.Fields.{width_of};
+ghost use Rattle.tls_relocs.specs.FieldLaws.{width_of};
 ghost use Rattle.tls_relocs.specs.Values.{formed, held, signed_field, unsigned_field, wrapped_field, stored_field};
 
 use crate::fields::Field;

@@ -1,5 +1,6 @@
 -- What an image exports, by name.
-use Rattle.std.proofs.Common.{◌≡◌, ◌+◌, ◌-◌, ◌<◌, ◌≤◌, ◌∙◌, ◌&&◌, ◌||◌, ◌⊎◌, ℕ, zero, suc, Bool, true, false, not, List, [], ◌∷◌, Option, Some, None, length, drop, inl, inr, refl, sym, ap, subst, nat_eq, arith}
+use Rattle.std.proofs.Common.{◌≡◌, ◌+◌, ◌-◌, ◌<◌, ◌≤◌, ◌∙◌, ◌&&◌, ◌||◌, ◌⊎◌, ℕ, zero, suc, Bool, true, false, not, List}
+use Rattle.std.proofs.Common.{[], ◌∷◌, Option, Some, None, length, drop, inl, inr, refl, sym, ap, subst, nat_eq, arith}
 use Rattle.std.specs.Prelude.{if◌then◌else◌}
 use Rattle.std.specs.List.{flat_map, list_any, range_with_len}
 use Rattle.std.specs.Str.{bytes_eq}
@@ -16,7 +17,8 @@ use Rattle.link_faults.specs.declared.symbol_ref.SymbolRef.{SymbolRef}
 use Rattle.tls_symbols.specs.Bindings.{exported_at, exported_in, exported_names, is_exported, is_symbol, is_tls_symbol}
 use Rattle.tls_symbols.specs.Bindings.{object_at}
 use Rattle.elf_records.specs.Symbols.{is_visible}
-use Rattle.tls_symbols.specs.Definitions.{defines, definition_of, first_from, first_in, found_or, is_defined, or_weak, same_binding}
+use Rattle.tls_symbols.specs.Definitions.{defines, definition_of, first_from, first_in, found_or, is_defined, or_weak}
+use Rattle.tls_symbols.specs.Definitions.{same_binding}
 use Rattle.tls_symbols.specs.Laws.{is_exported_by, ExportsAreByName}
 use Rattle.tls_symbols.proofs.Within.{Dropped, dropped_is, find_found}
 use Rattle.tls_symbols.specs.Definitions.{flat_map_from}
@@ -55,7 +57,8 @@ pub record Defines (objects : List (List ℕ)) (name : List ℕ) (found : Symbol
   pub defined : is_defined (symbol_place (object_at objects found.object) found.symbol) ≡ true
   pub named : name ≡ symbol_name (object_at objects found.object) found.symbol
 
-pub not_local : (x y : SymbolBinding) → same_binding Local x ≡ false → same_binding x y ≡ true → same_binding Local y ≡ false
+pub not_local : (x y : SymbolBinding) → same_binding Local x ≡ false → same_binding x y ≡ true
+    → same_binding Local y ≡ false
 not_local Local y other same = cc
 not_local Global Local other same = cc
 not_local Global Global other same = refl
@@ -67,39 +70,50 @@ not_local Weak Weak other same = refl
 some_same : (x y : SymbolRef) → Some x ≡ Some y → x ≡ y
 some_same x y e = cc
 
-module _ (objects : List (List ℕ)) (name : List ℕ) (binding : SymbolBinding) (shared : same_binding Local binding ≡ false) where
-  defined_here : (o e : ℕ) (b : List ℕ) → o < length objects → object_at objects o ≡ b → first_in binding name b ≡ Some e → Defines objects name (record { object = o; symbol = e })
+module _ (objects : List (List ℕ)) (name : List ℕ) (binding : SymbolBinding)
+    (shared : same_binding Local binding ≡ false) where
+  defined_here : (o e : ℕ) (b : List ℕ) → o < length objects → object_at objects o ≡ b
+      → first_in binding name b ≡ Some e → Defines objects name (record { object = o; symbol = e })
   unfolding first_in
   defined_here o e b within here is =
       let found = find_found (defines b binding name) 1 (symbol_count b - 1) e is in
-      let test = both (same_binding binding (symbol_binding b e)) (is_defined (symbol_place b e) && bytes_eq name (symbol_name b e)) found.passes in
+      let test = both (same_binding binding (symbol_binding b e))
+      (is_defined (symbol_place b e) && bytes_eq name (symbol_name b e)) found.passes in
       let rest = both (is_defined (symbol_place b e)) (bytes_eq name (symbol_name b e)) test.1 in
       record {
         object = within;
         above = found.low;
         symbol = subst (λ c. e < symbol_count c) (sym here) (omega (arith, found.low, found.high));
-        shared = subst (λ c. same_binding Local (symbol_binding c e) ≡ false) (sym here) (not_local binding (symbol_binding b e) shared test.0);
+        shared = subst (λ c. same_binding Local (symbol_binding c e) ≡ false) (sym here)
+            (not_local binding (symbol_binding b e) shared test.0);
         defined = subst (λ c. is_defined (symbol_place c e) ≡ true) (sym here) rest.0;
         named = (bytes_eq-Decides name (symbol_name b e)).0 rest.1 ∙ ap (λ c. symbol_name c e) (sym here);
       }
 
-  first_defines : (more : List (List ℕ)) (o : ℕ) (found : SymbolRef) → drop o objects ≡ more → first_from binding name o more ≡ Some found → Defines objects name found
+  first_defines : (more : List (List ℕ)) (o : ℕ) (found : SymbolRef) → drop o objects ≡ more
+      → first_from binding name o more ≡ Some found → Defines objects name found
   first_defines [] o found e is = absurd (cc)
-  first_defines (b ∷ more) o found e is = by_symbol (first_in binding name b) refl (λ h d. first_defines more (o + 1) found h d) is
+  first_defines (b ∷ more) o found e is =
+      by_symbol (first_in binding name b) refl (λ h d. first_defines more (o + 1) found h d) is
     where
       at : Dropped objects o [] b more
       at = dropped_is objects o [] b more e
 
-      by_symbol : (x : Option ℕ) → first_in binding name b ≡ x → (drop (o + 1) objects ≡ more → first_from binding name (o + 1) more ≡ Some found → Defines objects name found)
+      by_symbol : (x : Option ℕ) → first_in binding name b ≡ x
+          → (drop (o + 1) objects ≡ more → first_from binding name (o + 1) more ≡ Some found
+          → Defines objects name found)
           → found_or o x (first_from binding name (o + 1) more) ≡ Some found → Defines objects name found
-      by_symbol (Some x) here rest is = subst (Defines objects name) (some_same _ _ is) (defined_here o x b at.within at.here here)
+      by_symbol (Some x) here rest is =
+          subst (Defines objects name) (some_same _ _ is) (defined_here o x b at.within at.here here)
       by_symbol None here rest is = rest at.rest is
 
-pub definition_defines : (objects : List (List ℕ)) (name : List ℕ) (found : SymbolRef) → definition_of objects name ≡ Some found → Defines objects name found
+pub definition_defines : (objects : List (List ℕ)) (name : List ℕ) (found : SymbolRef)
+    → definition_of objects name ≡ Some found → Defines objects name found
 unfolding definition_of
 definition_defines objects name found is = by_strong (first_from Global name 0 objects) refl is
   where
-    by_strong : (strong : Option SymbolRef) → first_from Global name 0 objects ≡ strong → or_weak strong (first_from Weak name 0 objects) ≡ Some found → Defines objects name found
+    by_strong : (strong : Option SymbolRef) → first_from Global name 0 objects ≡ strong
+        → or_weak strong (first_from Weak name 0 objects) ≡ Some found → Defines objects name found
     by_strong (Some x) here is = first_defines objects name Global refl objects 0 found refl (here ∙ is)
     by_strong None here is = first_defines objects name Weak refl objects 0 found refl is
 
@@ -118,39 +132,50 @@ module _ (objects : List (List ℕ)) (name : List ℕ) where
       first true h = refl
       first false h = h
 
-      by_test : (t : Bool) → is_exported objects o b e ≡ t → list_any (bytes_eq name) (if t then symbol_name b e ∷ [] else []) ≡ true → Lists o e b
+      by_test : (t : Bool) → is_exported objects o b e ≡ t
+          → list_any (bytes_eq name) (if t then symbol_name b e ∷ [] else []) ≡ true → Lists o e b
       by_test true here is = record { exports = here; named = first (bytes_eq name (symbol_name b e)) is }
       by_test false here is = cc
 
   lists_one : (o e : ℕ) (b : List ℕ) → Lists o e b → list_any (bytes_eq name) (exported_at objects o b e) ≡ true
   lists_one o e b is = rw is.exports (or_left (bytes_eq name (symbol_name b e)) false is.named)
 
-  some_listed : (o : ℕ) (b : List ℕ) (a n : ℕ) → list_any (bytes_eq name) (flat_map (exported_at objects o b) (range_with_len a n)) ≡ true → (e : ℕ) × Lists o e b
+  some_listed : (o : ℕ) (b : List ℕ) (a n : ℕ)
+      → list_any (bytes_eq name) (flat_map (exported_at objects o b) (range_with_len a n)) ≡ true
+      → (e : ℕ) × Lists o e b
   some_listed o b a zero is = absurd (cc)
   some_listed o b a (suc n) is =
-      elim (either (list_any (bytes_eq name) (exported_at objects o b a)) (list_any (bytes_eq name) (flat_map (exported_at objects o b) (range_with_len (a + 1) n)))
-      (sym (list_any-append (bytes_eq name) (exported_at objects o b a) (flat_map (exported_at objects o b) (range_with_len (a + 1) n))) ∙ is)) [
+      elim (either (list_any (bytes_eq name) (exported_at objects o b a))
+      (list_any (bytes_eq name) (flat_map (exported_at objects o b) (range_with_len (a + 1) n)))
+      (sym (list_any-append (bytes_eq name) (exported_at objects o b a)
+      (flat_map (exported_at objects o b) (range_with_len (a + 1) n))) ∙ is)) [
         | inl here ↦ (a, one_listed o a b here)
         | inr later ↦ some_listed o b (a + 1) n later
       ]
 
-  lists_some : (o : ℕ) (b : List ℕ) (a n e : ℕ) → a ≤ e → e < a + n → Lists o e b → list_any (bytes_eq name) (flat_map (exported_at objects o b) (range_with_len a n)) ≡ true
+  lists_some : (o : ℕ) (b : List ℕ) (a n e : ℕ) → a ≤ e → e < a + n → Lists o e b
+      → list_any (bytes_eq name) (flat_map (exported_at objects o b) (range_with_len a n)) ≡ true
   lists_some o b a zero e low high is = absurd (omega (arith, low, high))
   lists_some o b a (suc n) e low high is =
-      list_any-append (bytes_eq name) (exported_at objects o b a) (flat_map (exported_at objects o b) (range_with_len (a + 1) n))
+      list_any-append (bytes_eq name) (exported_at objects o b a)
+      (flat_map (exported_at objects o b) (range_with_len (a + 1) n))
       ∙ elim (cases_lt a e) [
-        | inl above ↦ or_right (list_any (bytes_eq name) (exported_at objects o b a)) (list_any (bytes_eq name) (flat_map (exported_at objects o b) (range_with_len (a + 1) n)))
+        | inl above ↦ or_right (list_any (bytes_eq name) (exported_at objects o b a))
+            (list_any (bytes_eq name) (flat_map (exported_at objects o b) (range_with_len (a + 1) n)))
             (lists_some o b (a + 1) n e (omega (arith, above)) (omega (arith, high)) is)
         | inr at ↦ let same : e ≡ a = omega (arith, low, at) in
-            or_left (list_any (bytes_eq name) (exported_at objects o b a)) (list_any (bytes_eq name) (flat_map (exported_at objects o b) (range_with_len (a + 1) n)))
+            or_left (list_any (bytes_eq name) (exported_at objects o b a))
+            (list_any (bytes_eq name) (flat_map (exported_at objects o b) (range_with_len (a + 1) n)))
             (lists_one o a b (subst (λ m. Lists o m b) same is))
       ]
 
-  object_listed : (o : ℕ) (b : List ℕ) → list_any (bytes_eq name) (exported_in objects o b) ≡ true → (e : ℕ) × Lists o e b
+  object_listed : (o : ℕ) (b : List ℕ) → list_any (bytes_eq name) (exported_in objects o b) ≡ true
+      → (e : ℕ) × Lists o e b
   unfolding exported_in
   object_listed o b is = some_listed o b 1 (symbol_count b - 1) is
 
-  lists_object : (o : ℕ) (b : List ℕ) (e : ℕ) → 1 ≤ e → e < symbol_count b → Lists o e b → list_any (bytes_eq name) (exported_in objects o b) ≡ true
+  lists_object : (o : ℕ) (b : List ℕ) (e : ℕ) → 1 ≤ e → e < symbol_count b → Lists o e b
+      → list_any (bytes_eq name) (exported_in objects o b) ≡ true
   unfolding exported_in
   lists_object o b e low high is = lists_some o b 1 (symbol_count b - 1) e low (omega (arith, low, high)) is
 
@@ -167,7 +192,8 @@ module _ (objects : List (List ℕ)) (name : List ℕ) where
         | inr later ↦ any_listed more (o + 1) at.rest later
       ]
 
-  lists_any : (more : List (List ℕ)) (o q e : ℕ) → drop o objects ≡ more → o ≤ q → q < length objects → 1 ≤ e → e < symbol_count (object_at objects q)
+  lists_any : (more : List (List ℕ)) (o q e : ℕ) → drop o objects ≡ more → o ≤ q → q < length objects → 1 ≤ e
+      → e < symbol_count (object_at objects q)
       → Lists q e (object_at objects q) → list_any (bytes_eq name) (flat_map_from (exported_in objects) o more) ≡ true
   lists_any [] o q e d low high above below is = absurd (omega (arith, low, high, none_left objects o d))
     where
@@ -185,12 +211,14 @@ module _ (objects : List (List ℕ)) (name : List ℕ) where
             let Q : ℕ → Type 0 = λ m. e < symbol_count (object_at objects m) in
             or_left (list_any (bytes_eq name) (exported_in objects o b))
             (list_any (bytes_eq name) (flat_map_from (exported_in objects) (o + 1) more))
-            (lists_object o b e above (subst (λ c. e < symbol_count c) at.here (subst Q is_o below)) (subst (Lists o e) at.here (subst P is_o is)))
+            (lists_object o b e above (subst (λ c. e < symbol_count c) at.here (subst Q is_o below))
+            (subst (Lists o e) at.here (subst P is_o is)))
       ]
 
 -- ** the law
 
-is_symbol_some : (found : Option SymbolRef) (o e : ℕ) → is_symbol found o e ≡ true → found ≡ Some (record { object = o; symbol = e })
+is_symbol_some : (found : Option SymbolRef) (o e : ℕ) → is_symbol found o e ≡ true
+    → found ≡ Some (record { object = o; symbol = e })
 is_symbol_some None o e h = cc
 is_symbol_some (Some x) o e h =
     let tests = both (nat_eq x.object o) (nat_eq x.symbol e) h in
@@ -208,13 +236,18 @@ is_symbol_itself o e = rw (same o, same e) refl
     same n = grind (arith, nat_tests)
 
 module _ (objects : List (List ℕ)) (name : List ℕ) where
-  to_definition : (o e : ℕ) → Lists objects name o e (object_at objects o) → is_exported_by objects (definition_of objects name) ≡ true
+  to_definition : (o e : ℕ) → Lists objects name o e (object_at objects o)
+      → is_exported_by objects (definition_of objects name) ≡ true
   to_definition o e is =
       let b = object_at objects o in
       let named : name ≡ symbol_name b e = (bytes_eq-Decides name (symbol_name b e)).0 is.named in
-      let tests = both (not (same_binding Local (symbol_binding b e)) && is_symbol (definition_of objects (symbol_name b e)) o e) (is_tls_symbol b e && is_visible (symbol_visibility b e)) is.exports in
-      let its = both (not (same_binding Local (symbol_binding b e))) (is_symbol (definition_of objects (symbol_name b e)) o e) tests.0 in
-      let found : definition_of objects name ≡ Some (record { object = o; symbol = e }) = ap (definition_of objects) named ∙ is_symbol_some (definition_of objects (symbol_name b e)) o e its.1 in
+      let tests = both (not (same_binding Local (symbol_binding b e))
+      && is_symbol (definition_of objects (symbol_name b e)) o e)
+      (is_tls_symbol b e && is_visible (symbol_visibility b e)) is.exports in
+      let its = both (not (same_binding Local (symbol_binding b e)))
+      (is_symbol (definition_of objects (symbol_name b e)) o e) tests.0 in
+      let found : definition_of objects name ≡ Some (record { object = o; symbol = e }) =
+      ap (definition_of objects) named ∙ is_symbol_some (definition_of objects (symbol_name b e)) o e its.1 in
       ap (is_exported_by objects) found ∙ tests.1
 
   from_definition : (found : Option SymbolRef) → definition_of objects name ≡ found → is_exported_by objects found
@@ -223,11 +256,14 @@ module _ (objects : List (List ℕ)) (name : List ℕ) where
   from_definition (Some x) is h =
       let b = object_at objects x.object in
       let d = definition_defines objects name x is in
-      let named : bytes_eq name (symbol_name b x.symbol) ≡ true = (bytes_eq-Decides name (symbol_name b x.symbol)).1 d.named in
+      let named : bytes_eq name (symbol_name b x.symbol) ≡ true =
+      (bytes_eq-Decides name (symbol_name b x.symbol)).1 d.named in
       let its : is_symbol (definition_of objects (symbol_name b x.symbol)) x.object x.symbol ≡ true =
-      ap (λ f. is_symbol f x.object x.symbol) (ap (definition_of objects) (sym d.named) ∙ is) ∙ is_symbol_itself x.object x.symbol in
+      ap (λ f. is_symbol f x.object x.symbol) (ap (definition_of objects) (sym d.named) ∙ is)
+      ∙ is_symbol_itself x.object x.symbol in
       let exports : is_exported objects x.object b x.symbol ≡ true = rw (d.shared, its) h in
-      lists_any objects name objects 0 x.object x.symbol refl (omega arith) d.object d.above d.symbol (record { exports = exports; named = named })
+      lists_any objects name objects 0 x.object x.symbol refl (omega arith) d.object d.above d.symbol
+      (record { exports = exports; named = named })
 
 pub exports_by_name : ExportsAreByName
 unfolding exported_names

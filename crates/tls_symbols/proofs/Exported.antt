@@ -1,5 +1,6 @@
 -- One symbol after another that an image may export, and those that it does.
-use Rattle.std.proofs.Common.{◌≡◌, ◌+◌, ◌-◌, ◌<◌, ◌∙◌, ◌++◌, ◌&&◌, ℕ, Bool, true, false, not, List, [], ◌∷◌, Option, None, arith}
+use Rattle.std.proofs.Common.{◌≡◌, ◌+◌, ◌-◌, ◌<◌, ◌∙◌, ◌++◌, ◌&&◌, ℕ, Bool, true, false, not, List, [], ◌∷◌, Option}
+use Rattle.std.proofs.Common.{None, arith}
 use Rattle.std.proofs.Common.{length, drop, map, refl, sym, ap, subst, append_assoc, if◌then◌else◌}
 use Rattle.std.specs.List.{flat_map, range_with_len, All}
 use Rattle.std.specs.Option.{option_or}
@@ -56,7 +57,8 @@ bound_name objects found =
 -- of one symbol: it is not LOCAL, its name binds to it, it is thread-local and visible
 one : (local bound seen : Bool) (name : List ℕ) (found : SymbolRef) (f : SymbolRef → List (List ℕ))
     → f found ≡ (if bound then name ∷ [] else [])
-    → flat_map f (if not local && seen then found ∷ [] else []) ≡ (if (not local && bound) && seen then name ∷ [] else [])
+    → flat_map f (if not local && seen then found ∷ [] else [])
+    ≡ (if (not local && bound) && seen then name ∷ [] else [])
 one true bound seen name found f is = refl
 one false true true name found f is = flat_map-cons f found [] ∙ append-nil (f found) ∙ is
 one false true false name found f is = refl

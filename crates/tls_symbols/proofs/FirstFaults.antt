@@ -1,5 +1,6 @@
 -- What the search for a duplicate finds is the first.
-use Rattle.std.proofs.Common.{◌≡◌, ◌+◌, ◌-◌, ◌<◌, ◌≤◌, ℕ, Bool, true, false, List, Option, Some, None, length, inl, inr, refl, sym, subst, arith}
+use Rattle.std.proofs.Common.{◌≡◌, ◌+◌, ◌-◌, ◌<◌, ◌≤◌, ℕ, Bool, true, false, List, Option, Some, None, length, inl, inr}
+use Rattle.std.proofs.Common.{refl, sym, subst, arith}
 use Rattle.std.specs.Prelude.{slice_get, IsSomeAnd}
 use Rattle.std.specs.List.{find, range_with_len}
 use Rattle.std.proofs.lemmas.Bool.{cases_lt}
@@ -40,13 +41,15 @@ module _ (objects : List (List ℕ)) where
     ]
 
     pub first_here : o < length objects → (e : ℕ) → Finds o b (Some e) → IsFirstDuplicate objects o (symbol_table b) e
-    first_here within e is = rw here (((within, refl, found.low, omega (arith, found.low, found.high), found.passes)), earlier)
+    first_here within e is =
+        rw here (((within, refl, found.low, omega (arith, found.low, found.high), found.passes)), earlier)
       where
         c : List ℕ
         c = object_at objects o
 
         found : FoundAt (is_duplicate objects o c) 1 (symbol_count c - 1) e
-        found = find_found (is_duplicate objects o c) 1 (symbol_count c - 1) e (sym (subst (λ b. Finds o b (Some e)) here is))
+        found = find_found (is_duplicate objects o c) 1 (symbol_count c - 1) e
+            (sym (subst (λ b. Finds o b (Some e)) here is))
 
         earlier : (p t f : ℕ) → Earlier p t f o (symbol_table c) e → IsDuplicateAt objects p t f → ⊥
         earlier p t f (inl less) at = before p t f less at

@@ -1,12 +1,14 @@
 -- The first of some numbers that passes a test, and what holds of a list.
-use Rattle.std.proofs.Common.{◌≡◌, ◌+◌, ◌-◌, ◌<◌, ◌≤◌, ℕ, suc, Bool, true, false, List, ◌∷◌, Some, None, refl, subst, arith}
+use Rattle.std.proofs.Common.{◌≡◌, ◌+◌, ◌-◌, ◌<◌, ◌≤◌, ℕ, suc, Bool, true, false, List, ◌∷◌, Some, None, refl, subst}
+use Rattle.std.proofs.Common.{arith}
 use Rattle.std.specs.List.{All, find, range_with_len}
 use Rattle.elf_object.proofs.Ranges.{range_first, range_none}
 
 pub find_here : (P : ℕ → Bool) (a n : ℕ) → a < n → P a ≡ true → find P (range_with_len a (n - a)) ≡ Some a
 find_here P a n h here = rw (range_first a n h, here) refl
 
-pub find_later : (P : ℕ → Bool) (a n : ℕ) → a < n → P a ≡ false → find P (range_with_len a (n - a)) ≡ find P (range_with_len (a + 1) (n - (a + 1)))
+pub find_later : (P : ℕ → Bool) (a n : ℕ) → a < n → P a ≡ false
+    → find P (range_with_len a (n - a)) ≡ find P (range_with_len (a + 1) (n - (a + 1)))
 find_later P a n h other = rw (range_first a n h, other) refl
 
 pub find_none : (P : ℕ → Bool) (a n : ℕ) → n ≤ a → find P (range_with_len a (n - a)) ≡ None

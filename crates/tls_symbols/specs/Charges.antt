@@ -1,7 +1,8 @@
 -- What a question about names asks: of a relocation, and of a symbol in the roles in which relocations name it.
 use Rattle.std.specs.Prelude.{◌≡◌, ◌<◌, ◌&&◌, ℕ, Bool, true, false, List, Option, Some, None, is_none, length}
 use Rattle.elf_records.specs.declared.relocation_row.SymbolRole.{SymbolRole}
-use Rattle.elf_records.specs.declared.relocation_row.SymbolRole.TheVariants.{NoSymbol, Ordinary, OwnVariable, AnyVariable}
+use Rattle.elf_records.specs.declared.relocation_row.SymbolRole.TheVariants.{NoSymbol, Ordinary, OwnVariable}
+use Rattle.elf_records.specs.declared.relocation_row.SymbolRole.TheVariants.{AnyVariable}
 use Rattle.elf_records.specs.RelocationRows.{is_any_variable, is_named, is_variable}
 use Rattle.elf_object.specs.declared.noted.Roles.{Roles}
 use Rattle.link_faults.specs.declared.binding.Binding.{Binding}

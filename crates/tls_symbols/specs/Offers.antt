@@ -1,5 +1,6 @@
 -- The symbols that an image may export, and tables by the numbers of their names alone.
-use Rattle.std.specs.Prelude.{◌≡◌, ◌<◌, ◌+◌, ◌-◌, ◌&&◌, ◌++◌, ℕ, Bool, not, List, [], ◌∷◌, Option, None, length, if◌then◌else◌}
+use Rattle.std.specs.Prelude.{◌≡◌, ◌<◌, ◌+◌, ◌-◌, ◌&&◌, ◌++◌, ℕ, Bool, not, List, [], ◌∷◌, Option, None, length}
+use Rattle.std.specs.Prelude.{if◌then◌else◌}
 use Rattle.std.specs.List.{flat_map, range_with_len}
 use Rattle.std.specs.Option.{option_or}
 use Rattle.elf_records.specs.declared.symbol.SymbolBinding.{SymbolBinding}

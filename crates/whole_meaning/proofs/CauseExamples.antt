@@ -71,7 +71,8 @@ inside_before_app = record {
 }
 
 -- an instruction whose last bytes would be those of a sequence
-inside_before : verdict (inside_before_app ∷ []) 4 ((record { image = 1; action = Call (0x66 ∷ []) 0 0 0 } ∷ []) ∷ []) ([])
+inside_before : verdict (inside_before_app ∷ []) 4 ((record { image = 1; action = Call (0x66 ∷ []) 0 0 0 } ∷ []) ∷ [])
+    ([])
     ≡ Some (record { thread = 1; line = 1; address = 0x400000; cause = Inside })
 unfolding verdict inside_before_app inside_before_t_o
 inside_before = refl
@@ -101,12 +102,14 @@ inside_after_app = record {
   kind = Exe;
   objects = inside_after_t_o ∷ [];
   startup = ((0x78 ∷ []) ∷ []) ∷ [];
-  sites = (record { section = 1; start = 0; len = 12; form = Ld; symbol = 2; reg = 0 } ∷ record { section = 1; start = 18; len = 16; form = Gd; symbol = 2; reg = 0 } ∷ []) ∷ [];
+  sites = (record { section = 1; start = 0; len = 12; form = Ld; symbol = 2; reg = 0 }
+      ∷ record { section = 1; start = 18; len = 16; form = Gd; symbol = 2; reg = 0 } ∷ []) ∷ [];
   relax = true;
 }
 
 -- the same behind a field that it may cover
-inside_after : verdict (inside_after_app ∷ []) 4 ((record { image = 1; action = Call (0x66 ∷ []) 0 0 0 } ∷ []) ∷ []) ([])
+inside_after : verdict (inside_after_app ∷ []) 4 ((record { image = 1; action = Call (0x66 ∷ []) 0 0 0 } ∷ []) ∷ [])
+    ([])
     ≡ Some (record { thread = 1; line = 1; address = 0x40000c; cause = Inside })
 unfolding verdict inside_after_app inside_after_t_o
 inside_after = refl
@@ -205,7 +208,8 @@ field_without_base_app = record {
 }
 
 -- an offset field in an operand without a base
-field_without_base : verdict (field_without_base_app ∷ []) 4 ((record { image = 1; action = Call (0x66 ∷ []) 0 0 0 } ∷ []) ∷ []) ([])
+field_without_base : verdict (field_without_base_app ∷ []) 4
+    ((record { image = 1; action = Call (0x66 ∷ []) 0 0 0 } ∷ []) ∷ []) ([])
     ≡ Some (record { thread = 1; line = 1; address = 0x400000; cause = Field })
 unfolding verdict field_without_base_app field_without_base_t_o
 field_without_base = refl
@@ -269,7 +273,8 @@ linker_called_app = record {
 }
 
 -- a jump to where the run time is called
-linker_called : verdict (linker_called_app ∷ []) 4 ((record { image = 1; action = Call (0x66 ∷ []) 0x1000 0 0 } ∷ []) ∷ []) ([])
+linker_called : verdict (linker_called_app ∷ []) 4
+    ((record { image = 1; action = Call (0x66 ∷ []) 0x1000 0 0 } ∷ []) ∷ []) ([])
     ≡ Some (record { thread = 1; line = 1; address = 0x1000; cause = Linker })
 unfolding verdict linker_called_app linker_called_t_o
 linker_called = refl

@@ -37,7 +37,14 @@ shared_app = record {
 }
 
 -- each call adds 1 to what the turn before left
-shared : told (shared_app ∷ []) 8 ((record { image = 1; action = Call (0x66 ∷ []) 0 0 0 } ∷ record { image = 1; action = Call (0x66 ∷ []) 0 0 0 } ∷ []) ∷ (record { image = 1; action = Call (0x66 ∷ []) 0 0 0 } ∷ []) ∷ []) (1 ∷ 2 ∷ 1 ∷ [])
-    ≡ ((record { points = 0 ∷ []; ending = Stopped (Returned 0x6) } ∷ record { points = 0 ∷ []; ending = Stopped (Returned 0x8) } ∷ []) ∷ (record { points = 0 ∷ []; ending = Stopped (Returned 0x7) } ∷ []) ∷ [], [])
+shared : told (shared_app ∷ []) 8
+    ((record { image = 1; action = Call (0x66 ∷ []) 0 0 0 } ∷ record { image = 1; action = Call (0x66 ∷ []) 0 0 0 }
+    ∷ []) ∷ (record { image = 1; action = Call (0x66 ∷ []) 0 0 0 } ∷ []) ∷ []) (1 ∷ 2 ∷ 1 ∷ [])
+    ≡ (
+      (record { points = 0 ∷ []; ending = Stopped (Returned 0x6) }
+          ∷ record { points = 0 ∷ []; ending = Stopped (Returned 0x8) } ∷ [])
+          ∷ (record { points = 0 ∷ []; ending = Stopped (Returned 0x7) } ∷ []) ∷ [],
+      [],
+    )
 unfolding told shared_app shared_wd_o
 shared = refl

@@ -74,8 +74,14 @@ local_app = record {
 }
 
 -- lea x@tlsld(%rip), %rdi; call __tls_get_addr; lea x@dtpoff(%rax), %rcx; movl $7, y@dtpoff(%rax): a base with offsets
-local : told (local_app ∷ []) 5 ((record { image = 1; action = Call (0x66 ∷ []) 0 0 0 } ∷ record { image = 1; action = Peek (0x79 ∷ []) 4 } ∷ []) ∷ []) ([])
-    ≡ ((record { points = 0 ∷ []; ending = Stopped (Returned 0x13ffffffff0) } ∷ record { points = 0 ∷ []; ending = Answered (Bytes (0x07 ∷ 0x00 ∷ 0x00 ∷ 0x00 ∷ [])) } ∷ []) ∷ [], [])
+local : told (local_app ∷ []) 5
+    ((record { image = 1; action = Call (0x66 ∷ []) 0 0 0 } ∷ record { image = 1; action = Peek (0x79 ∷ []) 4 } ∷ [])
+    ∷ []) ([])
+    ≡ (
+      (record { points = 0 ∷ []; ending = Stopped (Returned 0x13ffffffff0) }
+          ∷ record { points = 0 ∷ []; ending = Answered (Bytes (0x07 ∷ 0x00 ∷ 0x00 ∷ 0x00 ∷ [])) } ∷ []) ∷ [],
+      [],
+    )
 unfolding told local_app local_e_o
 local = refl
 
@@ -243,7 +249,8 @@ local_indirect_app = record {
 }
 
 -- and so it does of a block
-local_indirect : told (local_indirect_app ∷ []) 4 ((record { image = 1; action = Call (0x66 ∷ []) 0 0 0 } ∷ []) ∷ []) ([])
+local_indirect : told (local_indirect_app ∷ []) 4 ((record { image = 1; action = Call (0x66 ∷ []) 0 0 0 } ∷ []) ∷ [])
+    ([])
     ≡ ((record { points = 0 ∷ []; ending = Stopped (Returned 0x2a) } ∷ []) ∷ [], [])
 unfolding told local_indirect_app local_indirect_li_o
 local_indirect = refl
@@ -271,7 +278,8 @@ descriptor_app = record {
   kind = Exe;
   objects = descriptor_do_o ∷ [];
   startup = ((0x78 ∷ []) ∷ []) ∷ [];
-  sites = (record { section = 1; start = 0; len = 7; form = DescLea; symbol = 2; reg = 0 } ∷ record { section = 1; start = 7; len = 2; form = DescCall; symbol = 2; reg = 0 } ∷ []) ∷ [];
+  sites = (record { section = 1; start = 0; len = 7; form = DescLea; symbol = 2; reg = 0 }
+      ∷ record { section = 1; start = 7; len = 2; form = DescCall; symbol = 2; reg = 0 } ∷ []) ∷ [];
   relax = true;
 }
 

@@ -68,8 +68,13 @@ late_plug = record {
 }
 
 -- a thread opens a module and calls it: the sequence looks, and the block is reached
-late : told (late_app ∷ late_plug ∷ []) 4 ((record { image = 2; action = Open } ∷ record { image = 2; action = Call (0x66 ∷ []) 0 0 0 } ∷ []) ∷ []) ([])
-    ≡ ((record { points = 0 ∷ []; ending = Answered (Opened 2) } ∷ record { points = 1 ∷ 1 ∷ []; ending = Stopped (Returned 0x10002000000) } ∷ []) ∷ [], record { thread = 1; line = 1; opens = true; image = 2 } ∷ [])
+late : told (late_app ∷ late_plug ∷ []) 4
+    ((record { image = 2; action = Open } ∷ record { image = 2; action = Call (0x66 ∷ []) 0 0 0 } ∷ []) ∷ []) ([])
+    ≡ (
+      (record { points = 0 ∷ []; ending = Answered (Opened 2) }
+          ∷ record { points = 1 ∷ 1 ∷ []; ending = Stopped (Returned 0x10002000000) } ∷ []) ∷ [],
+      record { thread = 1; line = 1; opens = true; image = 2 } ∷ [],
+    )
 unfolding told late_app late_plug late_a_o late_pg_o
 late = refl
 
@@ -94,8 +99,16 @@ unloaded_plug = record {
 }
 
 -- another thread closes the module before that look
-unloaded : told (unloaded_app ∷ unloaded_plug ∷ []) 4 ((record { image = 2; action = Open } ∷ record { image = 2; action = Call (0x66 ∷ []) 0 0 0 } ∷ []) ∷ (record { image = 2; action = Close } ∷ []) ∷ []) (1 ∷ 1 ∷ 2 ∷ 1 ∷ [])
-    ≡ ((record { points = 0 ∷ []; ending = Answered (Opened 2) } ∷ record { points = 1 ∷ 2 ∷ []; ending = Answered (Fault Unloaded) } ∷ []) ∷ (record { points = 1 ∷ []; ending = Answered Closed } ∷ []) ∷ [], record { thread = 1; line = 1; opens = true; image = 2 } ∷ record { thread = 2; line = 1; opens = false; image = 2 } ∷ [])
+unloaded : told (unloaded_app ∷ unloaded_plug ∷ []) 4
+    ((record { image = 2; action = Open } ∷ record { image = 2; action = Call (0x66 ∷ []) 0 0 0 } ∷ [])
+    ∷ (record { image = 2; action = Close } ∷ []) ∷ []) (1 ∷ 1 ∷ 2 ∷ 1 ∷ [])
+    ≡ (
+      (record { points = 0 ∷ []; ending = Answered (Opened 2) }
+          ∷ record { points = 1 ∷ 2 ∷ []; ending = Answered (Fault Unloaded) } ∷ [])
+          ∷ (record { points = 1 ∷ []; ending = Answered Closed } ∷ []) ∷ [],
+      record { thread = 1; line = 1; opens = true; image = 2 }
+          ∷ record { thread = 2; line = 1; opens = false; image = 2 } ∷ [],
+    )
 unfolding told unloaded_app unloaded_plug late_a_o late_pg_o
 unloaded = refl
 
@@ -139,8 +152,13 @@ late_local_plug = record {
 }
 
 -- the base of a block that the sequence reaches, and an offset
-late_local : told (late_local_app ∷ late_local_plug ∷ []) 4 ((record { image = 2; action = Open } ∷ record { image = 2; action = Call (0x66 ∷ []) 0 0 0 } ∷ []) ∷ []) ([])
-    ≡ ((record { points = 0 ∷ []; ending = Answered (Opened 2) } ∷ record { points = 1 ∷ 1 ∷ []; ending = Stopped (Returned 0x10002000008) } ∷ []) ∷ [], record { thread = 1; line = 1; opens = true; image = 2 } ∷ [])
+late_local : told (late_local_app ∷ late_local_plug ∷ []) 4
+    ((record { image = 2; action = Open } ∷ record { image = 2; action = Call (0x66 ∷ []) 0 0 0 } ∷ []) ∷ []) ([])
+    ≡ (
+      (record { points = 0 ∷ []; ending = Answered (Opened 2) }
+          ∷ record { points = 1 ∷ 1 ∷ []; ending = Stopped (Returned 0x10002000008) } ∷ []) ∷ [],
+      record { thread = 1; line = 1; opens = true; image = 2 } ∷ [],
+    )
 unfolding told late_local_app late_local_plug late_a_o late_local_pl_o
 late_local = refl
 
@@ -177,13 +195,19 @@ late_descriptor_plug = record {
   kind = Late;
   objects = late_descriptor_do_o ∷ [];
   startup = ((0x78 ∷ []) ∷ []) ∷ [];
-  sites = (record { section = 1; start = 0; len = 7; form = DescLea; symbol = 2; reg = 0 } ∷ record { section = 1; start = 7; len = 2; form = DescCall; symbol = 2; reg = 0 } ∷ []) ∷ [];
+  sites = (record { section = 1; start = 0; len = 7; form = DescLea; symbol = 2; reg = 0 }
+      ∷ record { section = 1; start = 7; len = 2; form = DescCall; symbol = 2; reg = 0 } ∷ []) ∷ [];
   relax = true;
 }
 
 -- the call of a descriptor looks too
-late_descriptor : told (late_descriptor_app ∷ late_descriptor_plug ∷ []) 4 ((record { image = 2; action = Open } ∷ record { image = 2; action = Call (0x66 ∷ []) 0 0 0 } ∷ []) ∷ []) ([])
-    ≡ ((record { points = 0 ∷ []; ending = Answered (Opened 2) } ∷ record { points = 1 ∷ 1 ∷ []; ending = Stopped (Returned 0xffffffc002000008) } ∷ []) ∷ [], record { thread = 1; line = 1; opens = true; image = 2 } ∷ [])
+late_descriptor : told (late_descriptor_app ∷ late_descriptor_plug ∷ []) 4
+    ((record { image = 2; action = Open } ∷ record { image = 2; action = Call (0x66 ∷ []) 0 0 0 } ∷ []) ∷ []) ([])
+    ≡ (
+      (record { points = 0 ∷ []; ending = Answered (Opened 2) }
+          ∷ record { points = 1 ∷ 1 ∷ []; ending = Stopped (Returned 0xffffffc002000008) } ∷ []) ∷ [],
+      record { thread = 1; line = 1; opens = true; image = 2 } ∷ [],
+    )
 unfolding told late_descriptor_app late_descriptor_plug late_a_o late_descriptor_do_o
 late_descriptor = refl
 
@@ -222,12 +246,14 @@ steps_and_look_plug = record {
   kind = Late;
   objects = steps_and_look_q_o ∷ [];
   startup = ((0x78 ∷ []) ∷ []) ∷ [];
-  sites = (record { section = 1; start = 0; len = 16; form = Gd; symbol = 2; reg = 0 } ∷ record { section = 1; start = 16; len = 16; form = Gd; symbol = 2; reg = 0 } ∷ []) ∷ [];
+  sites = (record { section = 1; start = 0; len = 16; form = Gd; symbol = 2; reg = 0 }
+      ∷ record { section = 1; start = 16; len = 16; form = Gd; symbol = 2; reg = 0 } ∷ []) ∷ [];
   relax = true;
 }
 
 -- a step that is one too many is asked for its cause, and does not look
-steps_and_look : verdict (steps_and_look_app ∷ steps_and_look_plug ∷ []) 1 ((record { image = 2; action = Open } ∷ record { image = 2; action = Call (0x66 ∷ []) 0 0 0 } ∷ []) ∷ []) ([])
+steps_and_look : verdict (steps_and_look_app ∷ steps_and_look_plug ∷ []) 1
+    ((record { image = 2; action = Open } ∷ record { image = 2; action = Call (0x66 ∷ []) 0 0 0 } ∷ []) ∷ []) ([])
     ≡ Some (record { thread = 1; line = 2; address = 0x108000010; cause = Steps })
 unfolding verdict steps_and_look_app steps_and_look_plug late_a_o steps_and_look_q_o
 steps_and_look = refl
@@ -270,7 +296,17 @@ surplus_plug = record {
 }
 
 -- a module that wants its blocks below the thread pointer: no look
-surplus : told (surplus_app ∷ surplus_plug ∷ []) 4 ((record { image = 2; action = Open } ∷ record { image = 2; action = Call (0x66 ∷ []) 0 0 0 } ∷ record { image = 2; action = Peek (0x76 ∷ []) 8 } ∷ []) ∷ []) ([])
-    ≡ ((record { points = 0 ∷ []; ending = Answered (Opened 2) } ∷ record { points = 1 ∷ []; ending = Stopped (Returned 0xfffffffffffffff4) } ∷ record { points = 1 ∷ []; ending = Answered (Bytes (0x05 ∷ 0x00 ∷ 0x00 ∷ 0x00 ∷ 0x00 ∷ 0x00 ∷ 0x00 ∷ 0x00 ∷ [])) } ∷ []) ∷ [], record { thread = 1; line = 1; opens = true; image = 2 } ∷ [])
+surplus : told (surplus_app ∷ surplus_plug ∷ []) 4
+    ((record { image = 2; action = Open } ∷ record { image = 2; action = Call (0x66 ∷ []) 0 0 0 }
+    ∷ record { image = 2; action = Peek (0x76 ∷ []) 8 } ∷ []) ∷ []) ([])
+    ≡ (
+      (record { points = 0 ∷ []; ending = Answered (Opened 2) }
+          ∷ record { points = 1 ∷ []; ending = Stopped (Returned 0xfffffffffffffff4) }
+          ∷ record {
+            points = 1 ∷ [];
+            ending = Answered (Bytes (0x05 ∷ 0x00 ∷ 0x00 ∷ 0x00 ∷ 0x00 ∷ 0x00 ∷ 0x00 ∷ 0x00 ∷ []));
+          } ∷ []) ∷ [],
+      record { thread = 1; line = 1; opens = true; image = 2 } ∷ [],
+    )
 unfolding told surplus_app surplus_plug late_a_o surplus_r_o
 surplus = refl

@@ -37,7 +37,9 @@ shown_app = record {
 }
 
 -- a line shows bytes of which nothing is known
-shown : verdict (shown_app ∷ []) 6 ((record { image = 1; action = Call (0x66 ∷ []) 0 0 0 } ∷ record { image = 1; action = Peek (0x78 ∷ []) 4 } ∷ []) ∷ []) ([])
+shown : verdict (shown_app ∷ []) 6
+    ((record { image = 1; action = Call (0x66 ∷ []) 0 0 0 } ∷ record { image = 1; action = Peek (0x78 ∷ []) 4 } ∷ [])
+    ∷ []) ([])
     ≡ Some (record { thread = 1; line = 2; address = 0x13ffffffff0; cause = Undefined })
 unfolding verdict shown_app shown_t_o
 shown = refl

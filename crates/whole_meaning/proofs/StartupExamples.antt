@@ -64,7 +64,8 @@ imported_lib = record {
 }
 
 -- general dynamic code whose variable is a startup module's
-imported : told (imported_app ∷ imported_lib ∷ []) 4 ((record { image = 1; action = Call (0x66 ∷ []) 0 0 0 } ∷ []) ∷ []) ([])
+imported : told (imported_app ∷ imported_lib ∷ []) 4 ((record { image = 1; action = Call (0x66 ∷ []) 0 0 0 } ∷ []) ∷ [])
+    ([])
     ≡ ((record { points = 0 ∷ []; ending = Stopped (Returned 0x13ffffffff0) } ∷ []) ∷ [], [])
 unfolding told imported_app imported_lib imported_c_o imported_d_o
 imported = refl
@@ -125,7 +126,8 @@ own_of_startup_lib = record {
 }
 
 -- a startup module that has its variable itself
-own_of_startup : told (own_of_startup_app ∷ own_of_startup_lib ∷ []) 4 ((record { image = 2; action = Call (0x66 ∷ []) 0 0 0 } ∷ []) ∷ []) ([])
+own_of_startup : told (own_of_startup_app ∷ own_of_startup_lib ∷ []) 4
+    ((record { image = 2; action = Call (0x66 ∷ []) 0 0 0 } ∷ []) ∷ []) ([])
     ≡ ((record { points = 0 ∷ []; ending = Stopped (Returned 0x13ffffffff0) } ∷ []) ∷ [], [])
 unfolding told own_of_startup_app own_of_startup_lib own_of_startup_a_o own_of_startup_b_o
 own_of_startup = refl

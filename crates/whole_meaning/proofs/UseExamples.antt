@@ -182,12 +182,14 @@ descriptor_of_another_app = record {
   kind = Exe;
   objects = descriptor_of_another_od_o ∷ [];
   startup = ((0x79 ∷ []) ∷ (0x78 ∷ []) ∷ []) ∷ [];
-  sites = (record { section = 1; start = 0; len = 7; form = DescLea; symbol = 2; reg = 0 } ∷ record { section = 1; start = 7; len = 2; form = DescCall; symbol = 3; reg = 0 } ∷ []) ∷ [];
+  sites = (record { section = 1; start = 0; len = 7; form = DescLea; symbol = 2; reg = 0 }
+      ∷ record { section = 1; start = 7; len = 2; form = DescCall; symbol = 3; reg = 0 } ∷ []) ∷ [];
   relax = true;
 }
 
 -- a descriptor is called for another symbol of the same place
-descriptor_of_another : verdict (descriptor_of_another_app ∷ []) 4 ((record { image = 1; action = Call (0x66 ∷ []) 0 0 0 } ∷ []) ∷ []) ([])
+descriptor_of_another : verdict (descriptor_of_another_app ∷ []) 4
+    ((record { image = 1; action = Call (0x66 ∷ []) 0 0 0 } ∷ []) ∷ []) ([])
     ≡ Some (record { thread = 1; line = 1; address = 0x400007; cause = Descriptor })
 unfolding verdict descriptor_of_another_app descriptor_of_another_od_o
 descriptor_of_another = refl
@@ -252,7 +254,9 @@ steps_app = record {
   kind = Exe;
   objects = steps_s_o ∷ [];
   startup = ((0x78 ∷ []) ∷ []) ∷ [];
-  sites = (record { section = 1; start = 0; len = 16; form = Gd; symbol = 2; reg = 0 } ∷ record { section = 1; start = 16; len = 16; form = Gd; symbol = 2; reg = 0 } ∷ record { section = 1; start = 32; len = 16; form = Gd; symbol = 2; reg = 0 } ∷ []) ∷ [];
+  sites = (record { section = 1; start = 0; len = 16; form = Gd; symbol = 2; reg = 0 }
+      ∷ record { section = 1; start = 16; len = 16; form = Gd; symbol = 2; reg = 0 }
+      ∷ record { section = 1; start = 32; len = 16; form = Gd; symbol = 2; reg = 0 } ∷ []) ∷ [];
   relax = true;
 }
 
@@ -273,7 +277,8 @@ steps_and_flags_app = record {
 }
 
 -- the step that is one too many would use a flag that is unknown
-steps_and_flags : verdict (steps_and_flags_app ∷ []) 2 ((record { image = 1; action = Call (0x66 ∷ []) 0 0 0 } ∷ []) ∷ []) ([])
+steps_and_flags : verdict (steps_and_flags_app ∷ []) 2
+    ((record { image = 1; action = Call (0x66 ∷ []) 0 0 0 } ∷ []) ∷ []) ([])
     ≡ Some (record { thread = 1; line = 1; address = 0x400010; cause = Flags })
 unfolding verdict steps_and_flags_app flags_i_o
 steps_and_flags = refl

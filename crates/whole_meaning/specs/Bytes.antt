@@ -1,6 +1,7 @@
 -- The bytes in the sections of an instance, by the table of relocations alone (psABI, "Relocation Types"), and its
 -- variables and functions. No table that a linker makes is used.
-use Rattle.std.specs.Prelude.{ℕ, ◌+◌, ◌-◌, ◌&&◌, ◌++◌, Bool, true, List, Option, Some, None, length, map, nat_le, nat_lt, replicate, slice_index_or, unwrap_or, option_and_then, if◌then◌else◌}
+use Rattle.std.specs.Prelude.{ℕ, ◌+◌, ◌-◌, ◌&&◌, ◌++◌, Bool, true, List, Option, Some, None, length, map, nat_le}
+use Rattle.std.specs.Prelude.{nat_lt, replicate, slice_index_or, unwrap_or, option_and_then, if◌then◌else◌}
 use Rattle.std.specs.List.{find, range_with_len}
 use Rattle.elf_object.specs.declared.relocation.Relocation.{Relocation}
 use Rattle.elf_object.specs.declared.symbol.SymbolPlace.{SymbolPlace}
@@ -18,7 +19,7 @@ use Rattle.link_faults.specs.declared.symbol_ref.SymbolRef.{SymbolRef}
 use Rattle.link_needs.specs.Linking.{Linking, address, binding, block_offset, layout, object, offset, place}
 use Rattle.object_faults.specs.declared.class.SectionClass.{SectionClass}
 use Rattle.object_faults.specs.declared.class.SectionClass.TheVariants.{Executable, Tls}
-use Rattle.tls_layout.specs.Laws.{extent_for}
+use Rattle.tls_layout.specs.Places.{extent_for}
 use Rattle.tls_layout.specs.Places.{executable, tls_size}
 use Rattle.tls_layout.specs.Sections.{is_class}
 use Rattle.tls_relocs.specs.declared.fields.Field.{Field}

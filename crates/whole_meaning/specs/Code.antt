@@ -1,5 +1,6 @@
 -- The mark of each address of an instance's code, and the sequence that begins there.
-use Rattle.std.specs.Prelude.{ℕ, pos, ◌+ℤ◌, ◌+◌, ◌-◌, ◌*◌, ◌%◌, ◌^◌, ◌==◌, ◌&&◌, Bool, List, Option, Some, None, nat_le, nat_lt, unwrap_or, option_map, option_and_then}
+use Rattle.std.specs.Prelude.{ℕ, pos, ◌+ℤ◌, ◌+◌, ◌-◌, ◌*◌, ◌%◌, ◌^◌, ◌==◌, ◌&&◌, Bool, List, Option, Some, None, nat_le}
+use Rattle.std.specs.Prelude.{nat_lt, unwrap_or, option_map, option_and_then}
 use Rattle.std.specs.List.{find}
 use Rattle.amd64_subset.specs.Register.{register_of as numbered_register}
 use Rattle.elf_object.specs.declared.relocation.Relocation.{Relocation}

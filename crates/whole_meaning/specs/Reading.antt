@@ -1,5 +1,6 @@
 -- How the meaning decodes and does an instruction, in code with sequences and with fields that only the linker knows.
-use Rattle.std.specs.Prelude.{ℕ, zero, suc, ◌+◌, ◌-◌, ◌&&◌, Bool, true, List, length, take, nat_le, Option, Some, None, Result, Err, if◌then◌else◌}
+use Rattle.std.specs.Prelude.{ℕ, zero, suc, ◌+◌, ◌-◌, ◌&&◌, Bool, true, List, length, take, nat_le, Option, Some, None}
+use Rattle.std.specs.Prelude.{Result, Err, if◌then◌else◌}
 use Rattle.std.specs.List.{list_any}
 use Rattle.std.specs.Option.{option_or}
 use Rattle.amd64_subset.specs.declared.instr.Decoded.{Decoded}
@@ -20,7 +21,8 @@ use Rattle.guest_machine.specs.Touch.{paired, touched, touches_of}
 use Rattle.job_meaning.specs.Reading.{beside_linker, completed, place_at}
 use Rattle.whole_meaning.specs.declared.marks.Mark.{Mark}
 use Rattle.whole_meaning.specs.declared.marks.Mark.TheVariants.{Usual, Offset, Address, Inside}
-use Rattle.whole_meaning.specs.Fields.{address_at, lent, lent_frame, marked_frame, takes_address, takes_offset, without_operand}
+use Rattle.whole_meaning.specs.Fields.{address_at, lent, lent_frame, marked_frame, takes_address, takes_offset}
+use Rattle.whole_meaning.specs.Fields.{without_operand}
 
 module _ {W F B : Type 0} (ops : Operations W F B) (mark : ℕ → Mark) (state : State W F) where
   -- ** reading

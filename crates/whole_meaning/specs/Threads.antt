@@ -1,6 +1,8 @@
 -- What a thread means: its steps, its looks and its lines. The lines, looks, blocks and data are those of the
 -- machine's threads, over marked values; the steps also have sequences.
-use Rattle.std.specs.Prelude.{ℕ, ◌+◌, ◌-◌, ◌++◌, ◌&&◌, ◌==◌, Bool, true, false, List, ◌∷◌, drop, Option, Some, None, Result, nat_lt, position, replicate, unwrap_or, option_and_then, option_map, if◌then◌else◌}
+use Rattle.std.specs.Prelude.{ℕ, ◌+◌, ◌-◌, ◌++◌, ◌&&◌, ◌==◌, Bool, true, false, List, ◌∷◌, drop, Option, Some, None}
+use Rattle.std.specs.Prelude.{Result, nat_lt, position, replicate, unwrap_or, option_and_then, option_map}
+use Rattle.std.specs.Prelude.{if◌then◌else◌}
 use Rattle.std.specs.List.{list_any}
 use Rattle.std.specs.Option.{option_or, option_map_or}
 use Rattle.address_map.specs.Map.{owner_at, stack_start}

@@ -7,8 +7,10 @@ pub joined_singles : (bytes : List ℕ) → joined (map (λ byte. byte ∷ []) b
 joined_singles [] = refl
 joined_singles (byte ∷ bytes) = ap (λ rest. byte ∷ rest) (joined_singles bytes)
 
-pub front_of_singles : (number : ℕ) (bytes : List ℕ) → joined (take number (map (λ byte. byte ∷ []) bytes)) ≡ take number bytes
-front_of_singles number bytes = ap joined (take-map (λ byte. byte ∷ []) number bytes) ∙ joined_singles (take number bytes)
+pub front_of_singles : (number : ℕ) (bytes : List ℕ)
+    → joined (take number (map (λ byte. byte ∷ []) bytes)) ≡ take number bytes
+front_of_singles number bytes = ap joined (take-map (λ byte. byte ∷ []) number bytes)
+    ∙ joined_singles (take number bytes)
 
 pub run_of_singles : (from to : ℕ) (bytes : List ℕ)
     → joined (slice_range (map (λ byte. byte ∷ []) bytes) from to) ≡ slice_range bytes from to

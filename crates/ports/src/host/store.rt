@@ -2,7 +2,8 @@
 ghost use Rattle.std.specs.Prelude.{◌≡◌, ◌≢◌, ◌+◌, ◌-◌, [], ◌∷◌, ◌++◌, ◌≤◌, length, take};
 ghost use Rattle.std.specs.Prelude.{IsErr, IsErrOf, OnOk, OnErr, IfOk, IfSome, MatchOption};
 ghost use Rattle.std.specs.List.{All, AllZip};
-ghost use Rattle.ports.specs.Claims.{Brings, IsFileOf, IsFresh, IsRead, Settles, fewer, never, untold_count};
+ghost use Rattle.ports.specs.Claims.{Brings, IsFileOf, IsFresh, IsRead, fewer};
+ghost use Rattle.ports.specs.ClaimLaws.{Settles, never, untold_count};
 ghost use Rattle.ports.specs.Counts.{counted, Counted, FetchCounts, PutCounts, faults_after_fetch, faults_after_put};
 ghost use Rattle.ports.specs.Files.{file_at, with_file, with_names, IsFile};
 ghost use Rattle.file_bytes.specs.Pieces.{whole, EachFits};

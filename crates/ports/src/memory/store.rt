@@ -3,8 +3,9 @@ ghost use Rattle.std.specs.Prelude.{◌≡◌, ◌≢◌, ◌-◌, ◌⊎◌, �
 ghost use Rattle.std.specs.Prelude.{None, Some, IsErr, OnOk, OnErr, IsErrOf, IfOk, IfSome, MatchOption};
 ghost use Rattle.std.specs.Option.{option_copied};
 ghost use Rattle.std.specs.List.{All, AllZip};
-ghost use Rattle.ports.specs.Claims.{Brings, IsFileOf, IsFor, IsFresh, IsRead, Settles, fewer, more, texts};
-ghost use Rattle.ports.specs.Claims.{untold_count};
+ghost use Rattle.ports.specs.Claims.{Brings, IsFileOf, IsFor, IsFresh, IsRead, fewer, more, texts};
+ghost use Rattle.ports.specs.ClaimLaws.{Settles};
+ghost use Rattle.ports.specs.ClaimLaws.{untold_count};
 ghost use Rattle.std.specs.FinMap as map;
 ghost use Rattle.ports.specs.Counts.{FetchCounts, PutCounts, faults_after_fetch, faults_after_put};
 ghost use Rattle.ports.specs.Files.{file_at, with_file, with_names, IsFile};

@@ -10,4 +10,5 @@ open-requires-clause-speaks g c = let r = c.loop.invariant in
 
 pub close-requires-clause-speaks : goal.close-requires-clause-speaks
 close-requires-clause-speaks g c = let r = c.loop.invariant in
-    subst (λ (ts : List ℕ). 1 ≤ times c.args.first ts) (sym (c.open.ensures.same.threads ∙ r.threads)) (first_named c.args.first c.args.count r.some)
+    subst (λ (ts : List ℕ). 1 ≤ times c.args.first ts) (sym (c.open.ensures.same.threads ∙ r.threads))
+    (first_named c.args.first c.args.count r.some)

@@ -15,7 +15,9 @@ write-requires c =
 pub returns : goal.returns
 unfolding spelling_of
 returns c =
-    let is = c.write.ensures.written ∙ ap (λ form. spliced 0 (form_bytes form c.args.instr.now.displacement) c.args.into.now) c.choose.ensures in
-    let size = c.write.ensures.next ∙ ap (λ form. length (form_bytes form c.args.instr.now.displacement)) c.choose.ensures in
+    let is = c.write.ensures.written
+    ∙ ap (λ form. spliced 0 (form_bytes form c.args.instr.now.displacement) c.args.into.now) c.choose.ensures in
+    let size = c.write.ensures.next
+    ∙ ap (λ form. length (form_bytes form c.args.instr.now.displacement)) c.choose.ensures in
     let w = written c.args.instr.now c.args.into.now c.write.new.into c.write.result c.requires is size in
     record { canonical = w.canonical; again = w.again; some = w.some; most = w.most; kept = w.kept; exact = w.exact }

@@ -5,6 +5,10 @@ use Rattle.amd64_subset.proofs.reading.begins.Goals as goal
 
 pub returns : goal.returns
 returns c = record {
-  exactly = (λ t. begins_spelling c.args.bytes.now (sym c.lacks_some.ensures ∙ t), λ h. c.lacks_some.ensures ∙ spelling_begins c.args.bytes.now h.more h.decoded h.some h.spells);
+  exactly = (
+    λ t. begins_spelling c.args.bytes.now (sym c.lacks_some.ensures ∙ t),
+    λ h. c.lacks_some.ensures
+        ∙ spelling_begins c.args.bytes.now h.more h.decoded h.some h.spells,
+  );
   exact = c.lacks_some.ensures;
 }

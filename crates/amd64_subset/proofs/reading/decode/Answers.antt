@@ -9,7 +9,8 @@ use Rattle.amd64_subset.proofs.reading.decode.Goals as goal
 pub returns : goal.returns
 returns c = record {
   found = decoded_spells c.args.bytes.now c.read.result c.read.ensures;
-  only = λ n d spells. c.read.ensures ∙ ap decoded (sym (take-append-drop n c.args.bytes.now)) ∙ decoded_again (take n c.args.bytes.now) d (drop n c.args.bytes.now) spells;
+  only = λ n d spells. c.read.ensures ∙ ap decoded (sym (take-append-drop n c.args.bytes.now))
+      ∙ decoded_again (take n c.args.bytes.now) d (drop n c.args.bytes.now) spells;
   length = decoded_length c.args.bytes.now c.read.result c.read.ensures;
   inside = decoded_placed c.args.bytes.now c.read.result c.read.ensures;
   exact = c.read.ensures;

@@ -5,7 +5,8 @@ use Rattle.command_line.proofs.counts.count_of.Goals as goal
 
 pub returns-then-not-begins_with_digit-clause-value : goal.returns-then-not-begins_with_digit-clause-value
 returns-then-not-begins_with_digit-clause-value c =
-    no_count c.args.word.now (λ begins. false≢true (sym c.if-not-begins_with_digit.true ∙ c.begins_with_digit.ensures.1 begins))
+    no_count c.args.word.now
+    (λ begins. false≢true (sym c.if-not-begins_with_digit.true ∙ c.begins_with_digit.ensures.1 begins))
 
 pub returns-in-Ok-clause-value : goal.returns-in-Ok-clause-value
 returns-in-Ok-clause-value c =

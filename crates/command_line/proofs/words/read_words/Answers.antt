@@ -22,25 +22,30 @@ pub returns-in-Ok-clause-ok : goal.returns-in-Ok-clause-ok
 returns-in-Ok-clause-ok c =
     let words : List Text = map string_bytes c.args.words.now in
     let app_is : app_of c.in_ok-command.command ≡ tool_app = c.in_ok-command.ensures in
-    let none : fault_of tool_app words ≡ [] = ap (λ a. fault_of a words) (sym app_is) ∙ c.in-Ok.ensures.kinds (ap is_simple_and_free app_is ∙ free) in
+    let none : fault_of tool_app words ≡ [] = ap (λ a. fault_of a words) (sym app_is)
+    ∙ c.in-Ok.ensures.kinds (ap is_simple_and_free app_is ∙ free) in
     let found : subcommand_rows_of c.in-Ok.matches ≡ subcommand_of tool_app words =
     (c.in-Ok.ensures.matches (ap is_simple app_is ∙ simple)).1 ∙ ap (λ a. subcommand_of a words) app_is in
-    IfOk-weaker c.command_of_matches.result _ _ (λ command h. asked_found words _ none found ∙ h) c.command_of_matches.ensures.ok
+    IfOk-weaker c.command_of_matches.result _ _
+    (λ command h. asked_found words _ none found ∙ h) c.command_of_matches.ensures.ok
 
 pub returns-in-Ok-clause-taken : goal.returns-in-Ok-clause-taken
 returns-in-Ok-clause-taken c =
     let words : List Text = map string_bytes c.args.words.now in
     let app_is : app_of c.in_ok-command.command ≡ tool_app = c.in_ok-command.ensures in
-    let none : fault_of tool_app words ≡ [] = ap (λ a. fault_of a words) (sym app_is) ∙ c.in-Ok.ensures.kinds (ap is_simple_and_free app_is ∙ free) in
+    let none : fault_of tool_app words ≡ [] = ap (λ a. fault_of a words) (sym app_is)
+    ∙ c.in-Ok.ensures.kinds (ap is_simple_and_free app_is ∙ free) in
     let found : subcommand_rows_of c.in-Ok.matches ≡ subcommand_of tool_app words =
     (c.in-Ok.ensures.matches (ap is_simple app_is ∙ simple)).1 ∙ ap (λ a. subcommand_of a words) app_is in
-    IfOk-weaker c.command_of_matches.result _ _ (λ command h. ap is_some (asked_found words _ none found ∙ h)) c.command_of_matches.ensures.ok
+    IfOk-weaker c.command_of_matches.result _ _
+    (λ command h. ap is_some (asked_found words _ none found ∙ h)) c.command_of_matches.ensures.ok
 
 pub returns-in-Ok-clause-usage : goal.returns-in-Ok-clause-usage
 returns-in-Ok-clause-usage c =
     let words : List Text = map string_bytes c.args.words.now in
     let app_is : app_of c.in_ok-command.command ≡ tool_app = c.in_ok-command.ensures in
-    let none : fault_of tool_app words ≡ [] = ap (λ a. fault_of a words) (sym app_is) ∙ c.in-Ok.ensures.kinds (ap is_simple_and_free app_is ∙ free) in
+    let none : fault_of tool_app words ≡ [] = ap (λ a. fault_of a words) (sym app_is)
+    ∙ c.in-Ok.ensures.kinds (ap is_simple_and_free app_is ∙ free) in
     let found : subcommand_rows_of c.in-Ok.matches ≡ subcommand_of tool_app words =
     (c.in-Ok.ensures.matches (ap is_simple app_is ∙ simple)).1 ∙ ap (λ a. subcommand_of a words) app_is in
     λ usage. ap is_some (asked_found words _ none found ∙ c.command_of_matches.ensures.usage usage)
@@ -50,5 +55,7 @@ returns-clause-usage c =
     let words : List Text = map string_bytes c.args.words.now in
     let app_is : app_of c.in_ok-command.command ≡ tool_app = c.in_ok-command.ensures in
     let kinds : HasKind (fault_of tool_app words) c.in-Err.error =
-    subst (λ a. HasKind (fault_of a words) c.in-Err.error) app_is (c.in-Err.ensures.kinds (ap is_simple_and_free app_is ∙ free)) in
-    λ usage. ap is_some (refused_words words c.in-Err.error kinds (λ memory. c.in_default.not-OutOfMemory (c.kind.ensures ∙ memory)))
+    subst (λ a. HasKind (fault_of a words) c.in-Err.error) app_is
+    (c.in-Err.ensures.kinds (ap is_simple_and_free app_is ∙ free)) in
+    λ usage. ap is_some (refused_words words c.in-Err.error kinds
+    (λ memory. c.in_default.not-OutOfMemory (c.kind.ensures ∙ memory)))

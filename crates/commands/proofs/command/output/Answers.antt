@@ -19,7 +19,8 @@ returns-in-Sites-clause-asks g c =
 pub returns-in-Show-clause-asks : goal.returns-in-Show-clause-asks
 returns-in-Show-clause-asks g c =
     rw (c.in-Show.is, sym c.as_str-in-Show.ensures)
-    (asks_any (g.S.Store.files c.args.store.now) (c.as_str-in-Show.result.now ∷ []) _ _ c.show.result c.show.ensures.asks)
+    (asks_any (g.S.Store.files c.args.store.now)
+    (c.as_str-in-Show.result.now ∷ []) _ _ c.show.result c.show.ensures.asks)
 
 pub returns-in-Gen-clause-asks : goal.returns-in-Gen-clause-asks
 returns-in-Gen-clause-asks g c =

@@ -18,7 +18,8 @@ put_image-requires-clause-linked g c κs within =
     let images = c.args.linked.images.now in
     let ls = c.args.linked.ready.items in
     let inside = subst (λ e. IsWithin e job) c.in-File.is c.requires.place in
-    its ls c.in-File.place c.index.result.now (omega (arith, inside, count_linked job images ls c.requires.linked)) c.index.ensures IsLinked
+    its ls c.in-File.place c.index.result.now
+    (omega (arith, inside, count_linked job images ls c.requires.linked)) c.index.ensures IsLinked
     (are_linked job images ls c.requires.linked)
 
 pub returns-in-File-clause-says : goal.returns-in-File-clause-says
@@ -31,5 +32,6 @@ returns-in-File-clause-says g c =
     let put = c.in-File.put in
     let inside = subst (λ e. IsWithin e job) c.in-File.is c.requires.place in
     subst (λ (e : Ending). Comes items (Makes e before after job ls) c.put_image.result) (sym c.in-File.is)
-    (says_at ls c.in-File.place c.index.result.now (omega (arith, inside, count_linked job images ls c.requires.linked)) c.index.ensures
+    (says_at ls c.in-File.place c.index.result.now
+    (omega (arith, inside, count_linked job images ls c.requires.linked)) c.index.ensures
     (IsPut before after put.image.now put.out.now) c.put_image.result c.put_image.ensures.says)

@@ -9,4 +9,5 @@ loop-object-preserved c =
     (omega arith) c.object-item.is
 
 pub returns : goal.returns
-returns c = all_alike c.loop-object.files c.args.objects.now c.loop-object.object-index c.loop-object.invariant (omega arith)
+returns c = all_alike c.loop-object.files c.args.objects.now c.loop-object.object-index c.loop-object.invariant
+    (omega arith)

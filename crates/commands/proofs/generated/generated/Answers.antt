@@ -11,4 +11,5 @@ returns-in-Ok-clause-says g c =
     let job = sym (ap job_of (c.as_slice.ensures.value ∙ c.in_ok-text.ensures)) ∙ c.in-Ok.ensures.job in
     gen_comes c.generated_texts_are_jobs.ensures c.generated_objects_are_faultless.ensures c.generated_objects_link.ensures
     c.args.count c.requires.some c.requires.few c.run_generated.result
-    (subst (λ answer. Comes items (MadeSays c.args.count answer) c.run_generated.result) (sym job) c.run_generated.ensures.says)
+    (subst (λ answer. Comes items (MadeSays c.args.count answer) c.run_generated.result)
+    (sym job) c.run_generated.ensures.says)

@@ -13,4 +13,5 @@ returns-clause-images c =
 
 pub returns-clause-pass : goal.returns-clause-pass
 returns-clause-pass c =
-    IfOk-weaker c.start.result _ _ (λ started is. is ∙ ap (first_pass started.0) c.in_ok-registry.ensures.events) c.start.ensures.pass
+    IfOk-weaker c.start.result _ _
+    (λ started is. is ∙ ap (first_pass started.0) c.in_ok-registry.ensures.events) c.start.ensures.pass

@@ -2,7 +2,8 @@ use Rattle.commands.proofs.Raced.{raced, shares_none}
 use Rattle.commands.proofs.race_runs.race_linked.Goals as goal
 
 pub modules_again-requires : goal.modules_again-requires
-modules_again-requires g c = let (ls, links, dataless, all_is) = c.requires.links in record { links = (ls, links, all_is) }
+modules_again-requires g c = let (ls, links, dataless, all_is) = c.requires.links in
+    record { links = (ls, links, all_is) }
 
 pub race_modules-requires-clause-alone : goal.race_modules-requires-clause-alone
 race_modules-requires-clause-alone g c κs within =

@@ -7,5 +7,6 @@ finish-registry-requires-clause-all g c = all_of_them _ c.race_job-pass.ensures.
 
 pub returns-clause-ran : goal.returns-clause-ran
 returns-clause-ran g c =
-    are_raced c.args.modules.now c.args.job.now c.finish-registry.result (c.finish-registry.ensures.images ∙ c.requires.images) c.history_is_lawful.ensures.legal
+    are_raced c.args.modules.now c.args.job.now c.finish-registry.result
+    (c.finish-registry.ensures.images ∙ c.requires.images) c.history_is_lawful.ensures.legal
     _ c.finish-registry.ensures.events c.race_job-pass.result.1 c.race_job-pass.ensures.raced c.race_job-pass.ensures.history

@@ -6,7 +6,8 @@ pub write_images-requires : goal.write_images-requires
 write_images-requires g c = (search rules, c.requires.links.links.ready.together.links)
 
 pub race_linked-requires-clause-links : goal.race_linked-requires-clause-links
-race_linked-requires-clause-links g c κs within = (c.args.ready.items, c.requires.links, c.requires.dataless, c.in_ok-all.ensures)
+race_linked-requires-clause-links g c κs within =
+    (c.args.ready.items, c.requires.links, c.requires.dataless, c.in_ok-all.ensures)
 
 pub returns : goal.returns
 returns g c =

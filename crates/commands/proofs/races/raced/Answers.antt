@@ -5,9 +5,11 @@ use Rattle.commands.proofs.races.raced.Goals as goal
 
 pub returns-in-Ok-clause-asks : goal.returns-in-Ok-clause-asks
 returns-in-Ok-clause-asks g c =
-    asks_after (g.S.Store.files c.args.store.now) c.args.name.now c.in-Ok.text.items c.as_slice.result.now None (g.S.Store.asked c.args.store.now) _ _
+    asks_after (g.S.Store.files c.args.store.now) c.args.name.now c.in-Ok.text.items c.as_slice.result.now None
+    (g.S.Store.asked c.args.store.now) _ _
     c.raced_of_text.result c.in-Ok.ensures.asked c.in-Ok.ensures.bytes c.as_slice.ensures.value c.raced_of_text.ensures.asks
 
 pub returns-in-Err-clause-asks : goal.returns-in-Err-clause-asks
 returns-in-Err-clause-asks g c =
-    asks_job Text (g.S.Store.files c.args.store.now) c.args.name.now None (g.S.Store.asked c.args.store.now) _ c.in-Err.fault c.in-Err.ensures.refused c.in-Err.ensures.asked
+    asks_job Text (g.S.Store.files c.args.store.now) c.args.name.now None
+    (g.S.Store.asked c.args.store.now) _ c.in-Err.fault c.in-Err.ensures.refused c.in-Err.ensures.asked

@@ -28,9 +28,11 @@ race_ready-requires-clause-linked g c κs within =
 pub link_refusal-requires : goal.link_refusal-requires
 link_refusal-requires g c =
     let (bytes, are, small) = c.requires.given in
-    names_image c.args.job.now c.args.images.now c.is_allowed.result (count_is bytes c.args.job.now c.args.images.now are) c.in-Err.refusal c.in-Err.ensures.refused
+    names_image c.args.job.now c.args.images.now c.is_allowed.result
+    (count_is bytes c.args.job.now c.args.images.now are) c.in-Err.refusal c.in-Err.ensures.refused
 
 pub returns-in-Ok-clause-says : goal.returns-in-Ok-clause-says
 returns-in-Ok-clause-says g c =
-    linked_say IsRace c.is_allowed.result (is_allowed c.args.rewriting) c.is_allowed.ensures c.args.job.now c.args.images.now c.in-Ok.ready.items c.in-Ok.ensures.links
+    linked_say IsRace c.is_allowed.result
+    (is_allowed c.args.rewriting) c.is_allowed.ensures c.args.job.now c.args.images.now c.in-Ok.ready.items c.in-Ok.ensures.links
     c.in-Ok.ensures.ready c.race_ready.result c.race_ready.ensures.says

@@ -14,5 +14,6 @@ loop-image-preserved c =
 
 pub returns-clause-few : goal.returns-clause-few
 returns-clause-few c = λ all.
-    subst (λ (gs : List Given). All IsOfFew gs) (take_all c.loop-image.image-index c.args.images.now c.loop-image-test.false)
+    subst (λ (gs : List Given). All IsOfFew gs)
+    (take_all c.loop-image.image-index c.args.images.now c.loop-image-test.false)
     c.loop-image.invariant

@@ -6,7 +6,8 @@ use Rattle.commands.proofs.runs.modules_again.Goals as goal
 
 pub images_again-requires : goal.images_again-requires
 images_again-requires c =
-    let (ls, links, all_is) = c.requires.links in all_hold c.args.job.now ls links c.args.all.items all_is c.images_hold_tls.ensures
+    let (ls, links, all_is) = c.requires.links in
+    all_hold c.args.job.now ls links c.args.all.items all_is c.images_hold_tls.ensures
 
 pub new-requires : goal.new-requires
 new-requires c =

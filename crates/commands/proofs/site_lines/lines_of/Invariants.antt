@@ -7,4 +7,5 @@ use Rattle.commands.proofs.site_lines.lines_of.Given as goal
 abbrev pub invariant-loop-number : goal.invariant-loop-number
 invariant-loop-number l =
     let choices = map (λ own. own.items) l.choices in
-    l.lines.items ++ left l.names l.image.objects l.image.sites choices l.number ≡ lines_of l.names l.image.objects l.image.sites choices
+    l.lines.items ++ left l.names l.image.objects l.image.sites choices l.number
+    ≡ lines_of l.names l.image.objects l.image.sites choices

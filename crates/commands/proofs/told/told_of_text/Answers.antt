@@ -11,7 +11,8 @@ use Rattle.commands.proofs.told.told_of_text.Goals as goal
 
 pub returns-in-Ok-ending-clause-files : goal.returns-in-Ok-ending-clause-files
 returns-in-Ok-ending-clause-files g c =
-    subst (λ (out : Option (List ℕ)). FilesAfter out (g.S.Store.files c.args.store.now) (g.S.Store.files c.told_of_objects.new.store) c.told_of_objects.result)
+    subst (λ (out : Option (List ℕ)). FilesAfter out (g.S.Store.files c.args.store.now)
+    (g.S.Store.files c.told_of_objects.new.store) c.told_of_objects.result)
     (puts_found c.args.purpose c.in-Ok.job c.in-Ok-ending.ending c.in-Ok-ending.ensures.ending) c.told_of_objects.ensures.files
 
 pub returns-in-Ok-ending-clause-says : goal.returns-in-Ok-ending-clause-says
@@ -21,9 +22,11 @@ returns-in-Ok-ending-clause-says g c =
     let ending = c.in-Ok-ending.ending in
     let relax = is_allowed c.args.rewriting in
     let after = g.S.Store.files c.told_of_objects.new.store in
-    rw c.in-Ok.ensures.job (says_by (g.S.Store.files c.args.store.now) (λ fs. ObjectsSay (Makes ending (Some fs) after) relax Kept fs job)
+    rw c.in-Ok.ensures.job (says_by (g.S.Store.files c.args.store.now)
+    (λ fs. ObjectsSay (Makes ending (Some fs) after) relax Kept fs job)
     (λ fs. JobTold purpose c.args.rewriting fs after (Ok job)) c.told_of_objects.result
-    (λ fs e. objects_named (Makes ending (Some fs) after) (Tells purpose (Some fs) after) relax Kept fs job (has job (wanted_by purpose)) (has_found purpose job ending c.in-Ok-ending.ensures.ending)
+    (λ fs e. objects_named (Makes ending (Some fs) after) (Tells purpose (Some fs) after) relax Kept fs job
+    (has job (wanted_by purpose)) (has_found purpose job ending c.in-Ok-ending.ensures.ending)
     (tells_found (Some fs) after purpose job ending c.in-Ok-ending.ensures.ending))
     c.told_of_objects.ensures.says)
 

@@ -6,14 +6,17 @@ use Rattle.commands.proofs.top.tlsld_plain.Goals as goal
 
 pub returns-clause-asked : goal.returns-clause-asked
 returns-clause-asked g c =
-    asked_by (g.S.Store.files c.args.store.now) (Plain c.args.task.now) c.output-output.result (g.S.Store.asked c.args.store.now) _ c.deliver.result c.output-output.ensures.asks c.deliver.ensures.own
+    asked_by (g.S.Store.files c.args.store.now) (Plain c.args.task.now) c.output-output.result
+    (g.S.Store.asked c.args.store.now) _ c.deliver.result c.output-output.ensures.asks c.deliver.ensures.own
 
 pub returns-clause-shows : goal.returns-clause-shows
 returns-clause-shows g c =
-    output_shows (g.S.Store.files c.args.store.now) _ (Plain c.args.task.now) c.output-output.result _ _ _ _ c.deliver.result
+    output_shows (g.S.Store.files c.args.store.now) _
+    (Plain c.args.task.now) c.output-output.result _ _ _ _ c.deliver.result
     c.output-output.ensures.cause c.output-output.ensures.says c.output-output.ensures.may c.deliver.ensures.delivered
 
 pub returns-clause-completes : goal.returns-clause-completes
 returns-clause-completes g c =
-    output_completes (g.S.Store.files c.args.store.now) _ (Plain c.args.task.now) c.output-output.result _ _ _ _ c.deliver.result
+    output_completes (g.S.Store.files c.args.store.now) _
+    (Plain c.args.task.now) c.output-output.result _ _ _ _ c.deliver.result
     c.output-output.ensures.cause c.output-output.ensures.says c.output-output.ensures.may c.deliver.ensures.delivered

@@ -31,17 +31,21 @@ loop-site-preserved c =
     let name = symbol_name (object_at objects o) site.symbol in
     let asked : c.is_startup.result ≡ is_import objects startup o site =
     c.is_startup.ensures
-    ∙ ap (λ t. is_startup (bound_to objects startup o site.symbol t)) (c.imports_of-imports.ensures ∙ ap may_import c.row.ensures.first_is) in
+    ∙ ap (λ t. is_startup (bound_to objects startup o site.symbol t))
+    (c.imports_of-imports.ensures ∙ ap may_import c.row.ensures.first_is) in
     elim c.if-is_startup.branch [
       | then-is_startup+in_ok-insert w ↦
           ap (λ s. with_names (map (λ n. n.now) s.keys) rest) w.names-is
           ∙ ap (λ ks. with_names (map (λ n. n.now) ks) rest) w.in_ok-insert.ensures.keys
           ∙ ap (λ ns. with_names ns rest) (inserted c.loop-site.names.keys w.symbol_name.result)
-          ∙ ap (λ n. with_names (with_name seen n) rest) (w.symbol_name.ensures.name ∙ ap (λ b. symbol_name b site.symbol) c.requires.here)
-          ∙ walk_one (imported_at objects startup o) seen site sites i here name (imports_one objects startup o site (sym asked ∙ w.if-is_startup.true))
+          ∙ ap (λ n. with_names (with_name seen n) rest)
+          (w.symbol_name.ensures.name ∙ ap (λ b. symbol_name b site.symbol) c.requires.here)
+          ∙ walk_one (imported_at objects startup o) seen site sites i here name
+          (imports_one objects startup o site (sym asked ∙ w.if-is_startup.true))
           ∙ c.loop-site.invariant
       | else-is_startup w ↦
           ap (λ s. with_names (map (λ n. n.now) s.keys) rest) w.names-is
-          ∙ walk_none (imported_at objects startup o) seen site sites i here (imports_none objects startup o site (sym asked ∙ w.if-is_startup.false))
+          ∙ walk_none (imported_at objects startup o) seen site sites i here
+          (imports_none objects startup o site (sym asked ∙ w.if-is_startup.false))
           ∙ c.loop-site.invariant
     ]

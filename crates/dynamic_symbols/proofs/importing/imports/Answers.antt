@@ -15,8 +15,10 @@ use Rattle.tls_symbols.specs.Definitions.{flat_map_from}
 
 -- the symbols of an object's sites are its own
 own_symbols : (objects : List (List ℕ)) (sites : List (Vec Site)) (i : ℕ) (b : List ℕ) (own : Vec Site)
-    → ((o : ℕ) → o < length objects → HaveSymbols (object_at objects o) (slice_index_or (map (λ v. v.items) sites) o []))
-    → length sites ≡ length objects → b ≡ slice_index_or objects i b → own ≡ slice_index_or sites i own → i < length sites
+    → ((o : ℕ) → o < length objects
+    → HaveSymbols (object_at objects o) (slice_index_or (map (λ v. v.items) sites) o []))
+    → length sites ≡ length objects → b ≡ slice_index_or objects i b → own ≡ slice_index_or sites i own
+    → i < length sites
     → HaveSymbols b own.items
 own_symbols objects sites i b own symbols each b_is own_is there =
     let below : i < length objects = omega (arith, there, each) in
@@ -41,14 +43,16 @@ loop-index-preserved c =
     let rest = flat_map_from (imported_in objects startup) (i + 1) (map (λ v. v.items) (drop (i + 1) sites)) in
     let symbols =
     own_symbols c.args.objects.now sites i b own c.requires.symbols c.requires.each c.index-objects-index.is c.index-sites-index.is c.loop-index-test.true in
-    let each : map (λ name. name.now) c.if-may_import.names.keys ≡ with_names seen (imported_in objects startup i own.items) =
+    let each : map (λ name. name.now) c.if-may_import.names.keys
+    ≡ with_names seen (imported_in objects startup i own.items) =
     elim c.if-may_import.branch [
       | then-may_import+in_ok-add_imported w ↦
           ap (λ s. map (λ name. name.now) s.keys) w.names-is ∙ w.in_ok-add_imported.ensures
           ∙ ap (λ ys. with_names seen (imported_in objects startup i ys)) w.deref.ensures.value
       | else-may_import w ↦
           ap (λ s. map (λ name. name.now) s.keys) w.names-is
-          ∙ ap (with_names seen) (sym (nothing_imported objects startup i b (sym c.may_import.ensures ∙ w.if-may_import.false) own.items symbols))
+          ∙ ap (with_names seen) (sym
+          (nothing_imported objects startup i b (sym c.may_import.ensures ∙ w.if-may_import.false) own.items symbols))
     ] in
     ap (λ ns. with_names ns rest) each
     ∙ walk_from objects startup seen sites i own (drop_here sites i own c.index-sites-index.is c.loop-index-test.true)
@@ -61,7 +65,8 @@ returns c =
     let startup = c.args.bindings.now.startup in
     let sites = c.args.sites.now in
     let listed = map (λ own. own.items) sites in
-    ended_from objects startup (map (λ name. name.now) c.loop-index.names.keys) sites c.loop-index.index c.loop-index-test.false
+    ended_from objects startup
+    (map (λ name. name.now) c.loop-index.names.keys) sites c.loop-index.index c.loop-index-test.false
     ∙ c.loop-index.invariant
     ∙ added (flat_map_from (imported_in objects startup) 0 listed)
     ∙ ap (λ os. distinct (flat_map_from (imported_in os startup) 0 listed)) (sym c.requires.objects)

@@ -15,5 +15,6 @@ loop-name-init c =
     let last = sum_by size_of (map (λ name. name.now) c.args.imports.now) in
     let none = drop_of_length-le symbols c.loop-found-test.false in
     let so_far : min (size + 0) (2 ^ 64 - 1) ≡ min first (2 ^ 64 - 1) =
-    sym (ap (λ left. min (size + sum_by (λ found. size_of (name_of objects found)) left) (2 ^ 64 - 1)) none) ∙ c.loop-found.invariant.0 in
+    sym (ap (λ left. min (size + sum_by (λ found. size_of (name_of objects found)) left) (2 ^ 64 - 1)) none)
+    ∙ c.loop-found.invariant.0 in
     (capped_more size first last (2 ^ 64 - 1) so_far, c.loop-found.invariant.1)

@@ -9,5 +9,6 @@ use Rattle.elf_object.proofs.count.own_count.Given as goal
 -- what is counted and what the sections that are left have is all
 abbrev pub invariant-loop-section : goal.invariant-loop-section
 invariant-loop-section l =
-    (l.count + sum_by (λ t. length (relocations l.tables.bytes.now t)) (range_with_len l.section (section_count l.tables.bytes.now - l.section)) ≡ own_count l.tables.bytes.now) ×
+    (l.count + sum_by (λ t. length (relocations l.tables.bytes.now t))
+    (range_with_len l.section (section_count l.tables.bytes.now - l.section)) ≡ own_count l.tables.bytes.now) ×
     (l.count ≤ 2 ^ 20 * l.section)

@@ -36,8 +36,10 @@ pub returns : goal.returns
 returns c =
     let b = c.args.tables.now.bytes.now in
     let kept = c.loop-section.invariant in
-    let past : section_count b - c.loop-section.section ≡ 0 = omega (arith, c.loop-section-test.false, c.args.tables.now.count_is) in
+    let past : section_count b - c.loop-section.section ≡ 0 =
+    omega (arith, c.loop-section-test.false, c.args.tables.now.count_is) in
     let all : kept.0 ≡ all_relocations b =
     sym (append-nil kept.0)
     ∙ sym (ap (λ n. kept.0 ++ flat_map (relocations b) (range_with_len c.loop-section.section n)) past) ∙ kept.1 in
-    subst (λ done. AreNoted (symbol_count b) done c.loop-section.notes.roles.items c.loop-section.notes.traits) all kept.2
+    subst (λ done. AreNoted
+    (symbol_count b) done c.loop-section.notes.roles.items c.loop-section.notes.traits) all kept.2

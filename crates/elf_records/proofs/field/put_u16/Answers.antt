@@ -7,4 +7,5 @@ pub returns-clause-written : goal.returns-clause-written
 unfolding bytes_of
 returns-clause-written c =
     let size = length-bytes_of 2 c.args.value in
-    put_mid-rest c.args.at 2 (bytes_of 2 c.args.value) c.args.bytes.now c.write_u16.new.buf size c.requires c.write_u16.ensures
+    put_mid-rest c.args.at 2
+    (bytes_of 2 c.args.value) c.args.bytes.now c.write_u16.new.buf size c.requires c.write_u16.ensures

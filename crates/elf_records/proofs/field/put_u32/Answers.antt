@@ -7,4 +7,5 @@ pub returns-clause-written : goal.returns-clause-written
 unfolding bytes_of
 returns-clause-written c =
     let size = length-bytes_of 4 c.args.value in
-    put_mid-rest c.args.at 4 (bytes_of 4 c.args.value) c.args.bytes.now c.write_u32.new.buf size c.requires c.write_u32.ensures
+    put_mid-rest c.args.at 4
+    (bytes_of 4 c.args.value) c.args.bytes.now c.write_u32.new.buf size c.requires c.write_u32.ensures

@@ -28,7 +28,8 @@ returns-clause-bytes c =
       c.put_u16.ensures.written,
       c.put_bytes.ensures,
     )
-    (written_behind c.args.at 16 c.args.fields.now.ident (header_fields c.args.fields.now) c.args.bytes.now sixteen inside)
+    (written_behind c.args.at 16 c.args.fields.now.ident
+    (header_fields c.args.fields.now) c.args.bytes.now sixteen inside)
 
 pub returns-clause-again : goal.returns-clause-again
 returns-clause-again c =

@@ -8,6 +8,16 @@ pub returns : goal.returns
 returns g c =
     let pieces = (g.P.Pieces.view c.args.pieces.now).pieces in
     let all : c.start-all.result ≡ length (joined pieces) =
-    c.start-all.ensures ∙ ap (λ n. length (joined (take n pieces))) c.count.ensures ∙ ap (λ ps. length (joined ps)) (take_all (length pieces) pieces (le_refl _)) in
+    c.start-all.ensures ∙ ap (λ n. length (joined (take n pieces))) c.count.ensures
+    ∙ ap (λ ps. length (joined ps)) (take_all (length pieces) pieces (le_refl _)) in
     IfOk-weaker c.vec.result _ _ (λ buffer size k d inside.
-    omega (arith, c.largest.ensures k d inside, all_fit pieces k d inside, all, c.max.ensures, c.min.ensures, size, buffer.ok)) c.vec.ensures.len
+    omega (
+      arith,
+      c.largest.ensures k d inside,
+      all_fit pieces k d inside,
+      all,
+      c.max.ensures,
+      c.min.ensures,
+      size,
+      buffer.ok,
+    )) c.vec.ensures.len

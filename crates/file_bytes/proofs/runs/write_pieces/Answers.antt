@@ -16,4 +16,5 @@ pub returns-clause-err : goal.returns-clause-err
 returns-clause-err g c =
     let front = rw c.front.ensures at c.in_ok-write_all.ensures.ok in
     OnErr-then c.write_all-2.result c.write_all-2.ensures.err (λ last.
-    AppendsFront-next _ _ _ _ _ front (AppendsFront-next _ _ _ _ _ c.in_ok-write_runs.ensures.ok (rw c.back.ensures at last)))
+    AppendsFront-next _ _ _ _ _ front
+    (AppendsFront-next _ _ _ _ _ c.in_ok-write_runs.ensures.ok (rw c.back.ensures at last)))

@@ -11,5 +11,9 @@ returns-clause-bytes g c =
     let order : begin ≤ c.saturating_add.result = search rules in
     let before = take-filled_up begin _ old _ _ at order (c.deref_mut.ensures.value ∙ c.in_ok-resize.ensures.items) in
     let within : begin + count ≤ c.resize.new.self.len = search rules in
-    let written = take-written begin count _ old _ c.fill.new.buffer _ _ before at c.in_ok-count.ensures.bound.0 within in
-    (take count c.fill.new.buffer, sym c.in_ok-count.ensures.bound.1, c.in_ok-count.ensures.bytes, c.truncate.ensures.items ∙ written)
+    let written = take-written begin count _ old _ c.fill.new.buffer _ _ before at c.in_ok-count.ensures.bound.0 within in (
+      take count c.fill.new.buffer,
+      sym c.in_ok-count.ensures.bound.1,
+      c.in_ok-count.ensures.bytes,
+      c.truncate.ensures.items ∙ written,
+    )

@@ -4,7 +4,8 @@ use Rattle.std.specs.Io.KnownBytes.{Consumes}
 use Rattle.file_bytes.proofs.streams.read_rest.Given as goal
 
 abbrev pub invariant-loop-count : goal.invariant-loop-count
-invariant-loop-count g l = (done : List ℕ) × (l.into.items ≡ l.initial.into.items ++ done) × (length done + l.room ≡ l.initial.room)
+invariant-loop-count g l = (done : List ℕ) × (l.into.items ≡ l.initial.into.items ++ done)
+    × (length done + l.room ≡ l.initial.room)
     × Consumes (g.R.Read.remaining l.initial.from) (g.R.Read.remaining l.from) done
 
 abbrev pub decreases-loop-count : goal.decreases-loop-count

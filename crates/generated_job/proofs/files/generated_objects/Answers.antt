@@ -10,7 +10,8 @@ loop-before-init c = (refl, c.new-files.ensures.items)
 
 pub loop-before-preserved : goal.loop-before-preserved
 loop-before-preserved c =
-    let value : c.value_behind-value.result ≡ value_of c.args.count (c.loop-before.before + 1) = c.value_behind-value.ensures
+    let value : c.value_behind-value.result ≡ value_of c.args.count (c.loop-before.before + 1) =
+    c.value_behind-value.ensures
     ∙ ap (λ v. (5 * v + 3) % 2 ^ 32) c.loop-before.invariant.0 ∙ sym (next_value c.args.count c.loop-before.before) in (
       value,
       files_more c.args.count c.loop-before.before c.value_behind-value.result _ _ _ c.loop-before.invariant.1
@@ -19,5 +20,6 @@ loop-before-preserved c =
 
 pub returns : goal.returns
 returns c =
-    let all : c.loop-before.before ≡ c.args.count = omega (arith, c.loop-before.auto.before-end, c.loop-before-test.false) in
+    let all : c.loop-before.before ≡ c.args.count =
+    omega (arith, c.loop-before.auto.before-end, c.loop-before-test.false) in
     files_known c.args.count c.loop-before.before _ _ _ all c.loop-before.invariant.1 c.in_ok-push-2.ensures.items c.in_ok-module_object.ensures

@@ -7,10 +7,12 @@ use Rattle.generated_job.proofs.files.module_object.Goals as goal
 pub bytes-requires : goal.bytes-requires
 bytes-requires c =
     subst IsShort
-    (sym (module_made _ _ _ c.code.ensures.code (c.as_slice.ensures.value ∙ c.in_ok-relocations.ensures.entries) c.calls.ensures))
+    (sym (module_made _ _ _ c.code.ensures.code
+    (c.as_slice.ensures.value ∙ c.in_ok-relocations.ensures.entries) c.calls.ensures))
     module_short
 
 pub returns : goal.returns
 returns c =
     pair_known _ _ _ _ c.in_ok-from_str.ensures.ok (c.in_ok-content.ensures
-    ∙ ap object_bytes (module_made _ _ _ c.code.ensures.code (c.as_slice.ensures.value ∙ c.in_ok-relocations.ensures.entries) c.calls.ensures))
+    ∙ ap object_bytes (module_made _ _ _ c.code.ensures.code
+    (c.as_slice.ensures.value ∙ c.in_ok-relocations.ensures.entries) c.calls.ensures))

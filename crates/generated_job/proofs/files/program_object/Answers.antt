@@ -11,8 +11,10 @@ unfolding bytes_of
 bytes-requires c =
     subst IsShort
     (sym (shape_made c.args.number c.args.value _ _ _ _ _ _ (c.as_bytes.ensures.value ∙ c.in_ok-function.ensures)
-    (c.as_bytes-2.ensures.value ∙ c.in_ok-variable.ensures) (c.code.ensures.code ∙ ap code_of c.of_object-access.ensures)
-    (c.as_slice.ensures.value ∙ c.in_ok-relocations.ensures.entries ∙ ap entries_of c.of_object-access.ensures) c.to_le_bytes.ensures
+    (c.as_bytes-2.ensures.value ∙ c.in_ok-variable.ensures)
+    (c.code.ensures.code ∙ ap code_of c.of_object-access.ensures)
+    (c.as_slice.ensures.value ∙ c.in_ok-relocations.ensures.entries
+    ∙ ap entries_of c.of_object-access.ensures) c.to_le_bytes.ensures
     (c.calls.ensures ∙ ap calls_of c.of_object-access.ensures)))
     (with_short c.args.number c.args.value c.requires)
 
@@ -20,7 +22,10 @@ pub returns : goal.returns
 unfolding bytes_of
 returns c =
     pair_known _ _ _ _ c.in_ok-object_name.ensures (c.in_ok-content.ensures
-    ∙ ap object_bytes (shape_made c.args.number c.args.value _ _ _ _ _ _ (c.as_bytes.ensures.value ∙ c.in_ok-function.ensures)
-    (c.as_bytes-2.ensures.value ∙ c.in_ok-variable.ensures) (c.code.ensures.code ∙ ap code_of c.of_object-access.ensures)
-    (c.as_slice.ensures.value ∙ c.in_ok-relocations.ensures.entries ∙ ap entries_of c.of_object-access.ensures) c.to_le_bytes.ensures
+    ∙ ap object_bytes (shape_made c.args.number c.args.value _ _ _ _ _ _
+    (c.as_bytes.ensures.value ∙ c.in_ok-function.ensures)
+    (c.as_bytes-2.ensures.value ∙ c.in_ok-variable.ensures)
+    (c.code.ensures.code ∙ ap code_of c.of_object-access.ensures)
+    (c.as_slice.ensures.value ∙ c.in_ok-relocations.ensures.entries
+    ∙ ap entries_of c.of_object-access.ensures) c.to_le_bytes.ensures
     (c.calls.ensures ∙ ap calls_of c.of_object-access.ensures)))

@@ -1,5 +1,6 @@
 use Rattle.std.proofs.Common.{◌≡◌, ◌+◌, ◌-◌}
-use Rattle.guest_machine.specs.Run.{machine_of, run}
+use Rattle.guest_machine.specs.Run.{run}
+use Rattle.guest_machine.specs.RunLaws.{machine_of}
 use Rattle.guest_operands.specs.Use.{left}
 use Rattle.guest_machine.proofs.run.run.Given as goal
 
@@ -9,7 +10,8 @@ invariant-loop-state g l =
     let machine = machine_of g.V.Values.operations in
     let memory = g.S.Space.memory in
     record {
-      same : run machine (l.limit - l.taken) (left l.state (memory l.space)) ≡ run machine (l.limit - l.fn.taken) (left l.fn.state (memory l.fn.space));
+      same : run machine (l.limit - l.taken) (left l.state (memory l.space))
+          ≡ run machine (l.limit - l.fn.taken) (left l.fn.state (memory l.fn.space));
       counted : l.taken + (l.limit - l.taken) ≡ l.fn.taken + (l.limit - l.fn.taken);
       rest : g.S.Space.rest l.space ≡ g.S.Space.rest l.fn.space;
     }

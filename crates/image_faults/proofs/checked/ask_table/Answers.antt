@@ -9,4 +9,5 @@ fault_at-requires-clause-first c =
 
 pub returns : goal.returns
 returns c =
-    kept_table c.args.rule c.args.tables.now.bytes.now c.loop-entry.entry (omega (arith, c.table_count-entry-end.ensures)) c.loop-entry.invariant c.requires
+    kept_table c.args.rule c.args.tables.now.bytes.now c.loop-entry.entry
+    (omega (arith, c.table_count-entry-end.ensures)) c.loop-entry.invariant c.requires

@@ -13,4 +13,5 @@ fault_at-requires-clause-first c =
 pub returns-then-is_right_field-clause-answers : goal.returns-then-is_right_field-clause-answers
 returns-then-is_right_field-clause-answers c =
     let P : Header → Type 0 = IsRightField c.args.rule in
-    kept_field c.args.rule c.args.bytes.now c.requires.earlier (subst P c.requires.header (c.is_right_field.ensures.0 c.if-is_right_field.true))
+    kept_field c.args.rule c.args.bytes.now c.requires.earlier
+    (subst P c.requires.header (c.is_right_field.ensures.0 c.if-is_right_field.true))

@@ -3,7 +3,8 @@ use Rattle.image_faults.proofs.File.{first_extent, kept_extent}
 use Rattle.image_faults.proofs.headers.headers_of.Goals as goal
 
 pub fault_at-requires-clause-first : goal.fault_at-requires-clause-first
-fault_at-requires-clause-first c = first_extent c.args.bytes.now c.in_ok-header.ensures.answers (c.passes_end.ensures.wrong c.if-passes_end.true)
+fault_at-requires-clause-first c =
+    first_extent c.args.bytes.now c.in_ok-header.ensures.answers (c.passes_end.ensures.wrong c.if-passes_end.true)
 
 pub returns-clause-answers : goal.returns-clause-answers
 returns-clause-answers c =

@@ -11,7 +11,8 @@ returns-then-not-is_right_load c = (
 pub loop-number-preserved : goal.loop-number-preserved
 loop-number-preserved c =
     let P : ℕ → Type 0 = λ i. (IsRightLoad c.args.headers.now.bytes.now i → ⊥) → ⊥ in
-    below_more P c.loop-number.number c.loop-number.invariant (λ wrong. wrong (c.is_right_load.ensures.0 c.if-not-is_right_load.false))
+    below_more P c.loop-number.number c.loop-number.invariant
+    (λ wrong. wrong (c.is_right_load.ensures.0 c.if-not-is_right_load.false))
 
 pub returns : goal.returns
 returns c = λ e w. c.loop-number.invariant e (omega (arith, w.0)) w.1

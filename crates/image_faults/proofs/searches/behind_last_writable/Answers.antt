@@ -2,7 +2,8 @@ use Rattle.std.proofs.Common.{◌∙◌, sym, ap, arith}
 use Rattle.image_faults.specs.Parts.{is_writable}
 use Rattle.image_faults.proofs.Counts.{last_none, last_more, last_same, is_of, is_not_of}
 use Rattle.image_faults.proofs.searches.behind_last_writable.Goals as goal
-use Rattle.image_faults.proofs.searches.behind_last_writable.Goals.{then-segment-eq-READ_WRITE, else-segment-eq-READ_WRITE}
+use Rattle.image_faults.proofs.searches.behind_last_writable.Goals.{then-segment-eq-READ_WRITE}
+use Rattle.image_faults.proofs.searches.behind_last_writable.Goals.{else-segment-eq-READ_WRITE}
 
 pub loop-number-init : goal.loop-number-init
 loop-number-init c = record { found = sym (last_none (is_writable c.args.headers.now.bytes.now)); few = omega arith }
@@ -18,7 +19,8 @@ loop-number-preserved c =
         few = omega (arith, w.behind-is);
       }
       | else-segment-eq-READ_WRITE w ↦ record {
-        found = w.behind-is ∙ c.loop-number.invariant.found ∙ sym (last_same p n (is_not_of _ _ _ flags w.if-segment-eq-READ_WRITE.false));
+        found = w.behind-is ∙ c.loop-number.invariant.found
+            ∙ sym (last_same p n (is_not_of _ _ _ flags w.if-segment-eq-READ_WRITE.false));
         few = omega (arith, w.behind-is, c.loop-number.invariant.few);
       }
     ]

@@ -15,5 +15,6 @@ loop-number-preserved c =
       | then-segment-eq-PT_GNU_RELRO w ↦
           w.behind-is ∙ sym (last_more p n (is_of _ _ _ kind w.if-segment-eq-PT_GNU_RELRO.true))
       | else-segment-eq-PT_GNU_RELRO w ↦
-          w.behind-is ∙ c.loop-number.invariant ∙ sym (last_same p n (is_not_of _ _ _ kind w.if-segment-eq-PT_GNU_RELRO.false))
+          w.behind-is ∙ c.loop-number.invariant
+          ∙ sym (last_same p n (is_not_of _ _ _ kind w.if-segment-eq-PT_GNU_RELRO.false))
     ]

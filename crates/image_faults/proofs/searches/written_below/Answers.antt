@@ -14,11 +14,13 @@ loop-number-preserved c =
     let flags = ap (λ s. s.flags) c.segment.ensures.segment in
     elim c.if-segment-eq-READ_WRITE.branch [
       | then-segment-eq-READ_WRITE w ↦ record {
-        counted = w.count-is ∙ ap (λ x. x + 1) c.loop-number.invariant.counted ∙ sym (many_more p n (is_of _ _ _ flags w.if-segment-eq-READ_WRITE.true));
+        counted = w.count-is ∙ ap (λ x. x + 1) c.loop-number.invariant.counted
+            ∙ sym (many_more p n (is_of _ _ _ flags w.if-segment-eq-READ_WRITE.true));
         few = omega (arith, w.count-is, c.loop-number.invariant.few);
       }
       | else-segment-eq-READ_WRITE w ↦ record {
-        counted = w.count-is ∙ c.loop-number.invariant.counted ∙ sym (many_same p n (is_not_of _ _ _ flags w.if-segment-eq-READ_WRITE.false));
+        counted = w.count-is ∙ c.loop-number.invariant.counted
+            ∙ sym (many_same p n (is_not_of _ _ _ flags w.if-segment-eq-READ_WRITE.false));
         few = omega (arith, w.count-is, c.loop-number.invariant.few);
       }
     ]

@@ -8,4 +8,5 @@ fault_at-requires-clause-first c =
 
 pub returns-then-is_right_entry-clause-answers : goal.returns-then-is_right_entry-clause-answers
 returns-then-is_right_entry-clause-answers c =
-    kept_entry c.args.rule c.args.segments.now.headers.bytes.now c.requires.earlier (c.is_right_entry.ensures.0 c.if-is_right_entry.true)
+    kept_entry c.args.rule c.args.segments.now.headers.bytes.now c.requires.earlier
+    (c.is_right_entry.ensures.0 c.if-is_right_entry.true)

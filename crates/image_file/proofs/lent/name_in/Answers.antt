@@ -12,4 +12,5 @@ returns-then-tables-number c =
 pub returns : goal.returns
 returns c =
     let b = c.args.tables.now.bytes.now in
-    ap Some c.text_of.ensures ∙ sym (tabled_at (name b) (symbol_count b) c.args.number (omega (arith, c.args.tables.now.are.symbol_count_is)))
+    ap Some c.text_of.ensures
+    ∙ sym (tabled_at (name b) (symbol_count b) c.args.number (omega (arith, c.args.tables.now.are.symbol_count_is)))

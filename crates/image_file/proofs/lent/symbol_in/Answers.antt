@@ -8,10 +8,12 @@ use Rattle.image_file.proofs.lent.symbol_in.Goals as goal
 pub returns-then-tables-number : goal.returns-then-tables-number
 returns-then-tables-number c =
     let b = c.args.tables.now.bytes.now in
-    sym (tabled_past (λ (k : ℕ). symbol_of (symbol b k)) (symbol_count b) c.args.number (omega (arith, c.args.tables.now.are.symbol_count_is)))
+    sym (tabled_past (λ (k : ℕ). symbol_of (symbol b k)) (symbol_count b) c.args.number
+    (omega (arith, c.args.tables.now.are.symbol_count_is)))
 
 pub returns : goal.returns
 returns c =
     let b = c.args.tables.now.bytes.now in
     ap Some (c.symbol_of.ensures ∙ ap symbol_of c.symbol.ensures)
-    ∙ sym (tabled_at (λ (k : ℕ). symbol_of (symbol b k)) (symbol_count b) c.args.number (omega (arith, c.args.tables.now.are.symbol_count_is)))
+    ∙ sym (tabled_at (λ (k : ℕ). symbol_of (symbol b k)) (symbol_count b) c.args.number
+    (omega (arith, c.args.tables.now.are.symbol_count_is)))

@@ -13,7 +13,9 @@ returns-then-runs_at c =
 
 pub loop-number-preserved : goal.loop-number-preserved
 loop-number-preserved c = elim c.match-part.branch [
-  | in-Some+else-runs_at w ↦ any_on c.args.image.now.parts c.loop-number.number (runs_at c.args.address) (lent_part w.in-Some.part) _
+  | in-Some+else-runs_at w ↦ any_on c.args.image.now.parts c.loop-number.number (runs_at c.args.address)
+      (lent_part w.in-Some.part) _
       w.in-Some.ensures (sym w.if-runs_at.ensures) c.loop-number.invariant
-  | in_default w ↦ none_on c.args.image.now.parts c.loop-number.number (list_any (runs_at c.args.address)) _ w.in_default.ensures c.loop-number.invariant
+  | in_default w ↦ none_on c.args.image.now.parts c.loop-number.number
+      (list_any (runs_at c.args.address)) _ w.in_default.ensures c.loop-number.invariant
 ]

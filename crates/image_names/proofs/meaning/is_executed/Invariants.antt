@@ -5,4 +5,5 @@ use Rattle.image_names.proofs.meaning.is_executed.Given as goal
 
 -- the parts that are left decide
 abbrev pub invariant-loop-number : goal.invariant-loop-number
-invariant-loop-number l = list_any (runs_at l.address) (drop l.number l.image.parts) ≡ list_any (runs_at l.address) l.image.parts
+invariant-loop-number l =
+    list_any (runs_at l.address) (drop l.number l.image.parts) ≡ list_any (runs_at l.address) l.image.parts

@@ -5,4 +5,5 @@ use Rattle.image_text.proofs.shown.push_relocations.Given as goal
 
 -- the lines of the relocations so far
 abbrev pub invariant-loop-number : goal.invariant-loop-number
-invariant-loop-number l = l.text.items ≡ l.initial.text.items ++ flat_map relocation_line (take l.number l.image.relocations)
+invariant-loop-number l =
+    l.text.items ≡ l.initial.text.items ++ flat_map relocation_line (take l.number l.image.relocations)

@@ -6,8 +6,10 @@ use Rattle.image_text.proofs.shown.push_symbols.Goals as goal
 
 pub loop-number-preserved : goal.loop-number-preserved
 loop-number-preserved c =
-    one_more_behind symbol_line (zip c.args.image.now.symbols c.args.image.now.names) c.loop-number.number _ _ _ (omega arith) c.in_ok-push_symbol_at.ensures c.loop-number.invariant
+    one_more_behind symbol_line (zip c.args.image.now.symbols c.args.image.now.names) c.loop-number.number _ _ _
+    (omega arith) c.in_ok-push_symbol_at.ensures c.loop-number.invariant
 
 pub returns : goal.returns
 returns c =
-    all_behind symbol_line c.args.image.now.symbols c.args.image.now.names c.loop-number.number _ _ (omega arith) c.loop-number.invariant
+    all_behind symbol_line c.args.image.now.symbols c.args.image.now.names c.loop-number.number _ _
+    (omega arith) c.loop-number.invariant

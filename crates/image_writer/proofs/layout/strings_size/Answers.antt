@@ -1,5 +1,6 @@
 use Rattle.std.proofs.Common.{length, ap, sym, ◌∙◌, arith}
-use Rattle.image_writer.proofs.Strings.{no_symbol, names_of-none, names_of-short, names_of-longer, names_of-all, strings-told}
+use Rattle.image_writer.proofs.Strings.{no_symbol, names_of-none, names_of-short, names_of-longer, names_of-all}
+use Rattle.image_writer.proofs.Strings.{strings-told}
 use Rattle.image_writer.proofs.layout.strings_size.Goals as goal
 
 pub loop-symbol-init : goal.loop-symbol-init

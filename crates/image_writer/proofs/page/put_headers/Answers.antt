@@ -40,7 +40,8 @@ returns c =
     let last = next + 56 + 56 * c.from.result in
     headings.put_headers o at next (next + 56) last c.args.out.now c.put_loads.new.out c.write_segment.new.bytes
     c.put_if.new.out c.put_if-2.new.out refl refl (ap (λ n. next + 56 + 56 * n) tls) (omega arith) c.put_loads.ensures
-    (c.write_segment.ensures.bytes ∙ ap (λ s. splice next (segment_bytes s) c.put_loads.new.out) c.dynamic_header.ensures)
+    (c.write_segment.ensures.bytes
+    ∙ ap (λ s. splice next (segment_bytes s) c.put_loads.new.out) c.dynamic_header.ensures)
     (c.put_if.ensures
     ∙ ap (λ hs. splice (next + 56) (flat_map segment_bytes hs) c.write_segment.new.bytes) c.tls_header.ensures)
     (c.put_if-2.ensures ∙ ap (λ hs. splice last (flat_map segment_bytes hs) c.put_if.new.out) c.got_header.ensures)

@@ -23,7 +23,8 @@ loop-number-preserved c =
     let at = c.args.at in
     let i = c.loop-number.number in
     let kind = c.args.outline.now.kind in
-    put_more (λ (p : PartPlace). segment_bytes (load_header kind p)) 56 at (at + 56 * i) i c.args.outline.now.parts.now _
+    put_more (λ (p : PartPlace). segment_bytes (load_header kind p)) 56 at
+    (at + 56 * i) i c.args.outline.now.parts.now _
     c.args.out.now c.loop-number.out c.write_segment.new.bytes (λ p. length-segment_bytes (load_header kind p))
     c.loop-number-test.true refl (omega arith) c.loop-number.invariant
     (c.write_segment.ensures.bytes

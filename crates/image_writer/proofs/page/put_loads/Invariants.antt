@@ -9,4 +9,5 @@ use Rattle.image_writer.proofs.page.put_loads.Given as goal
 abbrev pub invariant-loop-number : goal.invariant-loop-number
 invariant-loop-number l =
     l.out ≡ splice l.at
-    (flat_map (λ (p : PartPlace). segment_bytes (load_header l.outline.kind p)) (take l.number l.outline.parts.now)) l.fn.out
+    (flat_map (λ (p : PartPlace). segment_bytes (load_header l.outline.kind p))
+    (take l.number l.outline.parts.now)) l.fn.out

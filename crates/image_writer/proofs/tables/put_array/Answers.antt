@@ -35,19 +35,22 @@ overflow_add-address c =
 pub put_relocation_entries-next-requires-clause-room : goal.put_relocation_entries-next-requires-clause-room
 put_relocation_entries-next-requires-clause-room c =
     let d = c.args.draft.now in
-    let few = layouts.entries-fit d c.args.layout.now c.requires.layout (c.args.address + c.args.layout.now.relocations_start) in
+    let few = layouts.entries-fit d c.args.layout.now c.requires.layout
+    (c.args.address + c.args.layout.now.relocations_start) in
     omega (arith, few, c.requires.room)
 
 pub put_if-next-requires : goal.put_if-next-requires
 put_if-next-requires c =
     let d = c.args.draft.now in
-    let few = layouts.entries-fit d c.args.layout.now c.requires.layout (c.args.address + c.args.layout.now.relocations_start) in
+    let few = layouts.entries-fit d c.args.layout.now c.requires.layout
+    (c.args.address + c.args.layout.now.relocations_start) in
     omega (arith, few, c.put_relocation_entries-next.ensures.next, c.requires.room)
 
 pub write_dynamic-requires : goal.write_dynamic-requires
 write_dynamic-requires c =
     let d = c.args.draft.now in
-    let few = layouts.entries-fit d c.args.layout.now c.requires.layout (c.args.address + c.args.layout.now.relocations_start) in
+    let few = layouts.entries-fit d c.args.layout.now c.requires.layout
+    (c.args.address + c.args.layout.now.relocations_start) in
     let flags = ap length c.flags_entry.ensures in
     omega (arith, few, flags, c.put_relocation_entries-next.ensures.next, c.put_if-next.ensures.next, c.requires.room)
 
@@ -73,10 +76,13 @@ returns c =
     c.put_places.ensures c.put_relocation_entries-next.ensures.bytes c.put_if-next.ensures.bytes
     c.write_dynamic.ensures.bytes in
     put
-    ∙ ap (λ fs. splice at (flat_map dynamic_bytes (place_entries l address ++ (L ++ (fs ++ (c.entry.result ∷ []))))) c.args.out.now)
+    ∙ ap (λ fs. splice at (flat_map dynamic_bytes
+    (place_entries l address ++ (L ++ (fs ++ (c.entry.result ∷ []))))) c.args.out.now)
     c.flags_entry.ensures
-    ∙ ap (λ e. splice at (flat_map dynamic_bytes (place_entries l address ++ (L ++ (flags_entries d.is_flagged d.kind ++ (e ∷ [])))))
+    ∙ ap (λ e. splice at (flat_map dynamic_bytes
+    (place_entries l address ++ (L ++ (flags_entries d.is_flagged d.kind ++ (e ∷ [])))))
     c.args.out.now) c.entry.ensures
     ∙ ap (λ (m : Layout). splice at (flat_map dynamic_bytes (place_entries m address
-    ++ (leading_entries b (address + m.relocations_start) n ++ (flags_entries d.is_flagged d.kind ++ (array_entry DT_NULL 0 ∷ [])))))
+    ++ (leading_entries b (address + m.relocations_start) n
+    ++ (flags_entries d.is_flagged d.kind ++ (array_entry DT_NULL 0 ∷ [])))))
     c.args.out.now) c.requires.layout

@@ -9,6 +9,7 @@ loop-number-init c = splice_none c.args.at c.args.out.now
 
 pub loop-number-preserved : goal.loop-number-preserved
 loop-number-preserved c =
-    put_more dynamic_bytes 16 c.args.at (c.args.at + 16 * c.loop-number.number) c.loop-number.number c.args.entries.now _
+    put_more dynamic_bytes 16 c.args.at
+    (c.args.at + 16 * c.loop-number.number) c.loop-number.number c.args.entries.now _
     c.args.out.now c.loop-number.out c.write_dynamic.new.bytes length-dynamic_bytes c.loop-number-test.true refl
     (omega arith) c.loop-number.invariant c.write_dynamic.ensures.bytes

@@ -12,7 +12,8 @@ loop-number-init c =
 pub loop-number-preserved : goal.loop-number-preserved
 loop-number-preserved c =
     words_below-put c.args.total c.loop-number.number c.args.at c.chain.result c.args.out.now c.loop-number.out
-    c.put_word-in-loop-number.new.out (omega arith) c.chain.ensures c.loop-number.invariant c.put_word-in-loop-number.ensures
+    c.put_word-in-loop-number.new.out
+    (omega arith) c.chain.ensures c.loop-number.invariant c.put_word-in-loop-number.ensures
 
 pub returns : goal.returns
 returns c =

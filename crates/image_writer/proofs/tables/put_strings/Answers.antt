@@ -1,6 +1,7 @@
 use Rattle.std.proofs.Common.{◌+◌, length, take, get_or, refl, sym, ap, ◌∙◌, arith}
 use Rattle.elf_records.specs.Fields.{splice}
-use Rattle.image_writer.proofs.Strings.{names_of, no_symbol, names_of-none, names_of-some, names_of-short, names_of-next}
+use Rattle.image_writer.proofs.Strings.{names_of, no_symbol, names_of-none, names_of-some, names_of-short}
+use Rattle.image_writer.proofs.Strings.{names_of-next}
 use Rattle.image_writer.proofs.Strings.{names_of-longer, names_of-all, strings-told, put_name}
 use Rattle.image_writer.proofs.tables.put_strings.Goals as goal
 
@@ -50,7 +51,8 @@ loop-symbol-preserved c =
       put_name at c.loop-symbol.next done (get_or symbols i no_symbol).name.now c.args.out.now c.loop-symbol.out
           c.put_bytes.new.out c.put_zeros-in-loop-symbol.new.out c.loop-symbol.invariant.1 (omega arith)
           c.loop-symbol.invariant.0 c.put_bytes.ensures c.put_zeros-in-loop-symbol.ensures
-          ∙ ap (λ names. splice at names c.args.out.now) (sym (names_of-next symbols i no_symbol c.loop-symbol-test.true)),
+          ∙ ap (λ names. splice at names c.args.out.now)
+          (sym (names_of-next symbols i no_symbol c.loop-symbol-test.true)),
       omega (arith, long, c.loop-symbol.invariant.1),
     )
 

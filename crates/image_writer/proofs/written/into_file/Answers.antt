@@ -28,7 +28,8 @@ returns-clause-file c =
     (c.as_mut_slice.ensures.value ∙ c.truncate.ensures.items) in
     let made : c.put_around.new.out ≡ written image =
     c.put_around.ensures
-    ∙ ap (λ (o : Outlined). page o ++ laid (base_of o.kind) (map (part_in o.kind lent) o.parts)) c.outline_of-outline.ensures
+    ∙ ap (λ (o : Outlined). page o
+    ++ laid (base_of o.kind) (map (part_in o.kind lent) o.parts)) c.outline_of-outline.ensures
     ∙ ap (λ ps. page (outline_of image) ++ laid (base_of image.kind) ps) left.1 in
     let long : length c.put_around.new.out ≡ c.truncate.new.self.len =
     ap length made ∙ c.written_again.ensures.size ∙ sym size ∙ sym left.0

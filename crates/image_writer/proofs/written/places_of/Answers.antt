@@ -10,5 +10,6 @@ loop-number-preserved c =
     let i = c.loop-number.number in
     let p = lent_part c.in-Some.part in
     let is = sym c.part.ensures ∙ ap part_seen c.in-Some.is in
-    placed parts i p c.loop-number.places.items c.push.new.self.items c.place_of.result is (slice_get_within parts i p is)
+    placed parts i p c.loop-number.places.items c.push.new.self.items c.place_of.result is
+    (slice_get_within parts i p is)
     c.loop-number.invariant c.place_of.ensures (c.in_ok-push-in-Some.ensures {u = tt}).items

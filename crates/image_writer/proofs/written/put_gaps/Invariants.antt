@@ -10,4 +10,5 @@ abbrev pub invariant-loop-part : goal.invariant-loop-part
 invariant-loop-part l =
     (l.out ≡ splice 4096 (laid (base_of l.outline.kind)
     (take l.part-index (map (part_in l.outline.kind l.fn.out) l.outline.parts.now))) l.fn.out)
-    × (l.end ≡ reach (base_of l.outline.kind) (take l.part-index (map (part_in l.outline.kind l.fn.out) l.outline.parts.now)))
+    × (l.end ≡ reach (base_of l.outline.kind)
+    (take l.part-index (map (part_in l.outline.kind l.fn.out) l.outline.parts.now)))

@@ -15,35 +15,40 @@ loop-number-init c = (splice_none c.args.at c.args.out.now, c.base_of-base.ensur
 pub overflow_sub-end : goal.overflow_sub-end
 overflow_sub-end c =
     let is = sym c.part.ensures ∙ ap part_seen c.in-Some.is in
-    let facts = part_place c.args.image.now c.loop-number.number (lent_part c.in-Some.part) c.base_of-base.result c.loop-number.end
+    let facts = part_place c.args.image.now c.loop-number.number
+    (lent_part c.in-Some.part) c.base_of-base.result c.loop-number.end
     c.requires.loadable is (c.base_of-base.ensures ∙ ap base_of c.kind.ensures) c.loop-number.invariant.1 in
     facts.0
 
 pub overflow_add-at : goal.overflow_add-at
 overflow_add-at c =
     let is = sym c.part.ensures ∙ ap part_seen c.in-Some.is in
-    let facts = part_place c.args.image.now c.loop-number.number (lent_part c.in-Some.part) c.base_of-base.result c.loop-number.end
+    let facts = part_place c.args.image.now c.loop-number.number
+    (lent_part c.in-Some.part) c.base_of-base.result c.loop-number.end
     c.requires.loadable is (c.base_of-base.ensures ∙ ap base_of c.kind.ensures) c.loop-number.invariant.1 in
     omega (arith, facts.3, c.requires.room)
 
 pub put_part-requires-clause-rising : goal.put_part-requires-clause-rising
 put_part-requires-clause-rising c =
     let is = sym c.part.ensures ∙ ap part_seen c.in-Some.is in
-    let facts = part_place c.args.image.now c.loop-number.number (lent_part c.in-Some.part) c.base_of-base.result c.loop-number.end
+    let facts = part_place c.args.image.now c.loop-number.number
+    (lent_part c.in-Some.part) c.base_of-base.result c.loop-number.end
     c.requires.loadable is (c.base_of-base.ensures ∙ ap base_of c.kind.ensures) c.loop-number.invariant.1 in
     facts.1
 
 pub put_part-requires-clause-room : goal.put_part-requires-clause-room
 put_part-requires-clause-room c =
     let is = sym c.part.ensures ∙ ap part_seen c.in-Some.is in
-    let facts = part_place c.args.image.now c.loop-number.number (lent_part c.in-Some.part) c.base_of-base.result c.loop-number.end
+    let facts = part_place c.args.image.now c.loop-number.number
+    (lent_part c.in-Some.part) c.base_of-base.result c.loop-number.end
     c.requires.loadable is (c.base_of-base.ensures ∙ ap base_of c.kind.ensures) c.loop-number.invariant.1 in
     omega (arith, facts.3, c.requires.room)
 
 pub overflow_add-end : goal.overflow_add-end
 overflow_add-end c =
     let is = sym c.part.ensures ∙ ap part_seen c.in-Some.is in
-    let facts = part_place c.args.image.now c.loop-number.number (lent_part c.in-Some.part) c.base_of-base.result c.loop-number.end
+    let facts = part_place c.args.image.now c.loop-number.number
+    (lent_part c.in-Some.part) c.base_of-base.result c.loop-number.end
     c.requires.loadable is (c.base_of-base.ensures ∙ ap base_of c.kind.ensures) c.loop-number.invariant.1 in
     omega (arith, facts.2)
 
@@ -64,8 +69,10 @@ loop-number-preserved c =
       put_next_part (base_of image.kind) c.args.at image.parts i p c.args.out.now c.loop-number.out c.put_part.new.out is below
           (parts_rise image c.requires.loadable) (omega (arith, c.requires.room)) c.loop-number.invariant.0
           (c.put_part.ensures
-          ∙ ap (λ b. splice (c.args.at + (c.loop-number.end - b)) (replicate (p.address - c.loop-number.end) 0 ++ p.bytes) c.loop-number.out) base
-          ∙ ap (λ e. splice (c.args.at + (e - base_of image.kind)) (replicate (p.address - e) 0 ++ p.bytes) c.loop-number.out)
+          ∙ ap (λ b. splice (c.args.at + (c.loop-number.end - b))
+          (replicate (p.address - c.loop-number.end) 0 ++ p.bytes) c.loop-number.out) base
+          ∙ ap (λ e. splice (c.args.at + (e - base_of image.kind))
+          (replicate (p.address - e) 0 ++ p.bytes) c.loop-number.out)
           c.loop-number.invariant.1),
       reach-next (base_of image.kind) image.parts i p is below,
     )
@@ -73,6 +80,8 @@ loop-number-preserved c =
 pub returns : goal.returns
 returns c =
     let image = c.args.image.now in
-    let all : length image.parts ≤ c.loop-number.number = omega (arith, c.part_count-number-end.ensures, c.loop-number-test.false) in
+    let all : length image.parts ≤ c.loop-number.number =
+    omega (arith, c.part_count-number-end.ensures, c.loop-number-test.false) in
     c.loop-number.invariant.0
-    ∙ ap (λ ps. splice c.args.at (laid (base_of image.kind) ps) c.args.out.now) (take_all c.loop-number.number image.parts all)
+    ∙ ap (λ ps. splice c.args.at (laid (base_of image.kind) ps) c.args.out.now)
+    (take_all c.loop-number.number image.parts all)

@@ -13,6 +13,8 @@ unfolding words_of
 returns c =
     map_from_collect _ c.collect.ensures.ran
     (YieldsList-from_filter _ (λ word. not (length word == 0))
-    (YieldsList-from_str_split 32 c.args.line.now (lit< tt) (ap split_text c.filter.ensures.source ∙ c.split.ensures.text)
-    (ap split_has_more c.filter.ensures.source ∙ c.split.ensures.has_more) (ap split_pattern c.filter.ensures.source ∙ c.split.ensures.pattern)) c.filter.ensures.closure
+    (YieldsList-from_str_split 32 c.args.line.now (lit< tt)
+    (ap split_text c.filter.ensures.source ∙ c.split.ensures.text)
+    (ap split_has_more c.filter.ensures.source ∙ c.split.ensures.has_more)
+    (ap split_pattern c.filter.ensures.source ∙ c.split.ensures.pattern)) c.filter.ensures.closure
     (λ x r q k. search (rules, tests)))

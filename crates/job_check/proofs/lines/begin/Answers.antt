@@ -11,7 +11,8 @@ returns-in-Call c =
     IfOk-weaker c.call.result _ _
     (λ started begins. call_starts line c.args.table.now c.args.table.now c.args.space.now c.call.new.space started c.as_bytes.result.now
     c.in-Call.a c.in-Call.b c.in-Call.c
-    (c.in-Call.is ∙ ap (λ symbol. Call symbol c.in-Call.a c.in-Call.b c.in-Call.c) (sym (c.as_bytes.ensures.value ∙ c.as_str.ensures)))
+    (c.in-Call.is ∙ ap (λ symbol. Call symbol c.in-Call.a c.in-Call.b c.in-Call.c)
+    (sym (c.as_bytes.ensures.value ∙ c.as_str.ensures)))
     (begins c.args.number))
     c.call.ensures
 
@@ -21,5 +22,6 @@ returns-in-Peek c =
     IfOk-weaker c.peek.result _ _
     (λ started begins. peek_starts line c.args.table.now c.args.table.now c.args.space.now c.peek.new.space started
     c.as_bytes-in-Peek.result.now c.in-Peek.length
-    (c.in-Peek.is ∙ ap (λ symbol. Peek symbol c.in-Peek.length) (sym (c.as_bytes-in-Peek.ensures.value ∙ c.as_str-in-Peek.ensures))) begins)
+    (c.in-Peek.is ∙ ap (λ symbol. Peek symbol c.in-Peek.length)
+    (sym (c.as_bytes-in-Peek.ensures.value ∙ c.as_str-in-Peek.ensures))) begins)
     c.peek.ensures

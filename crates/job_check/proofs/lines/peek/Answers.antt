@@ -14,8 +14,12 @@ pub returns-in_default : goal.returns-in_default
 returns-in_default c =
     let image = c.args.line.now.image in
     let p = c.args.table.now in
-    peek_closed (record { number = c.args.number; told = c.args.line.now }) c.args.symbol.now c.args.size p c.args.space.now c.requires
-    (ap (λ ls. loaded_instance (infos_of ls) image (module_of p image)) (sym c.images.ensures) ∙ sym c.in_default.ensures)
+    peek_closed (record {
+      number = c.args.number;
+      told = c.args.line.now;
+    }) c.args.symbol.now c.args.size p c.args.space.now c.requires
+    (ap (λ ls. loaded_instance (infos_of ls) image (module_of p image)) (sym c.images.ensures)
+    ∙ sym c.in_default.ensures)
 
 pub returns-in_default-variable : goal.returns-in_default-variable
 returns-in_default-variable c =
@@ -24,11 +28,13 @@ returns-in_default-variable c =
     let k = c.args.space.now in
     let x = c.in-Some.instance in
     let line : Line = record { number = c.args.number; told = c.args.line.now } in
-    let is = ap (λ ls. loaded_instance (infos_of ls) image (module_of p image)) (sym c.images.ensures) ∙ sym c.in-Some.ensures in
+    let is = ap (λ ls. loaded_instance (infos_of ls) image (module_of p image)) (sym c.images.ensures)
+    ∙ sym c.in-Some.ensures in
     let new = c.reach.new.self in
     let keeps = keeps line c.args.symbol.now c.args.size p k c.requires x is new c.in_ok-reach.ensures.reached in
     peek_unknown line c.args.symbol.now c.args.size p k c.requires x is new c.in_ok-reach.ensures.reached
-    (ap (λ ls. (loads_of ls).variable image c.args.symbol.now) (sym (c.images-2.ensures ∙ keeps.images)) ∙ sym c.in_default-variable.ensures)
+    (ap (λ ls. (loads_of ls).variable image c.args.symbol.now) (sym (c.images-2.ensures ∙ keeps.images))
+    ∙ sym c.in_default-variable.ensures)
 
 pub returns : goal.returns
 returns c =
@@ -37,12 +43,15 @@ returns c =
     let k = c.args.space.now in
     let x = c.in-Some.instance in
     let line : Line = record { number = c.args.number; told = c.args.line.now } in
-    let is = ap (λ ls. loaded_instance (infos_of ls) image (module_of p image)) (sym c.images.ensures) ∙ sym c.in-Some.ensures in
+    let is = ap (λ ls. loaded_instance (infos_of ls) image (module_of p image)) (sym c.images.ensures)
+    ∙ sym c.in-Some.ensures in
     let new = c.reach.new.self in
     let keeps = keeps line c.args.symbol.now c.args.size p k c.requires x is new c.in_ok-reach.ensures.reached in
     let offset = c.in-Some-variable.offset in
     let same = c.in_ok-step_in.ensures
-    ∙ ap (λ t. step_in t c.args.number (block_start t x) c.args.size offset (block_bytes x.number new.own)) keeps.thread in
+    ∙ ap (λ t. step_in t c.args.number (block_start t x) c.args.size offset
+    (block_bytes x.number new.own)) keeps.thread in
     subst (λ found. BeginsPeek line c.args.symbol.now c.args.size p k (Says found) p new) (sym same)
     (peek_begins line c.args.symbol.now c.args.size p k c.requires x is new c.in_ok-reach.ensures.reached offset
-    (ap (λ ls. (loads_of ls).variable image c.args.symbol.now) (sym (c.images-2.ensures ∙ keeps.images)) ∙ sym c.in-Some-variable.ensures))
+    (ap (λ ls. (loads_of ls).variable image c.args.symbol.now) (sym (c.images-2.ensures ∙ keeps.images))
+    ∙ sym c.in-Some-variable.ensures))

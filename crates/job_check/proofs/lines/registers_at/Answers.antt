@@ -13,10 +13,13 @@ pub returns : goal.returns
 returns c =
     let pointed : State Word Flag → State Word Flag = λ s. record s { thread_pointer = c.thread_pointer.result } in
     let started : ℕ → State Word Flag = λ stack.
-    record (start_of ops c.args.place (stack - 8) (Number c.args.given.a) (Number c.args.given.b) (Number c.args.given.c))
+    record (start_of ops c.args.place (stack - 8) (Number c.args.given.a) (Number c.args.given.b)
+    (Number c.args.given.c))
     { thread_pointer = c.thread_pointer.result } in
     let placed : ℕ → State Word Flag = λ pointer.
-    record (start_of ops c.args.place (stack_end c.args.thread - 8) (Number c.args.given.a) (Number c.args.given.b) (Number c.args.given.c))
+    record (start_of ops c.args.place (stack_end c.args.thread - 8) (Number c.args.given.a) (Number c.args.given.b)
+    (Number c.args.given.c))
     { thread_pointer = pointer } in
     ap pointed c.start-state.ensures ∙ ap started c.stack_end-stack.ensures ∙ ap placed c.thread_pointer.ensures
-    ∙ sym (marked_start c.args.thread c.args.place c.args.given.a c.args.given.b c.args.given.c (omega arith) (omega arith) (omega arith))
+    ∙ sym (marked_start c.args.thread c.args.place c.args.given.a c.args.given.b c.args.given.c (omega arith)
+    (omega arith) (omega arith))

@@ -25,7 +25,8 @@ loop-instance-preserved c =
     let x = get_or xs i d in
     elim c.match-branch-3.branch [
       | in-Some+in_ok-push w ↦
-          let made : List (Owned Byte) = record { owner = record { kind = Data; instance = x.number }; range = w.in-Some.range } ∷ [] in
+          let made : List (Owned Byte) =
+          record { owner = record { kind = Data; instance = x.number }; range = w.in-Some.range } ∷ [] in
           ap (λ v. v.items) w.shared-is ∙ w.in_ok-push.ensures.items
           ∙ more_data ls xs i d before made c.loop-instance-test.true c.loop-instance.invariant
           (sym (data_one ls x w.in-Some.range (sym c.in_ok-range.ensures ∙ w.in-Some.is)))

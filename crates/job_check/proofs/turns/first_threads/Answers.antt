@@ -24,7 +24,13 @@ returns c = record {
       ∙ start_is c.args.images.now c.infos.result.now c.static_offset-last_offset.result c.count.result c.infos.ensures.value
       c.static_offset-last_offset.ensures.value c.count.ensures.value;
   shared_is = c.in_ok-ranges.ensures;
-  count = omega (arith, c.loop-thread.invariant.0, c.threads-thread-end.ensures.value, c.loop-thread-test.false, c.loop-thread.auto.thread-end (omega arith));
+  count = omega (
+    arith,
+    c.loop-thread.invariant.0,
+    c.threads-thread-end.ensures.value,
+    c.loop-thread-test.false,
+    c.loop-thread.auto.thread-end (omega arith),
+  );
   each = c.loop-thread.invariant.1;
 }
 

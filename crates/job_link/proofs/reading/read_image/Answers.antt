@@ -14,16 +14,20 @@ pub push-requires-clause-sound : goal.push-requires-clause-sound
 push-requires-clause-sound g c =
     let bytes = bytes_in c.args.files.now in
     let read = next_of (IsReading c.args.writable bytes) c.args.image.now.objects c.into_iter-reading-iterator.result c.loop-reading.reading-iterator
-    c.next.new.self c.loop-reading.yielded c.in-Some.reading [] (search rules) c.loop-reading.yielded_by c.in-Some.ensures.steps.0 in
-    let its = subst (IsReading c.args.writable bytes (get_or c.args.image.now.objects (length c.loop-reading.yielded) [])) c.in-Ok.is read.1 in
+    c.next.new.self c.loop-reading.yielded c.in-Some.reading []
+    (search rules) c.loop-reading.yielded_by c.in-Some.ensures.steps.0 in
+    let its = subst (IsReading c.args.writable bytes
+    (get_or c.args.image.now.objects (length c.loop-reading.yielded) [])) c.in-Ok.is read.1 in
     subst (λ (b : List ℕ). IsSoundObject b) (sym its.0) its.2.sound
 
 pub push-requires-clause-sites : goal.push-requires-clause-sites
 push-requires-clause-sites g c =
     let bytes = bytes_in c.args.files.now in
     let read = next_of (IsReading c.args.writable bytes) c.args.image.now.objects c.into_iter-reading-iterator.result c.loop-reading.reading-iterator
-    c.next.new.self c.loop-reading.yielded c.in-Some.reading [] (search rules) c.loop-reading.yielded_by c.in-Some.ensures.steps.0 in
-    let its = subst (IsReading c.args.writable bytes (get_or c.args.image.now.objects (length c.loop-reading.yielded) [])) c.in-Ok.is read.1 in
+    c.next.new.self c.loop-reading.yielded c.in-Some.reading []
+    (search rules) c.loop-reading.yielded_by c.in-Some.ensures.steps.0 in
+    let its = subst (IsReading c.args.writable bytes
+    (get_or c.args.image.now.objects (length c.loop-reading.yielded) [])) c.in-Ok.is read.1 in
     subst (λ (b : List ℕ). AreSites b c.in-Ok.object.sites.items) (sym its.0) its.1
 
 pub loop-reading-preserved : goal.loop-reading-preserved
@@ -33,7 +37,8 @@ loop-reading-preserved g c =
     let i = length c.loop-reading.yielded in
     let name = get_or names i [] in
     let read = next_of (IsReading c.args.writable bytes) names c.into_iter-reading-iterator.result c.loop-reading.reading-iterator
-    c.next.new.self c.loop-reading.yielded c.in-Some.reading [] (search rules) c.loop-reading.yielded_by c.in-Some.ensures.steps.0 in
+    c.next.new.self c.loop-reading.yielded c.in-Some.reading []
+    (search rules) c.loop-reading.yielded_by c.in-Some.ensures.steps.0 in
     let its = subst (IsReading c.args.writable bytes name) c.in-Ok.is read.1 in
     let more : take (length (c.loop-reading.yielded ++ c.in-Some.reading ∷ [])) names ≡ take i names ++ name ∷ [] =
     ap (λ n. take n names) (length_push c.loop-reading.yielded c.in-Some.reading) ∙ take_more names i [] read.0 in
@@ -57,7 +62,8 @@ returns-in-Err-clause-refused g c =
     let names = c.args.image.now.objects in
     let i = length c.loop-reading.yielded in
     let read = next_of (IsReading c.args.writable bytes) names c.into_iter-reading-iterator.result c.loop-reading.reading-iterator
-    c.next.new.self c.loop-reading.yielded c.in-Some.reading [] (search rules) c.loop-reading.yielded_by c.in-Some.ensures.steps.0 in
+    c.next.new.self c.loop-reading.yielded c.in-Some.reading []
+    (search rules) c.loop-reading.yielded_by c.in-Some.ensures.steps.0 in
     refused_at c.args.writable bytes names i c.in-Err.refusal read.0 c.loop-reading.invariant.taken
     (subst (IsReading c.args.writable bytes (get_or names i [])) c.in-Err.is read.1)
 
@@ -72,7 +78,8 @@ returns-clause-objects g c =
       c.in_ok-readings.readings.ok,
     ) in
     c.loop-reading.invariant.objects
-    ∙ ap (map (bytes_in c.args.files.now)) (as_many (IsReading c.args.writable (bytes_in c.args.files.now)) c.args.image.now.objects
+    ∙ ap (map (bytes_in c.args.files.now))
+    (as_many (IsReading c.args.writable (bytes_in c.args.files.now)) c.args.image.now.objects
     c.in_ok-readings.readings.items c.loop-reading.yielded (search rules) all)
 
 pub returns-clause-taken : goal.returns-clause-taken
@@ -86,7 +93,8 @@ returns-clause-taken g c =
       c.in_ok-readings.readings.ok,
     ) in
     subst (λ (ns : List (List ℕ)). All (λ name. IsTaken c.args.writable (bytes_in c.args.files.now name)) ns)
-    (as_many (IsReading c.args.writable (bytes_in c.args.files.now)) c.args.image.now.objects c.in_ok-readings.readings.items
+    (as_many (IsReading c.args.writable
+    (bytes_in c.args.files.now)) c.args.image.now.objects c.in_ok-readings.readings.items
     c.loop-reading.yielded (search rules) all) c.loop-reading.invariant.taken
 
 pub returns-clause-allowed : goal.returns-clause-allowed

@@ -11,5 +11,6 @@ invariant-loop-number g l = record {
   items : l.number-items ≡ l.job.mentions;
   read : IsReadIn (bytes_in l.files) l.job (take l.number-index l.number-items) l.images.items;
   allowed : All (λ (g : Given). All (Allows l.fn.writable) g.objects) l.images.items;
-  taken : All (λ name. IsTaken l.fn.writable (bytes_in l.files name)) (names_in l.job (take l.number-index l.number-items));
+  taken : All (λ name. IsTaken l.fn.writable (bytes_in l.files name))
+      (names_in l.job (take l.number-index l.number-items));
 }

@@ -1,7 +1,7 @@
 -- All threads are one row, and its transcript is told by what the row gave.
 use Rattle.std.proofs.Common.{IfOk, sym, subst, ap, ◌∙◌}
 use Rattle.loaded_modules.specs.Images.{JobImages}
-use Rattle.module_table.specs.History.{IsLegal}
+use Rattle.module_table.specs.Past.{IsLegal}
 use Rattle.shared_modules.specs.declared.board.Images.{Images}
 use Rattle.shared_modules.specs.Passes.{SharedView}
 use Rattle.job_race.specs.Rows.{CanRace, HasRow}

@@ -27,7 +27,8 @@ returns-clause-ready g t c =
     let half = (c.args.span.count + 1) / 2 in
     let whole : half + (c.args.span.count - half) ≡ c.args.span.count = omega arith in
     subst (IsReady c.args.span.first c.args.span.count c.args.shared.now) (sym c.join-pass.ensures.joined)
-    (both_ready c.args.span.first half (c.args.span.count - half) c.args.span.count c.args.shared.now c.join-left.result.0.0
+    (both_ready c.args.span.first half
+    (c.args.span.count - half) c.args.span.count c.args.shared.now c.join-left.result.0.0
     c.join-left.result.1.0 c.join-left.ensures.first.0 c.join-left.ensures.second.0 whole c.requires.can.ready.few)
 
 pub returns-clause-raced : goal.returns-clause-raced

@@ -20,7 +20,8 @@ finish-requires-clause-laws c = stay_fit
 
 pub finish-requires-clause-fit : goal.finish-requires-clause-fit
 finish-requires-clause-fit c =
-    still_fit is_over TurnedIn CanTurnIn Share stay_fit (progress c.in_ok-threads.threads) (progress c.take_order.new.self)
+    still_fit is_over TurnedIn CanTurnIn Share stay_fit (progress c.in_ok-threads.threads)
+    (progress c.take_order.new.self)
     c.order.result.now
     (first_some c.args.modules.now c.args.job.now (progress c.in_ok-threads.threads) c.in_ok-threads.ensures.first)
     c.in_ok-take_order.ensures

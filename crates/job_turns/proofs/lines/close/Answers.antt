@@ -7,5 +7,6 @@ see-requires-clause-accepted c = close_accepts c.args.space.now.vector.past _ re
 
 pub returns-clause-begins : goal.returns-clause-begins
 returns-clause-begins c =
-    close_begins c.args.space.now c.see.new.space (record { number = c.args.number; told = c.args.line.now }) c.requires.accepted
+    close_begins c.args.space.now c.see.new.space
+    (record { number = c.args.number; told = c.args.line.now }) c.requires.accepted
     c.requires.ready.startups c.in_ok-see.ensures.sees

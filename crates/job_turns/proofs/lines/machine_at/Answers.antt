@@ -9,6 +9,10 @@ pub returns-clause-state : goal.returns-clause-state
 returns-clause-state c =
     ap (λ m. m.state) c.set_thread_pointer.ensures
     ∙ ap (λ m. record m.state { thread_pointer = c.thread_pointer.result }) c.start-machine.ensures
-    ∙ ap (λ s. record (start_of plain_operations c.args.place (s - 8) c.args.given.a c.args.given.b c.args.given.c) { thread_pointer = c.thread_pointer.result }) c.stack_end-stack.ensures
-    ∙ ap (λ t. record (start_of plain_operations c.args.place (stack_end c.args.thread - 8) c.args.given.a c.args.given.b c.args.given.c) { thread_pointer = t }) c.thread_pointer.ensures
-    ∙ sym (plain_start c.args.thread c.args.place c.args.given.a c.args.given.b c.args.given.c (omega arith) (omega arith) (omega arith))
+    ∙ ap (λ s. record (start_of plain_operations c.args.place (s - 8) c.args.given.a c.args.given.b c.args.given.c)
+    { thread_pointer = c.thread_pointer.result }) c.stack_end-stack.ensures
+    ∙ ap (λ t. record (start_of plain_operations c.args.place
+    (stack_end c.args.thread - 8) c.args.given.a c.args.given.b c.args.given.c)
+    { thread_pointer = t }) c.thread_pointer.ensures
+    ∙ sym (plain_start c.args.thread c.args.place c.args.given.a c.args.given.b c.args.given.c (omega arith)
+    (omega arith) (omega arith))

@@ -8,6 +8,7 @@ see-requires-clause-accepted c = open_accepts c.args.space.now.vector.past _ ref
 
 pub returns-clause-begins : goal.returns-clause-begins
 returns-clause-begins c =
-    open_begins c.args.space.now c.see.new.space c.load_new.new.space (record { number = c.args.number; told = c.args.line.now })
+    open_begins c.args.space.now c.see.new.space c.load_new.new.space
+    (record { number = c.args.number; told = c.args.line.now })
     c.is_some-was.result c.args.instance c.requires.accepted c.requires.ready.startups c.requires.ready.pieces c.in_ok-see.ensures.sees
     (c.is_some-was.ensures ∙ ap is_some c.instance.ensures) c.in_ok-load_new.ensures.loads c.requires.instance

@@ -9,14 +9,16 @@ returns-in_err-byte-clause-value t c =
     let some = c.if-count-eq0.false in
     let more : c.args.count ≡ suc (c.args.count - 1) = omega arith in
     ap (λ r. ok_or r Refused) c.from_residual.ensures
-    ∙ sym (byte_refused c.args.space.now c.args.address c.args.count (c.args.count - 1) more (sym c.read.ensures ∙ c.in_err-byte.was))
+    ∙ sym (byte_refused c.args.space.now c.args.address c.args.count (c.args.count - 1) more
+    (sym c.read.ensures ∙ c.in_err-byte.was))
 
 pub returns-in_err-rest-clause-value : goal.returns-in_err-rest-clause-value
 returns-in_err-rest-clause-value t c =
     let some = c.if-count-eq0.false in
     let more : c.args.count ≡ suc (c.args.count - 1) = omega arith in
     ap (λ r. ok_or r Refused) c.from_residual-in_err-rest.ensures
-    ∙ sym (others_refused c.args.space.now c.args.address c.args.count (c.args.count - 1) more c.in_ok-byte.byte (sym c.read.ensures ∙ c.in_ok-byte.was) (sym c.in_err-rest.ensures.value))
+    ∙ sym (others_refused c.args.space.now c.args.address c.args.count (c.args.count - 1) more c.in_ok-byte.byte
+    (sym c.read.ensures ∙ c.in_ok-byte.was) (sym c.in_err-rest.ensures.value))
 
 pub overflow_mul-result : goal.overflow_mul-result
 overflow_mul-result t c =
@@ -32,7 +34,8 @@ returns-clause-value t c =
     let some = c.if-count-eq0.false in
     let more : c.args.count ≡ suc (c.args.count - 1) = omega arith in
     ap (λ b. Ok (b + 256 * c.in_ok-rest.rest)) c.from.ensures
-    ∙ sym (all_read c.args.space.now c.args.address c.args.count (c.args.count - 1) more c.in_ok-byte.byte c.in_ok-rest.rest
+    ∙ sym (all_read c.args.space.now c.args.address c.args.count
+    (c.args.count - 1) more c.in_ok-byte.byte c.in_ok-rest.rest
     (sym c.read.ensures ∙ c.in_ok-byte.was) (sym c.in_ok-rest.ensures.value))
 
 pub returns-clause-small : goal.returns-clause-small
@@ -40,5 +43,6 @@ returns-clause-small t c =
     let some = c.if-count-eq0.false in
     let more : c.args.count ≡ suc (c.args.count - 1) = omega arith in
     let low : c.in_ok-byte.byte < 256 = omega arith in
-    let small = all_small c.args.space.now c.args.address c.args.count (c.args.count - 1) more c.in_ok-byte.byte c.in_ok-rest.rest low c.in_ok-rest.ensures.small in
+    let small = all_small c.args.space.now c.args.address c.args.count
+    (c.args.count - 1) more c.in_ok-byte.byte c.in_ok-rest.rest low c.in_ok-rest.ensures.small in
     rw c.from.ensures small

@@ -12,4 +12,5 @@ pub returns : goal.returns
 returns c =
     c.asked_words.ensures
     ∙ sym (asked_some c.args.space.now c.args.machine.now.state c.place-is_descriptor.result c.asked_address-address.result
-    c.place-is_descriptor.ensures c.asked_address-address.ensures c.in_ok-asking.asking (sym c.in_ok-asking.ensures.found))
+    c.place-is_descriptor.ensures c.asked_address-address.ensures c.in_ok-asking.asking
+    (sym c.in_ok-asking.ensures.found))

@@ -15,4 +15,5 @@ returns-else-is_asking c =
     run_over c.args.limit c.run-stop.result c.args.machine.now c.args.space.now c.run-stop.new.self c.run-stop.new.space
     c.requires c.run-stop.ensures.rest c.run-stop.ensures.runs (sym c.is_asking.ensures ∙ c.if-is_asking.false)
     (subst IsClean (sym c.run-stop.ensures.runs.stop)
-    (c.plain_is_clean.ensures (c.args.limit - c.args.machine.now.taken) c.args.machine.now.state (memory_of c.args.space.now)))
+    (c.plain_is_clean.ensures (c.args.limit - c.args.machine.now.taken) c.args.machine.now.state
+    (memory_of c.args.space.now)))

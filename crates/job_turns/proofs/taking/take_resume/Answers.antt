@@ -17,7 +17,8 @@ returns-in-Goes-clause-resumes c =
 
 pub returns-in-Stops-clause-resumes : goal.returns-in-Stops-clause-resumes
 returns-in-Stops-clause-resumes c =
-    ends_resumes c.args.fuel c.args.machine c.args.asked c.args.space.now (resumed.Stops c.in-Stops.stop) c.answer_asked.new.machine
+    ends_resumes c.args.fuel c.args.machine c.args.asked c.args.space.now
+    (resumed.Stops c.in-Stops.stop) c.answer_asked.new.machine
     c.answer_asked.new.space (Stopped c.in-Stops.stop) c.outcome_of.result c.outcome_of.ensures
     (subst (λ (result : Resumed). Resumes c.args.machine c.args.space.now c.args.asked result c.answer_asked.new.machine c.answer_asked.new.space)
     c.in-Stops.is c.in_ok-answer_asked.ensures.ok) (λ seen. refl)

@@ -1,6 +1,7 @@
 use Rattle.std.proofs.Common.{arith}
 use Rattle.job_turns.specs.Standing.{ask_of}
-use Rattle.job_turns.proofs.CutTurns.{cut_answer, cut_legal, cut_length, cut_room, cut_turned, seen_within, seen_within_then}
+use Rattle.job_turns.proofs.CutTurns.{cut_answer, cut_legal, cut_length, cut_room, cut_turned, seen_within}
+use Rattle.job_turns.proofs.CutTurns.{seen_within_then}
 use Rattle.job_turns.proofs.turning.take_turn.Goals as goal
 
 pub since-known-requires : goal.since-known-requires

@@ -5,5 +5,6 @@ use Rattle.lawful_points.proofs.Fronts.{in_history}
 use Rattle.lawful_points.proofs.laws.racers_are_in_history.Goals as goal
 
 pub returns : goal.returns
-returns c = λ l fuel thread own history said racer. in_history (thread_turns l thread fuel) (event_by l thread) history thread
+returns c = λ l fuel thread own history said racer. in_history (thread_turns l thread fuel)
+    (event_by l thread) history thread
     (first_of l thread own) racer.points racer.lawful

@@ -1,6 +1,6 @@
 use Rattle.std.proofs.Common.{◌∙◌, ap}
 use Rattle.link_needs.specs.Linking.{Linking, layout}
-use Rattle.link_tables.specs.Faults.{names_in, symbols_in}
+use Rattle.link_tables.specs.FaultLaws.{names_in, symbols_in}
 use Rattle.link_core.specs.Images.{file_kind, tls_part}
 use Rattle.link_core.proofs.LinkDrafts.{drafted}
 use Rattle.link_core.proofs.draft.draft_of.Goals as goal

@@ -3,7 +3,7 @@ use Rattle.std.specs.List.{flat_map}
 use Rattle.elf_records.specs.Fields.{bytes_of}
 use Rattle.got_pairs.specs.Entries.{entry_of, words}
 use Rattle.got_pairs.specs.declared.entry.Entry.{Entry}
-use Rattle.link_core.specs.Bytes.{table_bytes}
+use Rattle.link_core.specs.ByteLaws.{table_bytes}
 use Rattle.link_core.proofs.WritingParts.{entries_step, entries_there}
 use Rattle.link_core.proofs.file.push_entries.Goals.{in-Some+in_ok-push_entry, in_default}
 use Rattle.link_core.proofs.file.push_entries.Goals as goal

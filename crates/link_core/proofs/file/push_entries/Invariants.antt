@@ -1,5 +1,5 @@
 use Rattle.std.proofs.Common.{◌≡◌, ◌++◌, drop}
-use Rattle.link_core.specs.Bytes.{table_bytes}
+use Rattle.link_core.specs.ByteLaws.{table_bytes}
 use Rattle.link_core.proofs.file.push_entries.Given as goal
 
 -- with the entries that are left it is there whole

@@ -3,9 +3,10 @@ use Rattle.link_faults.specs.ImageKinds.{base_of}
 use Rattle.got_pairs.specs.Needs.{total_size}
 use Rattle.placed_sections.specs.Files.{offset_of}
 use Rattle.tls_relocs.specs.Laid.{zeros}
-use Rattle.link_core.specs.Bytes.{table_bytes}
+use Rattle.link_core.specs.ByteLaws.{table_bytes}
 use Rattle.link_needs.specs.Linking.{Linking, layout}
-use Rattle.link_needs.specs.Needs.{got_size, got_start, table}
+use Rattle.link_needs.specs.Needs.{got_size, got_start}
+use Rattle.link_needs.specs.NeedLaws.{table}
 use Rattle.link_core.proofs.WritingRoom.{stand_near}
 use Rattle.link_core.proofs.WritingParts.{got_pushed, on_ok_then}
 use Rattle.link_core.proofs.file.push_got.Goals as goal
@@ -23,7 +24,14 @@ place_in_file-place-requires-clause-fits c =
 pub pad-requires : goal.pad-requires
 pad-requires c =
     let near = stand_near c.plan.inside.inputs c.plan.invariant.given c.plan.invariant.limits in
-    omega (arith, near.after, near.near, c.plan.invariant.start_is, c.place_in_file-place.ensures, c.saturating_sub.ensures)
+    omega (
+      arith,
+      near.after,
+      near.near,
+      c.plan.invariant.start_is,
+      c.place_in_file-place.ensures,
+      c.saturating_sub.ensures,
+    )
 
 pub returns : goal.returns
 returns c =

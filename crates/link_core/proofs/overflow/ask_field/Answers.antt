@@ -34,7 +34,8 @@ overflow_add-place c =
     let given = subst IsGiven c.plan.view_is c.plan.invariant.given in
     let limits = subst FitsTable c.plan.view_is c.plan.invariant.limits in
     let room = field_room l u.place.object u.section u.relocation given limits c.requires.object c.requires.own in
-    let address = c.section_address.ensures.address ∙ ap (λ l. unwrap_or (address_of (layout l) u.place.object u.section) 0) c.plan.view_is in
+    let address = c.section_address.ensures.address
+    ∙ ap (λ l. unwrap_or (address_of (layout l) u.place.object u.section) 0) c.plan.view_is in
     omega (arith, room.near, address)
 
 pub field-requires-clause-number : goal.field-requires-clause-number
@@ -47,7 +48,8 @@ field-requires-clause-number c =
 pub returns-in-Ok-clause-fits : goal.returns-in-Ok-clause-fits
 returns-in-Ok-clause-fits c =
     let u = c.args.found.now in
-    let address = c.section_address.ensures.address ∙ ap (λ l. unwrap_or (address_of (layout l) u.place.object u.section) 0) c.plan.view_is in
+    let address = c.section_address.ensures.address
+    ∙ ap (λ l. unwrap_or (address_of (layout l) u.place.object u.section) 0) c.plan.view_is in
     field_fills c.args.plan.now u.place.object u.section u.relocation c.in-Ok.field-0
     (c.in-Ok.ensures.field u.section (ap (λ a. a + u.relocation.offset) address))
 
@@ -55,7 +57,8 @@ pub returns-in-Err-clause-overflow : goal.returns-in-Err-clause-overflow
 returns-in-Err-clause-overflow c =
     let l = c.args.plan.now in
     let u = c.args.found.now in
-    let address = c.section_address.ensures.address ∙ ap (λ l. unwrap_or (address_of (layout l) u.place.object u.section) 0) c.plan.view_is in
+    let address = c.section_address.ensures.address
+    ∙ ap (λ l. unwrap_or (address_of (layout l) u.place.object u.section) 0) c.plan.view_is in
     field_overflows l u.place.object u.section u.relocation
     (replaced_as l u.place.object u.section u.relocation c.symbol_value-symbol.result c.symbol_value-symbol.ensures
     ∙ sym c.is_replaced.ensures ∙ c.if-is_replaced.false)

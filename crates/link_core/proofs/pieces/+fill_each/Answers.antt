@@ -26,6 +26,7 @@ fill_each-requires-2 t c =
     let all = laid_parts l from c.args.parts.now in
     let behind = laid_parts l h.middle h.back.now in
     let long = both_length from h.middle all (laid_parts l from h.front.now) behind has.laid has.ends in
-    let zero_is = zeros_behind (h.middle - from) (length behind) (length all) c.split_at_mut-first.result.1.now c.args.bytes.now
+    let zero_is = zeros_behind (h.middle - from) (length behind)
+    (length all) c.split_at_mut-first.result.1.now c.args.bytes.now
     c.split_at_mut-first.ensures.back c.requires.zero long.0 in
     (search rules, (has.near.1, (has.rise.1, zero_is)))

@@ -1,6 +1,7 @@
 use Rattle.std.proofs.Common.{map, rules, subst, sym}
 use Rattle.link_needs.specs.Linking.{Linking}
-use Rattle.link_tables.specs.Faults.{ArePrepared, IsSound}
+use Rattle.link_tables.specs.Faults.{IsSound}
+use Rattle.link_tables.specs.FaultLaws.{ArePrepared}
 use Rattle.link_core.proofs.Few.{table_fits}
 use Rattle.link_core.proofs.ready.planned.Goals as goal
 

@@ -12,9 +12,11 @@ returns c =
     let rise = sites_rise sites c.requires in
     let from = c.partition_point-first.result in
     let to = c.partition_point-end.result in
-    let low = IsPartitionPoint-from_clause (λ site. nat_lt site.section t) _ _ c.partition_point-first.ensures.partitioned
+    let low = IsPartitionPoint-from_clause
+    (λ site. nat_lt site.section t) _ _ c.partition_point-first.ensures.partitioned
     (IsPartitionedBy-ltb (λ site. site.section) sites t rise) (λ a r q k. search rules) in
-    let high = IsPartitionPoint-from_clause (λ site. nat_le site.section t) _ _ c.partition_point-end.ensures.partitioned
+    let high = IsPartitionPoint-from_clause
+    (λ site. nat_le site.section t) _ _ c.partition_point-end.ensures.partitioned
     (IsPartitionedBy-leb (λ site. site.section) sites t rise) (λ a r q k. search rules) in
     let cut : AreCut t sites from to = record {
       below = λ k d less. ltb-true _ _ (low.0 k d (omega arith) less);

@@ -4,7 +4,7 @@ use Rattle.elf_object.specs.declared.relocation.Relocation.{Relocation}
 use Rattle.elf_object.specs.Lent.{section_size}
 use Rattle.elf_object.specs.Relocations.{field_width}
 use Rattle.tls_layout.specs.Places.{address_of}
-use Rattle.tls_relocs.specs.Fields.{field_patch}
+use Rattle.tls_relocs.specs.FieldLaws.{field_patch}
 use Rattle.tls_relocs.specs.Patches.{patched}
 use Rattle.link_needs.specs.Linking.{choice, layout, object, place}
 use Rattle.link_needs.specs.Values.{field}

@@ -1,5 +1,5 @@
 use Rattle.tls_symbols.proofs.Among.{charged}
-use Rattle.link_needs.specs.Refusals.{test_of}
+use Rattle.link_needs.specs.RefusalLaws.{test_of}
 use Rattle.link_needs.proofs.asking.first_place.Goals as goal
 
 pub returns : goal.returns

@@ -1,5 +1,5 @@
 use Rattle.std.proofs.Common.{◌≡◌, true, inl, inr, ap}
-use Rattle.elf_records.specs.RelocationRows.{is_entry}
+use Rattle.elf_records.specs.RowLaws.{is_entry}
 use Rattle.link_needs.proofs.Named.{named}
 use Rattle.link_needs.proofs.charge.asks_storage.Goals as goal
 

@@ -4,7 +4,8 @@ use Rattle.tls_layout.specs.Rounding.{page_up}
 use Rattle.tls_layout.specs.Sections.{Layout}
 use Rattle.link_needs.specs.Given.{IsGiven}
 use Rattle.link_needs.specs.Linking.{block_offset, layout}
-use Rattle.link_needs.specs.Needs.{got_start, needs, table}
+use Rattle.link_needs.specs.Needs.{got_start, needs}
+use Rattle.link_needs.specs.NeedLaws.{table}
 use Rattle.link_needs.proofs.PlanLemmas.{ends_at, plan_is, table_small}
 use Rattle.link_needs.proofs.plan.plan_of.Goals as goal
 

@@ -33,5 +33,6 @@ returns c =
     let number : c.own_number-place.result ≡ own_number l r.kind (binding l o r) =
     c.own_number-place.ensures ∙ ap (number_by l r.kind) c.symbol_value-symbol.ensures ∙ takes_number l o r in
     let address : c.section_address-address.result ≡ unwrap_or (address_of (layout l) o x.section) 0 =
-    c.section_address-address.ensures.address ∙ ap (λ l. unwrap_or (address_of (layout l) o x.section) 0) c.plan.view_is in
+    c.section_address-address.ensures.address
+    ∙ ap (λ l. unwrap_or (address_of (layout l) o x.section) 0) c.plan.view_is in
     rw (← number, ← address) (search rules)

@@ -1,7 +1,7 @@
 use Rattle.std.proofs.Common.{◌≡◌, ◌++◌, ℕ, List, map, take}
 use Rattle.elf_records.specs.declared.symbol.SymbolType.TheVariants.{Tls}
 use Rattle.link_tables.specs.Dynamic.{foreign}
-use Rattle.link_tables.specs.Faults.{names_in, symbols_in}
+use Rattle.link_tables.specs.FaultLaws.{names_in, symbols_in}
 use Rattle.link_tables.proofs.symbol_list.push_imports.Given as goal
 
 abbrev pub invariant-loop-name : goal.invariant-loop-name

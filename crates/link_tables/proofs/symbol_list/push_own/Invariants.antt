@@ -1,7 +1,7 @@
 use Rattle.std.proofs.Common.{◌≡◌, ◌++◌, map, take}
 use Rattle.dynamic_symbols.specs.Names.{name_of}
 use Rattle.link_tables.specs.Dynamic.{defined}
-use Rattle.link_tables.specs.Faults.{names_in, symbols_in}
+use Rattle.link_tables.specs.FaultLaws.{names_in, symbols_in}
 use Rattle.link_tables.proofs.symbol_list.push_own.Given as goal
 
 abbrev pub invariant-loop-found : goal.invariant-loop-found

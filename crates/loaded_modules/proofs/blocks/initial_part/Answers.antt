@@ -12,7 +12,9 @@ returns-then-holds c =
 
 pub loop-number-preserved : goal.loop-number-preserved
 loop-number-preserved c = elim c.match-part.branch [
-  | in-Some+else-holds w ↦ find_on c.args.image.now.parts c.loop-number.number (holds c.args.tls) (lent_part w.in-Some.part) _
+  | in-Some+else-holds w ↦ find_on c.args.image.now.parts c.loop-number.number (holds c.args.tls)
+      (lent_part w.in-Some.part) _
       w.in-Some.ensures (sym w.if-holds.ensures) c.loop-number.invariant
-  | in_default w ↦ find_past c.args.image.now.parts c.loop-number.number (holds c.args.tls) _ w.in_default.ensures c.loop-number.invariant
+  | in_default w ↦ find_past c.args.image.now.parts c.loop-number.number
+      (holds c.args.tls) _ w.in_default.ensures c.loop-number.invariant
 ]

@@ -5,5 +5,6 @@ use Rattle.loaded_modules.proofs.exports.imports_of.Given as goal
 
 abbrev pub invariant-loop-image : goal.invariant-loop-image
 invariant-loop-image l =
-    map (λ row. row.items) l.rows.items ++ map (λ image. map (found l.exports.by_name) image.names) (drop l.image-index l.images)
+    map (λ row. row.items) l.rows.items
+    ++ map (λ image. map (found l.exports.by_name) image.names) (drop l.image-index l.images)
     ≡ map (λ image. map (found l.exports.by_name) image.names) l.images

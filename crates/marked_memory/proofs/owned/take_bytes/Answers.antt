@@ -20,4 +20,5 @@ returns-clause-bytes c =
 pub returns-clause-others : goal.returns-clause-others
 returns-clause-others c =
     leaves_others c.args.kind c.args.instance c.args.owned.now c.place_of-index.result c.index-owned-index.result c.take_bytes.new.self
-    c.place_of-index.ensures c.if-index-owned.false c.index-owned-index.is (c.take_bytes.ensures.owner ∙ ap (λ x. x.owner) (sym c.index-owned-index.is))
+    c.place_of-index.ensures c.if-index-owned.false c.index-owned-index.is
+    (c.take_bytes.ensures.owner ∙ ap (λ x. x.owner) (sym c.index-owned-index.is))

@@ -17,7 +17,9 @@ loop-own-preserved c =
     let there = slice_get-get_or images c.loop-own.own-index own c.loop-own-test.true ∙ ap Some (sym c.own-item.is) in
     let here = subst (λ n. slice_get images n ≡ Some own) (sym c.loop-own.invariant.count) there in
     record {
-      count = ap length c.in_ok-push.ensures.items ∙ (length-append all (t ∷ []) ∙ ap (λ n. n + 1) c.loop-own.invariant.count);
-      each = subst (λ (items : List Tables). (i : ℕ) (l : Linking) (t : Tables) → slice_get images i ≡ Some l → slice_get items i ≡ Some t → AreTables images l t) (sym c.in_ok-push.ensures.items)
+      count = ap length c.in_ok-push.ensures.items
+          ∙ (length-append all (t ∷ []) ∙ ap (λ n. n + 1) c.loop-own.invariant.count);
+      each = subst (λ (items : List Tables). (i : ℕ) (l : Linking) (t : Tables) → slice_get images i ≡ Some l
+          → slice_get items i ≡ Some t → AreTables images l t) (sym c.in_ok-push.ensures.items)
           (pushed (AreTables images) images all own t here c.in_ok-tables_of.ensures c.loop-own.invariant.each);
     }

@@ -1,6 +1,6 @@
 -- The blocks so far, and those that are left.
 use Rattle.std.proofs.Common.{◌≡◌, ◌≤◌, ◌+◌, ◌*◌, ◌^◌, drop}
-use Rattle.module_table.specs.Laws.{startup_end}
+use Rattle.module_table.specs.Modules.{startup_end}
 use Rattle.meant_images.proofs.images.end_of.Given as goal
 
 abbrev pub invariant-loop-info : goal.invariant-loop-info

@@ -17,5 +17,6 @@ loop-own-preserved c =
           ∙ (ap (λ (xs : List ImageInfo). xs ++ c.info.result ∷ []) c.loop-own.invariant.0
           ∙ (ap (λ z. map info_of (take i inputs) ++ z ∷ []) known
           ∙ sym (map_more info_of inputs i own c.loop-own-test.true))),
-      subst (All IsInfo) (sym c.in_ok-push.ensures.items) (All-push IsInfo infos c.info.result c.loop-own.invariant.1 c.info.ensures.kept),
+      subst (All IsInfo) (sym c.in_ok-push.ensures.items)
+          (All-push IsInfo infos c.info.result c.loop-own.invariant.1 c.info.ensures.kept),
     )

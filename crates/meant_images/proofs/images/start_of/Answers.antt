@@ -16,5 +16,6 @@ returns-then-is_empty c = λ l is keeps.
 pub returns-else-is_empty : goal.returns-else-is_empty
 returns-else-is_empty c = λ l is keeps.
     let some = eqb-false (length c.args.writable.now.bytes) 0 (sym c.is_empty.ensures ∙ c.if-is_empty.false) in
-    ap (option_map (λ (range : Range Byte). range.start)) (some_data l c.args.bias keeps c.args.writable.now c.place.result
+    ap (option_map (λ (range : Range Byte). range.start))
+    (some_data l c.args.bias keeps c.args.writable.now c.place.result
     (map Value (bytes_at c.args.writable.now c.args.bias)) is (omega (arith, some)) c.place.ensures refl)

@@ -12,6 +12,7 @@ loop-site-preserved c =
       grows = grows_twice _ _ _ so_far.grows (grows_push old it);
       entries = entries_push old it so_far.entries c.site_entry.ensures.numbered;
       here = omega (arith, length-append old (it ∷ []), so_far.here);
-      each = sequences_more c.args.images.now c.args.inputs.now c.args.number old _ _ _ it _ (slice_get-get_or _ _ _ c.loop-site-test.true)
+      each = sequences_more c.args.images.now c.args.inputs.now c.args.number old _ _ _ it _
+          (slice_get-get_or _ _ _ c.loop-site-test.true)
           c.site_entry.ensures.entry so_far.here so_far.each;
     })

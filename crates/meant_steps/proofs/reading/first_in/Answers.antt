@@ -13,8 +13,11 @@ returns-then-is_some g c =
     let it = c.args.it.now in
     let answer : ℕ → Option Cause = λ j. hindrance_of ops mark state it j (mark (plus state.place j)) in
     let is : c.hindrance_of-why.result ≡ answer c.loop-at.at = c.hindrance_of-why.ensures
-    ∙ ap (hindrance_of ops mark state it c.loop-at.at) (c.mark-mark.ensures ∙ ap (λ (n : ℕ). mark (plus state.place n)) c.from.ensures) in
-    sym (c.loop-at.invariant ∙ found answer c.loop-at.at c.args.end c.hindrance_of-why.result c.loop-at-test.true is (sym c.if-is_some.ensures))
+    ∙ ap (hindrance_of ops mark state it c.loop-at.at)
+    (c.mark-mark.ensures ∙ ap (λ (n : ℕ). mark (plus state.place n)) c.from.ensures) in
+    sym (c.loop-at.invariant
+    ∙ found answer c.loop-at.at c.args.end c.hindrance_of-why.result c.loop-at-test.true is
+    (sym c.if-is_some.ensures))
 
 pub loop-at-preserved : goal.loop-at-preserved
 loop-at-preserved g c =
@@ -23,5 +26,7 @@ loop-at-preserved g c =
     let it = c.args.it.now in
     let answer : ℕ → Option Cause = λ j. hindrance_of ops mark state it j (mark (plus state.place j)) in
     let is : c.hindrance_of-why.result ≡ answer c.loop-at.at = c.hindrance_of-why.ensures
-    ∙ ap (hindrance_of ops mark state it c.loop-at.at) (c.mark-mark.ensures ∙ ap (λ (n : ℕ). mark (plus state.place n)) c.from.ensures) in
-    c.loop-at.invariant ∙ missed answer c.loop-at.at c.args.end c.hindrance_of-why.result c.loop-at-test.true is (sym c.if-is_some.ensures)
+    ∙ ap (hindrance_of ops mark state it c.loop-at.at)
+    (c.mark-mark.ensures ∙ ap (λ (n : ℕ). mark (plus state.place n)) c.from.ensures) in
+    c.loop-at.invariant ∙ missed answer c.loop-at.at c.args.end c.hindrance_of-why.result c.loop-at-test.true is
+    (sym c.if-is_some.ensures)

@@ -14,7 +14,8 @@ returns-in-Gd-clause-does g c =
     let s = c.args.sequence.now in
     let memory = g.S.CallStack.memory c.args.stack.now in
     let leaves = c.called_with.ensures.does c.args.thread c.args.start in
-    let is = ap (λ (n : ℕ). called_with stack s c.args.thread c.args.start (Number n) c.args.state.now memory) c.variable_address-address.ensures in
+    let is = ap (λ (n : ℕ). called_with stack s c.args.thread c.args.start
+    (Number n) c.args.state.now memory) c.variable_address-address.ensures in
     elim c.in-Gd.is [
       | inl i ↦ by-form stack s c.args.thread c.args.start c.args.state.now memory Gd _ _ _ _ i is leaves
       | inr i ↦ by-form stack s c.args.thread c.args.start c.args.state.now memory GdInd _ _ _ _ i is leaves
@@ -40,4 +41,5 @@ returns-in-IeAdd-clause-does g c =
 pub returns-in-DescCall-clause-does : goal.returns-in-DescCall-clause-does
 returns-in-DescCall-clause-does g c =
     by-form (stack_from (g.S.CallStack.start c.args.stack.now)) c.args.sequence.now c.args.thread c.args.start c.args.state.now
-    (g.S.CallStack.memory c.args.stack.now) DescCall _ _ _ _ c.in-DescCall.is refl (c.descriptor_called.ensures.does c.args.thread)
+    (g.S.CallStack.memory c.args.stack.now) DescCall _ _ _ _ c.in-DescCall.is refl
+    (c.descriptor_called.ensures.does c.args.thread)

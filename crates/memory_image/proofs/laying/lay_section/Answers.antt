@@ -2,7 +2,7 @@ use Rattle.std.proofs.Common.{rules, ◌≡◌, ◌∙◌, ◌++◌, ◌-◌, fa
 use Rattle.elf_object.specs.Lent.{section_class}
 use Rattle.link_needs.specs.Linking.{layout, object}
 use Rattle.tls_layout.specs.declared.extent.Extent.{Extent}
-use Rattle.tls_layout.specs.Laws.{extent_for}
+use Rattle.tls_layout.specs.Places.{extent_for}
 use Rattle.tls_layout.specs.Sections.{is_class}
 use Rattle.whole_meaning.specs.Spots.{begin_of}
 use Rattle.memory_image.specs.Laying.{IsOfClass, section_cells}
@@ -18,7 +18,8 @@ returns-then-not-is_class g c =
     let known = c.in-Some.ensures.part.class_is ∙ ap (λ b. section_class b s) c.object.ensures in
     let no : c.is_class.result ≡ false = search rules in
     c.requires.before
-    ∙ section_skipped (g.C.Cells.cell cells) l c.args.class (g.C.Cells.gap_cell cells) c.args.number s c.requires.object c.requires.section
+    ∙ section_skipped (g.C.Cells.cell cells) l c.args.class
+    (g.C.Cells.gap_cell cells) c.args.number s c.requires.object c.requires.section
     (sym (ap (is_class c.args.class) known) ∙ sym c.is_class.ensures ∙ no)
 
 pub returns : goal.returns
@@ -38,7 +39,8 @@ returns g c =
     } in
     let start = ap (λ (x : Extent). x.start) c.class_extent-start.ensures.extent in
     let from : c.saturating_sub.result ≡ begin_of (layout l) o s - (extent_for class (layout l)).start = cc in
-    section_laid (g.C.Cells.cell cells) l class (g.C.Cells.gap_cell cells) o s t c.pad.new.table.items c.push_section.new.table.items
+    section_laid (g.C.Cells.cell cells) l class
+    (g.C.Cells.gap_cell cells) o s t c.pad.new.table.items c.push_section.new.table.items
     c.requires.range is c.requires.before
     (c.in_ok-pad.ensures ∙ ap (λ n. t ++ replicate (n - length t) (g.C.Cells.gap_cell cells)) from)
     (c.in_ok-push_section.ensures

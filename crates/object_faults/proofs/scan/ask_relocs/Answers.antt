@@ -5,7 +5,8 @@ use Rattle.object_faults.proofs.Order.{at_reloc, none_more, first_of}
 use Rattle.object_faults.proofs.scan.ask_relocs.Goals as goal
 
 pub loop-section-init : goal.loop-section-init
-loop-section-init c = λ s h e w. let within = at_reloc c.args.fault c.args.tables.now.bytes.now s e w in omega (arith, within.0.0.0)
+loop-section-init c = λ s h e w. let within = at_reloc c.args.fault c.args.tables.now.bytes.now s e w in
+    omega (arith, within.0.0.0)
 
 pub loop-section-preserved : goal.loop-section-preserved
 loop-section-preserved c =
@@ -14,7 +15,8 @@ loop-section-preserved c =
 
 pub returns-in-Some : goal.returns-in-Some
 returns-in-Some c =
-    rw (c.fault_at.ensures, c.kind.ensures) (first_of (of_reloc c.args.fault) c.args.tables.now.bytes.now c.loop-section.section c.in-Some.entry c.requires
+    rw (c.fault_at.ensures, c.kind.ensures)
+    (first_of (of_reloc c.args.fault) c.args.tables.now.bytes.now c.loop-section.section c.in-Some.entry c.requires
     c.in-Some.ensures.0 c.loop-section.invariant c.in-Some.ensures.1)
 
 pub returns : goal.returns

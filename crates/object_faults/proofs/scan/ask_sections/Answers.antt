@@ -5,7 +5,8 @@ use Rattle.object_faults.proofs.Order.{in_section, none_more, first_of}
 use Rattle.object_faults.proofs.scan.ask_sections.Goals as goal
 
 pub loop-section-init : goal.loop-section-init
-loop-section-init c = λ s h e w. let within = in_section c.args.fault c.args.tables.now.bytes.now s e w in omega (arith, within.1.0)
+loop-section-init c = λ s h e w. let within = in_section c.args.fault c.args.tables.now.bytes.now s e w in
+    omega (arith, within.1.0)
 
 pub loop-section-preserved : goal.loop-section-preserved
 loop-section-preserved c =
@@ -19,7 +20,8 @@ loop-section-preserved c =
 
 pub returns-then-section_stands : goal.returns-then-section_stands
 returns-then-section_stands c =
-    rw (c.fault_at.ensures, c.kind.ensures) (first_of (of_section c.args.fault) c.args.tables.now.bytes.now c.loop-section.section 0 c.requires
+    rw (c.fault_at.ensures, c.kind.ensures)
+    (first_of (of_section c.args.fault) c.args.tables.now.bytes.now c.loop-section.section 0 c.requires
     (c.section_stands.ensures.0 c.if-section_stands.true) c.loop-section.invariant (λ f h w. omega arith))
 
 pub returns : goal.returns

@@ -16,7 +16,8 @@ pub returns-in-Some : goal.returns-in-Some
 returns-in-Some c =
     let b = c.args.tables.now.bytes.now in
     let table = c.args.tables.now.symbols.table in
-    rw (c.fault_at.ensures, c.kind.ensures) (first_of (of_symbol c.args.fault) b table c.in-Some.entry c.requires c.in-Some.ensures.0.1
+    rw (c.fault_at.ensures, c.kind.ensures)
+    (first_of (of_symbol c.args.fault) b table c.in-Some.entry c.requires c.in-Some.ensures.0.1
     (λ t h f w.
     let within = at_symbol c.args.fault b t f w in
     omega (arith, within.1, c.args.tables.now.symbols_are.table_is))

@@ -4,4 +4,5 @@ use Rattle.object_rules.specs.Kinds.{of_symbol}
 use Rattle.object_faults.proofs.scan.first_symbol.Given as goal
 
 abbrev pub invariant-loop-entry : goal.invariant-loop-entry
-invariant-loop-entry l = (e : ℕ) → e < l.entry → 0 < e → Stands (of_symbol l.fault) l.tables.bytes.now l.tables.symbols.table e → ⊥
+invariant-loop-entry l = (e : ℕ) → e < l.entry → 0 < e
+    → Stands (of_symbol l.fault) l.tables.bytes.now l.tables.symbols.table e → ⊥

@@ -12,7 +12,8 @@ returns-then-section-eq0 c =
 
 pub is_bad_table-requires : goal.is_bad_table-requires
 is_bad_table-requires c =
-    is_table_of c.args.tables.now.bytes.now c.args.tables.now.symbols.table c.args.tables.now.symbols_are.table_is (omega arith)
+    is_table_of c.args.tables.now.bytes.now c.args.tables.now.symbols.table c.args.tables.now.symbols_are.table_is
+    (omega arith)
 
 pub returns-then-is_bad_table : goal.returns-then-is_bad_table
 returns-then-is_bad_table c =
@@ -20,7 +21,8 @@ returns-then-is_bad_table c =
     let t = c.args.tables.now.symbols.table in
     let same = c.args.tables.now.symbols_are.table_is in
     rw c.fault_at.ensures
-    (bad_table b t same c.requires (is_table_of b t same (omega arith)) (c.is_bad_table.ensures.0 c.if-is_bad_table.true))
+    (bad_table b t same c.requires (is_table_of b t same (omega arith))
+    (c.is_bad_table.ensures.0 c.if-is_bad_table.true))
 
 pub returns-in-Some : goal.returns-in-Some
 returns-in-Some c =
@@ -44,4 +46,5 @@ returns-in-None c =
     let b = c.args.tables.now.bytes.now in
     let t = c.args.tables.now.symbols.table in
     let fine : IsBadTable b t → ⊥ = λ bad. let wrong = c.if-is_bad_table.ensures.1 bad in cc in
-    none_more SymbolTable b c.requires (tables_fine b t c.args.tables.now.symbols_are.table_is fine c.in_default.ensures c.in-None.ensures)
+    none_more SymbolTable b c.requires
+    (tables_fine b t c.args.tables.now.symbols_are.table_is fine c.in_default.ensures c.in-None.ensures)

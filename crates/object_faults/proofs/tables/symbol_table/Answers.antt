@@ -10,7 +10,8 @@ loop-section-init c = refl
 
 pub returns-then-section-eq-SHT_SYMTAB-clause-first : goal.returns-then-section-eq-SHT_SYMTAB-clause-first
 returns-then-section-eq-SHT_SYMTAB-clause-first c =
-    sym (table_found c.args.headers.now.bytes.now c.loop-section.section (omega arith) (omega (arith, c.args.headers.now.count_is)) c.loop-section.invariant
+    sym (table_found c.args.headers.now.bytes.now c.loop-section.section (omega arith)
+    (omega (arith, c.args.headers.now.count_is)) c.loop-section.invariant
     (rw (← c.section.ensures) c.if-section-eq-SHT_SYMTAB.true))
 
 pub loop-section-preserved : goal.loop-section-preserved

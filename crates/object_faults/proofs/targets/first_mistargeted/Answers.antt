@@ -19,5 +19,6 @@ returns-clause-first c = λ s w.
 pub returns-clause-found : goal.returns-clause-found
 unfolding relocation_table
 returns-clause-found c =
-    let all : c.loop-section.section ≡ (header c.args.tables.now.bytes.now).e_shnum = omega (arith, c.args.tables.now.count_is) in
+    let all : c.loop-section.section ≡ (header c.args.tables.now.bytes.now).e_shnum =
+    omega (arith, c.args.tables.now.count_is) in
     λ t h. c.loop-section.invariant.found t h ∙ ap (first_below (relocates c.args.tables.now.bytes.now t)) all

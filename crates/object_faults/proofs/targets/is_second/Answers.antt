@@ -11,4 +11,5 @@ returns c =
     let x = slice_index c.args.found.now (section b s).info in
     let same = c.requires.found (section b s).info c.requires.target.1 in
     rw c.section.ensures
-    (test_nonzero x (IsSecond b s) (λ some. second_found b s x same some c.requires.section.1) (λ second. second_is b s x same second))
+    (test_nonzero x (IsSecond b s) (λ some. second_found b s x same some c.requires.section.1)
+    (λ second. second_is b s x same second))

@@ -25,7 +25,8 @@ pub returns-then-rises : goal.returns-then-rises
 returns-then-rises c =
     let b = c.args.tables.now.bytes.now in
     let s = c.args.section in
-    let all : c.loop-entry.entry ≡ entry_count (section b s) = omega (arith, c.loop-entry.auto.entry-end, c.loop-entry-test.false, c.in-Some.ensures.count_is) in
+    let all : c.loop-entry.entry ≡ entry_count (section b s) =
+    omega (arith, c.loop-entry.auto.entry-end, c.loop-entry-test.false, c.in-Some.ensures.count_is) in
     let was = c.loop-entry.invariant in
     let rises : IsTrue c.loop-entry.rises = rw c.if-rises.true (search rules) in
     (all_fine b s c.loop-entry.entry all was.faultless, has_risen b s c.loop-entry.entry all (was.rises.0 rises))
@@ -34,7 +35,8 @@ pub returns-else-rises : goal.returns-else-rises
 returns-else-rises c =
     let b = c.args.tables.now.bytes.now in
     let s = c.args.section in
-    let all : c.loop-entry.entry ≡ entry_count (section b s) = omega (arith, c.loop-entry.auto.entry-end, c.loop-entry-test.false, c.in-Some.ensures.count_is) in
+    let all : c.loop-entry.entry ≡ entry_count (section b s) =
+    omega (arith, c.loop-entry.auto.entry-end, c.loop-entry-test.false, c.in-Some.ensures.count_is) in
     let was = c.loop-entry.invariant in (
       all_fine b s c.loop-entry.entry all was.faultless,
       λ rise. let rises = was.rises.1 (rises_to b s c.loop-entry.entry all c.in-Some.ensures.of_kept rise) in cc,

@@ -19,4 +19,8 @@ returns c =
     ∙ ap (λ parts. parts ++ placed_class (λ part. part) p objects ReadOnly) (c.in_ok-push_class.ensures.class
     ∙ ap (λ parts. parts ++ placed_class (λ part. part) p objects Executable) c.new-parts.ensures.items))))
     ∙ classes_placed (λ part. part) p objects in
-    record { parts = all; near = subst (All (IsNear objects)) (sym all) (all_near objects p c.in_ok-push_class.ensures.lawful) }
+    record {
+      parts = all;
+      near =
+          subst (All (IsNear objects)) (sym all) (all_near objects p c.in_ok-push_class.ensures.lawful);
+    }

@@ -14,5 +14,6 @@ loop-section-preserved c =
     let count = section_count b in
     let rest = flat_map (placed_section (λ part. part) p c.args.class o b) (range_with_len (s + 1) (count - (s + 1))) in
     ap (λ parts. parts ++ rest) c.in_ok-push_section.ensures
-    ∙ sections_step (λ part. part) p c.args.class o b c.loop-section.parts.items s count (omega (arith, c.loop-section-test.true, c.section_count-section-end.ensures.count))
+    ∙ sections_step (λ part. part) p c.args.class o b c.loop-section.parts.items s count
+    (omega (arith, c.loop-section-test.true, c.section_count-section-end.ensures.count))
     ∙ c.loop-section.invariant

@@ -1,7 +1,8 @@
 use Rattle.std.proofs.Common.{◌≡◌, ◌∙◌, Ok, Some, ap, length, subst, sym, take}
 use Rattle.std.specs.List.{AllZip}
 use Rattle.std.proofs.lemmas.List.{length_push}
-use Rattle.ports.specs.Claims.{Brings, IsFileOf, IsRead, Settles}
+use Rattle.ports.specs.Claims.{Brings, IsFileOf, IsRead}
+use Rattle.ports.specs.ClaimLaws.{Settles}
 use Rattle.ports.specs.Files.{IsFile}
 use Rattle.ports.proofs.Claimed.{beside, one_more, was_read}
 use Rattle.ports.proofs.Settled.{not_due, settles_more}
@@ -30,7 +31,8 @@ loop-claim-preserved g c =
     let came : IsFile told c.in-Some.claim.name.now c.in-Ok.file.items =
     rw (sym c.loop-claim.invariant.files_are, sym c.name-name.ensures) c.in-Ok.ensures.bytes in
     let brings : c.in-Some.claim.came ≡ Some (Ok c.in-Ok.file) =
-    sym c.came.ensures ∙ c.in-Some-came.is ∙ ap Some (sym (c.in-Ok.ensures.given (not_due _ c.in-Ok.file c.in-Ok.ensures.fails))) in
+    sym c.came.ensures ∙ c.in-Some-came.is
+    ∙ ap Some (sym (c.in-Ok.ensures.given (not_due _ c.in-Ok.file c.in-Ok.ensures.fails))) in
     record {
       files_are = c.count.ensures.files ∙ c.loop-claim.invariant.files_are;
       faults_are = c.in-Ok.ensures.cause ∙ c.loop-claim.invariant.faults_are;
@@ -48,6 +50,8 @@ loop-claim-preserved g c =
           (length c.loop-claim.yielded) c.in-Some.claim c.in-Ok.file next.0
           (ap (λ claim. claim.came) next.1.1 ∙ brings) c.in_default-push.ensures.items c.loop-claim.invariant.brought);
       all = λ now ended rest. c.loop-claim.invariant.all now ended
-          (subst (λ claims. Settles (g.C.Counts.due c.loop-claim.store) now claims ended) (sym c.in-Some.ensures.steps.0)
-          (settles_more _ _ now c.in-Some.claim _ c.in-Ok.file ended brings (not_due _ c.in-Ok.file c.in-Ok.ensures.fails) c.count.ensures.call rest));
+          (subst (λ claims. Settles (g.C.Counts.due c.loop-claim.store) now claims ended)
+          (sym c.in-Some.ensures.steps.0)
+          (settles_more _ _ now c.in-Some.claim _ c.in-Ok.file ended brings
+          (not_due _ c.in-Ok.file c.in-Ok.ensures.fails) c.count.ensures.call rest));
     }

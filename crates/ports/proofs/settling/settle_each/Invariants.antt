@@ -2,7 +2,8 @@ use Rattle.std.proofs.Common.{◌≡◌, ℕ, Global, Result, Vec, length, take}
 use Rattle.std.specs.List.{AllZip}
 use Rattle.std.specs.Vec.Iter.{into_iter_items}
 use Rattle.ports.specs.declared.faults.FetchFault.{FetchFault}
-use Rattle.ports.specs.Claims.{Brings, IsFileOf, Settles}
+use Rattle.ports.specs.Claims.{Brings, IsFileOf}
+use Rattle.ports.specs.ClaimLaws.{Settles}
 use Rattle.ports.proofs.settling.settle_each.Given as goal
 
 -- the files of the first claims have come, and how the rest are settled is how all are

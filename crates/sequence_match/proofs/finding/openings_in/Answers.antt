@@ -4,7 +4,8 @@ use Rattle.object_rules.specs.declared.fault.FaultKind.TheVariants.{Sequence, St
 use Rattle.sequence_forms.specs.declared.places.Site.{Site}
 use Rattle.sequence_match.specs.Code.{Names}
 use Rattle.sequence_match.specs.Finding.{IsLeastBelow, IsLooseIn, IsStrayIn}
-use Rattle.sequence_match.proofs.Found.{SitesBelow, found_not_loose, last_found, least_all, least_more, sites_all, sites_more, sites_same, stands_within}
+use Rattle.sequence_match.proofs.Found.{SitesBelow, found_not_loose, last_found, least_all, least_more, sites_all}
+use Rattle.sequence_match.proofs.Found.{sites_more, sites_same, stands_within}
 use Rattle.sequence_match.proofs.finding.openings_in.Goals as goal
 use Rattle.sequence_match.proofs.finding.openings_in.Goals.{in-Some+in_ok-push-in-Some, in-None}
 
@@ -37,7 +38,8 @@ loop-entry-preserved c =
     ]
 
 pub returns-clause-sites : goal.returns-clause-sites
-returns-clause-sites c = sites_all c.args.code.now c.loop-entry.entry c.loop-entry.sites.items (omega arith) c.loop-entry.invariant.sites
+returns-clause-sites c =
+    sites_all c.args.code.now c.loop-entry.entry c.loop-entry.sites.items (omega arith) c.loop-entry.invariant.sites
 
 pub returns-clause-loose : goal.returns-clause-loose
 returns-clause-loose c =

@@ -4,4 +4,5 @@ use Rattle.sequence_match.proofs.finding.rising.Goals as goal
 
 pub returns-clause-rising : goal.returns-clause-rising
 returns-clause-rising c =
-    IsNonDecreasingBy-from_sort_by_key (λ site. site.start) _ c.in_ok-sort_by_key.ensures.sorted (λ a r q k. search rules)
+    IsNonDecreasingBy-from_sort_by_key (λ site. site.start) _ c.in_ok-sort_by_key.ensures.sorted
+    (λ a r q k. search rules)

@@ -10,7 +10,8 @@ find_in_code-requires c =
     let A : List Relocation → Type 0 = λ ys. AreApart ys in
     record {
       ordered = c.requires.ordered;
-      apart = subst A (sym c.requires.relocations) (fields_apart c.args.object.now c.code_of.ensures.object c.args.section);
+      apart = subst A (sym c.requires.relocations)
+          (fields_apart c.args.object.now c.code_of.ensures.object c.args.section);
       few = c.requires.few;
     }
 

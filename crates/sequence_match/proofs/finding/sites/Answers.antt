@@ -9,12 +9,15 @@ pub returns-in-Some-clause-fault : goal.returns-in-Some-clause-fault
 returns-in-Some-clause-fault c =
     let b = c.args.object.now in
     let F : ObjectFault → Type 0 = λ fault. IsFault b fault in
-    subst F (sym c.fault.ensures) (loose_fault b c.in-Some.spot (first_at Sequence b c.in_ok-found.found.loose c.in-Some.spot c.in-Some.is c.in_ok-found.ensures.loose))
+    subst F (sym c.fault.ensures)
+    (loose_fault b c.in-Some.spot
+    (first_at Sequence b c.in_ok-found.found.loose c.in-Some.spot c.in-Some.is c.in_ok-found.ensures.loose))
 
 pub returns-in-Some-stray-clause-fault : goal.returns-in-Some-stray-clause-fault
 returns-in-Some-stray-clause-fault c =
     let b = c.args.object.now in
     let F : ObjectFault → Type 0 = λ fault. IsFault b fault in
     subst F (sym c.fault-in-Some-stray.ensures)
-    (stray_fault b c.in-Some-stray.spot (nowhere_of Sequence b c.in_ok-found.found.loose c.in_default.is c.in_ok-found.ensures.loose)
+    (stray_fault b c.in-Some-stray.spot
+    (nowhere_of Sequence b c.in_ok-found.found.loose c.in_default.is c.in_ok-found.ensures.loose)
     (first_at StrayCall b c.in_ok-found.found.stray c.in-Some-stray.spot c.in-Some-stray.is c.in_ok-found.ensures.stray))

@@ -16,9 +16,12 @@ loop-entry-preserved c =
     elim c.if-width-gt0.branch [
       | then-width-gt0+in_ok-push w ↦
           subst P
-          (sym (ap (λ v. v.items) w.spans-is ∙ w.in_ok-push.ensures.items ∙ ap (λ width. c.loop-entry.spans.items ++ span width ∷ []) c.width-width.ensures.width))
-          (spans_more c.args.reach xs n c.loop-entry.spans.items c.loop-entry.invariant x entry (omega (arith, w.if-width-gt0.true, c.width-width.ensures.width)))
+          (sym (ap (λ v. v.items) w.spans-is ∙ w.in_ok-push.ensures.items
+          ∙ ap (λ width. c.loop-entry.spans.items ++ span width ∷ []) c.width-width.ensures.width))
+          (spans_more c.args.reach xs n c.loop-entry.spans.items c.loop-entry.invariant x entry
+          (omega (arith, w.if-width-gt0.true, c.width-width.ensures.width)))
       | else-width-gt0 w ↦
           subst P (sym (ap (λ v. v.items) w.spans-is))
-          (spans_same c.args.reach xs n c.loop-entry.spans.items c.loop-entry.invariant x entry (omega (arith, w.if-width-gt0.false, c.width-width.ensures.width)))
+          (spans_same c.args.reach xs n c.loop-entry.spans.items c.loop-entry.invariant x entry
+          (omega (arith, w.if-width-gt0.false, c.width-width.ensures.width)))
     ]

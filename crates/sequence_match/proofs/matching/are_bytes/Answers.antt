@@ -8,7 +8,8 @@ use Rattle.sequence_match.proofs.matching.are_bytes.Goals as goal
 
 pub loop-index-preserved : goal.loop-index-preserved
 loop-index-preserved c =
-    let P : ℕ → Type 0 = λ k. (cell : Cell) → slice_get c.args.cells.now k ≡ Some cell → IsTrue (fits cell (slice_index c.args.bytes.now (c.args.start + k))) in
+    let P : ℕ → Type 0 = λ k. (cell : Cell) → slice_get c.args.cells.now k ≡ Some cell
+    → IsTrue (fits cell (slice_index c.args.bytes.now (c.args.start + k))) in
     below_more P c.loop-index.index c.loop-index.invariant
     (λ cell at.
     let C : Cell → Type 0 = λ x. IsTrue (fits x (slice_index c.args.bytes.now (c.args.start + c.loop-index.index))) in

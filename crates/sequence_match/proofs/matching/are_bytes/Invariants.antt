@@ -6,4 +6,5 @@ use Rattle.sequence_match.proofs.matching.are_bytes.Given as goal
 
 abbrev pub invariant-loop-index : goal.invariant-loop-index
 invariant-loop-index l =
-    (k : ℕ) → k < l.index → (cell : Cell) → slice_get l.cells k ≡ Some cell → IsTrue (fits cell (slice_index l.bytes (l.start + k)))
+    (k : ℕ) → k < l.index → (cell : Cell) → slice_get l.cells k ≡ Some cell
+    → IsTrue (fits cell (slice_index l.bytes (l.start + k)))

@@ -9,7 +9,8 @@ returns-in_default c =
     let code = c.args.code.now in
     let P : ℕ → Type 0 = λ k. (e : ℕ) → ReachesAt OfField code.relocations.now k e → ⊥ in (
       λ t. absurd (cc),
-      λ h. absurd (not_covered code c.requires.ready c.args.form c.args.entry c.args.start c.requires.second (subst P c.requires.place c.in_default.ensures) h),
+      λ h. absurd (not_covered code c.requires.ready c.args.form c.args.entry c.args.start c.requires.second
+          (subst P c.requires.place c.in_default.ensures) h),
     )
 
 pub returns-in-None : goal.returns-in-None
@@ -18,7 +19,8 @@ returns-in-None c =
     let P : ℕ → Type 0 = λ k. ReachesAt OfField code.relocations.now k c.in-Some.first in (
       λ t. absurd (cc),
       λ h. absurd
-          (no_sequence code c.requires.ready c.args.form c.args.entry c.args.start c.requires.second c.in-Some.first (subst P c.requires.place c.in-Some.ensures.0)
+          (no_sequence code c.requires.ready c.args.form c.args.entry c.args.start c.requires.second c.in-Some.first
+          (subst P c.requires.place c.in-Some.ensures.0)
           c.in-None.ensures h),
     )
 

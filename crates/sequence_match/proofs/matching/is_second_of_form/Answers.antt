@@ -13,9 +13,12 @@ returns-then-left-row c = (
       let code = c.args.code.now in
       let start = c.relocation_at-relocation.result.offset - c.in-Some.second.at in
       let calls = c.calls.ensures.0 (search rules) in
-      let S : Option Second → Type 0 = λ o. IsSecond o (Names code.getters.now) code.relocations.now start c.args.entry in
-      let second = subst S (sym c.in-Some.is ∙ c.row-row.ensures.second_is) (c.relocation_at-relocation.result, c.relocation_at-relocation.ensures, calls) in
-      let same = start_of_second (row c.args.form).second (Names code.getters.now) code.relocations.now h.1.0.start start c.args.entry h.1.3 second in
+      let S : Option Second → Type 0 =
+      λ o. IsSecond o (Names code.getters.now) code.relocations.now start c.args.entry in
+      let second = subst S (sym c.in-Some.is ∙ c.row-row.ensures.second_is)
+      (c.relocation_at-relocation.result, c.relocation_at-relocation.ensures, calls) in
+      let same = start_of_second (row c.args.form).second
+      (Names code.getters.now) code.relocations.now h.1.0.start start c.args.entry h.1.3 second in
       let within = first_within code c.args.form c.args.entry start h same in
       absurd (omega (arith, within, c.row-row.ensures.first_at_is)),
 )

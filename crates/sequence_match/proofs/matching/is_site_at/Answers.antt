@@ -10,7 +10,8 @@ has_second-requires-clause-inside c =
     let spelled = c.is_spelled.ensures.0 (search rules) in
     let inside : c.args.start + length (row c.args.form).cells ≤ length c.args.code.now.bytes.now = spelled.inside in
     rw c.row-row.ensures.second_is
-    (second_within (row c.args.form).second (length (row c.args.form).cells) c.args.start (length c.args.code.now.bytes.now) (second_inside c.args.form) inside)
+    (second_within (row c.args.form).second (length (row c.args.form).cells) c.args.start
+    (length c.args.code.now.bytes.now) (second_inside c.args.form) inside)
 
 pub is_earliest-requires-clause-inside : goal.is_earliest-requires-clause-inside
 is_earliest-requires-clause-inside c =

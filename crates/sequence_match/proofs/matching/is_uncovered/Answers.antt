@@ -27,7 +27,9 @@ pub returns-else-is_bare : goal.returns-else-is_bare
 returns-else-is_bare c =
     let xs = c.args.code.now.relocations.now in
     let start = c.args.start in
-    let at : start + (row c.args.form).first_at ≡ start + c.args.spelling.now.first_at = omega (arith, c.requires.spelling.first_at_is) in (
+    let at : start + (row c.args.form).first_at ≡ start + c.args.spelling.now.first_at =
+    omega (arith, c.requires.spelling.first_at_is) in (
       λ t. absurd (none_where_false _ _ c.is_bare.ensures c.if-is_bare.false (c.is_bare.ensures.0 t)),
-      λ h. absurd (none_where_false _ _ c.is_bare.ensures c.if-is_bare.false (bare_moved xs start _ start _ refl at h.0)),
+      λ h. absurd (none_where_false _ _ c.is_bare.ensures c.if-is_bare.false
+          (bare_moved xs start _ start _ refl at h.0)),
     )

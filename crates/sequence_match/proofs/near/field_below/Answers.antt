@@ -5,7 +5,8 @@ use Rattle.sequence_match.proofs.Seconds.{none_where_false}
 use Rattle.sequence_match.proofs.near.field_below.Goals as goal
 
 pub loop-step-init : goal.loop-step-init
-loop-step-init c = none_seen c.args.relocations.now (λ y. Covers y c.args.place) c.args.end c.args.place c.requires.above (above_not c.args.place)
+loop-step-init c = none_seen c.args.relocations.now
+    (λ y. Covers y c.args.place) c.args.end c.args.place c.requires.above (above_not c.args.place)
 
 pub loop-step-preserved : goal.loop-step-preserved
 loop-step-preserved c =
@@ -18,7 +19,8 @@ pub returns-then-covers : goal.returns-then-covers
 returns-then-covers c =
     let xs = c.args.relocations.now in
     let n : ℕ = c.args.end - 1 - c.loop-step.step in
-    first_over xs c.args.place n c.at-relocation.result c.requires.apart c.at-relocation.ensures (c.covers.ensures.0 (search rules))
+    first_over xs c.args.place n c.at-relocation.result c.requires.apart c.at-relocation.ensures
+    (c.covers.ensures.0 (search rules))
 
 pub returns-then-is_last_below : goal.returns-then-is_last_below
 returns-then-is_last_below c = λ f h.

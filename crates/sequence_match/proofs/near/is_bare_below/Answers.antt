@@ -7,7 +7,8 @@ use Rattle.sequence_match.proofs.near.is_bare_below.Goals as goal
 pub loop-step-init : goal.loop-step-init
 loop-step-init c =
     none_seen c.args.relocations.now (λ y. CoversIn y c.args.from c.args.to) c.args.end (c.args.to - 1)
-    (λ k d low high. omega (arith, c.requires.above k d low high, c.requires.some)) (above_not_any c.args.from c.args.to)
+    (λ k d low high. omega (arith, c.requires.above k d low high, c.requires.some))
+    (above_not_any c.args.from c.args.to)
 
 pub loop-step-preserved : goal.loop-step-preserved
 loop-step-preserved c =

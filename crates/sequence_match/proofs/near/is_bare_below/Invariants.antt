@@ -6,4 +6,5 @@ use Rattle.sequence_match.proofs.near.is_bare_below.Given as goal
 
 -- those that were looked at cover no such byte
 abbrev pub invariant-loop-step : goal.invariant-loop-step
-invariant-loop-step l = (f : ℕ) (y : Relocation) → l.end ≤ f + l.step → IsEntry l.relocations f y → CoversIn y l.from l.to → ⊥
+invariant-loop-step l = (f : ℕ) (y : Relocation) → l.end ≤ f + l.step → IsEntry l.relocations f y
+    → CoversIn y l.from l.to → ⊥

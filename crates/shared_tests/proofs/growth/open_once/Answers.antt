@@ -5,4 +5,5 @@ use Rattle.shared_modules.specs.Threads.{first_named}
 use Rattle.shared_tests.proofs.growth.open_once.Goals as goal
 
 pub open-requires-clause-speaks : goal.open-requires-clause-speaks
-open-requires-clause-speaks g c = subst (λ (ts : List ℕ). 1 ≤ times 1 ts) (sym c.requires.threads) (first_named 1 32 c.requires.some)
+open-requires-clause-speaks g c =
+    subst (λ (ts : List ℕ). 1 ≤ times 1 ts) (sym c.requires.threads) (first_named 1 32 c.requires.some)

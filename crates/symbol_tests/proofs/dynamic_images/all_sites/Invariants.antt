@@ -7,4 +7,5 @@ use Rattle.symbol_tests.proofs.dynamic_images.all_sites.Given as goal
 abbrev pub invariant-loop-object : goal.invariant-loop-object
 invariant-loop-object l =
     (length l.all.items ≡ l.object-index) ×
-    ((o : ℕ) → o < l.object-index → HaveSymbols (object_at l.objects o) (slice_index_or (map (λ own. own.items) l.all.items) o []))
+    ((o : ℕ) → o < l.object-index
+    → HaveSymbols (object_at l.objects o) (slice_index_or (map (λ own. own.items) l.all.items) o []))

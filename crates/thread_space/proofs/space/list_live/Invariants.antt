@@ -7,6 +7,7 @@ use Rattle.thread_space.proofs.space.list_live.Given as goal
 
 abbrev pub invariant-loop-image : goal.invariant-loop-image
 invariant-loop-image l =
-    (live_in l.dtv.images l.dtv.past ≡ l.live.items ++ instances_from (infos l.dtv.images) l.image (drop l.image l.dtv.past.modules))
+    (live_in l.dtv.images l.dtv.past ≡ l.live.items
+    ++ instances_from (infos l.dtv.images) l.image (drop l.image l.dtv.past.modules))
     × (vec_len l.live ≤ l.image)
     × (65 ≤ vec_capacity l.live)

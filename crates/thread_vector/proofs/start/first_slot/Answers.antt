@@ -5,4 +5,5 @@ use Rattle.thread_vector.proofs.First.{startup_size}
 use Rattle.thread_vector.proofs.start.first_slot.Goals as goal
 
 pub fresh-requires : goal.fresh-requires
-fresh-requires c = startup_size c.args.modules.now c.args.image c.in-Some.info c.requires (ap (λ i. startup_info i c.args.image) (sym c.infos.ensures.value) ∙ sym c.startup_info.ensures ∙ c.in-Some.is)
+fresh-requires c = startup_size c.args.modules.now c.args.image c.in-Some.info c.requires
+    (ap (λ i. startup_info i c.args.image) (sym c.infos.ensures.value) ∙ sym c.startup_info.ensures ∙ c.in-Some.is)

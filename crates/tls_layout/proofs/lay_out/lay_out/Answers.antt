@@ -12,13 +12,21 @@ loop-index-init c = record {
 
 pub returns-then-limit-end-clause-beyond : goal.returns-then-limit-end-clause-beyond
 returns-then-limit-end-clause-beyond c =
-    let at = end_at _ _ _ _ _ _ _ c.loop-index-test.true c.loop-index.invariant.at c.give_place-end.ensures.end in
-    (c.fault.ensures, omega (arith, at, end_of-front c.args.class c.args.from c.args.sections.now (c.loop-index.index + 1), c.if-limit-end.true))
+    let at = end_at _ _ _ _ _ _ _ c.loop-index-test.true c.loop-index.invariant.at c.give_place-end.ensures.end in (
+      c.fault.ensures,
+      omega (
+        arith,
+        at,
+        end_of-front c.args.class c.args.from c.args.sections.now (c.loop-index.index + 1),
+        c.if-limit-end.true,
+      ),
+    )
 
 pub loop-index-preserved : goal.loop-index-preserved
 loop-index-preserved c = record {
   at = end_at _ _ _ _ _ _ _ c.loop-index-test.true c.loop-index.invariant.at c.give_place-end.ensures.end;
   within = omega (arith, c.if-limit-end.false);
-  below = gives_more _ _ _ _ _ _ _ _ _ _ c.loop-index-test.true (omega arith) c.loop-index.invariant.at c.loop-index.invariant.below c.loop-index.invariant.above c.give_place-end.ensures.place;
+  below = gives_more _ _ _ _ _ _ _ _ _ _ c.loop-index-test.true
+      (omega arith) c.loop-index.invariant.at c.loop-index.invariant.below c.loop-index.invariant.above c.give_place-end.ensures.place;
   above = keeps_more _ _ _ _ c.loop-index.invariant.above;
 }

@@ -20,11 +20,14 @@ loop-object-preserved c =
     let is = c.loop-object.invariant in
     record {
       sections_are = all_sections-more _ _ c.object-item.result _ _ c.loop-object-test.true c.object-item.is is.sections_are c.in_ok-push_sections.ensures.pushed;
-      counts_are = rw (c.in_ok-push-2.ensures.items, c.section_count.ensures.count) (section_counts-more _ _ c.object-item.result _ c.loop-object-test.true c.object-item.is is.counts_are);
-      ordinary = rw c.in_ok-push_sections.ensures.pushed (All-append IsOrdinary _ _ is.ordinary c.in_ok-push_sections.ensures.ordinary);
+      counts_are = rw (c.in_ok-push-2.ensures.items, c.section_count.ensures.count)
+          (section_counts-more _ _ c.object-item.result _ c.loop-object-test.true c.object-item.is is.counts_are);
+      ordinary = rw c.in_ok-push_sections.ensures.pushed
+          (All-append IsOrdinary _ _ is.ordinary c.in_ok-push_sections.ensures.ordinary);
       len = rw c.in_ok-push.ensures.items (length_push _ _ ∙ ap (λ n. n + 1) is.len);
       firsts_are = rw c.in_ok-push.ensures.items
-          (numbers_more _ _ _ (λ o. length (all_sections (take o c.args.objects.now))) is.len is.firsts_are (c.len.ensures ∙ (c.loop-object.sections.ok.0 ∙ ap length is.sections_are)));
+          (numbers_more _ _ _ (λ o. length (all_sections (take o c.args.objects.now))) is.len is.firsts_are
+          (c.len.ensures ∙ (c.loop-object.sections.ok.0 ∙ ap length is.sections_are)));
     }
 
 pub returns : goal.returns

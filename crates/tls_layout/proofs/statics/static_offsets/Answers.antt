@@ -20,5 +20,7 @@ loop-tls-preserved c =
       len = rw c.in_ok-push.ensures.items (length_push _ _ ∙ ap (λ n. n + 1) c.loop-tls.invariant.len);
       last = last;
       small = tls_offset_small _ _ _ _ _ c.loop-tls-test.true c.requires.ordinary c.loop-tls.invariant.small c.round_up-last.ensures.near;
-      so_far = rw c.in_ok-push.ensures.items (numbers_more _ _ _ (λ m. tls_offset c.args.sizes.now (m + 1)) c.loop-tls.invariant.len c.loop-tls.invariant.so_far last);
+      so_far = rw c.in_ok-push.ensures.items
+          (numbers_more _ _ _ (λ m. tls_offset c.args.sizes.now
+          (m + 1)) c.loop-tls.invariant.len c.loop-tls.invariant.so_far last);
     }

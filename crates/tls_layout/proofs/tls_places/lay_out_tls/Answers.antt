@@ -17,8 +17,10 @@ returns-in_err-zero-clause-beyond c =
     rw (p.1, p.2) (is.0, tls_beyond c.args.sections.now (2 ^ 20) _ c.in_ok-initial.ensures.extent.0 is.1)
 
 pub returns-clause-size : goal.returns-clause-size
-returns-clause-size c = (is_tls_size _ _ _ c.in_ok-initial.ensures.extent.0 c.in_ok-zero.ensures.extent.0, c.in_ok-zero.ensures.extent.1)
+returns-clause-size c =
+    (is_tls_size _ _ _ c.in_ok-initial.ensures.extent.0 c.in_ok-zero.ensures.extent.0, c.in_ok-zero.ensures.extent.1)
 
 pub returns-clause-offsets : goal.returns-clause-offsets
 returns-clause-offsets c =
-    are_offsets _ _ _ _ _ (omega arith) c.requires.none (ap (λ (x : Extent). x.end) c.in_ok-initial.ensures.extent.0) c.in_ok-initial.ensures.places c.in_ok-zero.ensures.places
+    are_offsets _ _ _ _ _ (omega arith) c.requires.none
+    (ap (λ (x : Extent). x.end) c.in_ok-initial.ensures.extent.0) c.in_ok-initial.ensures.places c.in_ok-zero.ensures.places

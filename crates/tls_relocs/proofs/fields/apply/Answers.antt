@@ -15,7 +15,8 @@ returns-in-Word32 c =
     let size = length-bytes_of 4 c.in-Word32.word in
     let room : c.args.at + 4 ≤ length c.args.bytes.now = rw c.in-Word32.is at c.requires in
     rw c.in-Word32.is
-    (put_mid-rest c.args.at 4 (bytes_of 4 c.in-Word32.word) c.args.bytes.now c.write_u32.new.buf size room c.write_u32.ensures)
+    (put_mid-rest c.args.at 4
+    (bytes_of 4 c.in-Word32.word) c.args.bytes.now c.write_u32.new.buf size room c.write_u32.ensures)
 
 pub returns-in-Word64 : goal.returns-in-Word64
 unfolding bytes_of
@@ -23,4 +24,5 @@ returns-in-Word64 c =
     let size = length-bytes_of 8 c.in-Word64.word in
     let room : c.args.at + 8 ≤ length c.args.bytes.now = rw c.in-Word64.is at c.requires in
     rw c.in-Word64.is
-    (put_mid-rest c.args.at 8 (bytes_of 8 c.in-Word64.word) c.args.bytes.now c.write_u64.new.buf size room c.write_u64.ensures)
+    (put_mid-rest c.args.at 8
+    (bytes_of 8 c.in-Word64.word) c.args.bytes.now c.write_u64.new.buf size room c.write_u64.ensures)

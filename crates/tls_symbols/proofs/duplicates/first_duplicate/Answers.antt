@@ -9,7 +9,8 @@ returns-in-Some c =
     let i = c.loop-index.index in
     let b = c.object-item.result in
     let here = get_or_read objects i b c.loop-index-test.true c.object-item.is [] in
-    rw c.symbol_table.ensures (first_here objects i b here c.loop-index.invariant c.loop-index-test.true c.in-Some.entry c.in-Some.ensures)
+    rw c.symbol_table.ensures
+    (first_here objects i b here c.loop-index.invariant c.loop-index-test.true c.in-Some.entry c.in-Some.ensures)
 
 pub loop-index-preserved : goal.loop-index-preserved
 loop-index-preserved c =

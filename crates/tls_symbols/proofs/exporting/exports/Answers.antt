@@ -40,7 +40,8 @@ loop-offer-preserved c =
     let here : all (drop i items) ≡ bound_name objects offer.found ++ rest =
     ap all (drop-cons items i none below ∙ ap (λ m. offer ∷ drop m items) next)
     ∙ flat_map-cons (λ (offer : Offer). bound_name objects offer.found) offer (drop (i + 1) items) in
-    let is = subst (All (IsOffer c.offers_of.new.names.keys objects)) (sym c.deref-offer-items.ensures.value) c.in_ok-offers.ensures.numbered i none below in
+    let is = subst (All (IsOffer c.offers_of.new.names.keys objects))
+    (sym c.deref-offer-items.ensures.value) c.in_ok-offers.ensures.numbered i none below in
     let definition =
     offer_definition c.offers_of.new.names.keys objects c.in_ok-strong.strong.items c.in_ok-weak.weak.items offer
     c.index.result.now c.index-in-loop-offer.result.now c.in_ok-strong.ensures c.in_ok-weak.ensures is
@@ -58,7 +59,8 @@ loop-offer-preserved c =
           ∙ get_or_default objects offer.found.object w.index-objects-object.result [] is.within.object) in
           ap (λ v. map (λ name. name.now) v.items ++ rest) w.exported-is
           ∙ ap (λ xs. map (λ name. name.now) xs ++ rest) w.in_ok-push.ensures.items
-          ∙ ap (λ xs. xs ++ rest) (map-append (λ name. name.now) c.loop-offer.exported.items (w.symbol_name.result ∷ []))
+          ∙ ap (λ xs. xs ++ rest)
+          (map-append (λ name. name.now) c.loop-offer.exported.items (w.symbol_name.result ∷ []))
           ∙ ap (λ n. (seen ++ n ∷ []) ++ rest) named ∙ append_assoc seen (name ∷ []) rest
           ∙ sym (ap (λ xs. seen ++ (xs ++ rest)) bound) ∙ sym (ap (λ xs. seen ++ xs) here) ∙ c.loop-offer.invariant
       | else-is_symbol w ↦

@@ -8,4 +8,5 @@ use Rattle.tls_symbols.proofs.exporting.exports.Given as goal
 abbrev pub invariant-loop-offer : goal.invariant-loop-offer
 invariant-loop-offer l =
     map (λ name. name.now) l.exported.items
-    ++ flat_map (λ offer. bound_name l.objects offer.found) (drop l.offer-index l.offer-items) ≡ exported_names l.objects
+    ++ flat_map (λ offer. bound_name l.objects offer.found) (drop l.offer-index l.offer-items)
+    ≡ exported_names l.objects

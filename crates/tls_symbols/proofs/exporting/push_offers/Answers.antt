@@ -43,7 +43,8 @@ loop-symbol-preserved c =
                 ∙ ap (λ xs. xs ++ rest) (map-append (λ offer. offer.found) c.loop-symbol.offers.items (offer ∷ []))
                 ∙ offer_here o b seen a below (sym c.is_offered.ensures ∙ w.if-is_offered.true) ∙ was.found;
             numbered = λ objects there here all.
-                let before = offers_grow old new objects c.loop-symbol.offers.items grows (was.numbered objects there here all) in
+                let before = offers_grow old new objects c.loop-symbol.offers.items grows
+                (was.numbered objects there here all) in
                 let name = w.symbol_name.ensures.name ∙ ap (λ x. symbol_name x a) here in
                 let last : IsOffer new objects offer = record {
                   within = record { object = there; symbol = subst (λ x. a < symbol_count x) here below };
@@ -69,7 +70,8 @@ loop-symbol-preserved c =
 pub returns-clause-found : goal.returns-clause-found
 returns-clause-found c =
     let b = c.args.object.now in
-    let past : symbol_count b - c.loop-symbol.symbol ≡ 0 = omega (arith, c.loop-symbol-test.false, c.symbol_count-symbol-end.ensures.count) in
+    let past : symbol_count b - c.loop-symbol.symbol ≡ 0 =
+    omega (arith, c.loop-symbol-test.false, c.symbol_count-symbol-end.ensures.count) in
     let seen = map (λ offer. offer.found) c.loop-symbol.offers.items in
     sym (append-nil seen)
     ∙ sym (ap (λ n. seen ++ flat_map (offered_at c.args.index b) (range_with_len c.loop-symbol.symbol n)) past)

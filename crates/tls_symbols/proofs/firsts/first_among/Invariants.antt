@@ -8,4 +8,6 @@ use Rattle.tls_symbols.proofs.firsts.first_among.Given as goal
 abbrev pub invariant-loop-index : goal.invariant-loop-index
 invariant-loop-index l =
     (length l.table.items ≡ length l.names.keys) ×
-    ((name : List ℕ) → number_of l.names.keys name < length l.names.keys → option_or (told l.names.keys l.table.items name) (first_from l.binding name l.index (drop l.index l.objects)) ≡ first_from l.binding name 0 l.objects)
+    ((name : List ℕ) → number_of l.names.keys name < length l.names.keys
+    → option_or (told l.names.keys l.table.items name) (first_from l.binding name l.index (drop l.index l.objects))
+    ≡ first_from l.binding name 0 l.objects)

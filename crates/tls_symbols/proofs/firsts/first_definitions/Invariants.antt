@@ -8,4 +8,5 @@ use Rattle.tls_symbols.proofs.firsts.first_definitions.Given as goal
 abbrev pub invariant-loop-index : goal.invariant-loop-index
 invariant-loop-index l =
     (length l.table.items ≡ length l.numbers.names.keys) ×
-    ((name : List ℕ) → option_or (told l.numbers.names.keys l.table.items name) (first_from l.binding name l.index (drop l.index l.objects)) ≡ first_from l.binding name 0 l.objects)
+    ((name : List ℕ) → option_or (told l.numbers.names.keys l.table.items name)
+    (first_from l.binding name l.index (drop l.index l.objects)) ≡ first_from l.binding name 0 l.objects)

@@ -8,4 +8,5 @@ use Rattle.tls_symbols.proofs.firsts.first_exports.Given as goal
 abbrev pub invariant-loop-index : goal.invariant-loop-index
 invariant-loop-index l =
     (length l.table.items ≡ length l.numbers.names.keys) ×
-    ((name : List ℕ) → option_or (told l.numbers.names.keys l.table.items name) (first_export name (l.index + 1) (drop l.index l.startup)) ≡ first_export name 1 l.startup)
+    ((name : List ℕ) → option_or (told l.numbers.names.keys l.table.items name)
+    (first_export name (l.index + 1) (drop l.index l.startup)) ≡ first_export name 1 l.startup)

@@ -28,7 +28,8 @@ loop-symbol-preserved c = λ name among.
           let defined = sym c.is_definition.ensures ∙ w.if-is_definition.true in
           let number = w.get_index_of-number.result in
           let found : position (λ k. bytes_eq (symbol_name b a) k.now) names ≡ number =
-          ap (λ x. position (λ k. bytes_eq x k.now) names) (sym w.symbol_name.ensures.name) ∙ sym w.get_index_of-number.ensures.index in
+          ap (λ x. position (λ k. bytes_eq x k.now) names) (sym w.symbol_name.ensures.name)
+          ∙ sym w.get_index_of-number.ensures.index in
           let len : length table ≡ length names = omega (arith, c.loop-symbol.auto.table, c.requires) in
           ap (λ t. option_or (told names t name) (left names c.args.binding o b (a + 1) name)) w.table-is
           ∙ note_among names c.args.binding o b a below table w.note_definition.new.table number defined found len w.note_definition.ensures name among

@@ -24,7 +24,8 @@ loop-symbol-preserved c = λ name.
           let defined = sym c.is_definition.ensures ∙ w.if-is_definition.true in
           let known = w.index.result.now in
           let same = known_is c.args.numbers.now.symbols.items o c.index-own.result.now c.index-own.ensures c.requires.there a known known w.index.ensures in
-          let is : IsNumbered names b a known = subst (IsNumbered names b a) (sym same) (c.requires.numbered.each a known below) in
+          let is : IsNumbered names b a known =
+          subst (IsNumbered names b a) (sym same) (c.requires.numbered.each a known below) in
           let shared = shared_binding c.args.binding b a c.requires.shared defined in
           let len : length table ≡ length names = omega (arith, c.loop-symbol.auto.table, c.requires.len) in
           ap (λ t. option_or (told names t name) (left names c.args.binding o b (a + 1) name)) w.table-is

@@ -9,5 +9,7 @@ use Rattle.tls_symbols.proofs.firsts.note_object.Given as goal
 -- with the symbols that are left, the table tells what it is to tell
 abbrev pub invariant-loop-symbol : goal.invariant-loop-symbol
 invariant-loop-symbol l = (name : List ℕ) →
-    option_or (told l.numbers.names.keys l.table name) (found_or l.index (find (defines l.object l.binding name) (range_with_len l.symbol (symbol_count l.object - l.symbol))) None)
+    option_or (told l.numbers.names.keys l.table name)
+    (found_or l.index (find (defines l.object l.binding name)
+    (range_with_len l.symbol (symbol_count l.object - l.symbol))) None)
     ≡ option_or (told l.numbers.names.keys l.fn.table name) (found_or l.index (first_in l.binding name l.object) None)

@@ -9,5 +9,6 @@ returns-in-Some c =
     let n = c.args.names.now in
     let b = object_at n.objects.now c.args.object in
     let named = numbered_name n.numbers.names.keys b c.args.symbol c.symbol_at.result c.in-Some.number c.symbol_at.ensures c.in-Some.is in
-    known_run_time n.objects.now n.startup.now n.numbers.names.keys (map (λ own. own.items) n.numbers.symbols.items) n.strong.items n.weak.items n.imported.items c.requires.known
+    known_run_time n.objects.now n.startup.now n.numbers.names.keys
+    (map (λ own. own.items) n.numbers.symbols.items) n.strong.items n.weak.items n.imported.items c.requires.known
     (symbol_name b c.args.symbol) c.in-Some.number named.number

@@ -6,5 +6,7 @@ use Rattle.tls_symbols.proofs.numbers.number_list.Given as goal
 abbrev pub invariant-loop-name : goal.invariant-loop-name
 invariant-loop-name l =
     (length l.numbers.items ≡ l.name-index) ×
-    ((j : ℕ) → j < l.name-index → IsNumberOf l.names.keys (slice_index_or (map (λ name. name.now) l.listed) j []) (slice_index l.numbers.items j)) ×
+    ((j : ℕ) → j < l.name-index
+    → IsNumberOf l.names.keys (slice_index_or (map (λ name. name.now) l.listed) j [])
+    (slice_index l.numbers.items j)) ×
     Grows l.fn.names.keys l.names.keys

@@ -8,4 +8,6 @@ abbrev pub invariant-loop-exports : goal.invariant-loop-exports
 invariant-loop-exports l =
     IsNumberOf l.names.keys get_address 0 ×
     (length l.exported.items ≡ l.exports-index) ×
-    ((k : ℕ) → k < l.exports-index → AreListed l.names.keys (slice_index_or l.startup k []) (slice_index_or (map (λ own. own.items) l.exported.items) k []))
+    ((k : ℕ) → k < l.exports-index
+    → AreListed l.names.keys (slice_index_or l.startup k [])
+    (slice_index_or (map (λ own. own.items) l.exported.items) k []))

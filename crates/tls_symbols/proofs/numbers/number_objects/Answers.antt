@@ -15,10 +15,14 @@ loop-object-preserved c =
     let numbers = c.loop-object.numbers.items in
     let objects = c.args.objects.now in
     let n = c.loop-object.object-index in
-    let here : c.object-item.result ≡ object_at objects n = get_or_read_under objects n (length objects) c.object-item.result [] c.object-item.is c.loop-object-test.true refl in (
+    let here : c.object-item.result ≡ object_at objects n =
+    get_or_read_under objects n (length objects) c.object-item.result
+    [] c.object-item.is c.loop-object-test.true refl in (
       omega (arith, c.in_ok-push.ensures.len, so_far.0),
-      vecs_push (λ o own. AreNumbered new (object_at objects o) own) numbers c.push.new.self.items c.in_ok-own.own n so_far.0 c.in_ok-push.ensures.items
-          (λ o less. numbered_grows old new (object_at objects o) (slice_index_or (map (λ own. own.items) numbers) o []) grows (so_far.1 o less))
+      vecs_push (λ o own. AreNumbered new
+          (object_at objects o) own) numbers c.push.new.self.items c.in_ok-own.own n so_far.0 c.in_ok-push.ensures.items
+          (λ o less. numbered_grows old new (object_at objects o)
+          (slice_index_or (map (λ own. own.items) numbers) o []) grows (so_far.1 o less))
           (subst (λ b. AreNumbered new b c.in_ok-own.own.items) here c.in_ok-own.ensures.numbers),
       grows_then c.args.names.now.keys old new so_far.2 grows,
     )

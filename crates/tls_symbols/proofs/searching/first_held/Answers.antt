@@ -48,7 +48,10 @@ returns-then-is_about g c =
     let found = c.at.ensures in
     let there = c.requires.table in
     subst (λ s. P (use_at o s t e r) → IsFirstUsed P objects o s e) (sym c.from.ensures)
-    (λ has. (used_here P objects o s t rs held e r c.requires.number there.0 there.1 found has, c.loop-entry.invariant)) c.if-is_about.ensures
+    (λ has. (
+      used_here P objects o s t rs held e r c.requires.number there.0 there.1 found has,
+      c.loop-entry.invariant,
+    )) c.if-is_about.ensures
 
 pub loop-entry-preserved : goal.loop-entry-preserved
 loop-entry-preserved g c =
@@ -81,4 +84,5 @@ returns g c =
     let relocs = c.relocs-relocs.ensures in
     let held = holds objects o s t b rs relocs.object here c.in-Some.ensures.target relocs.relocations in
     let past = c.loop-entry-test.false in
-    next_section P objects o s t rs held c.loop-entry.entry (omega (arith, past, c.len-entry-end.ensures)) c.loop-entry.invariant
+    next_section P objects o s t rs held c.loop-entry.entry
+    (omega (arith, past, c.len-entry-end.ensures)) c.loop-entry.invariant

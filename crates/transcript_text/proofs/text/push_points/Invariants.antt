@@ -7,4 +7,5 @@ use Rattle.transcript_text.proofs.text.push_points.Given as goal
 -- the points so far, each behind a comma
 abbrev pub invariant-loop-point : goal.invariant-loop-point
 invariant-loop-point l =
-    string_bytes l.text ≡ string_bytes l.initial.text ++ flat_map (λ q. codes "," ++ decimal q) (take l.point-index l.more)
+    string_bytes l.text ≡ string_bytes l.initial.text
+    ++ flat_map (λ q. codes "," ++ decimal q) (take l.point-index l.more)

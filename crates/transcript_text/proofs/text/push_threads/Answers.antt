@@ -7,4 +7,5 @@ loop-index-preserved c =
     (rw c.as_slice.ensures.value at c.in_ok-push_lines.ensures) c.loop-index.invariant
 
 pub returns : goal.returns
-returns c = threads_end (λ lines. lines.items) _ c.loop-index.index c.args.threads.now _ _ c.loop-index-test.false c.loop-index.invariant
+returns c = threads_end
+    (λ lines. lines.items) _ c.loop-index.index c.args.threads.now _ _ c.loop-index-test.false c.loop-index.invariant

@@ -11,7 +11,8 @@ returns-then-self-clause-steps c =
 pub returns-clause-steps : goal.returns-clause-steps
 returns-clause-steps c =
     let r = c.self.inside in
-    rw c.relocation_at-relocation.ensures (sym c.self.view_is ∙ relocations_first r.bytes.now r.at r.next r.end c.if-self.false)
+    rw c.relocation_at-relocation.ensures
+    (sym c.self.view_is ∙ relocations_first r.bytes.now r.at r.next r.end c.if-self.false)
 
 pub returns-clause-goes : goal.returns-clause-goes
 returns-clause-goes c =

@@ -10,5 +10,6 @@ returns c =
     file_known (shape_held c.args.self.now) _ _ _ _ _ _ _ _ _ _ _ _ _ _ c.new-bytes.ensures.items c.in_ok-put_header.ensures
     c.in_ok-put_sections.ensures c.in_ok-extend_from_slice.ensures.items c.in_ok-extend_from_slice-2.ensures.items
     c.in_ok-put_symbols.ensures c.in_ok-extend_from_slice-3.ensures.items c.in_ok-extend_from_slice-4.ensures.items
-    c.in_ok-put_relocations.ensures c.object_header.ensures c.sections-sections.ensures (c.as_slice-3.ensures.value ∙ c.in_ok-symbols.ensures)
+    c.in_ok-put_relocations.ensures c.object_header.ensures c.sections-sections.ensures
+    (c.as_slice-3.ensures.value ∙ c.in_ok-symbols.ensures)
     (c.as_slice-4.ensures.value ∙ c.in_ok-names.ensures) refl

@@ -5,14 +5,18 @@ use Rattle.generated_job.proofs.shape.ObjectShape.sections.Goals as goal
 
 pub overflow_add-section_names_at : goal.overflow_add-section_names_at
 overflow_add-section_names_at c =
-    let names : length c.args.names.now < 600 = subst (λ z. length z < 600) (sym c.requires.names) (few_names (shape_held c.args.self.now) c.requires.short) in
-    let symbols : length c.args.symbols.now < 5 = subst (λ z. length z < 5) (sym c.requires.symbols) (few_symbols (shape_held c.args.self.now)) in
+    let names : length c.args.names.now < 600 =
+    subst (λ z. length z < 600) (sym c.requires.names) (few_names (shape_held c.args.self.now) c.requires.short) in
+    let symbols : length c.args.symbols.now < 5 =
+    subst (λ z. length z < 5) (sym c.requires.symbols) (few_symbols (shape_held c.args.self.now)) in
     omega (arith, names, symbols, c.requires.short.code, c.requires.short.initial)
 
 pub overflow_add-relocations_at : goal.overflow_add-relocations_at
 overflow_add-relocations_at c =
-    let names : length c.args.names.now < 600 = subst (λ z. length z < 600) (sym c.requires.names) (few_names (shape_held c.args.self.now) c.requires.short) in
-    let symbols : length c.args.symbols.now < 5 = subst (λ z. length z < 5) (sym c.requires.symbols) (few_symbols (shape_held c.args.self.now)) in
+    let names : length c.args.names.now < 600 =
+    subst (λ z. length z < 600) (sym c.requires.names) (few_names (shape_held c.args.self.now) c.requires.short) in
+    let symbols : length c.args.symbols.now < 5 =
+    subst (λ z. length z < 5) (sym c.requires.symbols) (few_symbols (shape_held c.args.self.now)) in
     omega (arith, names, symbols, c.requires.short.code, c.requires.short.initial)
 
 pub returns : goal.returns

@@ -10,7 +10,8 @@ module _ (c : goal.After-copied) where
   value =
       let es = c.self.inside.starts.entries in
       let need = c.args.need.now in
-      c.copied.ensures ∙ c.get.ensures.value ∙ ap (λ eq. lookup (eq need) es) eq_same ∙ ap (lookup (same_need need)) c.self.invariant.0
+      c.copied.ensures ∙ c.get.ensures.value ∙ ap (λ eq. lookup (eq need) es) eq_same
+      ∙ ap (lookup (same_need need)) c.self.invariant.0
       ∙ lookup_starts need 0 (keys_of es) ∙ ap (λ t. start_of t.entries need) c.self.view_is
 
 pub returns : goal.returns

@@ -11,6 +11,7 @@ pub returns-clause-symbol : goal.returns-clause-symbol
 returns-clause-symbol c =
     let b = c.self.inside.bytes.items in
     let count : symbol_count b ≡ length c.args.self.now.symbols =
-    sym (length-tabled (λ (k : ℕ). symbol_of (symbol b k)) (symbol_count b)) ∙ ap (λ v. length v.symbols) c.self.view_is in
+    sym (length-tabled (λ (k : ℕ). symbol_of (symbol b k)) (symbol_count b))
+    ∙ ap (λ v. length v.symbols) c.self.view_is in
     symbol_within b (length c.args.self.now.symbols) c.args.number c.relocation_in.result c.self.invariant.0 count
     (c.relocation_in.ensures ∙ ap (λ x. slice_get (spelled x).relocations c.args.number) c.as_slice.ensures.value)

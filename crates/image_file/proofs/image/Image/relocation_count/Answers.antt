@@ -8,4 +8,6 @@ use Rattle.image_file.proofs.image.Image.relocation_count.Goals as goal
 pub returns : goal.returns
 returns c =
     let b = c.self.inside.bytes.items in
-    c.self.invariant.1.relocation_count_is ∙ sym (length-tabled (λ (k : ℕ). relocation_of (rela b k)) (relocation_count b)) ∙ ap (λ v. length v.relocations) c.self.view_is
+    c.self.invariant.1.relocation_count_is
+    ∙ sym (length-tabled (λ (k : ℕ). relocation_of (rela b k)) (relocation_count b))
+    ∙ ap (λ v. length v.relocations) c.self.view_is

@@ -13,7 +13,8 @@ loop-number-preserved c =
     let next = c.limit_line.new.self in
     let n = c.loop-number.number in
     let kept = c.loop-number.invariant in
-    let here : IsLimited c.args.most (slice_index_or now n []) (slice_index_or next n []) = c.in_ok-limit_line.ensures.limited in
+    let here : IsLimited c.args.most (slice_index_or now n []) (slice_index_or next n []) =
+    c.in_ok-limit_line.ensures.limited in
     let gives : c.in_ok-limit_line.field-0 ≡ has_fuel (slice_index_or now n []) = c.in_ok-limit_line.ensures.gives in
     let low : n < length first = omega arith in
     let said : c.if-branch.is_said ≡ (c.loop-number.is_said || c.in_ok-limit_line.field-0) =
@@ -24,5 +25,6 @@ loop-number-preserved c =
       c.limit_line.ensures.count ∙ kept.0,
       front_more c.args.most first now next n kept.1 kept.2 here c.limit_line.ensures.others,
       rest_less c.args.most first now next n kept.2 c.limit_line.ensures.others,
-      said_more first now n c.loop-number.is_said c.if-branch.is_said c.in_ok-limit_line.field-0 low kept.3 gives (kept.2 n (omega arith)) said,
+      said_more first now n c.loop-number.is_said c.if-branch.is_said c.in_ok-limit_line.field-0 low kept.3 gives
+          (kept.2 n (omega arith)) said,
     )

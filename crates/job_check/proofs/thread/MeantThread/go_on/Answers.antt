@@ -25,7 +25,8 @@ returns-in-None c =
     going_within r.lines r.begun (subst (λ call. is_done_with r.lines r.begun call ≡ false) c.in-None.is going) in
     let new : Run = record r { begun = r.begun + 1; kept = c.take_begin.new.space } in
     IfOk-weaker c.take_begin.result _ _
-    (λ taken begins. subst (λ (x : Run). GoesOn x.call x c.args.table.now taken new c.take_begin.new.table) c.self.view_is
+    (λ taken begins. subst (λ
+    (x : Run). GoesOn x.call x c.args.table.now taken new c.take_begin.new.table) c.self.view_is
     (subst (λ call. GoesOn call r c.args.table.now taken new c.take_begin.new.table) (sym c.in-None.is)
     (record {
       line = get_or r.lines r.begun c.index-self-self.result;

@@ -28,9 +28,12 @@ returns c =
     let taken = c.in_ok-taken.taken in
     let looked : c.lend.new.self ≡ look_at r.kept p d = c.lend.ensures
     ∙ ap (λ (k : Kept). record k { lent = None }) (c.in_ok-see.ensures.is
-    ∙ ap (λ xs. with_held (instances_in (infos_of r.kept.images) p) xs Fixed r.kept) (ap (λ v. v.items) c.replace-handed.ensures.value)) in
-    let goes = subst (λ (z : Run). GoesOn r.call (record r { kept = look_at r.kept p d }) p taken z p') (sym c.self-2.view_is)
-    (subst (λ (k : Kept). GoesOn r.call (record r { kept = k }) p taken c.go_on.new.self p') looked c.in_ok-taken.ensures) in
+    ∙ ap (λ xs. with_held (instances_in (infos_of r.kept.images) p) xs Fixed r.kept)
+    (ap (λ v. v.items) c.replace-handed.ensures.value)) in
+    let goes = subst (λ (z : Run). GoesOn r.call (record r { kept = look_at r.kept p d }) p taken z p')
+    (sym c.self-2.view_is)
+    (subst (λ (k : Kept). GoesOn r.call
+    (record r { kept = k }) p taken c.go_on.new.self p') looked c.in_ok-taken.ensures) in
     let ends : c.end.new.self ≡ run_after (emptied y) taken = c.end.ensures
     ∙ ap (λ (k : Kept). run_after (record y { kept = k }) taken) c.in_ok-shared.ensures.blocks in
     subst (λ (x : Run). TakesTurn x p d c.end.new.self p' d') c.self.view_is

@@ -1,7 +1,7 @@
 use Rattle.std.proofs.Common.{◌∙◌, subst, take_all, Vec, Global, ℕ}
 use Rattle.std.specs.List.{All}
 use Rattle.job_link.specs.Mentions.{bytes_in}
-use Rattle.elf_records.specs.Fields.{AreBytes}
+use Rattle.elf_records.specs.FieldLaws.{AreBytes}
 use Rattle.job_link.proofs.Held.{small_files}
 use Rattle.job_link.proofs.fetching.Files.are_bytes.Goals as goal
 

@@ -1,6 +1,6 @@
 use Rattle.std.proofs.Common.{ℕ, take, Vec, Global}
 use Rattle.std.specs.List.{All}
-use Rattle.elf_records.specs.Fields.{AreBytes}
+use Rattle.elf_records.specs.FieldLaws.{AreBytes}
 use Rattle.job_link.proofs.fetching.Files.are_bytes.Given as goal
 
 abbrev pub invariant-loop-file : goal.invariant-loop-file

@@ -7,4 +7,5 @@ pub returns-clause-slot : goal.returns-clause-slot
 returns-clause-slot c =
     let d = c.args.self.now in
     if_found c.copied.result d.program d.starts d.lates c.args.name.now
-    (c.copied.ensures ∙ c.get.ensures.value ∙ c.self.invariant.slots c.args.name.now ∙ ap (λ d. slot_of d c.args.name.now) c.self.view_is)
+    (c.copied.ensures ∙ c.get.ensures.value ∙ c.self.invariant.slots c.args.name.now
+    ∙ ap (λ d. slot_of d c.args.name.now) c.self.view_is)

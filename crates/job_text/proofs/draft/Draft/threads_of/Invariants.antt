@@ -10,6 +10,7 @@ use Rattle.job_text.proofs.draft.Draft.threads_of.Given as goal
 abbrev pub invariant-loop-index : goal.invariant-loop-index
 invariant-loop-index l = record {
   threads : l.order.items ++ filter_map number (drop l.index l.words) ≡ filter_map number (drop 1 l.words);
-  named : list_any (λ word. is_none (thread_named l.self word)) (drop l.index l.words) ≡ list_any (λ word. is_none (thread_named l.self word)) (drop 1 l.words);
+  named : list_any (λ word. is_none (thread_named l.self word)) (drop l.index l.words)
+      ≡ list_any (λ word. is_none (thread_named l.self word)) (drop 1 l.words);
   within : All (IsThread (length l.self.lines)) l.order.items;
 }

@@ -1,7 +1,7 @@
 use Rattle.std.proofs.Common.{◌≡◌, ℕ, List, arith, subst, sym}
 use Rattle.std.proofs.lemmas.Grind.{common_steps}
 use Rattle.std.specs.List.{Contains}
-use Rattle.job_text.specs.Jobs.{IsJob}
+use Rattle.job_text.specs.JobLaws.{IsJob}
 use Rattle.job_text.proofs.jobs.Job.mentions.Goals as goal
 
 pub returns-clause-every : goal.returns-clause-every

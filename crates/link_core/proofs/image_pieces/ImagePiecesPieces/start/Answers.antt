@@ -16,6 +16,7 @@ returns g c =
     let image = c.self.inside in
     let l = image.plan.now in
     let start = c.start_of.ensures.start in
-    let same = ap (λ (parts : List PlacedPart). length (laid_parts l 4096 (take c.args.number parts))) c.as_slice.ensures.value in
+    let same = ap (λ (parts : List PlacedPart). length
+    (laid_parts l 4096 (take c.args.number parts))) c.as_slice.ensures.value in
     let viewed = ap (λ (v : PiecesView). length (joined (take c.args.number v.pieces))) c.self.view_is in
     omega (arith, start, same, viewed, front_size l c.args.number image.parts.items)

@@ -28,7 +28,8 @@ returns-clause-whole g c =
     let behind : c.extend_from_slice.new.self.items ≡ made_behind l (4096 + length own) ++ last =
     c.in_ok-extend_from_slice.ensures.items
     ∙ ap (λ (xs : List ℕ). xs ++ c.as_slice-2.result.now) (c.in_ok-push_made.ensures
-    ∙ ap (λ (xs : List ℕ). xs ++ made_behind l (c.start_of.result + length c.new-back.result.items)) c.new-back.ensures.items
+    ∙ ap (λ (xs : List ℕ). xs
+    ++ made_behind l (c.start_of.result + length c.new-back.result.items)) c.new-back.ensures.items
     ∙ ap (made_behind l) end)
     ∙ ap (λ (xs : List ℕ). made_behind l (4096 + length own) ++ xs) c.as_slice-2.ensures.value in
     ap (λ (xs : List ℕ). front ++ (xs ++ c.extend_from_slice.new.self.items)) (pieces_joined l 4096 parts)

@@ -1,6 +1,6 @@
 use Rattle.std.proofs.Common.{◌∙◌, ap, sym}
 use Rattle.link_needs.proofs.Asked.{none_among}
-use Rattle.link_needs.specs.Refusals.{asks_among}
+use Rattle.link_needs.specs.RefusalLaws.{asks_among}
 use Rattle.link_needs.proofs.charge.ChargeQuestion.may_be_in.Goals as goal
 
 pub returns : goal.returns

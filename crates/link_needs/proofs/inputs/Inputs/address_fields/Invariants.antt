@@ -2,7 +2,8 @@ use Rattle.std.proofs.Common.{◌≡◌, ◌++◌, filter}
 use Rattle.elf_object.specs.declared.relocation.Relocation.{Relocation}
 use Rattle.elf_object.specs.Lent.{relocations}
 use Rattle.tls_symbols.specs.Bindings.{object_at}
-use Rattle.link_needs.specs.Needs.{fields_among, is_address_kind, section_absolutes}
+use Rattle.link_needs.specs.Needs.{is_address_kind}
+use Rattle.link_needs.specs.NeedLaws.{fields_among, section_absolutes}
 use Rattle.link_needs.proofs.inputs.Inputs.address_fields.Given as goal
 
 -- those that are found and those among the relocations that are left are all

@@ -15,7 +15,8 @@ collect-requires-clause-ready g c κs within =
     let inside =
     nat_range-All (λ i. i < length c.args.self.now.objects) 0 (length c.self.inside.objects.now)
     (λ i low high. omega (arith, high, same)) in
-    rw (c.map.ensures.base, c.map.ensures.f, c.with_min_len.ensures.base, ends.0, ends.1) (λ k d lt. (inside k d lt, λ y p. tt))
+    rw (c.map.ensures.base, c.map.ensures.f, c.with_min_len.ensures.base, ends.0, ends.1)
+    (λ k d lt. (inside k d lt, λ y p. tt))
 
 pub returns : goal.returns
 returns g c =
@@ -30,7 +31,8 @@ returns g c =
     ∙ (λ i. nat_range (c.with_min_len.ensures.base i).start (c.with_min_len.ensures.base i).end)
     ∙ (λ i. nat_range (ends.0 i) (ends.1 i)) ∙ ap (range_with_len 0) all in
     let are =
-    subst (λ (l : Linking). AllZip (λ o r. IfOk r (AreOwn l o)) chain.0 results) (ap (λ f. f.0.now) c.map.ensures.f) chain.2 in
+    subst (λ (l : Linking). AllZip (λ o r. IfOk r (AreOwn l o)) chain.0 results)
+    (ap (λ f. f.0.now) c.map.ensures.f) chain.2 in
     all_ok (AreOwn l) (range_with_len 0 (length l.objects)) results c.in_ok-collect.field-0 _
     (subst (λ os. AllZip (λ o r. IfOk r (AreOwn l o)) os results) numbers are)
     c.in_ok-collect.ensures.2

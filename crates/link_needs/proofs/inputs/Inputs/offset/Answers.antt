@@ -7,5 +7,6 @@ pub overflow_add-result : goal.overflow_add-result
 overflow_add-result c =
     let s = c.in-InSection.section in
     fits_at_offset (layout c.args.self.now) c.args.symbol.object s c.section_offset.result c.part-place.result.1
-    (c.part-place.ensures.small s c.in-InSection.is) (omega (arith, c.part-place.type_inv)) c.section_offset.ensures.offset
+    (c.part-place.ensures.small s c.in-InSection.is)
+    (omega (arith, c.part-place.type_inv)) c.section_offset.ensures.offset
     c.section_offset.ensures.small

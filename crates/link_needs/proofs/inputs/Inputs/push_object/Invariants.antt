@@ -2,7 +2,8 @@ use Rattle.std.proofs.Common.{◌≡◌, ◌-◌, ◌++◌}
 use Rattle.std.specs.List.{flat_map, range_with_len}
 use Rattle.elf_object.specs.Object.{section_count}
 use Rattle.tls_symbols.specs.Bindings.{object_at}
-use Rattle.link_needs.specs.Needs.{object_absolutes, object_needs, section_absolutes, section_needs}
+use Rattle.link_needs.specs.Needs.{object_needs, section_needs}
+use Rattle.link_needs.specs.NeedLaws.{object_absolutes, section_absolutes}
 use Rattle.link_needs.proofs.inputs.Inputs.push_object.Given as goal
 
 abbrev pub invariant-loop-section : goal.invariant-loop-section

@@ -1,6 +1,6 @@
 use Rattle.std.proofs.Common.{◌≡◌, ◌∙◌, ap, length, map, arith, subst, sym}
 use Rattle.std.specs.Vec.{vec_len}
-use Rattle.relax_sites.specs.Choices.{IsChoiceOf}
+use Rattle.relax_sites.specs.ChoiceLaws.{IsChoiceOf}
 use Rattle.link_needs.specs.Linking.{Linking, choices_from}
 use Rattle.link_needs.proofs.ChoiceLemmas.{choice_at, choice_own, choice_there, choices_there}
 use Rattle.link_needs.proofs.plan.Plan.choice.Goals as goal

@@ -10,5 +10,6 @@ loop-symbol-preserved c =
     elim c.match-symbol_name.branch [
       | in-Some+in_ok-push w ↦ rw (w.row-is, w.in_ok-push.ensures.items, w.get.ensures)
           (row_on find names c.loop-symbol.symbol c.loop-symbol.row.items _ _ w.in-Some.ensures c.loop-symbol.invariant)
-      | in_default w ↦ rw w.row-is (row_same find names c.loop-symbol.symbol c.loop-symbol.row.items _ w.in_default.ensures c.loop-symbol.invariant)
+      | in_default w ↦ rw w.row-is
+          (row_same find names c.loop-symbol.symbol c.loop-symbol.row.items _ w.in_default.ensures c.loop-symbol.invariant)
     ]

@@ -6,14 +6,16 @@ use Rattle.loaded_modules.proofs.modules.Modules.copy_bytes.Goals as goal
 
 pub read_window-requires-clause-inside : goal.read_window-requires-clause-inside
 read_window-requires-clause-inside c =
-    let long = length_some c.args.self.now c.args.instance.now c.args.part c.in-Some.image.now (lent_part c.in-Some-part.part) c.in-Some.ensures c.in-Some-part.ensures in
+    let long = length_some c.args.self.now c.args.instance.now c.args.part c.in-Some.image.now
+    (lent_part c.in-Some-part.part) c.in-Some.ensures c.in-Some-part.ensures in
     omega (arith, long, c.requires)
 
 pub returns-in-Some-part-clause-value : goal.returns-in-Some-part-clause-value
 returns-in-Some-part-clause-value c =
     c.read_window.ensures.shows
     ∙ ap (λ (b : List ℕ). slice_range b c.args.from (c.args.from + length c.args.into.now))
-    (part_some c.args.self.now c.args.instance.now c.args.part c.in-Some.image.now (lent_part c.in-Some-part.part) c.in-Some.ensures c.in-Some-part.ensures)
+    (part_some c.args.self.now c.args.instance.now c.args.part c.in-Some.image.now
+    (lent_part c.in-Some-part.part) c.in-Some.ensures c.in-Some-part.ensures)
 
 pub returns-in_default-part-clause-value : goal.returns-in_default-part-clause-value
 returns-in_default-part-clause-value c =
@@ -22,4 +24,5 @@ returns-in_default-part-clause-value c =
 
 pub returns-in_default-clause-value : goal.returns-in_default-clause-value
 returns-in_default-clause-value c =
-    nothing_read _ c.args.into.now c.args.from (part_nowhere c.args.self.now c.args.instance.now c.args.part c.in_default.ensures) c.requires
+    nothing_read _ c.args.into.now c.args.from
+    (part_nowhere c.args.self.now c.args.instance.now c.args.part c.in_default.ensures) c.requires

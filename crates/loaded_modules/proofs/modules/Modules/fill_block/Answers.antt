@@ -26,8 +26,10 @@ returns-in_default-tls_of-clause-len c =
     sym (ap length (fresh_without c.args.self.now c.args.instance.now c.in-Some.image.now c.args.into.now c.in-Some.ensures c.in_default-tls_of.ensures.value c.requires)) ∙ c.requires
 
 pub returns-in_default-clause-value : goal.returns-in_default-clause-value
-returns-in_default-clause-value c = fresh_nowhere c.args.self.now c.args.instance.now c.args.into.now c.in_default.ensures c.requires
+returns-in_default-clause-value c =
+    fresh_nowhere c.args.self.now c.args.instance.now c.args.into.now c.in_default.ensures c.requires
 
 pub returns-in_default-clause-len : goal.returns-in_default-clause-len
 returns-in_default-clause-len c =
-    sym (ap length (fresh_nowhere c.args.self.now c.args.instance.now c.args.into.now c.in_default.ensures c.requires)) ∙ c.requires
+    sym (ap length (fresh_nowhere c.args.self.now c.args.instance.now c.args.into.now c.in_default.ensures c.requires))
+    ∙ c.requires

@@ -9,12 +9,15 @@ overflow_sub-from c = (placed c.args.tls c.args.image.now.parts (lent_part c.in-
 pub read_window-requires-clause-inside : goal.read_window-requires-clause-inside
 read_window-requires-clause-inside c =
     let at = placed c.args.tls c.args.image.now.parts (lent_part c.in-Some.part) c.in-Some.ensures in
-    let front = length-front c.args.tls c.clear.new.into c.requires.kept (c.clear.ensures ∙ ap (λ n. replicate n 0) c.requires.size) in
+    let front = length-front c.args.tls c.clear.new.into c.requires.kept
+    (c.clear.ensures ∙ ap (λ n. replicate n 0) c.requires.size) in
     omega (arith, at.0, at.1, front)
 
 pub returns-in-Some-clause-value : goal.returns-in-Some-clause-value
 returns-in-Some-clause-value c =
     let zeros = c.clear.ensures ∙ ap (λ n. replicate n 0) c.requires.size in
     let front = length-front c.args.tls c.clear.new.into c.requires.kept zeros in
-    block_is c.args.self.now c.args.image.now c.args.instance.now c.args.tls (lent_part c.in-Some.part) c.read_window.new.window c.clear.new.into (length (take c.args.tls.initial c.clear.new.into))
+    block_is c.args.self.now c.args.image.now c.args.instance.now c.args.tls
+    (lent_part c.in-Some.part) c.read_window.new.window c.clear.new.into
+    (length (take c.args.tls.initial c.clear.new.into))
     c.in-Some.ensures zeros (c.read_window.ensures.len ∙ front) front c.read_window.ensures.shows

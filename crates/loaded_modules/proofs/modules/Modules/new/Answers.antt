@@ -22,7 +22,8 @@ invariant_of-result c =
     let kinds = c.in_ok-kinds.kinds.items in
     let images = c.args.images.items in
     let job = c.args.job.now in
-    let long : length kinds ≡ length job.images = ap length c.in_ok-kinds.ensures.values ∙ length-map job.images (λ image. image.kind) in
+    let long : length kinds ≡ length job.images = ap length c.in_ok-kinds.ensures.values
+    ∙ length-map job.images (λ image. image.kind) in
     let some = c.in_ok-kinds.ensures.some in
     let few = c.in_ok-kinds.ensures.few in
     let each = c.requires.each in
@@ -32,7 +33,8 @@ invariant_of-result c =
       some = omega (arith, long, some);
       few = omega (arith, long, few);
       told = told;
-      are_infos = infos_are job images kinds c.in_ok-kinds.ensures.values c.requires some few (subst (All IsInfo) told c.in_ok-infos.ensures.kept);
+      are_infos = infos_are job images kinds c.in_ok-kinds.ensures.values c.requires some few
+          (subst (All IsInfo) told c.in_ok-infos.ensures.kept);
       offsets = search rules;
       imported = search rules;
     }

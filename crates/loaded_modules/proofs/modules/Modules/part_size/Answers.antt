@@ -8,7 +8,8 @@ returns-in_default c = ap length (part_nowhere c.args.self.now c.args.instance.n
 
 pub returns-in-Some-part : goal.returns-in-Some-part
 returns-in-Some-part c =
-    length_some c.args.self.now c.args.instance.now c.args.part c.in-Some.image.now (lent_part c.in-Some-part.part) c.in-Some.ensures c.in-Some-part.ensures
+    length_some c.args.self.now c.args.instance.now c.args.part c.in-Some.image.now
+    (lent_part c.in-Some-part.part) c.in-Some.ensures c.in-Some-part.ensures
 
 pub returns-in-None : goal.returns-in-None
 returns-in-None c =

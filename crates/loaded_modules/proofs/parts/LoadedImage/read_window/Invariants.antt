@@ -7,5 +7,6 @@ use Rattle.loaded_modules.proofs.parts.LoadedImage.read_window.Given as goal
 
 abbrev pub invariant-loop-number : goal.invariant-loop-number
 invariant-loop-number l =
-    IsWindow (relocated l.self.modules.now l.self.image.now l.self.instance.now (lent_part l.part) l.number) l.from l.window
+    IsWindow (relocated l.self.modules.now l.self.image.now l.self.instance.now
+    (lent_part l.part) l.number) l.from l.window
     × (length l.window ≡ length l.fn.window)

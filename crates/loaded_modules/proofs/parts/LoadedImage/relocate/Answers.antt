@@ -19,5 +19,7 @@ returns-in-Some-clause-shows c = λ bytes same shows.
     c.words_of-words.ensures
     ∙ ap (λ (kind : FileKind). written_bytes kind x c.target-target.result r.kind r.addend) c.kind.ensures
     ∙ ap (λ (t : Target). written_bytes image.kind x t r.kind r.addend) c.target-target.ensures in
-    subst (λ (o : Option ImageRelocation). IsWindow (with_numbered m image x part bytes o) c.args.from c.relocate.new.window) c.in-Some.ensures.relocation
-    (subst (λ (w : List ℕ). IsWindow (with_written part bytes r.place w) c.args.from c.relocate.new.window) words (c.relocate.ensures.shows bytes same shows))
+    subst (λ (o : Option ImageRelocation). IsWindow
+    (with_numbered m image x part bytes o) c.args.from c.relocate.new.window) c.in-Some.ensures.relocation
+    (subst (λ (w : List ℕ). IsWindow (with_written part bytes r.place w) c.args.from c.relocate.new.window) words
+    (c.relocate.ensures.shows bytes same shows))

@@ -9,4 +9,5 @@ returns-clause-count c =
     ∙ as_many c.self.inside.values.items c.self.inside.slots.items c.self.inside.marks.items c.args.self.now c.self.view_is
 
 pub returns-clause-few : goal.returns-clause-few
-returns-clause-few c = let many = ap (λ (xs : List ℕ). length xs) c.as_slice.ensures.value in omega (arith, many, c.self.invariant.few)
+returns-clause-few c = let many = ap (λ (xs : List ℕ). length xs) c.as_slice.ensures.value in
+    omega (arith, many, c.self.invariant.few)

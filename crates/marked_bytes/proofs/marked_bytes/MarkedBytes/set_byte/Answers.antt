@@ -6,14 +6,16 @@ use Rattle.job_meaning.specs.declared.values.Byte.{Byte}
 use Rattle.job_meaning.specs.declared.values.Byte.TheVariants.{Value}
 use Rattle.marked_bytes.specs.Cells.{bytes_from}
 use Rattle.marked_bytes.specs.Kept.{AreSlots}
-use Rattle.marked_bytes.proofs.Cells.{added, inside, mark_added, mark_set, padded, room_left, value_set, zeros_change_none}
+use Rattle.marked_bytes.proofs.Cells.{added, inside, mark_added, mark_set, padded, room_left, value_set}
+use Rattle.marked_bytes.proofs.Cells.{zeros_change_none}
 use Rattle.marked_bytes.proofs.marked_bytes.MarkedBytes.set_byte.Goals as goal
 
 pub put_mark-requires-clause-within : goal.put_mark-requires-clause-within
 put_mark-requires-clause-within c =
     let slot : c.slot_at-slot.result ≡ slice_index_or c.self.inside.slots.items c.args.index 0 =
     c.slot_at-slot.ensures ∙ ap (λ (xs : List ℕ). slice_index_or xs c.args.index 0) c.deref.ensures.value in
-    let within = c.self.invariant.slots.within c.args.index (c.slot_at-slot.result - 1) (omega (arith, slot, c.if-slot-ne0.true)) in
+    let within = c.self.invariant.slots.within c.args.index (c.slot_at-slot.result - 1)
+    (omega (arith, slot, c.if-slot-ne0.true)) in
     omega (arith, within)
 
 pub returns-then-slot-ne0 : goal.returns-then-slot-ne0
@@ -23,7 +25,8 @@ returns-then-slot-ne0 c =
     c.slot_at-slot.ensures ∙ ap (λ (xs : List ℕ). slice_index_or xs c.args.index 0) c.deref.ensures.value in
     let low = inside s.values.items s.slots.items s.marks.items c.args.self.now c.self.view_is c.args.index c.requires in
     ap (λ (xs : List Byte). bytes_from s.values.items s.slots.items xs) c.put_mark.ensures.items
-    ∙ mark_set s.values.items s.slots.items s.marks.items c.self.invariant.slots c.args.index (c.slot_at-slot.result - 1) c.args.byte low
+    ∙ mark_set s.values.items s.slots.items s.marks.items c.self.invariant.slots c.args.index
+    (c.slot_at-slot.result - 1) c.args.byte low
     (omega (arith, slot, c.if-slot-ne0.true))
     ∙ ap (λ (xs : List Byte). slice_set xs c.args.index c.args.byte) c.self.view_is
 
@@ -38,7 +41,8 @@ returns-in-Value c =
     c.slot_at-slot.ensures ∙ ap (λ (xs : List ℕ). slice_index_or xs c.args.index 0) c.deref.ensures.value in
     let low = inside s.values.items s.slots.items s.marks.items c.args.self.now c.self.view_is c.args.index c.requires in
     ap (λ (xs : List ℕ). bytes_from xs s.slots.items s.marks.items) c.put_value.ensures
-    ∙ value_set s.values.items s.slots.items s.marks.items c.args.index c.in-Value.value low (omega (arith, slot, c.if-slot-ne0.false))
+    ∙ value_set s.values.items s.slots.items s.marks.items c.args.index c.in-Value.value low
+    (omega (arith, slot, c.if-slot-ne0.false))
     ∙ ap (λ (xs : List Byte). slice_set xs c.args.index (Value c.in-Value.value)) c.self.view_is
     ∙ ap (λ (b : Byte). slice_set c.args.self.now c.args.index b) (sym c.in-Value.is)
 
@@ -51,7 +55,8 @@ add_mark-number-requires c =
     let low = inside s.values.items s.slots.items s.marks.items c.args.self.now c.self.view_is c.args.index c.requires in
     let more = length s.values.items - length s.slots.items in
     let wide : length (s.slots.items ++ replicate more 0) ≡ length s.values.items =
-    (let both = length-append s.slots.items (replicate more 0) in let zeros = length-replicate {A = ℕ} more 0 in omega (arith, both, zeros, c.self.invariant.wide)) in
+    (let both = length-append s.slots.items (replicate more 0) in let zeros = length-replicate {A = ℕ} more 0 in
+    omega (arith, both, zeros, c.self.invariant.wide)) in
     let kept = padded s.slots.items (length s.marks.items) c.self.invariant.slots more in
     let has_room = room_left (s.slots.items ++ replicate more 0) c.args.index (omega (arith, wide, low))
     (zeros_change_none s.slots.items more c.args.index ∙ plain) in
@@ -66,9 +71,11 @@ pub put_slot-requires : goal.put_slot-requires
 put_slot-requires c =
     let s = c.self.inside in
     let low = inside s.values.items s.slots.items s.marks.items c.args.self.now c.self.view_is c.args.index c.requires in
-    let count : length c.as_slice.result.now ≡ length s.values.items = ap (λ (xs : List ℕ). length xs) c.as_slice.ensures.value in
+    let count : length c.as_slice.result.now ≡ length s.values.items =
+    ap (λ (xs : List ℕ). length xs) c.as_slice.ensures.value in
     let more = length c.as_slice.result.now - length s.slots.items in
-    let long : length c.widen.new.slots.items ≡ length (s.slots.items ++ replicate more 0) = ap (λ (xs : List ℕ). length xs) c.widen.ensures.items in
+    let long : length c.widen.new.slots.items ≡ length (s.slots.items ++ replicate more 0) =
+    ap (λ (xs : List ℕ). length xs) c.widen.ensures.items in
     let both = length-append s.slots.items (replicate more 0) in
     let zeros = length-replicate {A = ℕ} more 0 in
     omega (arith, low, count, long, both, zeros)
@@ -80,25 +87,33 @@ invariant_of-self-2 c =
     c.slot_at-slot.ensures ∙ ap (λ (xs : List ℕ). slice_index_or xs c.args.index 0) c.deref.ensures.value in
     let plain : slice_index_or s.slots.items c.args.index 0 ≡ 0 = omega (arith, slot, c.if-slot-ne0.false) in
     let low = inside s.values.items s.slots.items s.marks.items c.args.self.now c.self.view_is c.args.index c.requires in
-    let count : length c.as_slice.result.now ≡ length s.values.items = ap (λ (xs : List ℕ). length xs) c.as_slice.ensures.value in
+    let count : length c.as_slice.result.now ≡ length s.values.items =
+    ap (λ (xs : List ℕ). length xs) c.as_slice.ensures.value in
     let more = length c.as_slice.result.now - length s.slots.items in
     let both = length-append s.slots.items (replicate more 0) in
     let zeros = length-replicate {A = ℕ} more 0 in
-    let wide : length (s.slots.items ++ replicate more 0) ≡ length s.values.items = omega (arith, both, zeros, count, c.self.invariant.wide) in
+    let wide : length (s.slots.items ++ replicate more 0) ≡ length s.values.items =
+    omega (arith, both, zeros, count, c.self.invariant.wide) in
     let kept = padded s.slots.items (length s.marks.items) c.self.invariant.slots more in
-    let one : AreSlots (slice_set (s.slots.items ++ replicate more 0) c.args.index (suc (length s.marks.items))) (suc (length s.marks.items)) =
+    let one : AreSlots (slice_set (s.slots.items ++ replicate more 0) c.args.index (suc (length s.marks.items)))
+    (suc (length s.marks.items)) =
     added (s.slots.items ++ replicate more 0) (length s.marks.items) kept c.args.index (omega (arith, wide, low))
     (zeros_change_none s.slots.items more c.args.index ∙ plain) in
-    let number : c.add_mark-number.result ≡ suc (length s.marks.items) = omega (arith, c.add_mark-number.ensures.number) in
-    let slots_are : c.put_slot.new.slots.items ≡ slice_set (s.slots.items ++ replicate more 0) c.args.index (suc (length s.marks.items)) =
+    let number : c.add_mark-number.result ≡ suc (length s.marks.items) =
+    omega (arith, c.add_mark-number.ensures.number) in
+    let slots_are : c.put_slot.new.slots.items
+    ≡ slice_set (s.slots.items ++ replicate more 0) c.args.index (suc (length s.marks.items)) =
     c.put_slot.ensures.items
     ∙ ap (λ (xs : List ℕ). slice_set xs c.args.index c.add_mark-number.result) c.widen.ensures.items
     ∙ ap (λ (n : ℕ). slice_set (s.slots.items ++ replicate more 0) c.args.index n) number in
     let marks_len : length c.add_mark-number.new.marks.items ≡ suc (length s.marks.items) =
-    ap (λ (xs : List Byte). length xs) c.add_mark-number.ensures.items ∙ length-append s.marks.items (c.args.byte ∷ []) ∙ omega arith in
+    ap (λ (xs : List Byte). length xs) c.add_mark-number.ensures.items ∙ length-append s.marks.items (c.args.byte ∷ [])
+    ∙ omega arith in
     let slots_len : length c.put_slot.new.slots.items ≡ length s.values.items =
-    ap (λ (xs : List ℕ). length xs) slots_are ∙ length-set (s.slots.items ++ replicate more 0) c.args.index (suc (length s.marks.items)) ∙ wide in
-    let widened : length c.widen.new.slots.items ≡ length s.values.items = ap (λ (xs : List ℕ). length xs) c.widen.ensures.items ∙ wide in
+    ap (λ (xs : List ℕ). length xs) slots_are
+    ∙ length-set (s.slots.items ++ replicate more 0) c.args.index (suc (length s.marks.items)) ∙ wide in
+    let widened : length c.widen.new.slots.items ≡ length s.values.items =
+    ap (λ (xs : List ℕ). length xs) c.widen.ensures.items ∙ wide in
     record {
       slots = rw (slots_are, marks_len) one;
       wide = omega (arith, slots_len);
@@ -116,17 +131,22 @@ returns c =
     c.slot_at-slot.ensures ∙ ap (λ (xs : List ℕ). slice_index_or xs c.args.index 0) c.deref.ensures.value in
     let plain : slice_index_or s.slots.items c.args.index 0 ≡ 0 = omega (arith, slot, c.if-slot-ne0.false) in
     let low = inside s.values.items s.slots.items s.marks.items c.args.self.now c.self.view_is c.args.index c.requires in
-    let count : length c.as_slice.result.now ≡ length s.values.items = ap (λ (xs : List ℕ). length xs) c.as_slice.ensures.value in
+    let count : length c.as_slice.result.now ≡ length s.values.items =
+    ap (λ (xs : List ℕ). length xs) c.as_slice.ensures.value in
     let more = length c.as_slice.result.now - length s.slots.items in
     let both = length-append s.slots.items (replicate more 0) in
     let zeros = length-replicate {A = ℕ} more 0 in
-    let number : c.add_mark-number.result ≡ suc (length s.marks.items) = omega (arith, c.add_mark-number.ensures.number) in
-    let slots_are : c.put_slot.new.slots.items ≡ slice_set (s.slots.items ++ replicate more 0) c.args.index (suc (length s.marks.items)) =
+    let number : c.add_mark-number.result ≡ suc (length s.marks.items) =
+    omega (arith, c.add_mark-number.ensures.number) in
+    let slots_are : c.put_slot.new.slots.items
+    ≡ slice_set (s.slots.items ++ replicate more 0) c.args.index (suc (length s.marks.items)) =
     c.put_slot.ensures.items
     ∙ ap (λ (xs : List ℕ). slice_set xs c.args.index c.add_mark-number.result) c.widen.ensures.items
     ∙ ap (λ (n : ℕ). slice_set (s.slots.items ++ replicate more 0) c.args.index n) number in
     ap (λ (xs : List ℕ). bytes_from s.values.items xs c.add_mark-number.new.marks.items) slots_are
-    ∙ ap (λ (xs : List Byte). bytes_from s.values.items (slice_set (s.slots.items ++ replicate more 0) c.args.index (suc (length s.marks.items))) xs) c.add_mark-number.ensures.items
+    ∙ ap (λ (xs : List Byte). bytes_from s.values.items
+    (slice_set (s.slots.items ++ replicate more 0) c.args.index
+    (suc (length s.marks.items))) xs) c.add_mark-number.ensures.items
     ∙ mark_added s.values.items s.slots.items s.marks.items c.self.invariant.slots c.args.index more c.args.byte low
     (omega (arith, both, zeros, count, c.self.invariant.wide, low)) plain
     ∙ ap (λ (xs : List Byte). slice_set xs c.args.index c.args.byte) c.self.view_is

@@ -14,7 +14,8 @@ returns-then-is_stack-clause-written c =
 pub returns-then-is_stack-clause-rest : goal.returns-then-is_stack-clause-rest
 returns-then-is_stack-clause-rest c =
     ap shape_of c.set_stack_byte.ensures
-    ∙ stack_shape c.args.self.now c.args.place c.args.byte (slice_set c.args.self.now.stack (c.args.place - stack_start c.args.self.now.thread) c.args.byte)
+    ∙ stack_shape c.args.self.now c.args.place c.args.byte
+    (slice_set c.args.self.now.stack (c.args.place - stack_start c.args.self.now.thread) c.args.byte)
 
 pub returns-else-is_stack-clause-written : goal.returns-else-is_stack-clause-written
 returns-else-is_stack-clause-written c =

@@ -10,5 +10,6 @@ use Rattle.marked_memory.proofs.space.MarkedMemory.blocks_after.Given as goal
 abbrev pub invariant-loop-instance : goal.invariant-loop-instance
 invariant-loop-instance l =
     (flat_map (block_after (loads_of l.self.images) l.self.thread (reaches l.wanted) l.fn.pool) l.self.live
-    ≡ l.blocks.items ++ flat_map (block_after (loads_of l.self.images) l.self.thread (reaches l.wanted) l.pool) (drop l.instance-index l.instance-items))
+    ≡ l.blocks.items ++ flat_map (block_after (loads_of l.self.images) l.self.thread (reaches l.wanted) l.pool)
+    (drop l.instance-index l.instance-items))
     × HasSameData l.fn.pool l.pool

@@ -21,7 +21,12 @@ returns-in-Some-byte_in c =
     ∙ ap (λ xs. byte_in c.args.access (ranges_in xs) c.args.place) (sym c.deref.ensures.value) ∙ sym c.byte_in.ensures
     in
     sym (byte_is c.args.self.now c.args.access c.args.place
-    ∙ rw (sym c.lent_byte.ensures ∙ c.in_default.is, sym c.stack_byte.ensures ∙ c.in_default-stack_byte.is, own ∙ c.in-Some-byte_in.is) refl)
+    ∙ rw (
+      sym c.lent_byte.ensures ∙ c.in_default.is,
+      sym c.stack_byte.ensures ∙ c.in_default-stack_byte.is,
+      own
+          ∙ c.in-Some-byte_in.is,
+    ) refl)
 
 pub returns-in-Some-pointer_byte : goal.returns-in-Some-pointer_byte
 returns-in-Some-pointer_byte c =

@@ -13,6 +13,8 @@ returns c =
     c.in_ok-append.ensures.items
     ∙ ap (λ (xs : List (Owned Byte)). xs ++ c.in_ok-shared.shared.items) c.in_ok-own.ensures.blocks
     ∙ ap (λ (xs : List (Owned Byte)).
-    flat_map (block_after (loads_of c.args.self.now.images) c.args.self.now.thread (reaches c.args.wanted) c.args.pool.now) c.args.self.now.live ++ xs)
+    flat_map (block_after (loads_of c.args.self.now.images) c.args.self.now.thread
+    (reaches c.args.wanted) c.args.pool.now) c.args.self.now.live ++ xs)
     (c.in_ok-shared.ensures
-    ∙ all_data_same (loads_of c.args.self.now.images) (fills c.args.wanted) c.args.pool.now c.blocks_after.new.pool c.args.self.now.live c.in_ok-own.ensures.shared)
+    ∙ all_data_same (loads_of c.args.self.now.images)
+    (fills c.args.wanted) c.args.pool.now c.blocks_after.new.pool c.args.self.now.live c.in_ok-own.ensures.shared)

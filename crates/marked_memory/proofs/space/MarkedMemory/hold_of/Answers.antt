@@ -11,7 +11,10 @@ use Rattle.marked_memory.proofs.space.MarkedMemory.hold_of.Goals as goal
 pub returns-clause-held : goal.returns-clause-held
 returns-clause-held c =
     ap (λ (xs : List (Owned Byte)). record (kept_of c.self.inside) { own = xs })
-    (c.in_ok-own.ensures ∙ ap (held_of (loads_of c.args.self.now.images) c.args.self.now.thread (reaches c.args.wanted) (fills c.args.wanted) c.args.self.now.live) c.deref_mut.ensures.value)
+    (c.in_ok-own.ensures ∙ ap
+    (held_of (loads_of c.args.self.now.images) c.args.self.now.thread (reaches c.args.wanted)
+    (fills c.args.wanted) c.args.self.now.live) c.deref_mut.ensures.value)
     ∙ ap (λ (k : Kept). record k {
-      own = held_of (loads_of c.args.self.now.images) c.args.self.now.thread (reaches c.args.wanted) (fills c.args.wanted) c.args.self.now.live c.args.pool.items;
+      own = held_of (loads_of c.args.self.now.images) c.args.self.now.thread (reaches c.args.wanted)
+          (fills c.args.wanted) c.args.self.now.live c.args.pool.items;
     }) c.self.view_is

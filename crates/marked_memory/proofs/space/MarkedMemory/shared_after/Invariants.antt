@@ -9,4 +9,5 @@ use Rattle.marked_memory.proofs.space.MarkedMemory.shared_after.Given as goal
 abbrev pub invariant-loop-instance : goal.invariant-loop-instance
 invariant-loop-instance l =
     flat_map (data_after (loads_of l.self.images) (fills l.wanted) l.fn.pool) l.self.live
-    ≡ l.shared.items ++ flat_map (data_after (loads_of l.self.images) (fills l.wanted) l.pool) (drop l.instance-index l.instance-items)
+    ≡ l.shared.items ++ flat_map (data_after (loads_of l.self.images) (fills l.wanted) l.pool)
+    (drop l.instance-index l.instance-items)

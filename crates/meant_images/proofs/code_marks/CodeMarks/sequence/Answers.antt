@@ -29,7 +29,8 @@ returns-in-Some c =
     let bias = c.bias_of-bias.ensures.bias ∙ ap (λ (l : Linking). bias_of l.kind c.args.number) c.inputs.view_is in
     let found = sym (rw (c.as_slice.ensures.value, bias) at c.cell_at.ensures) ∙ c.in-Some.is in
     let entry = rw c.as_slice-in-Some.ensures.value at c.entry_at-entry.ensures in
-    c.sequence.ensures ∙ ap (λ (e : Entry). sequence_by c.args.image c.args.number c.args.place e c.in-Some.cell.byte) entry
+    c.sequence.ensures ∙ ap
+    (λ (e : Entry). sequence_by c.args.image c.args.number c.args.place e c.in-Some.cell.byte) entry
     ∙ sequence_some _ _ _ _ _ c.self.invariant c.args.image c.args.number c.args.place c.in-Some.cell found
     ∙ ap (λ (m : MarkedImage). sequence_of m.all c.args.image c.args.number m.own c.args.place) c.self.view_is
 

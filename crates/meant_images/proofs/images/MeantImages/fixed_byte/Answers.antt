@@ -14,11 +14,14 @@ returns-in-Some-tables c =
     let ls = c.args.self.now in
     let x = c.args.instance.now in
     let l = c.in-Some.own.now in
-    let at = found_at (λ own. own.now) c.image.result (at_number ls x.image) c.in-Some.own c.image.ensures c.in-Some.is in
-    let t = some_of (λ t. AreTables ls l t.now) c.tables.result c.in-Some-tables.tables c.in-Some-tables.is (c.tables.ensures.each l at) in
+    let at = found_at (λ own. own.now) c.image.result
+    (at_number ls x.image) c.in-Some.own c.image.ensures c.in-Some.is in
+    let t = some_of (λ t. AreTables ls l t.now) c.tables.result c.in-Some-tables.tables c.in-Some-tables.is
+    (c.tables.ensures.each l at) in
     let same : c.bias_of.result ≡ bias_of l.kind x.number =
     c.bias_of.ensures.bias ∙ ap (λ (own : Linking). bias_of own.kind x.number) c.own.view_is in
-    let keeps = subst (Keeps l) (sym same) (keeps_at ls x l at c.linked_instances_keep_fields.ensures c.tables.ensures.sound) in
+    let keeps = subst (Keeps l) (sym same)
+    (keeps_at ls x l at c.linked_instances_keep_fields.ensures c.tables.ensures.sound) in
     c.byte.ensures l t.still_are keeps
     ∙ (ap (λ b. byte_in c.args.access (still_ranges l b) c.args.place) same
     ∙ ap (λ ranges. byte_in c.args.access ranges c.args.place) (fixed_is ls x l at))

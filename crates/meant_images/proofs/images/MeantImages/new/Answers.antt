@@ -10,7 +10,8 @@ invariant_of-result c =
       sound = c.requires.sound;
       infos_are = known;
       kept = subst AreInfos (sym known)
-          (are_infos c.args.inputs.now c.requires.some c.requires.few c.requires.late (subst (All IsInfo) known c.in_ok-infos.ensures.each));
+          (are_infos c.args.inputs.now c.requires.some c.requires.few c.requires.late
+          (subst (All IsInfo) known c.in_ok-infos.ensures.each));
       count = c.in_ok-tables.ensures.count;
       each = c.in_ok-tables.ensures.each;
     }

@@ -18,7 +18,8 @@ returns-clause-each c = λ l at.
     let ls = c.args.self.now in
     let tables = c.self.inside.tables.items in
     let each = subst
-    (λ (ls : List Linking). (i : ℕ) (l : Linking) (t : Tables) → slice_get ls i ≡ Some l → slice_get tables i ≡ Some t → AreTables ls l t)
+    (λ (ls : List Linking). (i : ℕ) (l : Linking) (t : Tables) → slice_get ls i ≡ Some l → slice_get tables i ≡ Some t
+    → AreTables ls l t)
     c.self.view_is c.self.invariant.each in
     table_is ls tables c.args.number l c.at_number.result each at
     (c.at_number.ensures ∙ ap (λ (ts : List Tables). at_number ts c.args.number) c.as_slice.ensures.value)

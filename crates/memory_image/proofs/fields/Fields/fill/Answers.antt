@@ -6,7 +6,7 @@ use Rattle.elf_object.specs.Lawful.{IsLawful}
 use Rattle.elf_records.specs.Relocations.{field_width}
 use Rattle.link_needs.specs.Linking.{object}
 use Rattle.tls_relocs.specs.declared.fields.Field.{Field}
-use Rattle.tls_relocs.specs.Fields.{field_patch, width_of}
+use Rattle.tls_relocs.specs.FieldLaws.{field_patch, width_of}
 use Rattle.tls_relocs.specs.Patches.{patched}
 use Rattle.memory_image.specs.Filling.{with_fields}
 use Rattle.memory_image.proofs.Filled.{width_filled}
@@ -21,7 +21,8 @@ apply-requires c =
     let all = subst (λ (x : List Relocation). All (IsLawful b c.args.section) x) c.in-Some.ensures.steps kept.3 in
     let here : IsLawful b c.args.section r = All-head (IsLawful b c.args.section) r c.next.new.self all in
     let wide : width_of c.field-field.result ≤ field_width r.kind =
-    subst (λ (f : Field). width_of f ≤ field_width r.kind) (sym c.field-field.ensures) (width_filled c.args.self.now.table l c.args.object c.args.section r) in
+    subst (λ (f : Field). width_of f ≤ field_width r.kind) (sym c.field-field.ensures)
+    (width_filled c.args.self.now.table l c.args.object c.args.section r) in
     omega (arith, here.inside, kept.4)
 
 pub loop-relocation-preserved : goal.loop-relocation-preserved
@@ -37,7 +38,8 @@ loop-relocation-preserved c =
       tt,
       tt,
       ap (λ bytes. with_fields table l o s bytes rest)
-          (c.apply.ensures ∙ ap (λ f. patched (field_patch r.offset f ∷ []) c.loop-relocation.bytes) c.field-field.ensures)
+          (c.apply.ensures ∙ ap (λ f. patched
+          (field_patch r.offset f ∷ []) c.loop-relocation.bytes) c.field-field.ensures)
           ∙ ap (with_fields table l o s c.loop-relocation.bytes) (sym c.in-Some.ensures.steps)
           ∙ kept.2,
       All-tail (IsLawful (object l o) s) r rest all,

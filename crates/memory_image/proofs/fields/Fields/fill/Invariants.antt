@@ -12,6 +12,7 @@ invariant-loop-relocation l =
     (goal.iterator-loop-relocation).can_next l.relocation-iterator ×
     (goal.iterator-loop-relocation).is_finite l.relocation-iterator ×
     (with_fields l.self.table l.self.inputs.now l.object l.section l.bytes l.relocation-iterator
-    ≡ with_fields l.self.table l.self.inputs.now l.object l.section l.fn.bytes (relocations (object l.self.inputs.now l.object) l.section)) ×
+    ≡ with_fields l.self.table l.self.inputs.now l.object l.section l.fn.bytes
+    (relocations (object l.self.inputs.now l.object) l.section)) ×
     All (IsLawful (object l.self.inputs.now l.object) l.section) l.relocation-iterator ×
     (length l.bytes ≡ section_size (object l.self.inputs.now l.object) l.section)

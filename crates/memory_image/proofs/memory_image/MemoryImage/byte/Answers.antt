@@ -6,5 +6,6 @@ pub returns-then-bytes-index : goal.returns-then-bytes-index
 returns-then-bytes-index c =
     let now = c.args.self.now in
     let len = ap length c.bytes.ensures.bytes in
-    past_class now c.args.bias c.args.place (c.args.place - (now.start + c.args.bias)) (omega (arith, c.start.ensures.start))
+    past_class now c.args.bias c.args.place (c.args.place - (now.start + c.args.bias))
+    (omega (arith, c.start.ensures.start))
     (omega (arith, c.start.ensures.start, len))

@@ -6,4 +6,5 @@ use Rattle.memory_image.proofs.ranges.StillBytes.byte.Goals as goal
 
 pub returns : goal.returns
 returns c = λ l are keeps.
-    ap (option_map Value) c.byte_for.ensures ∙ still_is l c.args.bias keeps c.args.self.now c.args.access c.args.place are
+    ap (option_map Value) c.byte_for.ensures
+    ∙ still_is l c.args.bias keeps c.args.self.now c.args.access c.args.place are

@@ -23,6 +23,7 @@ returns c =
       record {
         writes_back = tt;
         value =
-            held_bytes d c.args.instance c.args.image c.requires ∙ ap (λ p. Some p.bytes) one ∙ ap Some (sym c.bytes_mut.ensures.value);
+            held_bytes d c.args.instance c.args.image c.requires ∙ ap (λ p. Some p.bytes) one
+            ∙ ap Some (sym c.bytes_mut.ensures.value);
       },
     )

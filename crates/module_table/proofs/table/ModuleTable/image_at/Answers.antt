@@ -8,5 +8,6 @@ use Rattle.module_table.proofs.table.ModuleTable.image_at.Goals as goal
 pub returns : goal.returns
 returns c =
     rw (c.image_in.ensures, c.deref.ensures.value)
-    (subst (λ (p : Past). IsTheImage p c.args.instance (slice_get c.self.inside.image_by_instance.items c.args.instance)) c.self.view_is
+    (subst (λ (p : Past). IsTheImage p c.args.instance
+    (slice_get c.self.inside.image_by_instance.items c.args.instance)) c.self.view_is
     (image_found _ _ c.args.instance c.self.invariant.past.none c.self.invariant.instance_slots))

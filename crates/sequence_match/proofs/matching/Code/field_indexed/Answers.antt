@@ -12,4 +12,5 @@ pub returns-else-place-last : goal.returns-else-place-last
 returns-else-place-last c =
     let code = c.args.self.now in
     none_covers code.relocations.now c.args.fields.now c.requires.ready.few c.requires.index c.requires.ready.apart c.args.place c.in-Some.last
-    c.in-Some.ensures.0 c.in-Some.ensures.1 c.in-Some.ensures.2 (omega (arith, c.if-place-last.false, c.in-Some.ensures.1))
+    c.in-Some.ensures.0 c.in-Some.ensures.1 c.in-Some.ensures.2
+    (omega (arith, c.if-place-last.false, c.in-Some.ensures.1))

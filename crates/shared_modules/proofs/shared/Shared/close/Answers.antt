@@ -6,15 +6,20 @@ use Rattle.shared_modules.proofs.shared.Shared.close.Goals as goal
 
 pub returns-in-Ok-answer-clause-closed : goal.returns-in-Ok-answer-clause-closed
 returns-in-Ok-answer-clause-closed g c = let e = c.in-Ok.ensures.entered in
-    accepted_pass _ _ _ c.pass.inside.seat.me.0 c.in-Ok.registry c.close-answer.new.self _ (λ (h : History). close_answer h c.args.image) c.close-answer.result _ _ _ _
-    c.pass.view_is (c.end_with.ensures.table ∙ c.enter.ensures.table) e c.close-answer.ensures.adds c.close-answer.ensures.legal c.end_with.ensures.left
+    accepted_pass _ _ _ c.pass.inside.seat.me.0 c.in-Ok.registry c.close-answer.new.self _
+    (λ (h : History). close_answer h c.args.image) c.close-answer.result _ _ _ _
+    c.pass.view_is (c.end_with.ensures.table
+    ∙ c.enter.ensures.table) e c.close-answer.ensures.adds c.close-answer.ensures.legal c.end_with.ensures.left
     (close_answer_at c.in-Ok.registry _ c.args.image e.images) c.close-answer.ensures.closed
-    (c.in-Ok.ensures.lacked ∙ ap (λ (n : ℕ). c.args.into.now.items ++ drop n c.in-Ok.registry.events) c.pass.invariant.seen_is)
+    (c.in-Ok.ensures.lacked
+    ∙ ap (λ (n : ℕ). c.args.into.now.items ++ drop n c.in-Ok.registry.events) c.pass.invariant.seen_is)
 
 pub returns-in-Err-clause-refused : goal.returns-in-Err-clause-refused
 returns-in-Err-clause-refused g c = let e = c.in-Ok.ensures.entered in
     close_refused _ _ _ _ _ c.in-Ok.registry c.close-answer.result c.close-answer.ensures.refused e.spare
-    (λ refusal answer. refused_pass _ _ _ c.pass.inside.seat.me.0 c.in-Ok.registry (λ (h : History). close_answer h c.args.image ≡ Err refusal) _ _ _ _
+    (λ refusal answer. refused_pass _ _ _ c.pass.inside.seat.me.0 c.in-Ok.registry
+    (λ (h : History). close_answer h c.args.image ≡ Err refusal) _ _ _ _
     c.pass.view_is (c.end.ensures.table ∙ c.enter.ensures.table) e c.end.ensures.left
     (sym (close_answer_at c.in-Ok.registry _ c.args.image e.images) ∙ answer)
-    (c.in-Ok.ensures.lacked ∙ ap (λ (n : ℕ). c.args.into.now.items ++ drop n c.in-Ok.registry.events) c.pass.invariant.seen_is))
+    (c.in-Ok.ensures.lacked
+    ∙ ap (λ (n : ℕ). c.args.into.now.items ++ drop n c.in-Ok.registry.events) c.pass.invariant.seen_is))

@@ -10,7 +10,8 @@ use Rattle.shared_modules.proofs.shared.Shared.finish.Goals as goal
 pub unreachable-requires : goal.unreachable-requires
 unreachable-requires c =
     let f = c.close_with-closed.ensures.values.2 in
-    let e = ends _ f.0 f.1.0 _ _ f.1.1 c.pass.invariant.idle (ap (λ (p : PassView). length p.threads) c.pass.view_is ∙ c.requires.all) in
+    let e = ends _ f.0 f.1.0 _ _ f.1.1 c.pass.invariant.idle
+    (ap (λ (p : PassView). length p.threads) c.pass.view_is ∙ c.requires.all) in
     let y = finished _ _ _ _ _ e f.4 c.take-slot.ensures.value in
     let none : None ≡ Some e.registry = sym c.in-None.is ∙ y in
     cc
@@ -18,7 +19,8 @@ unreachable-requires c =
 pub returns-clause-images : goal.returns-clause-images
 returns-clause-images c =
     let f = c.close_with-closed.ensures.values.2 in
-    let e = ends _ f.0 f.1.0 _ _ f.1.1 c.pass.invariant.idle (ap (λ (p : PassView). length p.threads) c.pass.view_is ∙ c.requires.all) in
+    let e = ends _ f.0 f.1.0 _ _ f.1.1 c.pass.invariant.idle
+    (ap (λ (p : PassView). length p.threads) c.pass.view_is ∙ c.requires.all) in
     let y = finished _ _ _ _ _ e f.4 c.take-slot.ensures.value in
     let some_is : Some c.in-Some.registry ≡ Some e.registry = sym c.in-Some.is ∙ y in
     let same : c.in-Some.registry ≡ e.registry = cc in
@@ -27,7 +29,8 @@ returns-clause-images c =
 pub returns-clause-events : goal.returns-clause-events
 returns-clause-events c =
     let f = c.close_with-closed.ensures.values.2 in
-    let e = ends _ f.0 f.1.0 _ _ f.1.1 c.pass.invariant.idle (ap (λ (p : PassView). length p.threads) c.pass.view_is ∙ c.requires.all) in
+    let e = ends _ f.0 f.1.0 _ _ f.1.1 c.pass.invariant.idle
+    (ap (λ (p : PassView). length p.threads) c.pass.view_is ∙ c.requires.all) in
     let y = finished _ _ _ _ _ e f.4 c.take-slot.ensures.value in
     let some_is : Some c.in-Some.registry ≡ Some e.registry = sym c.in-Some.is ∙ y in
     let same : c.in-Some.registry ≡ e.registry = cc in

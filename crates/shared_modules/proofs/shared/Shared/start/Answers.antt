@@ -10,4 +10,5 @@ new-requires c =
     begins c.args.registry _ _ _ c.of-about.ensures slots c.len-seen.ensures.value c.len-seen.ensures.legal
 
 pub invariant_of-result-2 : goal.invariant_of-result-2
-invariant_of-result-2 c = begun_pass c.args.registry _ _ _ c.of-about.ensures c.len-seen.ensures.value c.len-seen.ensures.legal c.in-Ok.ensures.ok.4
+invariant_of-result-2 c =
+    begun_pass c.args.registry _ _ _ c.of-about.ensures c.len-seen.ensures.value c.len-seen.ensures.legal c.in-Ok.ensures.ok.4

@@ -26,12 +26,15 @@ returns-then-is_on_stack-clause-written c =
 pub returns-then-is_on_stack-clause-rest : goal.returns-then-is_on_stack-clause-rest
 returns-then-is_on_stack-clause-rest c =
     ap shape_of c.set_stack_byte.ensures
-    ∙ stack_shape c.args.self.now (slice_set c.args.self.now.stack (c.args.place - stack_start c.args.self.now.vector.thread) c.args.byte)
+    ∙ stack_shape c.args.self.now
+    (slice_set c.args.self.now.stack (c.args.place - stack_start c.args.self.now.vector.thread) c.args.byte)
 
-in_block : (c : goal.After-set_block_byte) → IsWritten c.args.self.now c.args.place c.args.byte c.set_block_byte.new.self
+in_block : (c : goal.After-set_block_byte)
+    → IsWritten c.args.self.now c.args.place c.args.byte c.set_block_byte.new.self
 in_block c =
     block_is_written c.args.self.now c.set_block_byte.new.self c.args.place c.args.byte c.in-Some.instance c.history_is_lawful.ensures
-    (sym c.is_on_stack.ensures ∙ c.if-is_on_stack.false) (sym c.block_at.ensures ∙ c.in-Some.is) c.set_block_byte.ensures
+    (sym c.is_on_stack.ensures ∙ c.if-is_on_stack.false)
+    (sym c.block_at.ensures ∙ c.in-Some.is) c.set_block_byte.ensures
 
 pub returns-in-Some-clause-written : goal.returns-in-Some-clause-written
 returns-in-Some-clause-written c = (in_block c).memory

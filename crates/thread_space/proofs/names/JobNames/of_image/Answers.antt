@@ -7,4 +7,5 @@ pub returns : goal.returns
 unfolding image_at
 returns c =
     c.at_number.ensures
-    ∙ ap (λ images. at_number images c.args.number) (c.as_slice.ensures.value ∙ c.self.invariant ∙ ap (λ m. m.images) c.self.view_is)
+    ∙ ap (λ images. at_number images c.args.number)
+    (c.as_slice.ensures.value ∙ c.self.invariant ∙ ap (λ m. m.images) c.self.view_is)

@@ -9,4 +9,5 @@ use Rattle.thread_space.proofs.space.ThreadSpace.code_at.Goals as goal
 pub loop-instance-init : goal.loop-instance-init
 loop-instance-init c =
     ap (find (λ x. is_some (code_number c.args.self.now.vector.images c.args.place x)))
-    (ap (λ (k : Kept). live_in k.vector.images k.vector.past) (sym c.self.view_is) ∙ sym (c.deref-instance-items.ensures.value ∙ c.self.invariant.live))
+    (ap (λ (k : Kept). live_in k.vector.images k.vector.past) (sym c.self.view_is)
+    ∙ sym (c.deref-instance-items.ensures.value ∙ c.self.invariant.live))

@@ -18,7 +18,8 @@ returns-then-not-is_near c =
     let there : image_at c.args.self.now.vector.images c.args.instance.now.image ≡ Some c.in-Some.image.now =
     sym c.image_of.ensures ∙ ap (option_map (λ (image : Bor Spelled). image.now)) c.in-Some.is in
     far_code c.args.self.now.vector.images c.in-Some.image.now c.args.instance.now there c.image_is_spelled.ensures c.args.place
-    (ap (λ moved. is_near moved c.args.place) (sym c.bias.ensures.value) ∙ sym c.is_near.ensures ∙ c.if-not-is_near.true)
+    (ap (λ moved. is_near moved c.args.place) (sym c.bias.ensures.value) ∙ sym c.is_near.ensures
+    ∙ c.if-not-is_near.true)
 
 pub returns : goal.returns
 returns c =

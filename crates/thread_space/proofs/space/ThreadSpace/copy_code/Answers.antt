@@ -11,5 +11,6 @@ returns c = λ yes.
     let there : image_at c.args.self.now.vector.images c.in-Some.instance.image ≡ Some c.in-Some-image_of.image.now =
     sym c.image_of.ensures ∙ ap (option_map (λ (image : Bor Spelled). image.now)) c.in-Some-image_of.is in
     fetched c.args.self.now c.args.place c.in-Some-first_code.number c.in-Some.instance c.in-Some-image_of.image.now c.copy_part.new.into
-    (omega (arith, c.if-place.false)) (sym c.code_at.ensures ∙ c.in-Some.is) there (sym c.first_code.ensures ∙ c.in-Some-first_code.is)
+    (omega (arith, c.if-place.false)) (sym c.code_at.ensures ∙ c.in-Some.is) there
+    (sym c.first_code.ensures ∙ c.in-Some-first_code.is)
     (c.copy_part.ensures yes)

@@ -8,24 +8,30 @@ use Rattle.thread_space.proofs.space.ThreadSpace.data_byte.Goals as goal
 pub returns-in_default-clause-read : goal.returns-in_default-clause-read
 returns-in_default-clause-read c =
     sym (data_read c.args.self.now.vector.images c.args.self.now.pieces c.args.instance.now c.args.place
-    ∙ ap (option_and_then (byte_read c.args.self.now.pieces c.args.instance.now.number c.args.instance.now.image)) (sym c.behind_data.ensures ∙ c.in_default.is))
+    ∙ ap (option_and_then (byte_read c.args.self.now.pieces c.args.instance.now.number c.args.instance.now.image))
+    (sym c.behind_data.ensures ∙ c.in_default.is))
 
 pub returns-in_default-clause-written : goal.returns-in_default-clause-written
 returns-in_default-clause-written c =
     sym (data_write c.args.self.now.vector.images c.args.self.now.pieces c.args.instance.now c.args.place
-    ∙ ap (option_and_then (byte_read c.args.self.now.pieces c.args.instance.now.number c.args.instance.now.image)) (sym c.behind_data.ensures ∙ c.in_default.is))
+    ∙ ap (option_and_then (byte_read c.args.self.now.pieces c.args.instance.now.number c.args.instance.now.image))
+    (sym c.behind_data.ensures ∙ c.in_default.is))
 
-read : (c : goal.After-byte) → c.byte.result ≡ byte_read c.args.self.now.pieces c.args.instance.now.number c.args.instance.now.image c.in-Some.at
-read c = c.byte.ensures ∙ ap (λ k. byte_read k.pieces c.args.instance.now.number c.args.instance.now.image c.in-Some.at) c.self.view_is
+read : (c : goal.After-byte)
+    → c.byte.result ≡ byte_read c.args.self.now.pieces c.args.instance.now.number c.args.instance.now.image c.in-Some.at
+read c = c.byte.ensures
+    ∙ ap (λ k. byte_read k.pieces c.args.instance.now.number c.args.instance.now.image c.in-Some.at) c.self.view_is
 
 pub returns-clause-read : goal.returns-clause-read
 returns-clause-read c =
     read c
     ∙ sym (data_read c.args.self.now.vector.images c.args.self.now.pieces c.args.instance.now c.args.place
-    ∙ ap (option_and_then (byte_read c.args.self.now.pieces c.args.instance.now.number c.args.instance.now.image)) (sym c.behind_data.ensures ∙ c.in-Some.is))
+    ∙ ap (option_and_then (byte_read c.args.self.now.pieces c.args.instance.now.number c.args.instance.now.image))
+    (sym c.behind_data.ensures ∙ c.in-Some.is))
 
 pub returns-clause-written : goal.returns-clause-written
 returns-clause-written c =
     read c
     ∙ sym (data_write c.args.self.now.vector.images c.args.self.now.pieces c.args.instance.now c.args.place
-    ∙ ap (option_and_then (byte_read c.args.self.now.pieces c.args.instance.now.number c.args.instance.now.image)) (sym c.behind_data.ensures ∙ c.in-Some.is))
+    ∙ ap (option_and_then (byte_read c.args.self.now.pieces c.args.instance.now.number c.args.instance.now.image))
+    (sym c.behind_data.ensures ∙ c.in-Some.is))

@@ -8,5 +8,6 @@ use Rattle.thread_space.proofs.space.ThreadSpace.fixed_byte.Given as goal
 
 abbrev pub invariant-loop-instance : goal.invariant-loop-instance
 invariant-loop-instance l =
-    byte_in l.access (fixed_of (job_loads l.self.vector.images) (live_in l.self.vector.images l.self.vector.past)) l.place
+    byte_in l.access (fixed_of (job_loads l.self.vector.images)
+    (live_in l.self.vector.images l.self.vector.past)) l.place
     ≡ byte_in l.access (fixed_of (job_loads l.self.vector.images) (drop l.instance-index l.instance-items)) l.place

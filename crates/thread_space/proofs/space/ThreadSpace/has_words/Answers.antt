@@ -13,7 +13,8 @@ returns-in-Some-clause-found c =
     let there : image_at c.args.self.now.vector.images c.args.instance.now.image ≡ Some c.in-Some.image.now =
     sym c.image_of.ensures ∙ ap (option_map (λ (image : Bor Spelled). image.now)) c.in-Some.is in
     c.image_has_words.ensures.found
-    ∙ ap (list_any (has_words c.args.address)) (tables_of_image c.args.self.now.vector.images c.args.instance.now c.in-Some.image.now there)
+    ∙ ap (list_any (has_words c.args.address))
+    (tables_of_image c.args.self.now.vector.images c.args.instance.now c.in-Some.image.now there)
 
 pub returns-in-None-clause-found : goal.returns-in-None-clause-found
 returns-in-None-clause-found c =

@@ -8,5 +8,6 @@ use Rattle.thread_space.proofs.space.ThreadSpace.image_has_words.Given as goal
 
 abbrev pub invariant-loop-number : goal.invariant-loop-number
 invariant-loop-number l =
-    list_any (has_words l.address) (written_from l.image.parts (parts_from l.self.vector.images l.image l.instance 0 l.image.parts))
+    list_any (has_words l.address)
+    (written_from l.image.parts (parts_from l.self.vector.images l.image l.instance 0 l.image.parts))
     ≡ words_from l.self.vector.images l.image l.instance l.address l.number

@@ -8,4 +8,5 @@ use Rattle.thread_space.proofs.space.ThreadSpace.numbered.Goals as goal
 pub loop-instance-init : goal.loop-instance-init
 loop-instance-init c =
     ap (find (λ (x : Instance). x.number == c.args.number))
-    (ap (λ (k : Kept). live_in k.vector.images k.vector.past) (sym c.self.view_is) ∙ sym (c.deref-instance-items.ensures.value ∙ c.self.invariant.live))
+    (ap (λ (k : Kept). live_in k.vector.images k.vector.past) (sym c.self.view_is)
+    ∙ sym (c.deref-instance-items.ensures.value ∙ c.self.invariant.live))

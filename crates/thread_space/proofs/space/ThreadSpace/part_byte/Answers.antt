@@ -13,18 +13,21 @@ pub returns-in_default : goal.returns-in_default
 returns-in_default c =
     let none : image_at c.args.self.now.vector.images c.args.instance.now.image ≡ None =
     sym c.image_of.ensures ∙ ap (option_map (λ (image : Bor Spelled). image.now)) c.in_default.is in
-    ap (λ ranges. byte_in c.args.access ranges c.args.place) (of_no_image c.args.self.now.vector.images c.args.instance.now none)
+    ap (λ ranges. byte_in c.args.access ranges c.args.place)
+    (of_no_image c.args.self.now.vector.images c.args.instance.now none)
 
 pub returns-then-not-is_near : goal.returns-then-not-is_near
 returns-then-not-is_near c =
     let there : image_at c.args.self.now.vector.images c.args.instance.now.image ≡ Some c.in-Some.image.now =
     sym c.image_of.ensures ∙ ap (option_map (λ (image : Bor Spelled). image.now)) c.in-Some.is in
     far_byte c.args.self.now.vector.images c.in-Some.image.now c.args.instance.now there c.image_is_spelled.ensures c.args.place
-    (ap (λ moved. is_near moved c.args.place) (sym c.bias.ensures.value) ∙ sym c.is_near.ensures ∙ c.if-not-is_near.true) c.args.access
+    (ap (λ moved. is_near moved c.args.place) (sym c.bias.ensures.value) ∙ sym c.is_near.ensures
+    ∙ c.if-not-is_near.true) c.args.access
 
 pub returns : goal.returns
 returns c =
     let there : image_at c.args.self.now.vector.images c.args.instance.now.image ≡ Some c.in-Some.image.now =
     sym c.image_of.ensures ∙ ap (option_map (λ (image : Bor Spelled). image.now)) c.in-Some.is in
     c.byte_of_image.ensures
-    ∙ ap (λ ranges. byte_in c.args.access ranges c.args.place) (of_image c.args.self.now.vector.images c.args.instance.now c.in-Some.image.now there)
+    ∙ ap (λ ranges. byte_in c.args.access ranges c.args.place)
+    (of_image c.args.self.now.vector.images c.args.instance.now c.in-Some.image.now there)

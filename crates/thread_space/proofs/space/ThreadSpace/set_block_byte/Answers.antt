@@ -15,8 +15,10 @@ block_mut-block-requires c =
     ap (λ (k : Kept). is_some (held k.vector c.args.instance.now.number)) c.self.view_is
     ∙ block_is_held c.args.self.now.vector c.args.instance.now c.args.place c.requires
 
-here : (c : goal.After-block_mut-block) → held c.args.self.now.vector c.args.instance.now.number ≡ Some c.block_mut-block.result.now
-here c = ap (λ (k : Kept). held k.vector c.args.instance.now.number) (sym c.self.view_is) ∙ c.block_mut-block.ensures.value
+here : (c : goal.After-block_mut-block)
+    → held c.args.self.now.vector c.args.instance.now.number ≡ Some c.block_mut-block.result.now
+here c = ap (λ (k : Kept). held k.vector c.args.instance.now.number) (sym c.self.view_is)
+    ∙ c.block_mut-block.ensures.value
 
 pub bounds-block-at : goal.bounds-block-at
 bounds-block-at c =
@@ -41,17 +43,22 @@ returns-in-Some c =
           ap (λ (k : Kept). held k.vector number) (sym c.self.view_is) ∙ c.block_mut-block.ensures.value
           in
           let same : c.block_mut-block.result.now ≡ bytes = same_Some _ _ (sym held_here ∙ is) in
-          let new : Vector = with_block c.self.inside.dtv number (set c.block_mut-block.result.now c.in-Some.at c.args.byte) in
+          let new : Vector = with_block c.self.inside.dtv number
+          (set c.block_mut-block.result.now c.in-Some.at c.args.byte) in
           let writes = c.block_mut-block.ensures.writes (set c.block_mut-block.result.now c.in-Some.at c.args.byte)
           (length-set c.block_mut-block.result.now c.in-Some.at c.args.byte)
           in
-          subst (λ (bs : List ℕ). Writes c.args.self.now.vector number (set bs (c.args.place - block_start c.args.self.now.vector.thread c.args.instance.now) c.args.byte) new) same
-          (subst (λ (i : ℕ). Writes c.args.self.now.vector number (set c.block_mut-block.result.now i c.args.byte) new) at
-          (subst (λ (k : Kept). Writes k.vector number (set c.block_mut-block.result.now c.in-Some.at c.args.byte) new) c.self.view_is writes));
+          subst (λ (bs : List ℕ). Writes c.args.self.now.vector number
+          (set bs (c.args.place - block_start c.args.self.now.vector.thread c.args.instance.now) c.args.byte) new) same
+          (subst (λ (i : ℕ). Writes c.args.self.now.vector number
+          (set c.block_mut-block.result.now i c.args.byte) new) at
+          (subst (λ (k : Kept). Writes k.vector number
+          (set c.block_mut-block.result.now c.in-Some.at c.args.byte) new) c.self.view_is writes));
       pieces = ap (λ (k : Kept). k.pieces) c.self.view_is;
       stack = ap (λ (k : Kept). k.stack) c.self.view_is;
     }
 
 pub returns-in_default : goal.returns-in_default
 returns-in_default c =
-    absurd (block_begins c.args.self.now.vector c.args.instance.now c.args.place c.requires (sym c.behind_block.ensures ∙ c.in_default.is))
+    absurd (block_begins c.args.self.now.vector c.args.instance.now c.args.place c.requires
+    (sym c.behind_block.ensures ∙ c.in_default.is))

@@ -9,7 +9,8 @@ use Rattle.thread_space.proofs.space.ThreadSpace.set_data_byte.Goals as goal
 
 pub set_byte-requires : goal.set_byte-requires
 set_byte-requires c =
-    ap (λ (k : Kept). is_some (byte_read k.pieces c.args.instance.now.number c.args.instance.now.image c.in-Some.at)) c.self.view_is
+    ap (λ (k : Kept). is_some
+    (byte_read k.pieces c.args.instance.now.number c.args.instance.now.image c.in-Some.at)) c.self.view_is
     ∙ data_has c.args.self.now.vector.images c.args.self.now.pieces c.args.instance.now c.args.place c.in-Some.at c.requires (sym c.behind_data.ensures ∙ c.in-Some.is)
 
 pub returns-in-Some : goal.returns-in-Some
@@ -18,13 +19,18 @@ returns-in-Some c = record {
   pieces = λ start begins.
       let at : c.in-Some.at ≡ c.args.place - start =
       behind_is start c.args.place c.in-Some.at
-      (sym (ap (option_and_then (λ start. behind start c.args.place)) begins) ∙ sym c.behind_data.ensures ∙ c.in-Some.is)
+      (sym (ap (option_and_then (λ start. behind start c.args.place)) begins) ∙ sym c.behind_data.ensures
+      ∙ c.in-Some.is)
       in
       c.set_byte.ensures
-      ∙ ap (λ (k : Kept). written c.args.instance.now.image k.pieces (record { at = c.in-Some.at; byte = c.args.byte })) c.self.view_is
-      ∙ ap (λ (i : ℕ). written c.args.instance.now.image c.args.self.now.pieces (record { at = i; byte = c.args.byte })) at;
+      ∙ ap (λ (k : Kept). written c.args.instance.now.image k.pieces
+      (record { at = c.in-Some.at; byte = c.args.byte })) c.self.view_is
+      ∙ ap (λ (i : ℕ). written c.args.instance.now.image c.args.self.now.pieces
+      (record { at = i; byte = c.args.byte })) at;
   stack = ap (λ (k : Kept). k.stack) c.self.view_is;
 }
 
 pub returns-in_default : goal.returns-in_default
-returns-in_default c = absurd (data_begin c.args.self.now.vector.images c.args.self.now.pieces c.args.instance.now c.args.place c.requires (sym c.behind_data.ensures ∙ c.in_default.is))
+returns-in_default c = absurd
+    (data_begin c.args.self.now.vector.images c.args.self.now.pieces c.args.instance.now c.args.place c.requires
+    (sym c.behind_data.ensures ∙ c.in_default.is))

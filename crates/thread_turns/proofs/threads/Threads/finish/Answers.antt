@@ -15,7 +15,8 @@ pub loop-thread-preserved : goal.loop-thread-preserved
 loop-thread-preserved g c =
     let all = c.args.job.now.lines in
     let next = subst (λ fuel. TakesTurns g.T.TurnTaker.is_done g.T.TurnTaker.turned (progress c.loop-thread.self)
-    (replicate (enough (4 * fuel) (length c.lines.result.now)) c.loop-thread.thread) (progress c.finish_thread.new.self))
+    (replicate (enough (4 * fuel) (length c.lines.result.now)) c.loop-thread.thread)
+    (progress c.finish_thread.new.self))
     c.fuel.ensures.value c.in_ok-finish_thread.ensures in
     takes_thread g.T.TurnTaker.is_done g.T.TurnTaker.turned (progress c.args.self.now) (progress c.loop-thread.self)
     (progress c.finish_thread.new.self) (4 * c.args.job.now.fuel) c.loop-thread.thread all c.lines.result.now

@@ -5,4 +5,5 @@ use Rattle.thread_turns.proofs.threads.Threads.take_order.Given as goal
 -- the turns so far
 abbrev pub invariant-loop-thread : goal.invariant-loop-thread
 invariant-loop-thread g l =
-    TakesTurns g.T.TurnTaker.is_done g.T.TurnTaker.turned (progress l.fn.self) (take l.thread-index l.order) (progress l.self)
+    TakesTurns g.T.TurnTaker.is_done g.T.TurnTaker.turned (progress l.fn.self) (take l.thread-index l.order)
+    (progress l.self)

@@ -5,7 +5,8 @@ use Rattle.thread_turns.proofs.threads.Threads.take_turns.Goals as goal
 
 pub returns-then-is_over : goal.returns-then-is_over
 returns-then-is_over g c =
-    takes_all g.T.TurnTaker.is_done g.T.TurnTaker.turned (progress c.args.self.now) (progress c.loop.self) c.loop.counter
+    takes_all g.T.TurnTaker.is_done g.T.TurnTaker.turned (progress c.args.self.now)
+    (progress c.loop.self) c.loop.counter
     c.args.count c.args.thread (omega arith) (sym c.is_over.ensures ∙ c.if-is_over.true) c.loop.invariant
 
 pub go-requires-clause-fit : goal.go-requires-clause-fit

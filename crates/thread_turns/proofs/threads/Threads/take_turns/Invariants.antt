@@ -5,4 +5,5 @@ use Rattle.thread_turns.proofs.threads.Threads.take_turns.Given as goal
 -- the turns so far
 abbrev pub invariant-loop : goal.invariant-loop
 invariant-loop g l =
-    TakesTurns g.T.TurnTaker.is_done g.T.TurnTaker.turned (progress l.fn.self) (replicate l.counter l.thread) (progress l.self)
+    TakesTurns g.T.TurnTaker.is_done g.T.TurnTaker.turned (progress l.fn.self) (replicate l.counter l.thread)
+    (progress l.self)

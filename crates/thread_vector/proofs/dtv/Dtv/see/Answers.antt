@@ -7,5 +7,6 @@ use Rattle.thread_vector.proofs.dtv.Dtv.see.Goals as goal
 pub invariant_of-self : goal.invariant_of-self
 invariant_of-self c =
     let v = vector_of c.self.inside in
-    vector_after v (record v { past = c.accept.new.self }) c.args.event c.self.invariant (rw (ap (λ v. v.past) c.self.view_is) c.requires.accepted)
+    vector_after v (record v { past = c.accept.new.self }) c.args.event c.self.invariant
+    (rw (ap (λ v. v.past) c.self.view_is) c.requires.accepted)
     (record { thread = refl; images = refl; past = c.accept.ensures }) (slots_same v.slots)

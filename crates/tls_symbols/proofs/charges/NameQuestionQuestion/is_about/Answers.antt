@@ -5,4 +5,5 @@ use Rattle.tls_symbols.proofs.charges.NameQuestionQuestion.is_about.Goals as goa
 
 pub is_charged_as-requires-clause-symbol : goal.is_charged_as-requires-clause-symbol
 is_charged_as-requires-clause-symbol c named =
-    c.requires.symbol (named_type c.args.found.now.relocation.kind (sym (ap (λ row. is_named row.symbol) c.row-role.ensures) ∙ named))
+    c.requires.symbol (named_type c.args.found.now.relocation.kind
+    (sym (ap (λ row. is_named row.symbol) c.row-role.ensures) ∙ named))
