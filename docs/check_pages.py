@@ -89,6 +89,12 @@ def old_numbers(text):
             yield f"{call} prints other numbers"
 
 
+def old_rows():
+    """What reading.py says is not in step in DEFINITIONS."""
+    told = subprocess.run(["python3", "docs/reading.py", "--check"], cwd=TOP, capture_output=True, text=True).stdout.splitlines()
+    return [it for it in told if it != "in step"]
+
+
 def long_lines(text):
     made = False
     for number, line in enumerate(text.splitlines(), 1):
@@ -111,6 +117,7 @@ def main():
         told += long_lines(text) if path in PAGES else []
         if path == PAGES[0]:
             told += unnamed_crates(text) + ([f"{len(text.splitlines())} lines"] if len(text.splitlines()) > 180 else [])
+        told += old_rows() if path.endswith("DEFINITIONS.md") else []
         count += len(MADE.sub("", text).split()) if path in PAGES[1:] else 0
         wrong += len(told)
         for it in told:
