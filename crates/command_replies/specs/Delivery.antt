@@ -23,9 +23,9 @@ Delivers text own old new code = ((code ≡ own) × IsTaken text old new)
     ⊎ (((code ≡ 4) × IsRefused text old new)
     ⊎ ((between : SinkView) × (IsShort text old between × Says memory_line 1 between new code)))
 
--- all that a command puts: a text with its own status that `MaySay` allows, or the line for out of memory. So 1 means out
--- of memory, and comes after a prefix of another text only if the sink ran out of memory for that text; 4 means that the
--- sink failed; every other status comes with the whole of its text
+-- all that a command puts: a text with its own status that `MaySay` allows, or the line for out of memory. So 1
+-- means out of memory, and comes after a prefix of another text only if the sink ran out of memory for that text; 4
+-- means that the sink failed; every other status comes with the whole of its text
 abbrev pub Delivered : (ℕ → List ℕ → Type 0) → SinkView → SinkView → ℕ → Type 0
 Delivered MaySay old new code = Says memory_line 1 old new code
     ⊎ ((own : ℕ) × ((text : List ℕ) × (MaySay own text × Delivers text own old new code)))
