@@ -1,4 +1,16 @@
 pub mod Apart
+mod Counted
+mod Jobs
+mod Limits
 pub mod LineKinds
+mod Lines
 mod Numbers
+mod Pairs
+mod Read
+mod Spacing
 mod Spelled
+mod Tests
+mod Tied
+mod Told
+mod Writer
+mod Written

@@ -1,3 +1,6 @@
+pub mod Derived
+pub mod Grammar
 pub mod Images
 pub mod Laws
 pub mod Numbers
+pub mod Written

@@ -1,10 +1,37 @@
 //! Laws of the text of a job. Each function does nothing; what it ensures is the law.
 
-ghost use Rattle.job_grammar_laws.specs.Laws.{ImagesAreSpelled, NumbersAreWritten, SomeHaveNoText};
+ghost use Rattle.job_grammar_laws.specs.Derived.{DerivedTextsAreJobs, JobsAreDerived, TextsDeriveOneJob};
+ghost use Rattle.job_grammar_laws.specs.Laws.{ImagesAreSpelled, NumbersAreWritten, SomeHaveNoText, TextsAreShort};
+ghost use Rattle.job_grammar_laws.specs.Written.{TextsTellAll};
+
+/// A text that derives a job spells that job.
+pub fn derived_texts_are_jobs()
+    ensures { DerivedTextsAreJobs }
+{}
+
+/// The job that a text spells is derived.
+pub fn jobs_are_derived()
+    ensures { JobsAreDerived }
+{}
+
+/// A text derives one job at most.
+pub fn texts_derive_one_job()
+    ensures { TextsDeriveOneJob }
+{}
+
+/// Which jobs have a text: those that are made of what lines can tell.
+pub fn texts_tell_all()
+    ensures { TextsTellAll }
+{}
 
 /// The images of a job that a text spells: at most 64, each with a name and objects, no two of one name, in order.
 pub fn images_are_spelled()
     ensures { ImagesAreSpelled }
+{}
+
+/// A job that a text spells has no more images and lines of threads together than a text may have lines.
+pub fn texts_are_short()
+    ensures { TextsAreShort }
 {}
 
 /// Two images of one name have no text, nor has an image without objects.

@@ -59,7 +59,7 @@ other_name name q image e b = unnamed (is_named q image) refl
     unnamed true h = absurd (false≢true (sym b ∙ (bytes_eq-Decides name q).1 (sym e ∙ sym ((bytes_eq-Decides q image.name).0 h))))
     unnamed false h = refl
 
-late_by : (b : Bool) (program : Option Image) (starts lates : List Image) (name q : List ℕ) (image : Image) → image.name ≡ name → slot_among program starts lates name ≡ None
+pub late_by : (b : Bool) (program : Option Image) (starts lates : List Image) (name q : List ℕ) (image : Image) → image.name ≡ name → slot_among program starts lates name ≡ None
     → bytes_eq name q ≡ b → slot_among program starts (lates ++ image ∷ []) q ≡ cond b (Some (Late (length lates))) (slot_among program starts lates q)
 unfolding slot_among
 late_by true program starts lates name q image e none b =
@@ -69,7 +69,7 @@ late_by true program starts lates name q image e none b =
     (rw (first.0, second.0, position_added (is_named name) 0 lates image (unmapped Late _ second.1) (same_name name image e)) (ap (λ k. Some (Late k)) (omega arith)))
 late_by false program starts lates name q image e none b = rw (position_missed (is_named q) 0 lates image (other_name name q image e b)) refl
 
-start_by : (b : Bool) (program : Option Image) (starts lates : List Image) (name q : List ℕ) (image : Image) → image.name ≡ name → slot_among program starts lates name ≡ None
+pub start_by : (b : Bool) (program : Option Image) (starts lates : List Image) (name q : List ℕ) (image : Image) → image.name ≡ name → slot_among program starts lates name ≡ None
     → bytes_eq name q ≡ b → slot_among program (starts ++ image ∷ []) lates q ≡ cond b (Some (Start (length starts))) (slot_among program starts lates q)
 unfolding slot_among
 start_by true program starts lates name q image e none b =
@@ -79,7 +79,7 @@ start_by true program starts lates name q image e none b =
     (rw (first.0, position_added (is_named name) 0 starts image (unmapped Start _ second.0) (same_name name image e)) (ap (λ k. Some (Start k)) (omega arith)))
 start_by false program starts lates name q image e none b = rw (position_missed (is_named q) 0 starts image (other_name name q image e b)) refl
 
-program_by : (b : Bool) (starts lates : List Image) (name q : List ℕ) (image : Image) → image.name ≡ name
+pub program_by : (b : Bool) (starts lates : List Image) (name q : List ℕ) (image : Image) → image.name ≡ name
     → bytes_eq name q ≡ b → slot_among (Some image) starts lates q ≡ cond b (Some Program) (slot_among None starts lates q)
 unfolding slot_among
 program_by true starts lates name q image e b =
