@@ -1,13 +1,11 @@
 -- Images and lines of threads have a line each.
-use Rattle.std.proofs.Common.{◌≡◌, ◌≢◌, ◌∙◌, ℕ, zero, suc, ◌+◌, ◌<◌, ◌≤◌, Bool, true, false, ◌==◌, cond, List, [], ◌∷◌}
-use Rattle.std.proofs.Common.{◌++◌, length, filter, Some, refl, sym, ap, subst, arith, eqb-true, length-append, sum_by}
+use Rattle.std.proofs.Common.{◌≡◌, ◌∙◌, ℕ, zero, suc, ◌+◌, ◌≤◌, Bool, true, false, ◌==◌, cond, List, [], ◌∷◌}
+use Rattle.std.proofs.Common.{◌++◌, length, filter, Some, refl, ap, arith, eqb-true, length-append, sum_by}
 use Rattle.std.specs.Prelude.{nat_lt}
 use Rattle.std.proofs.Common.{ltb-false, ltb-true}
 use Rattle.std.proofs.Common.{slice_get}
 use Rattle.std.proofs.lemmas.List.Sums.{sum_by-cons}
-use Rattle.std.specs.List.{AllZip}
-use Rattle.job_text.specs.Jobs.{JobParts, job_of}
-use Rattle.job_text.specs.Numbering.{at_number}
+use Rattle.job_text.specs.Jobs.{JobParts}
 use Rattle.job_text.specs.declared.images.Image.{Image}
 use Rattle.job_text.specs.declared.thread_lines.ThreadLine.{ThreadLine}
 use Rattle.link_faults.specs.declared.image_kind.ImageKind.{ImageKind}
@@ -22,7 +20,7 @@ use Rattle.job_grammar_laws.proofs.Pairs.{AllZip-length}
 
 -- ** images
 
-grouped : (images : List Image)
+pub grouped : (images : List Image)
     → length (of_group 0 images) + length (of_group 1 images) + length (of_group 2 images) ≡ length images
 grouped [] = refl
 grouped (x ∷ xs) = by x.kind (grouped xs)
@@ -65,7 +63,7 @@ thread_and_behind thread (x ∷ xs) =
     by false false true is late more rest = omega (arith, rest)
     by false false false is late more rest = rest
 
-behind_few : (thread : ℕ) (asked : List Asked) → length (behind thread asked) ≤ length asked
+pub behind_few : (thread : ℕ) (asked : List Asked) → length (behind thread asked) ≤ length asked
 behind_few thread [] = omega arith
 behind_few thread (x ∷ xs) = by (nat_lt thread x.thread) (behind_few thread xs)
   where
@@ -74,7 +72,7 @@ behind_few thread (x ∷ xs) = by (nat_lt thread x.thread) (behind_few thread xs
     by true rest = omega (arith, rest)
     by false rest = omega (arith, rest)
 
-lines_few : (asked : List Asked) (thread : ℕ) (all : List (List ThreadLine))
+pub lines_few : (asked : List Asked) (thread : ℕ) (all : List (List ThreadLine))
     → ((i : ℕ) (lines : List ThreadLine) → slice_get all i ≡ Some lines
     → length lines ≡ length (of_thread (thread + 1 + i) asked))
     → sum_by length all ≤ length (behind thread asked)

@@ -1,25 +1,23 @@
 -- The job that lines declare is the one that the grammar makes of them, and the only one.
-use Rattle.std.proofs.Common.{◌≡◌, ◌≢◌, ◌∙◌, ℕ, zero, suc, ◌+◌, ◌<◌, ◌≤◌, Bool, true, false, cond, List, [], ◌∷◌, ◌++◌}
-use Rattle.std.proofs.Common.{length, map, get_or, slice_get, Option, Some, None, Result, Ok, is_some, option_map}
+use Rattle.std.proofs.Common.{◌≡◌, ◌∙◌, ℕ, zero, suc, ◌+◌, ◌≤◌, Bool, true, false, cond, List, [], ◌∷◌, ◌++◌}
+use Rattle.std.proofs.Common.{length, map, get_or, slice_get, Option, Some, None, Result, Ok, option_map}
 use Rattle.std.proofs.Common.{option_to_list, position, unwrap_or, refl, sym, ap, subst, arith}
 use Rattle.std.specs.List.{AllZip, position_from}
 use Rattle.std.specs.Option.{option_or}
 use Rattle.std.specs.Str.{bytes_eq}
-use Rattle.std.proofs.lemmas.Bool.{false≢true}
 use Rattle.std.proofs.lemmas.Iterator.Adapters.{position_from-zero}
 use Rattle.std.proofs.lemmas.List.{length-map}
 use Rattle.std.proofs.lemmas.Option.{same_Some}
 use Rattle.std.proofs.lemmas.Slice.Eq.{bytes_eq-Decides}
-use Rattle.job_text.specs.Drafts.{Declared, nothing_declared, program_slot, slot_among, slot_of}
+use Rattle.job_text.specs.Drafts.{Declared, nothing_declared, slot_among, slot_of}
 use Rattle.job_text.specs.Images.{image_number, is_named}
-use Rattle.job_text.specs.Jobs.{JobParts, in_image_order, job_declared, job_from, job_of, job_of_program, job_with}
+use Rattle.job_text.specs.Jobs.{JobParts, in_image_order, job_of, job_of_program, job_with}
 use Rattle.job_text.specs.Jobs.{number_of, numbered_line}
 use Rattle.job_text.specs.Numbering.{at_number}
-use Rattle.job_text.specs.Words.{lines_of}
 use Rattle.job_text.specs.declared.fault.JobFault.{JobFault}
 use Rattle.job_text.specs.declared.images.Image.{Image}
 use Rattle.job_text.specs.declared.thread_lines.ThreadLine.{ThreadLine}
-use Rattle.job_grammar_laws.specs.Derived.{Derives, DerivedTextsAreJobs, HasName, IsAsked, IsJobOf, JobsAreDerived}
+use Rattle.job_grammar_laws.specs.Derived.{DerivedTextsAreJobs, HasName, IsAsked, IsJobOf, JobsAreDerived}
 use Rattle.job_grammar_laws.specs.Derived.{TextsDeriveOneJob, of_thread}
 use Rattle.job_grammar_laws.specs.Grammar.{Asked, Told, names, nothing_told, of_group}
 use Rattle.job_grammar_laws.proofs.Apart.{AreApart, Differs, flipped, images_kept}
@@ -220,7 +218,7 @@ same_lists (x ∷ xs) (y ∷ ys) long each =
     let tail : xs ≡ ys = same_lists xs ys (omega (arith, long)) (λ i. each (suc i)) in
     λ i. head i ∷ tail i
 
-one_number : (images : List Image) → AreApart images → (n m : ℕ) (name : List ℕ) → HasName images n name
+pub one_number : (images : List Image) → AreApart images → (n m : ℕ) (name : List ℕ) → HasName images n name
     → HasName images m name → n ≡ m
 one_number images are n m name one other =
     same_Some n m (sym (number_named images n name are one) ∙ number_named images m name are other)

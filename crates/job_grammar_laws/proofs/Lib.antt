@@ -4,10 +4,12 @@ mod Jobs
 mod Limits
 pub mod LineKinds
 mod Lines
+mod Listed
 mod Numbers
 mod Pairs
 mod Read
 mod Spacing
+mod Spellable
 mod Spelled
 mod Tests
 mod Tied

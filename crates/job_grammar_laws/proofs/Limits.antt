@@ -1,22 +1,19 @@
 -- What lines tell stays within the limits.
-use Rattle.std.proofs.Common.{◌≡◌, ◌≢◌, ◌∙◌, ℕ, zero, suc, ◌+◌, ◌<◌, ◌≤◌, ◌^◌, List, [], ◌∷◌, ◌++◌, length, map, get_or}
-use Rattle.std.proofs.Common.{Option, Some, None, refl, sym, ap, subst, arith, length-append, unwrap_or}
+use Rattle.std.proofs.Common.{◌≡◌, ◌≢◌, ℕ, ◌+◌, ◌<◌, ◌≤◌, ◌^◌, List, [], ◌∷◌, ◌++◌, length}
+use Rattle.std.proofs.Common.{Some, None, sym, ap, subst, arith, length-append, unwrap_or}
 use Rattle.std.specs.Prelude.{codes}
-use Rattle.std.specs.List.{All, AllPairs, AllZip, Contains}
+use Rattle.std.specs.List.{All, AllPairs, Contains}
 use Rattle.std.proofs.lemmas.List.{map-append}
-use Rattle.std.proofs.lemmas.List.Elements.{All-get_or, All-head, All-nil, All-push, All-tail, All-weaker}
+use Rattle.std.proofs.lemmas.List.Elements.{All-head, All-nil, All-push, All-tail, All-weaker}
 use Rattle.std.proofs.lemmas.List.Elements.{Contains-append_left}
 use Rattle.std.proofs.lemmas.List.Quantifiers.{all_pairs_push}
 use Rattle.std.proofs.lemmas.Option.{same_Some}
 use Rattle.job_text.specs.Threads.{IsThread}
 use Rattle.job_text.specs.declared.images.Image.{Image}
-use Rattle.job_text.specs.declared.thread_lines.Action.{Action}
-use Rattle.job_text.specs.declared.thread_lines.Action.TheVariants as action
 use Rattle.job_grammar_laws.specs.Grammar.{Asked, IsWord, MayAsk, MayJoin, Told, Tells, OfImage, OfThreads, OfFuel}
 use Rattle.job_grammar_laws.specs.Grammar.{OfOrder, OfCall, OfOpen, OfClose, OfPeek, Says, Comment, Blank, Line, Text}
 use Rattle.job_grammar_laws.specs.Grammar.{LastLine, NextLine, group, kind_word, names, nothing_told, thread_count}
 use Rattle.job_grammar_laws.specs.Images.{IsSpelled}
-use Rattle.job_grammar_laws.specs.Numbers.{Writes}
 use Rattle.job_grammar_laws.specs.Written.{CanBeTold, IsAskable, IsWritable, line_count, line_for}
 use Rattle.job_grammar_laws.proofs.Spacing.{spaced_words}
 

@@ -1,10 +1,10 @@
 -- The lines of a text: those that have no fault are those that the grammar has.
 use Rattle.std.proofs.Common.{◌≡◌, ◌≢◌, ◌∙◌, ℕ, zero, suc, ◌+◌, ◌<◌, ◌≤◌, Bool, true, false, ◌&&◌, ◌||◌, ◌==◌, cond}
-use Rattle.std.proofs.Common.{List, [], ◌∷◌, ◌++◌, length, slice_index, Option, Some, None, Result, Ok, refl, sym, ap}
+use Rattle.std.proofs.Common.{List, [], ◌∷◌, ◌++◌, length, slice_index, Some, None, Ok, refl, sym, ap}
 use Rattle.std.proofs.Common.{subst}
 use Rattle.std.proofs.Common.{arith, eq-eqb, eqb-true, ne_eqb, length-append}
 use Rattle.std.specs.Prelude.{codes}
-use Rattle.std.specs.List.{All, list_all, slice_split}
+use Rattle.std.specs.List.{All}
 use Rattle.std.proofs.lemmas.Bool.{and_from, and_parts, or_from, or_right, false≢true}
 use Rattle.std.proofs.lemmas.List.Elements.{All-cons, All-head, All-nil, All-tail}
 use Rattle.std.proofs.lemmas.List.Splits.{slice_split_at, slice_split_none}
@@ -14,15 +14,13 @@ use Rattle.job_text.specs.Jobs.{JobParts, fault_or, job_declared, job_from}
 use Rattle.job_text.specs.LineEffects.{with_heading, with_text}
 use Rattle.job_text.specs.LineFaults.{fault_of, fault_under}
 use Rattle.job_text.specs.Words.{is_blank, is_skipped, is_text, lines_of, word_at, words_of}
-use Rattle.job_text.specs.declared.fault.JobFault.{JobFault}
 use Rattle.job_text.specs.declared.fault.JobFaultKind.TheVariants as kind
-use Rattle.job_text.specs.declared.fault.JobFaultKind.{JobFaultKind}
 use Rattle.job_grammar_laws.specs.Grammar.{IsWord, Spaced, End, Space, Last, Word, Told, Tells, OfImage, OfThreads}
 use Rattle.job_grammar_laws.specs.Grammar.{OfFuel}
 use Rattle.job_grammar_laws.specs.Grammar.{OfOrder, OfCall, OfOpen, OfClose, OfPeek, Says, Comment, Blank, Line, Text}
 use Rattle.job_grammar_laws.specs.Grammar.{LastLine, NextLine}
 use Rattle.job_grammar_laws.specs.Numbers.{Writes}
-use Rattle.job_grammar_laws.proofs.Apart.{neither, past_fault}
+use Rattle.job_grammar_laws.proofs.Apart.{past_fault}
 use Rattle.job_grammar_laws.proofs.Read.{words_tell}
 use Rattle.job_grammar_laws.proofs.Spacing.{Cut, Whole, At, cut, no_others, others, spaced, spaced_read}
 use Rattle.job_grammar_laws.proofs.Tests.{begins}
@@ -51,7 +49,8 @@ begun told words after (OfFuel word n e is some most none) =
 begun told words after (OfOrder ws threads e some are named none) =
     subst Begun (sym e) (omega arith, λ same. false≢true (eq-eqb 111 35 same))
 begun told words after (OfCall asked word symbol first second third a b c e does may short p q r) =
-    subst Begun (sym e) (number_begins word asked.thread (codes "call" ∷ asked.image ∷ symbol ∷ first ∷ second ∷ third ∷ []) may.written)
+    subst Begun (sym e) (number_begins word asked.thread (codes "call" ∷ asked.image ∷ symbol ∷ first ∷ second ∷
+    third ∷ []) may.written)
 begun told words after (OfOpen asked word e does may) =
     subst Begun (sym e) (number_begins word asked.thread (codes "open" ∷ asked.image ∷ []) may.written)
 begun told words after (OfClose asked word e does may) =

@@ -1,9 +1,9 @@
 -- A line without a fault tells what the grammar says.
-use Rattle.std.proofs.Common.{◌≡◌, ◌≢◌, ◌∙◌, ℕ, zero, suc, ◌+◌, ◌<◌, ◌≤◌, ◌^◌, Bool, true, false, not, ◌&&◌, ◌||◌, ◌==◌}
-use Rattle.std.proofs.Common.{cond, List, [], ◌∷◌, ◌++◌, length, drop, Option, Some, None, is_none, is_some, inl, inr}
+use Rattle.std.proofs.Common.{◌≡◌, ◌≢◌, ◌∙◌, ℕ, suc, ◌≤◌, Bool, true, false, not, ◌&&◌, ◌||◌, ◌==◌}
+use Rattle.std.proofs.Common.{cond, List, [], ◌∷◌, ◌++◌, length, drop, Some, None, is_none, is_some, inl, inr}
 use Rattle.std.proofs.Common.{option_to_list, refl, sym, ap, subst, arith, eqb-true, leb-true, length-drop}
 use Rattle.std.specs.Prelude.{codes, nat_le, nat_lt}
-use Rattle.std.specs.List.{All, AllZip, Contains, list_any}
+use Rattle.std.specs.List.{All, AllZip, list_any}
 use Rattle.std.proofs.lemmas.Bool.{eqb-false, false≢true}
 use Rattle.std.proofs.lemmas.List.Elements.{All-cons, All-nil}
 use Rattle.job_text.specs.Drafts.{Declared, image_count, slot_of}
@@ -18,7 +18,7 @@ use Rattle.job_text.specs.declared.thread_lines.Action.TheVariants as action
 use Rattle.link_faults.specs.declared.image_kind.ImageKind.{ImageKind}
 use Rattle.link_faults.specs.declared.image_kind.ImageKind.TheVariants.{Exe, Pie, Start, Late}
 use Rattle.job_grammar_laws.specs.Grammar.{Told, MayAsk, Tells, OfImage, OfThreads, OfFuel, OfOrder, OfCall, OfOpen}
-use Rattle.job_grammar_laws.specs.Grammar.{OfClose, OfPeek, group, kind_word, names, of_group, thread_count}
+use Rattle.job_grammar_laws.specs.Grammar.{OfClose, OfPeek, group, kind_word, names, of_group}
 use Rattle.job_grammar_laws.specs.Numbers.{Writes}
 use Rattle.job_grammar_laws.proofs.Apart.{is_none_is, neither, unless_not}
 use Rattle.job_grammar_laws.proofs.LineKinds.{Begins, Kind, Image as ImageLine, Threads, Fuel, Order, Call, Open, Close}

@@ -1,6 +1,6 @@
 -- What the tests of a line's words say.
-use Rattle.std.proofs.Common.{◌≡◌, ◌≢◌, ◌∙◌, ◌⊎◌, ℕ, zero, suc, ◌+◌, ◌<◌, ◌≤◌, ◌^◌, Bool, true, false, not, ◌&&◌, ◌||◌}
-use Rattle.std.proofs.Common.{◌==◌, cond, List, [], ◌∷◌, ◌++◌, length, drop, Option, Some, None, is_none, is_some}
+use Rattle.std.proofs.Common.{◌≡◌, ◌≢◌, ◌∙◌, ◌⊎◌, ℕ, zero, suc, ◌<◌, ◌≤◌, Bool, true, false, not, ◌&&◌, ◌||◌}
+use Rattle.std.proofs.Common.{cond, List, [], ◌∷◌, length, drop, Option, Some, None, is_none}
 use Rattle.std.proofs.Common.{unwrap_or, inl, inr, refl, sym, ap, subst, arith, le-leb, le-ltb, leb-true, ltb-false}
 use Rattle.std.specs.Prelude.{codes, nat_le, nat_lt}
 use Rattle.std.specs.Char.{digit_value}
@@ -19,7 +19,7 @@ use Rattle.job_text.specs.Words.{word_at}
 use Rattle.job_text.specs.declared.fault.JobFaultKind.TheVariants as kind
 use Rattle.job_grammar_laws.specs.Images.{IsName, letters}
 use Rattle.job_grammar_laws.specs.Numbers.{Writes}
-use Rattle.job_grammar_laws.proofs.Apart.{neither, unless_not}
+use Rattle.job_grammar_laws.proofs.Apart.{unless_not}
 use Rattle.job_grammar_laws.proofs.Numbers.{value_past, writes_read}
 
 -- ** the kinds of faults, in their order

@@ -1,23 +1,20 @@
 -- What lines tell in the grammar's words, and in the reader's; each kind of line keeps the two tied.
-use Rattle.std.proofs.Common.{◌≡◌, ◌≢◌, ◌∙◌, ℕ, zero, suc, ◌+◌, ◌-◌, ◌<◌, ◌≤◌, Bool, true, false, not, ◌&&◌, ◌==◌, cond}
-use Rattle.std.proofs.Common.{List, [], ◌∷◌, ◌++◌, length, map, filter, get_or, replicate, slice_set, Option, Some}
+use Rattle.std.proofs.Common.{◌≡◌, ◌≢◌, ◌∙◌, ℕ, zero, suc, ◌+◌, ◌-◌, ◌<◌, ◌≤◌, Bool, true, false, ◌==◌, cond}
+use Rattle.std.proofs.Common.{List, [], ◌∷◌, ◌++◌, length, get_or, replicate, slice_set, Option, Some}
 use Rattle.std.proofs.Common.{None}
 use Rattle.std.proofs.Common.{is_some, option_to_list, unwrap_or, refl, sym, ap, subst, arith, append-nil}
 use Rattle.std.proofs.Common.{length-append}
 use Rattle.std.proofs.Common.{eqb-true, eq-eqb, ne_eqb, length-set, subst₂}
 use Rattle.std.proofs.lemmas.Bool.{eqb-false, false≢true}
 use Rattle.std.proofs.lemmas.List.{get_or-set_other, get_or-set_same, map-append}
-use Rattle.std.proofs.lemmas.List.Elements.{All-cons, All-filter, All-head, All-nil, All-tail, All-weaker}
+use Rattle.std.proofs.lemmas.List.Elements.{All-filter, All-head, All-tail}
 use Rattle.std.proofs.lemmas.List.Elements.{filter-append}
 use Rattle.std.proofs.lemmas.Slice.Eq.{bytes_eq-Decides}
 use Rattle.std.specs.List.{All, AllZip, position_from}
-use Rattle.std.specs.Option.{option_map, option_or}
 use Rattle.std.specs.Str.{bytes_eq}
 use Rattle.job_text.specs.Drafts.{Declared, image_count, nothing_declared, program_slot, slot_among, slot_of}
 use Rattle.job_text.specs.Images.{is_named}
-use Rattle.job_text.specs.LineAnswers.{next_slot}
 use Rattle.job_text.specs.LineEffects.{with_image, with_line}
-use Rattle.job_text.specs.LineFaults.{is_program}
 use Rattle.job_text.proofs.DraftLemmas.{late_by, program_by, start_by}
 use Rattle.job_text.specs.declared.images.Image.{Image}
 use Rattle.link_faults.specs.declared.image_kind.ImageKind.{ImageKind}

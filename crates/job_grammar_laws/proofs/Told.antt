@@ -1,5 +1,5 @@
 -- What the grammar lets a line tell has no fault, and the reader keeps it.
-use Rattle.std.proofs.Common.{◌≡◌, ◌≢◌, ◌∙◌, ℕ, zero, suc, ◌+◌, ◌<◌, ◌≤◌, ◌^◌, Bool, true, false, not, ◌&&◌, ◌||◌, ◌==◌}
+use Rattle.std.proofs.Common.{◌≡◌, ◌≢◌, ◌∙◌, ℕ, ◌<◌, ◌≤◌, ◌^◌, Bool, true, false, not, ◌&&◌, ◌||◌, ◌==◌}
 use Rattle.std.proofs.Common.{cond, List, [], ◌∷◌, ◌++◌, length, drop, filter_map, Option, Some, None, is_none, is_some}
 use Rattle.std.proofs.Common.{option_to_list, unwrap_or, refl, sym, ap, subst, arith, le-leb, le-ltb, ne_eqb}
 use Rattle.std.specs.Prelude.{codes, nat_le, nat_lt}
@@ -8,7 +8,7 @@ use Rattle.std.proofs.lemmas.Bool.{or_from}
 use Rattle.std.proofs.lemmas.List.Elements.{All-contains, All-head, All-tail}
 use Rattle.job_text.specs.Drafts.{Declared, image_count, slot_of}
 use Rattle.job_text.specs.Grammar.{heading_of, is_image_name, is_short_name, kind_heading, verb_heading}
-use Rattle.job_text.specs.LineEffects.{number_at, with_heading, with_image}
+use Rattle.job_text.specs.LineEffects.{with_heading, with_image}
 use Rattle.job_text.specs.LineFaults.{fault_under, has_long_object, is_program}
 use Rattle.job_text.specs.Numbers.{number as number_of, number_within}
 use Rattle.job_text.specs.Threads.{IsThread}
@@ -21,7 +21,7 @@ use Rattle.job_grammar_laws.specs.Grammar.{Asked, Told, MayAsk, MayJoin, Tells, 
 use Rattle.job_grammar_laws.specs.Grammar.{OfCall, OfOpen, OfClose, OfPeek, group, kind_word, names, of_group}
 use Rattle.job_grammar_laws.specs.Images.{IsSpelled}
 use Rattle.job_grammar_laws.specs.Numbers.{Writes}
-use Rattle.job_grammar_laws.proofs.LineKinds.{Kind, Image as ImageLine, Threads, Fuel, Order, Call, Open, Close, Peek}
+use Rattle.job_grammar_laws.proofs.LineKinds.{Image as ImageLine}
 use Rattle.job_grammar_laws.proofs.LineKinds.{Short, sample}
 use Rattle.job_grammar_laws.proofs.Numbers.{writes_read}
 use Rattle.job_grammar_laws.proofs.Pairs.{AllZip-length}

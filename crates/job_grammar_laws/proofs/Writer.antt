@@ -1,5 +1,5 @@
 -- What lines can tell is told by a text: a line for each thing, images first and lines of threads last.
-use Rattle.std.proofs.Common.{◌≡◌, ◌≢◌, ◌∙◌, ℕ, zero, suc, ◌+◌, ◌<◌, ◌≤◌, ◌^◌, Bool, true, false, ◌&&◌, List, [], ◌∷◌}
+use Rattle.std.proofs.Common.{◌≡◌, ◌≢◌, ◌∙◌, ℕ, zero, suc, ◌+◌, ◌<◌, ◌≤◌, ◌^◌, Bool, true, ◌&&◌, List, [], ◌∷◌}
 use Rattle.std.proofs.Common.{◌++◌, length, map, get_or, Option, Some, None, inl, refl, sym, ap, subst, arith}
 use Rattle.std.proofs.Common.{append_assoc, unwrap_or}
 use Rattle.std.proofs.Common.{append-nil, leb-true, length-append}
@@ -11,7 +11,6 @@ use Rattle.std.proofs.lemmas.Bool.{and_parts}
 use Rattle.std.proofs.lemmas.Fmt.{decimal_is_IsNumeral}
 use Rattle.std.proofs.lemmas.List.{map-append}
 use Rattle.std.proofs.lemmas.List.Elements.{All-append, All-cons, All-contains, All-head, All-nil, All-tail, All-weaker}
-use Rattle.job_text.specs.Grammar.{is_digit_byte}
 use Rattle.job_text.specs.Threads.{IsThread}
 use Rattle.job_text.specs.declared.images.Image.{Image}
 use Rattle.job_text.specs.declared.thread_lines.Action.{Action}
@@ -20,13 +19,13 @@ use Rattle.link_faults.specs.declared.image_kind.ImageKind.{ImageKind}
 use Rattle.link_faults.specs.declared.image_kind.ImageKind.TheVariants.{Exe, Pie, Start, Late}
 use Rattle.job_grammar_laws.specs.Grammar.{Asked, IsMark, IsWord, Spaced, Last, Word, MayAsk, MayJoin, Told, Tells}
 use Rattle.job_grammar_laws.specs.Grammar.{OfImage}
-use Rattle.job_grammar_laws.specs.Grammar.{OfThreads, OfFuel, OfOrder, OfCall, OfOpen, OfClose, OfPeek, Says, Blank}
+use Rattle.job_grammar_laws.specs.Grammar.{OfThreads, OfFuel, OfOrder, OfCall, OfOpen, OfClose, OfPeek, Blank}
 use Rattle.job_grammar_laws.specs.Grammar.{Line}
 use Rattle.job_grammar_laws.specs.Grammar.{Text, LastLine, NextLine, group, kind_word, names, nothing_told}
 use Rattle.job_grammar_laws.specs.Grammar.{thread_count}
 use Rattle.job_grammar_laws.specs.Images.{IsName, IsSpelled, letters}
 use Rattle.job_grammar_laws.specs.Numbers.{Writes}
-use Rattle.job_grammar_laws.specs.Written.{CanBeTold, IsAskable, IsWritable, line_count, line_for}
+use Rattle.job_grammar_laws.specs.Written.{CanBeTold, IsAskable, IsWritable, line_for}
 use Rattle.job_grammar_laws.proofs.Tests.{digit_first}
 
 -- ** words

@@ -1,7 +1,4 @@
 -- The law of which jobs have a text.
-use Rattle.std.specs.Prelude.{Ok}
-use Rattle.job_text.specs.Jobs.{JobParts, job_of}
-use Rattle.job_grammar_laws.specs.Derived.{Derives}
 use Rattle.job_grammar_laws.specs.Written.{TextsTellAll}
 use Rattle.job_grammar_laws.proofs.Jobs.{derived_are_jobs, jobs_derived}
 use Rattle.job_grammar_laws.proofs.Limits.{all_within}

@@ -1,6 +1,6 @@
 -- Which job a text derives. It watches `job_of` (job_text: `Jobs`, with `Drafts`): how images are put in image order,
 -- and how all that is named gets the number of its image.
-use Rattle.std.specs.Prelude.{◌≡◌, ◌≤◌, ◌==◌, ℕ, List, [], ◌∷◌, ◌++◌, filter, length, Some, Ok, unwrap_or}
+use Rattle.std.specs.Prelude.{◌≡◌, ◌≤◌, ◌==◌, ℕ, List, [], ◌++◌, filter, length, Some, Ok, unwrap_or}
 use Rattle.std.specs.List.{AllZip}
 use Rattle.job_text.specs.Jobs.{JobParts, job_of}
 use Rattle.job_text.specs.Numbering.{at_number}

@@ -3,4 +3,5 @@ pub mod Grammar
 pub mod Images
 pub mod Laws
 pub mod Numbers
+pub mod Spellable
 pub mod Written

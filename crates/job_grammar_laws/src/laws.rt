@@ -2,6 +2,7 @@
 
 ghost use Rattle.job_grammar_laws.specs.Derived.{DerivedTextsAreJobs, JobsAreDerived, TextsDeriveOneJob};
 ghost use Rattle.job_grammar_laws.specs.Laws.{ImagesAreSpelled, NumbersAreWritten, SomeHaveNoText, TextsAreShort};
+ghost use Rattle.job_grammar_laws.specs.Spellable.{TextsAreSpelled};
 ghost use Rattle.job_grammar_laws.specs.Written.{TextsTellAll};
 
 /// A text that derives a job spells that job.
@@ -22,6 +23,11 @@ pub fn texts_derive_one_job()
 /// Which jobs have a text: those that are made of what lines can tell.
 pub fn texts_tell_all()
     ensures { TextsTellAll }
+{}
+
+/// The same part by part: images, mentions, numbers, words and how many lines there are.
+pub fn texts_are_spelled()
+    ensures { TextsAreSpelled }
 {}
 
 /// The images of a job that a text spells: at most 64, each with a name and objects, no two of one name, in order.
