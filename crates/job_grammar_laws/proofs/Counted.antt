@@ -1,22 +1,16 @@
--- Images and lines of threads have a line each.
+-- How many images and lines of threads there are, by their groups and by their threads.
 use Rattle.std.proofs.Common.{◌≡◌, ◌∙◌, ℕ, zero, suc, ◌+◌, ◌≤◌, Bool, true, false, ◌==◌, cond, List, [], ◌∷◌}
-use Rattle.std.proofs.Common.{◌++◌, length, filter, Some, refl, ap, arith, eqb-true, length-append, sum_by}
+use Rattle.std.proofs.Common.{length, filter, Some, refl, ap, arith, eqb-true, sum_by}
 use Rattle.std.specs.Prelude.{nat_lt}
 use Rattle.std.proofs.Common.{ltb-false, ltb-true}
 use Rattle.std.proofs.Common.{slice_get}
 use Rattle.std.proofs.lemmas.List.Sums.{sum_by-cons}
-use Rattle.job_text.specs.Jobs.{JobParts}
 use Rattle.job_text.specs.declared.images.Image.{Image}
 use Rattle.job_text.specs.declared.thread_lines.ThreadLine.{ThreadLine}
 use Rattle.link_faults.specs.declared.image_kind.ImageKind.{ImageKind}
 use Rattle.link_faults.specs.declared.image_kind.ImageKind.TheVariants.{Exe, Pie, Start, Late}
-use Rattle.job_grammar_laws.specs.Derived.{IsAsked, IsJobOf, of_thread}
-use Rattle.job_grammar_laws.specs.Grammar.{Asked, Told, group, of_group}
-use Rattle.job_grammar_laws.specs.Laws.{TextsAreShort}
-use Rattle.job_grammar_laws.specs.Written.{line_count}
-use Rattle.job_grammar_laws.proofs.Jobs.{jobs_derived}
-use Rattle.job_grammar_laws.proofs.Limits.{all_within}
-use Rattle.job_grammar_laws.proofs.Pairs.{AllZip-length}
+use Rattle.job_grammar_laws.specs.Derived.{of_thread}
+use Rattle.job_grammar_laws.specs.Grammar.{Asked, group, of_group}
 
 -- ** images
 
@@ -90,26 +84,3 @@ lines_few asked thread (lines ∷ all) each =
       sum_by-cons
           (λ (ls : List ThreadLine). length ls) lines all,
     )
-
--- ** the law
-
-made_short : (told : Told) (job : JobParts) → IsJobOf told job → line_count told ≤ 65536
-    → length job.images + sum_by length job.lines ≤ 65536
-made_short told job made few =
-    let images : length job.images ≡ length told.images =
-    ap length made.images
-    ∙ omega (
-      arith,
-      grouped told.images,
-      length-append (of_group 0 told.images ++ of_group 1 told.images) (of_group 2 told.images),
-      length-append (of_group 0 told.images) (of_group 1 told.images),
-    ) in
-    let lines = lines_few told.asked 0 job.lines (λ i ls is.
-    AllZip-length (IsAsked job.images) ls (of_thread (suc i) told.asked) (made.lines (suc i) ls is)
-    ∙ ap (λ n. length (of_thread n told.asked)) (omega arith)) in
-    omega (arith, images, lines, behind_few 0 told.asked, few)
-
-pub texts_short : TextsAreShort
-texts_short text job is =
-    let derived = jobs_derived text job is in
-    made_short derived.told job derived.makes (all_within text derived.told derived.lines).few_lines

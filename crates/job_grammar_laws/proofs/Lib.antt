@@ -11,6 +11,7 @@ mod Read
 mod Spacing
 mod Spellable
 mod Spelled
+mod Tellable
 mod Tests
 mod Tied
 mod Told

@@ -14,8 +14,9 @@ use Rattle.job_grammar_laws.specs.Grammar.{Asked, IsWord, MayAsk, MayJoin, Told,
 use Rattle.job_grammar_laws.specs.Grammar.{OfOrder, OfCall, OfOpen, OfClose, OfPeek, Says, Comment, Blank, Line, Text}
 use Rattle.job_grammar_laws.specs.Grammar.{LastLine, NextLine, group, kind_word, names, nothing_told, thread_count}
 use Rattle.job_grammar_laws.specs.Images.{IsSpelled}
-use Rattle.job_grammar_laws.specs.Written.{CanBeTold, IsAskable, IsWritable, line_count, line_for}
 use Rattle.job_grammar_laws.proofs.Spacing.{spaced_words}
+use Rattle.job_grammar_laws.specs.Spellable.{IsWritable}
+use Rattle.job_grammar_laws.proofs.Tellable.{CanBeTold, IsAskable, line_count, line_for}
 
 one_more : {X : Type 0} (xs : List X) (x : X) → length (xs ++ x ∷ []) ≡ length xs + 1
 one_more xs x = length-append xs (x ∷ [])

@@ -21,7 +21,6 @@ use Rattle.job_grammar_laws.specs.Derived.{HasName, IsAsked, IsJobOf, of_thread}
 use Rattle.job_grammar_laws.specs.Grammar.{Asked, Told, names, of_group, thread_count}
 use Rattle.job_grammar_laws.specs.Spellable.{AreNameable, IsSpellable, IsSpellableLine, TextsAreSpelled}
 use Rattle.job_grammar_laws.specs.Spellable.{mentioned}
-use Rattle.job_grammar_laws.specs.Written.{CanBeTold, IsAskable, IsWritable, line_for}
 use Rattle.job_grammar_laws.proofs.Apart.{AreApart, images_kept}
 use Rattle.job_grammar_laws.proofs.Counted.{behind_few, grouped, lines_few}
 use Rattle.job_grammar_laws.proofs.Jobs.{jobs_derived}
@@ -29,6 +28,8 @@ use Rattle.job_grammar_laws.proofs.Limits.{all_within}
 use Rattle.job_grammar_laws.proofs.Listed.{mentioned_told, mentions_named, name_at, name_mentioned, named_at, number_is}
 use Rattle.job_grammar_laws.proofs.Pairs.{AllZip-length}
 use Rattle.job_grammar_laws.proofs.Written.{told_written}
+use Rattle.job_grammar_laws.specs.Spellable.{IsWritable}
+use Rattle.job_grammar_laws.proofs.Tellable.{CanBeTold, IsAskable, line_for}
 
 -- ** lines of threads, one thread after the other
 

@@ -25,8 +25,9 @@ use Rattle.job_grammar_laws.specs.Grammar.{Text, LastLine, NextLine, group, kind
 use Rattle.job_grammar_laws.specs.Grammar.{thread_count}
 use Rattle.job_grammar_laws.specs.Images.{IsName, IsSpelled, letters}
 use Rattle.job_grammar_laws.specs.Numbers.{Writes}
-use Rattle.job_grammar_laws.specs.Written.{CanBeTold, IsAskable, IsWritable, line_for}
 use Rattle.job_grammar_laws.proofs.Tests.{digit_first}
+use Rattle.job_grammar_laws.specs.Spellable.{IsWritable}
+use Rattle.job_grammar_laws.proofs.Tellable.{CanBeTold, IsAskable, line_for}
 
 -- ** words
 

@@ -1,8 +1,8 @@
 -- The law of which jobs have a text.
-use Rattle.job_grammar_laws.specs.Written.{TextsTellAll}
 use Rattle.job_grammar_laws.proofs.Jobs.{derived_are_jobs, jobs_derived}
 use Rattle.job_grammar_laws.proofs.Limits.{all_within}
 use Rattle.job_grammar_laws.proofs.Writer.{goes}
+use Rattle.job_grammar_laws.proofs.Tellable.{TextsTellAll}
 
 pub told_written : TextsTellAll
 told_written job = (

@@ -1,6 +1,5 @@
 -- The laws: what images a text's job has; jobs that `IsJob` lets pass, but no text spells; how numbers are written.
-use Rattle.std.specs.Prelude.{◌≡◌, ◌≢◌, ◌≤◌, ◌↔◌, ◌+◌, ℕ, List, [], ◌∷◌, codes, length, Ok, Some}
-use Rattle.std.specs.List.{sum_by}
+use Rattle.std.specs.Prelude.{◌≡◌, ◌≢◌, ◌↔◌, ℕ, List, [], ◌∷◌, codes, Ok, Some}
 use Rattle.job_text.specs.Jobs.{IsJob, JobParts, job_of}
 use Rattle.link_faults.specs.declared.image_kind.ImageKind.TheVariants.{Exe, Late}
 use Rattle.job_text.specs.Numbers.{number}
@@ -10,11 +9,6 @@ use Rattle.job_grammar_laws.specs.Numbers.{Writes}
 -- the images of a job that a text spells
 abbrev pub ImagesAreSpelled : Type 0
 ImagesAreSpelled = (text : List ℕ) (job : JobParts) → job_of text ≡ Ok job → AreSpelled job.images
-
--- images and lines of threads are together no more than the lines of a text may be
-abbrev pub TextsAreShort : Type 0
-TextsAreShort = (text : List ℕ) (job : JobParts) → job_of text ≡ Ok job
-    → length job.images + sum_by length job.lines ≤ 65536
 
 -- two modules of one name
 abbrev pub two_of_one_name : JobParts

@@ -4,4 +4,3 @@ pub mod Images
 pub mod Laws
 pub mod Numbers
 pub mod Spellable
-pub mod Written

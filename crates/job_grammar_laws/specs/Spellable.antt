@@ -1,15 +1,34 @@
--- Which jobs have a text, part by part: what `IsJob` (job_text: `Jobs`) says of a job, and what it leaves out.
-use Rattle.std.specs.Prelude.{◌≡◌, ◌≢◌, ◌≤◌, ◌<◌, ◌+◌, ◌^◌, ◌==◌, ◌↔◌, ℕ, List, ◌++◌, length, if◌then◌else◌}
+-- Which jobs have a text, part by part. It watches the limits that `job_of` keeps (job_text: `Jobs`), and says what
+-- `IsJob` leaves out: words have a byte at least, and neither a space nor a line feed stands in one; images of a group
+-- are mentioned in their order; and there are no more lines than a text may have.
+use Rattle.std.specs.Prelude.{◌≡◌, ◌≢◌, ◌≤◌, ◌<◌, ◌+◌, ◌^◌, ◌==◌, ◌↔◌, ℕ, List, ◌++◌, length, Ok}
+use Rattle.std.specs.Prelude.{if◌then◌else◌}
 use Rattle.std.specs.List.{All, AllPairs, filter_map, sum_by}
 use Rattle.job_text.specs.Images.{IsImageNumber}
-use Rattle.job_text.specs.Jobs.{JobParts}
+use Rattle.job_text.specs.Jobs.{JobParts, job_of}
 use Rattle.job_text.specs.Numbering.{at_number}
 use Rattle.job_text.specs.Threads.{IsThread}
 use Rattle.job_text.specs.declared.images.Image.{Image}
+use Rattle.job_text.specs.declared.thread_lines.Action.{Action}
+use Rattle.job_text.specs.declared.thread_lines.Action.TheVariants.{Call, Open, Close, Peek}
 use Rattle.job_text.specs.declared.thread_lines.ThreadLine.{ThreadLine}
 use Rattle.job_grammar_laws.specs.Grammar.{IsWord, group, names, of_group}
 use Rattle.job_grammar_laws.specs.Images.{IsSpelled}
-use Rattle.job_grammar_laws.specs.Written.{HasText, IsWritable}
+
+-- a text spells the job
+abbrev pub HasText : JobParts → Type 0
+HasText job = (text : List ℕ) × (job_of text ≡ Ok job)
+
+-- the name of a symbol
+abbrev pub IsSymbol : List ℕ → Type 0
+IsSymbol symbol = IsWord symbol × (length symbol ≤ 255)
+
+-- what a line can say of what is done
+abbrev pub IsWritable : Action → Type 0
+IsWritable (Call symbol a b c) = IsSymbol symbol × (a < 2 ^ 64) × (b < 2 ^ 64) × (c < 2 ^ 64)
+IsWritable Open = Unit {0}
+IsWritable Close = Unit {0}
+IsWritable (Peek symbol n) = IsSymbol symbol × (n ≤ 4096)
 
 -- the images in the order in which a text has to name them
 abbrev pub mentioned : JobParts → List Image

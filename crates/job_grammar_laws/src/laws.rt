@@ -1,9 +1,8 @@
 //! Laws of the text of a job. Each function does nothing; what it ensures is the law.
 
 ghost use Rattle.job_grammar_laws.specs.Derived.{DerivedTextsAreJobs, JobsAreDerived, TextsDeriveOneJob};
-ghost use Rattle.job_grammar_laws.specs.Laws.{ImagesAreSpelled, NumbersAreWritten, SomeHaveNoText, TextsAreShort};
+ghost use Rattle.job_grammar_laws.specs.Laws.{ImagesAreSpelled, NumbersAreWritten, SomeHaveNoText};
 ghost use Rattle.job_grammar_laws.specs.Spellable.{TextsAreSpelled};
-ghost use Rattle.job_grammar_laws.specs.Written.{TextsTellAll};
 
 /// A text that derives a job spells that job.
 pub fn derived_texts_are_jobs()
@@ -20,12 +19,7 @@ pub fn texts_derive_one_job()
     ensures { TextsDeriveOneJob }
 {}
 
-/// Which jobs have a text: those that are made of what lines can tell.
-pub fn texts_tell_all()
-    ensures { TextsTellAll }
-{}
-
-/// The same part by part: images, mentions, numbers, words and how many lines there are.
+/// Exactly these jobs have a text: what holds of their images, mentions, numbers, words and lines.
 pub fn texts_are_spelled()
     ensures { TextsAreSpelled }
 {}
@@ -33,11 +27,6 @@ pub fn texts_are_spelled()
 /// The images of a job that a text spells: at most 64, each with a name and objects, no two of one name, in order.
 pub fn images_are_spelled()
     ensures { ImagesAreSpelled }
-{}
-
-/// A job that a text spells has no more images and lines of threads together than a text may have lines.
-pub fn texts_are_short()
-    ensures { TextsAreShort }
 {}
 
 /// Two images of one name have no text, nor has an image without objects.

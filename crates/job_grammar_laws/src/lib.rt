@@ -17,19 +17,19 @@
 //! the crate: **a text spells a job exactly where it derives it** ([`laws::derived_texts_are_jobs`],
 //! [`laws::jobs_are_derived`]), and it derives one at most ([`laws::texts_derive_one_job`]).
 //!
-//! So not everything that a `Job` may hold has a text. **A job has one exactly if it is made of what lines can tell**
-//! ([`laws::texts_tell_all`]; `specs/Written`): each name is a word, no two images share one, and there are no more
-//! lines than 65,536 ([`laws::texts_are_short`]). The proof writes that text (`proofs/Writer`). Two images of one name
-//! have none, nor has an image without objects ([`laws::some_have_no_text`]); of the images alone
-//! [`laws::images_are_spelled`] speaks (`specs/Images`). And numbers are written in two ways
+//! So not everything that a `Job` may hold has a text. **A job has one exactly where its parts can be spelled**
+//! ([`laws::texts_are_spelled`]; `specs/Spellable`): each name is a word, no two images share one, those of a group are
+//! mentioned in their order, and there are no more lines than 65,536. The proof writes that text (`proofs/Writer`).
+//! Two images of one name have none, nor has an image without objects ([`laws::some_have_no_text`]); of the images
+//! alone [`laws::images_are_spelled`] speaks (`specs/Images`). And numbers are written in two ways
 //! ([`laws::numbers_are_written`]): as they would be printed, or as `0x` and hexadecimal digits (`specs/Numbers`).
 //!
 //! First faults have no law here: what is reported is the first of a list of tests, line by line and kind by kind, and
 //! any second sentence would be that list again.
 //!
 //! The reader's types of kinds and slots have no name outside its crate, so the proofs tell a kind by words of a line
-//! that has it (`proofs/LineKinds`). They hold what is told against what the reader has declared (`proofs/Tied`), in one
-//! direction (`proofs/Told`) and the other (`proofs/Read`), line by line (`proofs/Lines`).
+//! that has it (`proofs/LineKinds`). They hold what is told against what the reader has declared (`proofs/Tied`), in
+//! one direction (`proofs/Told`) and the other (`proofs/Read`), line by line (`proofs/Lines`).
 #![tactic(auto)]
 
 pub mod laws;

@@ -1,26 +1,13 @@
--- Which jobs have a text: those that are made of what lines can tell. It watches the limits that `job_of` keeps, and
--- says what `IsJob` leaves out: words have a byte at least, a space or a line feed stands in none of them, and there
--- are no more lines than a text may have.
-use Rattle.std.specs.Prelude.{◌≡◌, ◌≢◌, ◌≤◌, ◌<◌, ◌+◌, ◌^◌, ◌↔◌, ℕ, List, length, Option, Some, None, Ok}
+-- What lines can tell, in the order of the text.
+use Rattle.std.specs.Prelude.{◌≡◌, ◌≢◌, ◌≤◌, ◌<◌, ◌+◌, ◌^◌, ◌↔◌, ℕ, List, length, Option, Some, None}
 use Rattle.std.specs.List.{All, AllPairs, Contains}
-use Rattle.job_text.specs.Jobs.{JobParts, job_of}
+use Rattle.job_text.specs.Jobs.{JobParts}
 use Rattle.job_text.specs.Threads.{IsThread}
 use Rattle.job_text.specs.declared.images.Image.{Image}
-use Rattle.job_text.specs.declared.thread_lines.Action.{Action}
-use Rattle.job_text.specs.declared.thread_lines.Action.TheVariants.{Call, Open, Close, Peek}
 use Rattle.job_grammar_laws.specs.Derived.{IsJobOf}
 use Rattle.job_grammar_laws.specs.Grammar.{Asked, IsWord, Told, group, names, thread_count}
 use Rattle.job_grammar_laws.specs.Images.{IsSpelled}
-
--- the name of a symbol
-abbrev pub IsSymbol : List ℕ → Type 0
-IsSymbol symbol = IsWord symbol × (length symbol ≤ 255)
-
-abbrev pub IsWritable : Action → Type 0
-IsWritable (Call symbol a b c) = IsSymbol symbol × (a < 2 ^ 64) × (b < 2 ^ 64) × (c < 2 ^ 64)
-IsWritable Open = Unit {0}
-IsWritable Close = Unit {0}
-IsWritable (Peek symbol n) = IsSymbol symbol × (n ≤ 4096)
+use Rattle.job_grammar_laws.specs.Spellable.{HasText, IsWritable}
 
 -- a line of a thread that there is, about an image that there is
 pub record IsAskable (told : Told) (asked : Asked) : Type 0 where
@@ -52,9 +39,6 @@ pub record CanBeTold (told : Told) : Type 0 where
   pub asked : All (IsAskable told) told.asked
   pub few_lines : line_count told ≤ 65536
 
--- a text spells the job
-abbrev pub HasText : JobParts → Type 0
-HasText job = (text : List ℕ) × (job_of text ≡ Ok job)
-
+-- a job has a text exactly if it is made of that
 abbrev pub TextsTellAll : Type 0
 TextsTellAll = (job : JobParts) → HasText job ↔ ((told : Told) × CanBeTold told × IsJobOf told job)
