@@ -1,5 +1,6 @@
 pub mod Apart
 mod Counted
+mod Example
 mod Jobs
 mod Limits
 pub mod LineKinds

@@ -264,7 +264,7 @@ module _ (number : ℕ) (told : Told) (d : Declared) (words : List (List ℕ)) (
         record told { asked = told.asked ++ record { thread = n.0; image = word_at 2 words; action = done } ∷ [] },
         OfCall (record { thread = n.0; image = word_at 2 words; action = done }) (word_at 0 words) (word_at 3 words)
             (word_at 4 words) (word_at 5 words) (word_at 6 words) a.0 b.0 c.0
-            (seven words (codes "call") verb (eqb-true (length words) 7 has.0)) refl
+            (seven words (codes "call") verb (eqb-true (length words) 7 has.0)) (refl {a = done})
             (asks n.0 done n.1 n.2 n.3 named.1) (short_is (word_at 3 words) named.0) a.1 b.1 c.1,
         has.1,
       )

@@ -42,7 +42,7 @@ marks_tested (b ∷ bytes) e =
     All-cons IsMark b bytes (leb-true 33 b ends.0, leb-true b 126 ends.1) (marks_tested bytes parts.1)
 
 -- a word that is written out
-fixed : (word : List ℕ) → 1 ≤ length word → list_all is_mark word ≡ true → IsWord word
+pub fixed : (word : List ℕ) → 1 ≤ length word → list_all is_mark word ≡ true → IsWord word
 fixed word some e = record { some = some; marks = marks_tested word e }
 
 kind_is_word : (kind : ImageKind) → IsWord (kind_word kind)
@@ -80,11 +80,11 @@ small_number n small = omega (arith, small)
 -- ** a line
 
 -- words, with a space between each two
-abbrev spell : List ℕ → List (List ℕ) → List ℕ
+abbrev pub spell : List ℕ → List (List ℕ) → List ℕ
 spell first [] = first
 spell first (word ∷ words) = first ++ 32 ∷ spell word words
 
-spelled : (first : List ℕ) (words : List (List ℕ)) → All IsWord (first ∷ words) → Spaced (spell first words)
+pub spelled : (first : List ℕ) (words : List (List ℕ)) → All IsWord (first ∷ words) → Spaced (spell first words)
     (first ∷ words)
 spelled first [] are = Last first (All-head IsWord first [] are)
 spelled first (word ∷ words) are =
@@ -94,7 +94,7 @@ spelled first (word ∷ words) are =
 no_feeds : (word : List ℕ) → IsWord word → All (λ b. b ≢ 10) word
 no_feeds word is = All-weaker IsMark (λ b. b ≢ 10) (λ b mark e. omega (arith, mark.0, e)) word is.marks
 
-one_line : (first : List ℕ) (words : List (List ℕ)) → All IsWord (first ∷ words) → All (λ b. b ≢ 10) (spell first words)
+pub one_line : (first : List ℕ) (words : List (List ℕ)) → All IsWord (first ∷ words) → All (λ b. b ≢ 10) (spell first words)
 one_line first [] are = no_feeds first (All-head IsWord first [] are)
 one_line first (word ∷ words) are =
     All-append (λ (b : ℕ). b ≢ 10) first (32 ∷ spell word words)
@@ -105,17 +105,17 @@ one_line first (word ∷ words) are =
 -- ** lines
 
 -- a text tells what is told in the end, from what was told before its line of this number
-abbrev Goes : ℕ → Told → Told → Type 0
+abbrev pub Goes : ℕ → Told → Told → Type 0
 Goes number told after = (text : List ℕ) × Text number told text after
 
-ends : (number : ℕ) (told : Told) → Goes number told told
+abbrev pub ends : (number : ℕ) (told : Told) → Goes number told told
 ends number told = (
   [],
   LastLine number told [] told (All-nil (λ (b : ℕ). b ≢ 10))
       (Blank (All-nil (λ (b : ℕ). b ≡ 32))),
 )
 
-next : (number : ℕ) (told between after : Told) (first : List ℕ) (words : List (List ℕ)) → number ≤ 65536
+abbrev pub next : (number : ℕ) (told between after : Told) (first : List ℕ) (words : List (List ℕ)) → number ≤ 65536
     → All IsWord (first ∷ words) → Tells told (first ∷ words) between → Goes (number + 1) between after
     → Goes number told after
 next number told between after first words few are tells rest = (

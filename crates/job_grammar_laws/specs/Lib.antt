@@ -1,4 +1,5 @@
 pub mod Derived
+pub mod Example
 pub mod Grammar
 pub mod Images
 pub mod Laws

@@ -1,6 +1,7 @@
 //! Laws of the text of a job. Each function does nothing; what it ensures is the law.
 
 ghost use Rattle.job_grammar_laws.specs.Derived.{DerivedTextsAreJobs, JobsAreDerived, TextsDeriveOneJob};
+ghost use Rattle.job_grammar_laws.specs.Example.{ExampleIsDerived};
 ghost use Rattle.job_grammar_laws.specs.Laws.{ImagesAreSpelled, NumbersAreWritten, SomeHaveNoText};
 ghost use Rattle.job_grammar_laws.specs.Spellable.{TextsAreSpelled};
 
@@ -17,6 +18,11 @@ pub fn jobs_are_derived()
 /// A text derives one job at most.
 pub fn texts_derive_one_job()
     ensures { TextsDeriveOneJob }
+{}
+
+/// Four lines derive a job.
+pub fn example_is_derived()
+    ensures { ExampleIsDerived }
 {}
 
 /// Exactly these jobs have a text: what holds of their images, mentions, numbers, words and lines.

@@ -15,7 +15,8 @@
 //! A job is made of that at the end (`specs/Derived`): the program comes first, then images that start with it, then
 //! late ones, each group in the order of the text; and each name is the number of the image that has it. The rule of
 //! the crate: **a text spells a job exactly where it derives it** ([`laws::derived_texts_are_jobs`],
-//! [`laws::jobs_are_derived`]), and it derives one at most ([`laws::texts_derive_one_job`]).
+//! [`laws::jobs_are_derived`]), and it derives one at most ([`laws::texts_derive_one_job`]). `specs/Example` has four
+//! lines and their job.
 //!
 //! So not everything that a `Job` may hold has a text. **A job has one exactly where its parts can be spelled**
 //! ([`laws::texts_are_spelled`]; `specs/Spellable`): each name is a word, no two images share one, those of a group are
