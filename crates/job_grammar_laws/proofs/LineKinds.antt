@@ -116,7 +116,7 @@ module _ (words : List (List ℕ)) where
       (λ _. pick (λ h. (k : Kind) × (h ≡ heading_of (sample k)) × Begins k words)
       (bytes_eq (word_at 0 words) (codes "order")) _ _ (λ e. (Order, refl, same (word_at 0 words) (codes "order") e))
       (λ _. pick (λ h. (k : Kind) × (h ≡ heading_of (sample k)) × Begins k words)
-      (begins_with_digit (word_at 0 words)) _ _ (λ _. pick (λ h. (k : Kind) ×
-      (h ≡ heading_of (sample k)) × Begins k words)
+      (begins_with_digit (word_at 0 words)) _ _
+      (λ _. pick (λ h. (k : Kind) × (h ≡ heading_of (sample k)) × Begins k words)
       (nat_lt (length words) 2) _ _ (λ _. (Short, refl, tt)) (λ _. verb_is))
       (λ _. (Other, refl, tt))))))

@@ -277,18 +277,12 @@ module _ (number : ℕ) (told : Told) (d : Declared) (words : List (List ℕ)) (
       (is_none (slot_of d (word_at 2 words))) false none in
       let has = has_words (length words == 3) number parts.0 in
       let numbers = neither (is_none (number_within 1 (length d.lines) (word_at 0 words))) false parts.1 in
-      let n = within_writes 1 (length d.lines) (word_at 0 words) numbers.0 in (
-        record told {
-          asked = told.asked ++ record {
-            thread = n.0;
-            image = word_at 2 words;
-            action =
-                action.Open;
-          } ∷ [];
-        },
-        OfOpen (record { thread = n.0; image = word_at 2 words; action = action.Open }) (word_at 0 words)
+      let n = within_writes 1 (length d.lines) (word_at 0 words) numbers.0 in
+      let done : Action = action.Open in (
+        record told { asked = told.asked ++ record { thread = n.0; image = word_at 2 words; action = done } ∷ [] },
+        OfOpen (record { thread = n.0; image = word_at 2 words; action = done }) (word_at 0 words)
             (three words (codes "open") verb (eqb-true (length words) 3 has.0)) refl
-            (asks n.0 action.Open n.1 n.2 n.3 parts.2),
+            (asks n.0 done n.1 n.2 n.3 parts.2),
         has.1,
       )
 
@@ -300,18 +294,12 @@ module _ (number : ℕ) (told : Told) (d : Declared) (words : List (List ℕ)) (
       (is_none (slot_of d (word_at 2 words))) false none in
       let has = has_words (length words == 3) number parts.0 in
       let numbers = neither (is_none (number_within 1 (length d.lines) (word_at 0 words))) false parts.1 in
-      let n = within_writes 1 (length d.lines) (word_at 0 words) numbers.0 in (
-        record told {
-          asked = told.asked ++ record {
-            thread = n.0;
-            image = word_at 2 words;
-            action =
-                action.Close;
-          } ∷ [];
-        },
-        OfClose (record { thread = n.0; image = word_at 2 words; action = action.Close }) (word_at 0 words)
+      let n = within_writes 1 (length d.lines) (word_at 0 words) numbers.0 in
+      let done : Action = action.Close in (
+        record told { asked = told.asked ++ record { thread = n.0; image = word_at 2 words; action = done } ∷ [] },
+        OfClose (record { thread = n.0; image = word_at 2 words; action = done }) (word_at 0 words)
             (three words (codes "close") verb (eqb-true (length words) 3 has.0)) refl
-            (asks n.0 action.Close n.1 n.2 n.3 parts.2),
+            (asks n.0 done n.1 n.2 n.3 parts.2),
         has.1,
       )
 

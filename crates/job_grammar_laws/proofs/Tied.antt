@@ -230,8 +230,8 @@ threads_tied told d n v tied none some same = record {
       omega (arith, one, same, some, nothing_more d.lines (v - 1));
   fuel = tied.fuel;
   order = tied.order;
-  lines = λ i. subst (λ plans. AllZip (λ plan asked. (slot_of d asked.image ≡ Some plan.slot) ×
-      (plan.action ≡ asked.action))
+  lines = λ i. subst (λ plans. AllZip (λ plan asked. (slot_of d asked.image ≡ Some plan.slot)
+      × (plan.action ≡ asked.action))
       plans (of_thread (i + 1) told.asked)) (sym (nothing_behind d.lines (v - 1) i)) (tied.lines i);
 }
 
@@ -299,8 +299,8 @@ asked_tied told d asked plan v new is tied same some few stands does =
     by i true e =
         let at : v - 1 ≡ i = omega (arith, same, eqb-true asked.thread (i + 1) e) in
         let inside : i < length d.lines = omega (arith, at, same, some, few) in
-        subst₂ (λ plans asks. AllZip (λ plan asked. (slot_of d asked.image ≡ Some plan.slot) ×
-        (plan.action ≡ asked.action))
+        subst₂ (λ plans asks. AllZip (λ plan asked. (slot_of d asked.image ≡ Some plan.slot)
+        × (plan.action ≡ asked.action))
         plans asks)
         (sym (ap (λ k. get_or (slice_set d.lines k (get_or d.lines k [] ++ plan ∷ [])) i []) at
         ∙ get_or-set_same d.lines i (get_or d.lines i [] ++ plan ∷ []) [] inside))
@@ -308,8 +308,8 @@ asked_tied told d asked plan v new is tied same some few stands does =
         (AllZip-more (λ plan asked. (slot_of d asked.image ≡ Some plan.slot) × (plan.action ≡ asked.action))
         (get_or d.lines i []) (of_thread (i + 1) told.asked) plan asked (tied.lines i) (stands, does))
     by i false e =
-        subst₂ (λ plans asks. AllZip (λ plan asked. (slot_of d asked.image ≡ Some plan.slot) ×
-        (plan.action ≡ asked.action))
+        subst₂ (λ plans asks. AllZip (λ plan asked. (slot_of d asked.image ≡ Some plan.slot)
+        × (plan.action ≡ asked.action))
         plans asks)
         (sym (get_or-set_other d.lines (v - 1) i (get_or d.lines (v - 1) [] ++ plan ∷ []) []
         (λ same_place. omega (arith, same, some, same_place, eqb-false asked.thread (i + 1) e))))
