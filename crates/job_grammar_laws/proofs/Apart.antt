@@ -74,11 +74,11 @@ apart_more (x ∷ xs) ys one is new are =
 
 -- ** what a line without a fault is
 
-neither : (a b : Bool) → (a || b) ≡ false → (a ≡ false) × (b ≡ false)
+pub neither : (a b : Bool) → (a || b) ≡ false → (a ≡ false) × (b ≡ false)
 neither true b e = absurd (false≢true (sym e))
 neither false b e = (refl, e)
 
-unless_not : (a : Bool) → not a ≡ false → a ≡ true
+pub unless_not : (a : Bool) → not a ≡ false → a ≡ true
 unless_not true e = refl
 unless_not false e = absurd (false≢true (sym e))
 
@@ -121,7 +121,7 @@ no_program : (name : List ℕ) (program : Option Image) → program_slot name pr
 no_program name None e = tt
 no_program name (Some image) e = (unless_some (is_named name image) _ e, tt)
 
-is_none_is : {X : Type 0} (o : Option X) → is_some o ≡ false → o ≡ None
+pub is_none_is : {X : Type 0} (o : Option X) → is_some o ≡ false → o ≡ None
 is_none_is None e = refl
 is_none_is (Some x) e = absurd (false≢true (sym e))
 
@@ -165,7 +165,7 @@ with_one Late one d none is new are =
     ∙ ap (λ xs. of_program d.program ++ xs) (append_assoc d.starts d.lates (one ∷ [])) in
     subst AreApart end (apart_more all [] one is (subst (Differs one.name) front new) (subst AreApart front are))
 
-counted : (k : ImageKind) (one : Image) (d : Declared) → (is_program k && is_some d.program) ≡ false
+pub counted : (k : ImageKind) (one : Image) (d : Declared) → (is_program k && is_some d.program) ≡ false
     → image_count (with_image one k d) ≡ image_count d + 1
 counted Exe one d none = rw none (omega arith)
 counted Pie one d none = rw none (omega arith)
@@ -280,7 +280,7 @@ of_declared (Some program) d job e are few =
     same : (x y : JobParts) → ◌≡◌ {A = Result JobParts JobFault} (Ok x) (Ok y) → x ≡ y
     same x y e = cc
 
-past_fault : (number : ℕ) (fault : Option JobFaultKind) (rest : Result JobParts JobFault) (job : JobParts)
+pub past_fault : (number : ℕ) (fault : Option JobFaultKind) (rest : Result JobParts JobFault) (job : JobParts)
     → fault_or number fault rest ≡ Ok job → (fault ≡ None) × (rest ≡ Ok job)
 past_fault number None rest job is = (refl, is)
 past_fault number (Some kind) rest job is = absurd (cc is)

@@ -40,7 +40,7 @@ at_place (suc n) byte e lt =
     ]
 
 -- no digit stands past `z`
-value_past : (byte : ℕ) → 123 ≤ byte → digit_value byte ≡ 36
+pub value_past : (byte : ℕ) → 123 ≤ byte → digit_value byte ≡ 36
 value_past byte le =
     rw (
       le-ltb byte 48 (omega arith),

@@ -113,7 +113,7 @@ objects_short (object ∷ more) e = by (is_short_name object) refl (objects_shor
         All-cons (λ (object : List ℕ). length object ≤ 255) object more (leb-true (length object) 255 h) (later e)
     by false h later e = absurd (false≢true (sym e))
 
-spelled : (image : Image) → IsTold image → IsSpelled image
+pub spelled : (image : Image) → IsTold image → IsSpelled image
 spelled image told = record {
   name = name_spelled image.name told.name;
   objects = told.objects;

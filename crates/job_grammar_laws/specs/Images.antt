@@ -1,6 +1,6 @@
 -- Which images a text can spell. It watches what `job_of` makes of image lines (job_text: `Grammar`, `LineFaults`,
 -- `LineEffects` and `Jobs`), in the words of the guide: "a name of an image has 1 to 64 letters, digits, `_`, `.` and
--- `-`; names of objects have 1 to 255 bytes; there are at most 64 images". That a word has a byte at all is no law yet.
+-- `-`; names of objects have 1 to 255 bytes; there are at most 64 images". That words have bytes, `Spellable` says.
 use Rattle.std.specs.Prelude.{◌≡◌, ◌≢◌, ◌≤◌, ℕ, List, ◌∷◌, ◌++◌, length, codes}
 use Rattle.std.specs.List.{All, AllPairs, Contains}
 use Rattle.job_text.specs.declared.images.Image.{Image}
