@@ -94,7 +94,8 @@ spelled first (word ∷ words) are =
 no_feeds : (word : List ℕ) → IsWord word → All (λ b. b ≢ 10) word
 no_feeds word is = All-weaker IsMark (λ b. b ≢ 10) (λ b mark e. omega (arith, mark.0, e)) word is.marks
 
-pub one_line : (first : List ℕ) (words : List (List ℕ)) → All IsWord (first ∷ words) → All (λ b. b ≢ 10) (spell first words)
+pub one_line : (first : List ℕ) (words : List (List ℕ)) → All IsWord (first ∷ words)
+    → All (λ b. b ≢ 10) (spell first words)
 one_line first [] are = no_feeds first (All-head IsWord first [] are)
 one_line first (word ∷ words) are =
     All-append (λ (b : ℕ). b ≢ 10) first (32 ∷ spell word words)
