@@ -7,6 +7,7 @@ use Rattle.image_rules.specs.declared.places.FileKind.{FileKind}
 use Rattle.image_rules.specs.declared.places.FileKind.TheVariants.{Exe, Pie, Module}
 use Rattle.image_rules.specs.declared.rule.Rule.{Rule}
 use Rattle.image_rules.specs.declared.rule.Rule.TheVariants.{Length, Ident, Field, Extent, Segment, Entry, Table}
+use Rattle.image_rules.specs.declared.rule.TableRule.TheVariants as table
 use Rattle.image_rules.specs.declared.rule.FieldRule.{FieldRule}
 use Rattle.image_rules.specs.declared.rule.FieldRule.TheVariants.{FileType, Machine, Version, TableOffset, EntrySize}
 use Rattle.image_rules.specs.declared.rule.FieldRule.TheVariants.{Count}
@@ -77,4 +78,7 @@ keeps_ten f o read loadable holds long (Field rule) below e broken =
 keeps_ten f o read loadable holds long Extent below e broken = passes_nowhere f o read loadable holds long broken.1
 keeps_ten f o read loadable holds long Segment below e broken = right_segments f o e read loadable broken
 keeps_ten f o read loadable holds long (Entry rule) below e broken = omega arith
-keeps_ten f o read loadable holds long (Table rule) below e broken = omega arith
+keeps_ten f o read loadable holds long (Table table.Symbol) below e broken = omega arith
+keeps_ten f o read loadable holds long (Table table.Relocation) below e broken = omega arith
+keeps_ten f o read loadable holds long (Table table.TlsSymbol) below e broken = omega arith
+keeps_ten f o read loadable holds long (Table table.TlsRelocation) below e broken = omega arith

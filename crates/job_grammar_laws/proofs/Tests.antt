@@ -2,7 +2,7 @@
 use Rattle.std.proofs.Common.{◌≡◌, ◌≢◌, ◌∙◌, ◌⊎◌, ℕ, zero, suc, ◌<◌, ◌≤◌, Bool, true, false, not, ◌&&◌, ◌||◌}
 use Rattle.std.proofs.Common.{cond, List, [], ◌∷◌, length, drop, Option, Some, None, is_none}
 use Rattle.std.proofs.Common.{unwrap_or, inl, inr, refl, sym, ap, subst, arith, le-leb, le-ltb, leb-true, ltb-false}
-use Rattle.std.specs.Prelude.{codes, nat_le, nat_lt}
+use Rattle.std.specs.Prelude.{codes, if◌then◌else◌, nat_le, nat_lt, option_and_then}
 use Rattle.std.specs.Char.{digit_value}
 use Rattle.std.specs.Fmt.{decimal}
 use Rattle.std.specs.List.{All, Contains, list_all, list_any}
@@ -14,7 +14,7 @@ use Rattle.std.proofs.lemmas.List.Elements.{All-cons, All-contains, All-head, Al
 use Rattle.std.proofs.lemmas.Slice.Eq.{bytes_eq-Decides}
 use Rattle.job_text.specs.Grammar.{begins_with_digit, has_name_bytes, has_name_length, heading_of, is_digit_byte}
 use Rattle.job_text.specs.Grammar.{is_image_name, is_name_byte, is_short_name, verb_heading}
-use Rattle.job_text.specs.Numbers.{if_within, number, number_within}
+use Rattle.job_text.specs.Numbers.{number, number_within}
 use Rattle.job_text.specs.Words.{word_at}
 use Rattle.job_text.specs.declared.fault.JobFaultKind.TheVariants as kind
 use Rattle.job_grammar_laws.specs.Images.{IsName, letters}
@@ -49,6 +49,9 @@ has_words false number e = absurd (false≢true (sym e))
 has_words true number e = (refl, ltb-false 65536 number e)
 
 -- ** numbers
+
+abbrev if_within : ℕ → ℕ → Option ℕ → Option ℕ
+if_within low high = option_and_then (λ value. if nat_le low value && nat_le value high then Some value else None)
 
 pub within_read : (low high : ℕ) (word : List ℕ) (n : ℕ) → Writes word n → low ≤ n → n ≤ high
     → number_within low high word ≡ Some n
