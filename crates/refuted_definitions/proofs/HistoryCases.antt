@@ -8,12 +8,13 @@ use Rattle.module_table.specs.declared.events.Event.{Event}
 use Rattle.module_table.specs.declared.events.OpenRefusal.{OpenRefusal}
 use Rattle.module_table.specs.declared.events.OpenRefusal.TheVariants.{StaticFull, Unknown}
 use Rattle.module_table.specs.declared.modules.ImageInfo.{ImageInfo}
+use Rattle.module_table.specs.History.{IsLegal}
 use Rattle.module_table.specs.Modules.{AreInfos, IsInfo}
 use Rattle.module_table.specs.Past.{Past, accepts, after_one, close_refusal, is_legal, least_free, loaded, open_refusal}
 use Rattle.module_table.specs.Past.{opened, past, released, retained, start}
 use Rattle.line_laws.specs.Histories.{ClosesAreRuled, HistoriesHaveAccounts, IsCloseAnswer, IsOpenAnswer, OpensAreRuled}
 use Rattle.refuted_definitions.proofs.Only.{one_answer}
-use Rattle.refuted_definitions.specs.Histories.{ClosesAreRuledBy, HistoriesAreRefuted, OpensAreRuledBy}
+use Rattle.refuted_definitions.specs.Histories.{ClosesAreRuledBy, HistoriesAreRefuted, IsLegalBy, OpensAreRuledBy}
 use Rattle.refuted_definitions.specs.Histories.{is_legal as is_legal_by, past as past_by}
 
 -- ** an image that starts with the program, and a late one whose blocks fill the surplus
@@ -55,14 +56,16 @@ module _ (accounts : HistoriesHaveAccounts) (law : OpensAreRuled) (wrong_open : 
       → open_refusal (past infos 0 events) image
       ≡ wrong_open (past_by wrong_open close_refusal wrong_after infos 0 events) image
   same_open events image legal also =
-      let is = record { images = are_infos; low = omega arith; each = legal } in
+      let is : IsLegal infos 0 events = record { images = are_infos; low = omega arith; each = legal } in
+      let is_too : IsLegalBy wrong_open close_refusal wrong_after infos 0 events =
+      record { images = are_infos; low = omega arith; each = also } in
       let it = accounts infos 0 events is in
       one_answer
       (IsOpenAnswer infos 0 events (it.0 (length events)) (it.1.0 (length events)) image)
       (open_refusal (past infos 0 events) image)
       (wrong_open (past_by wrong_open close_refusal wrong_after infos 0 events) image)
       (law infos 0 events it.0 it.1.0 image is it.1.1)
-      (wrong infos 0 events it.0 it.1.0 image (record { images = are_infos; low = omega arith; each = also }) it.1.1)
+      (wrong infos 0 events it.0 it.1.0 image is_too it.1.1)
 
 module _ (law : ClosesAreRuled) (wrong_close : Past → ℕ → Option CloseRefusal) (wrong_after : Past → Event → Past)
     (wrong : ClosesAreRuledBy open_refusal wrong_close wrong_after) where

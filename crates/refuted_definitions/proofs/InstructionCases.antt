@@ -14,6 +14,7 @@ use Rattle.amd64_subset.specs.declared.row.Group.TheVariants as group
 use Rattle.guest_arithmetic.specs.declared.cause.Cause.{Cause}
 use Rattle.guest_arithmetic.specs.declared.effect.Change.{Change}
 use Rattle.guest_arithmetic.specs.declared.effect.Change.TheVariants.{Set, Unsettled, Kept}
+use Rattle.guest_arithmetic.specs.declared.effect.Changes.{Changes}
 use Rattle.guest_arithmetic.specs.declared.effect.Effect.{Effect}
 use Rattle.guest_arithmetic.specs.declared.flags.Flags.{Flags}
 use Rattle.guest_arithmetic.specs.Arithmetic.{bit_out, compute_effect, difference_effect, product_effect, product_fits}
@@ -85,7 +86,7 @@ flags zero sign overflow = record { zero = zero; sign = sign; carry = false; ove
 no_clearing : FlagsChange → FlagsChangeBy with_clear_changes → ⊥
 unfolding with_changes plain_operations
 no_clearing law wrong =
-    let changes = record { zero = Unsettled; sign = Kept; carry = Kept; overflow = Kept } in
+    let changes : Changes = record { zero = Unsettled; sign = Kept; carry = Kept; overflow = Kept } in
     let before = flags true false false in
     let e = one_answer (Become changes before) (with_changes plain_operations changes before)
     (with_clear_changes changes before) (law changes before) (wrong changes before) in

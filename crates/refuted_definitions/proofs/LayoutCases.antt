@@ -10,11 +10,11 @@ use Rattle.tls_layout.specs.declared.sections.Section.{Section}
 use Rattle.tls_layout.specs.declared.statics.TlsSize.{TlsSize}
 use Rattle.tls_layout.specs.Places.{address_at, address_by, end_after, end_of, executable, initial_data, initial_tls}
 use Rattle.tls_layout.specs.Places.{offset_at}
-use Rattle.tls_layout.specs.Places.{place_in, read_only, tls_image, zero_data, zero_tls}
+use Rattle.tls_layout.specs.Places.{place_in, read_only, tls_alignment, tls_image, zero_data, zero_tls}
 use Rattle.tls_layout.specs.Rounding.{page_up, round_up}
 use Rattle.tls_layout.specs.Sections.{section_at}
 use Rattle.tls_layout.specs.Statics.{tls_offset}
-use Rattle.layout_laws.specs.Layout.{AddressesAreOnly, AreAligned, BlocksAreOnly, OffsetsAreOnly}
+use Rattle.layout_laws.specs.Layout.{AddressesAreOnly, AreAligned, BlocksAreOnly, OffsetsAreOnly, SegmentsAreLeast}
 use Rattle.refuted_definitions.specs.Layout.{AddressesAreOnlyBy, BlocksAreOnlyBy, LayoutsAreRefuted, OffsetsAreOnlyBy}
 use Rattle.refuted_definitions.specs.Layout.{SegmentsAreLeastBy, address_by as copy_by, last_alignment}
 use Rattle.refuted_definitions.specs.Layout.{offset_from_start, offset_without_size}
@@ -67,6 +67,10 @@ module _ (law : BlocksAreOnly) (wrong_offset : List TlsSize → ℕ → ℕ) (wr
   same_block : wrong_offset (block ∷ []) 1 ≡ tls_offset (block ∷ []) 1
   same_block = (law (block ∷ []) block_aligned (wrong_offset (block ∷ []))).0
       ((wrong (block ∷ []) block_aligned (wrong_offset (block ∷ []))).1 (λ m low. refl)) 1 (omega arith)
+
+-- the statement is the law's
+right_segments : SegmentsAreLeast → SegmentsAreLeastBy tls_alignment
+right_segments law = law
 
 no_last : SegmentsAreLeastBy last_alignment → ⊥
 unfolding end_of initial_tls zero_tls round_up

@@ -25,9 +25,12 @@ use Rattle.transcript_text.specs.declared.outcomes.Outcome.TheVariants.{Bytes, R
 use Rattle.thread_blocks.specs.Held.{looked, looked_at, reached_at}
 use Rattle.thread_blocks.specs.Instances.{Loads, fixed_at, instance_at, instances_in}
 use Rattle.thread_blocks.specs.Lines.{Line, begin_line}
-use Rattle.thread_blocks.specs.RunTime.{Runs, thread_accesses, thread_steps, thread_turns}
+use Rattle.thread_blocks.specs.RunTime.{Runs, shows, thread_accesses, thread_steps, thread_turns}
 use Rattle.thread_blocks.specs.Spaces.{space_accesses}
 use Rattle.thread_blocks.specs.Turns.{Answered, Begun, Calls, Ending, Said, Says, Stopped}
+use Rattle.whole_meaning.specs.Meanings.{Meaning}
+use Rattle.line_laws.specs.Counted.{MachineStepsAreCounted}
+use Rattle.line_laws.specs.Printed.{FirstLooksAreRuled}
 use Rattle.refuted_definitions.specs.Lines.{FirstLooksBy, LinesAreRefuted, MachineStepsBy, begin_by, turns_of_sum}
 
 -- ** one program, in whose blocks a variable has its only byte; one function, where there is no code
@@ -86,6 +89,17 @@ legal function = record {
     late_last zero j d lt within late = absurd cc
     late_last (suc zero) j d lt within late = absurd (omega (arith, lt, within))
     late_last (suc (suc i)) j d lt within late = absurd (omega (arith, lt, within))
+
+-- ** the statements are the laws'
+
+right_looks : FirstLooksAreRuled → Meaning
+    → FirstLooksBy (λ l thread line seen h. begin_line plain_operations l (shows l thread) thread line seen h)
+unfolding thread_turns
+right_looks law m l thread line seen legal h = (law l m thread 0 line seen).0 legal h
+
+right_steps : MachineStepsAreCounted → MachineStepsBy thread_turns
+right_steps law l thread fuel line todo h earlier seen first more =
+    let it = law l thread fuel line todo h earlier seen first more in record { taken = it.taken; said = it.said }
 
 -- ** what a first look says
 

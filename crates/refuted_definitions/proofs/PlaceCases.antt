@@ -1,6 +1,7 @@
 -- A law over a wrong definition says what is not so of one address, or of one block.
 use Rattle.std.proofs.Common.{◌≡◌, ◌^◌, ℕ, List, [], ◌∷◌, Some, None, refl, ap, arith, true, false}
 use Rattle.std.specs.Prelude.{nat_le, nat_lt, slice_index_or, ◌==◌}
+use Rattle.address_map.specs.Laws.{moved_addresses_tell}
 use Rattle.address_map.specs.Map.{moved_bias, owner_at}
 use Rattle.image_file.specs.declared.part.TlsPart.{TlsPart}
 use Rattle.image_file.specs.Spelled.{Spelled}
@@ -46,6 +47,10 @@ no_early_end : FreshBlocksBy (block_by filled initial_size) → ⊥
 unfolding image_at
 no_early_end wrong =
     let e : false ≡ true = ap (λ (n : ℕ). n == 0) (ap first (wrong job program image tls refl refl)) in cc
+
+-- the statement is the law's
+right_addresses : MovedAddressesBy moved_bias owner_at
+right_addresses = moved_addresses_tell
 
 no_half : MovedAddressesBy moved_bias (owner_by nat_lt (2 ^ 25)) → ⊥
 no_half wrong = let e : false ≡ true = ap (λ (n : ℕ). n == 1) (wrong 1 4362076160 (omega arith) (omega arith)) in cc

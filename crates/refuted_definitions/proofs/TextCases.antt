@@ -5,6 +5,7 @@ use Rattle.std.specs.Fmt.{char_count, digits, padded_integral}
 use Rattle.std.specs.List.{All, list_any}
 use Rattle.std.proofs.lemmas.List.Elements.{All-cons, All-nil}
 use Rattle.link_faults.specs.declared.image_kind.ImageKind.TheVariants.{Exe}
+use Rattle.job_text.specs.Drafts.{slot_among}
 use Rattle.job_text.specs.Grammar.{heading_of, kind_heading}
 use Rattle.job_text.specs.Jobs.{JobParts, job_from, job_of}
 use Rattle.job_text.specs.LineEffects.{with_text}
@@ -16,13 +17,15 @@ use Rattle.transcript_text.specs.declared.outcomes.Line.{Line}
 use Rattle.transcript_text.specs.declared.outcomes.LineFault.TheVariants.{Code, Steps}
 use Rattle.transcript_text.specs.declared.outcomes.Outcome.{Outcome}
 use Rattle.transcript_text.specs.declared.outcomes.Outcome.TheVariants.{Closed, Fault, Returned}
-use Rattle.transcript_text.specs.Texts.{Shown, points_text}
+use Rattle.transcript_text.specs.Texts.{Shown, points_text, transcript_text}
 use Rattle.job_grammar_laws.specs.Laws.{NumbersAreWritten}
+use Rattle.transcript_laws.specs.Laws.{TextsDetermineTranscripts, TranscriptsAreRead}
 use Rattle.transcript_laws.specs.Laws.{FitsEvent, FitsLine, FitsOutcome, FitsThread, IsOver, IsWord}
 use Rattle.transcript_laws.specs.Numerals.{read_behind}
 use Rattle.transcript_laws.specs.Reader.{event_said, first_said, line_said, numbers_in, opens_in}
 use Rattle.transcript_laws.specs.Reader.{outcome_of_one, outcome_of_two}
-use Rattle.refuted_definitions.specs.Texts.{NumbersAreWrittenBy, TextsAreRefuted}
+use Rattle.refuted_definitions.specs.Texts.{NumbersAreWrittenBy, TextsAreRefuted, TextsDetermineTranscriptsBy}
+use Rattle.refuted_definitions.specs.Texts.{TranscriptsAreReadBy}
 
 -- ** numbers: where the word is read by the right definition, it is so by the wrong one
 
@@ -49,7 +52,7 @@ job = record {
 }
 
 is_job : job_of text ≡ Ok job
-unfolding job job_of job_from fault_of heading_of kind_heading with_text words_of
+unfolding job job_of job_from fault_of heading_of kind_heading with_text words_of slot_among
 is_job = refl
 
 abbrev line : Outcome → Line
@@ -92,6 +95,14 @@ closes = record {
       (record { thread = omega arith; line = omega arith; image = (omega arith, omega arith) })
       (All-nil (FitsEvent job.images));
 }
+
+-- ** the statements are the laws'
+
+right_reading : TranscriptsAreRead → TranscriptsAreReadBy transcript_text
+right_reading law = law
+
+right_texts : TextsDetermineTranscripts → TextsDetermineTranscriptsBy transcript_text
+right_texts law = law
 
 -- ** the refutations
 

@@ -23,7 +23,7 @@ use Rattle.guest_operands.specs.declared.stop.Stop.TheVariants.{Code, Unclean}
 use Rattle.guest_operands.specs.Access.{Accesses, fetch_of}
 use Rattle.guest_operands.specs.Operand.{number_at, taken}
 use Rattle.guest_operands.specs.State.{register_of}
-use Rattle.guest_operands.specs.Use.{After}
+use Rattle.guest_operands.specs.Use.{◌>>=◌, After}
 use Rattle.guest_machine.specs.Run.{Ends, Next, Stepping, next_of}
 use Rattle.guest_machine.specs.Step.{act, concluded, finished, is_cleared}
 use Rattle.guest_machine.specs.Touch.{touched}
