@@ -34,7 +34,7 @@ use Rattle.job_meaning.specs.Reading.{beside_linker}
 use Rattle.whole_meaning.specs.Fields.{address_at, lent, lent_frame, marked_frame}
 use Rattle.whole_meaning.specs.Meanings.{Meaning}
 use Rattle.whole_meaning.specs.Reading.{hindrance, own_touches}
-use Rattle.whole_meaning.specs.Running.{asked, sequence_or}
+use Rattle.whole_meaning.specs.Running.{asked}
 use Rattle.whole_meaning.specs.Threads.{Meant, Memory, held_next, meant_accesses, meant_mark, meant_sequence}
 use Rattle.whole_meaning.specs.Threads.{meant_shut}
 use Rattle.whole_meaning.specs.Threads.{meant_steps, ops}
@@ -106,8 +106,12 @@ module _ (is_cleared : Arithmetic → Register → Operand → Bool) (own_place 
       (done (hindrance ops (meant_mark m thread memory) state (fetched state memory)) (decoded (fetched state memory))
       state memory)
 
+  abbrev pub next_unless : Option (Next (After Word Flag Memory)) → Meant → Next (After Word Flag Memory)
+  next_unless None h = next_of (step_of h.after.state h.after.memory)
+  next_unless (Some sequence) h = sequence
+
   abbrev pub next : Meant → Next (After Word Flag Memory)
-  next h = sequence_or (meant_sequence m thread h.after) (next_of (step_of h.after.state h.after.memory))
+  next h = next_unless (meant_sequence m thread h.after) h
 
   abbrev pub steps_by : Stepping Meant
   steps_by = record {

@@ -4,7 +4,6 @@ use Rattle.std.specs.Prelude.{◌≡◌, ◌+◌, ◌-◌, ◌*◌, ℕ, Bool, n
 use Rattle.std.specs.Prelude.{Option, Some, None, if◌then◌else◌}
 use Rattle.guest_arithmetic.specs.Plain.{plain_operations}
 use Rattle.guest_operands.specs.declared.stop.Stop.TheVariants.{Steps}
-use Rattle.guest_operands.specs.Use.{left}
 use Rattle.job_text.specs.declared.thread_lines.Action.{Action}
 use Rattle.job_text.specs.declared.thread_lines.Action.TheVariants.{Call, Open, Close, Peek}
 use Rattle.loaded_modules.specs.declared.instance.Instance.{Instance}
@@ -16,9 +15,8 @@ use Rattle.transcript_text.specs.declared.outcomes.Outcome.TheVariants.{Refused}
 use Rattle.thread_blocks.specs.Held.{block_bytes, looked, owned_by, reached}
 use Rattle.thread_blocks.specs.Instances.{Loads, instance_at}
 use Rattle.thread_blocks.specs.Lines.{Line, begin_line}
-use Rattle.thread_blocks.specs.MachineTurns.{call_start, fresh_space}
 use Rattle.thread_blocks.specs.RunTime.{Runs, shows, thread_turns}
-use Rattle.thread_blocks.specs.Turns.{Answered, Begun, Calls, Said, Says, Stopped, Turns}
+use Rattle.thread_blocks.specs.Turns.{Answered, Begun, Said, Says, Stopped, Turns}
 use Rattle.line_laws.specs.Counted.{EndsSo, HasTaken}
 use Rattle.line_laws.specs.Printed.{IsFirstLook}
 
@@ -35,16 +33,13 @@ module _ (fits : ℕ → ℕ → Bool) (no_function not_open : LineRefusal) (l :
   abbrev pub refuse : LineRefusal → Runs → Begun Runs
   refuse refusal h = Says (Answered (Refused refusal)) h
 
-  abbrev pub call_at : ℕ → ℕ → ℕ → Runs → Option ℕ → Begun Runs
-  call_at a b c h None = refuse no_function h
-  call_at a b c h (Some place) = Calls (record h {
-    after = left (call_start plain_operations thread place a b c)
-        (fresh_space plain_operations h.after.memory.seen h.after.memory.own);
-  })
+  abbrev pub call_at : Line → List Event → Runs → Option ℕ → Begun Runs
+  call_at line seen h None = refuse no_function (looked l thread seen h)
+  call_at line seen h (Some place) = begin_line plain_operations l (shows l thread) thread line seen h
 
-  abbrev pub call_in : List ℕ → ℕ → ℕ → ℕ → Runs → Option Instance → Begun Runs
-  call_in symbol a b c h None = refuse not_open h
-  call_in symbol a b c h (Some x) = call_at a b c h (l.function x symbol)
+  abbrev pub call_in : Line → List Event → List ℕ → Runs → Option Instance → Begun Runs
+  call_in line seen symbol h None = refuse not_open (looked l thread seen h)
+  call_in line seen symbol h (Some x) = call_at line seen h (l.function x symbol)
 
   abbrev pub shown_in : Runs → ℕ → ℕ → Option (List ℕ) → Begun Runs
   shown_in h size offset None = refuse Length h
@@ -63,7 +58,7 @@ module _ (fits : ℕ → ℕ → Bool) (no_function not_open : LineRefusal) (l :
 
   abbrev pub begin_for : Line → List Event → Runs → Action → Begun Runs
   begin_for line seen h (Call symbol a b c) =
-      call_in symbol a b c (looked l thread seen h) (instance_at l seen line.told.image)
+      call_in line seen symbol h (instance_at l seen line.told.image)
   begin_for line seen h Open = begin_line plain_operations l (shows l thread) thread line seen h
   begin_for line seen h Close = begin_line plain_operations l (shows l thread) thread line seen h
   begin_for line seen h (Peek symbol size) =
