@@ -71,8 +71,8 @@ module _ (is_cleared : Arithmetic → Register → Operand → Bool) (acc : Acce
       then finished ops acc width (OfSlot to) (compute_effect arithmetic width 0 0) frame state memory
       else (do
         it ← taken ops acc width frame state memory from (number_at ops width (register_of state.registers to))
-        concluded ops acc arithmetic width (OfSlot to) (compute_effect arithmetic width it.other it.number) frame
-        state memory)
+        concluded ops acc arithmetic width (OfSlot to) (compute_effect arithmetic width it.other it.number)
+            frame state memory)
 
   abbrev pub act_by : Frame → Operation → Marked → Memory → Left
   act_by frame (Compute arithmetic width (IntoRegister to from)) state memory =
