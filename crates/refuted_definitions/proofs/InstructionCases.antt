@@ -27,6 +27,7 @@ use Rattle.instruction_laws.specs.Laws.{ProductsAreTheManuals, ShiftsAreTheManua
 use Rattle.instruction_laws.specs.Results.{Computes, IsProduct, Shifts}
 use Rattle.refuted_definitions.proofs.Only.{one_answer}
 use Rattle.refuted_definitions.specs.Instructions.{ComputationsBy, ConditionsBy, DigitsBy, FlagsChangeBy, ProductsBy}
+use Rattle.refuted_definitions.specs.Instructions.{product_by, shift_by}
 use Rattle.refuted_definitions.specs.Instructions.{InstructionsAreRefuted, ShiftsBy, action_of_six, with_clear_changes}
 
 -- ** one flag of an effect
@@ -97,11 +98,22 @@ no_six wrong =
     let e : false ≡ true = ap (λ
     (actions : List (Option Action)). is_some (slice_index_or actions 7 None)) (wrong group.Shift) in cc
 
+product_copied : (width : Width) (a b : ℕ) → product_by product_fits Unsettled width a b ≡ product_effect width a b
+unfolding product_effect
+product_copied width a b = refl
+
+shift_copied : (shift : Shift) (width : Width) (number count : ℕ)
+    → shift_by shift_overflows shift width number count ≡ shift_effect shift width number count
+unfolding shift_effect
+shift_copied shift width number count = refl
+
 pub instructions_refuted : WordsAreSigned → ComputationsAreTheManuals → ProductsAreTheManuals → ShiftsAreTheManuals
     → FlagsChange → ConditionsAreTheManuals → InstructionsAreRefuted
 unfolding compute_effect sum_effect difference_effect product_effect product_fits shift_effect shift_overflows shifted
     bit_out condition_of is_less is_less_or_equal plain_operations
 instructions_refuted signed computations products shifts flag_changes conditions = record {
+  product_copy = product_copied;
+  shift_copy = shift_copied;
   carry_from_one_more_on = λ wrong.
       let e : true ≡ false = ap (λ (effect : Effect). is_set effect.changes.carry)
       (same_computed signed computations _ wrong Add 2147483648 2147483648 (omega arith) (omega arith)) in cc;

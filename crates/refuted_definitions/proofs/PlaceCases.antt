@@ -62,8 +62,13 @@ no_lower : MovedAddressesBy lower_bias owner_at → ⊥
 unfolding owner_at
 no_lower wrong = let e : false ≡ true = ap (λ (n : ℕ). n == 0) (wrong 0 2147483648 (omega arith) (omega arith)) in cc
 
+owner_copy : (place : ℕ) → owner_by nat_lt (2 ^ 26) place ≡ owner_at place
+unfolding owner_at
+owner_copy place = refl
+
 pub places_refuted : PlacesAreRefuted
 places_refuted = record {
+  copy = owner_copy;
   instances_have_half_the_room = no_half;
   first_address_is_the_programs = no_first;
   instances_lie_lower = no_lower;

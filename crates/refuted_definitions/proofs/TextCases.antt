@@ -121,6 +121,7 @@ pub texts_refuted : NumbersAreWritten → TextsAreRefuted
 unfolding job number numeral first_said line_said event_said points_text numbers_in opens_in outcome_of_one
     outcome_of_two read_behind digits padded_integral char_count
 texts_refuted law = record {
+  copy = λ word. refl;
   hexadecimal_is_octal = λ wrong.
       let e : false ≡ true = ap (is_number 16) (read_too law _ wrong (codes "0x10") 16 refl) in cc;
   zero_has_a_zero_in_front = λ wrong.

@@ -22,7 +22,8 @@ use Rattle.guest_arithmetic.specs.declared.effect.Changes.{Changes}
 use Rattle.guest_arithmetic.specs.declared.effect.Effect.{Effect}
 use Rattle.guest_arithmetic.specs.declared.flags.Flags.{Flags}
 use Rattle.guest_arithmetic.specs.Arithmetic.{by_result, bit_out, compute_effect, differ, difference_overflows}
-use Rattle.guest_arithmetic.specs.Arithmetic.{half_of, is_negative, magnitude, product_fits, shift_overflows, shifted}
+use Rattle.guest_arithmetic.specs.Arithmetic.{half_of, is_negative, magnitude, product_effect, product_fits}
+use Rattle.guest_arithmetic.specs.Arithmetic.{shift_effect, shift_overflows, shifted}
 use Rattle.guest_arithmetic.specs.Arithmetic.{span_of, sum_overflows}
 use Rattle.guest_arithmetic.specs.Cause.{both, used}
 use Rattle.guest_arithmetic.specs.Flags.{condition_of, is_less}
@@ -180,6 +181,10 @@ action_of_six group.Shift digit = option_map ShiftBy (shift_of_six digit)
 action_of_six it digit = group_action it digit
 
 pub record InstructionsAreRefuted : Type 0 where
+  -- with no word changed they are the definitions
+  pub product_copy : (width : Width) (a b : ℕ) → product_by product_fits Unsettled width a b ≡ product_effect width a b
+  pub shift_copy : (shift : Shift) (width : Width) (number count : ℕ)
+      → shift_by shift_overflows shift width number count ≡ shift_effect shift width number count
   pub carry_from_one_more_on : ComputationsBy compute_with_sum → ⊥
   pub borrow_is_turned : ComputationsBy compute_with_difference → ⊥
   pub least_product_does_not_fit : ProductsBy (product_by fits_without_least Unsettled) → ⊥

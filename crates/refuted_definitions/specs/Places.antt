@@ -63,6 +63,8 @@ abbrev pub whole_size : TlsPart → ℕ
 whole_size tls = tls.size
 
 pub record PlacesAreRefuted : Type 0 where
+  -- with no word changed it is the definition
+  pub copy : (place : ℕ) → owner_by nat_lt (2 ^ 26) place ≡ owner_at place
   pub instances_have_half_the_room : MovedAddressesBy moved_bias (owner_by nat_lt (2 ^ 25)) → ⊥
   -- `≤` for `<`
   pub first_address_is_the_programs : MovedAddressesBy moved_bias (owner_by nat_le (2 ^ 26)) → ⊥

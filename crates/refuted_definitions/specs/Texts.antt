@@ -107,6 +107,8 @@ module _ (hex16 : ℕ → List ℕ) (fault_text : LineFault → List ℕ) (event
   text_by images shown = threads_text 1 shown.threads ++ events_text images 0 shown.events
 
 pub record TextsAreRefuted : Type 0 where
+  -- with no word changed it is the definition
+  pub copy : (word : List ℕ) → number_by 16 has_leading_zero numeral word ≡ number word
   pub hexadecimal_is_octal : NumbersAreWrittenBy (number_by 8 has_leading_zero numeral) → ⊥
   pub zero_has_a_zero_in_front : NumbersAreWrittenBy (number_by 16 begins_with_zero numeral) → ⊥
   pub numbers_have_63_bits : NumbersAreWrittenBy (number_by 16 has_leading_zero numeral_of_63) → ⊥

@@ -14,9 +14,10 @@
 //! `stored_field`, and `stored_by` is `stored_field` with any parts in place of its own.
 //!
 //! The rule of the crate: **each refutation is of the law's whole statement, over the definition with that word
-//! changed**. Where a law fixes the one answer, its proof is short: the law holds of the right definition, so were it
-//! true of the wrong one, both would say the same, and at some arguments they do not. The functions call the laws that
-//! they need, and take a statement here for the law's own, so one that differed would not pass.
+//! changed**; of `first_looks_are_ruled` it is of what that says of the machine's lines. Where a law fixes the one
+//! answer, its proof is short: the law holds of the right definition, so were it true of the wrong one, both would say
+//! the same, and at some arguments they do not. The functions call the laws that they need, and take a statement here
+//! for the law's own, so one that differed would not pass.
 //!
 //! | file of `specs` | definitions of | laws |
 //! |---|---|---|
