@@ -6,7 +6,7 @@ set -eu
 cd "$(dirname "$0")/.."
 copy=$(mktemp -d)
 trap 'rm -rf "$copy"' EXIT
-[ $# -gt 0 ] || set -- $(ls -d crates/*/must-fail tests/edits/* | sed 's,/must-fail$,,; s,.*/,,' | sort -u)
+[ $# -gt 0 ] || set -- $(ls -d crates/*/must-fail/ tests/edits/*/ | sed 's,/$,,; s,/must-fail$,,; s,.*/,,' | sort -u)
 tar cf - --exclude out crates crates.txt HANDLES | tar xf - -C "$copy"
 for crate in "$@"; do
     [ -d "tests/edits/$crate" ] || continue

@@ -19,7 +19,7 @@ AREAS = [
     ("definitions and laws, no code", "#f9e4e4", "#a05050",
         r"thread_blocks|job_meaning|whole_meaning|linked_modules|relocated_parts|loaded_(bytes|words|names)|closed_.*|linked_jobs"
         r"|standing_sequences"
-        r"|lawful_points|shared_data|known_instances|tied_.*|marked_code|site_steps|(held|begin|call)_alike|.*_laws"),
+        r"|lawful_points|refuted_definitions|shared_data|known_instances|tied_.*|marked_code|site_steps|(held|begin|call)_alike|.*_laws"),
     ("the run time", "#ece4f7", "#6c4ab0",
         r"module_.*|loaded_modules|thread_.*|job_turns|job_race|racing_thread|shared_modules|transcript_text|image_names"),
     ("the machine", "#ffe6d2", "#c0651a", r"amd64_.*|guest_.*"),

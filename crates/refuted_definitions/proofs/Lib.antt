@@ -1,0 +1,11 @@
+mod Only
+mod CauseCases
+mod FieldCases
+mod HistoryCases
+mod InstructionCases
+mod LayoutCases
+mod LineCases
+mod Objects
+mod NameCases
+mod PlaceCases
+mod TextCases

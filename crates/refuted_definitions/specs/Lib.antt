@@ -1,0 +1,9 @@
+pub mod Causes
+pub mod Fields
+pub mod Histories
+pub mod Instructions
+pub mod Layout
+pub mod Lines
+pub mod Names
+pub mod Places
+pub mod Texts
