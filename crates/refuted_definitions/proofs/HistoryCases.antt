@@ -8,7 +8,7 @@ use Rattle.module_table.specs.declared.events.Event.{Event}
 use Rattle.module_table.specs.declared.events.OpenRefusal.{OpenRefusal}
 use Rattle.module_table.specs.declared.events.OpenRefusal.TheVariants.{StaticFull, Unknown}
 use Rattle.module_table.specs.declared.modules.ImageInfo.{ImageInfo}
-use Rattle.module_table.specs.History.{IsLegal}
+use Rattle.module_table.specs.Past.{IsLegal}
 use Rattle.module_table.specs.Modules.{AreInfos, IsInfo}
 use Rattle.module_table.specs.Past.{Past, accepts, after_one, close_refusal, is_legal, least_free, loaded, open_refusal}
 use Rattle.module_table.specs.Past.{opened, past, released, retained, start}

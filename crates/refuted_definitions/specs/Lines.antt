@@ -8,7 +8,7 @@ use Rattle.job_text.specs.declared.thread_lines.Action.{Action}
 use Rattle.job_text.specs.declared.thread_lines.Action.TheVariants.{Call, Open, Close, Peek}
 use Rattle.loaded_modules.specs.declared.instance.Instance.{Instance}
 use Rattle.module_table.specs.declared.events.Event.{Event}
-use Rattle.module_table.specs.History.{IsLegal}
+use Rattle.module_table.specs.Past.{IsLegal}
 use Rattle.transcript_text.specs.declared.outcomes.LineRefusal.{LineRefusal}
 use Rattle.transcript_text.specs.declared.outcomes.LineRefusal.TheVariants.{NotOpen, Symbol, Length}
 use Rattle.transcript_text.specs.declared.outcomes.Outcome.TheVariants.{Refused}
