@@ -2,6 +2,8 @@
 use Rattle.std.proofs.Common.{◌<◌, ◌≤◌, ℕ, List, inl, inr, refl, arith}
 use Rattle.std.proofs.Math.Pow.{pow_mono}
 use Rattle.elf_records.specs.Alignments.{IsAlignment}
+use Rattle.elf_records.specs.declared.program_header.Segment.{Segment}
+use Rattle.image_faults.specs.Segments.{IsRightTls}
 use Rattle.guest_operands.specs.Access.{fetch_of}
 use Rattle.object_rules.specs.declared.fault.FaultKind.TheVariants.{TooLarge}
 use Rattle.object_faults.specs.Classes.{IsKeptSection}
@@ -56,16 +58,29 @@ links_are = record {
   crowded = λ l. (λ is. is, λ is. is);
 }
 
+storage : (bytes : List ℕ) (s : Segment) → IsRightTls bytes s
+    → (s.memsz ≤ 1048576) × IsRightTls bytes (record s { memsz = 1048576 })
+storage bytes s is = (
+  is.3,
+  (is.0, omega (arith, is.1, is.3), omega arith, omega arith, is.4, is.5, is.6),
+)
+
 pub images_are : ImagesAreSmall
 images_are = record {
   range = λ bytes. (λ is. (is.0, is.1), λ is. (is.0, is.1, inl refl));
-  storage = λ bytes s is. is.3;
+  storage = storage;
   info = λ info. (
     λ is. (is.small, is.aligned, is.page),
     λ is. record { small = is.0; aligned = is.1; page = is.2 },
   );
-  infos = λ infos are. are.few;
-  legal = λ infos last_offset events is. is.low;
+  infos = λ infos. (
+    λ are. (are.some, are.few, are.each, are.late_last),
+    λ are. record { some = are.0; few = are.1; late_last = are.3; each = are.2 },
+  );
+  legal = λ infos last_offset events. (
+    λ is. (is.images, is.low, is.each),
+    λ is. record { images = is.0; low = is.1; each = is.2 },
+  );
   instances = refl;
   surplus = refl;
 }

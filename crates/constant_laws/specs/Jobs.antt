@@ -1,5 +1,4 @@
--- The limits of jobs, in literals. It watches `Grammar`, `LineFaults` and `Jobs`
--- (job_text).
+-- The limits of jobs, in literals. It watches `Grammar`, `LineFaults` and `Jobs` (job_text).
 use Rattle.std.specs.Option.{option_map}
 use Rattle.std.specs.Prelude.{◌≡◌, ◌↔◌, ◌<◌, ◌≤◌, ℕ, Bool, true, false, List, [], ◌∷◌, Option, Some, codes, length}
 use Rattle.std.specs.List.{filter, range_with_len}

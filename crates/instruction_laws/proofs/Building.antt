@@ -59,7 +59,8 @@ module _ (d : Decoded) (before : State ℕ Bool) (memory : Numbers) where
   Loads width (InMemory operand) =
       (n : ℕ) × (load_of plain_operations acc memory (place_of operand) (bytes width) ≡ Ok n)
 
-  pub operand_found : HasBytes memory → (width : Width) (operand : Operand) → Loads width operand → (n : ℕ) × Has d before memory width operand n
+  pub operand_found : HasBytes memory → (width : Width) (operand : Operand) → Loads width operand
+      → (n : ℕ) × Has d before memory width operand n
   operand_found small width (InRegister register) loads =
       (_, pos_cut width (register_of before.registers register) (register_of before.registers register) 0 0 refl)
   operand_found small width (InMemory operand) loads = (
@@ -101,11 +102,13 @@ module _ (d : Decoded) (before : State ℕ Bool) (memory : Numbers) where
   weighed_ok width (Err why) other parts is = absurd cc
 
   pub taken_loads : (width : Width) (operand : Operand) (other : Result ℕ Cause) (t : Taken)
-      → taken plain_operations acc width (frame d before memory) before memory operand other ≡ Ok t → Loads width operand
+      → taken plain_operations acc width (frame d before memory) before memory operand other ≡ Ok t → Loads width
+      operand
   unfolding taken taken_at
   taken_loads width (InRegister register) other t is = tt
   taken_loads width (InMemory operand) other t is =
-      let at = sym (ap (λ r. taken_at plain_operations acc width before.place memory r other) (addressed operand)) ∙ is in
+      let at = sym (ap (λ r. taken_at plain_operations acc width before.place memory r other) (addressed operand)) ∙
+      is in
       let parts = ok_first (weighed plain_operations acc width before.place
       (load_of plain_operations acc memory (place_of operand) (size_of width)) other)
       (λ parts. Ok (record { slot = Place (place_of operand); number = parts.0; other = parts.1 })) t at in

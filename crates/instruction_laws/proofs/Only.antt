@@ -52,19 +52,23 @@ use Rattle.instruction_laws.proofs.Stepping.{done, acc, frame, whole, sizes, IsS
 use Rattle.instruction_laws.proofs.Words.{signed_of}
 
 module _ (d : Decoded) (before : State ℕ Bool) (memory : Numbers)
-    (have_words : (register : Register) → register_of before.registers register < 2 ^ 64) (small : HasBytes memory) where
+    (have_words : (register : Register) → register_of before.registers register < 2 ^ 64)
+    (small : HasBytes memory) where
   -- ** words that are moved
 
-  move_in_found : (width : Width) (to : Register) (from : Operand) → Ends d before memory (Move width (IntoRegister to from))
+  move_in_found : (width : Width) (to : Register) (from : Operand)
+      → Ends d before memory (Move width (IntoRegister to from))
   unfolding act move_of move_in
   move_in_found width to from y at =
       let first = ok_first (carried plain_operations acc width (frame d before memory) before memory from)
       (λ word. done (at_place (with_word before to word) (plus before.place d.len)) memory) y at in
-      let it = operand_found d before memory small width from (carried_loads d before memory width from first.0 first.1) in
+      let it = operand_found d before memory small width from (carried_loads d before memory width from first.0
+      first.1) in
       let result = put_found d before memory width (InRegister to) it.0 before.flags tt in
       (result.after, result.memory', record { number = it.0; from_it = it.1; to_it = result.puts })
 
-  move_out_found : (width : Width) (to : Memory) (from : Register) → Ends d before memory (Move width (IntoMemory to from))
+  move_out_found : (width : Width) (to : Memory) (from : Register)
+      → Ends d before memory (Move width (IntoMemory to from))
   unfolding act move_of
   move_out_found width to from y at =
       let it = operand_found d before memory small width (InRegister from) tt in
@@ -121,7 +125,8 @@ module _ (d : Decoded) (before : State ℕ Bool) (memory : Numbers)
             record {
               place = place_of d before memory to;
               address = at_address d before memory to;
-              stored = sym (ap (λ (word : ℕ). store_of plain_operations acc memory (place_of d before memory to) 1 word) same) ∙ first.1;
+              stored = sym (ap (λ (word : ℕ). store_of plain_operations acc memory (place_of d before memory to) 1
+                  word) same) ∙ first.1;
             },
           );
         },
@@ -140,7 +145,8 @@ module _ (d : Decoded) (before : State ℕ Bool) (memory : Numbers)
       (ap (clean before.place) (addressed d before memory from)) at in
       let first = ok_first (there before.place (load_of plain_operations acc memory (place_of d before memory from) 1))
       (λ word. done (at_place (with_word before to word) (plus before.place d.len)) memory) y now in
-      let loaded = there_ok before.place (load_of plain_operations acc memory (place_of d before memory from) 1) first.0 first.1 in
+      let loaded = there_ok before.place (load_of plain_operations acc memory (place_of d before memory from) 1)
+      first.0 first.1 in
       let result = put_found d before memory Quad (InRegister to) first.0 before.flags tt in (
         result.after,
         result.memory',
@@ -160,7 +166,8 @@ module _ (d : Decoded) (before : State ℕ Bool) (memory : Numbers)
   unfolding act extend_long
   extend_long_found to from y at =
       let first = ok_first (carried plain_operations acc Long (frame d before memory) before memory from) _ y at in
-      let it = operand_found d before memory small Long from (carried_loads d before memory Long from first.0 first.1) in
+      let it = operand_found d before memory small Long from (carried_loads d before memory Long from first.0
+      first.1) in
       let long = extended it.0 (has_below d before memory Long from it.0 it.1) in
       let result = put_found d before memory Quad (InRegister to) long.result before.flags tt in (
         result.after,
@@ -176,7 +183,8 @@ module _ (d : Decoded) (before : State ℕ Bool) (memory : Numbers)
         },
       )
 
-  load_address_found : (width : Width) (to : Register) (from : Memory) → Ends d before memory (LoadAddress width to from)
+  load_address_found : (width : Width) (to : Register) (from : Memory)
+      → Ends d before memory (LoadAddress width to from)
   load_address_found width to from y at =
       let cut = pos_cut width (place_of d before memory from) (place_of d before memory from) 0 0 refl in
       let result = put_found d before memory width (InRegister to) _ before.flags tt in (
@@ -259,11 +267,16 @@ module _ (d : Decoded) (before : State ℕ Bool) (memory : Numbers)
       → concluded plain_operations acc kind width slot effect (frame d before memory) before memory ≡ Ok y
       → Stores d before memory width to effect.number
   unfolding concluded
-  concluded_stores Add width to slot effect y w is below at = finish_stores d before memory width to slot effect y is below at
-  concluded_stores Or width to slot effect y w is below at = finish_stores d before memory width to slot effect y is below at
-  concluded_stores And width to slot effect y w is below at = finish_stores d before memory width to slot effect y is below at
-  concluded_stores Sub width to slot effect y w is below at = finish_stores d before memory width to slot effect y is below at
-  concluded_stores Xor width to slot effect y w is below at = finish_stores d before memory width to slot effect y is below at
+  concluded_stores Add width to slot effect y w is below at =
+      finish_stores d before memory width to slot effect y is below at
+  concluded_stores Or width to slot effect y w is below at =
+      finish_stores d before memory width to slot effect y is below at
+  concluded_stores And width to slot effect y w is below at =
+      finish_stores d before memory width to slot effect y is below at
+  concluded_stores Sub width to slot effect y w is below at =
+      finish_stores d before memory width to slot effect y is below at
+  concluded_stores Xor width to slot effect y w is below at =
+      finish_stores d before memory width to slot effect y is below at
   concluded_stores Compare width to slot effect y w is below at = absurd cc
 
   conclude_found : (kind : Arithmetic) (width : Width) (to : Operand) (second : ℕ → Type 0) (b : ℕ)
@@ -293,7 +306,8 @@ module _ (d : Decoded) (before : State ℕ Bool) (memory : Numbers)
       let it = operand_found d before memory small width (InRegister from) tt in
       conclude_found kind width (InMemory to) (Has d before memory width (InRegister from)) it.0
       (number_at plain_operations width (register_of before.registers from)) y
-      (register_number d before memory width from it.0 it.1) it.1 (has_below d before memory width (InRegister from) it.0 it.1) at
+      (register_number d before memory width from it.0 it.1) it.1 (has_below d before memory width (InRegister from)
+      it.0 it.1) at
 
   compute_plain_found : (kind : Arithmetic) (width : Width) (to : Operand) (y : After ℕ Bool Numbers)
       → compute_plain plain_operations acc kind width None (frame d before memory) before memory to ≡ Ok y
@@ -305,7 +319,8 @@ module _ (d : Decoded) (before : State ℕ Bool) (memory : Numbers)
       conclude_found kind width to (λ number. IsCut width number (pos d.instr.immediate)) it.0 _ y
       (immediate_is d before memory have_words width it.0 it.1) it.1 it.1.below at
 
-  compute_immediate_found : (kind : Arithmetic) (width : Width) (to : Operand) → Ends d before memory (Compute kind width (Immediate to))
+  compute_immediate_found : (kind : Arithmetic) (width : Width) (to : Operand)
+      → Ends d before memory (Compute kind width (Immediate to))
   unfolding act compute_of
   compute_immediate_found kind width to y at =
       compute_plain_found kind width to y (sym (no_field d before memory have_words kind width to) ∙ at)
@@ -330,7 +345,8 @@ module _ (d : Decoded) (before : State ℕ Bool) (memory : Numbers)
   memory_loads Compare width to from y at = computing_loads Compare width to (InMemory from) y at
 
   compute_loads : (kind : Arithmetic) (width : Width) (to : Register) (from : Operand) (y : After ℕ Bool Numbers)
-      → act plain_operations acc (frame d before memory) (Compute kind width (IntoRegister to from)) before memory ≡ Ok y
+      → act plain_operations acc (frame d before memory) (Compute kind width (IntoRegister to from)) before memory ≡
+      Ok y
       → Loads d before memory width from
   compute_loads kind width to (InRegister from) y at = tt
   compute_loads kind width to (InMemory from) y at = memory_loads kind width to from y at
@@ -343,12 +359,14 @@ module _ (d : Decoded) (before : State ℕ Bool) (memory : Numbers)
       computing_found kind width (InRegister to) (Has d before memory width from) first.0 second.0 first.1 second.1
       (has_below d before memory width from second.0 second.1) (writes kind) (λ w. tt)
 
-  test_found : (width : Width) (left_operand : Operand) (right : Register) → Ends d before memory (Test width left_operand right)
+  test_found : (width : Width) (left_operand : Operand) (right : Register)
+      → Ends d before memory (Test width left_operand right)
   unfolding act test_of
   test_found width left_operand right y at =
       let t = ok_first (taken plain_operations acc width (frame d before memory) before memory left_operand
       (number_at plain_operations width (register_of before.registers right))) _ y at in
-      let first = operand_found d before memory small width left_operand (taken_loads d before memory width left_operand _ t.0 t.1) in
+      let first = operand_found d before memory small width left_operand (taken_loads d before memory width
+      left_operand _ t.0 t.1) in
       let second = operand_found d before memory small width (InRegister right) tt in
       computing_found And width left_operand (Has d before memory width (InRegister right)) first.0 second.0 first.1
       second.1 (has_below d before memory width (InRegister right) second.0 second.1) false (λ w. absurd cc)
@@ -389,19 +407,22 @@ module _ (d : Decoded) (before : State ℕ Bool) (memory : Numbers)
   masked Long count = record { below = omega arith; above = count / 32; same = omega arith }
   masked Quad count = record { below = omega arith; above = count / 64; same = omega arith }
 
-  shift_found : (shift : Shift) (width : Width) (to : Operand) (count : ℕ) → Ends d before memory (ShiftBy shift width to count)
+  shift_found : (shift : Shift) (width : Width) (to : Operand) (count : ℕ)
+      → Ends d before memory (ShiftBy shift width to count)
   unfolding act shift_of
   shift_found shift width to count y at =
       let then_finished = λ (t : Taken). finished plain_operations acc width t.slot
       (shift_effect shift width t.number (count % bits_of width)) (frame d before memory) before memory in
-      let t = ok_first (taken plain_operations acc width (frame d before memory) before memory to (Ok 0)) then_finished y
+      let t = ok_first (taken plain_operations acc width (frame d before memory) before memory to (Ok 0))
+      then_finished y
       at in
       let first = operand_found d before memory small width to (taken_loads d before memory width to (Ok 0) t.0 t.1) in
       let slot = take d before memory width to first.0 0 first.1 in
       let x = signed_of width first.0 (has_below d before memory width to first.0 first.1) in
       let mask = masked width count in
       let effect = shift_effect shift width first.0 (count % bits_of width) in
-      let final = then_is (taken plain_operations acc width (frame d before memory) before memory to (Ok 0)) then_finished
+      let final = then_is (taken plain_operations acc width (frame d before memory) before memory to (Ok 0))
+      then_finished
       (record { slot = slot.slot; number = first.0; other = 0 }) y slot.is at in
       let is = (shifts shift width first.0 x.0 (count % bits_of width) x.1 mask.below effect).0 refl in
       let below = shifted_below d before memory have_words shift width first.0 x.0 (count % bits_of width) effect x.1 is
@@ -562,7 +583,8 @@ module _ (d : Decoded) (before : State ℕ Bool) (memory : Numbers)
   call_found (Indirect operand) y at =
       let t = ok_first (taken plain_operations acc Quad (frame d before memory) before memory operand
       (Ok before.registers.rsp)) _ y at in
-      let target = operand_found d before memory small Quad operand (taken_loads d before memory Quad operand (Ok before.registers.rsp) t.0 t.1) in
+      let target = operand_found d before memory small Quad operand (taken_loads d before memory Quad operand (Ok
+      before.registers.rsp) t.0 t.1) in
       let slot = take d before memory Quad operand target.0 before.registers.rsp target.1 in
       let now = then_is (taken plain_operations acc Quad (frame d before memory) before memory operand
       (Ok before.registers.rsp))
@@ -598,7 +620,8 @@ module _ (d : Decoded) (before : State ℕ Bool) (memory : Numbers)
   )
   jump_found (Indirect operand) y at =
       let t = ok_first (taken plain_operations acc Quad (frame d before memory) before memory operand (Ok 0)) _ y at in
-      let target = operand_found d before memory small Quad operand (taken_loads d before memory Quad operand (Ok 0) t.0 t.1) in (
+      let target = operand_found d before memory small Quad operand (taken_loads d before memory Quad operand (Ok 0)
+      t.0 t.1) in (
         state_at d before memory target.0 before.registers before.flags,
         memory,
         record {

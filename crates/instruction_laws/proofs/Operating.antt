@@ -315,7 +315,8 @@ module _ (d : Decoded) (before : State ℕ Bool) (memory : Numbers)
   masked_is Long masked count is = omega (arith, is.below, is.same)
   masked_is Quad masked count is = omega (arith, is.below, is.same)
 
-  pub shifted_below : (shift : Shift) (width : Width) (a : ℕ) (x : ℤ) (masked : ℕ) (effect : Effect) → IsSigned width a x
+  pub shifted_below : (shift : Shift) (width : Width) (a : ℕ) (x : ℤ) (masked : ℕ) (effect : Effect)
+      → IsSigned width a x
       → Shifts shift width a x masked effect → effect.number < words width
   shifted_below shift width a x zero effect is it = subst (λ (n : ℕ). n < words width) (sym it.number) is.below
   shifted_below Left width a x (suc less) effect is it = it.number.below
