@@ -1,3 +1,4 @@
+mod Letters
 mod Links
 mod Rows
 mod Values

@@ -69,7 +69,7 @@ local_are : (own : List Site) → Any IsLocalDynamic own → list_any (λ (site 
 local_are own some = list_any-from_Any (λ (site : Site). is_local site.form) own
     (any_more IsLocalDynamic (λ (site : Site). is_local site.form ≡ true) (λ site. form_local site.form) own some)
 
-loses : (l : Linking) → counts_from_thread_pointer l ≡ true → LosesLocalDynamic l
+pub loses : (l : Linking) → counts_from_thread_pointer l ≡ true → LosesLocalDynamic l
 unfolding counts_from_thread_pointer
 loses l is =
     let parts = both (is_rewriting l) (list_any (λ own. list_any
@@ -83,7 +83,7 @@ loses l is =
           (λ (site : Site). is_local site.form) own) l.sites parts.1);
     }
 
-counts : (l : Linking) → LosesLocalDynamic l → counts_from_thread_pointer l ≡ true
+pub counts : (l : Linking) → LosesLocalDynamic l → counts_from_thread_pointer l ≡ true
 unfolding counts_from_thread_pointer
 counts l lost =
     let program = program_is l.kind lost.program in

@@ -15,6 +15,9 @@
 //! modulo its width**. [`types_are_listed`]: the table's numbers are those of the types that linking takes.
 //! [`fields_are_stored`]: `stored_field` is the only answer. [`links_store_fields`]: so is what a link stores, with the
 //! letters that the link has: S and O of the symbol that the relocation is bound to, P of the field, G of the entry.
+//! Each relocation has letters ([`letters_are_there`]). That law asks that what the symbol is bound to has those that
+//! the type takes, as a variable has O; where the names of the link have no fault it asks nothing of a relocation that
+//! linking keeps ([`resolved_links_store_fields`]).
 //!
 //! The table is `specs/Table` (psABI for x86-64, "Relocation Types"; Drepper, "ELF Handling For Thread-Local Storage",
 //! sections 4.1 to 4.4), and the letters of a link are `specs/Links`. Which entry a relocation's field reaches, and
@@ -23,4 +26,7 @@
 
 mod laws;
 
-pub use laws::{fields_are_stored, links_store_fields, types_are_listed};
+pub use laws::{
+    fields_are_stored, letters_are_there, links_store_fields, resolved_links_store_fields,
+    types_are_listed,
+};

@@ -120,7 +120,7 @@ module _ (d : Decoded) (before : State ℕ Bool) (memory : Numbers)
       (Has d before memory width from)
 
   -- without the special case
-  abbrev computing : Arithmetic → Width → Register → Operand → Outcome
+  abbrev pub computing : Arithmetic → Width → Register → Operand → Outcome
   computing kind width to from = taken plain_operations acc width (frame d before memory) before memory from
       (number_at plain_operations width (register_of before.registers to))
       >>= λ t. concluded plain_operations acc kind width (OfSlot to) (compute_effect kind width t.other t.number)
@@ -191,7 +191,7 @@ module _ (d : Decoded) (before : State ℕ Bool) (memory : Numbers)
 
   -- ** the stack
 
-  lower_is : (rsp stack : ℕ) → rsp < 2 ^ 64 → IsCut Quad stack (pos rsp -ℤ pos 8) → plus rsp (2 ^ 64 - 8) ≡ stack
+  pub lower_is : (rsp stack : ℕ) → rsp < 2 ^ 64 → IsCut Quad stack (pos rsp -ℤ pos 8) → plus rsp (2 ^ 64 - 8) ≡ stack
   lower_is rsp stack below is = omega (arith, ints, below, is.below, is.same)
 
   higher_is : (from stack : ℕ) → IsCut Quad stack (pos (from + 8)) → plus from 8 % 2 ^ 64 ≡ stack
@@ -270,11 +270,11 @@ module _ (d : Decoded) (before : State ℕ Bool) (memory : Numbers)
   target_below (InRegister register) n is = is.below
   target_below (InMemory operand) n is = is.below
 
-  far : (place len distance : ℕ) → (place + len + distance) % 2 ^ 64 ≡ plus (plus place len) distance
+  pub far : (place len distance : ℕ) → (place + len + distance) % 2 ^ 64 ≡ plus (plus place len) distance
   far place len distance = omega arith
 
   -- the return address that is pushed
-  back_is : (back : ℕ) → IsCut Quad back (pos (before.place + d.len)) → plus before.place d.len % 2 ^ 64 ≡ back
+  pub back_is : (back : ℕ) → IsCut Quad back (pos (before.place + d.len)) → plus before.place d.len % 2 ^ 64 ≡ back
   back_is back is = omega (arith, low_is Quad back (before.place + d.len) is, is.below)
 
   calls : (target : Target) (after : State ℕ Bool) (memory' : Numbers) → Calls d before memory target after memory'
@@ -354,7 +354,7 @@ module _ (d : Decoded) (before : State ℕ Bool) (memory : Numbers)
 
   -- ** all of them
 
-  does : (operation : Operation) (after : State ℕ Bool) (memory' : Numbers) → Does d before memory operation after
+  pub does : (operation : Operation) (after : State ℕ Bool) (memory' : Numbers) → Does d before memory operation after
       memory'
       → At d before memory have_words operation after memory'
   does (Move width (IntoRegister to from)) = moves d before memory have_words width to from
@@ -384,7 +384,7 @@ no_field : (here : ℕ) (within : Option ℕ) → field_at (λ place. false) her
 no_field here None = refl
 no_field here (Some within) = refl
 
-frame_is : (d : Decoded) (place : ℕ) → frame_of (λ place. false) place d ≡ frame_at d place
+pub frame_is : (d : Decoded) (place : ℕ) → frame_of (λ place. false) place d ≡ frame_at d place
 unfolding frame_of
 frame_is d place = λ i. record {
   next = plus place d.len;

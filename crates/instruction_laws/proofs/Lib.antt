@@ -1,7 +1,10 @@
+mod Accessing
+mod Building
 mod Comparing
 mod Computing
 mod Going
 mod Multiplying
+mod Only
 mod Opcodes
 mod Operating
 mod Shifting

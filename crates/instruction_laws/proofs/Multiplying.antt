@@ -35,7 +35,8 @@ by_sign Quad word (negsuc n) is = Downward n (omega (arith, ints, is.same)) (ome
 
 -- ** the product, cut
 
-cut_of : (width : Width) (n : ℕ) (x : ℤ) (more less : ℕ) → x +ℤ pos (more * words width) ≡ pos (n + less * words width)
+pub cut_of : (width : Width) (n : ℕ) (x : ℤ) (more less : ℕ)
+    → x +ℤ pos (more * words width) ≡ pos (n + less * words width)
     → IsCut width (n % span_of width) x
 cut_of Long n x more less same =
     record { below = omega arith; more = more; less = less + n / 4294967296; same = omega (arith, ints, same) }

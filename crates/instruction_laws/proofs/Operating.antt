@@ -54,13 +54,13 @@ module _ (d : Decoded) (before : State ℕ Bool) (memory : Numbers)
 
   -- ** words that are moved
 
-  kept_is : (width : Width) (register : Register) (n : ℕ) → Has d before memory width (InRegister register) n
+  pub kept_is : (width : Width) (register : Register) (n : ℕ) → Has d before memory width (InRegister register) n
       → kept plain_operations width (register_of before.registers register) ≡ n
   unfolding kept plain_operations
   kept_is Long register n is = omega (arith, low_is Long n _ is)
   kept_is Quad register n is = omega (arith, low_is Quad n _ is, have_words register)
 
-  carried_is : (width : Width) (from : Operand) (n : ℕ) → Has d before memory width from n
+  pub carried_is : (width : Width) (from : Operand) (n : ℕ) → Has d before memory width from n
       → carried plain_operations acc width (frame d before memory) before memory from ≡ Ok n
   unfolding carried
   carried_is width (InRegister register) n is = ap Ok (kept_is width register n is)
@@ -72,7 +72,7 @@ module _ (d : Decoded) (before : State ℕ Bool) (memory : Numbers)
       ∙ ap (there before.place) is.loaded
 
   -- a word in a register
-  abbrev in_register : Register → ℕ → Outcome
+  abbrev pub in_register : Register → ℕ → Outcome
   in_register to word = done (at_place (with_word before to word) (plus before.place d.len)) memory
 
   put_register : (to : Register) (n : ℕ) (after : State ℕ Bool) (memory' : Numbers)
@@ -121,7 +121,7 @@ module _ (d : Decoded) (before : State ℕ Bool) (memory : Numbers)
 
   -- ** movzx, movslq, lea, mov of an immediate
 
-  byte_is : (word byte : ℕ) → IsLowByte byte word → word % 256 % 2 ^ 64 ≡ byte
+  pub byte_is : (word byte : ℕ) → IsLowByte byte word → word % 256 % 2 ^ 64 ≡ byte
   byte_is word byte is = omega (arith, is.below, is.same)
 
   pub extends_byte : (width : Width) (to : Register) (from : Operand) (after : State ℕ Bool) (memory' : Numbers)
@@ -166,7 +166,7 @@ module _ (d : Decoded) (before : State ℕ Bool) (memory : Numbers)
       ∙ ap (in_register to) (whole width it.number it.cut.below)
       ∙ put_register to it.number after memory' it.to_it
 
-  immediate_is : (width : Width) (n : ℕ) → IsCut width n (pos d.instr.immediate)
+  pub immediate_is : (width : Width) (n : ℕ) → IsCut width n (pos d.instr.immediate)
       → immediate_of plain_operations width None d.instr.immediate ≡ Ok n
   unfolding immediate_of
   immediate_is width n is = ap Ok (low_is width n d.instr.immediate is)
@@ -232,7 +232,7 @@ module _ (d : Decoded) (before : State ℕ Bool) (memory : Numbers)
       settle d before memory it.effect after memory' it.flags it.answers.0 it.answers.1
 
   -- two numbers that were taken, and a conclusion
-  abbrev concluding : Arithmetic → Width → Taken → Outcome
+  abbrev pub concluding : Arithmetic → Width → Taken → Outcome
   concluding kind width it = concluded plain_operations acc kind width it.slot
       (compute_effect kind width it.number it.other) (frame d before memory) before memory
 
@@ -267,7 +267,7 @@ module _ (d : Decoded) (before : State ℕ Bool) (memory : Numbers)
       (effect_is kind (writes kind) width to _ after memory' it)
       ∙ concluded_is kind width to _ first.slot after memory' it first.is_slot
 
-  no_field : (kind : Arithmetic) (width : Width) (to : Operand)
+  pub no_field : (kind : Arithmetic) (width : Width) (to : Operand)
       → compute_number plain_operations acc kind width None (frame d before memory) before memory to
       ≡ compute_plain plain_operations acc kind width None (frame d before memory) before memory to
   unfolding compute_number
@@ -325,7 +325,8 @@ module _ (d : Decoded) (before : State ℕ Bool) (memory : Numbers)
   masked_is Long masked count is = omega (arith, is.below, is.same)
   masked_is Quad masked count is = omega (arith, is.below, is.same)
 
-  shifted_below : (shift : Shift) (width : Width) (a : ℕ) (x : ℤ) (masked : ℕ) (effect : Effect) → IsSigned width a x
+  pub shifted_below : (shift : Shift) (width : Width) (a : ℕ) (x : ℤ) (masked : ℕ) (effect : Effect)
+      → IsSigned width a x
       → Shifts shift width a x masked effect → effect.number < words width
   shifted_below shift width a x zero effect is it = subst (λ (n : ℕ). n < words width) (sym it.number) is.below
   shifted_below Left width a x (suc less) effect is it = it.number.below

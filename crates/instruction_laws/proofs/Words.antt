@@ -30,7 +30,7 @@ low_half Quad word low = record {
       (arith, ints);
 }
 
-high_half : (width : Width) (word : ℕ) → word < words width → half width ≤ word
+pub high_half : (width : Width) (word : ℕ) → word < words width → half width ≤ word
     → IsSigned width word (negsuc (words width - 1 - word))
 high_half Long word below high = record {
   below = below;

@@ -1,5 +1,5 @@
 -- The laws: what is computed is the only answer with the manual's properties.
-use Rattle.std.specs.Prelude.{◌≡◌, ◌↔◌, ℕ, ◌<◌, ◌^◌, ℤ, Bool, false, Ok}
+use Rattle.std.specs.Prelude.{◌≡◌, ◌↔◌, ℕ, ◌<◌, ◌^◌, ℤ, Bool, false, Ok, All}
 use Rattle.amd64_words.specs.declared.register.Register.{Register}
 use Rattle.amd64_subset.specs.declared.instr.Arithmetic.{Arithmetic}
 use Rattle.amd64_subset.specs.declared.instr.Arithmetic.TheVariants.{Compare}
@@ -16,7 +16,7 @@ use Rattle.guest_arithmetic.specs.Plain.{plain_operations}
 use Rattle.guest_machine.specs.Step.{act}
 use Rattle.guest_operands.specs.declared.state.State.{State}
 use Rattle.guest_operands.specs.Frame.{frame_of}
-use Rattle.guest_operands.specs.RangeLaws.{range_accesses}
+use Rattle.guest_operands.specs.Ranges.{Range, range_accesses}
 use Rattle.guest_operands.specs.State.{register_of}
 use Rattle.guest_operands.specs.Use.{left}
 use Rattle.instruction_laws.specs.Conditions.{Become, Compares, Holds, IsTaken}
@@ -62,8 +62,7 @@ ComparisonsDecide = (condition : Condition) (width : Width) (a b : ℕ) (x y : �
     → IsTaken condition (with_changes plain_operations (compute_effect Compare width a b).changes before)
     (Compares condition width a b x y)
 
--- where the registers hold words and no offset field stands in the instruction: what the manual says is done, and it
--- alone
+-- where the registers hold words and no offset field stands in the instruction: what the manual says is done
 abbrev pub StepsAreTheManuals : Type 0
 StepsAreTheManuals = (d : Decoded) (before after : State ℕ Bool) (memory memory' : Numbers)
     → ((register : Register) → register_of before.registers register < 2 ^ 64)
@@ -71,3 +70,20 @@ StepsAreTheManuals = (d : Decoded) (before after : State ℕ Bool) (memory memor
     → act plain_operations (range_accesses plain_operations) (frame_of (λ place. false) before.place d)
     d.instr.operation before memory
     ≡ Ok (left after memory')
+
+-- bytes of memory are below 256
+abbrev pub IsByte : ℕ → Type 0
+IsByte byte = byte < 256
+
+abbrev pub HasBytes : Numbers → Type 0
+HasBytes memory = All (λ (range : Range ℕ). All IsByte range.bytes) memory.ranges
+
+-- and where memory holds bytes, what is done is what the manual says: so it says one thing at most, and something
+-- wherever the machine goes on
+abbrev pub StepsAreOnly : Type 0
+StepsAreOnly = (d : Decoded) (before after : State ℕ Bool) (memory memory' : Numbers)
+    → ((register : Register) → register_of before.registers register < 2 ^ 64) → HasBytes memory
+    → act plain_operations (range_accesses plain_operations) (frame_of (λ place. false) before.place d)
+    d.instr.operation before memory
+    ≡ Ok (left after memory')
+    → Does d before memory d.instr.operation after memory'

@@ -1,6 +1,6 @@
 //! The laws. The functions do nothing: what they ensure is the law.
 
-ghost use Rattle.instruction_laws.specs.Laws.{ComparisonsDecide, ComputationsAreTheManuals, ConditionsAreTheManuals, FlagsChange, ProductsAreTheManuals, ShiftsAreTheManuals, StepsAreTheManuals, WordsAreSigned};
+ghost use Rattle.instruction_laws.specs.Laws.{ComparisonsDecide, ComputationsAreTheManuals, ConditionsAreTheManuals, FlagsChange, ProductsAreTheManuals, ShiftsAreTheManuals, StepsAreOnly, StepsAreTheManuals, WordsAreSigned};
 ghost use Rattle.instruction_laws.specs.Opcodes.{DigitsAreTheManuals, OpcodesAreTheManuals};
 
 /// Each word is a signed integer, and only one.
@@ -41,6 +41,11 @@ pub fn comparisons_decide()
 /// What the manual says that an instruction does, the machine does, where accesses are allowed.
 pub fn steps_are_the_manuals()
     ensures { StepsAreTheManuals }
+{}
+
+/// What the machine does, the manual says, where memory holds bytes: so it says one thing.
+pub fn steps_are_only()
+    ensures { StepsAreOnly }
 {}
 
 /// The opcodes by their bytes.

@@ -31,8 +31,9 @@
 //! Then each operation of the subset ([`laws::steps_are_the_manuals`], `specs/Steps.antt`): where its operands are,
 //! what it makes of them, where the result goes, what becomes of the stack, and where the next instruction is. What
 //! the manual says that is done, the machine does; all else stays. The law asks that each register holds a word and
-//! that accesses are allowed. A load and a store of several bytes are those of `guest_operands`, and so is a register
-//! by its name.
+//! that accesses are allowed. Conversely, where memory holds bytes, what the machine does is what the manual says
+//! ([`laws::steps_are_only`]): it says one thing, and none only where the machine stops. A load and a store of several
+//! bytes are those of `guest_operands`, and so is a register by its name.
 //!
 //! Which operations read which registers, flags and bytes, and leave which flags undefined, `step_laws` tells once
 //! more. Last the opcode maps ([`laws::opcodes_are_the_manuals`], [`laws::digits_are_the_manuals`]): a table of

@@ -1,0 +1,3 @@
+mod Addresses
+mod Jobs
+mod Sizes
