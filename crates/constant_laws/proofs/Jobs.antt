@@ -1,11 +1,13 @@
 -- The limits of jobs.
-use Rattle.std.proofs.Common.{◌≡◌, ◌↔◌, ◌<◌, ◌≤◌, ◌&&◌, ◌||◌, ◌==◌, ℕ, Bool, true, false, List, Option, Some, length, refl, sym, ap, subst, arith}
-use Rattle.std.specs.Prelude.{is_none, nat_le, nat_lt}
+use Rattle.std.proofs.Common.{◌≡◌, ◌↔◌, ◌<◌, ◌≤◌, ◌&&◌, ◌||◌, ◌==◌, ℕ, Bool, true, false, List, Option, Some, length}
+use Rattle.std.proofs.Common.{refl, sym, ap, subst, arith}
+use Rattle.std.specs.Prelude.{if◌then◌else◌, is_none, nat_le, nat_lt, option_and_then, None}
 use Rattle.std.proofs.lemmas.Bool.Decides.{nat_tests}
 use Rattle.job_text.specs.Drafts.{Declared, image_count, nothing_declared}
 use Rattle.job_text.specs.Grammar.{heading_of, kind_heading, verb_heading}
-use Rattle.job_text.specs.Numbers.{if_within, number, numeral}
-use Rattle.constant_laws.specs.Jobs.{JobsAreSmall, fuel_line, image_line, miscounts, misnumbers, peek_line, threads_line}
+use Rattle.job_text.specs.Numbers.{number, numeral}
+use Rattle.constant_laws.specs.Jobs.{JobsAreSmall, fuel_line, image_line, miscounts, misnumbers, peek_line}
+use Rattle.constant_laws.specs.Jobs.{threads_line}
 
 between : (low high n : ℕ) → ((nat_le low n && nat_le n high) ≡ true) ↔ ((low ≤ n) × (n ≤ high))
 between low high n =
@@ -27,6 +29,9 @@ equal n m = (λ is. grind (arith, nat_tests, is), λ is. grind (arith, nat_tests
 or_false : (t : Bool) → (t || false) ≡ t
 or_false true = refl
 or_false false = refl
+
+abbrev if_within : ℕ → ℕ → Option ℕ → Option ℕ
+if_within low high = option_and_then (λ value. if nat_le low value && nat_le value high then Some value else None)
 
 -- a number that is not refused lies in its range
 within : (low high n : ℕ) → (is_none (if_within low high (Some n)) ≡ false) ↔ ((low ≤ n) × (n ≤ high))

@@ -8,7 +8,8 @@ use Rattle.elf_object.specs.Counts.{relocation_count}
 use Rattle.dynamic_symbols.specs.Names.{name_size}
 use Rattle.guest_arithmetic.specs.Plain.{plain_operations}
 use Rattle.guest_operands.specs.Access.{code_at, fetch_of}
-use Rattle.guest_operands.specs.Ranges.{AddressSpace, range_accesses}
+use Rattle.guest_operands.specs.Ranges.{AddressSpace}
+use Rattle.guest_operands.specs.RangeLaws.{range_accesses}
 use Rattle.image_faults.specs.Parts.{base, segment}
 use Rattle.image_faults.specs.Segments.{IsInRange, IsRightTls}
 use Rattle.elf_records.specs.declared.program_header.Segment.{Segment}
@@ -18,7 +19,7 @@ use Rattle.link_tables.specs.Faults.{IsCrowded}
 use Rattle.module_table.specs.declared.events.Event.{Event}
 use Rattle.module_table.specs.declared.modules.ImageInfo.{ImageInfo}
 use Rattle.module_table.specs.declared.TheConstants.{MOST_INSTANCES, SURPLUS}
-use Rattle.module_table.specs.History.{IsLegal}
+use Rattle.module_table.specs.Past.{IsLegal}
 use Rattle.module_table.specs.Modules.{AreInfos, IsInfo}
 use Rattle.module_table.specs.Past.{is_legal, start}
 use Rattle.object_faults.specs.declared.class.SectionClass.{SectionClass}

@@ -1,5 +1,6 @@
 -- Each relocation has letters, and where names have no fault they are those that its type takes.
-use Rattle.std.proofs.Common.{◌≡◌, ◌<◌, ◌&&◌, ◌∙◌, ◌==◌, ℕ, zero, suc, Bool, true, false, List, Option, Some, None, inl, inr, refl, sym, ap, subst, length, arith}
+use Rattle.std.proofs.Common.{◌≡◌, ◌<◌, ◌&&◌, ◌∙◌, ◌==◌, ℕ, zero, suc, Bool, true, false, List, Option, Some, None, inl}
+use Rattle.std.proofs.Common.{inr, refl, sym, ap, subst, length, arith}
 use Rattle.std.specs.Prelude.{is_none, slice_get, if◌then◌else◌, IsSomeAnd}
 use Rattle.std.specs.List.{Contains}
 use Rattle.std.specs.Str.{bytes_eq}
@@ -7,10 +8,12 @@ use Rattle.std.proofs.lemmas.Bool.{ne_eqb}
 use Rattle.std.proofs.lemmas.Option.{slice_get-get_or}
 use Rattle.elf_object.specs.declared.relocation.Relocation.{Relocation}
 use Rattle.elf_object.specs.Laws.{table_of_kept}
-use Rattle.elf_object.specs.Lent.{kept_relocation_table, relocation_target, relocations, relocations_in, symbol_binding, symbol_name}
+use Rattle.elf_object.specs.Lent.{kept_relocation_table, relocation_target, relocations, relocations_in, symbol_binding}
+use Rattle.elf_object.specs.Lent.{symbol_name}
 use Rattle.elf_object.specs.Object.{section_count}
 use Rattle.elf_records.specs.declared.relocation.RelocationKind.{RelocationKind}
-use Rattle.elf_records.specs.declared.relocation.RelocationKind.TheVariants.{Absolute64, Pc32, Plt32, Absolute32, Absolute32Signed, DtpOff32, TpOff32}
+use Rattle.elf_records.specs.declared.relocation.RelocationKind.TheVariants.{Absolute64, Pc32, Plt32, Absolute32}
+use Rattle.elf_records.specs.declared.relocation.RelocationKind.TheVariants.{Absolute32Signed, DtpOff32, TpOff32}
 use Rattle.elf_records.specs.declared.symbol.SymbolBinding.TheVariants.{Local}
 use Rattle.elf_records.specs.RelocationRows.{is_tls_kind, may_import, names_symbol}
 use Rattle.elf_records.specs.Relocations.{relocation_kind}
@@ -26,7 +29,8 @@ use Rattle.sequence_match.proofs.Sections.{target_of_table}
 use Rattle.tls_symbols.specs.Bindings.{bound_to, here_or, object_at}
 use Rattle.tls_symbols.specs.Definitions.{definition_of, same_binding}
 use Rattle.tls_symbols.specs.Faults.{AreResolved, Stands, differ, held_in, is_faulty, is_mismatched}
-use Rattle.field_laws.specs.Links.{HasLetters, LettersAreThere, LosesLocalDynamic, ResolvedLinksStoreFields, TakesAddress, TakesOffset}
+use Rattle.field_laws.specs.Links.{HasLetters, LettersAreThere, LosesLocalDynamic, ResolvedLinksStoreFields}
+use Rattle.field_laws.specs.Links.{TakesAddress, TakesOffset}
 use Rattle.field_laws.specs.Table.{Letters}
 use Rattle.field_laws.proofs.Links.{counts, link_stores, loses}
 

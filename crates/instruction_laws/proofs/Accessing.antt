@@ -1,5 +1,7 @@
 -- What a step that is done has accessed, and how large what it loads is.
-use Rattle.std.proofs.Common.{◌≡◌, ℕ, zero, suc, ◌+◌, ◌-◌, ◌*◌, ◌%◌, ◌^◌, ◌<◌, ◌≤◌, ℤ, pos, negsuc, Bool, true, false, List, [], ◌∷◌, Option, Some, None, Result, Ok, Err, inr, refl, ap, sym, subst, ⊎_elim, arith, ◌∙◌}
+use Rattle.std.proofs.Common.{◌≡◌, ℕ, zero, suc, ◌+◌, ◌-◌, ◌*◌, ◌%◌, ◌^◌, ◌<◌, ◌≤◌, ℤ, pos, negsuc, Bool, true, false}
+use Rattle.std.proofs.Common.{List, [], ◌∷◌, Option, Some, None, Result, Ok, Err, inr, refl, ap, sym, subst, ⊎_elim}
+use Rattle.std.proofs.Common.{arith, ◌∙◌}
 use Rattle.std.specs.Prelude.{if◌then◌else◌, ok_or, slice_get, All}
 use Rattle.std.proofs.lemmas.Bool.{cases_lt}
 use Rattle.std.proofs.lemmas.Int.{ints}
@@ -10,10 +12,12 @@ use Rattle.amd64_subset.specs.declared.instr.Width.TheVariants.{Long, Quad}
 use Rattle.guest_arithmetic.specs.Plain.{plain_operations}
 use Rattle.guest_arithmetic.specs.Values.{number_from}
 use Rattle.guest_operands.specs.declared.stop.Stop.{Stop}
-use Rattle.guest_operands.specs.Access.{Accesses, Refusal, Refused, Shut, both_reached, bytes_at, cons, load_of, next_place, reached}
+use Rattle.guest_operands.specs.Access.{Accesses, Refusal, Refused, Shut, both_reached, bytes_at, load_of, next_place}
+use Rattle.guest_operands.specs.Access.{reached}
 use Rattle.guest_operands.specs.declared.space.Access.TheVariants.{Read}
 use Rattle.guest_operands.specs.declared.space.Access.{Access}
-use Rattle.guest_operands.specs.Ranges.{Range, byte_in, grants, range_accesses}
+use Rattle.guest_operands.specs.Ranges.{Range, byte_in, grants}
+use Rattle.guest_operands.specs.RangeLaws.{range_accesses}
 use Rattle.guest_operands.specs.Use.{◌>>=◌, there}
 use Rattle.instruction_laws.specs.Laws.{HasBytes, IsByte}
 use Rattle.instruction_laws.specs.Steps.{Numbers, bytes}
@@ -73,7 +77,7 @@ reached_ok : {A C : Type 0} (f : A → C) (r : Result A Refusal) (y : C) → rea
 reached_ok f (Ok x) y is = (x, refl, cc)
 reached_ok f (Err why) y is = absurd cc
 
-both_ok : (byte : Result ℕ Refusal) (rest : Result (List ℕ) Refusal) (bs : List ℕ) → both_reached cons byte rest ≡ Ok bs
+both_ok : (byte : Result ℕ Refusal) (rest : Result (List ℕ) Refusal) (bs : List ℕ) → both_reached ◌∷◌ byte rest ≡ Ok bs
     → (b : ℕ) × (cs : List ℕ) × (byte ≡ Ok b) × (rest ≡ Ok cs) × (b ∷ cs ≡ bs)
 both_ok (Ok b) (Ok cs) bs is = (b, cs, refl, refl, cc)
 both_ok (Ok b) (Err why) bs is = absurd cc

@@ -1,5 +1,6 @@
 -- Wherever the machine goes on, the manual says what is done: each operation's answer is built.
-use Rattle.std.proofs.Common.{◌≡◌, ℕ, ◌+◌, ◌-◌, ◌/◌, ◌%◌, ◌^◌, ◌<◌, pos, Bool, true, false, None, Result, Ok, refl, ap, sym, subst, arith, ◌∙◌}
+use Rattle.std.proofs.Common.{◌≡◌, ℕ, ◌+◌, ◌-◌, ◌/◌, ◌%◌, ◌^◌, ◌<◌, pos, Bool, true, false, None, Result, Ok, refl, ap}
+use Rattle.std.proofs.Common.{sym, subst, arith, ◌∙◌}
 use Rattle.std.specs.Bool.{Decides}
 use Rattle.std.specs.Prelude.{◌-ℤ◌}
 use Rattle.std.proofs.lemmas.Bool.{false≢true}
@@ -11,7 +12,10 @@ use Rattle.amd64_subset.specs.declared.instr.Arithmetic.TheVariants.{Add, Or, An
 use Rattle.amd64_subset.specs.declared.instr.Condition.{Condition}
 use Rattle.amd64_subset.specs.declared.instr.Decoded.{Decoded}
 use Rattle.amd64_subset.specs.declared.instr.Operation.{Operation}
-use Rattle.amd64_subset.specs.declared.instr.Operation.TheVariants.{Move, StoreByte, ExtendByte, ExtendLong, LoadAddress, Compute, Test, Multiply, Shift as ShiftBy, Push, Pop, Leave, Call, Jump, JumpIf, Return, Nop, Undefined}
+use Rattle.amd64_subset.specs.declared.instr.Operation.TheVariants.{Move, StoreByte, ExtendByte, ExtendLong}
+use Rattle.amd64_subset.specs.declared.instr.Operation.TheVariants.{LoadAddress, Compute, Test, Multiply}
+use Rattle.amd64_subset.specs.declared.instr.Operation.TheVariants.{Shift as ShiftBy, Push, Pop, Leave, Call, Jump}
+use Rattle.amd64_subset.specs.declared.instr.Operation.TheVariants.{JumpIf, Return, Nop, Undefined}
 use Rattle.amd64_subset.specs.declared.instr.Shift.{Shift}
 use Rattle.amd64_subset.specs.declared.instr.Target.{Target}
 use Rattle.amd64_subset.specs.declared.instr.Target.TheVariants.{Relative, Indirect}
@@ -35,18 +39,25 @@ use Rattle.guest_operands.specs.Operand.{address_of, carried, kept_byte, number_
 use Rattle.guest_operands.specs.Frame.{frame_of}
 use Rattle.guest_operands.specs.State.{register_of, with_register, with_word, at_place}
 use Rattle.guest_operands.specs.Use.{◌>>=◌, plus, clean, there, After, left}
-use Rattle.guest_machine.specs.Step.{act, stored, store_byte, move_in, move_number, move_of, extend_byte, extend_long, compute_in, compute_out, compute_plain, compute_of, concluded, finished, is_cleared, test_of, multiply_of, shift_of, pushed, push_of, pop_of, leave_of, return_of, call_of, jump_of}
+use Rattle.guest_machine.specs.Step.{act, stored, store_byte, move_in, move_number, move_of, extend_byte, extend_long}
+use Rattle.guest_machine.specs.Step.{compute_in, compute_plain, compute_of, concluded, finished, is_cleared, test_of}
+use Rattle.guest_machine.specs.Step.{multiply_of, shift_of, pushed, push_of, pop_of, leave_of, return_of, call_of}
+use Rattle.guest_machine.specs.Step.{jump_of}
 use Rattle.instruction_laws.specs.Conditions.{Holds}
 use Rattle.instruction_laws.specs.Laws.{HasBytes}
 use Rattle.instruction_laws.specs.Words.{words, IsCut}
-use Rattle.instruction_laws.specs.Steps.{Numbers, next, Has, IsLowByte, IsMasked, Puts, writes, ComputesOf, Pushes, IsPopped, JumpsIf, Does}
+use Rattle.instruction_laws.specs.Steps.{Numbers, next, Has, IsLowByte, IsMasked, Puts, writes, ComputesOf, Pushes}
+use Rattle.instruction_laws.specs.Steps.{IsPopped, JumpsIf, Does}
 use Rattle.instruction_laws.proofs.Accessing.{ok_first, then_is, there_ok, extended, loads_byte, loads_word}
-use Rattle.instruction_laws.proofs.Building.{Ends, Found, Loads, Stores, addressed, at_address, carried_loads, finish_stores, has_below, left_at, operand_found, place_of, put_found, state_at, stored_ok, taken_loads}
+use Rattle.instruction_laws.proofs.Building.{Ends, Found, Loads, Stores, addressed, at_address, carried_loads}
+use Rattle.instruction_laws.proofs.Building.{finish_stores, has_below, left_at, operand_found, place_of, put_found}
+use Rattle.instruction_laws.proofs.Building.{state_at, stored_ok, taken_loads}
 use Rattle.instruction_laws.proofs.Comparing.{change, test_of as test_by, holds}
 use Rattle.instruction_laws.proofs.Computing.{computes}
 use Rattle.instruction_laws.proofs.Going.{computing, back_is, does, frame_is}
 use Rattle.instruction_laws.proofs.Multiplying.{cut_of, multiplies, pos_cut}
-use Rattle.instruction_laws.proofs.Operating.{At, below_of, byte_is, concluding, immediate_is, kept_is, no_field, shifted_below}
+use Rattle.instruction_laws.proofs.Operating.{At, below_of, byte_is, concluding, immediate_is, kept_is, no_field}
+use Rattle.instruction_laws.proofs.Operating.{shifted_below}
 use Rattle.instruction_laws.proofs.Shifting.{shifts}
 use Rattle.instruction_laws.proofs.Stepping.{done, acc, frame, whole, sizes, IsSlot, take, register_number}
 use Rattle.instruction_laws.proofs.Words.{signed_of}
@@ -301,7 +312,7 @@ module _ (d : Decoded) (before : State ℕ Bool) (memory : Numbers)
 
   compute_out_found : (kind : Arithmetic) (width : Width) (to : Memory) (from : Register)
       → Ends d before memory (Compute kind width (IntoMemory to from))
-  unfolding act compute_of compute_out
+  unfolding act compute_of
   compute_out_found kind width to from y at =
       let it = operand_found d before memory small width (InRegister from) tt in
       conclude_found kind width (InMemory to) (Has d before memory width (InRegister from)) it.0

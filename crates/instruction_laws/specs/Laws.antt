@@ -16,7 +16,8 @@ use Rattle.guest_arithmetic.specs.Plain.{plain_operations}
 use Rattle.guest_machine.specs.Step.{act}
 use Rattle.guest_operands.specs.declared.state.State.{State}
 use Rattle.guest_operands.specs.Frame.{frame_of}
-use Rattle.guest_operands.specs.Ranges.{Range, range_accesses}
+use Rattle.guest_operands.specs.Ranges.{Range}
+use Rattle.guest_operands.specs.RangeLaws.{range_accesses}
 use Rattle.guest_operands.specs.State.{register_of}
 use Rattle.guest_operands.specs.Use.{left}
 use Rattle.instruction_laws.specs.Conditions.{Become, Compares, Holds, IsTaken}
