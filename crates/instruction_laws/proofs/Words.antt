@@ -9,7 +9,7 @@ use Rattle.amd64_subset.specs.declared.instr.Width.TheVariants.{Long, Quad}
 use Rattle.guest_arithmetic.specs.declared.effect.Change.{Change}
 use Rattle.guest_arithmetic.specs.declared.effect.Change.TheVariants.{Set, Unsettled, Kept}
 use Rattle.guest_arithmetic.specs.declared.effect.Effect.{Effect}
-use Rattle.instruction_laws.specs.Words.{words, half, IsSigned, IsCut, Shows, IsUndefined, IsUntouched}
+use Rattle.instruction_laws.specs.Words.{words, half, IsSigned, IsCut, Shows, IsUndefined, IsLeftAlone}
 use Rattle.instruction_laws.specs.Results.{TellsOfResult}
 
 -- ** words
@@ -83,7 +83,7 @@ same_undefined Unsettled Kept p q = absurd q
 same_undefined (Set s) d p q = absurd p
 same_undefined Kept d p q = absurd p
 
-pub same_kept : (c d : Change) → IsUntouched c → IsUntouched d → c ≡ d
+pub same_kept : (c d : Change) → IsLeftAlone c → IsLeftAlone d → c ≡ d
 same_kept Kept Kept p q = refl
 same_kept Kept (Set t) p q = absurd q
 same_kept Kept Unsettled p q = absurd q

@@ -9,7 +9,7 @@ use Rattle.amd64_subset.specs.declared.instr.Shift.{Shift}
 use Rattle.amd64_subset.specs.declared.instr.Shift.TheVariants.{Left, Right, RightSigned}
 use Rattle.amd64_subset.specs.declared.instr.Width.{Width}
 use Rattle.guest_arithmetic.specs.declared.effect.Effect.{Effect}
-use Rattle.instruction_laws.specs.Words.{words, IsOutside, IsSigned, IsCut, IsSet, Shows, IsUndefined, IsUntouched}
+use Rattle.instruction_laws.specs.Words.{words, IsOutside, IsSigned, IsCut, IsSet, Shows, IsUndefined, IsLeftAlone}
 
 -- ZF: the result is 0. SF: it is negative.
 pub record TellsOfResult (width : Width) (effect : Effect) : Type 0 where
@@ -70,10 +70,10 @@ pub record IsProduct (width : Width) (x y : ℤ) (effect : Effect) : Type 0 wher
 
 pub record IsUntouched (a : ℕ) (effect : Effect) : Type 0 where
   pub number : effect.number ≡ a
-  pub zero : IsUntouched effect.changes.zero
-  pub sign : IsUntouched effect.changes.sign
-  pub carry : IsUntouched effect.changes.carry
-  pub overflow : IsUntouched effect.changes.overflow
+  pub zero : IsLeftAlone effect.changes.zero
+  pub sign : IsLeftAlone effect.changes.sign
+  pub carry : IsLeftAlone effect.changes.carry
+  pub overflow : IsLeftAlone effect.changes.overflow
 
 -- shl multiplies by 2^count. CF: the bit next to the result, of the product that is not cut. OF, if the count is 1:
 -- twice x is no signed integer of the width.

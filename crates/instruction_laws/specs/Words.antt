@@ -65,7 +65,7 @@ IsUndefined Unsettled = Unit {0}
 IsUndefined Kept = ⊥
 
 -- the instruction does not touch it
-abbrev pub IsUntouched : Change → Type 0
-IsUntouched (Set truth) = ⊥
-IsUntouched Unsettled = ⊥
-IsUntouched Kept = Unit {0}
+abbrev pub IsLeftAlone : Change → Type 0
+IsLeftAlone (Set truth) = ⊥
+IsLeftAlone Unsettled = ⊥
+IsLeftAlone Kept = Unit {0}
