@@ -221,7 +221,7 @@ module _ {g : Setting} {m : Meaning} {q : Loads ℕ} {history : List Event} {thr
           else run_resumed_in q thread wait.asked runs_now (instance_with_id q seen wait.asked.id))
           (ap (λ (n : ℕ). numbered_instance q seen n) is_asked ∙ e)
           ∙ (ap (run_resumed_in q thread wait.asked runs_now) id
-          ∙ ap (run_resumed q thread (runs_there x)) (runs_result x))) in
+          ∙ ap (resumed (runs_there x)) (runs_result x))) in
           rw (meant_side, runs_side)
           (goes_on x (answer_for m thread s (block_start thread x) s.form) (answer_word q thread wait.asked x)
           (word_alike g m q thread s x wait.asked wait.asks_for.offset s.form wait.asks_for.kind parts.0
