@@ -23,7 +23,7 @@ use Rattle.memory_image.specs.Tables.{IsMovable, Keeps, is_distance, is_elsewher
 use Rattle.memory_image.proofs.Words.{moved_distance}
 
 same_subtracted : (l : Linking) (bias : ℕ) (kind : RelocationKind)
-    → subtracted l bias (row kind).value ≡ own_subtracted l kind
+    → subtracted l bias (kind_row kind).value ≡ own_subtracted l kind
 same_subtracted l bias kind = refl
 
 -- ** not moved
@@ -62,7 +62,7 @@ module _ (l : Linking) (bias : ℕ) (moved : is_moved l.kind ≡ true) (high : 2
   -- what a field holds, by where its symbol is bound
   abbrev now : RelocationKind → Option Binding → Type 0
   now kind bound =
-      unwrap_or (stored_field kind (symbol_number l bias kind bound) a (at + bias) (subtracted l bias (row kind).value))
+      unwrap_or (stored_field kind (symbol_number l bias kind bound) a (at + bias) (subtracted l bias (kind_row kind).value))
       (Word32 0)
       ≡ unwrap_or (stored_field kind (own_number l kind bound) a (at + moved_place l.kind bound)
       (own_subtracted l kind)) (Word32 0)
