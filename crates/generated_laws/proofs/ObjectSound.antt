@@ -107,17 +107,19 @@ pub sections_have_kinds : (b : List ℕ) (s : Shape) → IsLaid b s → Nowhere 
 unfolding Stands
 sections_have_kinds b s laid k e stands = sections_classed b s laid k stands.1 stands.2
 
-zeros_aligned : (n : ℕ) → (zeros_alignment n ≡ 0) ⊎ IsAlignment (zeros_alignment n)
+abbrev IsAligned : ℕ → Type 0
+IsAligned n = (n ≡ 0) ⊎ IsAlignment n
+
+zeros_aligned : (n : ℕ) → IsAligned (zeros_alignment n)
 zeros_aligned n = aligned (n == 0)
   where
-    aligned : (t : Bool) → ((if t then 1 else 4) ≡ 0) ⊎ IsAlignment (if t then 1 else 4)
+    aligned : (t : Bool) → IsAligned (if t then 1 else 4)
     aligned true = inr (0, omega arith, refl)
     aligned false = inr (2, omega arith, refl)
 
-sections_stand : (b : List ℕ) (s : Shape) → IsLaid b s → (k : ℕ) → IsSection b k
-    → ((section b k).addralign ≡ 0) ⊎ IsAlignment (section b k).addralign
+sections_stand : (b : List ℕ) (s : Shape) → IsLaid b s → (k : ℕ) → IsSection b k → IsAligned (section b k).addralign
 unfolding sections_of
-sections_stand b s laid = each_section b s laid (λ k h. (h.addralign ≡ 0) ⊎ IsAlignment h.addralign)
+sections_stand b s laid = each_section b s laid (λ k h. IsAligned h.addralign)
     (inr (4, omega arith, refl)) (inr (3, omega arith, refl)) (inr (2, omega arith, refl)) (zeros_aligned s.zeros)
     (inr (3, omega arith, refl)) (inr (0, omega arith, refl)) (inr (0, omega arith, refl))
 
