@@ -33,6 +33,7 @@ use Rattle.link_needs.specs.Values.{field, goes, is_replaced, is_rewriting, othe
 use Rattle.link_needs.specs.Refusals.{by_type, is_refused}
 use Rattle.object_faults.specs.declared.class.SectionClass.TheVariants.{Executable}
 use Rattle.sequence_forms.specs.declared.places.Site.{Site}
+use Rattle.elf_records.specs.RelocationRows.{row as kind_row}
 use Rattle.sequence_forms.specs.Forms.{row}
 use Rattle.sequence_match.specs.Faults.{IsGetter, code_of}
 use Rattle.sequence_match.specs.Sites.{IsEntry, IsSecond, IsSiteOf}
@@ -147,7 +148,7 @@ module _ (l : Linking) (bias : ℕ) (still : is_moved l.kind ≡ false → bias 
   -- and what the meaning says
   abbrev meant : RelocationKind → Option Binding → Option Field
   meant kind bound = stored_field kind (symbol_number l bias kind bound) a (at + bias)
-      (subtracted l bias (row kind).value)
+      (subtracted l bias (kind_row kind).value)
 
   -- a field of 4 bytes with an address is in an image that is not moved
   zero_bias : (is_moved l.kind ≡ true → is_moved l.kind ≡ false) → bias ≡ 0
