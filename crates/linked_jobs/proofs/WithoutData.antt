@@ -1,5 +1,5 @@
 -- Images without data that threads write: nothing is loaded of them that threads share.
-use Rattle.std.proofs.Common.{◌≡◌, ◌∙◌, ℕ, zero, suc, Bool, true, false, List, Option, Some, None, refl, ap, subst}
+use Rattle.std.proofs.Common.{◌≡◌, ◌∙◌, ℕ, zero, suc, Bool, true, false, List, [], Option, Some, None, refl, ap, subst}
 use Rattle.std.specs.List.{All, find}
 use Rattle.std.proofs.lemmas.Option.{get_or_from_slice_get, slice_get-map, slice_get_within}
 use Rattle.guest_operands.specs.Ranges.{Range}
