@@ -161,8 +161,7 @@ module _ (owner : ℕ → ℕ) where
             → IsOpen (both_reached (λ (x : Unit {0}) (y : Unit {0}). tt {0}) a b)
         open-both (Ok x) (Ok y) h k = tt
         open-both (Ok x) (Err why) h k = k
-        open-both (Err Refused) (Ok y) h k = tt
-        open-both (Err Refused) (Err why) h k = k
+        open-both (Err Refused) b h k = tt
         open-both (Err Shut) b h k = absurd h
 
     writes-same : (size place : ℕ) → all_write (numbered acc) m place size ≡ all_write acc m place size

@@ -41,8 +41,8 @@ module _ {A C D : Type 0} (f : A → C → D) where
       → IsLess (both_reached f a b) (both_reached f a' b')
   both-less a a' b b' h k (inl e) (inl g) = inl (rw (e, g) refl)
   both-less a a' b b' h k (inl e) (inr g) = inr (rw (e, g) (refused-rest a h))
-  both-less a a' b b' h k (inr e) (inl g) = inr (rw (e, g) (refused-first b k))
-  both-less a a' b b' h k (inr e) (inr g) = inr (rw (e, g) refl)
+  both-less a a' b b' h k (inr e) (inl g) = inr (rw e refl)
+  both-less a a' b b' h k (inr e) (inr g) = inr (rw e refl)
 
 pub reached-open : {A C : Type 0} (f : A → C) (r : Result A Refusal) → IsOpen r → IsOpen (reached f r)
 reached-open f (Ok x) h = tt
