@@ -21,7 +21,7 @@ use Rattle.guest_arithmetic.specs.declared.effect.Change.TheVariants.{Set, Unset
 use Rattle.guest_arithmetic.specs.declared.effect.Changes.{Changes}
 use Rattle.guest_arithmetic.specs.declared.effect.Effect.{Effect}
 use Rattle.guest_arithmetic.specs.declared.flags.Flags.{Flags}
-use Rattle.guest_arithmetic.specs.Arithmetic.{by_result, bit_out, compute_effect, differ, difference_overflows}
+use Rattle.guest_arithmetic.specs.Arithmetic.{each_flag, by_result, bit_out, compute_effect, differ, difference_overflows}
 use Rattle.guest_arithmetic.specs.Arithmetic.{half_of, is_negative, magnitude, product_effect, product_fits}
 use Rattle.guest_arithmetic.specs.Arithmetic.{shift_effect, shift_overflows, shifted}
 use Rattle.guest_arithmetic.specs.Arithmetic.{span_of, sum_overflows}
@@ -65,12 +65,7 @@ DigitsBy group_action = (it : Group) → map (group_action it) (0 ∷ 1 ∷ 2 �
 -- `sum_effect`: the carry stands from one more on, since `≤` is `<`
 abbrev pub sum_above : Width → ℕ → ℕ → Effect
 sum_above width a b =
-    let number = (a + b) % span_of width in
-    record {
-      number = number;
-      changes = by_result width number (Set (nat_lt (span_of width) (a + b)))
-          (Set (sum_overflows width a b));
-    }
+    by_result width ((a + b) % span_of width) (Set (nat_lt (span_of width) (a + b))) (Set (sum_overflows width a b))
 
 abbrev pub compute_with_sum : Arithmetic → Width → ℕ → ℕ → Effect
 compute_with_sum Add width a b = sum_above width a b
@@ -79,12 +74,8 @@ compute_with_sum kind width a b = compute_effect kind width a b
 -- `difference_effect`: the borrow is turned round
 abbrev pub difference_turned : Width → ℕ → ℕ → Effect
 difference_turned width a b =
-    let number = (a + (span_of width - b)) % span_of width in
-    record {
-      number = number;
-      changes = by_result width number (Set (nat_lt b a))
-          (Set (difference_overflows width a b));
-    }
+    by_result width ((a + (span_of width - b)) % span_of width) (Set (nat_lt b a))
+    (Set (difference_overflows width a b))
 
 abbrev pub compute_with_difference : Arithmetic → Width → ℕ → ℕ → Effect
 compute_with_difference Sub width a b = difference_turned width a b
@@ -107,12 +98,7 @@ product_by product_fits zero width a b =
     let lost = Set (not (product_fits width a b)) in
     record {
       number = a * b % span_of width;
-      changes = record {
-        zero = zero;
-        sign = Unsettled;
-        carry = lost;
-        overflow = lost;
-      };
+      changes = record (each_flag Unsettled) { zero = zero; carry = lost; overflow = lost };
     }
 
 -- ** shifts
@@ -125,17 +111,9 @@ overflows_by_sign shift width number = shift_overflows shift width number
 -- `shift_effect`, over any overflow
 abbrev pub shift_by : (Shift → Width → ℕ → Bool) → Shift → Width → ℕ → ℕ → Effect
 shift_by shift_overflows shift width number count =
-    let result = shifted shift width number count in
-    if count == 0 then record {
-      number = number;
-      changes = record { zero = Kept; sign = Kept; carry = Kept; overflow = Kept };
-    }
-    else record {
-      number = result;
-      changes =
-          by_result width result (Set (bit_out shift width number count))
-          (if count == 1 then Set (shift_overflows shift width number) else Unsettled);
-    }
+    if count == 0 then record { number = number; changes = each_flag Kept }
+    else by_result width (shifted shift width number count) (Set (bit_out shift width number count))
+    (if count == 1 then Set (shift_overflows shift width number) else Unsettled)
 
 -- ** flags and conditions
 
