@@ -16,8 +16,10 @@
 //! The rule of the crate: **each refutation is of the law's whole statement, over the definition with that word
 //! changed**; of `first_looks_are_ruled` it is of what that says of the machine's lines. Where a law fixes the one
 //! answer, its proof is short: the law holds of the right definition, so were it true of the wrong one, both would say
-//! the same, and at some arguments they do not. The functions call the laws that they need, and take a statement here
-//! for the law's own, so one that differed would not pass.
+//! the same, and at some arguments they do not. Such functions call the law, and take a statement here for the law's
+//! own, so one that differed would not pass. The others go from one example; the statement of `fresh_blocks_are_filled`
+//! is typed here again, and nothing ties it to the law. A copy is to be read beside its definition: that it is this one
+//! where no word is changed is proved of `stored_by`, `address_of`, `number_by`, `product_by`, `shift_by`, `owner_by`.
 //!
 //! | file of `specs` | definitions of | laws |
 //! |---|---|---|
